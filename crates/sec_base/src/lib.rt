@@ -8,6 +8,7 @@ mod lists;
 mod memory;
 mod program;
 mod reading;
+mod whole;
 mod writing;
 
 pub use answers::{Cause, Ending, MemStop, NoMemory};
@@ -16,4 +17,5 @@ pub use lists::Bytes;
 pub use memory::{Ram, Width};
 pub use program::{Image, Segment, Segments};
 pub use reading::{Files, ReadStop};
+pub use whole::write_all;
 pub use writing::{Sink, SinkStop};
