@@ -1,12 +1,12 @@
 -- Bytes that are loaded one by one, and the lines that they stand in.
-use Rattle.std.proofs.Common.{◌≡◌, ◌≢◌, ◌+◌, ◌<◌, ◌≤◌, ◌/◌, ℕ, List, [], ◌∷◌, ◌++◌, length, get_or, take, drop, refl, sym, ◌∙◌, ap, subst, arith, inl, inr, Contains, below_more, get_or-set_other, get_or-set_same}
+use Rattle.std.proofs.Common.{◌≡◌, ◌≢◌, ◌+◌, ◌<◌, ◌≤◌, ℕ, List, [], ◌∷◌, ◌++◌, length, get_or, take, drop, sym, ◌∙◌, ap, subst, arith, inl, inr, Contains, below_more, get_or-set_other, get_or-set_same}
 use Rattle.std.proofs.Math.ListN.{set}
 use Rattle.std.proofs.Math.Seq.{take-append_seam}
 use Rattle.std.proofs.lemmas.Bool.{cases_lt}
 use Rattle.std.proofs.lemmas.List.Prefix.{at_from_reads}
 use Rattle.std.proofs.lemmas.List.Elements.{Contains-append_left, Contains-push}
 use Rattle.sec_base.specs.Layout.{line_of}
-use Rattle.rv32_core.specs.Touch.{Range, HasLinesOf}
+use Rattle.rv32_core.specs.Touch.{HasLinesOf}
 
 -- the memory is as it was, and the first bytes of the piece are its
 pub record IsLoading (before now : List ℕ) (from count : ℕ) (piece : List ℕ) : Type 0 where

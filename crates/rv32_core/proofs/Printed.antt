@@ -1,5 +1,5 @@
 -- Bytes that are printed piece by piece.
-use Rattle.std.proofs.Common.{◌≡◌, ◌+◌, ◌-◌, ◌<◌, ◌≤◌, ℕ, List, [], ◌∷◌, ◌++◌, length, take, drop, refl, sym, ◌∙◌, ap, subst, arith, inl, inr, Contains, append_assoc, Option, None, Some, Ok}
+use Rattle.std.proofs.Common.{◌≡◌, ◌+◌, ◌-◌, ◌≤◌, ℕ, List, ◌++◌, take, drop, refl, sym, ◌∙◌, ap, subst, arith, inl, inr, Contains, append_assoc, Option, None, Some, Ok}
 use Rattle.std.proofs.Math.Seq.{take-add}
 use Rattle.std.proofs.lemmas.List.{drop-drop}
 use Rattle.std.proofs.lemmas.Bool.{cases_lt}
@@ -8,7 +8,7 @@ use Rattle.sec_base.specs.Layout.{line_of}
 use Rattle.sec_base.specs.Lists.{IsPrefix}
 use Rattle.sec_base.specs.Writing.{SinkState, gained, Gains}
 use Rattle.sec_base.proofs.Writes.{gained-append}
-use Rattle.rv32_core.specs.Touch.{Range, HasLinesOf}
+use Rattle.rv32_core.specs.Touch.{HasLinesOf}
 use Rattle.sec_base.specs.declared.answers.MemStop.{MemStop}
 use Rattle.rv32_core.specs.Printing.{bytes_at, StopsAs}
 

@@ -1,19 +1,16 @@
 -- What a service, a fetch and a decoded word make of a step.
-use Rattle.std.proofs.Common.{◌≡◌, ◌≢◌, ◌+◌, ◌<◌, ◌≤◌, ℕ, Bool, true, false, List, [], ◌∷◌, ◌++◌, length, refl, sym, ◌∙◌, ap, subst, arith, Option, None, Some, Result, Ok, Err, MatchResult, cond, lt-ltb, le-ltb, ne_eqb}
+use Rattle.std.proofs.Common.{◌≡◌, ◌≢◌, ◌+◌, ◌≤◌, ℕ, Bool, true, false, List, [], ◌∷◌, ◌++◌, length, refl, sym, ◌∙◌, ap, Option, None, Some, Result, Ok, Err, cond, lt-ltb, le-ltb, ne_eqb}
 use Rattle.std.specs.Result.{OnOk}
-use Rattle.std.proofs.lemmas.Bool.Decides.{nat_tests}
 use Rattle.std.proofs.lemmas.List.Elements.{Contains-append_left, Contains-append_right}
-use Rattle.sec_base.specs.Lists.{IsPrefix}
 use Rattle.sec_base.specs.declared.answers.Cause.{Cause}
-use Rattle.sec_base.specs.declared.answers.Cause.TheVariants.{Illegal, OutsideMemory}
+use Rattle.sec_base.specs.declared.answers.Cause.TheVariants.{Illegal}
 use Rattle.rv32_decode.specs.declared.Inst.{Inst}
 use Rattle.rv32_decode.specs.Table.{instruction_of}
-use Rattle.rv32_core.specs.declared.hart.Step.{Step}
 use Rattle.rv32_core.specs.declared.hart.StepStop.{StepStop}
 use Rattle.rv32_core.specs.declared.hart.StepStop.TheVariants.{Trap, Mem, WriteFault}
-use Rattle.rv32_core.specs.State.{State, Hart, CallState, register, next_hart, written_hart}
-use Rattle.rv32_core.specs.Effect.{After, next, executed, fetched, service, write_service, is_output, is_inside, a0, a1, a2, a7}
-use Rattle.rv32_core.specs.Touch.{Range, HasLinesOf, HasLinesOfAll, touches, data_touches, executed_touches, service_touches, write_touches}
+use Rattle.rv32_core.specs.State.{State, Hart, CallState, next_hart, written_hart}
+use Rattle.rv32_core.specs.Effect.{next, fetched, service, write_service, is_output, is_inside, a0, a1, a2, a7}
+use Rattle.rv32_core.specs.Touch.{Range, HasLinesOf, HasLinesOfAll, touches, data_touches, service_touches, write_touches}
 use Rattle.rv32_core.specs.Fetching.{IsFetched, StopsFetch}
 use Rattle.sec_base.specs.declared.answers.MemStop.{MemStop}
 use Rattle.rv32_core.specs.Outcome.{IsOutcome}

@@ -8,3 +8,6 @@ mod print;
 
 pub use calls::Calls;
 pub use hart::{Core, Step, StepStop};
+
+#[cfg(test)]
+mod tests;

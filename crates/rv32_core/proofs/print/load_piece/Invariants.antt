@@ -1,4 +1,4 @@
-use Rattle.std.proofs.Common.{◌≡◌, ◌+◌, ◌<◌, ℕ, List, None, length, get_or}
+use Rattle.std.proofs.Common.{◌≡◌, ℕ, List, None}
 use Rattle.rv32_core.specs.Touch.{HasLinesOf}
 use Rattle.rv32_core.proofs.Loading.{IsLoading}
 use Rattle.rv32_core.proofs.print.load_piece.Given as goal

@@ -1,4 +1,4 @@
-use Rattle.std.proofs.Common.{◌≡◌, [], sym}
+use Rattle.std.proofs.Common.{[], sym}
 use Rattle.sec_base.proofs.Writes.{gained-nil}
 use Rattle.rv32_core.proofs.hart.Core.execute.Goals as goal
 

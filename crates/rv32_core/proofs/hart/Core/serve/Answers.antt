@@ -1,7 +1,7 @@
-use Rattle.std.proofs.Common.{◌≡◌, ◌+◌, ℕ, true, false, List, [], length, sym, ◌∙◌, ap, refl, slice_index, Ok, None, Some}
+use Rattle.std.proofs.Common.{◌≡◌, [], sym, ◌∙◌, ap, slice_index, Ok, None, Some}
 use Rattle.rv32_core.specs.State.{Hart, next_hart, register}
 use Rattle.sec_base.proofs.Writes.{gained-nil}
-use Rattle.rv32_core.specs.Effect.{After, service}
+use Rattle.rv32_core.specs.Effect.{After}
 use Rattle.rv32_core.proofs.Steps.{touches_of_write, service_of_exit, service_of_other}
 use Rattle.rv32_core.proofs.hart.Core.serve.Goals as goal
 

@@ -1,4 +1,4 @@
-use Rattle.std.proofs.Common.{◌≡◌, ◌≤◌, ◌+◌, ◌++◌, [], sym, ap, ◌∙◌, subst, refl, length, Err, ℕ, List}
+use Rattle.std.proofs.Common.{◌≡◌, ◌≤◌, ◌+◌, ◌++◌, [], sym, ◌∙◌, subst, refl, length, Err, ℕ, List}
 use Rattle.std.specs.Result.{OnOk}
 use Rattle.sec_base.specs.Width.{number_at}
 use Rattle.sec_base.specs.declared.memory.Width.TheVariants.{Four}

@@ -1,4 +1,4 @@
-use Rattle.std.proofs.Common.{◌≡◌, ◌+◌, ℕ, true, false, List, [], length, sym, ◌∙◌, ap, refl, slice_index, Ok, None}
+use Rattle.std.proofs.Common.{◌≡◌, true, false, [], length, sym, ◌∙◌, ap, slice_index, Ok, None}
 use Rattle.rv32_core.specs.State.{Hart}
 use Rattle.sec_base.proofs.Writes.{gained-nil}
 use Rattle.rv32_core.specs.Effect.{After, is_output, is_inside}
