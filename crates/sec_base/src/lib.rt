@@ -3,6 +3,7 @@
 #![tactic(auto)]
 
 mod answers;
+mod calls;
 mod layout;
 mod lists;
 mod memory;
@@ -16,4 +17,4 @@ pub use lists::Bytes;
 pub use memory::{Ram, Width};
 pub use program::{Image, Segment, Segments};
 pub use reading::{Files, ReadStop};
-pub use writing::{Sink, SinkStop};
+pub use writing::{MemorySink, Sink, SinkStop};

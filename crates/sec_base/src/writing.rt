@@ -1,8 +1,14 @@
 // Where a run writes.
-ghost use Rattle.std.specs.Prelude.{◌≡◌, ◌<◌, ◌≤◌, List, ℕ, [], Ok, Err, length, take, IfOk, OnErr};
+ghost use Rattle.std.specs.Prelude.{◌≡◌, ◌↔◌, ◌<◌, ◌≤◌, List, ℕ, [], Ok, Err, length, take, IsTrue, IfOk, OnOk, OnErr};
 ghost use Rattle.sec_base.specs.Count.{Rose};
 ghost use Rattle.sec_base.specs.Writing.{SinkState, Gains, Silent};
-ghost use Rattle.sec_base.specs.declared.writing.SinkStop.TheVariants.{Failed};
+ghost use Rattle.sec_base.specs.MemorySinks.{new_sink, sink_state, sink_fails, sink_wrote, sink_failed, sink_refused};
+ghost use Rattle.sec_base.specs.declared.writing.SinkStop.TheVariants.{Failed, NoMemory as no_memory};
+
+use crate::answers::NoMemory;
+use crate::calls::contains_number;
+use std::alloc::Global;
+use std::marker::Model;
 
 /// Why a sink took nothing.
 #[derive(Clone, Copy, Debug, PartialEq, Eq)]
@@ -28,4 +34,78 @@ pub trait Sink {
 
         ensures failed { result ≡ Err Failed → Rose (state self.old).faults (state self.new).faults }
         ensures faults { (state self.old).faults ≤ (state self.new).faults };
+}
+
+/// A sink in memory, which keeps what is written, and some of whose writes fail.
+#[derive(Debug, Drop)]
+pub struct MemorySink {
+    written: Vec<u8>,
+    failing: Vec<u64>,
+    call_count: u64,
+    fault_count: u64,
+}
+
+impl Model for MemorySink {
+    ghost use Rattle.sec_base.specs.MemorySinks.{SinkSeen};
+
+    ghost Value = { SinkSeen };
+
+    ghost view = { λ sink. record {
+        bytes = sink.written.items;
+        fails = sink.failing.items;
+        calls = sink.call_count;
+        faults = sink.fault_count;
+    } };
+}
+
+impl MemorySink {
+    /// Nothing written yet. `fails` are the numbers of the calls that are to fail, from 1.
+    pub fn new(alloc: Global, fails: &[u64]) -> Result<MemorySink, NoMemory>
+        ensures { IfOk result (λ sink. sink ≡ new_sink fails.now) }
+    {
+        Ok(MemorySink {
+            written: Vec::new(alloc),
+            failing: Vec::from_slice(alloc, fails)?,
+            call_count: 0,
+            fault_count: 0,
+        })
+    }
+
+    /// What was written.
+    pub fn bytes(&self) -> &[u8]
+        ensures { result.now ≡ self.now.bytes }
+    {
+        self.written.as_slice()
+    }
+}
+
+impl Sink for MemorySink {
+    ghost state = { sink_state };
+
+    /// Writes a whole piece, where the call isn't one that is to fail. An empty piece is no call.
+    fn write(&mut self, piece: &[u8]) -> Result<usize, SinkStop>
+        ensures failed { (result ≡ Err Failed) ↔ IsTrue (sink_fails self.old piece.now) }
+        ensures whole { IfOk result (λ n. n ≡ length piece.now) }
+
+        ensures wrote { OnOk result (self.new ≡ sink_wrote piece.now self.old) }
+        ensures after_failed { result ≡ Err Failed → self.new ≡ sink_failed self.old }
+        ensures after_no_memory { result ≡ Err no_memory → self.new ≡ sink_refused self.old }
+
+        ensures empty { piece.now ≡ [] → result ≡ Ok 0 }
+        ensures idle { piece.now ≡ [] → self.new ≡ self.old }
+        ensures faults { self.old.faults ≤ self.new.faults }
+    {
+        if piece.is_empty() {
+            return Ok(0);
+        }
+        self.call_count = self.call_count.saturating_add(1);
+        if contains_number(&self.failing, self.call_count) {
+            self.fault_count = self.fault_count.saturating_add(1);
+            return Err(SinkStop::Failed);
+        }
+        if self.written.extend_from_slice(piece).is_err() {
+            return Err(SinkStop::NoMemory);
+        }
+        Ok(piece.len())
+    }
 }

@@ -1,0 +1,1 @@
+-- Files in memory, some of whose reads fail.
