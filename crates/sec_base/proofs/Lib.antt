@@ -1,1 +1,2 @@
 pub mod Geometries
+pub mod Contents

@@ -16,5 +16,5 @@ pub use layout::{Geometry, Place};
 pub use lists::Bytes;
 pub use memory::{Ram, Width};
 pub use program::{Image, Segment, Segments};
-pub use reading::{Files, ReadStop};
+pub use reading::{Files, MemoryFiles, ReadStop};
 pub use writing::{MemorySink, Sink, SinkStop};

@@ -39,10 +39,10 @@ pub trait Sink {
 /// A sink in memory, which keeps what is written, and some of whose writes fail.
 #[derive(Debug, Drop)]
 pub struct MemorySink {
-    written: Vec<u8>,
-    failing: Vec<u64>,
-    call_count: u64,
-    fault_count: u64,
+    bytes: Vec<u8>,
+    fails: Vec<u64>,
+    calls: u64,
+    faults: u64,
 }
 
 impl Model for MemorySink {
@@ -51,10 +51,10 @@ impl Model for MemorySink {
     ghost Value = { SinkSeen };
 
     ghost view = { λ sink. record {
-        bytes = sink.written.items;
-        fails = sink.failing.items;
-        calls = sink.call_count;
-        faults = sink.fault_count;
+        bytes = sink.bytes.items;
+        fails = sink.fails.items;
+        calls = sink.calls;
+        faults = sink.faults;
     } };
 }
 
@@ -64,10 +64,10 @@ impl MemorySink {
         ensures { IfOk result (λ sink. sink ≡ new_sink fails.now) }
     {
         Ok(MemorySink {
-            written: Vec::new(alloc),
-            failing: Vec::from_slice(alloc, fails)?,
-            call_count: 0,
-            fault_count: 0,
+            bytes: Vec::new(alloc),
+            fails: Vec::from_slice(alloc, fails)?,
+            calls: 0,
+            faults: 0,
         })
     }
 
@@ -75,7 +75,7 @@ impl MemorySink {
     pub fn bytes(&self) -> &[u8]
         ensures { result.now ≡ self.now.bytes }
     {
-        self.written.as_slice()
+        self.bytes.as_slice()
     }
 }
 
@@ -98,12 +98,12 @@ impl Sink for MemorySink {
         if piece.is_empty() {
             return Ok(0);
         }
-        self.call_count = self.call_count.saturating_add(1);
-        if contains_number(&self.failing, self.call_count) {
-            self.fault_count = self.fault_count.saturating_add(1);
+        self.calls = self.calls.saturating_add(1);
+        if contains_number(&self.fails, self.calls) {
+            self.faults = self.faults.saturating_add(1);
             return Err(SinkStop::Failed);
         }
-        if self.written.extend_from_slice(piece).is_err() {
+        if self.bytes.extend_from_slice(piece).is_err() {
             return Err(SinkStop::NoMemory);
         }
         Ok(piece.len())
