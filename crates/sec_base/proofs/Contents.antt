@@ -31,7 +31,7 @@ pub other_file : (files after : List NamedFile) (file : NamedFile) (name bytes o
     content_of after other ≡ content_of files other
 other_file files after file name bytes other grown is differs =
     let not_same : bytes_eq name other ≡ false =
-        no_test (bytes_eq name other) (bytes_eq-Decides name other).0 (λ (e : name ≡ other). differs (sym e)) in
+    no_test (bytes_eq name other) (bytes_eq-Decides name other).0 (λ (e : name ≡ other). differs (sym e)) in
     ap (λ (fs : List NamedFile). content_of fs other) grown
     ∙ content_of-append files file other
     ∙ ap (λ (f : NamedFile). content_with other (content_of files other) f) is

@@ -9,6 +9,8 @@ mod lists;
 mod memory;
 mod program;
 mod reading;
+#[cfg(test)]
+mod tests;
 mod writing;
 
 pub use answers::{Cause, Ending, MemStop, NoMemory};

@@ -6,7 +6,7 @@ ghost use Rattle.sec_base.specs.Reading.{FilesState, HasBytes, HasOver};
 ghost use Rattle.sec_base.specs.declared.reading.ReadStop.TheVariants.{Failed, Long, NoMemory as no_memory};
 ghost use Rattle.sec_base.specs.Count.{more_by};
 ghost use Rattle.sec_base.specs.Calls.{next_fails};
-ghost use Rattle.sec_base.specs.MemoryFiles.{new_files, content_of, files_state, with_file, within_limit, next_answer, files_refused, files_asked, counted, after_read};
+ghost use Rattle.sec_base.specs.MemoryFiles.{new_files, content_of, files_state, with_file, next_answer, files_refused, files_asked, after_read};
 
 use crate::answers::NoMemory;
 use crate::calls::contains_number;
@@ -48,6 +48,7 @@ pub trait Files {
         ensures taken { (state self.old).taken ≤ (state self.new).taken };
 }
 
+// A file in memory.
 #[derive(Debug, Drop)]
 struct NamedFile {
     pub name: Bytes,
@@ -72,12 +73,12 @@ impl Model for MemoryFiles {
     ghost Value = { FilesSeen };
 
     ghost view = { λ memory. record {
-        files = memory.files.items;
-        fails = memory.fails.items;
-        calls = memory.calls;
-        faults = memory.faults;
-        taken = memory.taken;
-        asked = memory.asked.items;
+      files = memory.files.items;
+      fails = memory.fails.items;
+      calls = memory.calls;
+      faults = memory.faults;
+      taken = memory.taken;
+      asked = memory.asked.items;
     } };
 }
 
@@ -126,8 +127,8 @@ impl MemoryFiles {
     // Counts a fault.
     fn fault(&mut self) -> ReadStop
         ensures failed { result ≡ Failed }
-        ensures counted { self.new ≡ counted 0 (Err Failed) self.old }
-        ensures faults { self.old.faults ≤ self.new.faults }
+        ensures faults { self.new ≡ record self.old { faults = more_by 1 self.old.faults } }
+        ensures rises { self.old.faults ≤ self.new.faults }
     {
         self.faults = self.faults.saturating_add(1);
         ReadStop::Failed
@@ -145,6 +146,7 @@ impl MemoryFiles {
 impl Files for MemoryFiles {
     ghost state = { files_state };
 
+    /// A copy of a file, where the call isn't one that is to fail. A name that isn't there is a fault.
     fn read(&mut self, alloc: Global, name: &str, limit: u64) -> Result<Bytes, ReadStop>
         ensures answer { result ≢ Err no_memory → result ≡ next_answer self.old name.now limit }
         ensures after { result ≢ Err no_memory → self.new ≡ after_read name.now limit self.old }

@@ -51,10 +51,10 @@ impl Model for MemorySink {
     ghost Value = { SinkSeen };
 
     ghost view = { λ sink. record {
-        bytes = sink.bytes.items;
-        fails = sink.fails.items;
-        calls = sink.calls;
-        faults = sink.faults;
+      bytes = sink.bytes.items;
+      fails = sink.fails.items;
+      calls = sink.calls;
+      faults = sink.faults;
     } };
 }
 
