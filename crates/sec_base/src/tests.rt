@@ -1,5 +1,8 @@
 // Each public call once with ample memory. The numbers of the geometry are those of Python: 4 ** levels pages of
 // 4096 bytes, and so on.
+ghost use Rattle.std.specs.Prelude.{IfOk};
+ghost use Rattle.sec_base.specs.Program.{IsImage};
+
 use crate::{
     Bytes, Files, Geometry, Image, MemoryFiles, MemorySink, Place, ReadStop, Segment, Segments,
     Sink, SinkStop,
@@ -90,8 +93,10 @@ fn bytes_keep_their_items(rt: HostRuntime) -> Result<(), Fail> {
     Ok(())
 }
 
-// One segment at 0 with the word of `addi x0, x0, 0`.
-fn one_segment(alloc: Global) -> Result<Segments, AllocError> {
+// One segment at 0, with the word of `addi x0, x0, 0` and a word of zeros.
+fn one_segment(alloc: Global) -> Result<Segments, AllocError>
+    ensures { IfOk result (λ segments. IsImage 4 16384 segments) }
+{
     let bytes = Bytes::from_vec([0x13, 0, 0, 0].to_vec(alloc)?);
     let mut items = Vec::new(alloc);
     items.push(Segment {
@@ -117,13 +122,12 @@ fn segments_are_got_by_their_place(rt: HostRuntime) -> Result<(), Fail> {
 
 #[test]
 fn an_image_fits_its_memory(rt: HostRuntime) -> Result<(), Fail> {
-    let segments = Segments::from_vec(Vec::new(rt.alloc()));
     let image = Image {
-        entry: 16380,
+        entry: 4,
         size: 16384,
-        segments,
+        segments: one_segment(rt.alloc())?,
     };
-    assert_eq!(rt; image.segments.len(), 0);
+    assert_eq!(rt; image.segments.len(), 1);
     Ok(())
 }
 
