@@ -1,5 +1,5 @@
 -- What the files in memory have for a name.
-use Rattle.std.proofs.Common.{ℕ, Bool, true, false, List, [], ◌∷◌, ◌++◌, Some, Option, cond, ◌≡◌, ◌≢◌, ◌∙◌, ap, sym, refl}
+use Rattle.std.proofs.Common.{ℕ, Bool, true, false, List, [], ◌∷◌, ◌++◌, Some, cond, ◌≡◌, ◌≢◌, ◌∙◌, ap, sym, refl}
 use Rattle.std.proofs.lemmas.List.Sums.{fold-append}
 use Rattle.std.proofs.lemmas.Slice.Eq.{bytes_eq-Decides}
 use Rattle.std.specs.Str.{bytes_eq}

@@ -83,7 +83,7 @@ impl Model for MemoryFiles {
 }
 
 impl MemoryFiles {
-    /// No file yet. `fails` are the numbers of the reads that are to fail, from 1.
+    /// No file yet. `fails` are the numbers of the reads that are to fail, from 1. Only want of memory refuses it.
     pub fn new(alloc: Global, fails: &[u64]) -> Result<MemoryFiles, NoMemory>
         ensures { IfOk result (λ files. files ≡ new_files fails.now) }
     {
@@ -98,7 +98,7 @@ impl MemoryFiles {
         })
     }
 
-    /// Adds a file. A name that is there gets the new bytes.
+    /// Adds a file. A name that is there gets the new bytes. Only want of memory refuses it.
     pub fn add(&mut self, name: &str, bytes: &[u8]) -> Result<(), NoMemory>
         ensures added { OnOk result (self.new ≡ with_file name.now bytes.now self.old) }
         ensures err { OnErr result (self.new ≡ self.old) }

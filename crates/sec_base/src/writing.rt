@@ -59,7 +59,8 @@ impl Model for MemorySink {
 }
 
 impl MemorySink {
-    /// Nothing written yet. `fails` are the numbers of the calls that are to fail, from 1.
+    /// Nothing written yet. `fails` are the numbers of the calls that are to fail, from 1. Only want of memory
+    /// refuses it.
     pub fn new(alloc: Global, fails: &[u64]) -> Result<MemorySink, NoMemory>
         ensures { IfOk result (λ sink. sink ≡ new_sink fails.now) }
     {
