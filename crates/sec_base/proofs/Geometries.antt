@@ -1,5 +1,5 @@
 -- The sizes of the memories that there are.
-use Rattle.std.proofs.Common.{ℕ, zero, suc, ◌≡◌, ◌≤◌, ◌^◌, ◌*◌, IsTrue, refl, arith}
+use Rattle.std.proofs.Common.{ℕ, zero, suc, ◌≤◌, ◌^◌, refl, arith}
 use Rattle.std.proofs.Math.Nat.{pow-le-pow_right}
 use Rattle.sec_base.specs.Layout.{memory_size, IsMemorySize}
 

@@ -6,3 +6,6 @@ pub mod Program
 pub mod Opening
 pub mod Writing
 pub mod Reading
+pub mod Calls
+pub mod MemorySinks
+pub mod MemoryFiles

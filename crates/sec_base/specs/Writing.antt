@@ -1,5 +1,5 @@
 -- What is seen of a sink.
-use Rattle.std.specs.Prelude.{◌≡◌, ◌≤◌, ℕ, List, ◌++◌, Option, Some, None}
+use Rattle.std.specs.Prelude.{◌≡◌, ℕ, List, ◌++◌, Option, Some, None}
 
 -- what was written to it, where it tells, and how often a write of it failed
 pub record SinkState : Type 0 where

@@ -3,11 +3,14 @@
 #![tactic(auto)]
 
 mod answers;
+mod calls;
 mod layout;
 mod lists;
 mod memory;
 mod program;
 mod reading;
+#[cfg(test)]
+mod tests;
 mod whole;
 mod writing;
 
@@ -16,6 +19,6 @@ pub use layout::{Geometry, Place};
 pub use lists::Bytes;
 pub use memory::{Ram, Width};
 pub use program::{Image, Segment, Segments};
-pub use reading::{Files, ReadStop};
+pub use reading::{Files, MemoryFiles, ReadStop};
 pub use whole::write_all;
-pub use writing::{Sink, SinkStop};
+pub use writing::{MemorySink, Sink, SinkStop};
