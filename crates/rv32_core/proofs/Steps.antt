@@ -1,5 +1,5 @@
 -- What a service, a fetch and a decoded word make of a step.
-use Rattle.std.proofs.Common.{◌≡◌, ◌≢◌, ◌+◌, ◌≤◌, ℕ, Bool, true, false, List, [], ◌∷◌, ◌++◌, length, refl, sym, ◌∙◌, ap, Option, None, Some, Result, Ok, Err, cond, lt-ltb, le-ltb, ne_eqb}
+use Rattle.std.proofs.Common.{inl, ◌≡◌, ◌≢◌, ◌+◌, ◌≤◌, ℕ, Bool, true, false, List, [], ◌∷◌, ◌++◌, length, refl, sym, ◌∙◌, ap, Option, None, Some, Result, Ok, Err, cond, lt-ltb, le-ltb, ne_eqb}
 use Rattle.std.specs.Result.{OnOk}
 use Rattle.std.proofs.lemmas.List.Elements.{Contains-append_left, Contains-append_right}
 use Rattle.sec_base.specs.declared.answers.Cause.{Cause}
@@ -9,11 +9,11 @@ use Rattle.rv32_decode.specs.Table.{instruction_of}
 use Rattle.rv32_core.specs.declared.hart.StepStop.{StepStop}
 use Rattle.rv32_core.specs.declared.hart.StepStop.TheVariants.{Trap, Mem, WriteFault}
 use Rattle.rv32_core.specs.State.{State, Hart, CallState, next_hart, written_hart}
-use Rattle.rv32_core.specs.Effect.{next, fetched, service, write_service, is_output, is_inside, a0, a1, a2, a7}
+use Rattle.rv32_core.specs.Effect.{After, next, fetched, service, write_service, is_output, is_inside, a0, a1, a2, a7}
 use Rattle.rv32_core.specs.Touch.{Range, HasLinesOf, HasLinesOfAll, touches, data_touches, service_touches, write_touches}
 use Rattle.rv32_core.specs.Fetching.{IsFetched, StopsFetch}
 use Rattle.sec_base.specs.declared.answers.MemStop.{MemStop}
-use Rattle.rv32_core.specs.Outcome.{IsOutcome}
+use Rattle.rv32_core.specs.Outcome.{IsOutcome, IsHalfDone}
 
 -- a fact of a good answer gives another
 pub on_ok : {A E : Type 0} {P Q : Type 0} → (r : Result A E) → (P → Q) → OnOk r P → OnOk r Q
@@ -46,6 +46,11 @@ pub service_of_other : (state : State) → a7 state ≢ 64 → a7 state ≢ 93 �
 unfolding service
 service_of_other state first second = rw (ne_eqb _ _ first, ne_eqb _ _ second) refl
 
+-- a memory that is as it was is no more than half done
+pub half_done_same : (next : Result After Cause) (old new : List ℕ) → new ≡ old → IsHalfDone next old new
+half_done_same (Ok after) old new same = inl same
+half_done_same (Err cause) old new same = same
+
 -- a fetch that stops
 pub fetch_stopped : (stop : StepStop) (hart : Hart) (calls : CallState) (memory memory' : List ℕ) →
     IsFetched memory hart.pc (Err stop) → memory' ≡ memory →
@@ -55,7 +60,8 @@ fetch_stopped (Trap cause) hart calls memory memory' h same = (outside, same, re
   where
     outside : next (record { hart = hart; calls = calls; memory = memory }) ≡ Err cause
     outside = rw (lt-ltb _ _ h.0) (ap (λ (x : Cause). Err x) (sym h.1))
-fetch_stopped (Mem stop) hart calls memory memory' h same = (_, refl)
+fetch_stopped (Mem stop) hart calls memory memory' h same =
+    ((_, refl), half_done_same (next (record { hart = hart; calls = calls; memory = memory })) memory memory' same)
 fetch_stopped WriteFault hart calls memory memory' h same = absurd h
 
 -- a word that is no instruction

@@ -27,9 +27,9 @@ word number = cast_unsigned w32 number
 abbrev pub sum_of : ℕ → ℕ → ℕ
 sum_of a b = (a + b) % 2 ^ 32
 
--- what a register has
+-- what a register has; register 0 reads 0
 abbrev pub register : Hart → ℕ → ℕ
-register hart number = slice_index hart.registers number
+register hart number = if number == 0 then 0 else slice_index hart.registers number
 
 -- the registers after a write; a write to register 0 is dropped
 abbrev pub with_register : List ℕ → ℕ → ℕ → List ℕ

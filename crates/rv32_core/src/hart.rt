@@ -57,7 +57,7 @@ impl Core {
     ghost use Rattle.rv32_core.specs.declared.hart.Step.{Step};
     ghost use Rattle.rv32_core.specs.declared.hart.StepStop.{StepStop};
     ghost use Rattle.rv32_core.specs.declared.hart.StepStop.TheVariants.{WriteFault};
-    ghost use Rattle.rv32_core.specs.Outcome.{IsOutcome, CarriesStop};
+    ghost use Rattle.rv32_core.specs.Outcome.{IsOutcome, CarriesStop, IsSinkStop, OnlyTraps};
 
     /// A hart at a program's entry, with its stack pointer 64 bytes below the end of a memory of `size` bytes.
     pub fn new(entry: u32, size: u32) -> Core
@@ -108,6 +108,8 @@ impl Core {
         ensures stays { OnErr result ((self.new ≡ self.old) × (calls.new ≡ calls.old)) }
 
         ensures mem { M.stopped ram.old ≡ None → CarriesStop (M.stopped ram.new) result }
+        ensures sink_stop { M.stopped ram.old ≡ None → M.sound ram.new → M.stopped ram.new ≡ None →
+            IsSinkStop result (next (record { hart = self.old; calls = calls.old; memory = M.contents ram.old })) }
         ensures write_fault { result ≡ Err WriteFault → Rose (S.state out.old).faults (S.state out.new).faults }
         ensures faults { (S.state out.old).faults ≤ (S.state out.new).faults }
 
@@ -147,6 +149,8 @@ impl Core {
         ensures stays { OnErr result (self.new ≡ self.old) }
 
         ensures mem { M.stopped ram.old ≡ None → CarriesStop (M.stopped ram.new) result }
+        ensures sink_stop { M.stopped ram.old ≡ None → M.sound ram.new → M.stopped ram.new ≡ None → IsSinkStop result
+            (effect inst.now.op inst.now (record { hart = self.old; calls = calls.now; memory = M.contents ram.old })) }
         ensures write_fault { result ≡ Err WriteFault → Rose (S.state out.old).faults (S.state out.new).faults }
         ensures faults { (S.state out.old).faults ≤ (S.state out.new).faults }
 
@@ -195,6 +199,7 @@ impl Core {
         ensures stays { OnErr result (self.new ≡ self.old) }
 
         ensures mem { M.stopped ram.old ≡ None → CarriesStop (M.stopped ram.new) result }
+        ensures only_traps { M.stopped ram.old ≡ None → M.stopped ram.new ≡ None → OnlyTraps result }
         ensures write_fault { result ≢ Err WriteFault }
 
         ensures extent { M.extent ram.new ≡ M.extent ram.old }
@@ -227,6 +232,7 @@ impl Core {
         ensures stays { OnErr result (self.new ≡ self.old) }
 
         ensures mem { M.stopped ram.old ≡ None → CarriesStop (M.stopped ram.new) result }
+        ensures only_traps { M.stopped ram.old ≡ None → M.stopped ram.new ≡ None → OnlyTraps result }
         ensures write_fault { result ≢ Err WriteFault }
 
         ensures extent { M.extent ram.new ≡ M.extent ram.old }
@@ -260,6 +266,8 @@ impl Core {
         ensures stays { OnErr result (self.new ≡ self.old) }
 
         ensures mem { M.stopped ram.old ≡ None → CarriesStop (M.stopped ram.new) result }
+        ensures sink_stop { M.stopped ram.old ≡ None → M.sound ram.new → M.stopped ram.new ≡ None → (calls : CallState) →
+            IsSinkStop result (Ok (service (record { hart = self.old; calls = calls; memory = M.contents ram.old }))) }
         ensures write_fault { result ≡ Err WriteFault → Rose (S.state out.old).faults (S.state out.new).faults }
         ensures faults { (S.state out.old).faults ≤ (S.state out.new).faults }
 
@@ -294,6 +302,8 @@ impl Core {
         ensures stays { OnErr result (self.new ≡ self.old) }
 
         ensures mem { M.stopped ram.old ≡ None → CarriesStop (M.stopped ram.new) result }
+        ensures sink_stop { M.stopped ram.old ≡ None → M.sound ram.new → M.stopped ram.new ≡ None → (calls : CallState) →
+            IsSinkStop result (Ok (write_service (record { hart = self.old; calls = calls; memory = M.contents ram.old }))) }
         ensures write_fault { result ≡ Err WriteFault → Rose (S.state out.old).faults (S.state out.new).faults }
         ensures faults { (S.state out.old).faults ≤ (S.state out.new).faults }
 

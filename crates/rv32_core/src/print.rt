@@ -25,6 +25,7 @@ pub fn print<M: Ram, S: Sink>(
     ensures contents { M.stopped ram.old ≡ None → M.sound ram.new → M.contents ram.new ≡ M.contents ram.old }
 
     ensures mem { M.stopped ram.old ≡ None → StopsAs (M.stopped ram.new) result }
+    ensures some { M.stopped ram.old ≡ None → M.stopped ram.new ≡ None → OnErr result (0 < count) }
     ensures write_fault { result ≡ Err WriteFault → Rose (S.state out.old).faults (S.state out.new).faults }
     ensures faults { (S.state out.old).faults ≤ (S.state out.new).faults }
 

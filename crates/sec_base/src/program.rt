@@ -38,6 +38,14 @@ impl Segments {
         Segments { items }
     }
 
+    /// The vector, which takes no memory.
+    pub fn into_vec(self) -> Vec<Segment>
+        ensures { result.items ≡ self }
+    {
+        let Segments { items } = self;
+        items
+    }
+
     /// How many there are.
     pub fn len(&self) -> u64
         ensures { result ≡ length self.now }
