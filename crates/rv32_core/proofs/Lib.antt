@@ -1,3 +1,4 @@
 pub mod Loading
+pub mod Plain
 pub mod Printed
 pub mod Steps

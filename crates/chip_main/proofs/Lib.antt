@@ -1,0 +1,3 @@
+pub mod TwoLines
+pub mod Hex
+pub mod Outcomes

@@ -1,0 +1,153 @@
+-- What the course of a call says of its status and of what was told.
+use Rattle.std.proofs.Common.{◌≡◌, ◌≢◌, ◌<◌, ◌≤◌, ◌⊎◌, inl, inr, List, [], ◌∷◌, ◌++◌, ℕ, length, Option, Some, None, Result, Ok, Err, Contains, IfNone, slice_index_or, refl, sym, ap, ◌∙◌, subst, arith}
+use Rattle.sec_base.specs.Count.{Rose}
+use Rattle.sec_base.specs.Reading.{FilesState, HasBytes, IsOver}
+use Rattle.sec_base.specs.Writing.{SinkState, Gains, Silent, gained}
+use Rattle.sec_base.specs.declared.layout.Place.{Place}
+use Rattle.sec_base.specs.declared.answers.Ending.{Ending}
+use Rattle.sec_base.specs.declared.answers.Ending.TheVariants.{Halted, Trapped, OutOfSteps, Tampered, Spent, WriteFault, NoMemory as memory_ended}
+use Rattle.sec_base.specs.declared.writing.SinkStop.TheVariants.{Failed, NoMemory as no_memory}
+use Rattle.sec_base.proofs.Writes.{gained-nil}
+use Rattle.chip_main.specs.declared.refusal.Refusal.{Refusal}
+use Rattle.chip_main.specs.declared.refusal.Refusal.TheVariants.{Usage, Unread, TooLong, TooLarge}
+use Rattle.chip_main.specs.declared.course.Course.{Course}
+use Rattle.chip_main.specs.declared.course.Course.TheVariants.{Refused, NoMemory, Ran}
+use Rattle.chip_main.specs.declared.Done.{Done}
+use Rattle.chip_main.specs.Flat.{flat_size}
+use Rattle.chip_main.specs.Statuses.{ending_status, refusal_status}
+use Rattle.chip_main.specs.Texts.{refusal_line}
+use Rattle.chip_main.specs.Causes.{HasTold}
+use Rattle.chip_main.specs.Answer.{LacksMemory, TellsRefusal}
+use Rattle.chip_main.specs.Course.{CameAbout, Told, IsTold, Outcome, course_run, course_text, status_of, untold_ending_status}
+
+-- the statuses that come, and those that come without a run
+abbrev pub all_statuses : List ℕ
+all_statuses = 0 ∷ 1 ∷ 2 ∷ 3 ∷ 4 ∷ 8 ∷ 9 ∷ 10 ∷ []
+
+abbrev pub refused_statuses : List ℕ
+refused_statuses = 2 ∷ 3 ∷ 8 ∷ 10 ∷ []
+
+listed : (xs : List ℕ) (status numeral k : ℕ) → status ≡ numeral → k < length xs → slice_index_or xs k numeral ≡ numeral → Contains xs status
+listed xs status numeral k is below at = subst (λ (n : ℕ). Contains xs n) (sym is) (k, below, at)
+
+ending_listed : (ending : Ending) → ((place : Place) → ending ≢ Tampered place) → ((page : ℕ) → ending ≢ Spent page) → Contains all_statuses (ending_status ending)
+ending_listed (Halted code) untampered unspent = (0, omega arith, refl)
+ending_listed (Trapped cause pc) untampered unspent = (1, omega arith, refl)
+ending_listed OutOfSteps untampered unspent = (4, omega arith, refl)
+ending_listed (Tampered place) untampered unspent = absurd (untampered place refl)
+ending_listed (Spent page) untampered unspent = absurd (unspent page refl)
+ending_listed WriteFault untampered unspent = (6, omega arith, refl)
+ending_listed memory_ended untampered unspent = (7, omega arith, refl)
+
+untold_ending_listed : (ending : Ending) → Contains all_statuses (untold_ending_status ending)
+untold_ending_listed (Halted code) = (6, omega arith, refl)
+untold_ending_listed (Trapped cause pc) = (6, omega arith, refl)
+untold_ending_listed OutOfSteps = (6, omega arith, refl)
+untold_ending_listed (Tampered place) = (6, omega arith, refl)
+untold_ending_listed (Spent page) = (6, omega arith, refl)
+untold_ending_listed WriteFault = (6, omega arith, refl)
+untold_ending_listed memory_ended = (7, omega arith, refl)
+
+refusal_listed : (refusal : Refusal) → Contains all_statuses (refusal_status refusal)
+refusal_listed Usage = (2, omega arith, refl)
+refusal_listed Unread = (5, omega arith, refl)
+refusal_listed TooLong = (3, omega arith, refl)
+refusal_listed TooLarge = (3, omega arith, refl)
+
+refusal_refused : (refusal : Refusal) → Contains refused_statuses (refusal_status refusal)
+refusal_refused Usage = (0, omega arith, refl)
+refusal_refused Unread = (2, omega arith, refl)
+refusal_refused TooLong = (1, omega arith, refl)
+refusal_refused TooLarge = (1, omega arith, refl)
+
+status_listed : (course : Course) (told : Told) (request : Option (List ℕ)) (files files' : FilesState) (out out' : SinkState) → CameAbout course request files files' out out' → Contains all_statuses (status_of course told)
+status_listed (Refused refusal) (Ok _) request files files' out out' came = refusal_listed refusal
+status_listed (Refused refusal) (Err Failed) request files files' out out' came = refusal_listed refusal
+status_listed (Refused refusal) (Err no_memory) request files files' out out' came = (7, omega arith, refl)
+status_listed NoMemory (Ok _) request files files' out out' came = (7, omega arith, refl)
+status_listed NoMemory (Err Failed) request files files' out out' came = (7, omega arith, refl)
+status_listed NoMemory (Err no_memory) request files files' out out' came = (7, omega arith, refl)
+status_listed (Ran run) (Ok _) request files files' out out' came =
+    let runs = came.1.2 in ending_listed run.ending runs.untampered runs.unspent
+status_listed (Ran run) (Err Failed) request files files' out out' came = untold_ending_listed run.ending
+status_listed (Ran run) (Err no_memory) request files files' out out' came = (7, omega arith, refl)
+
+pub statuses : {request : Option (List ℕ)} {files files' : FilesState} {out out' note note' : SinkState} {done : Done} → Outcome request files files' out out' note note' done → Contains all_statuses done.status
+statuses {request} {files} {files'} {out} {out'} o =
+    subst (λ (n : ℕ). Contains all_statuses n) (sym o.status) (status_listed o.course o.told request files files' out out' o.came)
+
+unrun_listed : (course : Course) (told : Told) → IfNone (course_run course) (Contains refused_statuses (status_of course told))
+unrun_listed (Refused refusal) (Ok _) = refusal_refused refusal
+unrun_listed (Refused refusal) (Err Failed) = refusal_refused refusal
+unrun_listed (Refused refusal) (Err no_memory) = (3, omega arith, refl)
+unrun_listed NoMemory (Ok _) = (3, omega arith, refl)
+unrun_listed NoMemory (Err Failed) = (3, omega arith, refl)
+unrun_listed NoMemory (Err no_memory) = (3, omega arith, refl)
+unrun_listed (Ran run) told = tt
+
+pub unrun_statuses : {request : Option (List ℕ)} {files files' : FilesState} {out out' note note' : SinkState} {done : Done} → Outcome request files files' out out' note note' done → IfNone done.run (Contains refused_statuses done.status)
+unrun_statuses o = rw (o.run, o.status) (unrun_listed o.course o.told)
+
+-- a name has one content
+same_bytes : (held : Option (List ℕ → Option (List ℕ))) (name bytes other : List ℕ) → HasTold held name bytes → HasBytes held name other → other ≡ bytes
+same_bytes None name bytes other told has = absurd told
+same_bytes (Some held) name bytes other told has = let e : Some other ≡ Some bytes = sym has ∙ told in cc
+
+abbrev pub too_large_statuses : List ℕ
+too_large_statuses = 3 ∷ 8 ∷ 10 ∷ []
+
+too_large_listed : (course : Course) (told : Told) (name bytes : List ℕ) (files files' : FilesState) (out out' : SinkState) → CameAbout course (Some name) files files' out out' → HasTold files.held name bytes → flat_size < length bytes → Contains too_large_statuses (status_of course told)
+too_large_listed (Refused Usage) told name bytes files files' out out' came content large = let none : Some name ≡ None = came.0.0 in absurd cc
+too_large_listed (Refused Unread) (Ok _) name bytes files files' out out' came content large = (1, omega arith, refl)
+too_large_listed (Refused Unread) (Err Failed) name bytes files files' out out' came content large = (1, omega arith, refl)
+too_large_listed (Refused TooLong) (Ok _) name bytes files files' out out' came content large = (0, omega arith, refl)
+too_large_listed (Refused TooLong) (Err Failed) name bytes files files' out out' came content large = (0, omega arith, refl)
+too_large_listed (Refused TooLarge) (Ok _) name bytes files files' out out' came content large = (0, omega arith, refl)
+too_large_listed (Refused TooLarge) (Err Failed) name bytes files files' out out' came content large = (0, omega arith, refl)
+too_large_listed (Refused refusal) (Err no_memory) name bytes files files' out out' came content large = (2, omega arith, refl)
+too_large_listed NoMemory (Ok _) name bytes files files' out out' came content large = (2, omega arith, refl)
+too_large_listed NoMemory (Err Failed) name bytes files files' out out' came content large = (2, omega arith, refl)
+too_large_listed NoMemory (Err no_memory) name bytes files files' out out' came content large = (2, omega arith, refl)
+too_large_listed (Ran run) told name bytes files files' out out' came content large =
+    let same = same_bytes files.held name bytes came.1.0 content came.1.1.0 in
+    let fits : length came.1.0 ≤ flat_size = came.1.2.fits in
+    absurd (omega (arith, ap length same))
+
+pub too_large : {request : Option (List ℕ)} {files files' : FilesState} {out out' note note' : SinkState} {done : Done} → Outcome request files files' out out' note note' done → (name bytes : List ℕ) → request ≡ Some name → HasTold files.held name bytes → flat_size < length bytes → Contains too_large_statuses done.status
+too_large {request} {files} {files'} {out} {out'} o name bytes asks content large =
+    let came = subst (λ (r : Option (List ℕ)). CameAbout o.course r files files' out out') asks o.came in
+    subst (λ (n : ℕ). Contains too_large_statuses n) (sym o.status) (too_large_listed o.course o.told name bytes files files' out out' came content large)
+
+-- nothing was told
+silent_front : (old new : SinkState) (front rest : List ℕ) → [] ≡ front ++ rest → Gains old front new → Silent old new
+silent_front old new [] rest parts gains = gains ∙ gained-nil old.written
+silent_front old new (x ∷ xs) rest parts gains = absurd cc
+
+silent : (old new : SinkState) (told : Told) → IsTold [] old new told → Silent old new
+silent old new (Ok _) tells = tells ∙ gained-nil old.written
+silent old new (Err Failed) tells = silent_front old new tells.0.0 tells.0.1.0 tells.0.1.1 tells.0.2
+silent old new (Err no_memory) tells = silent_front old new tells.0 tells.1.0 tells.1.1 tells.2
+
+-- what a call without a run tells
+abbrev pub TellsWhyNot : ℕ → Option (List ℕ) → FilesState → FilesState → SinkState → SinkState → Type 0
+TellsWhyNot status request files files' note note' = TellsRefusal status request files files' note note' ⊎ LacksMemory status request note note'
+
+unrun_told : (course : Course) (told : Told) (request : Option (List ℕ)) (files files' : FilesState) (out out' note note' : SinkState) → CameAbout course request files files' out out' → IsTold (course_text course) note note' told →
+    IfNone (course_run course) (TellsWhyNot (status_of course told) request files files' note note')
+unrun_told (Refused refusal) (Ok _) request files files' out out' note note' came tells =
+    inl (record { refusal = refusal; cause = came.0; line = inl tells; status_is = inl refl })
+unrun_told (Refused refusal) (Err Failed) request files files' out out' note note' came tells =
+    inl (record { refusal = refusal; cause = came.0; line = inr (tells.0, inl tells.1); status_is = inl refl })
+unrun_told (Refused refusal) (Err no_memory) request files files' out out' note note' came tells =
+    inl (record { refusal = refusal; cause = came.0; line = inr (tells, inr refl); status_is = inr refl })
+unrun_told NoMemory (Ok _) request files files' out out' note note' came tells =
+    inr (record { requested = came.0; silent = silent note note' (Ok tt) tells; status_is = refl })
+unrun_told NoMemory (Err Failed) request files files' out out' note note' came tells =
+    inr (record { requested = came.0; silent = silent note note' (Err Failed) tells; status_is = refl })
+unrun_told NoMemory (Err no_memory) request files files' out out' note note' came tells =
+    inr (record { requested = came.0; silent = silent note note' (Err no_memory) tells; status_is = refl })
+unrun_told (Ran run) told request files files' out out' note note' came tells = tt
+
+pub tells_why_not : {request : Option (List ℕ)} {files files' : FilesState} {out out' note note' : SinkState} {done : Done} → Outcome request files files' out out' note note' done → IfNone done.run (TellsWhyNot done.status request files files' note note')
+tells_why_not {request} {files} {files'} {out} {out'} {note} {note'} o =
+    rw (o.run, o.status) (unrun_told o.course o.told request files files' out out' note note' o.came o.tells)

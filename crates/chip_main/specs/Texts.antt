@@ -1,0 +1,55 @@
+-- What is told of a run, or of why there is none. Each line ends with a line feed.
+use Rattle.std.specs.Prelude.{List, [], ◌∷◌, ◌++◌, ℕ, ◌/◌, ◌%◌, ◌^◌, map, codes, false}
+use Rattle.std.specs.Fmt.{decimal, digit_glyph}
+use Rattle.sec_base.specs.declared.layout.Place.{Place}
+use Rattle.sec_base.specs.declared.layout.Place.TheVariants.{Line, Node}
+use Rattle.sec_base.specs.declared.answers.Cause.{Cause}
+use Rattle.sec_base.specs.declared.answers.Cause.TheVariants.{Illegal, MisalignedTarget, MisalignedData, OutsideMemory, Breakpoint}
+use Rattle.sec_base.specs.declared.answers.Ending.{Ending}
+use Rattle.sec_base.specs.declared.answers.Ending.TheVariants.{Halted, Trapped, OutOfSteps, Tampered, Spent, WriteFault, NoMemory}
+use Rattle.chip_run.specs.declared.RunRecord.{RunRecord}
+use Rattle.chip_main.specs.declared.refusal.Refusal.{Refusal}
+use Rattle.chip_main.specs.declared.refusal.Refusal.TheVariants.{Usage, Unread, TooLong, TooLarge}
+
+-- the hexadecimal digit that is worth 16 ^ place, in lower case
+abbrev pub hex_digit : ℕ → ℕ → ℕ
+hex_digit number place = digit_glyph false (number / 16 ^ place % 16)
+
+-- a word as eight digits
+unfoldable pub hex_word : ℕ → List ℕ
+hex_word number = map (hex_digit number) (7 ∷ 6 ∷ 5 ∷ 4 ∷ 3 ∷ 2 ∷ 1 ∷ 0 ∷ [])
+
+abbrev pub cause_text : Cause → List ℕ
+cause_text Illegal = codes "illegal"
+cause_text MisalignedTarget = codes "misaligned target"
+cause_text MisalignedData = codes "misaligned data"
+cause_text OutsideMemory = codes "outside memory"
+cause_text Breakpoint = codes "breakpoint"
+
+abbrev pub place_text : Place → List ℕ
+place_text (Line line) = codes "data " ++ decimal line
+place_text (Node level index) = codes "node " ++ decimal level ++ codes " " ++ decimal index
+
+-- the first line of a run's record says how it ended
+abbrev pub ending_line : Ending → List ℕ
+ending_line (Halted code) = codes "halted " ++ decimal code ++ codes "\n"
+ending_line (Trapped cause pc) = codes "trapped " ++ cause_text cause ++ codes " pc " ++ hex_word pc ++ codes "\n"
+ending_line OutOfSteps = codes "out of steps\n"
+ending_line (Tampered place) = codes "tampered " ++ place_text place ++ codes "\n"
+ending_line (Spent page) = codes "spent page " ++ decimal page ++ codes "\n"
+ending_line WriteFault = codes "write fault\n"
+ending_line NoMemory = codes "no memory\n"
+
+-- the second says how many instructions were retired
+abbrev pub retired_line : ℕ → List ℕ
+retired_line retired = codes "retired " ++ decimal retired ++ codes "\n"
+
+abbrev pub record_text : RunRecord → List ℕ
+record_text run = ending_line run.ending ++ retired_line run.retired
+
+-- the one line of a refusal
+abbrev pub refusal_line : Refusal → List ℕ
+refusal_line Usage = codes "usage\n"
+refusal_line Unread = codes "read fault\n"
+refusal_line TooLong = codes "refused long\n"
+refusal_line TooLarge = codes "refused elf 9 Segment\n"

@@ -1,0 +1,14 @@
+-- Bytes that are laid over a memory.
+use Rattle.std.specs.Prelude.{ℕ, ◌+◌, ◌/◌, ◌%◌, ◌^◌, List, [], ◌∷◌, ◌++◌, length, take, drop}
+
+-- the memory with these bytes from an address on
+unfoldable pub laid_at : List ℕ → ℕ → List ℕ → List ℕ
+laid_at memory address bytes = take address memory ++ bytes ++ drop (address + length bytes) memory
+
+-- so many bytes from a place on
+unfoldable pub part : List ℕ → ℕ → ℕ → List ℕ
+part bytes at count = take count (drop at bytes)
+
+-- the bytes of a word, the lowest first
+abbrev pub word_bytes : ℕ → List ℕ
+word_bytes n = n % 2 ^ 8 ∷ n / 2 ^ 8 % 2 ^ 8 ∷ n / 2 ^ 16 % 2 ^ 8 ∷ n / 2 ^ 24 % 2 ^ 8 ∷ []

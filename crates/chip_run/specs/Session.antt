@@ -1,0 +1,55 @@
+-- What a session's turns are, seen from the plain machine.
+use Rattle.std.specs.Prelude.{◌≡◌, ℕ, ◌+◌, List, Option, Some, None}
+use Rattle.sec_base.specs.declared.answers.Ending.{Ending}
+use Rattle.sec_base.specs.declared.answers.Ending.TheVariants.{Halted, Trapped, OutOfSteps, Tampered, Spent, WriteFault, NoMemory}
+use Rattle.sec_base.specs.declared.answers.MemStop.{MemStop}
+use Rattle.sec_base.specs.declared.answers.MemStop.TheVariants.{Tampered as tampered, Spent as spent, NoMemory as no_memory}
+use Rattle.rv32_core.specs.State.{Hart, CallState}
+use Rattle.rv32_core.specs.Machine.{Machine, plain}
+use Rattle.rv32_core.specs.Follows.{Follows}
+
+-- after n instructions the plain machine is in this state, has printed this, and goes on
+abbrev pub Reaches : Machine → ℕ → Hart → CallState → List ℕ → List ℕ → Type 0
+Reaches start n hart calls memory printed = plain start n ≡ record {
+  state = record { hart = hart; calls = calls; memory = memory };
+  output = printed;
+  retired = n;
+  exit = None;
+}
+
+-- a turn leads on to what the plain machine reaches, or ends as a run that follows it
+abbrev pub Turns : Machine → ℕ → Option Ending → ℕ → Hart → CallState → List ℕ → List ℕ → Type 0
+Turns start budget None retired hart calls memory printed = Reaches start retired hart calls memory printed
+Turns start budget (Some ending) retired hart calls memory printed = Follows start budget retired ending printed
+
+-- a turn without an ending retires an instruction, and so does an exit
+abbrev pub retired_after : Option Ending → ℕ → ℕ
+retired_after None n = n + 1
+retired_after (Some (Halted code)) n = n + 1
+retired_after (Some (Trapped cause pc)) n = n
+retired_after (Some OutOfSteps) n = n
+retired_after (Some (Tampered place)) n = n
+retired_after (Some (Spent page)) n = n
+retired_after (Some WriteFault) n = n
+retired_after (Some NoMemory) n = n
+
+-- the memory or the sink ended it
+abbrev pub IsStop : Ending → Type 0
+IsStop (Halted code) = ⊥
+IsStop (Trapped cause pc) = ⊥
+IsStop OutOfSteps = ⊥
+IsStop (Tampered place) = Unit {0}
+IsStop (Spent page) = Unit {0}
+IsStop WriteFault = Unit {0}
+IsStop NoMemory = Unit {0}
+
+-- how a run ends that the memory stops
+abbrev pub stop_ending : MemStop → Ending
+stop_ending (tampered place) = Tampered place
+stop_ending (spent page) = Spent page
+stop_ending no_memory = NoMemory
+
+-- It ends as the stop that the memory gave, and as no other but want of memory.
+abbrev pub CarriesEnding : Option MemStop → Option Ending → Type 0
+CarriesEnding (Some stop) ending = ending ≡ Some (stop_ending stop)
+CarriesEnding None ending = (stop : MemStop) → ending ≡ Some (stop_ending stop) → stop ≡ no_memory
