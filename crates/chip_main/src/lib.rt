@@ -20,6 +20,8 @@ mod course;
 mod flat;
 mod refusal;
 mod telling;
+#[cfg(test)]
+mod tests;
 
 use chip_run::RunRecord;
 use course::Course;
@@ -96,7 +98,8 @@ pub fn run_words<F: Files, O: Sink, N: Sink>(
     ensures out_faults { (O.state out.old).faults ≤ (O.state out.new).faults }
     ensures note_faults { (N.state note.old).faults ≤ (N.state note.new).faults }
 {
-    answer(alloc, words, files, out, note)
+    let done = answer(alloc, words, files, out, note);
+    done
 }
 
 // What the words ask for is done and told.

@@ -2,13 +2,13 @@ use Rattle.chip_main.proofs.Outcomes.{statuses, tells_why_not, too_large, unrun_
 use Rattle.chip_main.proofs.run_words.Goals as goal
 
 pub returns-clause-statuses : goal.returns-clause-statuses
-returns-clause-statuses g c = statuses c.answer.ensures.outcome
+returns-clause-statuses g c = statuses c.answer-done.ensures.outcome
 
 pub returns-clause-no_run : goal.returns-clause-no_run
-returns-clause-no_run g c = unrun_statuses c.answer.ensures.outcome
+returns-clause-no_run g c = unrun_statuses c.answer-done.ensures.outcome
 
 pub returns-clause-no_run_note : goal.returns-clause-no_run_note
-returns-clause-no_run_note g c = tells_why_not c.answer.ensures.outcome
+returns-clause-no_run_note g c = tells_why_not c.answer-done.ensures.outcome
 
 pub returns-clause-too_large : goal.returns-clause-too_large
-returns-clause-too_large g c = too_large c.answer.ensures.outcome
+returns-clause-too_large g c = too_large c.answer-done.ensures.outcome
