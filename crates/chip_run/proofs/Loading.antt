@@ -1,5 +1,5 @@
 -- Bytes that are laid over a memory one after another.
-use Rattle.std.proofs.Common.{◌≡◌, ◌≤◌, ◌<◌, ℕ, suc, ◌+◌, ◌-◌, ◌*◌, ◌/◌, ◌%◌, ◌^◌, List, [], ◌∷◌, ◌++◌, length, take, drop, get_or, set, replicate, fold, refl, sym, ap, ◌∙◌, arith, length-append, length-drop, add-zero}
+use Rattle.std.proofs.Common.{◌≡◌, ◌≤◌, ◌<◌, ℕ, suc, ◌+◌, ◌*◌, ◌/◌, ◌%◌, ◌^◌, List, [], ◌∷◌, ◌++◌, length, take, drop, get_or, set, replicate, fold, refl, sym, ap, ◌∙◌, arith, length-append, length-drop, add-zero}
 use Rattle.std.proofs.lemmas.List.{append-nil, take-append-drop, take_all, drop_more, length-take, length-replicate}
 use Rattle.std.proofs.lemmas.List.Sums.{fold_more}
 use Rattle.std.proofs.lemmas.List.Edits.{sets-eq}

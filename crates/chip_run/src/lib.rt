@@ -13,6 +13,8 @@ ghost use Rattle.rv32_core.specs.Follows.{Follows, IsWhole};
 mod load;
 mod memory;
 mod session;
+#[cfg(test)]
+mod tests;
 
 use load::store_image;
 use memory::ListRam;

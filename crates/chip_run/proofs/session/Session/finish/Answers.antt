@@ -28,8 +28,7 @@ loop-ending-preserved g c =
 pub returns-in-Some-clause-follows : goal.returns-in-Some-clause-follows
 returns-in-Some-clause-follows g c =
     let so_far = c.loop-ending.invariant in
-    let turn = c.in-Some.ensures in
-    (
+    let turn = c.in-Some.ensures in (
       so_far.turns.0 ++ turn.turns.0,
       gains_on (g.S.Sink.state c.args.out.now) (g.S.Sink.state c.loop-ending.out) (g.S.Sink.state c.turn.new.out) so_far.turns.0 turn.turns.0 so_far.turns.1 turn.turns.1,
       λ sound start before here.

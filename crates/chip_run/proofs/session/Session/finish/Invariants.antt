@@ -10,9 +10,9 @@ invariant-loop-ending g l =
     let sink = g.S.Sink in
     record {
       turns : (printed : List ℕ) × Gains (sink.state l.fn.out) printed (sink.state l.out)
-        × (ram.sound l.self.memory → (start : Machine) (before : List ℕ) →
-        Reaches start l.fn.self.retired l.fn.self.core l.fn.self.calls (ram.contents l.fn.self.memory) before →
-        Reaches start l.self.retired l.self.core l.self.calls (ram.contents l.self.memory) (before ++ printed));
+          × (ram.sound l.self.memory → (start : Machine) (before : List ℕ) →
+          Reaches start l.fn.self.retired l.fn.self.core l.fn.self.calls (ram.contents l.fn.self.memory) before →
+          Reaches start l.self.retired l.self.core l.self.calls (ram.contents l.self.memory) (before ++ printed));
       within : l.self.retired ≤ l.self.budget;
       budget : l.self.budget ≡ l.fn.self.budget;
       going : ram.stopped l.self.memory ≡ None;

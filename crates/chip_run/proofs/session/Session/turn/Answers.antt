@@ -8,60 +8,78 @@ use Rattle.chip_run.proofs.Turns.{stop_ends}
 use Rattle.chip_run.proofs.session.Session.turn.Goals as goal
 
 pub returns-then-self-clause-turns : goal.returns-then-self-clause-turns
-returns-then-self-clause-turns g c =
-    ([], sym (gained-nil _), λ sound start before here.
-        out_of_steps_follows start c.args.self.now.budget c.args.self.now.retired
-        (record { hart = c.args.self.now.core; calls = c.args.self.now.calls; memory = g.M.Ram.contents c.args.self.now.memory })
-        before here c.if-self.true)
+returns-then-self-clause-turns g c = (
+  [],
+  sym (gained-nil _),
+  λ sound start before here.
+      out_of_steps_follows start c.args.self.now.budget c.args.self.now.retired
+      (record { hart = c.args.self.now.core; calls = c.args.self.now.calls; memory = g.M.Ram.contents c.args.self.now.memory })
+      before here c.if-self.true,
+)
 
 pub returns-in-Ok-Retired-clause-turns : goal.returns-in-Ok-Retired-clause-turns
 returns-in-Ok-Retired-clause-turns g c =
     let outcome = c.step.ensures.outcome in
-    let is : c.step.result ≡ Ok Retired = cc in
-    (outcome.0, outcome.1, λ sound start before here.
-        step_reaches start c.args.self.now.retired
-        (record { hart = c.args.self.now.core; calls = c.args.self.now.calls; memory = g.M.Ram.contents c.args.self.now.memory })
-        (record { hart = c.step.new.self; calls = c.step.new.calls; memory = g.M.Ram.contents c.step.new.ram })
-        before outcome.0 c.step.result here (outcome.2 c.requires.going sound) is)
+    let is : c.step.result ≡ Ok Retired = cc in (
+      outcome.0,
+      outcome.1,
+      λ sound start before here.
+          step_reaches start c.args.self.now.retired
+          (record { hart = c.args.self.now.core; calls = c.args.self.now.calls; memory = g.M.Ram.contents c.args.self.now.memory })
+          (record { hart = c.step.new.self; calls = c.step.new.calls; memory = g.M.Ram.contents c.step.new.ram })
+          before outcome.0 c.step.result here (outcome.2 c.requires.going sound) is,
+    )
 
 pub returns-in-Ok-Halted-clause-turns : goal.returns-in-Ok-Halted-clause-turns
 returns-in-Ok-Halted-clause-turns g c =
     let outcome = c.step.ensures.outcome in
-    let is : c.step.result ≡ Ok (Halted c.in-Ok-Halted.code) = cc in
-    (outcome.0, outcome.1, λ sound start before here.
-        step_halts start c.args.self.now.budget c.args.self.now.retired
-        (record { hart = c.args.self.now.core; calls = c.args.self.now.calls; memory = g.M.Ram.contents c.args.self.now.memory })
-        (record { hart = c.step.new.self; calls = c.step.new.calls; memory = g.M.Ram.contents c.step.new.ram })
-        before outcome.0 c.step.result c.in-Ok-Halted.code here (omega arith) (outcome.2 c.requires.going sound) is)
+    let is : c.step.result ≡ Ok (Halted c.in-Ok-Halted.code) = cc in (
+      outcome.0,
+      outcome.1,
+      λ sound start before here.
+          step_halts start c.args.self.now.budget c.args.self.now.retired
+          (record { hart = c.args.self.now.core; calls = c.args.self.now.calls; memory = g.M.Ram.contents c.args.self.now.memory })
+          (record { hart = c.step.new.self; calls = c.step.new.calls; memory = g.M.Ram.contents c.step.new.ram })
+          before outcome.0 c.step.result c.in-Ok-Halted.code here (omega arith) (outcome.2 c.requires.going sound) is,
+    )
 
 pub returns-in-Err-Trap-clause-turns : goal.returns-in-Err-Trap-clause-turns
 returns-in-Err-Trap-clause-turns g c =
     let outcome = c.step.ensures.outcome in
-    let is : c.step.result ≡ Err (Trap c.in-Err-Trap.cause) = cc in
-    (outcome.0, outcome.1, λ sound start before here.
-        step_traps start c.args.self.now.budget c.args.self.now.retired
-        (record { hart = c.args.self.now.core; calls = c.args.self.now.calls; memory = g.M.Ram.contents c.args.self.now.memory })
-        (record { hart = c.step.new.self; calls = c.step.new.calls; memory = g.M.Ram.contents c.step.new.ram })
-        before outcome.0 c.step.result c.in-Err-Trap.cause c.pc.result here (omega arith) (outcome.2 c.requires.going sound) is
-        (c.pc.ensures ∙ ap (λ (hart : Hart). hart.pc) c.in-Err-Trap.ensures.stays.0))
+    let is : c.step.result ≡ Err (Trap c.in-Err-Trap.cause) = cc in (
+      outcome.0,
+      outcome.1,
+      λ sound start before here.
+          step_traps start c.args.self.now.budget c.args.self.now.retired
+          (record { hart = c.args.self.now.core; calls = c.args.self.now.calls; memory = g.M.Ram.contents c.args.self.now.memory })
+          (record { hart = c.step.new.self; calls = c.step.new.calls; memory = g.M.Ram.contents c.step.new.ram })
+          before outcome.0 c.step.result c.in-Err-Trap.cause c.pc.result here (omega arith) (outcome.2 c.requires.going sound) is
+          (c.pc.ensures ∙ ap (λ (hart : Hart). hart.pc) c.in-Err-Trap.ensures.stays.0),
+    )
 
 pub returns-in-Err-Mem-clause-turns : goal.returns-in-Err-Mem-clause-turns
 returns-in-Err-Mem-clause-turns g c =
     let outcome = c.step.ensures.outcome in
-    let is : c.step.result ≡ Err (Mem c.in-Err-Mem.stop) = cc in
-    (outcome.0, outcome.1, λ sound start before here.
-        step_stops start c.args.self.now.budget c.args.self.now.retired
-        (record { hart = c.args.self.now.core; calls = c.args.self.now.calls; memory = g.M.Ram.contents c.args.self.now.memory })
-        (record { hart = c.step.new.self; calls = c.step.new.calls; memory = g.M.Ram.contents c.step.new.ram })
-        before outcome.0 c.step.result c.in-Err-Mem.stop c.ending_of.result here c.requires.within (outcome.2 c.requires.going sound) is
-        (stop_ends c.in-Err-Mem.stop c.ending_of.result _ before _ _ _ c.ending_of.ensures))
+    let is : c.step.result ≡ Err (Mem c.in-Err-Mem.stop) = cc in (
+      outcome.0,
+      outcome.1,
+      λ sound start before here.
+          step_stops start c.args.self.now.budget c.args.self.now.retired
+          (record { hart = c.args.self.now.core; calls = c.args.self.now.calls; memory = g.M.Ram.contents c.args.self.now.memory })
+          (record { hart = c.step.new.self; calls = c.step.new.calls; memory = g.M.Ram.contents c.step.new.ram })
+          before outcome.0 c.step.result c.in-Err-Mem.stop c.ending_of.result here c.requires.within (outcome.2 c.requires.going sound) is
+          (stop_ends c.in-Err-Mem.stop c.ending_of.result _ before _ _ _ c.ending_of.ensures),
+    )
 
 pub returns-in-Err-WriteFault-clause-turns : goal.returns-in-Err-WriteFault-clause-turns
 returns-in-Err-WriteFault-clause-turns g c =
     let outcome = c.step.ensures.outcome in
-    let is : c.step.result ≡ Err WriteFault = cc in
-    (outcome.0, outcome.1, λ sound start before here.
-        step_fails start c.args.self.now.budget c.args.self.now.retired
-        (record { hart = c.args.self.now.core; calls = c.args.self.now.calls; memory = g.M.Ram.contents c.args.self.now.memory })
-        (record { hart = c.step.new.self; calls = c.step.new.calls; memory = g.M.Ram.contents c.step.new.ram })
-        before outcome.0 c.step.result here c.requires.within (outcome.2 c.requires.going sound) is)
+    let is : c.step.result ≡ Err WriteFault = cc in (
+      outcome.0,
+      outcome.1,
+      λ sound start before here.
+          step_fails start c.args.self.now.budget c.args.self.now.retired
+          (record { hart = c.args.self.now.core; calls = c.args.self.now.calls; memory = g.M.Ram.contents c.args.self.now.memory })
+          (record { hart = c.step.new.self; calls = c.step.new.calls; memory = g.M.Ram.contents c.step.new.ram })
+          before outcome.0 c.step.result here c.requires.within (outcome.2 c.requires.going sound) is,
+    )
