@@ -1,0 +1,2 @@
+pub mod KeyBlocks
+pub mod Tagging
