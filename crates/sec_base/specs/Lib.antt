@@ -9,3 +9,7 @@ pub mod Reading
 pub mod Calls
 pub mod MemorySinks
 pub mod MemoryFiles
+pub mod Lines
+pub mod Encoding
+pub mod Last
+pub mod Evidence
