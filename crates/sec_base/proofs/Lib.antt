@@ -1,2 +1,3 @@
 pub mod Geometries
 pub mod Contents
+pub mod MessageBytes

@@ -1,6 +1,6 @@
 -- False answers: which of them fail their check, and what shows that one passed. The tags of messages are those
 -- that the chip gives.
-use Rattle.std.specs.Prelude.{◌≡◌, ◌≢◌, ℕ, ◌≤◌, List, ◌++◌, length, take, drop, Option, Some, Contains}
+use Rattle.std.specs.Prelude.{◌≡◌, ◌≢◌, ℕ, ◌≤◌, List, ◌++◌, length, take, drop, Some, Contains}
 use Rattle.std.specs.List.{slice_get}
 use Rattle.sec_base.specs.declared.sealing.Counter.{Counter}
 use Rattle.sec_base.specs.declared.sealing.Sealed.{Sealed}

@@ -1,5 +1,5 @@
 // The bytes that a tag is computed of.
-ghost use Rattle.std.specs.Prelude.{◌≡◌, ◌≢◌, ◌+◌, ◌≤◌, ◌++◌, length, take, drop};
+ghost use Rattle.std.specs.Prelude.{◌≡◌, ◌≢◌, ◌+◌, ◌≤◌, ◌++◌, length, take};
 ghost use Rattle.sec_base.specs.declared.account.Message.{Message};
 ghost use Rattle.sec_base.specs.Encoding.{data_bytes, node_bytes, message_bytes, IsMessage};
 
@@ -11,10 +11,10 @@ pub fn data_message(line: u32, counter: Counter, cipher: &[u8; 64]) -> [u8; 78]
     ensures { result ≡ data_bytes line counter cipher.now }
 {
     let mut message = [0; 78];
-    message[0] = 0x44;
+    put(&mut message, 0, &[0x44]);
     put(&mut message, 1, &line.to_le_bytes());
     put(&mut message, 5, &counter.page.to_le_bytes());
-    message[13] = counter.line;
+    put(&mut message, 13, &[counter.line]);
     put(&mut message, 14, cipher);
     message
 }
@@ -24,8 +24,7 @@ pub fn node_message(level: u8, index: u32, block: &[u8; 64]) -> [u8; 70]
     ensures { result ≡ node_bytes level index block.now }
 {
     let mut message = [0; 70];
-    message[0] = 0x4e;
-    message[1] = level;
+    put(&mut message, 0, &[0x4e, level]);
     put(&mut message, 2, &index.to_le_bytes());
     put(&mut message, 6, block);
     message
@@ -40,7 +39,7 @@ pub fn messages_are_told_apart()
 // Puts a piece at a place of a message.
 fn put(message: &mut [u8], at: usize, piece: &[u8])
     requires { at + length piece.now ≤ length message.old }
-    ensures { message.new ≡ take at message.old ++ piece.now ++ drop (at + length piece.now) message.old }
+    ensures { take (at + length piece.now) message.new ≡ take at message.old ++ piece.now }
 {
     message[at..at + piece.len()].copy_from_slice(piece);
 }
