@@ -1,3 +1,5 @@
 pub mod Geometries
 pub mod Contents
 pub mod MessageBytes
+pub mod LastMessages
+pub mod SameMessages

@@ -11,5 +11,6 @@ pub mod MemorySinks
 pub mod MemoryFiles
 pub mod Lines
 pub mod Encoding
+pub mod Messages
 pub mod Last
 pub mod Evidence
