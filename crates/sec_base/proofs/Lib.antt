@@ -1,4 +1,5 @@
 pub mod Geometries
+pub mod Numbers
 pub mod Contents
 pub mod MessageBytes
 pub mod LastMessages

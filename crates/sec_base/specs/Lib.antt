@@ -14,3 +14,5 @@ pub mod Encoding
 pub mod Messages
 pub mod Last
 pub mod Evidence
+pub mod Nodes
+pub mod Places

@@ -9,6 +9,7 @@ mod encoding;
 mod layout;
 mod lists;
 mod memory;
+mod nodes;
 mod program;
 mod reading;
 mod sealing;

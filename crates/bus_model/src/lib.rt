@@ -1,0 +1,7 @@
+//! The memory outside the chip, which may answer anything: the bus that the chip reaches it by, an honest bus, and one
+//! that is honest but for one answer.
+#![tactic(auto)]
+
+mod bus;
+
+pub use bus::Bus;
