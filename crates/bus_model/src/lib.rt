@@ -3,5 +3,7 @@
 #![tactic(auto)]
 
 mod bus;
+mod honest;
 
 pub use bus::Bus;
+pub use honest::HonestBus;

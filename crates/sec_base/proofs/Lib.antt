@@ -4,3 +4,4 @@ pub mod Contents
 pub mod MessageBytes
 pub mod LastMessages
 pub mod SameMessages
+pub mod SamePlaces
