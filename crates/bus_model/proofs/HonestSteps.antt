@@ -15,7 +15,7 @@ use Rattle.sec_base.proofs.SamePlaces.{functions_same}
 use Rattle.std.proofs.lemmas.List.{get_or-replicate, length-replicate}
 use Rattle.std.proofs.Math.ListN.{get_or-eq_default}
 use Rattle.std.proofs.lemmas.Bool.{cases_lt}
-use Rattle.bus_model.specs.Told.{Told, nothing_told, after_read, after_write}
+use Rattle.bus_model.specs.Told.{nothing_told, after_read, after_write}
 use Rattle.bus_model.specs.Honest.{Kept, empty_line, empty_node, is_node, kept_line, kept_node, kept_bytes, kept_reads, honest_told}
 use Rattle.bus_model.proofs.Steps.{told_same, was_write, was_read}
 use Rattle.bus_model.proofs.KeptPlaces.{line_bytes, line_reads, line_there, node_bytes, node_reads, node_there}
@@ -34,7 +34,7 @@ wrote_line kept line accesses sealed was inside whole read counted =
     was_write (Line line) (sealed_bytes sealed) (honest_told kept) _ _ accesses
     (line_bytes kept line accesses item inside whole)
     (same_there (Line line) _ _ _ _ (line_reads kept line accesses item inside whole)
-        (ap (λ (x : DataPlace). x.reads) (sym (line_there kept line was inside whole read))))
+    (ap (λ (x : DataPlace). x.reads) (sym (line_there kept line was inside whole read))))
     counted
 
 pub read_line : (kept : Kept) (line accesses reads : ℕ) (was : DataPlace) →
@@ -61,7 +61,7 @@ wrote_node kept level index accesses block was inside whole read counted =
     was_write (Node level index) block (honest_told kept) _ _ accesses
     (node_bytes kept level index accesses item inside whole)
     (same_there (Node level index) _ _ _ _ (node_reads kept level index accesses item inside whole)
-        (ap (λ (x : NodePlace). x.reads) (sym (node_there kept level index was inside whole read))))
+    (ap (λ (x : NodePlace). x.reads) (sym (node_there kept level index was inside whole read))))
     counted
 
 pub read_node : (kept : Kept) (level index accesses reads : ℕ) (was : NodePlace) →
@@ -82,7 +82,7 @@ read_node kept level index accesses reads was inside whole read counted rose =
 one_item : {A : Type 0} (count at : ℕ) (item : A) → slice_index_or (replicate count item) at item ≡ item
 one_item count at item =
     elim (cases_lt at count) [
-        inl inside ↦ get_or-replicate count at item item inside
+      | inl inside ↦ get_or-replicate count at item item inside
       | inr outside ↦ get_or-eq_default (replicate count item) item (omega (arith, length-replicate count item))
     ]
 
@@ -94,19 +94,19 @@ new_bytes : (kept : Kept) → kept.lines ≡ replicate (line_count kept.levels) 
     (place : Place) → kept_bytes kept place ≡ zeros_of place
 new_bytes kept lines nodes (Line line) =
     rw lines (ap (λ (x : DataPlace). sealed_bytes x.sealed)
-        (either (nat_lt line (line_count kept.levels)) _ empty_line (one_item (line_count kept.levels) line empty_line)))
+    (either (nat_lt line (line_count kept.levels)) _ empty_line (one_item (line_count kept.levels) line empty_line)))
 new_bytes kept lines nodes (Node level index) =
     rw nodes (ap (λ (x : NodePlace). x.block)
-        (either (is_node kept.levels level index) _ empty_node (one_item (node_end kept.levels) (node_number kept.levels level index) empty_node)))
+    (either (is_node kept.levels level index) _ empty_node (one_item (node_end kept.levels) (node_number kept.levels level index) empty_node)))
 
 new_reads : (kept : Kept) → kept.lines ≡ replicate (line_count kept.levels) empty_line → kept.nodes ≡ replicate (node_end kept.levels) empty_node →
     (place : Place) → kept_reads kept place ≡ 0
 new_reads kept lines nodes (Line line) =
     rw lines (ap (λ (x : DataPlace). x.reads)
-        (either (nat_lt line (line_count kept.levels)) _ empty_line (one_item (line_count kept.levels) line empty_line)))
+    (either (nat_lt line (line_count kept.levels)) _ empty_line (one_item (line_count kept.levels) line empty_line)))
 new_reads kept lines nodes (Node level index) =
     rw nodes (ap (λ (x : NodePlace). x.reads)
-        (either (is_node kept.levels level index) _ empty_node (one_item (node_end kept.levels) (node_number kept.levels level index) empty_node)))
+    (either (is_node kept.levels level index) _ empty_node (one_item (node_end kept.levels) (node_number kept.levels level index) empty_node)))
 
 -- before the first call nothing was written and nothing read
 pub new_told : (kept : Kept) (levels : ℕ) → kept.levels ≡ levels → kept.lines ≡ replicate (line_count kept.levels) empty_line →
@@ -114,6 +114,6 @@ pub new_told : (kept : Kept) (levels : ℕ) → kept.levels ≡ levels → kept.
 unfolding nothing_told
 new_told kept levels is lines nodes none =
     rw (← is) (told_same (nothing_told kept.levels) kept.levels kept.accesses 0 None zeros_of (kept_bytes kept) (λ (place : Place). 0) (kept_reads kept)
-        (functions_same (kept_bytes kept) zeros_of (new_bytes kept lines nodes))
-        (functions_same (kept_reads kept) (λ (place : Place). 0) (new_reads kept lines nodes))
-        (rw none refl))
+    (functions_same (kept_bytes kept) zeros_of (new_bytes kept lines nodes))
+    (functions_same (kept_reads kept) (λ (place : Place). 0) (new_reads kept lines nodes))
+    (rw none refl))

@@ -1,12 +1,12 @@
 -- What an honest bus stands for, where one of its places changes.
-use Rattle.std.proofs.Common.{◌≡◌, ◌≢◌, ℕ, ◌+◌, ◌-◌, ◌^◌, ◌<◌, ◌≤◌, Bool, true, false, cond, nat_eq, nat_lt, ◌&&◌, List, length, slice_index_or, slice_set, refl, ap, ◌∙◌, sym, inl, inr, arith}
+use Rattle.std.proofs.Common.{◌≡◌, ℕ, ◌+◌, ◌-◌, ◌^◌, ◌<◌, Bool, true, false, cond, nat_eq, nat_lt, ◌&&◌, List, length, slice_index_or, slice_set, refl, ap, ◌∙◌, sym, inl, inr, arith}
 use Rattle.std.specs.Bool.{Decides}
 use Rattle.std.proofs.lemmas.Bool.Decides.{Decides-eqb, Decides-ltb, Decides-and, Decides-like, eqb_tells, same_from_decides}
 use Rattle.std.proofs.lemmas.List.{get_or-set_other, get_or_default}
 use Rattle.std.proofs.lemmas.Grind.{get_or-set_at}
 use Rattle.sec_base.specs.Layout.{IsNode, line_count}
 use Rattle.sec_base.specs.Nodes.{node_number, node_end}
-use Rattle.sec_base.specs.Places.{at_place, place_eq}
+use Rattle.sec_base.specs.Places.{at_place}
 use Rattle.sec_base.specs.Evidence.{sealed_bytes}
 use Rattle.sec_base.specs.declared.layout.Place.{Place}
 use Rattle.sec_base.specs.declared.layout.Place.TheVariants.{Line, Node}
@@ -21,7 +21,7 @@ item_set : {A : Type 0} (items : List A) (at other : ℕ) (item none : A) → at
     slice_index_or (slice_set items at item) other none ≡ cond (nat_eq other at) item (slice_index_or items other none)
 item_set items at other item none below =
     elim (eqb_tells other at) [
-        inl same ↦ rw same.0 (get_or-set_at items at other item none same.1 below)
+      | inl same ↦ rw same.0 (get_or-set_at items at other item none same.1 below)
       | inr apart ↦ rw apart.0 (get_or-set_other items at other item none apart.1)
     ]
 
@@ -48,7 +48,7 @@ line_set kept line other accesses item inside whole =
     (slice_index_or (slice_set kept.lines line item) other empty_line) (slice_index_or kept.lines other empty_line) empty_line
     (λ h. item_set kept.lines line other item empty_line (omega arith))
     (λ (h : nat_lt other (line_count kept.levels) ≡ false). false_from (nat_eq other line) (Decides-eqb other line)
-        (λ (same : other ≡ line). true_false (nat_lt other (line_count kept.levels)) ((Decides-ltb other (line_count kept.levels)).1 (omega arith)) h))
+    (λ (same : other ≡ line). true_false (nat_lt other (line_count kept.levels)) ((Decides-ltb other (line_count kept.levels)).1 (omega arith)) h))
 
 line_bytes_at : (kept : Kept) (line accesses : ℕ) (item : DataPlace) →
     line < line_count kept.levels → length kept.lines ≡ line_count kept.levels → (place : Place) →
@@ -96,10 +96,10 @@ node_test : (levels level index other at : ℕ) → IsNode levels level index �
 node_test levels level index other at node node' =
     same_from_decides (nat_eq (node_number levels other at) (node_number levels level index)) (nat_eq other level && nat_eq at index)
     (Decides-like (nat_eq (node_number levels other at) (node_number levels level index))
-        (numbers_apart levels other at level index node' node)
-        (λ (same : (other ≡ level) × (at ≡ index)).
-            ap (λ (k : ℕ). node_number levels k at) same.0 ∙ ap (λ (i : ℕ). node_number levels level i) same.1)
-        (Decides-eqb (node_number levels other at) (node_number levels level index)))
+    (numbers_apart levels other at level index node' node)
+    (λ (same : (other ≡ level) × (at ≡ index)).
+    ap (λ (k : ℕ). node_number levels k at) same.0 ∙ ap (λ (i : ℕ). node_number levels level i) same.1)
+    (Decides-eqb (node_number levels other at) (node_number levels level index)))
     (Decides-and (nat_eq other level) (nat_eq at index) (Decides-eqb other level) (Decides-eqb at index))
 
 moved_node : (levels level index other at : ℕ) → other ≡ level → at ≡ index → IsNode levels level index → IsNode levels other at
@@ -116,13 +116,13 @@ node_set kept level index other at accesses item node whole =
     guarded (is_node kept.levels other at) (nat_eq other level && nat_eq at index) item
     (slice_index_or (slice_set kept.nodes here item) there empty_node) (slice_index_or kept.nodes there empty_node) empty_node
     (λ (h : is_node kept.levels other at ≡ true).
-        item_set kept.nodes here there item empty_node (omega (arith, number_inside kept.levels level index node))
-        ∙ ap (λ (b : Bool). cond b item (slice_index_or kept.nodes there empty_node))
-            (node_test kept.levels level index other at node ((is_node-Decides kept.levels other at).0 h)))
+    item_set kept.nodes here there item empty_node (omega (arith, number_inside kept.levels level index node))
+    ∙ ap (λ (b : Bool). cond b item (slice_index_or kept.nodes there empty_node))
+    (node_test kept.levels level index other at node ((is_node-Decides kept.levels other at).0 h)))
     (λ (h : is_node kept.levels other at ≡ false). false_from (nat_eq other level && nat_eq at index)
-        (Decides-and (nat_eq other level) (nat_eq at index) (Decides-eqb other level) (Decides-eqb at index))
-        (λ (same : (other ≡ level) × (at ≡ index)). true_false (is_node kept.levels other at)
-            ((is_node-Decides kept.levels other at).1 (moved_node kept.levels level index other at same.0 same.1 node)) h))
+    (Decides-and (nat_eq other level) (nat_eq at index) (Decides-eqb other level) (Decides-eqb at index))
+    (λ (same : (other ≡ level) × (at ≡ index)). true_false (is_node kept.levels other at)
+    ((is_node-Decides kept.levels other at).1 (moved_node kept.levels level index other at same.0 same.1 node)) h))
 
 node_bytes_at : (kept : Kept) (level index accesses : ℕ) (item : NodePlace) →
     IsNode kept.levels level index → length kept.nodes ≡ node_end kept.levels → (place : Place) →
@@ -169,4 +169,4 @@ pub node_there : (kept : Kept) (level index : ℕ) (item : NodePlace) → IsNode
 node_there kept level index item node whole read =
     let yes_inside : is_node kept.levels level index ≡ true = (is_node-Decides kept.levels level index).1 node in
     rw yes_inside (get_or_default kept.nodes (node_number kept.levels level index) empty_node item
-        (omega (arith, number_inside kept.levels level index node)) ∙ sym read)
+    (omega (arith, number_inside kept.levels level index node)) ∙ sym read)

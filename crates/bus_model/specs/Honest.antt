@@ -27,10 +27,10 @@ empty_node = record { block = replicate 64 0; reads = 0 }
 abbrev pub new_kept : ℕ → Kept
 new_kept levels =
     record {
-        levels = levels;
-        lines = replicate (line_count levels) empty_line;
-        nodes = replicate (node_end levels) empty_node;
-        accesses = 0;
+      levels = levels;
+      lines = replicate (line_count levels) empty_line;
+      nodes = replicate (node_end levels) empty_node;
+      accesses = 0;
     }
 
 -- the node is one of the tree's
@@ -62,10 +62,10 @@ kept_reads kept (Node level index) = (kept_node kept level index).reads
 abbrev pub honest_told : Kept → Told
 honest_told kept =
     record {
-        levels = kept.levels;
-        written = kept_bytes kept;
-        reads = kept_reads kept;
-        accesses = kept.accesses;
-        lies = 0;
-        lie = None;
+      levels = kept.levels;
+      written = kept_bytes kept;
+      reads = kept_reads kept;
+      accesses = kept.accesses;
+      lies = 0;
+      lie = None;
     }

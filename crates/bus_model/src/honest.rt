@@ -67,6 +67,31 @@ impl HonestBus {
     }
 }
 
+impl HonestBus {
+    // How often the line's place was read.
+    pub(crate) fn line_reads(&self, line: u32) -> u64
+        requires { IsPlace self.now.levels (Line line) }
+        ensures { result ≡ (honest_told self.now).reads (Line line) }
+    {
+        self.lines[line as usize].reads
+    }
+
+    // How often the node's place was read.
+    pub(crate) fn node_reads(&self, level: u8, index: u32) -> u64
+        requires { IsPlace self.now.levels (Node level index) }
+        ensures { result ≡ (honest_told self.now).reads (Node level index) }
+    {
+        self.nodes[self.geometry.node_number(level, index) as usize].reads
+    }
+
+    // How many reads and writes there were.
+    pub(crate) fn accesses(&self) -> u64
+        ensures { result ≡ (honest_told self.now).accesses }
+    {
+        self.accesses
+    }
+}
+
 impl Bus for HonestBus {
     ghost told = { honest_told };
 

@@ -3,7 +3,10 @@
 #![tactic(auto)]
 
 mod bus;
+mod flipping;
 mod honest;
+mod lies;
 
 pub use bus::Bus;
+pub use flipping::FlipBus;
 pub use honest::HonestBus;
