@@ -8,14 +8,13 @@ use Rattle.std.specs.Str.{bytes_eq}
 use Rattle.std.proofs.lemmas.Slice.Eq.{bytes_eq-Decides}
 use Rattle.sec_base.specs.Count.{more_by}
 use Rattle.sec_base.specs.declared.layout.Place.{Place}
-use Rattle.sec_base.proofs.SamePlaces.{false_from}
 use Rattle.bus_model.specs.declared.lies.FalseAnswer.{FalseAnswer}
 use Rattle.bus_model.specs.declared.lies.Lies.{Lies}
 use Rattle.bus_model.specs.declared.flipping.Flip.{Flip}
-use Rattle.bus_model.specs.Told.{Told, Lie, after_read, after_write, after_answer, after_lie, is_false, first_lie}
+use Rattle.bus_model.specs.Told.{Told, Lie, after_read, after_write, after_answer, first_lie}
 use Rattle.bus_model.specs.Honest.{Kept, honest_told}
 use Rattle.bus_model.specs.Flipping.{flip_told, lie_of, flipped}
-use Rattle.bus_model.proofs.Steps.{true_answer}
+use Rattle.bus_model.proofs.Steps.{answered, lied}
 
 -- with these lies in place of its own
 with_lies : ℕ → Option Lie → Told → Told
@@ -32,19 +31,6 @@ pub flip_refused : (kept kept' : Kept) (flip : Flip) (lies : Lies) → honest_to
     flip_told (record { kept = kept'; flip = flip; lies = lies }) ≡ flip_told (record { kept = kept; flip = flip; lies = lies })
 unfolding with_lies
 flip_refused kept kept' flip lies same = ap (with_lies lies.count (option_map lie_of lies.first)) same
-
--- a true answer
-answered : (place : Place) (bytes : List ℕ) (told : Told) → bytes ≡ told.written place → after_read place bytes told ≡ after_answer place told
-unfolding after_read
-answered place bytes told same =
-    let honest : is_false place bytes told ≡ false = true_answer place bytes told same in rw honest refl
-
--- and a false one
-lied : (place : Place) (bytes : List ℕ) (told : Told) → bytes ≢ told.written place → after_read place bytes told ≡ after_lie place bytes (after_answer place told)
-unfolding after_read is_false
-lied place bytes told differs =
-    let unlike : bytes_eq bytes (told.written place) ≡ false = false_from (bytes_eq bytes (told.written place)) (bytes_eq-Decides bytes (told.written place)) differs in
-    rw unlike refl
 
 pub flip_read : (kept kept' : Kept) (flip : Flip) (lies : Lies) (place : Place) (bytes answer : List ℕ) →
     honest_told kept' ≡ after_read place bytes (honest_told kept) → bytes ≡ (honest_told kept).written place → answer ≡ bytes →

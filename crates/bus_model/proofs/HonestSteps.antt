@@ -111,7 +111,6 @@ new_reads kept lines nodes (Node level index) =
 -- before the first call nothing was written and nothing read
 pub new_told : (kept : Kept) (levels : ℕ) → kept.levels ≡ levels → kept.lines ≡ replicate (line_count kept.levels) empty_line →
     kept.nodes ≡ replicate (node_end kept.levels) empty_node → kept.accesses ≡ 0 → honest_told kept ≡ nothing_told levels
-unfolding nothing_told
 new_told kept levels is lines nodes none =
     rw (← is) (told_same (nothing_told kept.levels) kept.levels kept.accesses 0 None zeros_of (kept_bytes kept) (λ (place : Place). 0) (kept_reads kept)
     (functions_same (kept_bytes kept) zeros_of (new_bytes kept lines nodes))

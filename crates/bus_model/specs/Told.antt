@@ -23,7 +23,7 @@ pub record Told : Type 0 where
   pub lie : Option Lie
 
 -- nothing was asked yet
-unfoldable pub nothing_told : ℕ → Told
+abbrev pub nothing_told : ℕ → Told
 nothing_told levels =
     record { levels = levels; written = zeros_of; reads = λ place. 0; accesses = 0; lies = 0; lie = None }
 

@@ -144,17 +144,17 @@ impl Bus for FlipBus {
         if !due {
             return Ok(block);
         }
-        let answer = flip_block(&block, self.flip.offset, self.flip.mask);
-        if answer != block {
-            let access = self.bus.accesses();
+        let changed = flip_block(&block, self.flip.offset, self.flip.mask);
+        if changed != block {
+            let number = self.bus.accesses();
             self.lies.tell(FalseAnswer::Block {
-                access,
+                access: number,
                 level,
                 index,
-                block: answer,
+                block: changed,
             });
         }
-        Ok(answer)
+        Ok(changed)
     }
 
     fn write_node(&mut self, level: u8, index: u32, block: &[u8; 64]) -> Result<(), NoMemory>

@@ -131,15 +131,15 @@ impl Bus for HonestBus {
         ensures levels { (honest_told self.new).levels ≡ (honest_told self.old).levels }
     {
         self.accesses = self.accesses.saturating_add(1);
-        let place = &mut self.nodes[self.geometry.node_number(level, index) as usize];
-        place.reads = place.reads.saturating_add(1);
-        Ok(place.block)
+        let node = &mut self.nodes[self.geometry.node_number(level, index) as usize];
+        node.reads = node.reads.saturating_add(1);
+        Ok(node.block)
     }
 
     fn write_node(&mut self, level: u8, index: u32, block: &[u8; 64]) -> Result<(), NoMemory> {
         self.accesses = self.accesses.saturating_add(1);
-        let place = &mut self.nodes[self.geometry.node_number(level, index) as usize];
-        place.block = *block;
+        let node = &mut self.nodes[self.geometry.node_number(level, index) as usize];
+        node.block = *block;
         Ok(())
     }
 }
