@@ -5,3 +5,4 @@ pub mod MessageBytes
 pub mod LastMessages
 pub mod SameMessages
 pub mod SamePlaces
+pub mod JoinedLines
