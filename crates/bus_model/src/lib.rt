@@ -6,6 +6,8 @@ mod bus;
 mod flipping;
 mod honest;
 mod lies;
+#[cfg(test)]
+mod tests;
 
 pub use bus::Bus;
 pub use flipping::FlipBus;

@@ -56,10 +56,10 @@ unfolding joined_lines
 line_at-joined_lines f zero line long inside = absurd (omega arith)
 line_at-joined_lines f (suc lines) line long inside =
     elim (cases_lt line lines) [
-        inl before ↦ line_front (joined_lines f lines) (f lines) line (omega (arith, length-joined_lines f lines long))
-            ∙ line_at-joined_lines f lines line long before
+      | inl before ↦ line_front (joined_lines f lines) (f lines) line (omega (arith, length-joined_lines f lines long))
+          ∙ line_at-joined_lines f lines line long before
       | inr last ↦ let same : line ≡ lines = omega arith in
-            rw same (line_last (joined_lines f lines) (f lines) lines (length-joined_lines f lines long) (long lines))
+          rw same (line_last (joined_lines f lines) (f lines) lines (length-joined_lines f lines long) (long lines))
     ]
 
 -- another line in place of one
@@ -69,15 +69,15 @@ unfolding joined_lines
 with_line-joined_lines f g zero line bytes long inside here others = absurd (omega arith)
 with_line-joined_lines f g (suc lines) line bytes long inside here others =
     elim (cases_lt line lines) [
-        inl before ↦ let apart : lines ≢ line = omega arith in
-            with_front (joined_lines f lines) (f lines) bytes line (omega (arith, length-joined_lines f lines long))
-            ∙ ap (λ (front : List ℕ). front ++ f lines) (with_line-joined_lines f g lines line bytes long before here others)
-            ∙ ap (λ (back : List ℕ). joined_lines g lines ++ back) (sym (others lines apart))
+      | inl before ↦ let apart : lines ≢ line = omega arith in
+          with_front (joined_lines f lines) (f lines) bytes line (omega (arith, length-joined_lines f lines long))
+          ∙ ap (λ (front : List ℕ). front ++ f lines) (with_line-joined_lines f g lines line bytes long before here others)
+          ∙ ap (λ (back : List ℕ). joined_lines g lines ++ back) (sym (others lines apart))
       | inr last ↦ let same : line ≡ lines = omega arith in
-            let front_same : joined_lines f lines ≡ joined_lines g lines =
-            joined_lines-same f g lines (λ (other : ℕ) (h : other < lines). let apart : other ≢ line = omega arith in sym (others other apart)) in
-            ap (λ (n : ℕ). with_line (joined_lines f lines ++ f lines) n bytes) same
-            ∙ with_last (joined_lines f lines) (f lines) bytes lines (length-joined_lines f lines long) (long lines)
-            ∙ ap (λ (front : List ℕ). front ++ bytes) front_same
-            ∙ ap (λ (back : List ℕ). joined_lines g lines ++ back) (sym here ∙ ap g same)
+          let front_same : joined_lines f lines ≡ joined_lines g lines =
+          joined_lines-same f g lines (λ (other : ℕ) (h : other < lines). let apart : other ≢ line = omega arith in sym (others other apart)) in
+          ap (λ (n : ℕ). with_line (joined_lines f lines ++ f lines) n bytes) same
+          ∙ with_last (joined_lines f lines) (f lines) bytes lines (length-joined_lines f lines long) (long lines)
+          ∙ ap (λ (front : List ℕ). front ++ bytes) front_same
+          ∙ ap (λ (back : List ℕ). joined_lines g lines ++ back) (sym here ∙ ap g same)
     ]
