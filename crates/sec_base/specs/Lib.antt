@@ -9,3 +9,10 @@ pub mod Reading
 pub mod Calls
 pub mod MemorySinks
 pub mod MemoryFiles
+pub mod Lines
+pub mod Encoding
+pub mod Messages
+pub mod Last
+pub mod Evidence
+pub mod Nodes
+pub mod Places

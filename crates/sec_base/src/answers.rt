@@ -18,6 +18,10 @@ impl<T: Drop> From<AllocFailed<T>> for NoMemory {
     }
 }
 
+/// Memory for the emulator itself was not to be had, and this is handed back.
+#[derive(Debug, Drop)]
+pub struct NoMemoryWith<X>(pub X);
+
 /// Why an instruction traps.
 #[derive(Clone, Copy, Debug, PartialEq, Eq)]
 pub enum Cause {

@@ -1,11 +1,11 @@
 // Each public call once with ample memory. The numbers of the geometry are those of Python: 4 ** levels pages of
 // 4096 bytes, and so on.
-ghost use Rattle.std.specs.Prelude.{IfOk};
+ghost use Rattle.std.specs.Prelude.{IfOk, replicate, refl};
 ghost use Rattle.sec_base.specs.Program.{IsImage};
 
 use crate::{
-    Bytes, Files, Geometry, Image, MemoryFiles, MemorySink, Place, ReadStop, Segment, Segments,
-    Sink, SinkStop,
+    Bytes, Counter, Files, Geometry, Image, MemoryFiles, MemorySink, Message, Messages, Pads,
+    Place, ReadStop, Segment, Segments, Sink, SinkStop, Tagger, data_message, node_message,
 };
 use std::alloc::{AllocError, Global};
 use std::test::Fail;
@@ -192,4 +192,121 @@ fn files_answer_as_they_are(rt: HostRuntime) -> Result<(), Fail> {
         }
     }
     Ok(())
+}
+
+#[test]
+fn nodes_stand_apart_in_one_list(rt: HostRuntime) -> Result<(), Fail> {
+    let geometry = Geometry::new(2).ok_or("no geometry")?;
+    assert_eq!(rt; geometry.node_end(), 32);
+    assert_eq!(rt; geometry.node_number(2, 0), 1);
+    assert_eq!(rt; geometry.node_number(1, 0), 4);
+    assert_eq!(rt; geometry.node_number(1, 3), 7);
+    assert_eq!(rt; geometry.node_number(0, 0), 16);
+    assert_eq!(rt; geometry.node_number(0, 15), 31);
+    Ok(())
+}
+
+// The bytes are those of Python's `int.to_bytes(n, 'little')`.
+#[test]
+fn a_data_message_has_its_line_counter_and_bytes(rt: HostRuntime) {
+    let written = data_message(5, Counter { page: 0, line: 1 }, &[0; 64]);
+    assert_eq!(rt;
+        &written[..14],
+        [0x44, 5, 0, 0, 0, 0, 0, 0, 0, 0, 0, 0, 0, 1].as_slice()
+    );
+    assert_eq!(rt; &written[14..], [0; 64].as_slice());
+    let counter = Counter {
+        page: 0x1122_3344_5566_7788,
+        line: 0x7f,
+    };
+    let mut cipher = [0; 64];
+    cipher[0] = 0xaa;
+    cipher[63] = 0xbb;
+    let written = data_message(0x0102_0304, counter, &cipher);
+    assert_eq!(rt;
+        &written[..14],
+        [
+            0x44, 4, 3, 2, 1, 0x88, 0x77, 0x66, 0x55, 0x44, 0x33, 0x22, 0x11, 0x7f
+        ]
+        .as_slice()
+    );
+    assert_eq!(rt; &written[14..], cipher.as_slice());
+}
+
+#[test]
+fn a_node_message_has_its_place_and_block(rt: HostRuntime) {
+    let mut block = [0; 64];
+    block[0] = 0xaa;
+    block[63] = 0xbb;
+    let written = node_message(1, 2, &block);
+    assert_eq!(rt; &written[..6], [0x4e, 1, 2, 0, 0, 0].as_slice());
+    assert_eq!(rt; &written[6..], block.as_slice());
+    let written = node_message(6, 0x0102_0304, &block);
+    assert_eq!(rt; &written[..6], [0x4e, 6, 4, 3, 2, 1].as_slice());
+}
+
+#[test]
+fn messages_are_got_by_their_place(rt: HostRuntime) -> Result<(), Fail> {
+    let first = Message::Line {
+        line: 5,
+        counter: Counter { page: 1, line: 0 },
+        cipher: [7; 64],
+    };
+    let second = Message::Node {
+        level: 1,
+        index: 2,
+        block: [8; 64],
+    };
+    let messages = Messages::from_vec([first, second].to_vec(rt.alloc())?);
+    assert_eq!(rt; messages.len(), 2);
+    assert!(rt; !messages.is_empty());
+    assert_eq!(rt; messages.get(0), Some(first));
+    assert_eq!(rt; messages.get(1), Some(second));
+    assert_eq!(rt; messages.get(2), None);
+    assert_eq!(rt; messages.get(u64::MAX), None);
+    assert_eq!(rt; messages.as_slice().len(), 2);
+    assert_eq!(rt; messages.into_vec().len(), 2);
+    Ok(())
+}
+
+#[test]
+fn pads_are_got_by_their_place(rt: HostRuntime) -> Result<(), Fail> {
+    let entry = (5, Counter { page: 1, line: 2 });
+    let pads = Pads::from_vec([entry].to_vec(rt.alloc())?);
+    assert_eq!(rt; pads.len(), 1);
+    assert!(rt; !pads.is_empty());
+    assert_eq!(rt; pads.get(0), Some(entry));
+    assert_eq!(rt; pads.get(1), None);
+    assert_eq!(rt; pads.as_slice().len(), 1);
+    assert_eq!(rt; pads.into_vec().len(), 1);
+    Ok(())
+}
+
+// All tags are zeros.
+#[derive(Drop)]
+struct ZeroTags;
+
+impl Tagger for ZeroTags {
+    ghost data_tag_of = { λ tagger message. replicate 16 0 };
+
+    ghost node_tag_of = { λ tagger message. replicate 16 0 };
+
+    fn data_tag(&self, _message: &[u8; 78]) -> [u8; 16] {
+        [0; 16]
+    }
+
+    fn node_tag(&self, _message: &[u8; 70]) -> [u8; 16] {
+        [0; 16]
+    }
+
+    ghost data_tag_long = { λ tagger message. refl };
+
+    ghost node_tag_long = { λ tagger message. refl };
+}
+
+#[test]
+fn a_tagger_may_give_one_tag_to_all(rt: HostRuntime) {
+    let tagger = ZeroTags;
+    assert_eq!(rt; tagger.data_tag(&[1; 78]), [0; 16]);
+    assert_eq!(rt; tagger.node_tag(&[2; 70]), [0; 16]);
 }

@@ -1,0 +1,4 @@
+pub mod Steps
+pub mod KeptPlaces
+pub mod HonestSteps
+pub mod FlipSteps

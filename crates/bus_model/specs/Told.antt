@@ -1,0 +1,65 @@
+-- What a bus was asked and what it answered.
+use Rattle.std.specs.Prelude.{◌==◌, ◌≡◌, ℕ, List, Option, Some, None, Bool, not, if◌then◌else◌}
+use Rattle.std.specs.Str.{bytes_eq}
+use Rattle.sec_base.specs.Count.{more_by}
+use Rattle.sec_base.specs.Layout.{IsPlace}
+use Rattle.sec_base.specs.Places.{at_place, zeros_of}
+use Rattle.sec_base.specs.declared.layout.Place.{Place}
+
+-- a false answer: which access it was, its place, and the bytes that were answered
+pub record Lie : Type 0 where
+  pub access : ℕ
+  pub place : Place
+  pub bytes : List ℕ
+
+-- the levels of the tree; what was written last at each place, and how often it was read; how many reads and writes
+-- were answered; how many answers were false, and the first of them
+pub record Told : Type 0 where
+  pub levels : ℕ
+  pub written : Place → List ℕ
+  pub reads : Place → ℕ
+  pub accesses : ℕ
+  pub lies : ℕ
+  pub lie : Option Lie
+
+-- nothing was asked yet
+abbrev pub nothing_told : ℕ → Told
+nothing_told levels =
+    record { levels = levels; written = zeros_of; reads = λ place. 0; accesses = 0; lies = 0; lie = None }
+
+-- nothing was written yet
+pub record NothingWritten (told : Told) : Type 0 where
+  pub zeros : (place : Place) → IsPlace told.levels place → told.written place ≡ zeros_of place
+
+-- one more access
+abbrev pub accessed : Told → Told
+accessed told = record told { accesses = more_by 1 told.accesses }
+
+-- bytes were written at a place
+unfoldable pub after_write : Place → List ℕ → Told → Told
+after_write place bytes told = accessed (record told { written = at_place place bytes told.written })
+
+-- these bytes, as the answer to a read of a place, are false
+unfoldable pub is_false : Place → List ℕ → Told → Bool
+is_false place bytes told = not (bytes_eq bytes (told.written place))
+
+-- the first lie, where so many were counted before this one
+abbrev pub first_lie : ℕ → Option Lie → Lie → Option Lie
+first_lie lies before lie = if lies == 0 then Some lie else before
+
+-- the last access was answered falsely
+abbrev pub after_lie : Place → List ℕ → Told → Told
+after_lie place bytes told =
+    record told {
+      lies = more_by 1 told.lies;
+      lie = first_lie told.lies told.lie (record { access = told.accesses; place = place; bytes = bytes });
+    }
+
+-- a read of a place was counted
+abbrev pub after_answer : Place → Told → Told
+after_answer place told = accessed (record told { reads = at_place place (more_by 1 (told.reads place)) told.reads })
+
+-- a read of a place was answered by these bytes
+unfoldable pub after_read : Place → List ℕ → Told → Told
+after_read place bytes told =
+    if is_false place bytes told then after_lie place bytes (after_answer place told) else after_answer place told

@@ -1,0 +1,178 @@
+// A bus that answers what was written.
+ghost use Rattle.std.specs.Prelude.{◌≡◌, replicate, IsOk, IfOk, OnOk, OnErr};
+ghost use Rattle.sec_base.specs.Layout.{IsPlace};
+ghost use Rattle.sec_base.specs.Evidence.{sealed_bytes};
+ghost use Rattle.sec_base.specs.declared.layout.Place.TheVariants.{Line, Node};
+ghost use Rattle.bus_model.specs.Told.{nothing_told, after_read, after_write};
+ghost use Rattle.bus_model.specs.Honest.{honest_told, empty_line, empty_node};
+
+use crate::bus::Bus;
+use sec_base::{Geometry, NoMemory, Sealed};
+use std::alloc::Global;
+use std::marker::Model;
+
+// The place of a line, and how often it was read.
+#[derive(Clone, Copy, Debug)]
+struct DataPlace {
+    sealed: Sealed,
+    reads: u64,
+}
+
+// The place of a node, and how often it was read.
+#[derive(Clone, Copy, Debug)]
+struct NodePlace {
+    block: [u8; 64],
+    reads: u64,
+}
+
+/// A memory outside the chip that answers what was written, and zeros where nothing was.
+#[derive(Debug, Drop)]
+pub struct HonestBus {
+    geometry: Geometry,
+    lines: Vec<DataPlace>,
+    nodes: Vec<NodePlace>,
+    accesses: u64,
+}
+
+impl Model for HonestBus {
+    ghost use Rattle.std.specs.Prelude.{◌≡◌, length};
+    ghost use Rattle.sec_base.specs.Layout.{line_count};
+    ghost use Rattle.sec_base.specs.Nodes.{node_end};
+    ghost use Rattle.bus_model.specs.Honest.{Kept};
+
+    ghost Value = { Kept };
+
+    ghost view = { λ bus. record {
+      levels = bus.geometry;
+      lines = bus.lines.items;
+      nodes = bus.nodes.items;
+      accesses = bus.accesses;
+    } };
+
+    ghost invariant = { λ bus.
+        (length bus.lines.items ≡ line_count bus.geometry) × (length bus.nodes.items ≡ node_end bus.geometry) };
+}
+
+impl HonestBus {
+    /// A memory of zeros for this tree. Only want of memory refuses it.
+    pub fn new(alloc: Global, geometry: Geometry) -> Result<HonestBus, NoMemory>
+        ensures { IfOk result (λ bus. honest_told bus ≡ nothing_told geometry) }
+    {
+        Ok(HonestBus {
+            geometry,
+            lines: empty_lines(alloc, geometry.lines())?,
+            nodes: empty_nodes(alloc, geometry.node_end())?,
+            accesses: 0,
+        })
+    }
+}
+
+impl HonestBus {
+    // How often the line's place was read.
+    pub(crate) fn line_reads(&self, line: u32) -> u64
+        requires { IsPlace self.now.levels (Line line) }
+        ensures { result ≡ (honest_told self.now).reads (Line line) }
+    {
+        self.lines[line as usize].reads
+    }
+
+    // How often the node's place was read.
+    pub(crate) fn node_reads(&self, level: u8, index: u32) -> u64
+        requires { IsPlace self.now.levels (Node level index) }
+        ensures { result ≡ (honest_told self.now).reads (Node level index) }
+    {
+        self.nodes[self.geometry.node_number(level, index) as usize].reads
+    }
+
+    // How many reads and writes there were.
+    pub(crate) fn accesses(&self) -> u64
+        ensures { result ≡ (honest_told self.now).accesses }
+    {
+        self.accesses
+    }
+}
+
+impl Bus for HonestBus {
+    ghost told = { honest_told };
+
+    /// What was written at the line's place.
+    fn read_data(&mut self, line: u32) -> Result<Sealed, NoMemory>
+        requires inside { IsPlace (honest_told self.old).levels (Line line) }
+
+        ensures is_ok { IsOk result }
+        ensures answer { IfOk result (λ sealed. sealed_bytes sealed ≡ (honest_told self.old).written (Line line)) }
+
+        ensures ok { IfOk result (λ sealed. honest_told self.new ≡ after_read (Line line) (sealed_bytes sealed) (honest_told self.old)) }
+        ensures err { OnErr result (honest_told self.new ≡ honest_told self.old) }
+        ensures levels { (honest_told self.new).levels ≡ (honest_told self.old).levels }
+    {
+        self.accesses = self.accesses.saturating_add(1);
+        let place = &mut self.lines[line as usize];
+        place.reads = place.reads.saturating_add(1);
+        Ok(place.sealed)
+    }
+
+    fn write_data(&mut self, line: u32, sealed: &Sealed) -> Result<(), NoMemory> {
+        self.accesses = self.accesses.saturating_add(1);
+        let place = &mut self.lines[line as usize];
+        place.sealed = *sealed;
+        Ok(())
+    }
+
+    /// What was written at the node's place.
+    fn read_node(&mut self, level: u8, index: u32) -> Result<[u8; 64], NoMemory>
+        requires inside { IsPlace (honest_told self.old).levels (Node level index) }
+
+        ensures is_ok { IsOk result }
+        ensures answer { IfOk result (λ block. block ≡ (honest_told self.old).written (Node level index)) }
+
+        ensures ok { IfOk result (λ block. honest_told self.new ≡ after_read (Node level index) block (honest_told self.old)) }
+        ensures err { OnErr result (honest_told self.new ≡ honest_told self.old) }
+        ensures levels { (honest_told self.new).levels ≡ (honest_told self.old).levels }
+    {
+        self.accesses = self.accesses.saturating_add(1);
+        let node = &mut self.nodes[self.geometry.node_number(level, index) as usize];
+        node.reads = node.reads.saturating_add(1);
+        Ok(node.block)
+    }
+
+    fn write_node(&mut self, level: u8, index: u32, block: &[u8; 64]) -> Result<(), NoMemory> {
+        self.accesses = self.accesses.saturating_add(1);
+        let node = &mut self.nodes[self.geometry.node_number(level, index) as usize];
+        node.block = *block;
+        Ok(())
+    }
+}
+
+// The place of a line that was neither written nor read.
+fn no_line() -> DataPlace
+    ensures { result ≡ empty_line }
+{
+    let sealed = Sealed {
+        cipher: [0; 64],
+        tag: [0; 16],
+    };
+    DataPlace { sealed, reads: 0 }
+}
+
+// The place of a node that was neither written nor read.
+fn no_node() -> NodePlace
+    ensures { result ≡ empty_node }
+{
+    NodePlace {
+        block: [0; 64],
+        reads: 0,
+    }
+}
+
+fn empty_lines(alloc: Global, count: u32) -> Result<Vec<DataPlace>, NoMemory>
+    ensures { IfOk result (λ lines. lines.items ≡ replicate count empty_line) }
+{
+    Ok(vec![in alloc; no_line(); count as usize]?)
+}
+
+fn empty_nodes(alloc: Global, count: u32) -> Result<Vec<NodePlace>, NoMemory>
+    ensures { IfOk result (λ nodes. nodes.items ≡ replicate count empty_node) }
+{
+    Ok(vec![in alloc; no_node(); count as usize]?)
+}

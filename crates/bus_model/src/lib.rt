@@ -1,0 +1,14 @@
+//! The memory outside the chip, which may answer anything: the bus that the chip reaches it by, an honest bus, and one
+//! that is honest but for one answer.
+#![tactic(auto)]
+
+mod bus;
+mod flipping;
+mod honest;
+mod lies;
+#[cfg(test)]
+mod tests;
+
+pub use bus::Bus;
+pub use flipping::FlipBus;
+pub use honest::HonestBus;

@@ -1,0 +1,24 @@
+-- The lines of 64 bytes of a memory.
+use Rattle.std.specs.Prelude.{◌==◌, ℕ, ◌+◌, ◌*◌, zero, suc, List, [], ◌++◌, take, drop, Bool, IsTrue}
+use Rattle.std.specs.List.{list_any}
+use Rattle.sec_base.specs.Layout.{all_levels, line_count}
+
+-- the number of lines of some tree's memory
+abbrev pub is_line_count : ℕ → Bool
+is_line_count lines = list_any (λ levels. line_count levels == lines) all_levels
+
+abbrev pub IsLineCount : ℕ → Type 0
+IsLineCount lines = IsTrue (is_line_count lines)
+
+-- the bytes of a line
+abbrev pub line_at : List ℕ → ℕ → List ℕ
+line_at contents line = take 64 (drop (64 * line) contents)
+
+-- the memory with these bytes in a line
+abbrev pub with_line : List ℕ → ℕ → List ℕ → List ℕ
+with_line contents line bytes = take (64 * line) contents ++ bytes ++ drop (64 * line + 64) contents
+
+-- the lines that f gives, from the first on, one after another
+unfoldable pub joined_lines : (ℕ → List ℕ) → ℕ → List ℕ
+joined_lines f zero = []
+joined_lines f (suc lines) = joined_lines f lines ++ f lines
