@@ -1,0 +1,3 @@
+pub mod LastPlaces
+pub mod Forgeries
+pub mod Upkeep

@@ -1,0 +1,109 @@
+-- What a tag engine keeps, after each of its calls.
+use Rattle.std.proofs.Common.{◌≡◌, ℕ, true, false, Contains, refl, ◌+◌, ◌-◌, ◌<◌, ◌≤◌, inl, inr, List, [], ◌∷◌, ◌++◌, length, Option, Some, None, IfSome, slice_index_or, slice_set, replicate, ap, ◌∙◌, sym, arith, length-append, get_or-set_other}
+use Rattle.std.specs.Option.{option_or}
+use Rattle.std.proofs.lemmas.List.{get_or_read, length-replicate, get_or-replicate, length-set}
+use Rattle.std.proofs.lemmas.Bool.{cases_eq}
+use Rattle.std.proofs.lemmas.Grind.{get_or-set_at}
+use Rattle.sec_base.specs.declared.sealing.Counter.{Counter}
+use Rattle.sec_base.specs.declared.sealing.Sealed.{Sealed}
+use Rattle.sec_base.specs.declared.account.Message.{Message}
+use Rattle.sec_base.specs.declared.account.Message.TheVariants.{Line}
+use Rattle.sec_base.specs.declared.account.Evidence.{Evidence}
+use Rattle.sec_base.specs.Layout.{line_count}
+use Rattle.tag_engine.specs.Engine.{Engine, new_engine, after_check, forgery_of}
+use Rattle.tag_engine.specs.Kept.{IsKept, last_place}
+use Rattle.tag_engine.proofs.LastPlaces.{last_place-nothing, last_place-within, last_place-same, last_place-other}
+use Rattle.tag_engine.proofs.Forgeries.{forgery_of-failed, known, genuine, still_genuine}
+
+-- nothing was made
+pub kept_new : {T : Type 0} (tag_of : Message → List ℕ) (places : List (Option ℕ)) (capacity count levels : ℕ) (tagger : T) →
+    places ≡ replicate count None → count ≡ line_count levels → IsKept tag_of places capacity (new_engine tagger levels)
+kept_new tag_of places capacity count levels tagger is enough =
+    let none : Option ℕ = None in
+    record {
+      long = ap length is ∙ length-replicate count none ∙ enough;
+      last = λ line inside.
+          let below : line < count = omega arith in
+          ap (λ (xs : List (Option ℕ)). slice_index_or xs line none) is
+          ∙ get_or-replicate count line none none below
+          ∙ sym (last_place-nothing line);
+      room = omega arith;
+      evidence = tt;
+    }
+
+place_after : (places places' : List (Option ℕ)) (made : List Message) (line at : ℕ) (counter : Counter) (cipher : List ℕ) →
+    line < length places → at ≡ length made → places' ≡ slice_set places line (Some at) →
+    (lines : ℕ) → ((other : ℕ) → other < lines → slice_index_or places other None ≡ last_place other made) →
+    (other : ℕ) → other < lines → slice_index_or places' other None ≡ last_place other (made ++ Line line counter cipher ∷ [])
+place_after places places' made line at counter cipher inside here stored lines was other below =
+    let none : Option ℕ = None in
+    let moved : slice_index_or places' other none ≡ slice_index_or (slice_set places line (Some at)) other none =
+    ap (λ (xs : List (Option ℕ)). slice_index_or xs other none) stored in
+    elim (cases_eq other line) [
+      | inl same ↦ moved
+          ∙ get_or-set_at places line other (Some at) none same inside
+          ∙ ap Some here
+          ∙ sym (ap (λ (l : ℕ). last_place l (made ++ Line line counter cipher ∷ [])) same ∙ last_place-same line counter cipher made)
+      | inr differs ↦ moved
+          ∙ get_or-set_other places line other (Some at) none differs
+          ∙ was other below
+          ∙ sym (last_place-other other line counter cipher made differs)
+    ]
+
+-- a message of a data line was made
+pub kept_made : {T : Type 0} (tag_of : Message → List ℕ) (places places' : List (Option ℕ)) (capacity capacity' : ℕ) (engine : Engine T)
+    (line at room : ℕ) (counter : Counter) (cipher : List ℕ) (made : List Message) →
+    IsKept tag_of places capacity engine → line < line_count engine.levels → at ≡ length engine.made →
+    places' ≡ slice_set places line (Some at) → made ≡ engine.made ++ Line line counter cipher ∷ [] → room ≡ engine.room - 1 →
+    length engine.made + 1 + (engine.room - 1) ≤ capacity' →
+    IsKept tag_of places' capacity' (record { tagger = engine.tagger; levels = engine.levels; made = made; evidence = engine.evidence; room = room })
+kept_made tag_of places places' capacity capacity' engine line at room counter cipher made kept inside here stored grown left enough =
+    rw (grown, left) (record {
+      long = ap length stored ∙ length-set places line (Some at) ∙ kept.long;
+      last = place_after places places' engine.made line at counter cipher (omega (arith, kept.long)) here stored
+          (line_count engine.levels) kept.last;
+      room = omega (arith, length-append engine.made (Line line counter cipher ∷ []));
+      evidence = still_genuine tag_of engine.made (Line line counter cipher ∷ []) engine.evidence kept.evidence;
+    })
+
+-- a check passed, and nothing had been shown before
+pub kept_shown : {T : Type 0} (tag_of : Message → List ℕ) (places : List (Option ℕ)) (capacity : ℕ) (engine : Engine T)
+    (line : ℕ) (counter : Counter) (sealed : Sealed) (made : List Message) (shown : Option Evidence) →
+    IsKept tag_of places capacity engine → sealed.tag ≡ tag_of (Line line counter sealed.cipher) →
+    made ≡ engine.made → shown ≡ forgery_of made line counter sealed true →
+    IsKept tag_of places capacity (record engine { evidence = shown })
+kept_shown tag_of places capacity engine line counter sealed made shown kept tagged same is = record {
+  long = kept.long;
+  last = kept.last;
+  room = kept.room;
+  evidence = rw (is, same) (genuine tag_of engine.made line counter sealed tagged);
+}
+
+nothing_shown : (made : List Message) (line : ℕ) (counter : Counter) (sealed : Sealed) (evidence : Option Evidence) →
+    evidence ≡ option_or evidence (forgery_of made line counter sealed false)
+nothing_shown made line counter sealed None = sym (forgery_of-failed made line counter sealed)
+nothing_shown made line counter sealed (Some first) = refl
+
+-- a check that failed changes nothing
+pub failed_check : {T : Type 0} (engine : Engine T) (line : ℕ) (counter : Counter) (sealed : Sealed) →
+    engine ≡ after_check line counter sealed false engine
+failed_check {T} engine line counter sealed =
+    ap (λ (e : Option Evidence). record engine { evidence = e }) (nothing_shown engine.made line counter sealed engine.evidence)
+
+-- what passed and showed nothing was made
+pub known_before : {T : Type 0} (seen engine : Engine T) (made : List Message) (line : ℕ) (counter : Counter) (sealed : Sealed) (shown : Option Evidence) →
+    seen ≡ engine → made ≡ seen.made → shown ≡ forgery_of made line counter sealed true → shown ≡ None →
+    Contains engine.made (Line line counter sealed.cipher)
+known_before {T} seen engine made line counter sealed shown same here is none =
+    let whole : made ≡ engine.made = here ∙ ap (λ (e : Engine T). e.made) same in
+    rw whole at (known made line counter sealed (sym is ∙ none))
+
+-- the place that was read is that of a message
+pub place_within : {T : Type 0} (tag_of : Message → List ℕ) (places : List (Option ℕ)) (capacity : ℕ) (engine : Engine T)
+    (line : ℕ) (place : Option ℕ) (made : List Message) →
+    IsKept tag_of places capacity engine → line < line_count engine.levels → place ≡ slice_index_or places line place → made ≡ engine.made →
+    IfSome place (λ at. at < length made)
+place_within tag_of places capacity engine line place made kept inside read same =
+    let below : line < length places = omega (arith, kept.long) in
+    let is : place ≡ last_place line engine.made = get_or_read places line place below read None ∙ kept.last line inside in
+    rw (is, same) (last_place-within line engine.made)

@@ -1,0 +1,25 @@
+use Rattle.tag_engine.specs.Kept.{seen_engine}
+use Rattle.tag_engine.proofs.Upkeep.{place_within, kept_shown, failed_check, known_before}
+use Rattle.tag_engine.proofs.engine.TagEngine.check_data.Goals as goal
+
+pub returns-then-not-is_tagged-clause-state : goal.returns-then-not-is_tagged-clause-state
+returns-then-not-is_tagged-clause-state g c = failed_check c.args.self.now c.args.line c.args.counter c.args.sealed.now
+
+pub forgery-self-inside-requires : goal.forgery-self-inside-requires
+forgery-self-inside-requires g c =
+    place_within _ _ _ _ c.args.line c.index.result.now c.deref.result.now
+    c.self.invariant (rw (← c.self.view_is) at c.requires.inside) c.index.ensures c.deref.ensures.value
+
+pub invariant_of-self : goal.invariant_of-self
+invariant_of-self g c =
+    kept_shown _ _ _ (seen_engine c.self.inside) c.args.line c.args.counter c.args.sealed.now c.deref.result.now _
+    c.self.invariant ((c.is_tagged.ensures c.self.inside.geometry).0 c.if-not-is_tagged.false) c.deref.ensures.value c.forgery-self-inside.ensures
+
+pub returns-then-is_none-clause-known : goal.returns-then-is_none-clause-known
+returns-then-is_none-clause-known g c = λ _ none.
+    known_before (seen_engine c.self.inside) c.args.self.now c.deref.result.now
+    c.args.line c.args.counter c.args.sealed.now c.forgery-self-inside.result
+    c.self.view_is c.deref.ensures.value c.forgery-self-inside.ensures none
+
+pub returns-then-is_none-clause-genuine : goal.returns-then-is_none-clause-genuine
+returns-then-is_none-clause-genuine g c = (invariant_of-self g c).evidence

@@ -1,0 +1,135 @@
+// Each public call once with ample memory. The tag that is wanted is the message's first 16 bytes, put together by
+// hand: 44, the line and the page's counter, the lowest byte first, and the line's own counter.
+ghost use Rattle.std.specs.Prelude.{[], ◌∷◌, refl, slice_index};
+ghost use Rattle.std.specs.Prelude.{replicate};
+
+use crate::TagEngine;
+use sec_base::{Counter, Evidence, Geometry, Message, Sealed, Tagger};
+use std::test::Fail;
+
+// Gives the first 16 bytes of a data line's message, and zeros for a node.
+#[derive(Drop)]
+struct FirstBytes;
+
+impl Tagger for FirstBytes {
+    ghost data_tag_of = { λ _ m. slice_index m 0 ∷ slice_index m 1 ∷ slice_index m 2 ∷ slice_index m 3 ∷ slice_index m 4
+        ∷ slice_index m 5 ∷ slice_index m 6 ∷ slice_index m 7 ∷ slice_index m 8 ∷ slice_index m 9 ∷ slice_index m 10
+        ∷ slice_index m 11 ∷ slice_index m 12 ∷ slice_index m 13 ∷ slice_index m 14 ∷ slice_index m 15 ∷ [] };
+
+    ghost node_tag_of = { λ _ _. replicate 16 0 };
+
+    ghost data_tag_long = { λ _ _. refl };
+
+    ghost node_tag_long = { λ _ _. refl };
+
+    fn data_tag(&self, m: &[u8; 78]) -> [u8; 16] {
+        [
+            m[0], m[1], m[2], m[3], m[4], m[5], m[6], m[7], m[8], m[9], m[10], m[11], m[12], m[13],
+            m[14], m[15],
+        ]
+    }
+
+    fn node_tag(&self, _: &[u8; 70]) -> [u8; 16] {
+        [0; 16]
+    }
+}
+
+// Gives zeros to every message.
+#[derive(Drop)]
+struct Zeros;
+
+impl Tagger for Zeros {
+    ghost data_tag_of = { λ _ _. replicate 16 0 };
+
+    ghost node_tag_of = { λ _ _. replicate 16 0 };
+
+    ghost data_tag_long = { λ _ _. refl };
+
+    ghost node_tag_long = { λ _ _. refl };
+
+    fn data_tag(&self, _: &[u8; 78]) -> [u8; 16] {
+        [0; 16]
+    }
+
+    fn node_tag(&self, _: &[u8; 70]) -> [u8; 16] {
+        [0; 16]
+    }
+}
+
+#[test]
+fn a_tag_is_that_of_the_messages_bytes(rt: HostRuntime) -> Result<(), Fail> {
+    let geometry = Geometry::new(1).ok_or("no geometry")?;
+    let counter = Counter { page: 0, line: 1 };
+    let mut engine = TagEngine::new(rt.alloc(), FirstBytes, geometry)?;
+    let tag = engine.make_data(5, counter, &[0; 64])?;
+    assert_eq!(rt; tag, [0x44, 5, 0, 0, 0, 0, 0, 0, 0, 0, 0, 0, 0, 1, 0, 0]);
+    let sealed = Sealed {
+        cipher: [0; 64],
+        tag,
+    };
+    assert!(rt; engine.check_data(5, counter, &sealed));
+    let (made, evidence) = engine.finish();
+    assert_eq!(rt; made.len(), 1);
+    assert_eq!(rt;
+        made.get(0),
+        Some(Message::Line {
+            line: 5,
+            counter,
+            cipher: [0; 64]
+        })
+    );
+    assert_eq!(rt; evidence, None);
+    Ok(())
+}
+
+// A sealed line of one byte repeated, with a tag of zeros.
+fn filled(byte: u8) -> Sealed {
+    Sealed {
+        cipher: [byte; 64],
+        tag: [0; 16],
+    }
+}
+
+#[test]
+fn the_first_message_never_made_comes_at_the_end(rt: HostRuntime) -> Result<(), Fail> {
+    let geometry = Geometry::new(1).ok_or("no geometry")?;
+    let first = Counter { page: 1, line: 0 };
+    let second = Counter { page: 2, line: 0 };
+    let mut engine = TagEngine::new(rt.alloc(), Zeros, geometry)?;
+    engine.reserve(2)?;
+    assert_eq!(rt; engine.make_data(64, first, &[7; 64])?, [0; 16]);
+    assert_eq!(rt; engine.make_data(64, second, &[8; 64])?, [0; 16]);
+    let rows = [
+        ("the last one of the line", second, filled(8), true),
+        ("one before it", first, filled(7), true),
+        (
+            "another tag",
+            second,
+            Sealed {
+                cipher: [9; 64],
+                tag: [1; 16],
+            },
+            false,
+        ),
+        ("other bytes", second, filled(9), true),
+        (
+            "a counter never used",
+            Counter { page: 3, line: 0 },
+            filled(8),
+            true,
+        ),
+    ];
+    for (case, counter, sealed, passes) in rows {
+        assert_eq!(rt; engine.check_data(64, counter, &sealed), passes, "{case}");
+    }
+    let (made, evidence) = engine.finish();
+    assert_eq!(rt; made.len(), 2);
+    let forgery = Evidence::Forgery {
+        line: 64,
+        counter: second,
+        sealed: filled(9),
+        made_count: 2,
+    };
+    assert_eq!(rt; evidence, Some(forgery));
+    Ok(())
+}
