@@ -1,56 +1,60 @@
-//! The program: the words of the process, real files, standard output and standard error.
+//! The program: it does what the words of its process ask for, over real files, standard output and standard error.
 #![tactic(auto)]
 
-mod disk;
+mod real_files;
 mod stream;
+#[cfg(test)]
+mod tests;
 
 use chip_main::run_words;
-use disk::Disk;
-use sec_base::write_all;
+use real_files::RealFiles;
+use sec_base::{Sink, write_all};
 use std::alloc::AllocError;
-use std::env;
-use std::io::ErrorKind;
 use std::process::ExitCode;
+use std::rt::{Env, Files};
+use std::{env, io};
 use stream::Stream;
 
-/// The status where the words are no text.
-const USAGE: u8 = 2;
-
-/// The status where memory was not to be had.
-const NO_MEMORY: u8 = 10;
-
 fn main(rt: HostRuntime) -> ExitCode {
-    let words: Vec<String> = match env::args(&rt) {
-        Ok(args) => match args.collect(rt.alloc()) {
-            Ok(words) => words,
-            Err(AllocError) => return refused(&rt, NO_MEMORY),
-        },
-        Err(error) if error.kind() == ErrorKind::OutOfMemory => return refused(&rt, NO_MEMORY),
-        Err(_) => return refused(&rt, USAGE),
-    };
-    ExitCode::from(status(&rt, &words))
-}
-
-// What the words ask for is done; the status of the process.
-fn status(rt: &HostRuntime, words: &[String]) -> u8 {
-    let texts: Vec<&str> = match words.iter().map(|word| word.as_str()).collect(rt.alloc()) {
-        Ok(texts) => texts,
-        Err(AllocError) => return NO_MEMORY,
-    };
-    let mut files = Disk::new(rt);
     let mut out = Stream::new(rt.stdout());
     let mut note = Stream::new(rt.stderr());
-    run_words(rt.alloc(), &texts, &mut files, &mut out, &mut note).status
+    let status = match words(&rt) {
+        Ok(words) => run(&rt, words.as_slice(), &mut out, &mut note),
+        Err(error) => Err(error),
+    };
+    ExitCode::from(match status {
+        Ok(status) => status,
+        Err(error) if error.kind() == io::ErrorKind::OutOfMemory => {
+            end(&mut note, "no memory\n", 10)
+        }
+        Err(_) => end(&mut note, "usage\n", 2),
+    })
 }
 
-// The words can't be had.
-fn refused(rt: &HostRuntime, status: u8) -> ExitCode {
-    let mut note = Stream::new(rt.stderr());
-    let line: &[u8] = if status == USAGE {
-        b"usage\n"
-    } else {
-        b"no memory\n"
-    };
-    let _ = write_all(&mut note, line);
-    ExitCode::from(status)
+// The words of the process, the program's name first, where they are text.
+fn words<R: Env + AllocGlobal>(rt: &R) -> io::Result<Vec<String>> {
+    let words = env::args(rt)?.collect(rt.alloc())?;
+    Ok(words)
+}
+
+// Does what the words ask for, and answers the status.
+fn run<R: Files + AllocGlobal, O: Sink, N: Sink>(
+    rt: &R,
+    words: &[String],
+    out: &mut O,
+    note: &mut N,
+) -> io::Result<u8> {
+    let mut texts = Vec::new(rt.alloc());
+    for word in words {
+        texts.push(word.as_str())?;
+    }
+    let mut files = RealFiles::new(rt);
+    let done = run_words(rt.alloc(), texts.as_slice(), &mut files, out, note);
+    Ok(done.status)
+}
+
+// Ends before a call, with a line and a status.
+fn end<N: Sink>(note: &mut N, line: &str, status: u8) -> u8 {
+    let _ = write_all(note, line.as_bytes());
+    status
 }

@@ -1,32 +1,31 @@
-ghost use Rattle.std.specs.Prelude.{◌≡◌, ◌<◌, ◌≤◌, [], Ok, Err, None, length, take, IfOk, OnErr};
-ghost use Rattle.sec_base.specs.Count.{Rose};
-ghost use Rattle.sec_base.specs.Writing.{Gains, Silent};
-ghost use Rattle.sec_base.specs.declared.writing.SinkStop.TheVariants.{Failed};
+ghost use Rattle.std.specs.Prelude.{None};
 
 use sec_base::{Sink, SinkStop};
+use std::io::Write;
 
-/// A standard stream, which tells no contract what was written to it.
+/// A writer as a sink that doesn't tell what was written. It counts a fault at each write that fails, and at
+/// each that takes nothing of a piece that isn't empty.
 #[derive(Drop)]
-pub struct Stream<P: Print + Drop> {
-    stream: P,
+pub struct Stream<W> {
+    writer: W,
     faults: u64,
 }
 
-impl<P: Print + Drop> Stream<P> {
-    pub fn new(stream: P) -> Self {
-        Stream { stream, faults: 0 }
+impl<W: Write> Stream<W> {
+    pub fn new(writer: W) -> Self {
+        Stream { writer, faults: 0 }
     }
 }
 
-impl<P: Print + Drop> Sink for Stream<P> {
+impl<W: Write> Sink for Stream<W> {
     ghost state = { λ stream. record { written = None; faults = stream.faults } };
 
     fn write(&mut self, piece: &[u8]) -> Result<usize, SinkStop> {
         if piece.is_empty() {
             return Ok(0);
         }
-        match self.stream.write_some(piece) {
-            Ok(taken) if taken > 0 => Ok(taken),
+        match self.writer.write(piece) {
+            Ok(count) if count > 0 => Ok(count),
             _ => {
                 self.faults = self.faults.saturating_add(1);
                 Err(SinkStop::Failed)

@@ -1,5 +1,5 @@
 -- What the course of a call says of its status and of what was told.
-use Rattle.std.proofs.Common.{◌≡◌, ◌≢◌, ◌<◌, ◌≤◌, ◌⊎◌, inl, inr, List, [], ◌∷◌, ◌++◌, ℕ, length, Option, Some, None, Result, Ok, Err, Contains, IfNone, slice_index_or, refl, sym, ap, ◌∙◌, subst, arith}
+use Rattle.std.proofs.Common.{◌≡◌, ◌≢◌, ◌<◌, ◌≤◌, ◌⊎◌, inl, inr, List, [], ◌∷◌, ◌++◌, ℕ, length, Option, Some, None, Result, Ok, Err, Contains, IfNone, IfSome, slice_index_or, refl, sym, ap, ◌∙◌, subst, arith}
 use Rattle.sec_base.specs.Count.{Rose}
 use Rattle.sec_base.specs.Reading.{FilesState, HasBytes, IsOver}
 use Rattle.sec_base.specs.Writing.{SinkState, Gains, Silent, gained}
@@ -17,7 +17,7 @@ use Rattle.chip_main.specs.Flat.{flat_size}
 use Rattle.chip_main.specs.Statuses.{ending_status, refusal_status}
 use Rattle.chip_main.specs.Texts.{refusal_line}
 use Rattle.chip_main.specs.Causes.{HasTold}
-use Rattle.chip_main.specs.Answer.{LacksMemory, TellsRefusal}
+use Rattle.chip_main.specs.Answer.{LacksMemory, TellsRefusal, TellsRun}
 use Rattle.chip_main.specs.Course.{CameAbout, Told, IsTold, Outcome, course_run, course_text, status_of, untold_ending_status}
 
 -- the statuses that come, and those that come without a run
@@ -151,3 +151,23 @@ unrun_told (Ran run) told request files files' out out' note note' came tells = 
 pub tells_why_not : {request : Option (List ℕ)} {files files' : FilesState} {out out' note note' : SinkState} {done : Done} → Outcome request files files' out out' note note' done → IfNone done.run (TellsWhyNot done.status request files files' note note')
 tells_why_not {request} {files} {files'} {out} {out'} {note} {note'} o =
     rw (o.run, o.status) (unrun_told o.course o.told request files files' out out' note note' o.came o.tells)
+
+untold_cases : (ending : Ending) → ((untold_ending_status ending ≡ 9) × (ending ≢ memory_ended)) ⊎ (untold_ending_status ending ≡ 10)
+untold_cases (Halted code) = inl (refl, λ e. cc)
+untold_cases (Trapped cause pc) = inl (refl, λ e. cc)
+untold_cases OutOfSteps = inl (refl, λ e. cc)
+untold_cases (Tampered place) = inl (refl, λ e. cc)
+untold_cases (Spent page) = inl (refl, λ e. cc)
+untold_cases WriteFault = inl (refl, λ e. cc)
+untold_cases memory_ended = inr refl
+
+told_run : (course : Course) (told : Told) (note note' : SinkState) → IsTold (course_text course) note note' told → IfSome (course_run course) (λ run. TellsRun (status_of course told) run note note')
+told_run (Refused refusal) told note note' tells = tt
+told_run NoMemory told note note' tells = tt
+told_run (Ran run) (Ok _) note note' tells = inl (tells, refl)
+told_run (Ran run) (Err Failed) note note' tells =
+    inr (tells.0, elim (untold_cases run.ending) [ inl untold ↦ inl (untold.0, untold.1, tells.1) | inr none ↦ inr none ])
+told_run (Ran run) (Err no_memory) note note' tells = inr (tells, inr refl)
+
+pub tells_run : {request : Option (List ℕ)} {files files' : FilesState} {out out' note note' : SinkState} {done : Done} → Outcome request files files' out out' note note' done → IfSome done.run (λ run. TellsRun done.status run note note')
+tells_run {note} {note'} o = rw (o.run, o.status) (told_run o.course o.told note note' o.tells)

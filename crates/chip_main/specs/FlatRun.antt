@@ -1,16 +1,14 @@
 -- A run of a flat program.
-use Rattle.std.specs.Prelude.{◌≡◌, ◌≢◌, ◌≤◌, ◌⊎◌, ◌↔◌, List, ℕ, length, Option, None}
+use Rattle.std.specs.Prelude.{◌≡◌, ◌≢◌, ◌≤◌, ◌↔◌, List, ℕ, length, Option, None}
 use Rattle.sec_base.specs.Count.{Rose}
 use Rattle.sec_base.specs.Reading.{FilesState}
 use Rattle.sec_base.specs.Writing.{SinkState, Gains}
 use Rattle.sec_base.specs.declared.layout.Place.{Place}
-use Rattle.sec_base.specs.declared.answers.Ending.{Ending}
 use Rattle.sec_base.specs.declared.answers.Ending.TheVariants.{OutOfSteps, Tampered, Spent, WriteFault, NoMemory}
 use Rattle.rv32_core.specs.Machine.{plain}
 use Rattle.rv32_core.specs.Follows.{Follows, IsWhole}
 use Rattle.chip_run.specs.declared.RunRecord.{RunRecord}
 use Rattle.chip_main.specs.Flat.{budget, flat_opening, flat_size}
-use Rattle.chip_main.specs.Statuses.{ending_status}
 use Rattle.chip_main.specs.Causes.{HasRead}
 
 -- a run of the flat program of these bytes, which prints to a sink
@@ -34,9 +32,3 @@ pub record RunsFlat (bytes : List ℕ) (old new : SinkState) (run : RunRecord) :
 abbrev pub RunsRequest : Option (List ℕ) → FilesState → SinkState → SinkState → RunRecord → Type 0
 RunsRequest request files old new run =
     (bytes : List ℕ) × HasRead request files bytes × RunsFlat bytes old new run
-
--- the status is that of the ending; but 9 where the sink that it is told to had a fault, and 10 where memory
--- was not to be had
-abbrev pub IsRunStatus : ℕ → Ending → SinkState → SinkState → Type 0
-IsRunStatus status ending old new = (status ≡ ending_status ending)
-    ⊎ (((status ≡ 9) × (ending ≢ NoMemory) × Rose old.faults new.faults) ⊎ (status ≡ 10))

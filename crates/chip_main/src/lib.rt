@@ -10,10 +10,9 @@ ghost use Rattle.rv32_core.specs.Follows.{IsWhole};
 ghost use Rattle.chip_main.specs.Request.{request_of, texts};
 ghost use Rattle.chip_main.specs.Flat.{budget, flat_opening, flat_size};
 ghost use Rattle.chip_main.specs.Statuses.{ending_status};
-ghost use Rattle.chip_main.specs.Texts.{record_text};
 ghost use Rattle.chip_main.specs.Causes.{AsksAtMost, AsksFor, HasTold, IsOverLimit, IsOverMemory};
-ghost use Rattle.chip_main.specs.FlatRun.{IsRunStatus, RunsRequest};
-ghost use Rattle.chip_main.specs.Answer.{GainsText, LacksMemory, TellsRefusal};
+ghost use Rattle.chip_main.specs.FlatRun.{RunsRequest};
+ghost use Rattle.chip_main.specs.Answer.{LacksMemory, TellsRefusal, TellsRun};
 ghost use Rattle.chip_main.specs.Course.{course_run, status_of, Outcome};
 
 mod course;
@@ -63,9 +62,8 @@ pub fn run_words<F: Files, O: Sink, N: Sink>(
 
     // A run is of the request's file, and follows the plain machine.
     ensures run { IfSome result.run (RunsRequest (request_of (texts words.now)) (F.state files.old) (O.state out.old) (O.state out.new)) }
-    ensures run_status { IfSome result.run (λ run. IsRunStatus result.status run.ending (N.state note.old) (N.state note.new)) }
     ensures run_asked { IfSome result.run (λ _. AsksFor (request_of (texts words.now)) (F.state files.old) (F.state files.new)) }
-    ensures run_note { IfSome result.run (λ run. GainsText (N.state note.old) (record_text run) (N.state note.new) result.status) }
+    ensures run_told { IfSome result.run (λ run. TellsRun result.status run (N.state note.old) (N.state note.new)) }
 
     // Where there is none, nothing is printed, and it was refused, or there was no memory for it.
     ensures no_run { IfNone result.run (Contains (2 ∷ 3 ∷ 8 ∷ 10 ∷ []) result.status) }
