@@ -5,7 +5,8 @@ use Rattle.rv32_decode.specs.declared.Op.{Op}
 use Rattle.rv32_decode.specs.declared.Op.TheVariants.{Lui, Lw, Sw, Addi, Ecall}
 use Rattle.rv32_decode.specs.declared.table.Format.{Format}
 use Rattle.rv32_decode.specs.declared.table.Format.TheVariants.{U, I, S, N}
-use Rattle.std.specs.Prelude.{◌≡◌, ℕ, ℤ, pos, negsuc, neg_ℤ, ◌+◌, ◌-◌, ◌*◌, ◌/◌, ◌%◌, ◌^◌, ◌<◌, ◌==◌, ◌-ℤ◌, ◌≤ℤ◌, Bool, List, [], ◌∷◌, Option, bit_and, find, nat_lt, option_map, suc, unwrap_or, if◌then◌else◌}
+use Rattle.std.specs.Int.{cast_unsigned, w32}
+use Rattle.std.specs.Prelude.{◌≡◌, ℕ, ℤ, pos, neg_ℤ, ◌+◌, ◌-◌, ◌*◌, ◌/◌, ◌%◌, ◌^◌, ◌<◌, ◌==◌, ◌-ℤ◌, ◌≤ℤ◌, Bool, List, [], ◌∷◌, Option, bit_and, find, nat_lt, option_map, unwrap_or, if◌then◌else◌}
 
 -- a row's words are those whose bits under the mask are the pattern
 pub record Row : Type 0 where
@@ -42,11 +43,6 @@ field word low count = word / 2 ^ low % 2 ^ count
 -- a number of `count` bits, read in two's complement
 abbrev pub signed : ℕ → ℕ → ℤ
 signed count n = if nat_lt n (2 ^ (count - 1)) then pos n else pos n -ℤ pos (2 ^ count)
-
--- the two's complement of a number, in `count` bits
-abbrev pub unsigned : ℕ → ℤ → ℕ
-unsigned count (pos n) = n
-unsigned count (negsuc n) = 2 ^ count - suc n
 
 -- the fields that every format has at the same place, section 2.2
 abbrev pub rd_of : ℕ → ℕ
@@ -91,11 +87,15 @@ number_of Ecall = 4
 unfoldable pub row_for : Op → Row
 row_for op = unwrap_or (find (λ r. number_of r.op == number_of op) rows) (row 0 0 N op)
 
+-- the `count` bits of an instruction's immediate from bit `low` on, in two's complement
+abbrev pub imm_bits : Inst → ℕ → ℕ → ℕ
+imm_bits i low count = field (cast_unsigned w32 i.imm) low count
+
 -- the fields in their places in a word
 unfoldable pub placed : Format → Inst → ℕ
-placed U i = i.rd * 2 ^ 7 + unsigned 32 i.imm
-placed I i = i.rd * 2 ^ 7 + i.rs1 * 2 ^ 15 + unsigned 12 i.imm * 2 ^ 20
-placed S i = unsigned 12 i.imm % 2 ^ 5 * 2 ^ 7 + i.rs1 * 2 ^ 15 + i.rs2 * 2 ^ 20 + unsigned 12 i.imm / 2 ^ 5 * 2 ^ 25
+placed U i = i.rd * 2 ^ 7 + imm_bits i 12 20 * 2 ^ 12
+placed I i = i.rd * 2 ^ 7 + i.rs1 * 2 ^ 15 + imm_bits i 0 12 * 2 ^ 20
+placed S i = imm_bits i 0 5 * 2 ^ 7 + i.rs1 * 2 ^ 15 + i.rs2 * 2 ^ 20 + imm_bits i 5 7 * 2 ^ 25
 placed N i = 0
 
 -- the encoding of an instruction
@@ -104,7 +104,7 @@ word_of i = (row_for i.op).pattern + placed (row_for i.op).format i
 
 -- which fields a format has, and what its immediate can be
 unfoldable pub FitsFormat : Format → Inst → Type 0
-FitsFormat U i = (i.rs1 ≡ 0) × (i.rs2 ≡ 0) × (neg_ℤ (pos 2147483648) ≤ℤ i.imm) × (i.imm ≤ℤ pos 2147483647) × (unsigned 32 i.imm % 4096 ≡ 0)
+FitsFormat U i = (i.rs1 ≡ 0) × (i.rs2 ≡ 0) × (neg_ℤ (pos 2147483648) ≤ℤ i.imm) × (i.imm ≤ℤ pos 2147483647) × (imm_bits i 0 12 ≡ 0)
 FitsFormat I i = (i.rs2 ≡ 0) × (neg_ℤ (pos 2048) ≤ℤ i.imm) × (i.imm ≤ℤ pos 2047)
 FitsFormat S i = (i.rd ≡ 0) × (neg_ℤ (pos 2048) ≤ℤ i.imm) × (i.imm ≤ℤ pos 2047)
 FitsFormat N i = (i.rd ≡ 0) × (i.rs1 ≡ 0) × (i.rs2 ≡ 0) × (i.imm ≡ pos 0)

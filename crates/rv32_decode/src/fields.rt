@@ -1,8 +1,8 @@
 //! The fields of a word, read and put into their places.
 
-ghost use Rattle.rv32_decode.specs.Table.{FitsFormat, field, signed, unsigned};
+ghost use Rattle.rv32_decode.specs.Table.{field, signed};
 ghost use Rattle.rv32_decode.specs.Table as spec;
-ghost use Rattle.std.specs.Prelude.{negsuc, pos, ◌-◌, ◌<◌, ◌≡◌, ◌≤◌, ◌≤ℤ◌, ◌^◌};
+ghost use Rattle.std.specs.Prelude.{◌<◌, ◌≡◌, ◌≤◌, ◌^◌};
 
 use crate::table::Format;
 use crate::{Inst, Op};
@@ -22,20 +22,12 @@ fn extend(number: u32, count: u32) -> i32
     requires number { number < 2 ^ count }
     ensures { result ≡ signed count number }
 {
-    if number < 1 << (count - 1) {
+    let size: u32 = 1 << count;
+    if number < size / 2 {
         number as i32
     } else {
-        number as i32 - (1 << count)
+        -((size - number) as i32)
     }
-}
-
-// The 12 bits of an immediate.
-fn twelve_bits(imm: i32) -> u32
-    requires low { negsuc 2047 ≤ℤ imm }
-    requires high { imm ≤ℤ pos 2047 }
-    ensures { result ≡ unsigned 12 imm }
-{
-    imm as u32 % 4096
 }
 
 fn register(word: u32, low: u32) -> u8
@@ -46,6 +38,7 @@ fn register(word: u32, low: u32) -> u8
 }
 
 // A word's fields in a format.
+#[tactic(auto, unfolding(crate::specs::Table::read))]
 pub fn read(format: Format, op: Op, word: u32) -> Inst
     ensures { result ≡ spec.read format op word }
 {
@@ -55,7 +48,7 @@ pub fn read(format: Format, op: Op, word: u32) -> Inst
             rd: register(word, 7),
             rs1: 0,
             rs2: 0,
-            imm: (bits(word, 12, 20) * 4096) as i32,
+            imm: (bits(word, 12, 20) * 4096).cast_signed(),
         },
         Format::I => Inst {
             op,
@@ -82,25 +75,21 @@ pub fn read(format: Format, op: Op, word: u32) -> Inst
 }
 
 // The fields in their places in a word.
+#[tactic(auto, unfolding(crate::specs::Table::placed))]
 pub fn placed(format: Format, inst: &Inst) -> u32
     requires rd { inst.now.rd < 32 }
     requires rs1 { inst.now.rs1 < 32 }
     requires rs2 { inst.now.rs2 < 32 }
-    requires format { FitsFormat format inst.now }
     ensures { result ≡ spec.placed format inst.now }
 {
+    let rd = inst.rd as u32 * 128;
+    let rs1 = inst.rs1 as u32 * 32768;
+    let rs2 = inst.rs2 as u32 * 1048576;
+    let imm = inst.imm.cast_unsigned();
     match format {
-        Format::U => inst.rd as u32 * 128 + inst.imm as u32,
-        Format::I => inst.rd as u32 * 128
-            + inst.rs1 as u32 * 32768
-            + twelve_bits(inst.imm) * 1048576,
-        Format::S => {
-            let imm = twelve_bits(inst.imm);
-            imm % 32 * 128
-                + inst.rs1 as u32 * 32768
-                + inst.rs2 as u32 * 1048576
-                + imm / 32 * 33554432
-        }
+        Format::U => rd + bits(imm, 12, 20) * 4096,
+        Format::I => rd + rs1 + bits(imm, 0, 12) * 1048576,
+        Format::S => bits(imm, 0, 5) * 128 + rs1 + rs2 + bits(imm, 5, 7) * 33554432,
         Format::N => 0,
     }
 }

@@ -1,0 +1,19 @@
+-- The table searched by the fields that a row fixes in its words: opcode, funct3 and funct7, or the whole word.
+use Rattle.rv32_decode.specs.Table.{Row, rows}
+use Rattle.rv32_decode.specs.declared.Op.{Op}
+use Rattle.rv32_decode.specs.declared.table.Format.{Format}
+use Rattle.rv32_decode.specs.declared.table.Format.TheVariants.{U, I, S, N}
+use Rattle.std.specs.Prelude.{ℕ, ◌/◌, ◌%◌, ◌^◌, ◌==◌, ◌&&◌, Bool, Option, find, option_map}
+
+-- whether the fields are those of the pattern, as far as the format fixes them
+abbrev pub are_fixed : ℕ → ℕ → ℕ → ℕ → Format → ℕ → Bool
+are_fixed opcode funct3 funct7 word U pattern = opcode == pattern % 2 ^ 7
+are_fixed opcode funct3 funct7 word I pattern = (opcode == pattern % 2 ^ 7) && (funct3 == pattern / 2 ^ 12 % 2 ^ 3)
+are_fixed opcode funct3 funct7 word S pattern = (opcode == pattern % 2 ^ 7) && (funct3 == pattern / 2 ^ 12 % 2 ^ 3)
+are_fixed opcode funct3 funct7 word N pattern = (opcode == pattern % 2 ^ 7) && (word == pattern)
+
+unfoldable pub row_at : ℕ → ℕ → ℕ → ℕ → Option Row
+row_at opcode funct3 funct7 word = find (λ r. are_fixed opcode funct3 funct7 word r.format r.pattern) rows
+
+unfoldable pub op_at : ℕ → ℕ → ℕ → ℕ → Option Op
+op_at opcode funct3 funct7 word = option_map (λ r. r.op) (row_at opcode funct3 funct7 word)
