@@ -3,10 +3,12 @@
 
 ghost use Rattle.rv32_decode.specs.Table.{IsInst, instruction_of, is_word_of, rows, word_of};
 ghost use Rattle.rv32_decode.specs.declared.Inst.{Inst};
-ghost use Rattle.std.specs.Prelude.{All, IfSome, IsNone, bit_and, count_by, ◌↔◌, ◌≡◌, ◌≢◌, ◌≤◌};
+ghost use Rattle.std.specs.Prelude.{All, IfSome, IsNone, bit_and, filter, length, ◌↔◌, ◌≡◌, ◌≢◌, ◌≤◌};
 
 mod fields;
 mod table;
+#[cfg(test)]
+mod tests;
 
 /// The rows of the instruction table, in its order.
 #[derive(Clone, Copy, Debug, PartialEq, Eq)]
@@ -42,7 +44,7 @@ pub fn decode(word: u32) -> Option<Inst>
 
     // A word matches one row at most, and none exactly where there is no instruction.
     ensures none { IsNone result ↔ All (λ row. bit_and word row.mask ≢ row.pattern) rows }
-    ensures one_row { count_by (is_word_of word) rows ≤ 1 }
+    ensures one_row { length (filter (is_word_of word) rows) ≤ 1 }
 {
     match table::op_of(word) {
         Some(op) => Some(fields::read(table::format_of(op), op, word)),

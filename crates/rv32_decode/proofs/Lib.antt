@@ -1,0 +1,5 @@
+pub mod Masks
+pub mod Search
+pub mod Rows
+pub mod Words
+pub mod Both

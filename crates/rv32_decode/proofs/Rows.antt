@@ -1,0 +1,119 @@
+-- What holds of the rows of the table, by computing it, and what follows for a word.
+use Rattle.std.proofs.Common.{◌≡◌, ◌≢◌, ℕ, ◌<◌, ◌≤◌, ◌==◌, ◌%◌, ◌^◌, ◌∙◌, Bool, true, false, not, All, Some, bit_and, filter, find, is_some, length, refl, sym, ap}
+use Rattle.std.proofs.lemmas.Bool.{eq-eqb, eqb-false, eqb-true, ne_eqb, not-true}
+use Rattle.std.proofs.lemmas.List.Elements.{All-from_recursion, recursion_from_All}
+use Rattle.std.proofs.lemmas.Nat.{and_assoc, and_comm}
+use Rattle.std.specs.List.{list_all}
+use Rattle.rv32_decode.proofs.Masks.{is_pattern, is_regular, mask_is, mask_of, tests_fields}
+use Rattle.rv32_decode.proofs.Search.{each_pair, find_all, find_none, find_passes, find_same, none_found, one_found, one_passes}
+use Rattle.rv32_decode.specs.Fixed.{are_fixed, row_at}
+use Rattle.rv32_decode.specs.Table.{Row, field, is_word_of, number_of, row_for, row_of, rows}
+use Rattle.rv32_decode.specs.declared.Op.{Op}
+use Rattle.rv32_decode.specs.declared.Op.TheVariants.{Lui, Lw, Sw, Addi, Ecall}
+
+abbrev fits : Row → Bool
+fits r = is_regular r.mask r.format r.pattern
+
+-- no word is of both rows
+abbrev are_apart : Row → Row → Bool
+are_apart r s = not (bit_and r.pattern s.mask == bit_and s.pattern r.mask)
+
+abbrev other_name : Row → Row → Bool
+other_name r s = not (number_of r.op == number_of s.op)
+
+rows_fit : list_all fits rows ≡ true
+unfolding rows is_regular mask_of
+rows_fit = refl
+
+rows_apart : each_pair are_apart rows ≡ true
+unfolding rows
+rows_apart = refl
+
+rows_named : each_pair other_name rows ≡ true
+unfolding rows number_of
+rows_named = refl
+
+-- each name has a row
+row_found : (op : Op) → find (λ r. number_of r.op == number_of op) rows ≡ Some (row_for op)
+unfolding rows number_of row_for
+row_found Lui = refl
+row_found Lw = refl
+row_found Sw = refl
+row_found Addi = refl
+row_found Ecall = refl
+
+pub name_of_row : (op : Op) → (row_for op).op ≡ op
+unfolding rows number_of row_for
+name_of_row Lui = refl
+name_of_row Lw = refl
+name_of_row Sw = refl
+name_of_row Addi = refl
+name_of_row Ecall = refl
+
+both_words : (w m n p q : ℕ) → bit_and w m ≡ p → bit_and w n ≡ q → bit_and p n ≡ bit_and q m
+both_words w m n p q e f =
+    let first = ap (λ x. bit_and x n) (sym e) ∙ and_assoc n w m in
+    let second = ap (λ x. bit_and x m) (sym f) ∙ and_assoc m w n in
+    first ∙ ap (bit_and w) (and_comm m n) ∙ sym second
+
+never_both : (w : ℕ) (r s : Row) → are_apart r s ≡ true → is_word_of w r ≡ true → is_word_of w s ≡ true → ⊥
+never_both w r s apart e f =
+    let same = both_words w r.mask s.mask r.pattern s.pattern (eqb-true _ _ e) (eqb-true _ _ f) in
+    eqb-false _ _ (not-true _ apart) same
+
+never_named : (op : Op) (r s : Row) → other_name r s ≡ true → (number_of r.op == number_of op) ≡ true → (number_of s.op == number_of op) ≡ true → ⊥
+never_named op r s other e f =
+    eqb-false _ _ (not-true _ other) (eqb-true _ _ e ∙ sym (eqb-true _ _ f))
+
+-- a search by masks is a search by fields
+pub row_by_fields : (w : ℕ) → w < 2 ^ 32 → row_of w ≡ row_at (w % 2 ^ 7) (field w 12 3) (field w 25 7) w
+unfolding row_of row_at
+row_by_fields w below =
+    find_same fits (is_word_of w) (λ r. are_fixed (w % 2 ^ 7) (field w 12 3) (field w 25 7) w r.format r.pattern)
+    (λ r fit. ap (λ m. bit_and w m == r.pattern) (mask_is r.mask r.format r.pattern fit)
+    ∙ tests_fields r.format w r.pattern below (is_pattern r.mask r.format r.pattern fit))
+    rows rows_fit
+
+-- what a search finds is the row of its name
+pub row_for_found : (p : Row → Bool) (r : Row) → find p rows ≡ Some r → row_for r.op ≡ r
+unfolding row_for
+row_for_found p r e =
+    let found : find (λ s. number_of s.op == number_of r.op) rows ≡ Some r
+    = one_found other_name (λ s. number_of s.op == number_of r.op) (never_named r.op) p rows r rows_named e (eq-eqb _ _ refl) in
+    rw found refl
+
+-- no other row comes between a word and the row whose pattern it has
+pub row_of_word : (w : ℕ) (op : Op) → is_word_of w (row_for op) ≡ true → row_of w ≡ Some (row_for op)
+unfolding row_of
+row_of_word w op passes =
+    one_found are_apart (is_word_of w) (never_both w) (λ r. number_of r.op == number_of op) rows (row_for op) rows_apart (row_found op) passes
+
+pub row_fits : (op : Op) → is_regular (row_for op).mask (row_for op).format (row_for op).pattern ≡ true
+row_fits op = find_all fits (λ r. number_of r.op == number_of op) rows (row_for op) rows_fit (row_found op)
+
+pub found_fits : (w : ℕ) (r : Row) → row_of w ≡ Some r → is_regular r.mask r.format r.pattern ≡ true
+unfolding row_of
+found_fits w r e = find_all fits (is_word_of w) rows r rows_fit e
+
+pub found_matches : (w : ℕ) (r : Row) → row_of w ≡ Some r → is_word_of w r ≡ true
+unfolding row_of
+found_matches w r e = find_passes (is_word_of w) rows r e
+
+pub row_for_row_of : (w : ℕ) (r : Row) → row_of w ≡ Some r → row_for r.op ≡ r
+unfolding row_of
+row_for_row_of w r e = row_for_found (is_word_of w) r e
+
+pub one_row : (w : ℕ) → length (filter (is_word_of w) rows) ≤ 1
+one_row w = one_passes are_apart (is_word_of w) (never_both w) rows rows_apart
+
+pub no_row : (w : ℕ) → is_some (row_of w) ≡ false → All (λ r. bit_and w r.mask ≢ r.pattern) rows
+unfolding row_of
+no_row w none =
+    let P : Row → Type 0 = λ r. bit_and w r.mask ≢ r.pattern in
+    All-from_recursion P rows (none_found (is_word_of w) P (λ r. eqb-false (bit_and w r.mask) r.pattern) rows none)
+
+pub row_missing : (w : ℕ) → All (λ r. bit_and w r.mask ≢ r.pattern) rows → is_some (row_of w) ≡ false
+unfolding row_of
+row_missing w all =
+    let P : Row → Type 0 = λ r. bit_and w r.mask ≢ r.pattern in
+    find_none (is_word_of w) P (λ r. ne_eqb (bit_and w r.mask) r.pattern) rows (recursion_from_All P rows all)

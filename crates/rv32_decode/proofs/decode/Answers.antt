@@ -1,0 +1,31 @@
+use Rattle.std.proofs.Common.{◌≡◌, Some, None, sym, ap, ◌∙◌}
+use Rattle.rv32_decode.proofs.Both.{answer_encoded, answer_fields, answer_none, instruction_at, no_instruction}
+use Rattle.rv32_decode.proofs.Rows.{one_row}
+use Rattle.rv32_decode.specs.Table.{instruction_of, read}
+use Rattle.rv32_decode.proofs.decode.Goals as goal
+
+pub returns-in-Some : goal.returns-in-Some
+returns-in-Some c =
+    let w = c.args.word in
+    let fields : c.read.result ≡ read c.format_of.result c.in-Some.op w = c.read.ensures in
+    let e : Some c.read.result ≡ instruction_of w
+    = ap Some (fields ∙ ap (λ f. read f c.in-Some.op w) c.format_of.ensures) ∙ instruction_at w c.in-Some.op (sym c.in-Some.is ∙ c.op_of.ensures) in
+    record {
+      row = e;
+      fields = answer_fields w (Some c.read.result) e;
+      encoded = answer_encoded w c.ranges.word.fits (Some c.read.result) e;
+      none = answer_none w (Some c.read.result) e;
+      one_row = one_row w;
+    }
+
+pub returns-in-None : goal.returns-in-None
+returns-in-None c =
+    let w = c.args.word in
+    let e : None ≡ instruction_of w = no_instruction w (sym c.in-None.is ∙ c.op_of.ensures) in
+    record {
+      row = e;
+      fields = answer_fields w None e;
+      encoded = answer_encoded w c.ranges.word.fits None e;
+      none = answer_none w None e;
+      one_row = one_row w;
+    }
