@@ -1,12 +1,12 @@
 -- The fields of a format, from a word and back.
-use Rattle.std.proofs.Common.{◌≡◌, ℕ, ℤ, pos, negsuc, neg_ℤ, ◌≤ℤ◌, ◌+◌, ◌-◌, ◌*◌, ◌/◌, ◌%◌, ◌^◌, ◌<◌, ◌≤◌, ◌==◌, ◌&&◌, Bool, true, suc, refl, ap, sym, ◌∙◌, inl, inr, arith}
+use Rattle.std.proofs.Common.{◌≡◌, ℕ, ℤ, pos, negsuc, ◌≤ℤ◌, ◌+◌, ◌*◌, ◌%◌, ◌^◌, ◌<◌, ◌≤◌, ◌==◌, ◌&&◌, true, refl, ap, sym, arith}
 use Rattle.std.proofs.lemmas.Bool.{and_from, and_parts, eq-eqb, eqb-true}
 use Rattle.std.proofs.lemmas.Int.{ints}
 use Rattle.std.specs.Int.{cast_unsigned, w32}
 use Rattle.rv32_decode.proofs.Masks.{IsPattern}
 use Rattle.rv32_decode.proofs.Signed.{Spells, complement_at_most, complement_range, complement_spelled, complement_word}
 use Rattle.rv32_decode.specs.Fixed.{are_fixed}
-use Rattle.rv32_decode.specs.Table.{FitsFormat, field, imm_bits, placed, read, signed}
+use Rattle.rv32_decode.specs.Table.{FitsFormat, field, placed, read}
 use Rattle.rv32_decode.specs.declared.Inst.{Inst}
 use Rattle.rv32_decode.specs.declared.Op.{Op}
 use Rattle.rv32_decode.specs.declared.table.Format.{Format}
