@@ -1,0 +1,49 @@
+-- A run follows the plain machine.
+use Rattle.std.specs.Prelude.{◌≡◌, ◌<◌, ◌≤◌, ℕ, ◌+◌, List, Option, Some, None, Result, Ok, Err, nat_lt, if◌then◌else◌}
+use Rattle.sec_base.specs.Lists.{IsPrefix}
+use Rattle.sec_base.specs.declared.answers.Cause.{Cause}
+use Rattle.sec_base.specs.declared.answers.Ending.{Ending}
+use Rattle.sec_base.specs.declared.answers.Ending.TheVariants.{Halted, Trapped, OutOfSteps, Tampered, Spent, WriteFault, NoMemory}
+use Rattle.rv32_core.specs.Effect.{After, next}
+use Rattle.rv32_core.specs.Machine.{Machine, plain}
+
+-- the machine's next instruction traps so
+pub record Traps (machine : Machine) (cause : Cause) (pc : ℕ) : Type 0 where
+  pub going : machine.exit ≡ None
+  pub trap : next machine.state ≡ Err cause
+  pub at : machine.state.hart.pc ≡ pc
+
+-- what an ending says of the machine at which it came
+abbrev pub EndsAs : Ending → Machine → ℕ → ℕ → List ℕ → Type 0
+EndsAs (Halted code) machine retired budget printed = (machine.exit ≡ Some code) × (printed ≡ machine.output)
+EndsAs (Trapped cause pc) machine retired budget printed =
+    (retired < budget) × Traps machine cause pc × (printed ≡ machine.output)
+EndsAs OutOfSteps machine retired budget printed =
+    (retired ≡ budget) × (machine.exit ≡ None) × (printed ≡ machine.output)
+EndsAs (Tampered place) machine retired budget printed = machine.exit ≡ None
+EndsAs (Spent page) machine retired budget printed = machine.exit ≡ None
+EndsAs WriteFault machine retired budget printed = machine.exit ≡ None
+EndsAs NoMemory machine retired budget printed = machine.exit ≡ None
+
+-- A run of a budget that retired so many instructions and printed these bytes is the plain machine's so far.
+pub record Follows (start : Machine) (budget retired : ℕ) (ending : Ending) (printed : List ℕ) : Type 0 where
+  pub count : (plain start retired).retired ≡ retired
+  pub within : retired ≤ budget
+  pub began : IsPrefix (plain start retired).output printed
+  pub ahead : IsPrefix printed (plain start (retired + 1)).output
+  pub ends : EndsAs ending (plain start retired) retired budget printed
+
+-- how a machine that made all instructions of the budget that it can stands there
+abbrev pub standing_as : Option ℕ → Result After Cause → Machine → ℕ → Ending
+standing_as (Some code) next machine budget = Halted code
+standing_as None (Err cause) machine budget =
+    if nat_lt machine.retired budget then Trapped cause machine.state.hart.pc else OutOfSteps
+standing_as None (Ok after) machine budget = OutOfSteps
+
+abbrev pub standing : Machine → ℕ → Ending
+standing machine budget = standing_as machine.exit (next machine.state) machine budget
+
+-- A run that ended so is the plain machine's over the whole budget.
+pub record IsWhole (start : Machine) (budget retired : ℕ) (ending : Ending) : Type 0 where
+  pub ending_is : ending ≡ standing (plain start budget) budget
+  pub retired_is : retired ≡ (plain start budget).retired

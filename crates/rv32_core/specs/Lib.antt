@@ -1,0 +1,8 @@
+pub mod State
+pub mod Effect
+pub mod Touch
+pub mod Machine
+pub mod Fetching
+pub mod Printing
+pub mod Outcome
+pub mod Follows

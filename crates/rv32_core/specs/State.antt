@@ -1,0 +1,51 @@
+-- What a program can see of the machine that runs it (RISC-V unprivileged manual, RV32I, 2.1).
+use Rattle.std.specs.Prelude.{ℕ, ◌+◌, ◌-◌, ◌%◌, ◌^◌, List, replicate, slice_index, slice_set, ◌==◌, if◌then◌else◌, ℤ}
+use Rattle.std.specs.Int.{w32, cast_unsigned}
+
+-- the hart: its program counter and its 32 registers
+pub record Hart : Type 0 where
+  pub pc : ℕ
+  pub registers : List ℕ
+
+-- what the services know: the input, how much of it was read, and the program's break, now and at first
+pub record CallState : Type 0 where
+  pub input : List ℕ
+  pub position : ℕ
+  pub first_break : ℕ
+  pub brk : ℕ
+
+pub record State : Type 0 where
+  pub hart : Hart
+  pub calls : CallState
+  pub memory : List ℕ
+
+-- a signed number as a word: modulo 2 ^ 32
+abbrev pub word : ℤ → ℕ
+word number = cast_unsigned w32 number
+
+-- the sum of two words
+abbrev pub sum_of : ℕ → ℕ → ℕ
+sum_of a b = (a + b) % 2 ^ 32
+
+-- what a register has
+abbrev pub register : Hart → ℕ → ℕ
+register hart number = slice_index hart.registers number
+
+-- the registers after a write; a write to register 0 is dropped
+abbrev pub with_register : List ℕ → ℕ → ℕ → List ℕ
+with_register registers number value = if number == 0 then registers else slice_set registers number value
+
+-- the next instruction in order
+abbrev pub next_hart : Hart → Hart
+next_hart hart = record { pc = sum_of hart.pc 4; registers = hart.registers }
+
+-- the next instruction in order, with a value in a register
+abbrev pub written_hart : Hart → ℕ → ℕ → Hart
+written_hart hart number value = record { pc = sum_of hart.pc 4; registers = with_register hart.registers number value }
+
+abbrev pub with_hart : State → Hart → State
+with_hart state hart = record { hart = hart; calls = state.calls; memory = state.memory }
+
+-- a program begins at its entry with its stack pointer, register 2, 64 bytes below the memory's end
+abbrev pub opening_hart : ℕ → ℕ → Hart
+opening_hart entry size = record { pc = entry; registers = slice_set (replicate 32 0) 2 (size - 64) }

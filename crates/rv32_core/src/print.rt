@@ -1,0 +1,110 @@
+// What an instruction prints: bytes of the memory, loaded and written piece by piece.
+ghost use Rattle.std.specs.Prelude.{◌≡◌, ◌+◌, ◌<◌, ◌≤◌, ◌^◌, ℕ, List, Option, None, Some, Result, Ok, Err, length, take, drop, IfErr, OnOk, OnErr};
+ghost use Rattle.sec_base.specs.Count.{Rose};
+ghost use Rattle.sec_base.specs.Lists.{IsPrefix};
+ghost use Rattle.sec_base.specs.Writing.{Gains};
+ghost use Rattle.rv32_core.specs.declared.hart.StepStop.TheVariants.{WriteFault};
+ghost use Rattle.rv32_core.specs.Touch.{HasLinesOf};
+ghost use Rattle.rv32_core.specs.Printing.{bytes_at, IsPrinted, StopsAs};
+
+use crate::hart::StepStop;
+use sec_base::{MemStop, Ram, Sink, SinkStop, Width, write_all};
+
+/// Prints so many bytes of the memory from an address on.
+pub fn print<M: Ram, S: Sink>(
+    ram: &mut M,
+    out: &mut S,
+    from: u32,
+    count: u32,
+) -> Result<(), StepStop>
+    requires inside { 0 < count → from + count ≤ M.extent ram.old }
+    requires fits { 0 < count → from + count < 2 ^ 32 }
+
+    ensures printed { (printed : List ℕ) × Gains (S.state out.old) printed (S.state out.new)
+        × (M.stopped ram.old ≡ None → M.sound ram.new → IsPrinted result (bytes_at (M.contents ram.old) from count) printed) }
+    ensures contents { M.stopped ram.old ≡ None → M.sound ram.new → M.contents ram.new ≡ M.contents ram.old }
+
+    ensures mem { M.stopped ram.old ≡ None → StopsAs (M.stopped ram.new) result }
+    ensures write_fault { result ≡ Err WriteFault → Rose (S.state out.old).faults (S.state out.new).faults }
+    ensures faults { (S.state out.old).faults ≤ (S.state out.new).faults }
+
+    ensures extent { M.extent ram.new ≡ M.extent ram.old }
+    ensures lost { M.sound ram.new → M.sound ram.old }
+    ensures moved { (lines : List ℕ) × M.moved ram.old lines ram.new
+        × OnOk result (HasLinesOf lines (record { from = from; count = count })) }
+{
+    let end = from + count;
+    let mut at = from;
+    while at < end {
+        let length = (64 - at % 64).min(end - at);
+        match print_piece(ram, out, at, length) {
+            Ok(()) => at += length,
+            Err(stop) => return Err(stop),
+        }
+    }
+    Ok(())
+}
+
+// Prints at most 64 bytes as one piece.
+fn print_piece<M: Ram, S: Sink>(
+    ram: &mut M,
+    out: &mut S,
+    from: u32,
+    count: u32,
+) -> Result<(), StepStop>
+    requires inside { from + count ≤ M.extent ram.old }
+    requires fits { from + count < 2 ^ 32 }
+    requires short { count ≤ 64 }
+
+    ensures printed { (printed : List ℕ) × Gains (S.state out.old) printed (S.state out.new)
+        × (M.stopped ram.old ≡ None → M.sound ram.new → IsPrinted result (bytes_at (M.contents ram.old) from count) printed) }
+    ensures contents { M.stopped ram.old ≡ None → M.sound ram.new → M.contents ram.new ≡ M.contents ram.old }
+
+    ensures mem { M.stopped ram.old ≡ None → StopsAs (M.stopped ram.new) result }
+    ensures write_fault { result ≡ Err WriteFault → Rose (S.state out.old).faults (S.state out.new).faults }
+    ensures faults { (S.state out.old).faults ≤ (S.state out.new).faults }
+
+    ensures extent { M.extent ram.new ≡ M.extent ram.old }
+    ensures lost { M.sound ram.new → M.sound ram.old }
+    ensures moved { (lines : List ℕ) × M.moved ram.old lines ram.new
+        × OnOk result (HasLinesOf lines (record { from = from; count = count })) }
+{
+    let mut buffer = [0; 64];
+    let piece = &mut buffer[..count as usize];
+    match load_piece(ram, from, piece) {
+        Ok(()) => (),
+        Err(stop) => return Err(StepStop::Mem(stop)),
+    }
+    match write_all(out, piece) {
+        Ok(()) => Ok(()),
+        Err(SinkStop::Failed) => Err(StepStop::WriteFault),
+        Err(SinkStop::NoMemory) => Err(StepStop::Mem(MemStop::NoMemory)),
+    }
+}
+
+// Loads the bytes from an address on, one by one.
+fn load_piece<M: Ram>(ram: &mut M, from: u32, piece: &mut [u8]) -> Result<(), MemStop>
+    requires inside { from + length piece.old ≤ M.extent ram.old }
+    requires fits { from + length piece.old < 2 ^ 32 }
+    requires short { length piece.old ≤ 64 }
+
+    ensures loaded { M.stopped ram.old ≡ None → M.sound ram.new → OnOk result (
+        piece.new ≡ bytes_at (M.contents ram.old) from (length piece.old)) }
+    ensures contents { M.stopped ram.old ≡ None → M.sound ram.new → M.contents ram.new ≡ M.contents ram.old }
+
+    ensures goes_on { OnOk result (M.stopped ram.new ≡ M.stopped ram.old) }
+    ensures stops { M.stopped ram.old ≡ None → IfErr result (λ stop. M.stopped ram.new ≡ Some stop) }
+
+    ensures extent { M.extent ram.new ≡ M.extent ram.old }
+    ensures lost { M.sound ram.new → M.sound ram.old }
+    ensures moved { (lines : List ℕ) × M.moved ram.old lines ram.new
+        × OnOk result (HasLinesOf lines (record { from = from; count = length piece.old })) }
+{
+    for i in 0..piece.len() {
+        match ram.load(from + i as u32, Width::One) {
+            Ok(byte) => piece[i] = byte as u8,
+            Err(stop) => return Err(stop),
+        }
+    }
+    Ok(())
+}

@@ -1,0 +1,19 @@
+-- The sizes of the memories that there are.
+use Rattle.std.proofs.Common.{ℕ, zero, suc, ◌≤◌, ◌^◌, refl, arith}
+use Rattle.std.proofs.Math.Nat.{pow-le-pow_right}
+use Rattle.sec_base.specs.Layout.{memory_size, IsMemorySize}
+
+-- no tree has more than 4096 pages
+pub few_pages : (levels : ℕ) → levels ≤ 6 → 4 ^ levels ≤ 4096
+few_pages levels h = pow-le-pow_right {n = 4} (omega arith) h
+
+-- the memory of a tree of 1 to 6 levels has a tree's size
+pub some_size : (levels : ℕ) → 1 ≤ levels → levels ≤ 6 → IsMemorySize (memory_size levels)
+some_size zero low high = absurd (omega arith)
+some_size (suc zero) low high = refl
+some_size (suc (suc zero)) low high = refl
+some_size (suc (suc (suc zero))) low high = refl
+some_size (suc (suc (suc (suc zero)))) low high = refl
+some_size (suc (suc (suc (suc (suc zero))))) low high = refl
+some_size (suc (suc (suc (suc (suc (suc zero)))))) low high = refl
+some_size (suc (suc (suc (suc (suc (suc (suc levels))))))) low high = absurd (omega arith)

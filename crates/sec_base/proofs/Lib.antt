@@ -1,0 +1,3 @@
+pub mod Geometries
+pub mod Writes
+pub mod Contents

@@ -1,0 +1,42 @@
+-- A piece that is written in parts.
+use Rattle.std.proofs.Common.{◌≡◌, ◌≤◌, ℕ, ◌+◌, List, [], ◌∷◌, ◌++◌, take, drop, length, refl, sym, ap, ◌∙◌, subst, Option, Some, None, arith, append_assoc}
+use Rattle.std.proofs.lemmas.List.{append-nil, take-append-drop}
+use Rattle.sec_base.specs.Count.{Rose}
+use Rattle.sec_base.specs.Lists.{IsPrefix}
+use Rattle.sec_base.specs.Writing.{SinkState, gained, Gains, Silent}
+
+pub gained-append : (a b : List ℕ) (o : Option (List ℕ)) → gained (a ++ b) o ≡ gained b (gained a o)
+gained-append a b None = refl
+gained-append a b (Some w) = ap (λ (x : List ℕ). Some x) (sym (append_assoc w a b))
+
+pub gained-nil : (o : Option (List ℕ)) → gained [] o ≡ o
+gained-nil None = refl
+gained-nil (Some w) = ap (λ (x : List ℕ). Some x) (append-nil w)
+
+-- up to the rest, the piece was written
+pub record IsPart (old new : SinkState) (whole rest : List ℕ) : Type 0 where
+  pub front : List ℕ
+  pub parts : whole ≡ front ++ rest
+  pub gains : Gains old front new
+  pub faults : old.faults ≤ new.faults
+
+pub rose_after : (a b c : ℕ) → a ≤ b → Rose b c → Rose a c
+rose_after a b c h r = omega arith
+
+pub part_begins : (old : SinkState) (whole : List ℕ) → IsPart old old whole whole
+part_begins old whole = record { front = []; parts = refl; gains = sym (gained-nil old.written); faults = omega arith }
+
+pub part_goes_on : (old mid new : SinkState) (whole rest : List ℕ) (n : ℕ) → IsPart old mid whole rest → Gains mid (take n rest) new → mid.faults ≤ new.faults → IsPart old new whole (drop n rest)
+part_goes_on old mid new whole rest n p gains faults = record {
+  front = p.front ++ take n rest;
+  parts = p.parts ∙ ap (λ (x : List ℕ). p.front ++ x) (sym (take-append-drop n rest)) ∙ sym (append_assoc p.front (take n rest) (drop n rest));
+  gains = gains ∙ ap (gained (take n rest)) p.gains ∙ sym (gained-append p.front (take n rest) old.written);
+  faults = omega arith;
+}
+
+pub part_stopped : (old mid new : SinkState) (whole rest : List ℕ) → IsPart old mid whole rest → Silent mid new → (front : List ℕ) × IsPrefix front whole × Gains old front new
+part_stopped old mid new whole rest p silent = (p.front, (rest, p.parts), silent ∙ p.gains)
+
+pub part_done : (old new : SinkState) (whole rest : List ℕ) → rest ≡ [] → IsPart old new whole rest → Gains old whole new
+part_done old new whole rest e p =
+    p.gains ∙ ap (λ (x : List ℕ). gained x old.written) (sym (p.parts ∙ ap (λ (x : List ℕ). p.front ++ x) e ∙ append-nil p.front))

@@ -1,0 +1,76 @@
+// Programs, as they are loaded.
+ghost use Rattle.std.specs.Prelude.{◌≡◌, ◌↔◌, [], length, IsTrue};
+ghost use Rattle.std.specs.Option.{option_copied};
+ghost use Rattle.std.specs.List.{slice_get};
+ghost use Rattle.sec_base.specs.Program.{IsImage};
+
+use crate::lists::Bytes;
+use std::marker::Model;
+
+/// A part of a program: `length` bytes of memory from `addr` on, which begin with `bytes` and go on with zeros.
+#[derive(Debug, Drop)]
+pub struct Segment {
+    pub addr: u32,
+    pub length: u32,
+    pub bytes: Bytes,
+}
+
+/// Segments, which contracts see as a list.
+#[derive(Debug, Drop)]
+pub struct Segments {
+    items: Vec<Segment>,
+}
+
+impl Model for Segments {
+    ghost use Rattle.std.specs.Prelude.{List};
+    ghost use Rattle.sec_base.specs.declared.program.Segment.{Segment};
+
+    ghost Value = { List Segment };
+
+    ghost view = { λ segments. segments.items.items };
+}
+
+impl Segments {
+    /// The segments of a vector, which takes no memory.
+    pub fn from_vec(items: Vec<Segment>) -> Self
+        ensures { result ≡ items.items }
+    {
+        Segments { items }
+    }
+
+    /// How many there are.
+    pub fn len(&self) -> u64
+        ensures { result ≡ length self.now }
+    {
+        self.items.len() as u64
+    }
+
+    pub fn is_empty(&self) -> bool
+        ensures { IsTrue result ↔ (self.now ≡ []) }
+    {
+        self.items.is_empty()
+    }
+
+    /// The segment at a place, `None` from the length on.
+    pub fn get(&self, at: u64) -> Option<&Segment>
+        ensures { option_copied result ≡ slice_get self.now at }
+    {
+        self.items.get(at as usize)
+    }
+
+    pub fn as_slice(&self) -> &[Segment]
+        ensures { result.now ≡ self.now }
+    {
+        self.items.as_slice()
+    }
+}
+
+/// A program for a memory of `size` bytes, which it fits: the segments are laid over zeros in order, and it
+/// begins at `entry`. There are at most 64 segments.
+#[derive(Debug, Drop)]
+pub struct Image {
+    pub entry: u32,
+    pub size: u32,
+    pub segments: Segments,
+    pub ghost fits: { IsImage entry size segments },
+}
