@@ -1,6 +1,9 @@
 // The words are LLVM's for riscv32 with M. So are the texts without an address or an upper part, as its
 // disassembler writes them without aliases; the others are worked out by hand.
 
+use crate::{write_inst, write_word};
+use rv32_decode::decode;
+use std::alloc::Global;
 use std::process::Abort;
 use std::test::Fail;
 
