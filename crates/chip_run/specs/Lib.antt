@@ -1,2 +1,7 @@
 pub mod Loading
 pub mod Session
+pub mod Contents
+pub mod Account
+pub mod Protected
+pub mod LineLengths
+pub mod Moving

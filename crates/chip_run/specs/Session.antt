@@ -17,10 +17,25 @@ Reaches start n hart calls memory printed = plain start n ≡ record {
   exit = None;
 }
 
+-- the memory ended it: as tampering, as used up, or for want of memory
+abbrev pub IsMemoryEnding : Ending → Type 0
+IsMemoryEnding (Halted code) = ⊥
+IsMemoryEnding (Trapped cause pc) = ⊥
+IsMemoryEnding OutOfSteps = ⊥
+IsMemoryEnding (Tampered place) = Unit {0}
+IsMemoryEnding (Spent page) = Unit {0}
+IsMemoryEnding WriteFault = ⊥
+IsMemoryEnding NoMemory = Unit {0}
+
+-- A run follows the plain machine, and where the memory did not end it, leaves the plain machine's memory.
+pub record FollowsWith (start : Machine) (budget retired : ℕ) (ending : Ending) (memory printed : List ℕ) : Type 0 where
+  pub follows : Follows start budget retired ending printed
+  pub leaves : ¬ IsMemoryEnding ending → memory ≡ (plain start retired).state.memory
+
 -- a turn leads on to what the plain machine reaches, or ends as a run that follows it
 abbrev pub Turns : Machine → ℕ → Option Ending → ℕ → Hart → CallState → List ℕ → List ℕ → Type 0
 Turns start budget None retired hart calls memory printed = Reaches start retired hart calls memory printed
-Turns start budget (Some ending) retired hart calls memory printed = Follows start budget retired ending printed
+Turns start budget (Some ending) retired hart calls memory printed = FollowsWith start budget retired ending memory printed
 
 -- a turn without an ending retires an instruction, and so does an exit
 abbrev pub retired_after : Option Ending → ℕ → ℕ

@@ -1,90 +1,112 @@
-//! A run of a program on the chip, over any sink.
+//! A run of a program on the chip, over any bus to the memory outside it and any sink.
 #![tactic(auto)]
 
-ghost use Rattle.std.specs.Prelude.{◌≡◌, ◌≢◌, ◌≤◌, ◌↔◌, ℕ, List, None};
+ghost use Rattle.std.specs.Prelude.{◌≡◌, ◌≢◌, ◌≤◌, ◌↔◌, ◌⊎◌, ℕ, List, [], None, IfSome};
 ghost use Rattle.sec_base.specs.Count.{Rose};
-ghost use Rattle.sec_base.specs.Layout.{memory_size};
+ghost use Rattle.sec_base.specs.Layout.{line_count, memory_size};
+ghost use Rattle.sec_base.specs.Evidence.{IsEvidence};
 ghost use Rattle.sec_base.specs.Writing.{Gains};
-ghost use Rattle.sec_base.specs.declared.layout.Place.{Place};
 ghost use Rattle.sec_base.specs.declared.answers.Ending.TheVariants.{OutOfSteps, Tampered, Spent, WriteFault, NoMemory};
+ghost use Rattle.bus_model.specs.Told.{NothingWritten};
+ghost use Rattle.tag_engine.specs.Tag.{engine_tag};
 ghost use Rattle.rv32_core.specs.Machine.{opening, plain};
 ghost use Rattle.rv32_core.specs.Follows.{Follows, IsWhole};
+ghost use Rattle.chip_run.specs.Account.{HonestOrCaught, IsOfFirstLie};
+ghost use Rattle.chip_run.specs.Contents.{HoldsLast, IsSpent, IsWrittenOut};
+ghost use Rattle.chip_run.specs.Session.{IsMemoryEnding};
 
+mod close;
+mod lines;
 mod load;
-mod memory;
+mod ram;
+mod record;
 mod session;
 #[cfg(test)]
 mod tests;
 
+use bus_model::Bus;
+use close::{close, no_run};
+use lines::LineMemory;
 use load::store_image;
-use memory::ListRam;
-use sec_base::{Ending, Geometry, Image, Sink};
+use ram::LineRam;
+pub use record::{RunRecord, Setup};
+use sec_base::{Image, NoMemoryWith, Sink, Tagger};
 use session::{Session, ending_of};
 use std::alloc::Global;
 
-/// What a run is given beside its program and its input.
-#[derive(Clone, Copy, Debug)]
-pub struct Setup {
-    /// How large the memory is.
-    pub geometry: Geometry,
-    /// How many instructions may be retired.
-    pub budget: u64,
-}
-
-/// What a run came to.
-#[derive(Debug, Drop)]
-pub struct RunRecord {
-    /// How many instructions were retired.
-    pub retired: u64,
-    /// How it ended.
-    pub ending: Ending,
-}
-
-/// Runs a program on an input, and writes what it prints to a sink.
-pub fn run<S: Sink>(
+/// Runs a program on an input, in a memory that stands outside the chip, and writes what it prints to a sink. The bus
+/// to that memory comes back as it stands at the end.
+pub fn run<B: Bus, T: Tagger, S: Sink>(
     alloc: Global,
     image: &Image,
     input: &[u8],
     setup: &Setup,
+    tagger: T,
+    bus: B,
     out: &mut S,
-) -> RunRecord
-    requires { image.now.size ≡ memory_size setup.now.geometry }
+) -> (RunRecord, B)
+    requires size { image.now.size ≡ memory_size setup.now.geometry }
+    requires levels { (B.told bus).levels ≡ setup.now.geometry }
+    requires no_lie { (B.told bus).lies ≡ 0 }
+    requires nothing_written { NothingWritten (B.told bus) }
 
-    // However it ended, it follows the plain machine so far, and the sink gained what that printed.
+    // However it ended, the sink gained what it printed, and without evidence it follows the plain machine so far.
     ensures follows { (printed : List ℕ) × Gains (S.state out.old) printed (S.state out.new)
-        × Follows (opening image.now input.now) setup.now.budget result.retired result.ending printed }
+        × (result.0.evidence ≡ None →
+        Follows (opening image.now input.now) setup.now.budget result.0.retired result.0.ending printed) }
+
+    // Without evidence no answer of the bus was false, and it did not end as tampering; or one was, fails its check,
+    // was the last access, and the run ended as tampering of its place.
+    ensures answers { result.0.evidence ≡ None →
+        HonestOrCaught (engine_tag (T.data_tag_of tagger) (T.node_tag_of tagger) setup.now.geometry)
+        result.0.made (B.told result.1) (λ place. result.0.ending ≡ Tampered place) }
+
+    // Evidence is what it says, and is of the first false answer.
+    ensures genuine { IfSome result.0.evidence
+        (IsEvidence (engine_tag (T.data_tag_of tagger) (T.node_tag_of tagger) setup.now.geometry) result.0.made) }
+    ensures first_lie { IfSome result.0.evidence (IsOfFirstLie result.0.made (B.told result.1)) }
+
+    // Where the memory did not end it, the memory outside has what the plain machine's has.
+    ensures written_out { result.0.evidence ≡ None → ¬ IsMemoryEnding result.0.ending →
+        IsWrittenOut (line_count setup.now.geometry) result.0.made
+        (plain (opening image.now input.now) result.0.retired).state.memory }
+    ensures holds_last { result.0.evidence ≡ None → ¬ IsMemoryEnding result.0.ending →
+        HoldsLast (engine_tag (T.data_tag_of tagger) (T.node_tag_of tagger) setup.now.geometry)
+        (line_count setup.now.geometry) result.0.made (B.told result.1).written }
 
     // The budget ends a run exactly where it is used up by a program that goes on.
-    ensures out_of_steps { result.ending ≢ NoMemory → ((result.ending ≡ OutOfSteps) ↔ ((result.retired ≡ setup.now.budget)
+    ensures out_of_steps { result.0.evidence ≡ None → ¬ IsMemoryEnding result.0.ending →
+        ((result.0.ending ≡ OutOfSteps) ↔ ((result.0.retired ≡ setup.now.budget)
         × ((plain (opening image.now input.now) setup.now.budget).exit ≡ None))) }
+    ensures budget_used { result.0.ending ≡ OutOfSteps → result.0.retired ≡ setup.now.budget }
+    ensures within { result.0.retired ≤ setup.now.budget }
 
-    // Without a fault it is the plain machine's run over the whole budget, or memory was not to be had.
-    ensures whole { ¬ (Rose (S.state out.old).faults (S.state out.new).faults) → result.ending ≢ NoMemory →
-        IsWhole (opening image.now input.now) setup.now.budget result.retired result.ending }
+    // Where no answer was false and the sink had no fault, it is the plain machine's run over the whole budget, or a
+    // page was used up, or memory was not to be had.
+    ensures whole { ¬ (Rose (S.state out.old).faults (S.state out.new).faults) → (B.told result.1).lies ≡ 0 →
+        result.0.ending ≢ NoMemory →
+        IsWhole (opening image.now input.now) setup.now.budget result.0.retired result.0.ending
+        ⊎ ((page : ℕ) × (result.0.ending ≡ Spent page)) }
 
-    ensures write_fault { result.ending ≡ WriteFault → Rose (S.state out.old).faults (S.state out.new).faults }
+    ensures spent { (page : ℕ) → result.0.evidence ≡ None → result.0.ending ≡ Spent page →
+        IsSpent (line_count setup.now.geometry) setup.now.page_limit result.0.made page }
+    ensures write_fault { result.0.ending ≡ WriteFault → Rose (S.state out.old).faults (S.state out.new).faults }
     ensures faults { (S.state out.old).faults ≤ (S.state out.new).faults }
 
-    // This memory neither tampers nor is used up.
-    ensures untampered { (place : Place) → result.ending ≢ Tampered place }
-    ensures unspent { (page : ℕ) → result.ending ≢ Spent page }
+    ensures bus_levels { (B.told result.1).levels ≡ setup.now.geometry }
+    ensures used { result.0.used ≡ [] }
+    ensures report { result.0.report ≡ None }
 {
-    let Ok(mut memory) = ListRam::new(alloc, image.size) else {
-        return RunRecord {
-            retired: 0,
-            ending: Ending::NoMemory,
-        };
+    let lines = match LineMemory::boot(alloc, bus, tagger, setup.geometry, setup.page_limit) {
+        Ok(lines) => lines,
+        Err(NoMemoryWith(bus)) => return (no_run(alloc), bus),
     };
+    let mut memory = LineRam::new(lines);
     if let Err(stop) = store_image(&mut memory, image) {
-        return RunRecord {
-            retired: 0,
-            ending: ending_of(stop),
-        };
+        return close(alloc, memory, 0, ending_of(stop));
     }
     let mut session = Session::new(image, input, memory, setup.budget);
     let ending = session.finish(out);
-    RunRecord {
-        retired: session.retired(),
-        ending,
-    }
+    let retired = session.retired();
+    close(alloc, session.into_memory(), retired, ending)
 }

@@ -1,19 +1,16 @@
 // A run that is under way.
-ghost use Rattle.std.specs.Prelude.{◌≡◌, ◌↔◌, ◌%◌, ◌<◌, ◌≤◌, ◌++◌, ℕ, List, None, Some};
+ghost use Rattle.std.specs.Prelude.{◌≡◌, ◌↔◌, ◌<◌, ◌≤◌, ◌++◌, ℕ, List, None, Some};
 ghost use Rattle.sec_base.specs.declared.answers.Ending.TheVariants.{OutOfSteps, WriteFault};
 ghost use Rattle.sec_base.specs.Count.{Rose};
-ghost use Rattle.sec_base.specs.Layout.{IsMemorySize};
 ghost use Rattle.sec_base.specs.Writing.{Gains};
 ghost use Rattle.rv32_core.specs.Machine.{Machine, opening_calls};
 ghost use Rattle.rv32_core.specs.State.{opening_hart};
-ghost use Rattle.rv32_core.specs.Follows.{Follows};
-ghost use Rattle.chip_run.specs.Session.{Reaches, Turns, retired_after, IsStop, stop_ending, CarriesEnding};
+ghost use Rattle.chip_run.specs.Session.{Reaches, FollowsWith, Turns, retired_after, IsStop, stop_ending, CarriesEnding};
 
 use rv32_core::{Calls, Core, Step, StepStop};
 use sec_base::{Ending, Image, MemStop, Ram, Sink};
 
 // A processor with its services and its memory, and how many instructions it retired and may retire.
-#[derive(Drop)]
 pub(crate) struct Session<'a, M> {
     core: Core,
     calls: Calls<'a>,
@@ -45,6 +42,20 @@ impl<'a, M: Ram> Session<'a, M> {
         ensures { result ≡ self.now.retired }
     {
         self.retired
+    }
+
+    // The memory as it is.
+    pub(crate) fn into_memory(self) -> M
+        ensures { result ≡ self.entry.memory }
+    {
+        let Session {
+            core: _core,
+            calls: _calls,
+            memory,
+            retired: _,
+            budget: _,
+        } = self;
+        memory
     }
 
     // Does one instruction, where the budget allows one more, and answers how the run ended, if it did.
@@ -100,7 +111,9 @@ impl<'a, M: Ram> Session<'a, M> {
         ensures follows { (printed : List ℕ) × Gains (S.state out.old) printed (S.state out.new)
             × (M.sound self.new.memory → (start : Machine) (before : List ℕ) →
             Reaches start self.old.retired self.old.core self.old.calls (M.contents self.old.memory) before →
-            Follows start self.old.budget self.new.retired result (before ++ printed)) }
+            FollowsWith start self.old.budget self.new.retired result (M.contents self.new.memory) (before ++ printed)) }
+        ensures within { self.new.retired ≤ self.old.budget }
+        ensures budget_used { result ≡ OutOfSteps → self.new.retired ≡ self.old.budget }
 
         // A stop comes while the budget allows one more instruction.
         ensures early { IsStop result → self.new.retired < self.old.budget }

@@ -1,7 +1,8 @@
 -- The sizes of the memories that there are.
 use Rattle.std.proofs.Common.{ℕ, zero, suc, ◌≤◌, ◌^◌, refl, arith}
 use Rattle.std.proofs.Math.Nat.{pow-le-pow_right}
-use Rattle.sec_base.specs.Layout.{memory_size, IsMemorySize}
+use Rattle.sec_base.specs.Layout.{memory_size, IsMemorySize, line_count}
+use Rattle.sec_base.specs.Lines.{IsLineCount}
 
 -- no tree has more than 4096 pages
 pub few_pages : (levels : ℕ) → levels ≤ 6 → 4 ^ levels ≤ 4096
@@ -17,3 +18,14 @@ some_size (suc (suc (suc (suc zero)))) low high = refl
 some_size (suc (suc (suc (suc (suc zero))))) low high = refl
 some_size (suc (suc (suc (suc (suc (suc zero)))))) low high = refl
 some_size (suc (suc (suc (suc (suc (suc (suc levels))))))) low high = absurd (omega arith)
+
+-- and so many lines
+pub some_lines : (levels : ℕ) → 1 ≤ levels → levels ≤ 6 → IsLineCount (line_count levels)
+some_lines zero low high = absurd (omega arith)
+some_lines (suc zero) low high = refl
+some_lines (suc (suc zero)) low high = refl
+some_lines (suc (suc (suc zero))) low high = refl
+some_lines (suc (suc (suc (suc zero)))) low high = refl
+some_lines (suc (suc (suc (suc (suc zero))))) low high = refl
+some_lines (suc (suc (suc (suc (suc (suc zero)))))) low high = refl
+some_lines (suc (suc (suc (suc (suc (suc (suc levels))))))) low high = absurd (omega arith)

@@ -1,12 +1,12 @@
 -- The last item of a list that has a part.
-use Rattle.std.proofs.Common.{◌≡◌, ℕ, ◌+◌, Bool, true, false, cond, nat_eq, zero, suc, List, [], ◌∷◌, ◌++◌, length, fold, Option, Some, None, refl, ap, sym, ◌∙◌, arith, length-append, append_assoc, append-nil}
+use Rattle.std.proofs.Common.{◌≡◌, ℕ, ◌+◌, Bool, true, false, cond, nat_eq, zero, suc, List, [], ◌∷◌, ◌++◌, length, fold, Option, Some, None, refl, ap, sym, ◌∙◌, arith, length-append, append_assoc, append-nil, subst}
 use Rattle.std.specs.Option.{option_map, option_or}
 use Rattle.std.specs.List.{slice_get, filter_map}
 use Rattle.std.proofs.lemmas.List.Sums.{fold-append}
 use Rattle.sec_base.specs.declared.sealing.Counter.{Counter}
 use Rattle.sec_base.specs.declared.account.Message.{Message}
 use Rattle.sec_base.specs.declared.account.Message.TheVariants.{Line, Node}
-use Rattle.sec_base.specs.Last.{passed, last_at, last_of, last_data, last_pair, pair_of, data_part, counter_part, data_pairs}
+use Rattle.sec_base.specs.Last.{passed, last_at, last_of, last_data, last_pair, pair_of, data_part, counter_part, data_pairs, IsFresh}
 
 -- as many items were passed as there are
 count_passed : {A B : Type 0} (part : A → Option B) (items : List A) (seen : ℕ × Option (ℕ × B)) →
@@ -160,3 +160,27 @@ pub last_pair-data_pairs : (line : ℕ) (made : List Message) →
 unfolding last_at data_pairs
 last_pair-data_pairs line made =
     pairs_on line made (0, None) (0, None) refl ∙ mapped_twice (λ (found : ℕ × (Counter × List ℕ)). found.1) (λ (found : Counter × List ℕ). found.0) (last_at (data_part line) made)
+
+none_front : {A B : Type 0} (part : A → Option B) (front more : List A) → last_of part (front ++ more) ≡ None → last_of part front ≡ None
+unfolding last_at
+none_front {A} {B} part front more e =
+    let start : ℕ × Option (ℕ × B) = (0, None) in
+    let none : (fold (passed part) start (front ++ more)).1 ≡ None =
+    none_mapped (λ (found : ℕ × B). found.1) (last_at part (front ++ more)) e in
+    let whole : fold (passed part) start (front ++ more) ≡ fold (passed part) (fold (passed part) start front) more =
+    fold-append (passed part) start front more in
+    let front_none : (fold (passed part) start front).1 ≡ None =
+    kept_none part more (fold (passed part) start front) (sym (ap (λ (seen : ℕ × Option (ℕ × B)). seen.1) whole) ∙ none) in
+    ap (λ (found : Option (ℕ × B)). option_map (λ (x : ℕ × B). x.1) found) front_none
+
+pairs-append : (front more : List Message) → data_pairs (front ++ more) ≡ data_pairs front ++ data_pairs more
+unfolding data_pairs
+pairs-append [] more = refl
+pairs-append (Node level index block ∷ front) more = pairs-append front more
+pairs-append (Line line counter cipher ∷ front) more = ap (λ (pairs : List (ℕ × Counter)). (line, counter) ∷ pairs) (pairs-append front more)
+
+-- a line of which no message speaks was fresh before
+pub fresh_front : (line : ℕ) (front more : List Message) → IsFresh line (data_pairs (front ++ more)) → IsFresh line (data_pairs front)
+fresh_front line front more fresh =
+    none_front (counter_part line) (data_pairs front) (data_pairs more)
+    (subst (λ (pairs : List (ℕ × Counter)). IsFresh line pairs) (pairs-append front more) fresh)

@@ -19,7 +19,7 @@ abbrev pub message_bytes : Message → List ℕ
 message_bytes (Line line counter cipher) = data_bytes line counter cipher
 message_bytes (Node level index block) = node_bytes level index block
 
--- its numbers fit their types
+-- its line, its page's counter or its index fits its type
 abbrev pub IsMessage : Message → Type 0
 IsMessage (Line line counter cipher) = (line < 2 ^ 32) × (counter.page < 2 ^ 64)
 IsMessage (Node level index block) = index < 2 ^ 32

@@ -1,5 +1,6 @@
 ghost use Rattle.std.specs.Prelude.{◌≡◌, ◌↔◌, ◌≤◌, ◌^◌, IsTrue, IsSome, IfSome};
 ghost use Rattle.sec_base.specs.Layout.{page_count, line_count, memory_size, IsMemorySize, IsPlace};
+ghost use Rattle.sec_base.specs.Lines.{IsLineCount};
 
 use std::marker::Model;
 
@@ -62,10 +63,12 @@ impl Geometry {
     }
 
     /// The number of lines of 64 bytes, 64 a page.
+    #[tactic(auto, using(crate::proofs::Geometries::few_pages))]
     pub fn lines(&self) -> u32
-        ensures { result ≡ line_count self.now }
+        ensures lines { result ≡ line_count self.now }
+        ensures some_memory { IsLineCount result }
     {
-        64 * self.pages()
+        64 * 4u32.pow(u32::from(self.levels))
     }
 
     /// The memory's size in bytes.

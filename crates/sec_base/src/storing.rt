@@ -17,7 +17,7 @@ pub trait LineStore {
     /// What it answers can be relied on.
     ghost sound: { Self → Type 0 };
 
-    /// The first stop that it answered.
+    /// The stop that it keeps, if it answered one.
     ghost stopped: { Self → Option MemStop };
 
     /// What a read of a line makes of the store.

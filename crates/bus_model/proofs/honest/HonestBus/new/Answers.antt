@@ -6,6 +6,6 @@ use Rattle.bus_model.proofs.honest.HonestBus.new.Goals as goal
 pub returns : goal.returns
 returns c =
     new_told _ c.args.geometry refl
-    (c.in_ok-empty_lines.ensures ∙ ap (λ (count : ℕ). replicate count empty_line) c.lines.ensures)
+    (c.in_ok-empty_lines.ensures ∙ ap (λ (count : ℕ). replicate count empty_line) c.lines.ensures.lines)
     (c.in_ok-empty_nodes.ensures ∙ ap (λ (count : ℕ). replicate count empty_node) c.node_end.ensures)
     refl

@@ -1,0 +1,85 @@
+-- What calls make of a protected memory, one after another.
+use Rattle.std.proofs.Common.{◌≡◌, ◌⊎◌, inl, inr, ℕ, ◌+◌, ◌≤◌, List, [], ◌∷◌, ◌++◌, Option, Some, None, Contains, refl, ap, sym, ◌∙◌, subst, arith, append_assoc}
+use Rattle.std.proofs.lemmas.List.{append-nil}
+use Rattle.std.proofs.lemmas.List.Elements.{Contains-append_cases}
+use Rattle.sec_base.specs.Count.{Rose, RoseBy}
+use Rattle.sec_base.specs.Last.{data_pairs, IsFresh}
+use Rattle.sec_base.specs.declared.layout.Place.{Place}
+use Rattle.sec_base.specs.declared.layout.Place.TheVariants.{Line as line_place}
+use Rattle.sec_base.specs.declared.account.Message.{Message}
+use Rattle.sec_base.specs.declared.account.Evidence.{Evidence}
+use Rattle.sec_base.specs.declared.answers.MemStop.{MemStop}
+use Rattle.bus_model.specs.Told.{Told}
+use Rattle.chip_run.specs.Protected.{Protected, Moves, WereRead, IsMoved}
+use Rattle.sec_base.proofs.LastMessages.{fresh_front}
+
+pub moves_not : {B T : Type 0} (told : B → Told) (memory : Protected B T) → Moves told memory memory
+moves_not told memory = record {
+  tagger = refl;
+  levels = refl;
+  limit = refl;
+  more = [];
+  made = sym (append-nil memory.engine.made);
+  reads = λ place. omega arith;
+  evidence = λ evidence is. is;
+}
+
+pub moves_on : {B T : Type 0} (told : B → Told) (first second third : Protected B T) → Moves told first second → Moves told second third → Moves told first third
+moves_on told first second third a b = record {
+  tagger = b.tagger ∙ a.tagger;
+  levels = b.levels ∙ a.levels;
+  limit = b.limit ∙ a.limit;
+  more = a.more ++ b.more;
+  made = b.made ∙ ap (λ (made : List Message). made ++ b.more) a.made ∙ append_assoc first.engine.made a.more b.more;
+  reads = λ place. omega (arith, a.reads place, b.reads place);
+  evidence = λ evidence is. b.evidence evidence (a.evidence evidence is);
+}
+
+none_contained : {A : Type 0} (x : A) → Contains [] x → ⊥
+none_contained x (k, below, at) = omega arith
+
+-- no call makes nothing of it
+pub unmoved : {B T : Type 0} (told : B → Told) (memory : Protected B T) → IsMoved told memory [] memory
+unmoved told memory = record {
+  moves = moves_not told memory;
+  stays = λ stop is. is;
+  read = record { read = λ going quiet line listed. absurd (none_contained line listed) };
+}
+
+-- where something was, there is something
+pub was_none : {A : Type 0} (old new : Option A) → ((x : A) → old ≡ Some x → new ≡ Some x) → new ≡ None → old ≡ None
+was_none None new kept none = refl
+was_none (Some x) new kept none = let still = kept x refl in absurd (cc)
+
+fresh_before : {B T : Type 0} (told : B → Told) (first second : Protected B T) (line : ℕ) → Moves told first second →
+    IsFresh line (data_pairs second.engine.made) → IsFresh line (data_pairs first.engine.made)
+fresh_before told first second line moves fresh =
+    fresh_front line first.engine.made moves.more (subst (λ (made : List Message). IsFresh line (data_pairs made)) moves.made fresh)
+
+-- lines that were read, after other calls
+read_later : {B T : Type 0} (told : B → Told) (first second third : Protected B T) (line : ℕ) → Moves told first second →
+    IsFresh line (data_pairs second.engine.made) ⊎ Rose ((told second.bus).reads (line_place line)) ((told third.bus).reads (line_place line)) →
+    IsFresh line (data_pairs first.engine.made) ⊎ Rose ((told first.bus).reads (line_place line)) ((told third.bus).reads (line_place line))
+read_later told first second third line moves (inl fresh) = inl (fresh_before told first second line moves fresh)
+read_later told first second third line moves (inr rose) = inr (omega (arith, moves.reads (line_place line)))
+
+-- and before others
+read_sooner : {B T : Type 0} (told : B → Told) (first second third : Protected B T) (line : ℕ) → Moves told second third →
+    IsFresh line (data_pairs first.engine.made) ⊎ Rose ((told first.bus).reads (line_place line)) ((told second.bus).reads (line_place line)) →
+    IsFresh line (data_pairs first.engine.made) ⊎ Rose ((told first.bus).reads (line_place line)) ((told third.bus).reads (line_place line))
+read_sooner told first second third line moves (inl fresh) = inl fresh
+read_sooner told first second third line moves (inr rose) = inr (omega (arith, moves.reads (line_place line)))
+
+-- what calls make after others, they make together
+pub moved_on : {B T : Type 0} (told : B → Told) (first second third : Protected B T) (before after : List ℕ) →
+    IsMoved told first before second → IsMoved told second after third → IsMoved told first (before ++ after) third
+moved_on told first second third before after a b = record {
+  moves = moves_on told first second third a.moves b.moves;
+  stays = λ stop is. b.stays stop (a.stays stop is);
+  read = record { read = λ going quiet line listed.
+      elim (Contains-append_cases before after line listed) [
+        | inl early ↦ read_sooner told first second third line b.moves
+            (a.read.read (was_none second.stopped third.stopped b.stays going) (was_none second.engine.evidence third.engine.evidence b.moves.evidence quiet) line early)
+        | inr late ↦ read_later told first second third line a.moves (b.read.read going quiet line late)
+      ] };
+}

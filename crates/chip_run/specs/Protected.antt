@@ -1,0 +1,126 @@
+-- The protected memory: lines outside the chip, each with a counter on the chip and a tag beside it.
+use Rattle.std.specs.Prelude.{◌≡◌, ◌≢◌, ◌⊎◌, ℕ, ◌<◌, ◌≤◌, List, [], ◌∷◌, ◌++◌, length, Option, Some, None, Contains, Result, Ok, Err, slice_index, replicate, true}
+use Rattle.sec_base.specs.declared.layout.Place.{Place}
+use Rattle.sec_base.specs.declared.layout.Place.TheVariants.{Line as line_place}
+use Rattle.sec_base.specs.declared.sealing.Counter.{Counter}
+use Rattle.sec_base.specs.declared.sealing.Sealed.{Sealed}
+use Rattle.sec_base.specs.declared.account.Message.{Message}
+use Rattle.sec_base.specs.declared.account.Message.TheVariants.{Line}
+use Rattle.sec_base.specs.declared.account.Evidence.{Evidence}
+use Rattle.sec_base.specs.declared.answers.MemStop.{MemStop}
+use Rattle.sec_base.specs.declared.answers.MemStop.TheVariants.{Tampered, Spent, NoMemory}
+use Rattle.sec_base.specs.Count.{Rose, RoseBy}
+use Rattle.sec_base.specs.Evidence.{sealed_bytes}
+use Rattle.sec_base.specs.Last.{last_data, data_pairs, IsFresh}
+use Rattle.sec_base.specs.Layout.{line_count}
+use Rattle.bus_model.specs.Told.{Told, after_read}
+use Rattle.tag_engine.specs.Engine.{Engine, new_engine, after_check}
+use Rattle.chip_run.specs.Contents.{line_writes, IsSpent, HoldsLast}
+use Rattle.chip_run.specs.Account.{HonestOrCaught, IsOfFirstLie}
+
+-- the bus, the tag engine, how often each line was written, how often one may be, and the stop that was answered, if
+-- one was
+pub record Protected (B T : Type 0) : Type 0 where
+  pub bus : B
+  pub engine : Engine T
+  pub counters : List ℕ
+  pub limit : ℕ
+  pub stopped : Option MemStop
+
+-- no line was written
+abbrev pub new_protected : {B T : Type 0} → B → T → ℕ → ℕ → Protected B T
+new_protected bus tagger levels limit = record {
+  bus = bus;
+  engine = new_engine tagger levels;
+  counters = replicate (line_count levels) 0;
+  limit = limit;
+  stopped = None;
+}
+
+-- a stop after which nothing is done: where a page's lines are used up, others still serve
+abbrev pub lasting_stop : Option MemStop → Option MemStop
+lasting_stop None = None
+lasting_stop (Some (Spent page)) = None
+lasting_stop (Some (Tampered place)) = Some (Tampered place)
+lasting_stop (Some NoMemory) = Some NoMemory
+
+-- A message of a line has one of the line's counters, and only the last one has the last.
+pub record IsNumbered (made : List Message) (line : ℕ) (counter : Counter) (cipher : List ℕ) : Type 0 where
+  pub own : counter.line ≡ 0
+  pub least : 1 ≤ counter.page
+  pub most : counter.page ≤ line_writes made line
+  pub last : counter.page ≡ line_writes made line → last_data line made ≡ Some (counter, cipher)
+  pub long : length cipher ≡ 64
+
+-- what holds of the messages and the counters
+pub record AreCounted (lines limit : ℕ) (made : List Message) (counters : List ℕ) : Type 0 where
+  pub long : length counters ≡ lines
+  pub counts : (line : ℕ) → line < lines → slice_index counters line ≡ line_writes made line
+  pub limited : (line : ℕ) → line_writes made line ≤ limit
+  pub numbered : (line : ℕ) (counter : Counter) (cipher : List ℕ) →
+      Contains made (Line line counter cipher) → IsNumbered made line counter cipher
+
+-- what holds of a protected memory at all times
+pub record IsKept {B T : Type 0} (tag_of : Message → List ℕ) (told : Told) (memory : Protected B T) : Type 0 where
+  pub levels : told.levels ≡ memory.engine.levels
+  pub counted : AreCounted (line_count memory.engine.levels) memory.limit memory.engine.made memory.counters
+  pub stored : memory.engine.evidence ≡ None → lasting_stop memory.stopped ≡ None →
+      HoldsLast tag_of (line_count memory.engine.levels) memory.engine.made told.written
+  pub answers : memory.engine.evidence ≡ None →
+      HonestOrCaught tag_of memory.engine.made told (λ place. memory.stopped ≡ Some (Tampered place))
+  pub shown : (evidence : Evidence) → memory.engine.evidence ≡ Some evidence → IsOfFirstLie memory.engine.made told evidence
+  pub spent : (page : ℕ) → memory.stopped ≡ Some (Spent page) →
+      IsSpent (line_count memory.engine.levels) memory.limit memory.engine.made page
+
+-- what calls leave as it was, or add to
+pub record Moves {B T : Type 0} (told : B → Told) (old new : Protected B T) : Type 0 where
+  pub tagger : new.engine.tagger ≡ old.engine.tagger
+  pub levels : new.engine.levels ≡ old.engine.levels
+  pub limit : new.limit ≡ old.limit
+  pub more : List Message
+  pub made : new.engine.made ≡ old.engine.made ++ more
+  pub reads : (place : Place) → RoseBy 0 ((told old.bus).reads place) ((told new.bus).reads place)
+  pub evidence : (evidence : Evidence) → old.engine.evidence ≡ Some evidence → new.engine.evidence ≡ Some evidence
+
+-- Each of the lines was read from the bus or had never been written, where there is neither a stop nor evidence.
+pub record WereRead {B T : Type 0} (told : B → Told) (old : Protected B T) (lines : List ℕ) (new : Protected B T) : Type 0 where
+  pub read : new.stopped ≡ None → new.engine.evidence ≡ None → (line : ℕ) → Contains lines line →
+      IsFresh line (data_pairs old.engine.made) ⊎ Rose ((told old.bus).reads (line_place line)) ((told new.bus).reads (line_place line))
+
+-- a read of a line, whatever it answered
+pub record ReadMoved {B T : Type 0} (told : B → Told) (old : Protected B T) (line : ℕ) (new : Protected B T) : Type 0 where
+  pub moves : Moves told old new
+  pub read : WereRead told old (line ∷ []) new
+
+-- what calls with these lines make of a memory that answers its first stop to each later call
+pub record IsMoved {B T : Type 0} (told : B → Told) (old : Protected B T) (lines : List ℕ) (new : Protected B T) : Type 0 where
+  pub moves : Moves told old new
+  pub stays : (stop : MemStop) → old.stopped ≡ Some stop → new.stopped ≡ Some stop
+  pub read : WereRead told old lines new
+
+-- what the place of a line answered
+abbrev pub after_line : ℕ → Sealed → Told → Told
+after_line line sealed told = after_read (line_place line) (sealed_bytes sealed) told
+
+-- a line that was read has the tag of its message
+pub record Passed {T : Type 0} (tag_of : Message → List ℕ) (line : ℕ) (counter : Counter) (told told' : Told) (engine engine' : Engine T) (cipher : List ℕ) : Type 0 where
+  pub tag : List ℕ
+  pub tagged : tag ≡ tag_of (Line line counter cipher)
+  pub answered : told' ≡ after_line line (record { cipher = cipher; tag = tag }) told
+  pub checked : engine' ≡ after_check line counter (record { cipher = cipher; tag = tag }) true engine
+  pub known : engine'.evidence ≡ None → Contains engine.made (Line line counter cipher)
+
+-- it has another
+pub record Failed {T : Type 0} (tag_of : Message → List ℕ) (line : ℕ) (counter : Counter) (told told' : Told) (engine engine' : Engine T) : Type 0 where
+  pub sealed : Sealed
+  pub untagged : sealed.tag ≢ tag_of (Line line counter sealed.cipher)
+  pub answered : told' ≡ after_line line sealed told
+  pub unchanged : engine' ≡ engine
+
+-- a line was read from its place and checked, or there was no memory to read it
+abbrev pub IsCheckedRead : {T : Type 0} → (Message → List ℕ) → ℕ → Counter → Told → Told → Engine T → Engine T → Result (List ℕ) MemStop → Type 0
+IsCheckedRead tag_of line counter told told' engine engine' (Ok cipher) = Passed tag_of line counter told told' engine engine' cipher
+IsCheckedRead tag_of line counter told told' engine engine' (Err (Tampered place)) =
+    (place ≡ line_place line) × Failed tag_of line counter told told' engine engine'
+IsCheckedRead tag_of line counter told told' engine engine' (Err NoMemory) = (told' ≡ told) × (engine' ≡ engine)
+IsCheckedRead tag_of line counter told told' engine engine' (Err (Spent page)) = ⊥

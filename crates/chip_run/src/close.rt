@@ -1,0 +1,76 @@
+// How a run is closed: its memory is given up, and its record made.
+ghost use Rattle.std.specs.Prelude.{◌≡◌, [], ℕ, None, Some, IfSome};
+ghost use Rattle.sec_base.specs.Evidence.{IsEvidence};
+ghost use Rattle.sec_base.specs.Layout.{line_count};
+ghost use Rattle.sec_base.specs.declared.answers.Ending.TheVariants.{Tampered, Spent, NoMemory as memory_ended};
+ghost use Rattle.tag_engine.specs.Engine.{tags_of};
+ghost use Rattle.chip_run.specs.Account.{HonestOrCaught, IsOfFirstLie};
+ghost use Rattle.chip_run.specs.Contents.{HoldsLast, IsSpent};
+ghost use Rattle.chip_run.specs.Session.{CarriesEnding, IsMemoryEnding};
+
+use crate::ram::LineRam;
+use crate::record::RunRecord;
+use bus_model::Bus;
+use sec_base::{Ending, Messages, Pads, Tagger};
+use std::alloc::Global;
+
+// The record of a run that retired so many instructions and ended so, with its bus.
+pub(crate) fn close<B: Bus, T: Tagger>(
+    alloc: Global,
+    memory: LineRam<B, T>,
+    retired: u64,
+    ending: Ending,
+) -> (RunRecord, B)
+    requires ending { CarriesEnding memory.lines.stopped (Some ending) }
+
+    ensures retired { result.0.retired ≡ retired }
+    ensures ending { result.0.ending ≡ ending }
+    ensures made { result.0.made ≡ memory.lines.engine.made }
+    ensures evidence { result.0.evidence ≡ memory.lines.engine.evidence }
+    ensures bus { result.1 ≡ memory.lines.bus }
+    ensures used { result.0.used ≡ [] }
+    ensures report { result.0.report ≡ None }
+
+    ensures answers { memory.lines.engine.evidence ≡ None →
+        HonestOrCaught (tags_of T.data_tag_of T.node_tag_of memory.lines.engine)
+        memory.lines.engine.made (B.told memory.lines.bus) (λ place. ending ≡ Tampered place) }
+    ensures genuine { IfSome memory.lines.engine.evidence
+        (IsEvidence (tags_of T.data_tag_of T.node_tag_of memory.lines.engine) memory.lines.engine.made) }
+    ensures first_lie { IfSome memory.lines.engine.evidence (IsOfFirstLie memory.lines.engine.made (B.told memory.lines.bus)) }
+    ensures holds_last { memory.lines.engine.evidence ≡ None → ¬ IsMemoryEnding ending →
+        HoldsLast (tags_of T.data_tag_of T.node_tag_of memory.lines.engine)
+        (line_count memory.lines.engine.levels) memory.lines.engine.made (B.told memory.lines.bus).written }
+    ensures spent { (page : ℕ) → ending ≡ Spent page →
+        IsSpent (line_count memory.lines.engine.levels) memory.lines.limit memory.lines.engine.made page }
+    ensures levels { (B.told memory.lines.bus).levels ≡ memory.lines.engine.levels }
+{
+    let (made, evidence, bus) = memory.into_lines().finish();
+    let record = RunRecord {
+        retired,
+        ending,
+        evidence,
+        made,
+        used: Pads::from_vec(Vec::new(alloc)),
+        report: None,
+    };
+    (record, bus)
+}
+
+// The record of a run for whose memory there was none.
+pub(crate) fn no_run(alloc: Global) -> RunRecord
+    ensures retired { result.retired ≡ 0 }
+    ensures ending { result.ending ≡ memory_ended }
+    ensures made { result.made ≡ [] }
+    ensures evidence { result.evidence ≡ None }
+    ensures used { result.used ≡ [] }
+    ensures report { result.report ≡ None }
+{
+    RunRecord {
+        retired: 0,
+        ending: Ending::NoMemory,
+        evidence: None,
+        made: Messages::from_vec(Vec::new(alloc)),
+        used: Pads::from_vec(Vec::new(alloc)),
+        report: None,
+    }
+}

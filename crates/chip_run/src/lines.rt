@@ -1,0 +1,264 @@
+// The lines of the protected memory: they stand outside the chip, each with a tag beside it and a counter on the chip.
+ghost use Rattle.std.specs.Prelude.{◌≡◌, ◌≢◌, ◌↔◌, ◌+◌, ◌*◌, ◌/◌, ◌<◌, ◌≤◌, ◌⊎◌, ◌∷◌, [], ℕ, None, Some, Ok, Err, IfOk, IfErr, OnOk, OnErr, IfSome, length, replicate};
+ghost use Rattle.sec_base.specs.Layout.{IsPlace, line_count};
+ghost use Rattle.sec_base.specs.Lines.{IsLineCount, line_at, with_line};
+ghost use Rattle.sec_base.specs.Evidence.{IsEvidence, sealed_bytes};
+ghost use Rattle.sec_base.specs.declared.layout.Place.TheVariants.{Line as line_place};
+ghost use Rattle.sec_base.specs.declared.answers.MemStop.TheVariants.{Spent as spent_stop};
+ghost use Rattle.sec_base.specs.declared.account.Message.TheVariants.{Line};
+ghost use Rattle.bus_model.specs.Told.{after_write};
+ghost use Rattle.tag_engine.specs.Engine.{tags_of, after_make};
+ghost use Rattle.chip_run.specs.Contents.{contents_of, line_writes, IsSpent, HoldsLast};
+ghost use Rattle.chip_run.specs.Account.{HonestOrCaught, IsOfFirstLie};
+ghost use Rattle.chip_run.specs.Protected.{new_protected, lasting_stop, IsKept, Moves, ReadMoved, IsCheckedRead};
+
+use bus_model::Bus;
+use sec_base::{
+    Counter, Evidence, Geometry, LineStore, MemStop, Messages, NoMemory, NoMemoryWith, Place,
+    Sealed, Tagger,
+};
+use std::alloc::Global;
+use std::marker::Model;
+use tag_engine::TagEngine;
+
+// A line that was written n times has the counter (n, 0).
+pub(crate) struct LineMemory<B: Bus, T: Tagger> {
+    bus: B,
+    tags: TagEngine<T>,
+    geometry: Geometry,
+    counters: Vec<u64>,
+    page_limit: u64,
+    stopped: Option<MemStop>,
+}
+
+impl<B: Bus, T: Tagger> Model for LineMemory<B, T> {
+    ghost use Rattle.std.specs.Prelude.{◌≡◌};
+    ghost use Rattle.tag_engine.specs.Engine.{tags_of};
+    ghost use Rattle.chip_run.specs.Protected.{Protected, IsKept};
+
+    ghost Value = { Protected B T };
+
+    ghost view = { λ memory. record {
+      bus = memory.bus;
+      engine = memory.tags;
+      counters = memory.counters.items;
+      limit = memory.page_limit;
+      stopped = memory.stopped;
+    } };
+
+    ghost invariant = { λ memory. (memory.geometry ≡ memory.tags.levels)
+        × IsKept {B = B} {T = T} (tags_of T.data_tag_of T.node_tag_of memory.tags) (B.told memory.bus) (record {
+      bus = memory.bus;
+      engine = memory.tags;
+      counters = memory.counters.items;
+      limit = memory.page_limit;
+      stopped = memory.stopped;
+    }) };
+}
+
+impl<B: Bus, T: Tagger> LineMemory<B, T> {
+    // A memory that was never written, over a bus that was not false so far. Where memory is wanting, the tagger is let
+    // go, and the bus comes back.
+    pub(crate) fn boot(
+        alloc: Global,
+        bus: B,
+        tagger: T,
+        geometry: Geometry,
+        page_limit: u64,
+    ) -> Result<LineMemory<B, T>, NoMemoryWith<B>>
+        requires levels { (B.told bus).levels ≡ geometry }
+        requires honest { (B.told bus).lies ≡ 0 }
+
+        ensures new { IfOk result (λ memory. memory ≡ new_protected bus tagger geometry page_limit) }
+        ensures refused { IfErr result (λ refusal. refusal.0 ≡ bus) }
+    {
+        let Ok(tags) = TagEngine::new(alloc, tagger, geometry) else {
+            return Err(NoMemoryWith(bus));
+        };
+        let Ok(counters) = no_writes(alloc, geometry) else {
+            return Err(NoMemoryWith(bus));
+        };
+        Ok(LineMemory {
+            bus,
+            tags,
+            geometry,
+            counters,
+            page_limit,
+            stopped: None,
+        })
+    }
+
+    // The stop that it answered, if it did.
+    pub(crate) fn stopped(&self) -> Option<MemStop>
+        ensures { result ≡ self.now.stopped }
+    {
+        self.stopped
+    }
+
+    // Lets the tagger go, and hands back the messages that were tagged, what passed a check and was never tagged, and
+    // the bus.
+    pub(crate) fn finish(self) -> (Messages, Option<Evidence>, B)
+        ensures made { result.0 ≡ self.engine.made }
+        ensures evidence { result.1 ≡ self.engine.evidence }
+        ensures bus { result.2 ≡ self.bus }
+
+        ensures genuine { IfSome result.1 (IsEvidence (tags_of T.data_tag_of T.node_tag_of self.engine) result.0) }
+        ensures kept { IsKept (tags_of T.data_tag_of T.node_tag_of self.engine) (B.told self.bus) self }
+    {
+        let LineMemory {
+            bus,
+            tags,
+            geometry: _,
+            counters: _counters,
+            page_limit: _,
+            stopped: _,
+        } = self;
+        let (made, evidence) = tags.finish();
+        (made, evidence, bus)
+    }
+}
+
+impl<B: Bus, T: Tagger> LineStore for LineMemory<B, T> {
+    ghost contents = { λ memory. contents_of (line_count memory.engine.levels) memory.engine.made };
+
+    ghost extent = { λ memory. line_count memory.engine.levels };
+
+    ghost sound = { λ memory. memory.engine.evidence ≡ None };
+
+    ghost stopped = { λ memory. memory.stopped };
+
+    ghost read_moved = { λ before line after. ReadMoved B.told before line after };
+
+    ghost write_moved = { λ before line after. Moves B.told before after };
+
+    fn lines(&self) -> u32 {
+        self.geometry.lines()
+    }
+
+    // A line that was never written is zeros, without an access.
+    fn read_line(&mut self, line: u32) -> Result<[u8; 64], MemStop> {
+        if let Some(stop) = lasting(self.stopped) {
+            return Err(stop);
+        }
+        let writes = self.counters[line as usize];
+        if writes == 0 {
+            return Ok([0; 64]);
+        }
+        match read_checked(&mut self.bus, &mut self.tags, line, counter_of(writes)) {
+            Ok(bytes) => Ok(bytes),
+            Err(stop) => {
+                self.stopped = Some(stop);
+                Err(stop)
+            }
+        }
+    }
+
+    fn write_line(&mut self, line: u32, bytes: &[u8; 64]) -> Result<(), MemStop> {
+        if let Some(stop) = lasting(self.stopped) {
+            return Err(stop);
+        }
+        let writes = self.counters[line as usize];
+        if writes >= self.page_limit {
+            let stop = MemStop::Spent(line / 64);
+            self.stopped = Some(stop);
+            return Err(stop);
+        }
+        if self.tags.reserve(1).is_err() {
+            self.stopped = Some(MemStop::NoMemory);
+            return Err(MemStop::NoMemory);
+        }
+        let counter = counter_of(writes + 1);
+        self.counters[line as usize] = writes + 1;
+        match write_tagged(&mut self.bus, &mut self.tags, line, counter, bytes) {
+            Ok(()) => Ok(()),
+            Err(_) => {
+                self.stopped = Some(MemStop::NoMemory);
+                Err(MemStop::NoMemory)
+            }
+        }
+    }
+
+    ghost use Rattle.chip_run.specs.LineLengths.{length-contents_of};
+
+    ghost sized = { λ memory. length-contents_of (line_count memory.engine.levels) memory.engine.made };
+}
+
+// No line of the memory was written.
+fn no_writes(alloc: Global, geometry: Geometry) -> Result<Vec<u64>, NoMemory>
+    ensures { IfOk result (λ counters. counters.items ≡ replicate (line_count geometry) 0) }
+{
+    Ok(vec![in alloc; 0; geometry.lines() as usize]?)
+}
+
+// The counter of a line that was written so often.
+fn counter_of(writes: u64) -> Counter
+    ensures { result ≡ record { page = writes; line = 0 } }
+{
+    Counter {
+        page: writes,
+        line: 0,
+    }
+}
+
+// The stop that is answered from then on, if there was one.
+fn lasting(stopped: Option<MemStop>) -> Option<MemStop>
+    ensures { result ≡ lasting_stop stopped }
+{
+    match stopped {
+        None | Some(MemStop::Spent(_)) => None,
+        Some(MemStop::Tampered(place)) => Some(MemStop::Tampered(place)),
+        Some(MemStop::NoMemory) => Some(MemStop::NoMemory),
+    }
+}
+
+// Reads a line from its place, and checks that it has the tag of its message.
+fn read_checked<B: Bus, T: Tagger>(
+    bus: &mut B,
+    tags: &mut TagEngine<T>,
+    line: u32,
+    counter: Counter,
+) -> Result<[u8; 64], MemStop>
+    requires place { IsPlace (B.told bus.old).levels (line_place line) }
+    requires line { line < line_count tags.old.levels }
+
+    ensures { IsCheckedRead (tags_of T.data_tag_of T.node_tag_of tags.old) line counter
+        (B.told bus.old) (B.told bus.new) tags.old tags.new result }
+{
+    let sealed = match bus.read_data(line) {
+        Ok(sealed) => sealed,
+        Err(_) => return Err(MemStop::NoMemory),
+    };
+    if tags.check_data(line, counter, &sealed) {
+        Ok(sealed.cipher)
+    } else {
+        Err(MemStop::Tampered(Place::Line(line)))
+    }
+}
+
+// Tags a line's message, for which there is memory, and writes both to the line's place.
+fn write_tagged<B: Bus, T: Tagger>(
+    bus: &mut B,
+    tags: &mut TagEngine<T>,
+    line: u32,
+    counter: Counter,
+    bytes: &[u8; 64],
+) -> Result<(), NoMemory>
+    requires place { IsPlace (B.told bus.old).levels (line_place line) }
+    requires line { line < line_count tags.old.levels }
+    requires room { 0 < tags.old.room }
+
+    ensures tags { tags.new ≡ after_make (Line line counter bytes.now) tags.old }
+    ensures ok { OnOk result (B.told bus.new ≡ after_write (line_place line) (sealed_bytes (record {
+      cipher = bytes.now;
+      tag = tags_of T.data_tag_of T.node_tag_of tags.old (Line line counter bytes.now);
+    })) (B.told bus.old)) }
+    ensures err { OnErr result (B.told bus.new ≡ B.told bus.old) }
+{
+    let tag = tags.make_data(line, counter, bytes)?;
+    let sealed = Sealed {
+        cipher: *bytes,
+        tag,
+    };
+    bus.write_data(line, &sealed)?;
+    Ok(())
+}
