@@ -1,2 +1,5 @@
 pub mod Loading
 pub mod Turns
+pub mod LineMessages
+pub mod Keeping
+pub mod LineMoves

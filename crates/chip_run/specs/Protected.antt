@@ -1,5 +1,5 @@
 -- The protected memory: lines outside the chip, each with a counter on the chip and a tag beside it.
-use Rattle.std.specs.Prelude.{◌≡◌, ◌≢◌, ◌⊎◌, ℕ, ◌<◌, ◌≤◌, List, [], ◌∷◌, ◌++◌, length, Option, Some, None, Contains, Result, Ok, Err, slice_index, replicate, true}
+use Rattle.std.specs.Prelude.{◌≡◌, ◌≢◌, ◌⊎◌, ℕ, ◌<◌, ◌≤◌, List, [], ◌∷◌, ◌++◌, length, Option, Some, None, Contains, Result, Ok, Err, IfSome, slice_index, replicate, true}
 use Rattle.sec_base.specs.declared.layout.Place.{Place}
 use Rattle.sec_base.specs.declared.layout.Place.TheVariants.{Line as line_place}
 use Rattle.sec_base.specs.declared.sealing.Counter.{Counter}
@@ -10,7 +10,7 @@ use Rattle.sec_base.specs.declared.account.Evidence.{Evidence}
 use Rattle.sec_base.specs.declared.answers.MemStop.{MemStop}
 use Rattle.sec_base.specs.declared.answers.MemStop.TheVariants.{Tampered, Spent, NoMemory}
 use Rattle.sec_base.specs.Count.{Rose, RoseBy}
-use Rattle.sec_base.specs.Evidence.{sealed_bytes}
+use Rattle.sec_base.specs.Evidence.{sealed_bytes, IsEvidence}
 use Rattle.sec_base.specs.Last.{last_data, data_pairs, IsFresh}
 use Rattle.sec_base.specs.Layout.{line_count}
 use Rattle.bus_model.specs.Told.{Told, after_read}
@@ -68,6 +68,7 @@ pub record IsKept {B T : Type 0} (tag_of : Message → List ℕ) (told : Told) (
       HoldsLast tag_of (line_count memory.engine.levels) memory.engine.made told.written
   pub answers : memory.engine.evidence ≡ None →
       HonestOrCaught tag_of memory.engine.made told (λ place. memory.stopped ≡ Some (Tampered place))
+  pub genuine : IfSome memory.engine.evidence (IsEvidence tag_of memory.engine.made)
   pub shown : (evidence : Evidence) → memory.engine.evidence ≡ Some evidence → IsOfFirstLie memory.engine.made told evidence
   pub spent : (page : ℕ) → memory.stopped ≡ Some (Spent page) →
       IsSpent (line_count memory.engine.levels) memory.limit memory.engine.made page
@@ -108,13 +109,15 @@ pub record Passed {T : Type 0} (tag_of : Message → List ℕ) (line : ℕ) (cou
   pub tagged : tag ≡ tag_of (Line line counter cipher)
   pub answered : told' ≡ after_line line (record { cipher = cipher; tag = tag }) told
   pub checked : engine' ≡ after_check line counter (record { cipher = cipher; tag = tag }) true engine
-  pub known : engine'.evidence ≡ None → Contains engine.made (Line line counter cipher)
+  pub genuine : IfSome engine'.evidence (IsEvidence tag_of engine.made)
+  pub long : length cipher ≡ 64
 
 -- it has another
 pub record Failed {T : Type 0} (tag_of : Message → List ℕ) (line : ℕ) (counter : Counter) (told told' : Told) (engine engine' : Engine T) : Type 0 where
   pub sealed : Sealed
   pub untagged : sealed.tag ≢ tag_of (Line line counter sealed.cipher)
   pub answered : told' ≡ after_line line sealed told
+  pub long : length sealed.cipher ≡ 64
   pub unchanged : engine' ≡ engine
 
 -- a line was read from its place and checked, or there was no memory to read it

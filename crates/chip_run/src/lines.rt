@@ -1,15 +1,17 @@
 // The lines of the protected memory: they stand outside the chip, each with a tag beside it and a counter on the chip.
-ghost use Rattle.std.specs.Prelude.{◌≡◌, ◌≢◌, ◌↔◌, ◌+◌, ◌*◌, ◌/◌, ◌<◌, ◌≤◌, ◌⊎◌, ◌∷◌, [], ℕ, None, Some, Ok, Err, IfOk, IfErr, OnOk, OnErr, IfSome, length, replicate};
+ghost use Rattle.std.specs.Prelude.{◌≡◌, ◌≢◌, ◌↔◌, ◌/◌, ◌<◌, ◌⊎◌, ◌∷◌, [], ℕ, None, Some, Ok, Err, IfOk, IfErr, OnOk, OnErr, IfSome, replicate};
+ghost use Rattle.sec_base.specs.Count.{Rose};
 ghost use Rattle.sec_base.specs.Layout.{IsPlace, line_count};
-ghost use Rattle.sec_base.specs.Lines.{IsLineCount, line_at, with_line};
+ghost use Rattle.sec_base.specs.Lines.{line_at, with_line};
 ghost use Rattle.sec_base.specs.Evidence.{IsEvidence, sealed_bytes};
+ghost use Rattle.sec_base.specs.declared.layout.Place.{Place};
 ghost use Rattle.sec_base.specs.declared.layout.Place.TheVariants.{Line as line_place};
-ghost use Rattle.sec_base.specs.declared.answers.MemStop.TheVariants.{Spent as spent_stop};
+ghost use Rattle.sec_base.specs.declared.answers.MemStop.{MemStop};
+ghost use Rattle.sec_base.specs.declared.answers.MemStop.TheVariants.{Tampered, Spent};
 ghost use Rattle.sec_base.specs.declared.account.Message.TheVariants.{Line};
 ghost use Rattle.bus_model.specs.Told.{after_write};
 ghost use Rattle.tag_engine.specs.Engine.{tags_of, after_make};
-ghost use Rattle.chip_run.specs.Contents.{contents_of, line_writes, IsSpent, HoldsLast};
-ghost use Rattle.chip_run.specs.Account.{HonestOrCaught, IsOfFirstLie};
+ghost use Rattle.chip_run.specs.Contents.{contents_of, line_writes};
 ghost use Rattle.chip_run.specs.Protected.{new_protected, lasting_stop, IsKept, Moves, ReadMoved, IsCheckedRead};
 
 use bus_model::Bus;
@@ -136,7 +138,31 @@ impl<B: Bus, T: Tagger> LineStore for LineMemory<B, T> {
     }
 
     // A line that was never written is zeros, without an access.
-    fn read_line(&mut self, line: u32) -> Result<[u8; 64], MemStop> {
+    fn read_line(&mut self, line: u32) -> Result<[u8; 64], MemStop>
+        requires inside { line < line_count self.old.engine.levels }
+
+        ensures value { self.old.stopped ≡ None → self.new.engine.evidence ≡ None →
+            IfOk result (λ bytes. bytes ≡ line_at (contents_of (line_count self.old.engine.levels) self.old.engine.made) line) }
+        ensures contents { self.old.stopped ≡ None → self.new.engine.evidence ≡ None →
+            contents_of (line_count self.new.engine.levels) self.new.engine.made
+            ≡ contents_of (line_count self.old.engine.levels) self.old.engine.made }
+
+        ensures goes_on { OnOk result (self.new.stopped ≡ self.old.stopped) }
+        ensures stops { self.old.stopped ≡ None → IfErr result (λ stop. self.new.stopped ≡ Some stop) }
+
+        ensures extent { line_count self.new.engine.levels ≡ line_count self.old.engine.levels }
+        ensures lost { self.new.engine.evidence ≡ None → self.old.engine.evidence ≡ None }
+        ensures moved { ReadMoved B.told self.old line self.new }
+
+        // A lasting stop is answered again, and nothing is done.
+        ensures kept { (stop : MemStop) → lasting_stop self.old.stopped ≡ Some stop → (result ≡ Err stop) × (self.new ≡ self.old) }
+
+        // Tampering comes only of this line, and where an answer was false.
+        ensures tampered { (place : Place) → lasting_stop self.old.stopped ≡ None → self.old.engine.evidence ≡ None →
+            result ≡ Err (Tampered place) → (place ≡ line_place line)
+            × Rose (B.told self.old.bus).lies (B.told self.new.bus).lies }
+        ensures unspent { (page : ℕ) → result ≢ Err (Spent page) }
+    {
         if let Some(stop) = lasting(self.stopped) {
             return Err(stop);
         }
@@ -153,7 +179,35 @@ impl<B: Bus, T: Tagger> LineStore for LineMemory<B, T> {
         }
     }
 
-    fn write_line(&mut self, line: u32, bytes: &[u8; 64]) -> Result<(), MemStop> {
+    fn write_line(&mut self, line: u32, bytes: &[u8; 64]) -> Result<(), MemStop>
+        requires inside { line < line_count self.old.engine.levels }
+
+        ensures stored { self.old.stopped ≡ None → self.new.engine.evidence ≡ None →
+            OnOk result (contents_of (line_count self.new.engine.levels) self.new.engine.made
+            ≡ with_line (contents_of (line_count self.old.engine.levels) self.old.engine.made) line bytes.now) }
+        ensures refused { self.old.stopped ≡ None → self.new.engine.evidence ≡ None → OnErr result (
+            (contents_of (line_count self.new.engine.levels) self.new.engine.made
+            ≡ contents_of (line_count self.old.engine.levels) self.old.engine.made)
+            ⊎ (contents_of (line_count self.new.engine.levels) self.new.engine.made
+            ≡ with_line (contents_of (line_count self.old.engine.levels) self.old.engine.made) line bytes.now)) }
+
+        ensures goes_on { OnOk result (self.new.stopped ≡ self.old.stopped) }
+        ensures stops { self.old.stopped ≡ None → IfErr result (λ stop. self.new.stopped ≡ Some stop) }
+
+        ensures extent { line_count self.new.engine.levels ≡ line_count self.old.engine.levels }
+        ensures lost { self.new.engine.evidence ≡ None → self.old.engine.evidence ≡ None }
+        ensures moved { Moves B.told self.old self.new }
+
+        // A lasting stop is answered again, and nothing is done.
+        ensures kept { (stop : MemStop) → lasting_stop self.old.stopped ≡ Some stop → (result ≡ Err stop) × (self.new ≡ self.old) }
+
+        // A line that was written as often as the limit allows is not written again, and nothing else is refused so.
+        ensures spent { lasting_stop self.old.stopped ≡ None →
+            ((result ≡ Err (Spent (line / 64))) ↔ (line_writes self.old.engine.made line ≡ self.old.limit)) }
+        ensures spent_stays { (page : ℕ) → result ≡ Err (Spent page) → (page ≡ line / 64)
+            × (self.new ≡ record self.old { stopped = Some (Spent page) }) }
+        ensures untampered { (place : Place) → lasting_stop self.old.stopped ≡ None → result ≢ Err (Tampered place) }
+    {
         if let Some(stop) = lasting(self.stopped) {
             return Err(stop);
         }
@@ -163,9 +217,12 @@ impl<B: Bus, T: Tagger> LineStore for LineMemory<B, T> {
             self.stopped = Some(stop);
             return Err(stop);
         }
-        if self.tags.reserve(1).is_err() {
-            self.stopped = Some(MemStop::NoMemory);
-            return Err(MemStop::NoMemory);
+        match self.tags.reserve(1) {
+            Ok(()) => {}
+            Err(_) => {
+                self.stopped = Some(MemStop::NoMemory);
+                return Err(MemStop::NoMemory);
+            }
         }
         let counter = counter_of(writes + 1);
         self.counters[line as usize] = writes + 1;

@@ -1,0 +1,558 @@
+-- What a protected memory keeps over a read and a write of a line.
+use Rattle.std.proofs.Common.{◌≡◌, ◌≢◌, ℕ, ◌+◌, ◌/◌, ◌<◌, ◌≤◌, ◌⊎◌, inl, inr, Bool, true, false, cond, nat_eq, List, [], ◌∷◌, ◌++◌, length, take, drop, Option, Some, None, IfSome, Contains, Result, Ok, Err, slice_index, slice_set, replicate, refl, ap, sym, ◌∙◌, subst, arith}
+use Rattle.std.specs.Option.{option_or}
+use Rattle.std.proofs.lemmas.Bool.{cases_eq}
+use Rattle.std.proofs.lemmas.Bool.Decides.{Decides-eqb}
+use Rattle.std.proofs.lemmas.List.{take_at, drop_at, take-append-le, take_all}
+use Rattle.sec_base.specs.Count.{more_by, Rose}
+use Rattle.sec_base.specs.Places.{at_place}
+use Rattle.sec_base.specs.declared.layout.Place.{Place}
+use Rattle.sec_base.specs.declared.layout.Place.TheVariants.{Line as line_place}
+use Rattle.sec_base.specs.declared.sealing.Counter.{Counter}
+use Rattle.sec_base.specs.declared.sealing.Sealed.{Sealed}
+use Rattle.sec_base.specs.declared.account.Message.{Message}
+use Rattle.sec_base.specs.declared.account.Message.TheVariants.{Line}
+use Rattle.sec_base.specs.declared.account.Evidence.{Evidence}
+use Rattle.sec_base.specs.declared.account.Evidence.TheVariants.{Forgery, Collision}
+use Rattle.sec_base.specs.declared.answers.MemStop.{MemStop}
+use Rattle.sec_base.specs.declared.answers.MemStop.TheVariants.{Tampered, Spent, NoMemory}
+use Rattle.sec_base.specs.Evidence.{sealed_bytes, sealed_of, LineFails, Fails, IsEvidence, HasLastCounter}
+use Rattle.sec_base.specs.Last.{last_at, last_data, last_pair, data_pairs}
+use Rattle.sec_base.specs.Layout.{line_count}
+use Rattle.sec_base.specs.Messages.{has_message}
+use Rattle.sec_base.proofs.SameMessages.{has_message-Decides}
+use Rattle.sec_base.proofs.SamePlaces.{at_place-here, at_place-there, false_from}
+use Rattle.bus_model.specs.Told.{Told, Lie, after_read, after_write, after_answer, after_lie, first_lie}
+use Rattle.bus_model.proofs.Steps.{true_or_false, answered, lied, read_levels, read_written}
+use Rattle.tag_engine.specs.Engine.{Engine, new_engine, tags_of, forgery_of, after_check, after_make, with_room}
+use Rattle.tag_engine.proofs.Forgeries.{known, still_genuine}
+use Rattle.chip_run.specs.Contents.{line_writes, writes_of, IsSpent, HoldsLast}
+use Rattle.chip_run.specs.Account.{HonestOrCaught, IsHonest, IsCaught, IsOfFirstLie}
+use Rattle.chip_run.specs.Protected.{Protected, IsKept, AreCounted, IsNumbered, Passed, Failed, IsCheckedRead, lasting_stop, after_line}
+use Rattle.chip_run.proofs.LineMessages.{some_same, last_data-same, last_data-other, last_made, last_pair-some, counted_new, counted_more}
+
+-- Sealed lines
+
+-- what their 80 bytes hold
+same_cipher : (cipher cipher' tag tag' : List ℕ) → length cipher ≡ 64 → length cipher' ≡ 64 → cipher ++ tag ≡ cipher' ++ tag' → cipher ≡ cipher'
+same_cipher cipher cipher' tag tag' long long' same =
+    sym (take_at cipher tag 64 long) ∙ ap (take 64) same ∙ take_at cipher' tag' 64 long'
+
+same_tag : (cipher cipher' tag tag' : List ℕ) → length cipher ≡ 64 → length cipher' ≡ 64 → cipher ++ tag ≡ cipher' ++ tag' → tag ≡ tag'
+same_tag cipher cipher' tag tag' long long' same =
+    sym (drop_at cipher tag 64 long) ∙ ap (drop 64) same ∙ drop_at cipher' tag' 64 long'
+
+-- The last message of a line that was written
+
+pub record LastOf (made : List Message) (line writes : ℕ) : Type 0 where
+  pub cipher : List ℕ
+  pub last : last_data line made ≡ Some (record { page = writes; line = 0 }, cipher)
+  pub long : length cipher ≡ 64
+
+counter_is : (counter : Counter) (writes : ℕ) → counter.page ≡ writes → counter.line ≡ 0 → counter ≡ record { page = writes; line = 0 }
+counter_is counter writes page own =
+    ap (λ (p : ℕ). record counter { page = p }) page ∙ ap (λ (l : ℕ). let c : Counter = record { page = writes; line = l } in c) own
+
+last_by : (lines limit : ℕ) (made : List Message) (counters : List ℕ) (line writes : ℕ) (last : Option (Counter × List ℕ)) →
+    AreCounted lines limit made counters → last_data line made ≡ last → writes_of last ≡ writes → writes ≢ 0 → LastOf made line writes
+last_by lines limit made counters line writes None counted is count some = absurd (some (sym count))
+last_by lines limit made counters line writes (Some last) counted is count some =
+    let numbered = counted.numbered line last.0 last.1 (last_made made line last.0 last.1 is) in
+    let counter : last.0 ≡ record { page = writes; line = 0 } = counter_is last.0 writes count numbered.own in
+    record {
+      cipher = last.1;
+      last = is ∙ ap (λ (c : Counter). Some (c, last.1)) counter;
+      long = numbered.long;
+    }
+
+pub last_of_written : (lines limit : ℕ) (made : List Message) (counters : List ℕ) (line writes : ℕ) → AreCounted lines limit made counters →
+    line < lines → writes ≡ slice_index counters line → writes ≢ 0 → LastOf made line writes
+last_of_written lines limit made counters line writes counted inside read some =
+    last_by lines limit made counters line writes (last_data line made) counted refl (sym (read ∙ counted.counts line inside)) some
+
+-- a message under the last counter is the last
+pub is_last : (lines limit : ℕ) (made : List Message) (counters : List ℕ) (line writes : ℕ) (cipher : List ℕ) → AreCounted lines limit made counters →
+    line < lines → writes ≡ slice_index counters line → Contains made (Line line (record { page = writes; line = 0 }) cipher) →
+    last_data line made ≡ Some (record { page = writes; line = 0 }, cipher)
+is_last lines limit made counters line writes cipher counted inside read listed =
+    (counted.numbered line (record { page = writes; line = 0 }) cipher listed).last (read ∙ counted.counts line inside)
+
+-- What was false
+
+-- no answer was, where nothing stopped the memory for good
+honest_by : (told : Told) (tag_of : Message → List ℕ) (made : List Message) (stopped : Option MemStop) → lasting_stop stopped ≡ None →
+    HonestOrCaught tag_of made told (λ place. stopped ≡ Some (Tampered place)) → told.lies ≡ 0
+honest_by told tag_of made stopped going (inl honest) = honest.lies
+honest_by told tag_of made stopped going (inr caught) =
+    let ended : lasting_stop stopped ≡ Some (Tampered caught.lie.place) = ap lasting_stop caught.ended in absurd (cc)
+
+untampered_by : (stopped : Option MemStop) (place : Place) → lasting_stop stopped ≡ None → stopped ≡ Some (Tampered place) → ⊥
+untampered_by stopped place going is =
+    let ended : lasting_stop stopped ≡ Some (Tampered place) = ap lasting_stop is in cc
+
+-- an honest memory, with another count of accesses or another stop
+honest_with : (tag_of : Message → List ℕ) (made : List Message) (told' : Told) (stopped' : Option MemStop) → told'.lies ≡ 0 →
+    ((place : Place) → stopped' ≡ Some (Tampered place) → ⊥) → HonestOrCaught tag_of made told' (λ place. stopped' ≡ Some (Tampered place))
+honest_with tag_of made told' stopped' none untampered = inl (record { lies = none; untampered = untampered })
+
+-- a lie that is not the first
+not_first : (lies : ℕ) (before : Option Lie) (now lie : Lie) → 0 < lies → before ≡ Some lie → first_lie lies before now ≡ Some lie
+not_first lies before now lie some first =
+    let none : nat_eq lies 0 ≡ false = false_from (nat_eq lies 0) (Decides-eqb lies 0) (λ (e : lies ≡ 0). omega arith) in
+    ap (λ (b : Bool). cond b (Some now) before) none ∙ first
+
+-- the first
+is_first : (lies : ℕ) (before : Option Lie) (now : Lie) → lies ≡ 0 → first_lie lies before now ≡ Some now
+is_first lies before now none =
+    let zero : nat_eq lies 0 ≡ true = (Decides-eqb lies 0).1 none in
+    ap (λ (b : Bool). cond b (Some now) before) zero
+
+-- the first false answer stays, whatever comes
+pub lie_stays : (told : Told) (place : Place) (bytes : List ℕ) (lie : Lie) → 0 < told.lies → told.lie ≡ Some lie →
+    (0 < (after_read place bytes told).lies) × ((after_read place bytes told).lie ≡ Some lie)
+lie_stays told place bytes lie some first =
+    elim (true_or_false place bytes told) [
+      | inl truly ↦ (subst (λ (t : Told). 0 < t.lies) (sym truly.1) some, ap (λ (t : Told). t.lie) truly.1 ∙ first)
+      | inr falsely ↦
+          let more : 0 < more_by 1 told.lies = omega arith in (
+            subst (λ (t : Told). 0 < t.lies) (sym falsely.1) more,
+            ap (λ (t : Told). t.lie) falsely.1
+            ∙ not_first told.lies told.lie (record { access = (after_answer place told).accesses; place = place; bytes = bytes }) lie some first,
+          )
+    ]
+
+-- the first false answer, as it comes
+pub record FirstLie (told : Told) (place : Place) (bytes : List ℕ) : Type 0 where
+  pub lies : told.lies ≡ 1
+  pub first : told.lie ≡ Some (record { access = told.accesses; place = place; bytes = bytes })
+
+pub lie_comes : (told : Told) (place : Place) (bytes : List ℕ) → told.lies ≡ 0 → bytes ≢ told.written place →
+    FirstLie (after_read place bytes told) place bytes
+lie_comes told place bytes none differs =
+    let is : after_read place bytes told ≡ after_lie place bytes (after_answer place told) = lied place bytes told differs in
+    let one : more_by 1 told.lies ≡ 1 = ap (more_by 1) none in
+    subst (λ (t : Told). FirstLie t place bytes) (sym is) (record {
+      lies = one;
+      first = is_first told.lies told.lie (record { access = (after_answer place told).accesses; place = place; bytes = bytes }) none;
+    })
+
+-- Evidence
+
+-- of a first false answer, when more answers came
+first_lie_stays : (told : Told) (made : List Message) (place : Place) (bytes : List ℕ) (evidence : Evidence) → IsOfFirstLie made told evidence →
+    IsOfFirstLie made (after_read place bytes told) evidence
+first_lie_stays told made place bytes evidence was =
+    let stays = lie_stays told place bytes was.lie was.lies was.first in
+    record {
+      lies = stays.0;
+      lie = was.lie;
+      first = stays.1;
+      place = was.place;
+      bytes = was.bytes;
+      counter = was.counter;
+    }
+
+same_counter : (tag_of : Message → List ℕ) (made more : List Message) (evidence : Evidence) → IsEvidence tag_of made evidence → HasLastCounter made evidence →
+    HasLastCounter (made ++ more) evidence
+same_counter tag_of made more (Forgery line counter sealed made_count) is was =
+    let front : take made_count (made ++ more) ≡ take made_count made = take-append-le made_count made more is.few in
+    ap (λ (xs : List Message). last_pair line (data_pairs xs)) front ∙ was
+same_counter tag_of made more (Collision level index made_at accepted tag) is was = tt
+
+-- and when more was made
+pub made_more : (tag_of : Message → List ℕ) (told told' : Told) (made more : List Message) (evidence : Evidence) → told'.lies ≡ told.lies → told'.lie ≡ told.lie →
+    IsEvidence tag_of made evidence → IsOfFirstLie made told evidence → IsOfFirstLie (made ++ more) told' evidence
+made_more tag_of told told' made more evidence lies lie is was = record {
+  lies = omega (arith, was.lies, lies);
+  lie = was.lie;
+  first = lie ∙ was.first;
+  place = was.place;
+  bytes = was.bytes;
+  counter = same_counter tag_of made more evidence is was.counter;
+}
+
+shown_by : (made : List Message) (line : ℕ) (counter : Counter) (sealed : Sealed) (evidence : Evidence) (had : Bool) →
+    has_message made (Line line counter sealed.cipher) ≡ had → forgery_of made line counter sealed true ≡ Some evidence →
+    (evidence ≡ Forgery line counter sealed (length made)) × (Contains made (Line line counter sealed.cipher) → ⊥)
+unfolding forgery_of
+shown_by made line counter sealed evidence true had shown =
+    let none : forgery_of made line counter sealed true ≡ None = rw had refl in absurd (cc)
+shown_by made line counter sealed evidence false had shown =
+    let some : forgery_of made line counter sealed true ≡ Some (Forgery line counter sealed (length made)) = rw had refl in (
+      cc,
+      λ listed. let has : has_message made (Line line counter sealed.cipher) ≡ true = (has_message-Decides made (Line line counter sealed.cipher)).1 listed in absurd (cc),
+    )
+
+-- what a check shows is a forgery of the line, under the counter
+shown_is : (made : List Message) (line : ℕ) (counter : Counter) (sealed : Sealed) (evidence : Evidence) →
+    forgery_of made line counter sealed true ≡ Some evidence →
+    (evidence ≡ Forgery line counter sealed (length made)) × (Contains made (Line line counter sealed.cipher) → ⊥)
+shown_is made line counter sealed evidence shown =
+    shown_by made line counter sealed evidence (has_message made (Line line counter sealed.cipher)) refl shown
+
+-- a stop of the memory, and nothing else
+pub ended_kept : {B T : Type 0} (d n : T → List ℕ → List ℕ) (told : Told) (bus bus' : B) (engine : Engine T) (counters : List ℕ) (limit : ℕ) (stopped : Option MemStop) (stop : MemStop) →
+    IsKept (tags_of d n engine) told (record { bus = bus; engine = engine; counters = counters; limit = limit; stopped = stopped }) → lasting_stop stopped ≡ None →
+    ((page : ℕ) → stop ≡ Spent page → IsSpent (line_count engine.levels) limit engine.made page) → ((place : Place) → stop ≢ Tampered place) →
+    (lasting_stop (Some stop) ≡ None → lasting_stop stopped ≡ None) →
+    IsKept (tags_of d n engine) told (record { bus = bus'; engine = engine; counters = counters; limit = limit; stopped = Some stop })
+ended_kept d n told bus bus' engine counters limit stopped stop kept going spent untampered goes = record {
+  levels = kept.levels;
+  counted = kept.counted;
+  stored = λ quiet goes_on. kept.stored quiet (goes goes_on);
+  answers = λ quiet. honest_with (tags_of d n engine) engine.made told (Some stop)
+      (honest_by told (tags_of d n engine) engine.made stopped going (kept.answers quiet)) (λ place is. untampered place (some_same stop (Tampered place) is));
+  genuine = kept.genuine;
+  shown = kept.shown;
+  spent = λ page is. spent page (some_same stop (Spent page) is);
+}
+
+some_holds : {A : Type 0} (o : Option A) (x : A) (P : A → Type 0) → o ≡ Some x → IfSome o P → P x
+some_holds None x P is holds = absurd (cc)
+some_holds (Some y) x P is holds = let same : y ≡ x = cc in subst P same holds
+
+-- a line whose counters are used up
+pub spent_kept : {B T : Type 0} (d n : T → List ℕ → List ℕ) (told : Told) (bus bus' : B) (engine : Engine T) (counters : List ℕ) (limit : ℕ) (stopped : Option MemStop) (line : ℕ) →
+    IsKept (tags_of d n engine) told (record { bus = bus; engine = engine; counters = counters; limit = limit; stopped = stopped }) → lasting_stop stopped ≡ None →
+    line < line_count engine.levels → line_writes engine.made line ≡ limit →
+    IsKept (tags_of d n engine) told (record { bus = bus'; engine = engine; counters = counters; limit = limit; stopped = Some (Spent (line / 64)) })
+spent_kept d n told bus bus' engine counters limit stopped line kept going inside full =
+    ended_kept d n told bus bus' engine counters limit stopped (Spent (line / 64)) kept going
+    (λ page is. let of_page : line / 64 ≡ page = cc in record { line = line; inside = inside; of_page = of_page; used_up = full })
+    (λ place is. absurd (cc)) (λ goes_on. going)
+
+-- no memory, and nothing else
+pub memory_kept : {B T : Type 0} (d n : T → List ℕ → List ℕ) (told : Told) (bus bus' : B) (engine : Engine T) (counters : List ℕ) (limit : ℕ) (stopped : Option MemStop) (engine' : Engine T) →
+    IsKept (tags_of d n engine) told (record { bus = bus; engine = engine; counters = counters; limit = limit; stopped = stopped }) → lasting_stop stopped ≡ None →
+    engine' ≡ engine →
+    IsKept (tags_of d n engine') told (record { bus = bus'; engine = engine'; counters = counters; limit = limit; stopped = Some NoMemory })
+memory_kept {B} {T} d n told bus bus' engine counters limit stopped engine' kept going same =
+    subst (λ (e : Engine T). IsKept (tags_of d n e) told (record { bus = bus'; engine = e; counters = counters; limit = limit; stopped = Some NoMemory })) (sym same)
+    (ended_kept d n told bus bus' engine counters limit stopped NoMemory kept going (λ page is. absurd (cc)) (λ place is. absurd (cc)) (λ goes_on. absurd (cc)))
+
+or_none : {A : Type 0} (first second : Option A) → option_or first second ≡ None → second ≡ None
+or_none None second none = none
+or_none (Some x) second none = absurd (cc)
+
+-- A read that was answered
+
+-- a line's place holds its last message
+held_there : (tag_of : Message → List ℕ) (lines line writes : ℕ) (made : List Message) (written : Place → List ℕ) (last : LastOf made line writes) →
+    HoldsLast tag_of lines made written → line < lines →
+    written (line_place line) ≡ last.cipher ++ tag_of (Line line (record { page = writes; line = 0 }) last.cipher)
+held_there tag_of lines line writes made written last stored inside =
+    stored.holds line (record { page = writes; line = 0 }) last.cipher inside last.last
+
+-- a line without its tag is not what was written
+failed_differs : (tag_of : Message → List ℕ) (lines line writes : ℕ) (made : List Message) (written : Place → List ℕ) (last : LastOf made line writes) (sealed : Sealed) →
+    HoldsLast tag_of lines made written → line < lines → length sealed.cipher ≡ 64 →
+    sealed.tag ≢ tag_of (Line line (record { page = writes; line = 0 }) sealed.cipher) → sealed_bytes sealed ≢ written (line_place line)
+failed_differs tag_of lines line writes made written last sealed stored inside long untagged = λ same.
+    let counter : Counter = record { page = writes; line = 0 } in
+    let whole : sealed.cipher ++ sealed.tag ≡ last.cipher ++ tag_of (Line line counter last.cipher) =
+    same ∙ held_there tag_of lines line writes made written last stored inside in
+    let cipher : sealed.cipher ≡ last.cipher = same_cipher sealed.cipher last.cipher sealed.tag (tag_of (Line line counter last.cipher)) long last.long whole in
+    let tag : sealed.tag ≡ tag_of (Line line counter last.cipher) =
+    same_tag sealed.cipher last.cipher sealed.tag (tag_of (Line line counter last.cipher)) long last.long whole in
+    untagged (tag ∙ ap (λ (x : List ℕ). tag_of (Line line counter x)) (sym cipher))
+
+-- nor is a line with the tag of a message that was never made
+forged_differs : (tag_of : Message → List ℕ) (lines line writes : ℕ) (made : List Message) (written : Place → List ℕ) (last : LastOf made line writes) (sealed : Sealed) →
+    HoldsLast tag_of lines made written → line < lines → length sealed.cipher ≡ 64 →
+    (Contains made (Line line (record { page = writes; line = 0 }) sealed.cipher) → ⊥) → sealed_bytes sealed ≢ written (line_place line)
+forged_differs tag_of lines line writes made written last sealed stored inside long never = λ same.
+    let counter : Counter = record { page = writes; line = 0 } in
+    let whole : sealed.cipher ++ sealed.tag ≡ last.cipher ++ tag_of (Line line counter last.cipher) =
+    same ∙ held_there tag_of lines line writes made written last stored inside in
+    let cipher : sealed.cipher ≡ last.cipher = same_cipher sealed.cipher last.cipher sealed.tag (tag_of (Line line counter last.cipher)) long last.long whole in
+    never (subst (λ (x : List ℕ). Contains made (Line line counter x)) (sym cipher) (last_made made line counter last.cipher last.last))
+
+-- a line with the tag of a message that was made under its last counter is what was written
+passed_same : (tag_of : Message → List ℕ) (lines line writes : ℕ) (made : List Message) (written : Place → List ℕ) (cipher tag : List ℕ) →
+    HoldsLast tag_of lines made written → line < lines → tag ≡ tag_of (Line line (record { page = writes; line = 0 }) cipher) →
+    last_data line made ≡ Some (record { page = writes; line = 0 }, cipher) → cipher ++ tag ≡ written (line_place line)
+passed_same tag_of lines line writes made written cipher tag stored inside tagged last =
+    ap (λ (t : List ℕ). cipher ++ t) tagged ∙ sym (stored.holds line (record { page = writes; line = 0 }) cipher inside last)
+
+-- a line without its tag fails its check
+line_fails : (tag_of : Message → List ℕ) (made : List Message) (line : ℕ) (counter : Counter) (cipher : List ℕ) (sealed : Sealed) → length sealed.cipher ≡ 64 →
+    last_data line made ≡ Some (counter, cipher) → sealed.tag ≢ tag_of (Line line counter sealed.cipher) →
+    LineFails tag_of (data_pairs made) line (sealed_of (sealed_bytes sealed))
+line_fails tag_of made line counter cipher sealed long last untagged =
+    let cipher_is : take 64 (sealed.cipher ++ sealed.tag) ≡ sealed.cipher = take_at sealed.cipher sealed.tag 64 long in
+    let tag_is : drop 64 (sealed.cipher ++ sealed.tag) ≡ sealed.tag = drop_at sealed.cipher sealed.tag 64 long in
+    let fails : LineFails tag_of (data_pairs made) line sealed =
+    record { counter = counter; last = last_pair-some made line counter cipher last; fails = untagged } in
+    subst (λ (x : List ℕ). LineFails tag_of (data_pairs made) line (record { cipher = x; tag = drop 64 (sealed.cipher ++ sealed.tag) })) (sym cipher_is)
+    (subst (λ (y : List ℕ). LineFails tag_of (data_pairs made) line (record { cipher = sealed.cipher; tag = y })) (sym tag_is) fails)
+
+module _ {B T : Type 0} (d n : T → List ℕ → List ℕ) (told : Told) (bus bus' : B) (engine : Engine T) (counters : List ℕ) (limit : ℕ) (stopped : Option MemStop) (line writes : ℕ)
+    (kept : IsKept (tags_of d n engine) told (record { bus = bus; engine = engine; counters = counters; limit = limit; stopped = stopped }))
+    (going : lasting_stop stopped ≡ None) (inside : line < line_count engine.levels) (read : writes ≡ slice_index counters line) (some : writes ≢ 0) where
+
+  none_lied : engine.evidence ≡ None → told.lies ≡ 0
+  none_lied quiet = honest_by told (tags_of d n engine) engine.made stopped going (kept.answers quiet)
+
+  last_there : LastOf engine.made line writes
+  last_there = last_of_written (line_count engine.levels) limit engine.made counters line writes kept.counted inside read some
+
+  -- the memory after an answer
+  answered_kept : (bytes : List ℕ) (evidence : Option Evidence) (stopped' : Option MemStop) →
+      (evidence ≡ None → engine.evidence ≡ None) → (lasting_stop stopped' ≡ None → stopped' ≡ stopped) →
+      ((page : ℕ) → stopped' ≡ Some (Spent page) → stopped ≡ Some (Spent page)) →
+      (evidence ≡ None → HonestOrCaught (tags_of d n engine) engine.made (after_read (line_place line) bytes told) (λ place. stopped' ≡ Some (Tampered place))) →
+      IfSome evidence (IsEvidence (tags_of d n engine) engine.made) →
+      ((e : Evidence) → evidence ≡ Some e → IsOfFirstLie engine.made (after_read (line_place line) bytes told) e) →
+      IsKept (tags_of d n engine) (after_read (line_place line) bytes told) (record { bus = bus'; engine = record engine { evidence = evidence }; counters = counters; limit = limit; stopped = stopped' })
+  answered_kept bytes evidence stopped' quiet goes spent answers genuine shown = record {
+    levels = read_levels (line_place line) bytes told ∙ kept.levels;
+    counted = kept.counted;
+    stored = λ none goes_on.
+        let was = kept.stored (quiet none) (ap lasting_stop (sym (goes goes_on)) ∙ goes_on) in
+        record { holds = λ l counter cipher below last.
+            ap (λ (written : Place → List ℕ). written (line_place l)) (read_written (line_place line) bytes told) ∙ was.holds l counter cipher below last };
+    answers = answers;
+    genuine = genuine;
+    shown = shown;
+    spent = λ page is. kept.spent page (spent page is);
+  }
+
+  -- where it was false and fails its check
+  failed_answers : (sealed : Sealed) → length sealed.cipher ≡ 64 →
+      sealed.tag ≢ tags_of d n engine (Line line (record { page = writes; line = 0 }) sealed.cipher) → engine.evidence ≡ None →
+      HonestOrCaught (tags_of d n engine) engine.made (after_line line sealed told) (λ place. Some (Tampered (line_place line)) ≡ Some (Tampered place))
+  failed_answers sealed long untagged quiet =
+      let counter : Counter = record { page = writes; line = 0 } in
+      let differs = failed_differs (tags_of d n engine) (line_count engine.levels) line writes engine.made told.written last_there sealed (kept.stored quiet going) inside long untagged in
+      let lie = lie_comes told (line_place line) (sealed_bytes sealed) (none_lied quiet) differs in
+      inr (record {
+        lies = lie.lies;
+        lie = record { access = (after_line line sealed told).accesses; place = line_place line; bytes = sealed_bytes sealed };
+        first = lie.first;
+        last = refl;
+        fails = line_fails (tags_of d n engine) engine.made line counter last_there.cipher sealed long last_there.last untagged;
+        ended = refl;
+      })
+
+  failed_kept : (sealed : Sealed) → length sealed.cipher ≡ 64 →
+      sealed.tag ≢ tags_of d n engine (Line line (record { page = writes; line = 0 }) sealed.cipher) →
+      IsKept (tags_of d n engine) (after_line line sealed told) (record { bus = bus'; engine = engine; counters = counters; limit = limit; stopped = Some (Tampered (line_place line)) })
+  failed_kept sealed long untagged =
+      answered_kept (sealed_bytes sealed) engine.evidence (Some (Tampered (line_place line)))
+      (λ none. none) (λ goes_on. absurd (cc)) (λ page is. absurd (cc))
+      (failed_answers sealed long untagged) kept.genuine
+      (λ e is. first_lie_stays told engine.made (line_place line) (sealed_bytes sealed) e (kept.shown e is))
+
+  -- it comes where an answer was false
+  pub tampered_lied : (told' : Told) (engine' : Engine T) (place : Place) → engine.evidence ≡ None →
+      IsCheckedRead (tags_of d n engine) line (record { page = writes; line = 0 }) told told' engine engine' (Err (Tampered place)) →
+      (place ≡ line_place line) × Rose told.lies told'.lies
+  tampered_lied told' engine' place quiet result =
+      let sealed = result.1.sealed in
+      let differs = failed_differs (tags_of d n engine) (line_count engine.levels) line writes engine.made told.written last_there sealed (kept.stored quiet going) inside result.1.long result.1.untagged in
+      let lie = lie_comes told (line_place line) (sealed_bytes sealed) (none_lied quiet) differs in
+      let more : told'.lies ≡ 1 = ap (λ (t : Told). t.lies) result.1.answered ∙ lie.lies in
+      (result.0, omega (arith, more, none_lied quiet))
+
+  -- where it passes, and shows nothing
+  passed_answers : (cipher tag : List ℕ) → tag ≡ tags_of d n engine (Line line (record { page = writes; line = 0 }) cipher) → engine.evidence ≡ None →
+      Contains engine.made (Line line (record { page = writes; line = 0 }) cipher) →
+      HonestOrCaught (tags_of d n engine) engine.made (after_read (line_place line) (cipher ++ tag) told) (λ place. stopped ≡ Some (Tampered place))
+  passed_answers cipher tag tagged quiet listed =
+      let last = is_last (line_count engine.levels) limit engine.made counters line writes cipher kept.counted inside read listed in
+      let same = passed_same (tags_of d n engine) (line_count engine.levels) line writes engine.made told.written cipher tag (kept.stored quiet going) inside tagged last in
+      let is : after_read (line_place line) (cipher ++ tag) told ≡ after_answer (line_place line) told = answered (line_place line) (cipher ++ tag) told same in
+      honest_with (tags_of d n engine) engine.made (after_read (line_place line) (cipher ++ tag) told) stopped
+      (ap (λ (t : Told). t.lies) is ∙ none_lied quiet) (λ place tampered. untampered_by stopped place going tampered)
+
+  -- where it passes, and shows a forgery
+  shown_first : (cipher tag : List ℕ) (evidence : Evidence) → length cipher ≡ 64 → engine.evidence ≡ None →
+      forgery_of engine.made line (record { page = writes; line = 0 }) (record { cipher = cipher; tag = tag }) true ≡ Some evidence →
+      IsOfFirstLie engine.made (after_read (line_place line) (cipher ++ tag) told) evidence
+  shown_first cipher tag evidence long quiet shown =
+      let counter : Counter = record { page = writes; line = 0 } in
+      let sealed : Sealed = record { cipher = cipher; tag = tag } in
+      let is = shown_is engine.made line counter sealed evidence shown in
+      let differs = forged_differs (tags_of d n engine) (line_count engine.levels) line writes engine.made told.written last_there sealed (kept.stored quiet going) inside long is.1 in
+      let lie = lie_comes told (line_place line) (cipher ++ tag) (none_lied quiet) differs in
+      let told' : Told = after_read (line_place line) (cipher ++ tag) told in
+      let whole : take (length engine.made) engine.made ≡ engine.made = take_all (length engine.made) engine.made (omega arith) in
+      subst (λ (e : Evidence). IsOfFirstLie engine.made told' e) (sym is.0) (record {
+        lies = omega (arith, lie.lies);
+        lie = record { access = told'.accesses; place = line_place line; bytes = cipher ++ tag };
+        first = lie.first;
+        place = refl;
+        bytes = refl;
+        counter = ap (λ (xs : List Message). last_pair line (data_pairs xs)) whole ∙ last_pair-some engine.made line counter last_there.cipher last_there.last;
+      })
+
+  passed_quiet : (cipher tag : List ℕ) → tag ≡ tags_of d n engine (Line line (record { page = writes; line = 0 }) cipher) → engine.evidence ≡ None →
+      forgery_of engine.made line (record { page = writes; line = 0 }) (record { cipher = cipher; tag = tag }) true ≡ None →
+      HonestOrCaught (tags_of d n engine) engine.made (after_read (line_place line) (cipher ++ tag) told) (λ place. stopped ≡ Some (Tampered place))
+  passed_quiet cipher tag tagged quiet none =
+      passed_answers cipher tag tagged quiet (known engine.made line (record { page = writes; line = 0 }) (record { cipher = cipher; tag = tag }) none)
+
+  passed_by : (cipher tag : List ℕ) (before : Option Evidence) → length cipher ≡ 64 → tag ≡ tags_of d n engine (Line line (record { page = writes; line = 0 }) cipher) →
+      engine.evidence ≡ before →
+      IfSome (option_or before (forgery_of engine.made line (record { page = writes; line = 0 }) (record { cipher = cipher; tag = tag }) true)) (IsEvidence (tags_of d n engine) engine.made) →
+      IsKept (tags_of d n engine) (after_read (line_place line) (cipher ++ tag) told) (record {
+        bus = bus';
+        engine = record engine { evidence = option_or before (forgery_of engine.made line (record { page = writes; line = 0 }) (record { cipher = cipher; tag = tag }) true) };
+        counters = counters;
+        limit = limit;
+        stopped = stopped;
+      })
+  passed_by cipher tag None long tagged was genuine =
+      answered_kept (cipher ++ tag) (forgery_of engine.made line (record { page = writes; line = 0 }) (record { cipher = cipher; tag = tag }) true) stopped
+      (λ none. was) (λ goes_on. refl) (λ page is. is)
+      (λ none. passed_quiet cipher tag tagged was none) genuine
+      (λ e is. shown_first cipher tag e long was is)
+  passed_by cipher tag (Some first) long tagged was genuine =
+      answered_kept (cipher ++ tag) (Some first) stopped
+      (λ none. absurd (cc)) (λ goes_on. refl) (λ page is. is) (λ none. absurd (cc)) genuine
+      (λ e is. first_lie_stays told engine.made (line_place line) (cipher ++ tag) e (kept.shown e (was ∙ is)))
+
+  -- a line that passed its check
+  pub passed_kept : (told' : Told) (engine' : Engine T) (cipher : List ℕ) →
+      Passed (tags_of d n engine) line (record { page = writes; line = 0 }) told told' engine engine' cipher →
+      IsKept (tags_of d n engine') told' (record { bus = bus'; engine = engine'; counters = counters; limit = limit; stopped = stopped })
+  passed_kept told' engine' cipher passed =
+      let genuine = subst (λ (e : Engine T). IfSome e.evidence (IsEvidence (tags_of d n engine) engine.made)) passed.checked passed.genuine in
+      subst (λ (t : Told). IsKept (tags_of d n engine') t (record { bus = bus'; engine = engine'; counters = counters; limit = limit; stopped = stopped })) (sym passed.answered)
+      (subst (λ (e : Engine T). IsKept (tags_of d n e) (after_read (line_place line) (cipher ++ passed.tag) told) (record { bus = bus'; engine = e; counters = counters; limit = limit; stopped = stopped }))
+      (sym passed.checked) (passed_by cipher passed.tag engine.evidence passed.long passed.tagged refl genuine))
+
+  -- and gave its last bytes, where nothing is shown
+  pub passed_bytes : (told' : Told) (engine' : Engine T) (cipher : List ℕ) →
+      Passed (tags_of d n engine) line (record { page = writes; line = 0 }) told told' engine engine' cipher → engine'.evidence ≡ None →
+      last_data line engine.made ≡ Some (record { page = writes; line = 0 }, cipher)
+  passed_bytes told' engine' cipher passed quiet =
+      let counter : Counter = record { page = writes; line = 0 } in
+      let none : option_or engine.evidence (forgery_of engine.made line counter (record { cipher = cipher; tag = passed.tag }) true) ≡ None =
+      ap (λ (e : Engine T). e.evidence) (sym passed.checked) ∙ quiet in
+      is_last (line_count engine.levels) limit engine.made counters line writes cipher kept.counted inside read
+      (known engine.made line counter (record { cipher = cipher; tag = passed.tag }) (or_none engine.evidence (forgery_of engine.made line counter (record { cipher = cipher; tag = passed.tag }) true) none))
+
+  -- a line that stopped the memory
+  pub stopped_kept : (told' : Told) (engine' : Engine T) (stop : MemStop) →
+      IsCheckedRead (tags_of d n engine) line (record { page = writes; line = 0 }) told told' engine engine' (Err stop) →
+      IsKept (tags_of d n engine') told' (record { bus = bus'; engine = engine'; counters = counters; limit = limit; stopped = Some stop })
+  stopped_kept told' engine' (Spent page) result = absurd result
+  stopped_kept told' engine' NoMemory result =
+      subst (λ (t : Told). IsKept (tags_of d n engine') t (record { bus = bus'; engine = engine'; counters = counters; limit = limit; stopped = Some NoMemory })) (sym result.0)
+      (subst (λ (e : Engine T). IsKept (tags_of d n e) told (record { bus = bus'; engine = e; counters = counters; limit = limit; stopped = Some NoMemory })) (sym result.1)
+      (ended_kept d n told bus bus' engine counters limit stopped NoMemory kept going (λ page is. absurd (cc)) (λ place is. absurd (cc)) (λ goes_on. absurd (cc))))
+  stopped_kept told' engine' (Tampered place) result =
+      subst (λ (p : Place). IsKept (tags_of d n engine') told' (record { bus = bus'; engine = engine'; counters = counters; limit = limit; stopped = Some (Tampered p) })) (sym result.0)
+      (subst (λ (t : Told). IsKept (tags_of d n engine') t (record { bus = bus'; engine = engine'; counters = counters; limit = limit; stopped = Some (Tampered (line_place line)) })) (sym result.1.answered)
+      (subst (λ (e : Engine T). IsKept (tags_of d n e) (after_line line result.1.sealed told) (record { bus = bus'; engine = e; counters = counters; limit = limit; stopped = Some (Tampered (line_place line)) })) (sym result.1.unchanged)
+      (failed_kept result.1.sealed result.1.long result.1.untagged)))
+
+-- a memory that was never written
+pub kept_new : {B T : Type 0} (d n : T → List ℕ → List ℕ) (told : Told) (bus : B) (tagger : T) (levels limit : ℕ) (engine : Engine T) (counters : List ℕ) →
+    engine ≡ new_engine tagger levels → counters ≡ replicate (line_count levels) 0 → told.levels ≡ levels → told.lies ≡ 0 →
+    IsKept (tags_of d n engine) told (record { bus = bus; engine = engine; counters = counters; limit = limit; stopped = None })
+unfolding last_at
+kept_new {B} {T} d n told bus tagger levels limit engine counters new zeros same none =
+    subst (λ (e : Engine T). IsKept (tags_of d n e) told (record { bus = bus; engine = e; counters = counters; limit = limit; stopped = None })) (sym new)
+    (record {
+      levels = same;
+      counted = subst (λ (xs : List ℕ). AreCounted (line_count levels) limit [] xs) (sym zeros) (counted_new (line_count levels) limit);
+      stored = λ quiet goes_on. record { holds = λ line counter cipher inside last. absurd (cc) };
+      answers = λ quiet. inl (record { lies = none; untampered = λ place is. absurd (cc) });
+      genuine = tt;
+      shown = λ evidence is. absurd (cc);
+      spent = λ page is. absurd (cc);
+    })
+
+-- A write
+
+module _ {B T : Type 0} (d n : T → List ℕ → List ℕ) (told : Told) (bus bus' : B) (engine engine' : Engine T) (counters counters' : List ℕ) (limit : ℕ) (stopped : Option MemStop) (line writes : ℕ) (bytes : List ℕ)
+    (kept : IsKept (tags_of d n engine) told (record { bus = bus; engine = engine; counters = counters; limit = limit; stopped = stopped }))
+    (going : lasting_stop stopped ≡ None) (inside : line < line_count engine.levels) (read : writes ≡ slice_index counters line)
+    (below : writes < limit) (long : length bytes ≡ 64) (set : counters' ≡ slice_set counters line (writes + 1))
+    (tagged : engine' ≡ after_make (Line line (record { page = writes + 1; line = 0 }) bytes) (with_room 1 engine)) where
+
+  made_is : engine'.made ≡ engine.made ++ Line line (record { page = writes + 1; line = 0 }) bytes ∷ []
+  made_is = ap (λ (e : Engine T). e.made) tagged
+
+  write_counted : AreCounted (line_count engine.levels) limit (engine.made ++ Line line (record { page = writes + 1; line = 0 }) bytes ∷ []) counters'
+  write_counted = counted_more (line_count engine.levels) limit engine.made counters counters' line writes bytes kept.counted inside
+      (read ∙ kept.counted.counts line inside) below long set
+
+  -- a line whose counters are used up is not this one
+  spent_stays : (page : ℕ) → IsSpent (line_count engine.levels) limit engine.made page →
+      IsSpent (line_count engine.levels) limit (engine.made ++ Line line (record { page = writes + 1; line = 0 }) bytes ∷ []) page
+  spent_stays page spent =
+      let used : line_writes engine.made spent.line ≡ limit = spent.used_up in
+      let count : writes ≡ line_writes engine.made line = read ∙ kept.counted.counts line inside in
+      let differs : spent.line ≢ line = λ same. let here = ap (line_writes engine.made) same in omega (arith, below, used, count, here) in
+      record {
+        line = spent.line;
+        inside = spent.inside;
+        of_page = spent.of_page;
+        used_up = ap writes_of (last_data-other engine.made line spent.line (record { page = writes + 1; line = 0 }) bytes differs) ∙ used;
+      }
+
+  wrote_kept : (told' : Told) (stopped' : Option MemStop) → told'.levels ≡ told.levels → told'.lies ≡ told.lies → told'.lie ≡ told.lie →
+      (lasting_stop stopped' ≡ None → engine.evidence ≡ None → HoldsLast (tags_of d n engine) (line_count engine.levels)
+      (engine.made ++ Line line (record { page = writes + 1; line = 0 }) bytes ∷ []) told'.written) →
+      ((place : Place) → stopped' ≡ Some (Tampered place) → ⊥) → ((page : ℕ) → stopped' ≡ Some (Spent page) → stopped ≡ Some (Spent page)) →
+      IsKept (tags_of d n (after_make (Line line (record { page = writes + 1; line = 0 }) bytes) (with_room 1 engine))) told' (record {
+        bus = bus';
+        engine = after_make (Line line (record { page = writes + 1; line = 0 }) bytes) (with_room 1 engine);
+        counters = counters';
+        limit = limit;
+        stopped = stopped';
+      })
+  wrote_kept told' stopped' levels lies lie stored untampered spent = record {
+    levels = levels ∙ kept.levels;
+    counted = write_counted;
+    stored = λ quiet goes_on. stored goes_on quiet;
+    answers = λ quiet. honest_with (tags_of d n engine) (engine.made ++ Line line (record { page = writes + 1; line = 0 }) bytes ∷ []) told' stopped'
+        (lies ∙ honest_by told (tags_of d n engine) engine.made stopped going (kept.answers quiet)) untampered;
+    genuine = still_genuine (tags_of d n engine) engine.made (Line line (record { page = writes + 1; line = 0 }) bytes ∷ []) engine.evidence kept.genuine;
+    shown = λ e is. made_more (tags_of d n engine) told told' engine.made (Line line (record { page = writes + 1; line = 0 }) bytes ∷ []) e lies lie
+        (some_holds engine.evidence e (IsEvidence (tags_of d n engine) engine.made) is kept.genuine) (kept.shown e is);
+    spent = λ page is. spent_stays page (kept.spent page (spent page is));
+  }
+
+  stored_more : engine.evidence ≡ None → HoldsLast (tags_of d n engine) (line_count engine.levels) (engine.made ++ Line line (record { page = writes + 1; line = 0 }) bytes ∷ [])
+      (at_place (line_place line) (bytes ++ tags_of d n engine (Line line (record { page = writes + 1; line = 0 }) bytes)) told.written)
+  stored_more quiet =
+      let counter : Counter = record { page = writes + 1; line = 0 } in
+      let made : List Message = engine.made ++ Line line counter bytes ∷ [] in
+      let tag : List ℕ = tags_of d n engine (Line line counter bytes) in
+      record { holds = λ other counter' cipher within last.
+          elim (cases_eq other line) [
+            | inl same ↦
+                let here : last_data other made ≡ Some (counter, bytes) = ap (λ (l : ℕ). last_data l made) same ∙ last_data-same engine.made line counter bytes in
+                let pair : (counter, bytes) ≡ (counter', cipher) = some_same (counter, bytes) (counter', cipher) (sym here ∙ last) in
+                ap (λ (l : ℕ). at_place (line_place line) (bytes ++ tag) told.written (line_place l)) same
+                ∙ at_place-here (line_place line) (bytes ++ tag) told.written
+                ∙ ap (λ (p : Counter × List ℕ). p.1 ++ tags_of d n engine (Line line p.0 p.1)) pair
+                ∙ ap (λ (l : ℕ). cipher ++ tags_of d n engine (Line l counter' cipher)) (sym same)
+            | inr differs ↦
+                let apart : line_place other ≢ line_place line = λ e. differs (cc) in
+                at_place-there (line_place line) (line_place other) (bytes ++ tag) told.written apart
+                ∙ (kept.stored quiet going).holds other counter' cipher within (sym (last_data-other engine.made line other counter bytes differs) ∙ last)
+          ] }
+
+  -- a line and its tag were written
+  pub written_kept : (told' : Told) →
+      told' ≡ after_write (line_place line) (bytes ++ tags_of d n engine (Line line (record { page = writes + 1; line = 0 }) bytes)) told →
+      IsKept (tags_of d n engine') told' (record { bus = bus'; engine = engine'; counters = counters'; limit = limit; stopped = stopped })
+  unfolding after_write
+  written_kept told' wrote =
+      subst (λ (e : Engine T). IsKept (tags_of d n e) told' (record { bus = bus'; engine = e; counters = counters'; limit = limit; stopped = stopped })) (sym tagged)
+      (wrote_kept told' stopped (ap (λ (t : Told). t.levels) wrote) (ap (λ (t : Told). t.lies) wrote) (ap (λ (t : Told). t.lie) wrote)
+      (λ goes_on quiet. subst (λ (t : Told). HoldsLast (tags_of d n engine) (line_count engine.levels) (engine.made ++ Line line (record { page = writes + 1; line = 0 }) bytes ∷ []) t.written) (sym wrote) (stored_more quiet))
+      (λ place is. untampered_by stopped place going is) (λ page is. is))
+
+  -- there was no memory to write them
+  pub unwritten_kept : (told' : Told) → told' ≡ told →
+      IsKept (tags_of d n engine') told' (record { bus = bus'; engine = engine'; counters = counters'; limit = limit; stopped = Some NoMemory })
+  unwritten_kept told' same =
+      subst (λ (e : Engine T). IsKept (tags_of d n e) told' (record { bus = bus'; engine = e; counters = counters'; limit = limit; stopped = Some NoMemory })) (sym tagged)
+      (wrote_kept told' (Some NoMemory) (ap (λ (t : Told). t.levels) same) (ap (λ (t : Told). t.lies) same) (ap (λ (t : Told). t.lie) same)
+      (λ goes_on quiet. absurd (cc)) (λ place is. absurd (cc)) (λ page is. absurd (cc)))
