@@ -1,2 +1,3 @@
 pub mod Loading
 pub mod Turns
+pub mod Closing
