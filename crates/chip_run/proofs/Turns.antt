@@ -1,4 +1,4 @@
--- Turns of a session, and the whole of it.
+-- Turns of a session.
 use Rattle.std.proofs.Common.{◌≡◌, ◌≢◌, ◌+◌, ◌<◌, ◌≤◌, ◌↔◌, ℕ, List, [], ◌++◌, Option, Some, None, Result, Ok, Err, refl, sym, ap, ◌∙◌, subst, arith, append_assoc}
 use Rattle.sec_base.specs.declared.answers.Ending.{Ending}
 use Rattle.sec_base.specs.declared.answers.Cause.{Cause}
@@ -103,34 +103,3 @@ pub follows_on : (start : Machine) (budget allowance n : ℕ) (ending : Ending) 
 follows_on start budget allowance n ending memory before first second same follows =
     subst (λ (b : ℕ). FollowsWith start b n ending memory (before ++ (first ++ second))) same
     (subst (λ (xs : List ℕ). FollowsWith start budget n ending memory xs) (append_assoc before first second) follows)
-
--- Whole runs
-
--- a program as it begins
-pub opening_reaches : (entry size : ℕ) (segments : List Segment) (input : List ℕ) (hart : Hart) (calls : CallState) (memory : List ℕ) → hart ≡ opening_hart entry size → calls ≡ opening_calls segments input → memory ≡ opening_memory size segments → Reaches (opening_of entry size segments input) 0 hart calls memory []
-unfolding plain opening_of
-opening_reaches entry size segments input hart calls memory core services bytes = sym (
-    ap (λ (h : Hart). going_on (record { hart = h; calls = calls; memory = memory }) [] 0) core
-    ∙ ap (λ (s : CallState). going_on (record { hart = opening_hart entry size; calls = s; memory = memory }) [] 0) services
-    ∙ ap (λ (m : List ℕ). going_on (record { hart = opening_hart entry size; calls = opening_calls segments input; memory = m }) [] 0) bytes)
-
--- a session that began so follows it
-pub opening_follows : (entry size : ℕ) (segments : List Segment) (input : List ℕ) (hart : Hart) (calls : CallState) (opened memory : List ℕ) (n budget allowance finished retired : ℕ) (ending : Ending) (printed : List ℕ) → hart ≡ opening_hart entry size → calls ≡ opening_calls segments input → opened ≡ opening_memory size segments → n ≡ 0 → budget ≡ allowance → retired ≡ finished → ((start : Machine) (before : List ℕ) → Reaches start n hart calls opened before → FollowsWith start budget finished ending memory (before ++ printed)) → FollowsWith (opening_of entry size segments input) allowance retired ending memory printed
-opening_follows entry size segments input hart calls opened memory n budget allowance finished retired ending printed core services bytes none same count follows =
-    let start = opening_of entry size segments input in
-    let begins = opening_reaches entry size segments input hart calls opened core services bytes in
-    let here = subst (λ (m : ℕ). Reaches start m hart calls opened []) (sym none) begins in
-    subst (λ (m : ℕ). FollowsWith start allowance m ending memory printed) (sym count)
-    (subst (λ (b : ℕ). FollowsWith start b finished ending memory printed) same (follows start [] here))
-
--- a run that the memory stops before its first instruction
-pub nothing_follows : (entry size : ℕ) (segments : List Segment) (input : List ℕ) (budget : ℕ) (stop : MemStop) (ending : Ending) → ending ≡ stop_ending stop → Follows (opening_of entry size segments input) budget 0 ending []
-nothing_follows entry size segments input budget stop ending e =
-    let state : State = record { hart = opening_hart entry size; calls = opening_calls segments input; memory = opening_memory size segments } in
-    stopped_follows (opening_of entry size segments input) budget 0 state [] [] ending
-    (opening_reaches entry size segments input (opening_hart entry size) (opening_calls segments input) (opening_memory size segments) refl refl refl)
-    (omega arith) (prints_of (next state), refl) (stop_ends stop ending state [] [] 0 budget e)
-
--- a fault of the sink comes early
-pub early_fault : (ending : Ending) (n budget : ℕ) → (IsStop ending → n < budget) → ending ≡ WriteFault → n < budget
-early_fault ending n budget early e = early (subst IsStop (sym e) tt)
