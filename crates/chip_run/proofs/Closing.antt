@@ -1,5 +1,5 @@
 -- How a run ends, by the stop that its memory keeps.
-use Rattle.std.proofs.Common.{◌≡◌, ◌⊎◌, inl, inr, ℕ, List, Option, Some, None, refl, sym, ap, ◌∙◌, subst}
+use Rattle.std.proofs.Common.{◌≡◌, inl, inr, ℕ, List, Option, Some, None, ap, subst}
 use Rattle.sec_base.specs.Layout.{line_count}
 use Rattle.sec_base.specs.declared.layout.Place.{Place}
 use Rattle.sec_base.specs.declared.account.Message.{Message}
@@ -12,7 +12,7 @@ use Rattle.tag_engine.specs.Engine.{Engine}
 use Rattle.chip_run.specs.Account.{HonestOrCaught}
 use Rattle.chip_run.specs.Contents.{IsSpent}
 use Rattle.chip_run.specs.Protected.{Protected, IsKept}
-use Rattle.chip_run.specs.Session.{stop_ending, CarriesEnding}
+use Rattle.chip_run.specs.Session.{CarriesEnding}
 
 -- It ends as tampering where the memory stopped so
 

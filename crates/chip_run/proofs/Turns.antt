@@ -5,21 +5,19 @@ use Rattle.sec_base.specs.declared.answers.Cause.{Cause}
 use Rattle.sec_base.specs.declared.answers.Ending.TheVariants.{Halted, Trapped, OutOfSteps, WriteFault}
 use Rattle.sec_base.specs.declared.answers.MemStop.{MemStop}
 use Rattle.sec_base.specs.declared.answers.MemStop.TheVariants.{Tampered as tampered, Spent as spent, NoMemory as no_memory}
-use Rattle.sec_base.specs.declared.program.Segment.{Segment}
-use Rattle.sec_base.specs.Opening.{opening_memory}
 use Rattle.sec_base.specs.Writing.{SinkState, gained, Gains}
 use Rattle.sec_base.proofs.Writes.{gained-append}
 use Rattle.rv32_core.specs.declared.hart.Step.{Step}
 use Rattle.rv32_core.specs.declared.hart.Step.TheVariants.{Halted as Halted_step}
 use Rattle.rv32_core.specs.declared.hart.StepStop.{StepStop}
 use Rattle.rv32_core.specs.declared.hart.StepStop.TheVariants.{Trap, Mem, WriteFault as WriteFault_step}
-use Rattle.rv32_core.specs.State.{State, Hart, CallState, opening_hart}
+use Rattle.rv32_core.specs.State.{State, Hart, CallState}
 use Rattle.rv32_core.specs.Effect.{next}
-use Rattle.rv32_core.specs.Outcome.{prints_of, IsOutcome}
-use Rattle.rv32_core.specs.Machine.{Machine, plain, opening_calls, opening_of}
-use Rattle.rv32_core.specs.Follows.{EndsAs, Follows}
-use Rattle.rv32_core.proofs.Plain.{going_on, plain_stepped, stopped_follows, out_of_steps_follows, step_halts, step_traps, step_stops, step_fails}
-use Rattle.chip_run.specs.Session.{Reaches, IsStop, IsMemoryEnding, FollowsWith, stop_ending, CarriesEnding}
+use Rattle.rv32_core.specs.Outcome.{IsOutcome}
+use Rattle.rv32_core.specs.Machine.{Machine, plain}
+use Rattle.rv32_core.specs.Follows.{EndsAs}
+use Rattle.rv32_core.proofs.Plain.{going_on, plain_stepped, out_of_steps_follows, step_halts, step_traps, step_stops, step_fails}
+use Rattle.chip_run.specs.Session.{Reaches, IsMemoryEnding, FollowsWith, stop_ending, CarriesEnding}
 
 -- a stop of the memory ends a program that goes on
 ends_by : (stop : MemStop) (state : State) (before printed : List ℕ) (n budget : ℕ) → EndsAs (stop_ending stop) (going_on state before n) n budget printed

@@ -6,8 +6,9 @@ use Rattle.sec_base.proofs.Writes.{gained-nil}
 use Rattle.rv32_core.specs.Machine.{opening}
 use Rattle.tag_engine.specs.Engine.{tags_of}
 use Rattle.chip_run.specs.Contents.{contents_of}
+use Rattle.chip_run.specs.Protected.{new_protected}
 use Rattle.chip_run.specs.Session.{IsStop, FollowsWith}
-use Rattle.chip_run.proofs.Runs.{opening_zeros, opening_follows, nothing_follows, written_out, budget_ends, honest_run}
+use Rattle.chip_run.proofs.Runs.{opening_zeros, opening_follows, nothing_follows, levels_stay, written_out, budget_ends, honest_run}
 use Rattle.chip_run.proofs.run.Given.{Over}
 use Rattle.chip_run.proofs.run.Goals as goal
 
@@ -36,6 +37,11 @@ returns-in-Err-store_image-clause-follows g c =
           c.close.ensures.retired (c.close.ensures.ending ∙ c.ending_of.ensures),
     )
 
+-- no line of the memory was written
+booted : (g : Over) (c : goal.After-close-2 g) → c.new-memory.result.lines ≡ new_protected c.args.bus c.args.tagger c.args.setup.now.geometry c.args.setup.now.page_limit
+booted g c = c.new-memory.ensures ∙ c.in-Ok.ensures.new
+
+-- what the run was, where there is no evidence
 follows : (g : Over) (c : goal.After-close-2 g) → c.close-2.result.0.evidence ≡ None → FollowsWith (opening c.args.image.now c.args.input.now) c.args.setup.now.budget c.close-2.result.0.retired c.close-2.result.0.ending (contents_of (line_count c.finish-ending.new.self.memory.lines.engine.levels) c.finish-ending.new.self.memory.lines.engine.made) c.finish-ending.ensures.follows.0
 follows g c quiet =
     let image = c.args.image.now in
@@ -43,8 +49,8 @@ follows g c quiet =
     let began = c.new-session.ensures in
     let sound : c.finish-ending.new.self.memory.lines.engine.evidence ≡ None = cc in
     let opened : contents_of (line_count session.memory.lines.engine.levels) session.memory.lines.engine.made ≡ opening_memory image.size image.segments =
-        ap (λ memory. contents_of (line_count memory.lines.engine.levels) memory.lines.engine.made) began.memory
-        ∙ c.in_default.ensures.stored (ap (λ memory. memory.lines.engine.evidence) (sym began.memory) ∙ c.finish-ending.ensures.lost sound) in
+    ap (λ memory. contents_of (line_count memory.lines.engine.levels) memory.lines.engine.made) began.memory
+    ∙ c.in_default.ensures.stored (ap (λ memory. memory.lines.engine.evidence) (sym began.memory) ∙ c.finish-ending.ensures.lost sound) in
     opening_follows image.entry image.size image.segments c.args.input.now session.core session.calls
     (contents_of (line_count session.memory.lines.engine.levels) session.memory.lines.engine.made) _
     session.retired session.budget c.args.setup.now.budget c.finish-ending.new.self.retired c.close-2.result.0.retired c.finish-ending.result c.close-2.result.0.ending c.finish-ending.ensures.follows.0
@@ -57,9 +63,9 @@ returns-clause-follows g c = (c.finish-ending.ensures.follows.0, c.finish-ending
 pub returns-clause-written_out : goal.returns-clause-written_out
 returns-clause-written_out g c = λ quiet going.
     let left = (follows g c quiet).leaves going in
-    let levels : c.finish-ending.new.self.memory.lines.engine.levels ≡ c.args.setup.now.geometry =
-        c.finish-ending.ensures.moved.1.moves.levels ∙ ap (λ memory. memory.lines.engine.levels) c.new-session.ensures.memory
-        ∙ c.in_default.ensures.moved.1.moves.levels ∙ ap (λ memory. memory.engine.levels) (c.new-memory.ensures ∙ c.in-Ok.ensures.new) in
+    let levels = levels_stay g.B.Bus.told c.args.bus c.args.tagger c.args.setup.now.geometry c.args.setup.now.page_limit
+    c.new-memory.result.lines c.store_image.new.ram.lines c.new-session.result.memory.lines c.finish-ending.new.self.memory.lines _ _
+    (booted g c) c.in_default.ensures.moved.1 (ap (λ memory. memory.lines) c.new-session.ensures.memory) c.finish-ending.ensures.moved.1 in
     let made : c.close-2.result.0.made ≡ c.finish-ending.new.self.memory.lines.engine.made = c.close-2.ensures.made ∙ ap (λ memory. memory.lines.engine.made) c.into_memory.ensures in
     written_out c.args.setup.now.geometry c.close-2.result.0.made _ c.finish-ending.new.self.memory.lines.engine.levels c.finish-ending.new.self.memory.lines.engine.made levels made left
 
