@@ -1,5 +1,7 @@
 pub mod Loading
-pub mod Turns
 pub mod LineMessages
 pub mod Keeping
 pub mod LineMoves
+pub mod Turns
+pub mod Closing
+pub mod Runs

@@ -1,21 +1,23 @@
--- Turns of a session, and the whole of it.
-use Rattle.std.proofs.Common.{◌≡◌, ◌≢◌, ◌<◌, ◌≤◌, ◌↔◌, ℕ, List, [], ◌++◌, Option, Some, None, refl, sym, ap, ◌∙◌, subst, arith, append_assoc}
+-- Turns of a session.
+use Rattle.std.proofs.Common.{◌≡◌, ◌≢◌, ◌+◌, ◌<◌, ◌≤◌, ◌↔◌, ℕ, List, [], ◌++◌, Option, Some, None, Result, Ok, Err, refl, sym, ap, ◌∙◌, subst, arith, append_assoc}
 use Rattle.sec_base.specs.declared.answers.Ending.{Ending}
-use Rattle.sec_base.specs.declared.answers.Ending.TheVariants.{OutOfSteps, Tampered, Spent, WriteFault, NoMemory}
+use Rattle.sec_base.specs.declared.answers.Cause.{Cause}
+use Rattle.sec_base.specs.declared.answers.Ending.TheVariants.{Halted, Trapped, OutOfSteps, WriteFault}
 use Rattle.sec_base.specs.declared.answers.MemStop.{MemStop}
 use Rattle.sec_base.specs.declared.answers.MemStop.TheVariants.{Tampered as tampered, Spent as spent, NoMemory as no_memory}
-use Rattle.sec_base.specs.declared.layout.Place.{Place}
-use Rattle.sec_base.specs.declared.program.Segment.{Segment}
-use Rattle.sec_base.specs.Opening.{opening_memory}
 use Rattle.sec_base.specs.Writing.{SinkState, gained, Gains}
 use Rattle.sec_base.proofs.Writes.{gained-append}
-use Rattle.rv32_core.specs.State.{State, Hart, CallState, opening_hart}
+use Rattle.rv32_core.specs.declared.hart.Step.{Step}
+use Rattle.rv32_core.specs.declared.hart.Step.TheVariants.{Halted as Halted_step}
+use Rattle.rv32_core.specs.declared.hart.StepStop.{StepStop}
+use Rattle.rv32_core.specs.declared.hart.StepStop.TheVariants.{Trap, Mem, WriteFault as WriteFault_step}
+use Rattle.rv32_core.specs.State.{State, Hart, CallState}
 use Rattle.rv32_core.specs.Effect.{next}
-use Rattle.rv32_core.specs.Outcome.{prints_of}
-use Rattle.rv32_core.specs.Machine.{Machine, plain, opening_calls, opening_of}
-use Rattle.rv32_core.specs.Follows.{EndsAs, Follows}
-use Rattle.rv32_core.proofs.Plain.{going_on, stopped_follows}
-use Rattle.chip_run.specs.Session.{Reaches, IsStop, stop_ending, CarriesEnding}
+use Rattle.rv32_core.specs.Outcome.{IsOutcome}
+use Rattle.rv32_core.specs.Machine.{Machine, plain}
+use Rattle.rv32_core.specs.Follows.{EndsAs}
+use Rattle.rv32_core.proofs.Plain.{going_on, plain_stepped, out_of_steps_follows, step_halts, step_traps, step_stops, step_fails}
+use Rattle.chip_run.specs.Session.{Reaches, IsMemoryEnding, FollowsWith, stop_ending, CarriesEnding}
 
 -- a stop of the memory ends a program that goes on
 ends_by : (stop : MemStop) (state : State) (before printed : List ℕ) (n budget : ℕ) → EndsAs (stop_ending stop) (going_on state before n) n budget printed
@@ -26,6 +28,54 @@ ends_by no_memory state before printed n budget = refl
 pub stop_ends : (stop : MemStop) (ending : Ending) (state : State) (before printed : List ℕ) (n budget : ℕ) → ending ≡ stop_ending stop → EndsAs ending (going_on state before n) n budget printed
 stop_ends stop ending state before printed n budget e =
     subst (λ (x : Ending). EndsAs x (going_on state before n) n budget printed) (sym e) (ends_by stop state before printed n budget)
+
+-- A turn that ends a run
+
+-- the budget was used up
+pub turn_ends : (start : Machine) (budget n : ℕ) (state : State) (before : List ℕ) → plain start n ≡ going_on state before n → n ≡ budget → FollowsWith start budget n OutOfSteps state.memory (before ++ [])
+turn_ends start budget n state before here used = record {
+  follows = out_of_steps_follows start budget n state before here used;
+  leaves = λ quiet. ap (λ (machine : Machine). machine.state.memory) (sym here);
+}
+
+-- the program asked to exit
+pub turn_halts : (start : Machine) (budget n : ℕ) (old new : State) (before printed : List ℕ) (result : Result Step StepStop) (code : ℕ) → plain start n ≡ going_on old before n → n < budget → IsOutcome (next old) result old new printed → result ≡ Ok (Halted_step code) → FollowsWith start budget (n + 1) (Halted code) new.memory (before ++ printed)
+turn_halts start budget n old new before printed result code here below outcome is = record {
+  follows = step_halts start budget n old new before printed result code here below outcome is;
+  leaves = λ quiet.
+      let stepped = plain_stepped start n old new before printed (Some code) here (subst (λ (r : Result Step StepStop). IsOutcome (next old) r old new printed) is outcome) in
+      ap (λ (machine : Machine). machine.state.memory) (sym stepped);
+}
+
+-- it trapped
+pub turn_traps : (start : Machine) (budget n : ℕ) (old new : State) (before printed : List ℕ) (result : Result Step StepStop) (cause : Cause) (pc : ℕ) → plain start n ≡ going_on old before n → n < budget → IsOutcome (next old) result old new printed → result ≡ Err (Trap cause) → pc ≡ old.hart.pc → FollowsWith start budget n (Trapped cause pc) new.memory (before ++ printed)
+turn_traps start budget n old new before printed result cause pc here below outcome is at = record {
+  follows = step_traps start budget n old new before printed result cause pc here below outcome is at;
+  leaves = λ quiet.
+      let trapped = subst (λ (r : Result Step StepStop). IsOutcome (next old) r old new printed) is outcome in
+      trapped.1 ∙ ap (λ (machine : Machine). machine.state.memory) (sym here);
+}
+
+-- the memory stopped
+pub ends_by_memory : (stop : MemStop) (ending : Ending) → ending ≡ stop_ending stop → IsMemoryEnding ending
+ends_by_memory (tampered place) ending e = subst IsMemoryEnding (sym e) tt
+ends_by_memory (spent page) ending e = subst IsMemoryEnding (sym e) tt
+ends_by_memory no_memory ending e = subst IsMemoryEnding (sym e) tt
+
+pub turn_stops : (start : Machine) (budget n : ℕ) (old new : State) (before printed : List ℕ) (result : Result Step StepStop) (stop : MemStop) (ending : Ending) → plain start n ≡ going_on old before n → n ≤ budget → IsOutcome (next old) result old new printed → result ≡ Err (Mem stop) → ending ≡ stop_ending stop → FollowsWith start budget n ending new.memory (before ++ printed)
+turn_stops start budget n old new before printed result stop ending here within outcome is e = record {
+  follows = step_stops start budget n old new before printed result stop ending here within outcome is (stop_ends stop ending old before (before ++ printed) n budget e);
+  leaves = λ quiet. absurd (quiet (ends_by_memory stop ending e));
+}
+
+-- the sink failed
+pub turn_fails : (start : Machine) (budget n : ℕ) (old new : State) (before printed : List ℕ) (result : Result Step StepStop) → plain start n ≡ going_on old before n → n ≤ budget → IsOutcome (next old) result old new printed → result ≡ Err WriteFault_step → FollowsWith start budget n WriteFault new.memory (before ++ printed)
+turn_fails start budget n old new before printed result here within outcome is = record {
+  follows = step_fails start budget n old new before printed result here within outcome is;
+  leaves = λ quiet.
+      let failed = subst (λ (r : Result Step StepStop). IsOutcome (next old) r old new printed) is outcome in
+      failed.1 ∙ ap (λ (machine : Machine). machine.state.memory) (sym here);
+}
 
 -- a turn without an ending: the memory did not stop, and the budget allowed it
 pub carries_on : (stopped : Option MemStop) → CarriesEnding stopped None → stopped ≡ None
@@ -47,45 +97,7 @@ pub reaches_on : (start : Machine) (n : ℕ) (hart : Hart) (calls : CallState) (
 reaches_on start n hart calls memory before first second here =
     here ∙ ap (λ (xs : List ℕ). going_on (record { hart = hart; calls = calls; memory = memory }) xs n) (append_assoc before first second)
 
-pub follows_on : (start : Machine) (budget allowance n : ℕ) (ending : Ending) (before first second : List ℕ) → budget ≡ allowance → Follows start budget n ending (before ++ first ++ second) → Follows start allowance n ending (before ++ (first ++ second))
-follows_on start budget allowance n ending before first second same follows =
-    subst (λ (b : ℕ). Follows start b n ending (before ++ (first ++ second))) same
-    (subst (λ (xs : List ℕ). Follows start budget n ending xs) (append_assoc before first second) follows)
-
--- Whole runs
-
--- a program as it begins
-pub opening_reaches : (entry size : ℕ) (segments : List Segment) (input : List ℕ) (hart : Hart) (calls : CallState) (memory : List ℕ) → hart ≡ opening_hart entry size → calls ≡ opening_calls segments input → memory ≡ opening_memory size segments → Reaches (opening_of entry size segments input) 0 hart calls memory []
-unfolding plain opening_of
-opening_reaches entry size segments input hart calls memory core services bytes = sym (
-    ap (λ (h : Hart). going_on (record { hart = h; calls = calls; memory = memory }) [] 0) core
-    ∙ ap (λ (s : CallState). going_on (record { hart = opening_hart entry size; calls = s; memory = memory }) [] 0) services
-    ∙ ap (λ (m : List ℕ). going_on (record { hart = opening_hart entry size; calls = opening_calls segments input; memory = m }) [] 0) bytes)
-
--- a session that began so follows it
-pub opening_follows : (entry size : ℕ) (segments : List Segment) (input : List ℕ) (hart : Hart) (calls : CallState) (memory : List ℕ) (n budget allowance finished retired : ℕ) (ending : Ending) (printed : List ℕ) → hart ≡ opening_hart entry size → calls ≡ opening_calls segments input → memory ≡ opening_memory size segments → n ≡ 0 → budget ≡ allowance → retired ≡ finished → ((start : Machine) (before : List ℕ) → Reaches start n hart calls memory before → Follows start budget finished ending (before ++ printed)) → Follows (opening_of entry size segments input) allowance retired ending printed
-opening_follows entry size segments input hart calls memory n budget allowance finished retired ending printed core services bytes none same count follows =
-    let start = opening_of entry size segments input in
-    let begins = opening_reaches entry size segments input hart calls memory core services bytes in
-    let here = subst (λ (m : ℕ). Reaches start m hart calls memory []) (sym none) begins in
-    subst (λ (m : ℕ). Follows start allowance m ending printed) (sym count)
-    (subst (λ (b : ℕ). Follows start b finished ending printed) same (follows start [] here))
-
--- a run that can't begin for want of memory
-pub nothing_follows : (entry size : ℕ) (segments : List Segment) (input : List ℕ) (budget : ℕ) → Follows (opening_of entry size segments input) budget 0 NoMemory []
-nothing_follows entry size segments input budget =
-    let state : State = record { hart = opening_hart entry size; calls = opening_calls segments input; memory = opening_memory size segments } in
-    stopped_follows (opening_of entry size segments input) budget 0 state [] [] NoMemory
-    (opening_reaches entry size segments input (opening_hart entry size) (opening_calls segments input) (opening_memory size segments) refl refl refl)
-    (omega arith) (prints_of (next state), refl) refl
-
--- a memory that never stops ends no run but for want of memory
-pub never_tampered : (ending : Ending) → CarriesEnding None (Some ending) → (place : Place) → ending ≢ Tampered place
-never_tampered ending carries place e = let stop = carries (tampered place) (ap (λ (x : Ending). Some x) e) in cc
-
-pub never_spent : (ending : Ending) → CarriesEnding None (Some ending) → (page : ℕ) → ending ≢ Spent page
-never_spent ending carries page e = let stop = carries (spent page) (ap (λ (x : Ending). Some x) e) in cc
-
--- a fault of the sink comes early
-pub early_fault : (ending : Ending) (n budget : ℕ) → (IsStop ending → n < budget) → ending ≡ WriteFault → n < budget
-early_fault ending n budget early e = early (subst IsStop (sym e) tt)
+pub follows_on : (start : Machine) (budget allowance n : ℕ) (ending : Ending) (memory before first second : List ℕ) → budget ≡ allowance → FollowsWith start budget n ending memory (before ++ first ++ second) → FollowsWith start allowance n ending memory (before ++ (first ++ second))
+follows_on start budget allowance n ending memory before first second same follows =
+    subst (λ (b : ℕ). FollowsWith start b n ending memory (before ++ (first ++ second))) same
+    (subst (λ (xs : List ℕ). FollowsWith start budget n ending memory xs) (append_assoc before first second) follows)

@@ -32,7 +32,7 @@ returns-in-Some-clause-follows g c =
       so_far.turns.0 ++ turn.turns.0,
       gains_on (g.S.Sink.state c.args.out.now) (g.S.Sink.state c.loop-ending.out) (g.S.Sink.state c.turn.new.out) so_far.turns.0 turn.turns.0 so_far.turns.1 turn.turns.1,
       λ sound start before here.
-          follows_on start _ _ _ _ before so_far.turns.0 turn.turns.0 so_far.budget
+          follows_on start _ _ _ _ _ before so_far.turns.0 turn.turns.0 so_far.budget
           (turn.turns.2 sound start (before ++ so_far.turns.0) (so_far.turns.2 (turn.lost sound) start before here)),
     )
 

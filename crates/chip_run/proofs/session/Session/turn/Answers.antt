@@ -2,9 +2,9 @@ use Rattle.std.proofs.Common.{◌≡◌, [], Ok, Err, sym, ap, ◌∙◌, arith}
 use Rattle.rv32_core.specs.declared.hart.Step.TheVariants.{Retired, Halted}
 use Rattle.rv32_core.specs.declared.hart.StepStop.TheVariants.{Trap, Mem, WriteFault}
 use Rattle.rv32_core.specs.State.{Hart}
-use Rattle.rv32_core.proofs.Plain.{out_of_steps_follows, step_reaches, step_halts, step_traps, step_stops, step_fails}
+use Rattle.rv32_core.proofs.Plain.{step_reaches}
 use Rattle.sec_base.proofs.Writes.{gained-nil}
-use Rattle.chip_run.proofs.Turns.{stop_ends}
+use Rattle.chip_run.proofs.Turns.{turn_ends, turn_halts, turn_traps, turn_stops, turn_fails}
 use Rattle.chip_run.proofs.session.Session.turn.Goals as goal
 
 pub returns-then-self-clause-turns : goal.returns-then-self-clause-turns
@@ -12,7 +12,7 @@ returns-then-self-clause-turns g c = (
   [],
   sym (gained-nil _),
   λ sound start before here.
-      out_of_steps_follows start c.args.self.now.budget c.args.self.now.retired
+      turn_ends start c.args.self.now.budget c.args.self.now.retired
       (record { hart = c.args.self.now.core; calls = c.args.self.now.calls; memory = g.M.Ram.contents c.args.self.now.memory })
       before here c.if-self.true,
 )
@@ -37,7 +37,7 @@ returns-in-Ok-Halted-clause-turns g c =
       outcome.0,
       outcome.1,
       λ sound start before here.
-          step_halts start c.args.self.now.budget c.args.self.now.retired
+          turn_halts start c.args.self.now.budget c.args.self.now.retired
           (record { hart = c.args.self.now.core; calls = c.args.self.now.calls; memory = g.M.Ram.contents c.args.self.now.memory })
           (record { hart = c.step.new.self; calls = c.step.new.calls; memory = g.M.Ram.contents c.step.new.ram })
           before outcome.0 c.step.result c.in-Ok-Halted.code here (omega arith) (outcome.2 c.requires.going sound) is,
@@ -50,7 +50,7 @@ returns-in-Err-Trap-clause-turns g c =
       outcome.0,
       outcome.1,
       λ sound start before here.
-          step_traps start c.args.self.now.budget c.args.self.now.retired
+          turn_traps start c.args.self.now.budget c.args.self.now.retired
           (record { hart = c.args.self.now.core; calls = c.args.self.now.calls; memory = g.M.Ram.contents c.args.self.now.memory })
           (record { hart = c.step.new.self; calls = c.step.new.calls; memory = g.M.Ram.contents c.step.new.ram })
           before outcome.0 c.step.result c.in-Err-Trap.cause c.pc.result here (omega arith) (outcome.2 c.requires.going sound) is
@@ -64,11 +64,10 @@ returns-in-Err-Mem-clause-turns g c =
       outcome.0,
       outcome.1,
       λ sound start before here.
-          step_stops start c.args.self.now.budget c.args.self.now.retired
+          turn_stops start c.args.self.now.budget c.args.self.now.retired
           (record { hart = c.args.self.now.core; calls = c.args.self.now.calls; memory = g.M.Ram.contents c.args.self.now.memory })
           (record { hart = c.step.new.self; calls = c.step.new.calls; memory = g.M.Ram.contents c.step.new.ram })
-          before outcome.0 c.step.result c.in-Err-Mem.stop c.ending_of.result here c.requires.within (outcome.2 c.requires.going sound) is
-          (stop_ends c.in-Err-Mem.stop c.ending_of.result _ before _ _ _ c.ending_of.ensures),
+          before outcome.0 c.step.result c.in-Err-Mem.stop c.ending_of.result here c.requires.within (outcome.2 c.requires.going sound) is c.ending_of.ensures,
     )
 
 pub returns-in-Err-WriteFault-clause-turns : goal.returns-in-Err-WriteFault-clause-turns
@@ -78,7 +77,7 @@ returns-in-Err-WriteFault-clause-turns g c =
       outcome.0,
       outcome.1,
       λ sound start before here.
-          step_fails start c.args.self.now.budget c.args.self.now.retired
+          turn_fails start c.args.self.now.budget c.args.self.now.retired
           (record { hart = c.args.self.now.core; calls = c.args.self.now.calls; memory = g.M.Ram.contents c.args.self.now.memory })
           (record { hart = c.step.new.self; calls = c.step.new.calls; memory = g.M.Ram.contents c.step.new.ram })
           before outcome.0 c.step.result here c.requires.within (outcome.2 c.requires.going sound) is,

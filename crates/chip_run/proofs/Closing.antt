@@ -1,0 +1,56 @@
+-- How a run ends, by the stop that its memory keeps.
+use Rattle.std.proofs.Common.{◌≡◌, inl, inr, ℕ, List, Option, Some, None, ap, subst}
+use Rattle.sec_base.specs.Layout.{line_count}
+use Rattle.sec_base.specs.declared.layout.Place.{Place}
+use Rattle.sec_base.specs.declared.account.Message.{Message}
+use Rattle.sec_base.specs.declared.answers.Ending.{Ending}
+use Rattle.sec_base.specs.declared.answers.Ending.TheVariants.{Tampered, Spent}
+use Rattle.sec_base.specs.declared.answers.MemStop.{MemStop}
+use Rattle.sec_base.specs.declared.answers.MemStop.TheVariants.{Tampered as tampered, Spent as spent, NoMemory as no_memory}
+use Rattle.bus_model.specs.Told.{Told}
+use Rattle.tag_engine.specs.Engine.{Engine}
+use Rattle.chip_run.specs.Account.{HonestOrCaught}
+use Rattle.chip_run.specs.Contents.{IsSpent}
+use Rattle.chip_run.specs.Protected.{Protected, IsKept}
+use Rattle.chip_run.specs.Session.{CarriesEnding}
+
+-- It ends as tampering where the memory stopped so
+
+ended_tampered : (stopped : Option MemStop) (ending : Ending) (place : Place) → CarriesEnding stopped (Some ending) → stopped ≡ Some (tampered place) → ending ≡ Tampered place
+ended_tampered None ending place carries is = cc
+ended_tampered (Some stop) ending place carries is = cc
+
+stopped_tampered : (stopped : Option MemStop) (ending : Ending) (place : Place) → CarriesEnding stopped (Some ending) → ending ≡ Tampered place → stopped ≡ Some (tampered place)
+stopped_tampered None ending place carries is = let stop = carries (tampered place) (ap Some is) in cc
+stopped_tampered (Some (tampered other)) ending place carries is = cc
+stopped_tampered (Some (spent page)) ending place carries is = cc
+stopped_tampered (Some no_memory) ending place carries is = cc
+
+-- And as a page that is used up
+
+stopped_spent : (stopped : Option MemStop) (ending : Ending) (page : ℕ) → CarriesEnding stopped (Some ending) → ending ≡ Spent page → stopped ≡ Some (spent page)
+stopped_spent None ending page carries is = let stop = carries (spent page) (ap Some is) in cc
+stopped_spent (Some (tampered place)) ending page carries is = cc
+stopped_spent (Some (spent other)) ending page carries is = cc
+stopped_spent (Some no_memory) ending page carries is = cc
+
+-- What was taken for tampering may be said by another word
+
+answers_map : (tag_of : Message → List ℕ) (made : List Message) (told : Told) (P Q : Place → Type 0) → ((place : Place) → P place → Q place) → ((place : Place) → Q place → P place) → HonestOrCaught tag_of made told P → HonestOrCaught tag_of made told Q
+answers_map tag_of made told P Q there back (inl honest) = inl (record { lies = honest.lies; untampered = λ place q. honest.untampered place (back place q) })
+answers_map tag_of made told P Q there back (inr caught) =
+    inr (record { lies = caught.lies; lie = caught.lie; first = caught.first; last = caught.last; fails = caught.fails; ended = there caught.lie.place caught.ended })
+
+-- What is kept of a memory, said of a run that it ended
+
+pub ended_answers : {B T : Type 0} (tags : Engine T → Message → List ℕ) (told : B → Told) (given lines : Protected B T) (ending : Ending) → given ≡ lines → CarriesEnding lines.stopped (Some ending) → IsKept (tags given.engine) (told given.bus) given → lines.engine.evidence ≡ None → HonestOrCaught (tags lines.engine) lines.engine.made (told lines.bus) (λ place. ending ≡ Tampered place)
+ended_answers {B} {T} tags told given lines ending same carries kept quiet =
+    let kept_lines = subst (λ (memory : Protected B T). IsKept (tags memory.engine) (told memory.bus) memory) same kept in
+    answers_map (tags lines.engine) lines.engine.made (told lines.bus) (λ place. lines.stopped ≡ Some (tampered place)) (λ place. ending ≡ Tampered place)
+    (λ place is. ended_tampered lines.stopped ending place carries is) (λ place is. stopped_tampered lines.stopped ending place carries is)
+    (kept_lines.answers quiet)
+
+pub ended_spent : {B T : Type 0} (tags : Engine T → Message → List ℕ) (told : B → Told) (given lines : Protected B T) (ending : Ending) (page : ℕ) → given ≡ lines → CarriesEnding lines.stopped (Some ending) → IsKept (tags given.engine) (told given.bus) given → ending ≡ Spent page → IsSpent (line_count lines.engine.levels) lines.limit lines.engine.made page
+ended_spent {B} {T} tags told given lines ending page same carries kept is =
+    let kept_lines = subst (λ (memory : Protected B T). IsKept (tags memory.engine) (told memory.bus) memory) same kept in
+    kept_lines.spent page (stopped_spent lines.stopped ending page carries is)

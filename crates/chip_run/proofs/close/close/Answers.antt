@@ -1,0 +1,13 @@
+use Rattle.tag_engine.specs.Engine.{tags_of}
+use Rattle.chip_run.proofs.Closing.{ended_answers, ended_spent}
+use Rattle.chip_run.proofs.close.close.Goals as goal
+
+pub returns-clause-answers : goal.returns-clause-answers
+returns-clause-answers g c = λ quiet.
+    ended_answers (tags_of g.T.Tagger.data_tag_of g.T.Tagger.node_tag_of) g.B.Bus.told c.into_lines.result c.args.memory.lines c.args.ending
+    c.into_lines.ensures c.requires.ending c.finish-made.ensures.kept quiet
+
+pub returns-clause-spent : goal.returns-clause-spent
+returns-clause-spent g c = λ page is.
+    ended_spent (tags_of g.T.Tagger.data_tag_of g.T.Tagger.node_tag_of) g.B.Bus.told c.into_lines.result c.args.memory.lines c.args.ending page
+    c.into_lines.ensures c.requires.ending c.finish-made.ensures.kept is

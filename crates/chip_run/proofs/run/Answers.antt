@@ -1,0 +1,85 @@
+use Rattle.std.proofs.Common.{◌≡◌, [], None, sym, ap, ◌∙◌, subst, arith}
+use Rattle.sec_base.specs.declared.answers.MemStop.TheVariants.{NoMemory}
+use Rattle.sec_base.specs.Layout.{line_count}
+use Rattle.sec_base.specs.Opening.{opening_memory}
+use Rattle.sec_base.proofs.Writes.{gained-nil}
+use Rattle.rv32_core.specs.Machine.{opening}
+use Rattle.tag_engine.specs.Engine.{tags_of}
+use Rattle.chip_run.specs.Contents.{contents_of}
+use Rattle.chip_run.specs.Protected.{new_protected}
+use Rattle.chip_run.specs.Session.{IsStop, FollowsWith}
+use Rattle.chip_run.proofs.Runs.{opening_zeros, opening_follows, nothing_follows, levels_stay, written_out, budget_ends, honest_run}
+use Rattle.chip_run.proofs.run.Given.{Over}
+use Rattle.chip_run.proofs.run.Goals as goal
+
+pub store_image-requires-clause-zeros : goal.store_image-requires-clause-zeros
+store_image-requires-clause-zeros g c = λ quiet.
+    opening_zeros c.args.bus c.args.tagger c.args.setup.now.geometry c.args.setup.now.page_limit c.args.image.now.size c.new-memory.result.lines
+    (c.new-memory.ensures ∙ c.in-Ok.ensures.new) c.requires.size
+
+pub returns-in-Err-clause-follows : goal.returns-in-Err-clause-follows
+returns-in-Err-clause-follows g c =
+    let image = c.args.image.now in (
+      [],
+      sym (gained-nil _),
+      λ quiet.
+          nothing_follows image.entry image.size image.segments c.args.input.now c.args.setup.now.budget c.no_run.result.retired NoMemory c.no_run.result.ending
+          c.no_run.ensures.retired c.no_run.ensures.ending,
+    )
+
+pub returns-in-Err-store_image-clause-follows : goal.returns-in-Err-store_image-clause-follows
+returns-in-Err-store_image-clause-follows g c =
+    let image = c.args.image.now in (
+      [],
+      sym (gained-nil _),
+      λ quiet.
+          nothing_follows image.entry image.size image.segments c.args.input.now c.args.setup.now.budget c.close.result.0.retired c.in-Err-store_image.stop c.close.result.0.ending
+          c.close.ensures.retired (c.close.ensures.ending ∙ c.ending_of.ensures),
+    )
+
+-- no line of the memory was written
+booted : (g : Over) (c : goal.After-close-2 g) → c.new-memory.result.lines ≡ new_protected c.args.bus c.args.tagger c.args.setup.now.geometry c.args.setup.now.page_limit
+booted g c = c.new-memory.ensures ∙ c.in-Ok.ensures.new
+
+-- what the run was, where there is no evidence
+follows : (g : Over) (c : goal.After-close-2 g) → c.close-2.result.0.evidence ≡ None → FollowsWith (opening c.args.image.now c.args.input.now) c.args.setup.now.budget c.close-2.result.0.retired c.close-2.result.0.ending (contents_of (line_count c.finish-ending.new.self.memory.lines.engine.levels) c.finish-ending.new.self.memory.lines.engine.made) c.finish-ending.ensures.follows.0
+follows g c quiet =
+    let image = c.args.image.now in
+    let session = c.new-session.result in
+    let began = c.new-session.ensures in
+    let sound : c.finish-ending.new.self.memory.lines.engine.evidence ≡ None = cc in
+    let opened : contents_of (line_count session.memory.lines.engine.levels) session.memory.lines.engine.made ≡ opening_memory image.size image.segments =
+    ap (λ memory. contents_of (line_count memory.lines.engine.levels) memory.lines.engine.made) began.memory
+    ∙ c.in_default.ensures.stored (ap (λ memory. memory.lines.engine.evidence) (sym began.memory) ∙ c.finish-ending.ensures.lost sound) in
+    opening_follows image.entry image.size image.segments c.args.input.now session.core session.calls
+    (contents_of (line_count session.memory.lines.engine.levels) session.memory.lines.engine.made) _
+    session.retired session.budget c.args.setup.now.budget c.finish-ending.new.self.retired c.close-2.result.0.retired c.finish-ending.result c.close-2.result.0.ending c.finish-ending.ensures.follows.0
+    began.core began.calls opened began.retired began.budget (c.close-2.ensures.retired ∙ c.retired-retired.ensures) c.close-2.ensures.ending
+    (c.finish-ending.ensures.follows.2 sound)
+
+pub returns-clause-follows : goal.returns-clause-follows
+returns-clause-follows g c = (c.finish-ending.ensures.follows.0, c.finish-ending.ensures.follows.1, λ quiet. (follows g c quiet).follows)
+
+pub returns-clause-written_out : goal.returns-clause-written_out
+returns-clause-written_out g c = λ quiet going.
+    let left = (follows g c quiet).leaves going in
+    let levels = levels_stay g.B.Bus.told c.args.bus c.args.tagger c.args.setup.now.geometry c.args.setup.now.page_limit
+    c.new-memory.result.lines c.store_image.new.ram.lines c.new-session.result.memory.lines c.finish-ending.new.self.memory.lines _ _
+    (booted g c) c.in_default.ensures.moved.1 (ap (λ memory. memory.lines) c.new-session.ensures.memory) c.finish-ending.ensures.moved.1 in
+    let made : c.close-2.result.0.made ≡ c.finish-ending.new.self.memory.lines.engine.made = c.close-2.ensures.made ∙ ap (λ memory. memory.lines.engine.made) c.into_memory.ensures in
+    written_out c.args.setup.now.geometry c.close-2.result.0.made _ c.finish-ending.new.self.memory.lines.engine.levels c.finish-ending.new.self.memory.lines.engine.made levels made left
+
+pub returns-clause-out_of_steps : goal.returns-clause-out_of_steps
+returns-clause-out_of_steps g c = λ quiet going.
+    budget_ends (opening c.args.image.now c.args.input.now) c.args.setup.now.budget c.close-2.result.0.retired c.close-2.result.0.ending c.finish-ending.ensures.follows.0
+    (follows g c quiet).follows
+    (λ stops. let early = c.finish-ending.ensures.early (subst IsStop c.close-2.ensures.ending stops) in omega (arith, early)) going
+
+pub returns-clause-whole : goal.returns-clause-whole
+returns-clause-whole g c = λ faultless honest memory.
+    let closed = c.into_memory.result.lines in
+    honest_run (opening c.args.image.now c.args.input.now) c.args.setup.now.budget c.close-2.result.0.retired c.finish-ending.result c.close-2.result.0.ending c.finish-ending.ensures.follows.0
+    (tags_of g.T.Tagger.data_tag_of g.T.Tagger.node_tag_of closed.engine) closed.engine.made (g.B.Bus.told closed.bus) closed.engine.evidence
+    c.close-2.ensures.ending (ap (λ bus. (g.B.Bus.told bus).lies) (sym c.close-2.ensures.bus) ∙ honest) c.close-2.ensures.first_lie c.close-2.ensures.answers
+    (λ quiet. (follows g c (c.close-2.ensures.evidence ∙ quiet)).follows)
+    (λ fault. faultless (c.finish-ending.ensures.write_fault (sym c.close-2.ensures.ending ∙ fault))) memory
