@@ -1,3 +1,4 @@
 pub mod Hmac
 pub mod DeviceKeys
 pub mod Tags
+pub mod TagLengths

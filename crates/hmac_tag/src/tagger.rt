@@ -1,8 +1,10 @@
 ghost use Rattle.std.specs.Prelude.{◌≡◌};
 ghost use Rattle.hmac_tag.specs.Tags.{tag_of};
+ghost use Rattle.hmac_tag.specs.TagLengths.{length-tag_of};
 
 use crate::derivation::Keys;
 use crate::mac::{HmacKey, first_16};
+use sec_base::Tagger;
 use std::marker::Model;
 
 /// Tags messages by HMAC with SHA-256, data lines under one key and nodes under another.
@@ -34,18 +36,24 @@ impl HmacTagger {
             tree: HmacKey::new(&keys.tree_key),
         }
     }
+}
 
-    /// The tag of a data message, under the line key.
-    pub fn data_tag(&self, message: &[u8; 78]) -> [u8; 16]
-        ensures { result ≡ tag_of self.now.line_key message.now }
-    {
+impl Tagger for HmacTagger {
+    ghost data_tag_of = { λ tagger message. tag_of tagger.line_key message };
+
+    ghost node_tag_of = { λ tagger message. tag_of tagger.tree_key message };
+
+    ghost data_tag_long = { λ tagger message. length-tag_of tagger.line_key message };
+
+    ghost node_tag_long = { λ tagger message. length-tag_of tagger.tree_key message };
+
+    /// The tag of a data line's message, under the line key.
+    fn data_tag(&self, message: &[u8; 78]) -> [u8; 16] {
         first_16(&self.line.mac(message))
     }
 
-    /// The tag of a node message, under the tree key.
-    pub fn node_tag(&self, message: &[u8; 70]) -> [u8; 16]
-        ensures { result ≡ tag_of self.now.tree_key message.now }
-    {
+    /// The tag of a node's message, under the tree key.
+    fn node_tag(&self, message: &[u8; 70]) -> [u8; 16] {
         first_16(&self.tree.mac(message))
     }
 }

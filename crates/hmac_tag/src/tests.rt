@@ -1,6 +1,7 @@
 ghost use Rattle.std.specs.Prelude.{◌≤◌};
 
 use crate::{HmacTagger, derive, hmac};
+use sec_base::Tagger;
 use std::fmt::Write;
 use std::test::Fail;
 
@@ -65,11 +66,15 @@ fn rfc_4231(rt: HostRuntime) -> Result<(), Fail> {
     Ok(())
 }
 
-// Keys around the length of a block, 00 01 02 .., and the text `abc`: from Python's `hmac` and `hashlib`.
+// No key and keys around the length of a block, 00 01 02 .., and the text `abc`: from Python's `hmac` and `hashlib`.
 #[test]
 fn keys_around_a_block(rt: HostRuntime) -> Result<(), Fail> {
     let key = counting::<65>();
-    let cases: [(&[u8], &str); 3] = [
+    let cases: [(&[u8], &str); 4] = [
+        (
+            &[],
+            "fd7adb152c05ef80dccf50a1fa4c05d5a3ec6da95575fc312ae7c5d091836351",
+        ),
         (
             &key[..63],
             "d2bee6f325e7ec9e0e412319f6775134f43f4e16e168b7386de22a29c70a7b9d",
@@ -89,6 +94,11 @@ fn keys_around_a_block(rt: HostRuntime) -> Result<(), Fail> {
     Ok(())
 }
 
+// The tag of a data message and that of a node message.
+fn tags<T: Tagger>(tagger: &T, data: &[u8; 78], node: &[u8; 70]) -> ([u8; 16], [u8; 16]) {
+    (tagger.data_tag(data), tagger.node_tag(node))
+}
+
 // The device key 00 01 02 .. 1f: from Python's `hmac` and `hashlib`.
 #[test]
 fn keys_and_tags_of_a_device(rt: HostRuntime) -> Result<(), Fail> {
@@ -105,6 +115,7 @@ fn keys_and_tags_of_a_device(rt: HostRuntime) -> Result<(), Fail> {
     node[1] = 1;
     node[2] = 2;
     node[6..].copy_from_slice(&counting::<64>());
+    let (data_tag, node_tag) = tags(&tagger, &data, &node);
     let cases: [(&[u8], &str); 6] = [
         (&keys.enc_key, "0dea1b7f592f4cbd46f023760bf849c3"),
         (
@@ -119,8 +130,8 @@ fn keys_and_tags_of_a_device(rt: HostRuntime) -> Result<(), Fail> {
             &keys.report_key,
             "f35a46dc464ffae93b3fbee67896fe725f54073e899207cd3198163534a06683",
         ),
-        (&tagger.data_tag(&data), "502468e4330029485ec3fea6e74289b4"),
-        (&tagger.node_tag(&node), "168d3af536b1bcaf79cdf4b3d3ee62ff"),
+        (&data_tag, "502468e4330029485ec3fea6e74289b4"),
+        (&node_tag, "168d3af536b1bcaf79cdf4b3d3ee62ff"),
     ];
     for (bytes, expected) in cases {
         assert_eq!(rt; digits(&rt, bytes)?.as_str(), expected);
