@@ -8,6 +8,7 @@ use Rattle.sec_base.specs.declared.account.Message.{Message}
 use Rattle.sec_base.specs.declared.account.Evidence.{Evidence}
 use Rattle.sec_base.specs.declared.layout.Place.{Place}
 use Rattle.sec_base.specs.declared.program.Segment.{Segment}
+use Rattle.sec_base.specs.Count.{RoseBy}
 use Rattle.sec_base.specs.Last.{last_at}
 use Rattle.sec_base.specs.Layout.{line_count, memory_size}
 use Rattle.sec_base.specs.Lines.{line_at, joined_lines}
@@ -82,6 +83,20 @@ nothing_follows entry size segments input budget retired stop ending none e =
 pub levels_stay : {B T : Type 0} (told : B → Told) (bus : B) (tagger : T) (levels limit : ℕ) (opened stored begun ended : Protected B T) (storing running : List ℕ) → opened ≡ new_protected bus tagger levels limit → IsMoved told opened storing stored → begun ≡ stored → IsMoved told begun running ended → ended.engine.levels ≡ levels
 levels_stay {B} {T} told bus tagger levels limit opened stored begun ended storing running new before same after =
     after.moves.levels ∙ ap (λ (m : Protected B T). m.engine.levels) same ∙ before.moves.levels ∙ ap (λ (m : Protected B T). m.engine.levels) new
+
+-- and no count of reads fell
+pub reads_stay : {B T : Type 0} (told : B → Told) (bus closed : B) (tagger : T) (levels limit : ℕ) (opened stored begun ended : Protected B T) (storing running : List ℕ) → opened ≡ new_protected bus tagger levels limit → IsMoved told opened storing stored → begun ≡ stored → IsMoved told begun running ended → closed ≡ ended.bus → (place : Place) → RoseBy 0 ((told bus).reads place) ((told closed).reads place)
+reads_stay {B} {T} told bus closed tagger levels limit opened stored begun ended storing running new before same after is place =
+    let first : (told opened.bus).reads place ≡ (told bus).reads place = ap (λ (m : Protected B T). (told m.bus).reads place) new in
+    let second : (told begun.bus).reads place ≡ (told stored.bus).reads place = ap (λ (m : Protected B T). (told m.bus).reads place) same in
+    let third : (told closed).reads place ≡ (told ended.bus).reads place = ap (λ (b : B). (told b).reads place) is in
+    omega (arith, first, second, third, before.moves.reads place, after.moves.reads place)
+
+pub reads_stored : {B T : Type 0} (told : B → Told) (bus closed : B) (tagger : T) (levels limit : ℕ) (opened stored : Protected B T) (storing : List ℕ) → opened ≡ new_protected bus tagger levels limit → IsMoved told opened storing stored → closed ≡ stored.bus → (place : Place) → RoseBy 0 ((told bus).reads place) ((told closed).reads place)
+reads_stored {B} {T} told bus closed tagger levels limit opened stored storing new before is place =
+    let first : (told opened.bus).reads place ≡ (told bus).reads place = ap (λ (m : Protected B T). (told m.bus).reads place) new in
+    let third : (told closed).reads place ≡ (told stored.bus).reads place = ap (λ (b : B). (told b).reads place) is in
+    omega (arith, first, third, before.moves.reads place)
 
 -- What the memory outside has at the end
 

@@ -1,11 +1,12 @@
 //! A run of a program on the chip, over any bus to the memory outside it and any sink.
 #![tactic(auto)]
 
-ghost use Rattle.std.specs.Prelude.{◌≡◌, ◌≢◌, ◌≤◌, ◌↔◌, ◌⊎◌, ℕ, List, [], None, IfSome};
-ghost use Rattle.sec_base.specs.Count.{Rose};
+ghost use Rattle.std.specs.Prelude.{◌≡◌, ◌≢◌, ◌<◌, ◌≤◌, ◌↔◌, ◌⊎◌, ℕ, List, [], None, IfSome};
+ghost use Rattle.sec_base.specs.Count.{Rose, RoseBy};
 ghost use Rattle.sec_base.specs.Layout.{line_count, memory_size};
 ghost use Rattle.sec_base.specs.Evidence.{IsEvidence};
 ghost use Rattle.sec_base.specs.Writing.{Gains};
+ghost use Rattle.sec_base.specs.declared.layout.Place.{Place};
 ghost use Rattle.sec_base.specs.declared.answers.Ending.TheVariants.{OutOfSteps, Tampered, Spent, WriteFault, NoMemory};
 ghost use Rattle.bus_model.specs.Told.{NothingWritten};
 ghost use Rattle.tag_engine.specs.Tag.{engine_tag};
@@ -13,7 +14,7 @@ ghost use Rattle.rv32_core.specs.Machine.{opening, plain};
 ghost use Rattle.rv32_core.specs.Follows.{Follows, IsWhole};
 ghost use Rattle.chip_run.specs.Account.{HonestOrCaught, IsOfFirstLie};
 ghost use Rattle.chip_run.specs.Contents.{HoldsLast, IsSpent, IsWrittenOut};
-ghost use Rattle.chip_run.specs.Session.{IsMemoryEnding};
+ghost use Rattle.chip_run.specs.Session.{IsMemoryEnding, IsStop};
 
 mod close;
 mod lines;
@@ -81,6 +82,9 @@ pub fn run<B: Bus, T: Tagger, S: Sink>(
     ensures budget_used { result.0.ending ≡ OutOfSteps → result.0.retired ≡ setup.now.budget }
     ensures within { result.0.retired ≤ setup.now.budget }
 
+    // The memory and the sink end it only where the budget allows one more instruction, or none at all.
+    ensures early { IsStop result.0.ending → 0 < setup.now.budget → result.0.retired < setup.now.budget }
+
     // Where no answer was false and the sink had no fault, it is the plain machine's run over the whole budget, or a
     // page was used up, or memory was not to be had.
     ensures whole { ¬ (Rose (S.state out.old).faults (S.state out.new).faults) → (B.told result.1).lies ≡ 0 →
@@ -93,6 +97,8 @@ pub fn run<B: Bus, T: Tagger, S: Sink>(
     ensures write_fault { result.0.ending ≡ WriteFault → Rose (S.state out.old).faults (S.state out.new).faults }
     ensures faults { (S.state out.old).faults ≤ (S.state out.new).faults }
 
+    // The bus is the one that was given, with more reads.
+    ensures reads { (place : Place) → RoseBy 0 ((B.told bus).reads place) ((B.told result.1).reads place) }
     ensures bus_levels { (B.told result.1).levels ≡ setup.now.geometry }
     ensures used { result.0.used ≡ [] }
     ensures report { result.0.report ≡ None }

@@ -213,9 +213,8 @@ impl<B: Bus, T: Tagger> LineStore for LineMemory<B, T> {
         }
         let writes = self.counters[line as usize];
         if writes >= self.page_limit {
-            let stop = MemStop::Spent(line / 64);
-            self.stopped = Some(stop);
-            return Err(stop);
+            self.stopped = Some(MemStop::Spent(line / 64));
+            return Err(MemStop::Spent(line / 64));
         }
         match self.tags.reserve(1) {
             Ok(()) => {}

@@ -1,10 +1,15 @@
 // Programs of a few words, with data in two further segments. The words were put together by hand from the
 // RISC-V unprivileged manual.
-ghost use Rattle.std.specs.Prelude.{◌≡◌, ◌+◌, ◌≤◌, IfOk, length};
+ghost use Rattle.std.specs.Prelude.{◌≡◌, ◌+◌, ◌≤◌, IfOk, length, refl, replicate};
 ghost use Rattle.sec_base.specs.Program.{IsImage, IsSegment};
 
 use crate::{RunRecord, Setup, run};
-use sec_base::{Bytes, Ending, Geometry, Image, MemorySink, Segment, Segments};
+use bus_model::{FlipBus, HonestBus};
+use hmac_tag::{HmacTagger, Keys, derive};
+use sec_base::{
+    Bytes, Counter, Ending, Evidence, Geometry, Image, MemorySink, Message, Place, Sealed, Segment,
+    Segments, Tagger,
+};
 use std::alloc::{AllocError, Global};
 use std::test::Fail;
 
@@ -69,7 +74,28 @@ fn three(
     Ok(Segments::from_vec(items))
 }
 
-// The code at 0, and two segments at these addresses.
+// The device key that is used where none is given: 00, 01, and so on to 1f.
+fn keys() -> Keys {
+    let mut device = [0; 32];
+    for i in 0..32u8 {
+        device[i as usize] = i;
+    }
+    derive(&device)
+}
+
+fn setup(geometry: Geometry, budget: u64, page_limit: u64) -> Setup
+    ensures geometry { result.geometry ≡ geometry }
+{
+    Setup {
+        geometry,
+        keys: keys(),
+        budget,
+        page_limit,
+        nonce: [0; 16],
+    }
+}
+
+// The code at 0, and two segments at these addresses, over an honest bus.
 fn outcome(
     alloc: Global,
     words: &[u32],
@@ -90,13 +116,23 @@ fn outcome(
     let third = segment(alloc, third.0, 4, third.1)?;
     let segments = three(alloc, first, second, third)?;
     let geometry = Geometry::new(1).ok_or("no geometry")?;
-    let setup = Setup { geometry, budget };
+    let setup = setup(geometry, budget, u64::MAX);
     let image = Image {
         entry: 0,
         size: 16384,
         segments,
     };
-    Ok(run(alloc, &image, &[], &setup, out))
+    let bus = HonestBus::new(alloc, geometry)?;
+    let (record, _bus) = run(
+        alloc,
+        &image,
+        &[],
+        &setup,
+        HmacTagger::new(&setup.keys),
+        bus,
+        out,
+    );
+    Ok(record)
 }
 
 #[test]
@@ -180,6 +216,197 @@ fn a_program_prints_in_pieces(rt: HostRuntime) -> Result<(), Fail> {
         assert_eq!(rt; out.bytes(), printed);
         assert_eq!(rt; done.ending, ending);
         assert_eq!(rt; done.retired, retired);
+    }
+    Ok(())
+}
+
+// Tags every message with zeros.
+#[derive(Drop)]
+struct Zeros;
+
+impl Tagger for Zeros {
+    ghost data_tag_of = { λ _ _. replicate 16 0 };
+
+    ghost node_tag_of = { λ _ _. replicate 16 0 };
+
+    fn data_tag(&self, _message: &[u8; 78]) -> [u8; 16] {
+        [0; 16]
+    }
+
+    fn node_tag(&self, _message: &[u8; 70]) -> [u8; 16] {
+        [0; 16]
+    }
+
+    ghost data_tag_long = { λ _ _. refl };
+
+    ghost node_tag_long = { λ _ _. refl };
+}
+
+// Stores 65 at 0x1000, which is line 64, loads it, and exits with it.
+const EXIT_65: [u32; 6] = [
+    0x0000_12b7,
+    0x0410_0313,
+    0x0062_a023,
+    0x0002_a503,
+    0x05d0_0893,
+    0x0000_0073,
+];
+
+// Stores 65 at 0x1000, prints that byte, and exits with 1.
+const PRINT_A: [u32; 10] = [
+    0x0000_12b7,
+    0x0410_0313,
+    0x0062_a023,
+    0x0010_0513,
+    0x0002_8593,
+    0x0010_0613,
+    0x0400_0893,
+    0x0000_0073,
+    0x05d0_0893,
+    0x0000_0073,
+];
+
+// The words at 0, and nothing else.
+fn flat(alloc: Global, words: &[u32]) -> Result<Segments, AllocError>
+    requires { length words.now ≤ 16 }
+    ensures { IfOk result (λ segments. IsImage 0 16384 segments) }
+{
+    let bytes = code(alloc, words)?;
+    let length = bytes.len() as u32;
+    let mut items = Vec::new(alloc);
+    items.push(Segment {
+        addr: 0,
+        length,
+        bytes: Bytes::from_vec(bytes),
+    })?;
+    Ok(Segments::from_vec(items))
+}
+
+// A program of a few words over an honest bus.
+fn honest(
+    alloc: Global,
+    words: &[u32],
+    page_limit: u64,
+    out: &mut MemorySink,
+) -> Result<RunRecord, Fail>
+    requires { length words.now ≤ 16 }
+{
+    let geometry = Geometry::new(1).ok_or("no geometry")?;
+    let image = Image {
+        entry: 0,
+        size: 16384,
+        segments: flat(alloc, words)?,
+    };
+    let setup = setup(geometry, 99, page_limit);
+    let tagger = HmacTagger::new(&setup.keys);
+    let bus = HonestBus::new(alloc, geometry)?;
+    let (record, _bus) = run(alloc, &image, &[], &setup, tagger, bus, out);
+    Ok(record)
+}
+
+// The program that exits with 65, where the first read of line 64 is answered with its lowest bit flipped, and how
+// many answers were false.
+fn flipped<T: Tagger>(alloc: Global, tagger: T) -> Result<(RunRecord, u64), Fail> {
+    let geometry = Geometry::new(1).ok_or("no geometry")?;
+    let image = Image {
+        entry: 0,
+        size: 16384,
+        segments: flat(alloc, &EXIT_65)?,
+    };
+    let setup = setup(geometry, 99, u64::MAX);
+    let bus = FlipBus::new(alloc, geometry, Place::Line(64), 1, 0, 1)?;
+    let mut out = MemorySink::new(alloc, &[])?;
+    let (record, bus) = run(alloc, &image, &[], &setup, tagger, bus, &mut out);
+    Ok((record, bus.lies()))
+}
+
+// A line whose first byte is this, and whose others are zeros.
+fn line_of(first: u8) -> [u8; 64] {
+    let mut line = [0; 64];
+    line[0] = first;
+    line
+}
+
+#[test]
+fn a_program_prints_over_an_honest_bus(rt: HostRuntime) -> Result<(), Fail> {
+    let mut out = MemorySink::new(rt.alloc(), &[])?;
+    let done = honest(rt.alloc(), &PRINT_A, u64::MAX, &mut out)?;
+    assert_eq!(rt; out.bytes(), b"A".as_slice());
+    assert_eq!(rt; done.ending, Ending::Halted(1));
+    assert_eq!(rt; done.retired, 10);
+    Ok(())
+}
+
+// Six words of the program are stored in line 0, and then 65 in line 64.
+#[test]
+fn each_write_is_tagged(rt: HostRuntime) -> Result<(), Fail> {
+    let mut out = MemorySink::new(rt.alloc(), &[])?;
+    let done = honest(rt.alloc(), &EXIT_65, u64::MAX, &mut out)?;
+    assert_eq!(rt; done.ending, Ending::Halted(65));
+    assert_eq!(rt; done.retired, 6);
+    assert_eq!(rt; done.evidence, None);
+    assert_eq!(rt; done.report, None);
+    assert_eq!(rt; done.made.len(), 7);
+    assert_eq!(rt; done.used.len(), 0);
+    for at in 0..6u64 {
+        let Some(Message::Line { line, counter, .. }) = done.made.get(at) else {
+            return Err(Fail::from("no message of a line"));
+        };
+        assert_eq!(rt; line, 0, "message {at}");
+        assert_eq!(rt; counter, Counter { page: at + 1, line: 0 }, "message {at}");
+    }
+    let last = Message::Line {
+        line: 64,
+        counter: Counter { page: 1, line: 0 },
+        cipher: line_of(65),
+    };
+    assert_eq!(rt; done.made.get(6), Some(last));
+    Ok(())
+}
+
+#[test]
+fn a_false_answer_that_fails_its_check_ends_the_run(rt: HostRuntime) -> Result<(), Fail> {
+    let (done, lies) = flipped(rt.alloc(), HmacTagger::new(&keys()))?;
+    assert_eq!(rt; done.ending, Ending::Tampered(Place::Line(64)));
+    assert_eq!(rt; done.retired, 3);
+    assert_eq!(rt; done.evidence, None);
+    assert_eq!(rt; lies, 1);
+    Ok(())
+}
+
+#[test]
+fn a_false_answer_that_passes_its_check_is_shown(rt: HostRuntime) -> Result<(), Fail> {
+    let (done, lies) = flipped(rt.alloc(), Zeros)?;
+    assert_eq!(rt; done.ending, Ending::Halted(64));
+    assert_eq!(rt; done.retired, 6);
+    let shown = Evidence::Forgery {
+        line: 64,
+        counter: Counter { page: 1, line: 0 },
+        sealed: Sealed {
+            cipher: line_of(64),
+            tag: [0; 16],
+        },
+        made_count: 7,
+    };
+    assert_eq!(rt; done.evidence, Some(shown));
+    assert_eq!(rt; lies, 1);
+    Ok(())
+}
+
+// Line 0 is written six times before the first instruction.
+#[test]
+fn a_line_is_written_as_often_as_the_limit_allows(rt: HostRuntime) -> Result<(), Fail> {
+    let rows = [
+        (0, 0, Ending::Spent(0)),
+        (5, 0, Ending::Spent(0)),
+        (6, 6, Ending::Halted(65)),
+    ];
+    for (page_limit, retired, ending) in rows {
+        let mut out = MemorySink::new(rt.alloc(), &[])?;
+        let done = honest(rt.alloc(), &EXIT_65, page_limit, &mut out)?;
+        assert_eq!(rt; done.ending, ending, "limit {page_limit}");
+        assert_eq!(rt; done.retired, retired, "limit {page_limit}");
+        assert_eq!(rt; done.evidence, None, "limit {page_limit}");
     }
     Ok(())
 }

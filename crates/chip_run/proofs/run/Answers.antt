@@ -8,7 +8,7 @@ use Rattle.tag_engine.specs.Engine.{tags_of}
 use Rattle.chip_run.specs.Contents.{contents_of}
 use Rattle.chip_run.specs.Protected.{new_protected}
 use Rattle.chip_run.specs.Session.{IsStop, FollowsWith}
-use Rattle.chip_run.proofs.Runs.{opening_zeros, opening_follows, nothing_follows, levels_stay, written_out, budget_ends, honest_run}
+use Rattle.chip_run.proofs.Runs.{opening_zeros, opening_follows, nothing_follows, levels_stay, reads_stay, reads_stored, written_out, budget_ends, honest_run}
 use Rattle.chip_run.proofs.run.Given.{Over}
 use Rattle.chip_run.proofs.run.Goals as goal
 
@@ -83,3 +83,19 @@ returns-clause-whole g c = λ faultless honest memory.
     c.close-2.ensures.ending (ap (λ bus. (g.B.Bus.told bus).lies) (sym c.close-2.ensures.bus) ∙ honest) c.close-2.ensures.first_lie c.close-2.ensures.answers
     (λ quiet. (follows g c (c.close-2.ensures.evidence ∙ quiet)).follows)
     (λ fault. faultless (c.finish-ending.ensures.write_fault (sym c.close-2.ensures.ending ∙ fault))) memory
+
+pub returns-clause-early : goal.returns-clause-early
+returns-clause-early g c = λ stops some.
+    let early = c.finish-ending.ensures.early (subst IsStop c.close-2.ensures.ending stops) in omega (arith, early)
+
+pub returns-clause-reads : goal.returns-clause-reads
+returns-clause-reads g c =
+    reads_stay g.B.Bus.told c.args.bus c.close-2.result.1 c.args.tagger c.args.setup.now.geometry c.args.setup.now.page_limit
+    c.new-memory.result.lines c.store_image.new.ram.lines c.new-session.result.memory.lines c.finish-ending.new.self.memory.lines _ _
+    (booted g c) c.in_default.ensures.moved.1 (ap (λ memory. memory.lines) c.new-session.ensures.memory) c.finish-ending.ensures.moved.1
+    (c.close-2.ensures.bus ∙ ap (λ memory. memory.lines.bus) c.into_memory.ensures)
+
+pub returns-in-Err-store_image-clause-reads : goal.returns-in-Err-store_image-clause-reads
+returns-in-Err-store_image-clause-reads g c =
+    reads_stored g.B.Bus.told c.args.bus c.close.result.1 c.args.tagger c.args.setup.now.geometry c.args.setup.now.page_limit
+    c.new-memory.result.lines c.store_image.new.ram.lines _ (c.new-memory.ensures ∙ c.in-Ok.ensures.new) c.in-Err-store_image.ensures.moved.1 c.close.ensures.bus
