@@ -76,10 +76,12 @@ pub moved_on : {B T : Type 0} (told : B → Told) (first second third : Protecte
 moved_on told first second third before after a b = record {
   moves = moves_on told first second third a.moves b.moves;
   stays = λ stop is. b.stays stop (a.stays stop is);
-  read = record { read = λ going quiet line listed.
-      elim (Contains-append_cases before after line listed) [
-        | inl early ↦ read_sooner told first second third line b.moves
-            (a.read.read (was_none second.stopped third.stopped b.stays going) (was_none second.engine.evidence third.engine.evidence b.moves.evidence quiet) line early)
-        | inr late ↦ read_later told first second third line a.moves (b.read.read going quiet line late)
-      ] };
+  read = record {
+    read = λ going quiet line listed.
+        elim (Contains-append_cases before after line listed) [
+          | inl early ↦ read_sooner told first second third line b.moves
+              (a.read.read (was_none second.stopped third.stopped b.stays going) (was_none second.engine.evidence third.engine.evidence b.moves.evidence quiet) line early)
+          | inr late ↦ read_later told first second third line a.moves (b.read.read going quiet line late)
+        ];
+  };
 }

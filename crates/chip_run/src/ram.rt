@@ -1,5 +1,5 @@
 // The memory that the processor sees: numbers in the protected lines.
-ghost use Rattle.std.specs.Prelude.{◌≡◌, ◌+◌, ◌≤◌, None, length};
+ghost use Rattle.std.specs.Prelude.{◌≡◌, ◌+◌, ◌*◌, ◌^◌, ◌<◌, ◌≤◌, None, length};
 ghost use Rattle.sec_base.specs.Width.{width_bytes, number_at, with_number};
 
 use crate::lines::LineMemory;
@@ -84,7 +84,8 @@ impl<B: Bus, T: Tagger> Ram for LineRam<B, T> {
 // The little-endian number at a place of a line.
 fn number_in(line: &[u8; 64], at: usize, width: Width) -> u32
     requires { at + width_bytes width ≤ 64 }
-    ensures { result ≡ number_at line.now at width }
+    ensures value { result ≡ number_at line.now at width }
+    ensures fits { result < 2 ^ (8 * width_bytes width) }
 {
     match width {
         Width::One => u32::from(line[at]),

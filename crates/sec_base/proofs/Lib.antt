@@ -7,3 +7,4 @@ pub mod LastMessages
 pub mod SameMessages
 pub mod SamePlaces
 pub mod JoinedLines
+pub mod LineNumbers

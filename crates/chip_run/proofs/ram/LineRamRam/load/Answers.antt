@@ -1,0 +1,11 @@
+use Rattle.sec_base.specs.Layout.{line_count}
+use Rattle.chip_run.specs.Contents.{contents_of}
+use Rattle.sec_base.proofs.LineNumbers.{number_read}
+use Rattle.chip_run.proofs.ram.LineRamRam.load.Goals as goal
+
+pub returns-in-Ok-clause-value : goal.returns-in-Ok-clause-value
+returns-in-Ok-clause-value g c = λ going sound.
+    number_read
+    (contents_of (line_count c.args.self.now.lines.engine.levels) c.args.self.now.lines.engine.made)
+    c.in-Ok.line c.args.addr c.number_in.result c.args.width
+    c.requires.aligned (c.in-Ok.ensures.value going sound) c.number_in.ensures.value
