@@ -117,7 +117,7 @@ lie_stays told place bytes lie some first =
           let more : 0 < more_by 1 told.lies = omega arith in (
             subst (λ (t : Told). 0 < t.lies) (sym falsely.1) more,
             ap (λ (t : Told). t.lie) falsely.1
-            ∙ not_first told.lies told.lie (record { access = (after_answer place told).accesses; place = place; bytes = bytes }) lie some first,
+                ∙ not_first told.lies told.lie (record { access = (after_answer place told).accesses; place = place; bytes = bytes }) lie some first,
           )
     ]
 
@@ -289,7 +289,6 @@ line_fails tag_of made line counter cipher sealed long last untagged =
 module _ {B T : Type 0} (d n : T → List ℕ → List ℕ) (told : Told) (bus bus' : B) (engine : Engine T) (counters : List ℕ) (limit : ℕ) (stopped : Option MemStop) (line writes : ℕ)
     (kept : IsKept (tags_of d n engine) told (record { bus = bus; engine = engine; counters = counters; limit = limit; stopped = stopped }))
     (going : lasting_stop stopped ≡ None) (inside : line < line_count engine.levels) (read : writes ≡ slice_index counters line) (some : writes ≢ 0) where
-
   none_lied : engine.evidence ≡ None → told.lies ≡ 0
   none_lied quiet = honest_by told (tags_of d n engine) engine.made stopped going (kept.answers quiet)
 
@@ -309,8 +308,10 @@ module _ {B T : Type 0} (d n : T → List ℕ → List ℕ) (told : Told) (bus b
     counted = kept.counted;
     stored = λ none goes_on.
         let was = kept.stored (quiet none) (ap lasting_stop (sym (goes goes_on)) ∙ goes_on) in
-        record { holds = λ l counter cipher below last.
-            ap (λ (written : Place → List ℕ). written (line_place l)) (read_written (line_place line) bytes told) ∙ was.holds l counter cipher below last };
+        record {
+          holds = λ l counter cipher below last.
+              ap (λ (written : Place → List ℕ). written (line_place l)) (read_written (line_place line) bytes told) ∙ was.holds l counter cipher below last;
+        };
     answers = answers;
     genuine = genuine;
     shown = shown;
@@ -472,7 +473,6 @@ module _ {B T : Type 0} (d n : T → List ℕ → List ℕ) (told : Told) (bus b
     (going : lasting_stop stopped ≡ None) (inside : line < line_count engine.levels) (read : writes ≡ slice_index counters line)
     (below : writes < limit) (long : length bytes ≡ 64) (set : counters' ≡ slice_set counters line (writes + 1))
     (tagged : engine' ≡ after_make (Line line (record { page = writes + 1; line = 0 }) bytes) (with_room 1 engine)) where
-
   made_is : engine'.made ≡ engine.made ++ Line line (record { page = writes + 1; line = 0 }) bytes ∷ []
   made_is = ap (λ (e : Engine T). e.made) tagged
 
@@ -523,20 +523,22 @@ module _ {B T : Type 0} (d n : T → List ℕ → List ℕ) (told : Told) (bus b
       let counter : Counter = record { page = writes + 1; line = 0 } in
       let made : List Message = engine.made ++ Line line counter bytes ∷ [] in
       let tag : List ℕ = tags_of d n engine (Line line counter bytes) in
-      record { holds = λ other counter' cipher within last.
-          elim (cases_eq other line) [
-            | inl same ↦
-                let here : last_data other made ≡ Some (counter, bytes) = ap (λ (l : ℕ). last_data l made) same ∙ last_data-same engine.made line counter bytes in
-                let pair : (counter, bytes) ≡ (counter', cipher) = some_same (counter, bytes) (counter', cipher) (sym here ∙ last) in
-                ap (λ (l : ℕ). at_place (line_place line) (bytes ++ tag) told.written (line_place l)) same
-                ∙ at_place-here (line_place line) (bytes ++ tag) told.written
-                ∙ ap (λ (p : Counter × List ℕ). p.1 ++ tags_of d n engine (Line line p.0 p.1)) pair
-                ∙ ap (λ (l : ℕ). cipher ++ tags_of d n engine (Line l counter' cipher)) (sym same)
-            | inr differs ↦
-                let apart : line_place other ≢ line_place line = λ e. differs (cc) in
-                at_place-there (line_place line) (line_place other) (bytes ++ tag) told.written apart
-                ∙ (kept.stored quiet going).holds other counter' cipher within (sym (last_data-other engine.made line other counter bytes differs) ∙ last)
-          ] }
+      record {
+        holds = λ other counter' cipher within last.
+            elim (cases_eq other line) [
+              | inl same ↦
+                  let here : last_data other made ≡ Some (counter, bytes) = ap (λ (l : ℕ). last_data l made) same ∙ last_data-same engine.made line counter bytes in
+                  let pair : (counter, bytes) ≡ (counter', cipher) = some_same (counter, bytes) (counter', cipher) (sym here ∙ last) in
+                  ap (λ (l : ℕ). at_place (line_place line) (bytes ++ tag) told.written (line_place l)) same
+                  ∙ at_place-here (line_place line) (bytes ++ tag) told.written
+                  ∙ ap (λ (p : Counter × List ℕ). p.1 ++ tags_of d n engine (Line line p.0 p.1)) pair
+                  ∙ ap (λ (l : ℕ). cipher ++ tags_of d n engine (Line l counter' cipher)) (sym same)
+              | inr differs ↦
+                  let apart : line_place other ≢ line_place line = λ e. differs (cc) in
+                  at_place-there (line_place line) (line_place other) (bytes ++ tag) told.written apart
+                  ∙ (kept.stored quiet going).holds other counter' cipher within (sym (last_data-other engine.made line other counter bytes differs) ∙ last)
+            ];
+      }
 
   -- a line and its tag were written
   pub written_kept : (told' : Told) →

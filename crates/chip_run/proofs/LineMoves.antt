@@ -50,7 +50,6 @@ first_stays None shown evidence is = absurd (cc)
 first_stays (Some first) shown evidence is = is
 
 module _ {B T : Type 0} (told : B → Told) (old : Protected B T) (line : ℕ) where
-
   -- an answer of the line's place
   pub answer_moves : (bus : B) (engine : Engine T) (counters : List ℕ) (stopped : Option MemStop) (bytes : List ℕ) (shown : Option Evidence) →
       told bus ≡ after_read (line_place line) bytes (told old.bus) → engine ≡ record old.engine { evidence = option_or old.engine.evidence shown } →
@@ -69,11 +68,13 @@ module _ {B T : Type 0} (told : B → Told) (old : Protected B T) (line : ℕ) w
   was_read : (bus : B) (engine : Engine T) (counters : List ℕ) (stopped : Option MemStop) (bytes : List ℕ) →
       told bus ≡ after_read (line_place line) bytes (told old.bus) →
       WereRead told old (line ∷ []) (record { bus = bus; engine = engine; counters = counters; limit = old.limit; stopped = stopped })
-  was_read bus engine counters stopped bytes answered = record { read = λ going quiet other listed.
-      let here : other ≡ line = only_line line other listed in
-      let rose : Rose ((told old.bus).reads (line_place line)) ((told bus).reads (line_place line)) =
-      subst (λ (t : Told). Rose ((told old.bus).reads (line_place line)) (t.reads (line_place line))) (sym answered) (read_rose (line_place line) bytes (told old.bus)) in
-      inr (subst (λ (l : ℕ). Rose ((told old.bus).reads (line_place l)) ((told bus).reads (line_place l))) (sym here) rose) }
+  was_read bus engine counters stopped bytes answered = record {
+    read = λ going quiet other listed.
+        let here : other ≡ line = only_line line other listed in
+        let rose : Rose ((told old.bus).reads (line_place line)) ((told bus).reads (line_place line)) =
+        subst (λ (t : Told). Rose ((told old.bus).reads (line_place line)) (t.reads (line_place line))) (sym answered) (read_rose (line_place line) bytes (told old.bus)) in
+        inr (subst (λ (l : ℕ). Rose ((told old.bus).reads (line_place l)) ((told bus).reads (line_place l))) (sym here) rose);
+  }
 
   -- a line that passed its check
   pub passed_moved : (tag_of : Message → List ℕ) (counter : Counter) (bus : B) (engine : Engine T) (cipher : List ℕ) →
@@ -126,8 +127,10 @@ module _ {B T : Type 0} (told : B → Told) (old : Protected B T) (line : ℕ) w
   pub fresh_moved : IsFresh line (data_pairs old.engine.made) → ReadMoved told old line old
   fresh_moved fresh = record {
     moves = moves_not told old;
-    read = record { read = λ going quiet other listed.
-        inl (subst (λ (l : ℕ). IsFresh l (data_pairs old.engine.made)) (sym (only_line line other listed)) fresh) };
+    read = record {
+      read = λ going quiet other listed.
+          inl (subst (λ (l : ℕ). IsFresh l (data_pairs old.engine.made)) (sym (only_line line other listed)) fresh);
+    };
   }
 
   -- a line that was tagged, and written or not

@@ -50,12 +50,12 @@ impl<B: Bus, T: Tagger> Model for LineMemory<B, T> {
 
     ghost invariant = { λ memory. (memory.geometry ≡ memory.tags.levels)
         × IsKept {B = B} {T = T} (tags_of T.data_tag_of T.node_tag_of memory.tags) (B.told memory.bus) (record {
-      bus = memory.bus;
-      engine = memory.tags;
-      counters = memory.counters.items;
-      limit = memory.page_limit;
-      stopped = memory.stopped;
-    }) };
+          bus = memory.bus;
+          engine = memory.tags;
+          counters = memory.counters.items;
+          limit = memory.page_limit;
+          stopped = memory.stopped;
+        }) };
 }
 
 impl<B: Bus, T: Tagger> LineMemory<B, T> {

@@ -353,7 +353,14 @@ fn each_write_is_tagged(rt: HostRuntime) -> Result<(), Fail> {
             return Err(Fail::from("no message of a line"));
         };
         assert_eq!(rt; line, 0, "message {at}");
-        assert_eq!(rt; counter, Counter { page: at + 1, line: 0 }, "message {at}");
+        assert_eq!(rt;
+            counter,
+            Counter {
+                page: at + 1,
+                line: 0
+            },
+            "message {at}"
+        );
     }
     let last = Message::Line {
         line: 64,

@@ -5,13 +5,16 @@ use Rattle.tag_engine.proofs.Upkeep.{failed_check}
 use Rattle.chip_run.proofs.lines.read_checked.Goals as goal
 
 pub returns-else-check_data : goal.returns-else-check_data
-returns-else-check_data g c = (refl, record {
-  sealed = c.in-Ok.sealed;
-  untagged = λ tagged. let passes = c.if-check_data.ensures.passes.1 tagged in absurd (cc);
-  answered = c.in-Ok.ensures.ok;
-  long = search rules;
-  unchanged = c.if-check_data.ensures.state ∙ sym (failed_check c.args.tags.now c.args.line c.args.counter c.in-Ok.sealed);
-})
+returns-else-check_data g c = (
+  refl,
+  record {
+    sealed = c.in-Ok.sealed;
+    untagged = λ tagged. let passes = c.if-check_data.ensures.passes.1 tagged in absurd (cc);
+    answered = c.in-Ok.ensures.ok;
+    long = search rules;
+    unchanged = c.if-check_data.ensures.state ∙ sym (failed_check c.args.tags.now c.args.line c.args.counter c.in-Ok.sealed);
+  },
+)
 
 pub returns-then-check_data : goal.returns-then-check_data
 returns-then-check_data g c =

@@ -37,11 +37,12 @@ invariant_of-self g c =
     let going : lasting_stop c.self.inside.stopped ≡ None = sym c.lasting.ensures ∙ c.in_default.is in
     let counted = c.self.invariant.1.counted in
     let read = counter_read (line_count c.self.inside.tags.levels) c.self.inside.page_limit c.self.inside.tags.made c.self.inside.counters.items c.args.line c.index-writes.result.now counted inside c.index-writes.ensures in
-    let passed = rw c.counter_of.ensures at c.in-Ok.ensures in
-    (c.self.invariant.0 ∙ sym (ap (λ (e : Engine g.row.T.Denot). e.levels) passed.checked),
-    passed_kept g.T.Tagger.data_tag_of g.T.Tagger.node_tag_of (g.B.Bus.told c.self.inside.bus) c.self.inside.bus c.read_checked.new.bus c.self.inside.tags
-    c.self.inside.counters.items c.self.inside.page_limit c.self.inside.stopped c.args.line c.index-writes.result.now
-    c.self.invariant.1 going inside read c.if-writes-eq0.false (g.B.Bus.told c.read_checked.new.bus) c.read_checked.new.tags c.in-Ok.bytes passed)
+    let passed = rw c.counter_of.ensures at c.in-Ok.ensures in (
+      c.self.invariant.0 ∙ sym (ap (λ (e : Engine g.row.T.Denot). e.levels) passed.checked),
+      passed_kept g.T.Tagger.data_tag_of g.T.Tagger.node_tag_of (g.B.Bus.told c.self.inside.bus) c.self.inside.bus c.read_checked.new.bus c.self.inside.tags
+          c.self.inside.counters.items c.self.inside.page_limit c.self.inside.stopped c.args.line c.index-writes.result.now
+          c.self.invariant.1 going inside read c.if-writes-eq0.false (g.B.Bus.told c.read_checked.new.bus) c.read_checked.new.tags c.in-Ok.bytes passed,
+    )
 
 pub invariant_of-self-in-Err : goal.invariant_of-self-in-Err
 invariant_of-self-in-Err g c =
@@ -50,12 +51,13 @@ invariant_of-self-in-Err g c =
     let counted = c.self.invariant.1.counted in
     let read = counter_read (line_count c.self.inside.tags.levels) c.self.inside.page_limit c.self.inside.tags.made c.self.inside.counters.items c.args.line c.index-writes.result.now counted inside c.index-writes.ensures in
     let stops = subst (λ (k : Counter). IsCheckedRead (tags_of g.T.Tagger.data_tag_of g.T.Tagger.node_tag_of c.self.inside.tags) c.args.line k
-    (g.B.Bus.told c.self.inside.bus) (g.B.Bus.told c.read_checked.new.bus) c.self.inside.tags c.read_checked.new.tags (Err c.in-Err.stop)) c.counter_of.ensures c.in-Err.ensures in
-    (c.self.invariant.0 ∙ sym (stopped_levels (tags_of g.T.Tagger.data_tag_of g.T.Tagger.node_tag_of c.self.inside.tags) c.args.line (record { page = c.index-writes.result.now; line = 0 })
-    (g.B.Bus.told c.self.inside.bus) (g.B.Bus.told c.read_checked.new.bus) c.self.inside.tags c.read_checked.new.tags c.in-Err.stop stops),
-    stopped_kept g.T.Tagger.data_tag_of g.T.Tagger.node_tag_of (g.B.Bus.told c.self.inside.bus) c.self.inside.bus c.read_checked.new.bus c.self.inside.tags
-    c.self.inside.counters.items c.self.inside.page_limit c.self.inside.stopped c.args.line c.index-writes.result.now
-    c.self.invariant.1 going inside read c.if-writes-eq0.false (g.B.Bus.told c.read_checked.new.bus) c.read_checked.new.tags c.in-Err.stop stops)
+    (g.B.Bus.told c.self.inside.bus) (g.B.Bus.told c.read_checked.new.bus) c.self.inside.tags c.read_checked.new.tags (Err c.in-Err.stop)) c.counter_of.ensures c.in-Err.ensures in (
+      c.self.invariant.0 ∙ sym (stopped_levels (tags_of g.T.Tagger.data_tag_of g.T.Tagger.node_tag_of c.self.inside.tags) c.args.line (record { page = c.index-writes.result.now; line = 0 })
+          (g.B.Bus.told c.self.inside.bus) (g.B.Bus.told c.read_checked.new.bus) c.self.inside.tags c.read_checked.new.tags c.in-Err.stop stops),
+      stopped_kept g.T.Tagger.data_tag_of g.T.Tagger.node_tag_of (g.B.Bus.told c.self.inside.bus) c.self.inside.bus c.read_checked.new.bus c.self.inside.tags
+          c.self.inside.counters.items c.self.inside.page_limit c.self.inside.stopped c.args.line c.index-writes.result.now
+          c.self.invariant.1 going inside read c.if-writes-eq0.false (g.B.Bus.told c.read_checked.new.bus) c.read_checked.new.tags c.in-Err.stop stops,
+    )
 
 pub returns-in-Ok-clause-value : goal.returns-in-Ok-clause-value
 returns-in-Ok-clause-value g c = λ unstopped sound.

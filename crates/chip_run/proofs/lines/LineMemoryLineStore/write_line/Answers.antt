@@ -20,12 +20,13 @@ invariant_of-self g c =
     let inside : c.args.line < line_count c.self.inside.tags.levels = rw (← c.self.view_is) at c.requires.inside in
     let counted = c.self.invariant.1.counted in
     let read = counter_read (line_count c.self.inside.tags.levels) c.self.inside.page_limit c.self.inside.tags.made c.self.inside.counters.items c.args.line c.index-writes.result.now counted inside c.index-writes.ensures in
-    let going : lasting_stop c.self.inside.stopped ≡ None = sym c.lasting.ensures ∙ c.in_default.is in
-    (c.self.invariant.0,
-    spent_kept g.T.Tagger.data_tag_of g.T.Tagger.node_tag_of (g.B.Bus.told c.self.inside.bus) c.self.inside.bus c.self.inside.bus c.self.inside.tags
-    c.self.inside.counters.items c.self.inside.page_limit c.self.inside.stopped c.args.line c.self.invariant.1 going inside
-    (used_up (line_count c.self.inside.tags.levels) c.self.inside.page_limit c.self.inside.tags.made c.self.inside.counters.items c.args.line c.index-writes.result.now
-    counted inside read c.if-writes-self.true))
+    let going : lasting_stop c.self.inside.stopped ≡ None = sym c.lasting.ensures ∙ c.in_default.is in (
+      c.self.invariant.0,
+      spent_kept g.T.Tagger.data_tag_of g.T.Tagger.node_tag_of (g.B.Bus.told c.self.inside.bus) c.self.inside.bus c.self.inside.bus c.self.inside.tags
+          c.self.inside.counters.items c.self.inside.page_limit c.self.inside.stopped c.args.line c.self.invariant.1 going inside
+          (used_up (line_count c.self.inside.tags.levels) c.self.inside.page_limit c.self.inside.tags.made c.self.inside.counters.items c.args.line c.index-writes.result.now
+          counted inside read c.if-writes-self.true),
+    )
 
 pub returns-then-writes-self-clause-spent : goal.returns-then-writes-self-clause-spent
 returns-then-writes-self-clause-spent g c = λ _.
@@ -38,18 +39,21 @@ returns-then-writes-self-clause-spent g c = λ _.
 
 pub invariant_of-self-in-Err : goal.invariant_of-self-in-Err
 invariant_of-self-in-Err g c =
-    let going : lasting_stop c.self.inside.stopped ≡ None = sym c.lasting.ensures ∙ c.in_default.is in
-    (c.self.invariant.0 ∙ sym (ap (λ (e : Engine g.row.T.Denot). e.levels) c.in-Err.ensures.refused),
-    memory_kept g.T.Tagger.data_tag_of g.T.Tagger.node_tag_of (g.B.Bus.told c.self.inside.bus) c.self.inside.bus c.self.inside.bus c.self.inside.tags
-    c.self.inside.counters.items c.self.inside.page_limit c.self.inside.stopped c.reserve.new.self c.self.invariant.1 going c.in-Err.ensures.refused)
+    let going : lasting_stop c.self.inside.stopped ≡ None = sym c.lasting.ensures ∙ c.in_default.is in (
+      c.self.invariant.0 ∙ sym (ap (λ (e : Engine g.row.T.Denot). e.levels) c.in-Err.ensures.refused),
+      memory_kept g.T.Tagger.data_tag_of g.T.Tagger.node_tag_of (g.B.Bus.told c.self.inside.bus) c.self.inside.bus c.self.inside.bus c.self.inside.tags
+          c.self.inside.counters.items c.self.inside.page_limit c.self.inside.stopped c.reserve.new.self c.self.invariant.1 going c.in-Err.ensures.refused,
+    )
 
 pub returns-in-Err-clause-spent : goal.returns-in-Err-clause-spent
 returns-in-Err-clause-spent g c = λ _.
     let inside : c.args.line < line_count c.self.inside.tags.levels = rw (← c.self.view_is) at c.requires.inside in
     let counted = c.self.invariant.1.counted in
-    let read = counter_read (line_count c.self.inside.tags.levels) c.self.inside.page_limit c.self.inside.tags.made c.self.inside.counters.items c.args.line c.index-writes.result.now counted inside c.index-writes.ensures in
-    (λ is. absurd (cc), λ full. absurd (not_used_up (line_count c.self.inside.tags.levels) c.self.inside.page_limit c.self.inside.tags.made c.self.inside.counters.items c.args.line c.index-writes.result.now
-    counted inside read c.if-writes-self.false (rw (← c.self.view_is) at full)))
+    let read = counter_read (line_count c.self.inside.tags.levels) c.self.inside.page_limit c.self.inside.tags.made c.self.inside.counters.items c.args.line c.index-writes.result.now counted inside c.index-writes.ensures in (
+      λ is. absurd (cc),
+      λ full. absurd (not_used_up (line_count c.self.inside.tags.levels) c.self.inside.page_limit c.self.inside.tags.made c.self.inside.counters.items c.args.line c.index-writes.result.now
+          counted inside read c.if-writes-self.false (rw (← c.self.view_is) at full)),
+    )
 
 pub invariant_of-self-in-Ok-write_tagged : goal.invariant_of-self-in-Ok-write_tagged
 invariant_of-self-in-Ok-write_tagged g c =
@@ -68,11 +72,12 @@ invariant_of-self-in-Ok-write_tagged g c =
     let told = g.B.Bus.told c.self.inside.bus in
     let wrote : told' ≡ after_write (line_place c.args.line) (c.args.bytes.now ++ tags_of d n c.self.inside.tags (Line c.args.line counter c.args.bytes.now)) told =
     subst (λ (k : Counter). told' ≡ after_write (line_place c.args.line) (c.args.bytes.now ++ tags_of d n c.self.inside.tags (Line c.args.line k c.args.bytes.now)) told) c.counter_of-counter.ensures
-    (subst (λ (e : Engine g.row.T.Denot). told' ≡ after_write (line_place c.args.line) (c.args.bytes.now ++ tags_of d n e (Line c.args.line c.counter_of-counter.result c.args.bytes.now)) told) c.in-Ok.ensures.taken c.in-Ok-write_tagged.ensures.ok) in
-    (c.self.invariant.0 ∙ sym (ap (λ (e : Engine g.row.T.Denot). e.levels) tagged),
-    written_kept d n (g.B.Bus.told c.self.inside.bus) c.self.inside.bus c.write_tagged.new.bus c.self.inside.tags c.write_tagged.new.tags
-    c.self.inside.counters.items (slice_set c.self.inside.counters.items c.args.line (c.index-writes.result.now + 1)) c.self.inside.page_limit c.self.inside.stopped c.args.line c.index-writes.result.now c.args.bytes.now
-    c.self.invariant.1 going inside read c.if-writes-self.false long refl tagged told' wrote)
+    (subst (λ (e : Engine g.row.T.Denot). told' ≡ after_write (line_place c.args.line) (c.args.bytes.now ++ tags_of d n e (Line c.args.line c.counter_of-counter.result c.args.bytes.now)) told) c.in-Ok.ensures.taken c.in-Ok-write_tagged.ensures.ok) in (
+      c.self.invariant.0 ∙ sym (ap (λ (e : Engine g.row.T.Denot). e.levels) tagged),
+      written_kept d n (g.B.Bus.told c.self.inside.bus) c.self.inside.bus c.write_tagged.new.bus c.self.inside.tags c.write_tagged.new.tags
+          c.self.inside.counters.items (slice_set c.self.inside.counters.items c.args.line (c.index-writes.result.now + 1)) c.self.inside.page_limit c.self.inside.stopped c.args.line c.index-writes.result.now c.args.bytes.now
+          c.self.invariant.1 going inside read c.if-writes-self.false long refl tagged told' wrote,
+    )
 
 pub invariant_of-self-in-Err-write_tagged : goal.invariant_of-self-in-Err-write_tagged
 invariant_of-self-in-Err-write_tagged g c =
@@ -86,11 +91,12 @@ invariant_of-self-in-Err-write_tagged g c =
     let counter : Counter = record { page = c.index-writes.result.now + 1; line = 0 } in
     let tagged : c.write_tagged.new.tags ≡ after_make (Line c.args.line counter c.args.bytes.now) (with_room 1 c.self.inside.tags) =
     c.write_tagged.ensures.tags ∙ ap (λ (e : Engine g.row.T.Denot). after_make (Line c.args.line c.counter_of-counter.result c.args.bytes.now) e) c.in-Ok.ensures.taken
-    ∙ ap (λ (k : Counter). after_make (Line c.args.line k c.args.bytes.now) (with_room 1 c.self.inside.tags)) c.counter_of-counter.ensures in
-    (c.self.invariant.0 ∙ sym (ap (λ (e : Engine g.row.T.Denot). e.levels) tagged),
-    unwritten_kept d n (g.B.Bus.told c.self.inside.bus) c.self.inside.bus c.write_tagged.new.bus c.self.inside.tags c.write_tagged.new.tags
-    c.self.inside.counters.items (slice_set c.self.inside.counters.items c.args.line (c.index-writes.result.now + 1)) c.self.inside.page_limit c.self.inside.stopped c.args.line c.index-writes.result.now c.args.bytes.now
-    c.self.invariant.1 going inside read c.if-writes-self.false long refl tagged (g.B.Bus.told c.write_tagged.new.bus) c.in-Err-write_tagged.ensures.err)
+    ∙ ap (λ (k : Counter). after_make (Line c.args.line k c.args.bytes.now) (with_room 1 c.self.inside.tags)) c.counter_of-counter.ensures in (
+      c.self.invariant.0 ∙ sym (ap (λ (e : Engine g.row.T.Denot). e.levels) tagged),
+      unwritten_kept d n (g.B.Bus.told c.self.inside.bus) c.self.inside.bus c.write_tagged.new.bus c.self.inside.tags c.write_tagged.new.tags
+          c.self.inside.counters.items (slice_set c.self.inside.counters.items c.args.line (c.index-writes.result.now + 1)) c.self.inside.page_limit c.self.inside.stopped c.args.line c.index-writes.result.now c.args.bytes.now
+          c.self.invariant.1 going inside read c.if-writes-self.false long refl tagged (g.B.Bus.told c.write_tagged.new.bus) c.in-Err-write_tagged.ensures.err,
+    )
 
 pub returns-in-Ok-write_tagged-clause-stored : goal.returns-in-Ok-write_tagged-clause-stored
 returns-in-Ok-write_tagged-clause-stored g c = λ unstopped sound.
@@ -106,7 +112,7 @@ returns-in-Ok-write_tagged-clause-stored g c = λ unstopped sound.
     let levels : c.write_tagged.new.tags.levels ≡ c.self.inside.tags.levels = ap (λ (e : Engine g.row.T.Denot). e.levels) tagged in
     let whole = contents_more (line_count c.self.inside.tags.levels) c.self.inside.tags.made c.args.line counter c.args.bytes.now inside long in
     let grown : contents_of (line_count c.write_tagged.new.tags.levels) c.write_tagged.new.tags.made
-        ≡ with_line (contents_of (line_count c.self.inside.tags.levels) c.self.inside.tags.made) c.args.line c.args.bytes.now =
+    ≡ with_line (contents_of (line_count c.self.inside.tags.levels) c.self.inside.tags.made) c.args.line c.args.bytes.now =
     ap (λ (xs : List Message). contents_of (line_count c.write_tagged.new.tags.levels) xs) made
     ∙ ap (λ (l : ℕ). contents_of (line_count l) (c.self.inside.tags.made ++ Line c.args.line counter c.args.bytes.now ∷ [])) levels ∙ sym whole in
     rw (← c.self.view_is) grown
@@ -139,9 +145,11 @@ pub returns-in-Ok-write_tagged-clause-spent : goal.returns-in-Ok-write_tagged-cl
 returns-in-Ok-write_tagged-clause-spent g c = λ _.
     let inside : c.args.line < line_count c.self.inside.tags.levels = rw (← c.self.view_is) at c.requires.inside in
     let counted = c.self.invariant.1.counted in
-    let read = counter_read (line_count c.self.inside.tags.levels) c.self.inside.page_limit c.self.inside.tags.made c.self.inside.counters.items c.args.line c.index-writes.result.now counted inside c.index-writes.ensures in
-    (λ is. absurd (cc), λ full. absurd (not_used_up (line_count c.self.inside.tags.levels) c.self.inside.page_limit c.self.inside.tags.made c.self.inside.counters.items c.args.line c.index-writes.result.now
-    counted inside read c.if-writes-self.false (rw (← c.self.view_is) at full)))
+    let read = counter_read (line_count c.self.inside.tags.levels) c.self.inside.page_limit c.self.inside.tags.made c.self.inside.counters.items c.args.line c.index-writes.result.now counted inside c.index-writes.ensures in (
+      λ is. absurd (cc),
+      λ full. absurd (not_used_up (line_count c.self.inside.tags.levels) c.self.inside.page_limit c.self.inside.tags.made c.self.inside.counters.items c.args.line c.index-writes.result.now
+          counted inside read c.if-writes-self.false (rw (← c.self.view_is) at full)),
+    )
 
 pub returns-in-Err-write_tagged-clause-refused : goal.returns-in-Err-write_tagged-clause-refused
 returns-in-Err-write_tagged-clause-refused g c = λ unstopped sound.
@@ -157,7 +165,7 @@ returns-in-Err-write_tagged-clause-refused g c = λ unstopped sound.
     let levels : c.write_tagged.new.tags.levels ≡ c.self.inside.tags.levels = ap (λ (e : Engine g.row.T.Denot). e.levels) tagged in
     let whole = contents_more (line_count c.self.inside.tags.levels) c.self.inside.tags.made c.args.line counter c.args.bytes.now inside long in
     let grown : contents_of (line_count c.write_tagged.new.tags.levels) c.write_tagged.new.tags.made
-        ≡ with_line (contents_of (line_count c.self.inside.tags.levels) c.self.inside.tags.made) c.args.line c.args.bytes.now =
+    ≡ with_line (contents_of (line_count c.self.inside.tags.levels) c.self.inside.tags.made) c.args.line c.args.bytes.now =
     ap (λ (xs : List Message). contents_of (line_count c.write_tagged.new.tags.levels) xs) made
     ∙ ap (λ (l : ℕ). contents_of (line_count l) (c.self.inside.tags.made ++ Line c.args.line counter c.args.bytes.now ∷ [])) levels ∙ sym whole in
     inr (rw (← c.self.view_is) grown)
@@ -166,6 +174,8 @@ pub returns-in-Err-write_tagged-clause-spent : goal.returns-in-Err-write_tagged-
 returns-in-Err-write_tagged-clause-spent g c = λ _.
     let inside : c.args.line < line_count c.self.inside.tags.levels = rw (← c.self.view_is) at c.requires.inside in
     let counted = c.self.invariant.1.counted in
-    let read = counter_read (line_count c.self.inside.tags.levels) c.self.inside.page_limit c.self.inside.tags.made c.self.inside.counters.items c.args.line c.index-writes.result.now counted inside c.index-writes.ensures in
-    (λ is. absurd (cc), λ full. absurd (not_used_up (line_count c.self.inside.tags.levels) c.self.inside.page_limit c.self.inside.tags.made c.self.inside.counters.items c.args.line c.index-writes.result.now
-    counted inside read c.if-writes-self.false (rw (← c.self.view_is) at full)))
+    let read = counter_read (line_count c.self.inside.tags.levels) c.self.inside.page_limit c.self.inside.tags.made c.self.inside.counters.items c.args.line c.index-writes.result.now counted inside c.index-writes.ensures in (
+      λ is. absurd (cc),
+      λ full. absurd (not_used_up (line_count c.self.inside.tags.levels) c.self.inside.page_limit c.self.inside.tags.made c.self.inside.counters.items c.args.line c.index-writes.result.now
+          counted inside read c.if-writes-self.false (rw (← c.self.view_is) at full)),
+    )
