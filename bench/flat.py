@@ -1,0 +1,68 @@
+#!/usr/bin/env python3
+"""Runs two flat programs a hundred times each through ./chip, and prints what they cost.
+
+Both fill the memory of 16,384 bytes with 4,096 words, so that storing them writes a word 4,096 times. One then does
+nothing 4,093 times, the other stores a word 4,093 times; both exit. Each store writes a line once, so what the second
+takes more, over 4,093, is the cost of a line that is read and written.
+"""
+
+import os
+import subprocess
+import sys
+import tempfile
+import time
+
+CHIP = os.path.join(os.path.dirname(os.path.abspath(__file__)), "..", "chip")
+ROUNDS = 100
+WORDS = 4096
+
+NOTHING = 0x00000013  # addi zero, zero, 0
+STORE = 0x00002023  # sw zero, 0(zero): the first line, whose instructions are done by then
+EXIT = [0x00000513, 0x05D00893, 0x00000073]  # li a0, 0; li a7, 93; ecall
+
+
+def program(word):
+    words = [NOTHING] * 16 + [word] * (WORDS - 16 - len(EXIT)) + EXIT
+    return b"".join(word.to_bytes(4, "little") for word in words)
+
+
+def peak(path):
+    """Peak memory of one run, in bytes, seen from a process of its own."""
+    code = (
+        "import resource, subprocess, sys;"
+        "subprocess.run(sys.argv[1:], check=True, stderr=subprocess.DEVNULL);"
+        "print(resource.getrusage(resource.RUSAGE_CHILDREN).ru_maxrss)"
+    )
+    answer = subprocess.run(
+        [sys.executable, "-c", code, CHIP, "run", path, "--flat"], check=True, capture_output=True, text=True
+    )
+    return 1024 * int(answer.stdout)
+
+
+def seconds(path):
+    begun = time.perf_counter()
+    for _ in range(ROUNDS):
+        run = subprocess.run([CHIP, "run", path, "--flat"], capture_output=True, text=True)
+        if run.returncode != 0 or run.stderr.splitlines()[:2] != ["halted 0", f"retired {WORDS}"]:
+            sys.exit(f"a run went wrong: status {run.returncode}, {run.stderr!r}")
+    return (time.perf_counter() - begun) / ROUNDS
+
+
+def main():
+    stores = WORDS - 16 - len(EXIT)
+    costs = {}
+    with tempfile.TemporaryDirectory() as folder:
+        for name, word in (("nothing", NOTHING), ("stores", STORE)):
+            path = os.path.join(folder, name + ".bin")
+            with open(path, "wb") as file:
+                file.write(program(word))
+            subprocess.run([CHIP, "run", path, "--flat"], capture_output=True)
+            costs[name] = (seconds(path), peak(path))
+            print(f"{name}: {WORDS} instructions, {costs[name][0]:.4f} s a run, peak {costs[name][1]} bytes")
+    more_seconds = costs["stores"][0] - costs["nothing"][0]
+    more_bytes = costs["stores"][1] - costs["nothing"][1]
+    print(f"a store: {1e6 * more_seconds / stores:.2f} microseconds, {more_bytes / stores:.0f} bytes kept, spare room included")
+
+
+if __name__ == "__main__":
+    main()
