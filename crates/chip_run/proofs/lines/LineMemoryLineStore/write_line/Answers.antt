@@ -55,8 +55,8 @@ returns-in-Err-clause-spent g c = λ _.
           counted inside read c.if-writes-self.false (rw (← c.self.view_is) at full)),
     )
 
-pub invariant_of-self-in-Ok-write_tagged : goal.invariant_of-self-in-Ok-write_tagged
-invariant_of-self-in-Ok-write_tagged g c =
+pub invariant_of-self-in-Ok-write_sealed : goal.invariant_of-self-in-Ok-write_sealed
+invariant_of-self-in-Ok-write_sealed g c =
     let inside : c.args.line < line_count c.self.inside.tags.levels = rw (← c.self.view_is) at c.requires.inside in
     let counted = c.self.invariant.1.counted in
     let read = counter_read (line_count c.self.inside.tags.levels) c.self.inside.page_limit c.self.inside.tags.made c.self.inside.counters.items c.args.line c.index-writes.result.now counted inside c.index-writes.ensures in
@@ -65,22 +65,22 @@ invariant_of-self-in-Ok-write_tagged g c =
     let n = g.T.Tagger.node_tag_of in
     let long : length c.args.bytes.now ≡ 64 = search rules in
     let counter : Counter = record { page = c.index-writes.result.now + 1; line = 0 } in
-    let tagged : c.write_tagged.new.tags ≡ after_make (Line c.args.line counter c.args.bytes.now) (with_room 1 c.self.inside.tags) =
-    c.write_tagged.ensures.tags ∙ ap (λ (e : Engine g.row.T.Denot). after_make (Line c.args.line c.counter_of-counter.result c.args.bytes.now) e) c.in-Ok.ensures.taken
+    let tagged : c.write_sealed.new.tags ≡ after_make (Line c.args.line counter c.args.bytes.now) (with_room 1 c.self.inside.tags) =
+    c.write_sealed.ensures.tags ∙ ap (λ (e : Engine g.row.T.Denot). after_make (Line c.args.line c.counter_of-counter.result c.args.bytes.now) e) c.in-Ok.ensures.taken
     ∙ ap (λ (k : Counter). after_make (Line c.args.line k c.args.bytes.now) (with_room 1 c.self.inside.tags)) c.counter_of-counter.ensures in
-    let told' = g.B.Bus.told c.write_tagged.new.bus in
+    let told' = g.B.Bus.told c.write_sealed.new.bus in
     let told = g.B.Bus.told c.self.inside.bus in
     let wrote : told' ≡ after_write (line_place c.args.line) (c.args.bytes.now ++ tags_of d n c.self.inside.tags (Line c.args.line counter c.args.bytes.now)) told =
     subst (λ (k : Counter). told' ≡ after_write (line_place c.args.line) (c.args.bytes.now ++ tags_of d n c.self.inside.tags (Line c.args.line k c.args.bytes.now)) told) c.counter_of-counter.ensures
-    (subst (λ (e : Engine g.row.T.Denot). told' ≡ after_write (line_place c.args.line) (c.args.bytes.now ++ tags_of d n e (Line c.args.line c.counter_of-counter.result c.args.bytes.now)) told) c.in-Ok.ensures.taken c.in-Ok-write_tagged.ensures.ok) in (
+    (subst (λ (e : Engine g.row.T.Denot). told' ≡ after_write (line_place c.args.line) (c.args.bytes.now ++ tags_of d n e (Line c.args.line c.counter_of-counter.result c.args.bytes.now)) told) c.in-Ok.ensures.taken c.in-Ok-write_sealed.ensures.ok) in (
       c.self.invariant.0 ∙ sym (ap (λ (e : Engine g.row.T.Denot). e.levels) tagged),
-      written_kept d n (g.B.Bus.told c.self.inside.bus) c.self.inside.bus c.write_tagged.new.bus c.self.inside.tags c.write_tagged.new.tags
+      written_kept d n (g.B.Bus.told c.self.inside.bus) c.self.inside.bus c.write_sealed.new.bus c.self.inside.tags c.write_sealed.new.tags
           c.self.inside.counters.items (slice_set c.self.inside.counters.items c.args.line (c.index-writes.result.now + 1)) c.self.inside.page_limit c.self.inside.stopped c.args.line c.index-writes.result.now c.args.bytes.now
           c.self.invariant.1 going inside read c.if-writes-self.false long refl tagged told' wrote,
     )
 
-pub invariant_of-self-in-Err-write_tagged : goal.invariant_of-self-in-Err-write_tagged
-invariant_of-self-in-Err-write_tagged g c =
+pub invariant_of-self-in-Err-write_sealed : goal.invariant_of-self-in-Err-write_sealed
+invariant_of-self-in-Err-write_sealed g c =
     let inside : c.args.line < line_count c.self.inside.tags.levels = rw (← c.self.view_is) at c.requires.inside in
     let counted = c.self.invariant.1.counted in
     let read = counter_read (line_count c.self.inside.tags.levels) c.self.inside.page_limit c.self.inside.tags.made c.self.inside.counters.items c.args.line c.index-writes.result.now counted inside c.index-writes.ensures in
@@ -89,60 +89,61 @@ invariant_of-self-in-Err-write_tagged g c =
     let n = g.T.Tagger.node_tag_of in
     let long : length c.args.bytes.now ≡ 64 = search rules in
     let counter : Counter = record { page = c.index-writes.result.now + 1; line = 0 } in
-    let tagged : c.write_tagged.new.tags ≡ after_make (Line c.args.line counter c.args.bytes.now) (with_room 1 c.self.inside.tags) =
-    c.write_tagged.ensures.tags ∙ ap (λ (e : Engine g.row.T.Denot). after_make (Line c.args.line c.counter_of-counter.result c.args.bytes.now) e) c.in-Ok.ensures.taken
+    let tagged : c.write_sealed.new.tags ≡ after_make (Line c.args.line counter c.args.bytes.now) (with_room 1 c.self.inside.tags) =
+    c.write_sealed.ensures.tags ∙ ap (λ (e : Engine g.row.T.Denot). after_make (Line c.args.line c.counter_of-counter.result c.args.bytes.now) e) c.in-Ok.ensures.taken
     ∙ ap (λ (k : Counter). after_make (Line c.args.line k c.args.bytes.now) (with_room 1 c.self.inside.tags)) c.counter_of-counter.ensures in (
       c.self.invariant.0 ∙ sym (ap (λ (e : Engine g.row.T.Denot). e.levels) tagged),
-      unwritten_kept d n (g.B.Bus.told c.self.inside.bus) c.self.inside.bus c.write_tagged.new.bus c.self.inside.tags c.write_tagged.new.tags
+      unwritten_kept d n (g.B.Bus.told c.self.inside.bus) c.self.inside.bus c.write_sealed.new.bus c.self.inside.tags c.write_sealed.new.tags
           c.self.inside.counters.items (slice_set c.self.inside.counters.items c.args.line (c.index-writes.result.now + 1)) c.self.inside.page_limit c.self.inside.stopped c.args.line c.index-writes.result.now c.args.bytes.now
-          c.self.invariant.1 going inside read c.if-writes-self.false long refl tagged (g.B.Bus.told c.write_tagged.new.bus) c.in-Err-write_tagged.ensures.err,
+          c.self.invariant.1 going inside read c.if-writes-self.false long refl tagged (g.B.Bus.told c.write_sealed.new.bus) c.in-Err-write_sealed.ensures.err,
     )
 
-pub returns-in-Ok-write_tagged-clause-stored : goal.returns-in-Ok-write_tagged-clause-stored
-returns-in-Ok-write_tagged-clause-stored g c = λ unstopped sound.
+pub returns-in-Ok-write_sealed-clause-stored : goal.returns-in-Ok-write_sealed-clause-stored
+returns-in-Ok-write_sealed-clause-stored g c = λ unstopped sound.
     let inside : c.args.line < line_count c.self.inside.tags.levels = rw (← c.self.view_is) at c.requires.inside in
     let counted = c.self.invariant.1.counted in
     let read = counter_read (line_count c.self.inside.tags.levels) c.self.inside.page_limit c.self.inside.tags.made c.self.inside.counters.items c.args.line c.index-writes.result.now counted inside c.index-writes.ensures in
     let long : length c.args.bytes.now ≡ 64 = search rules in
     let counter : Counter = record { page = c.index-writes.result.now + 1; line = 0 } in
-    let tagged : c.write_tagged.new.tags ≡ after_make (Line c.args.line counter c.args.bytes.now) (with_room 1 c.self.inside.tags) =
-    c.write_tagged.ensures.tags ∙ ap (λ (e : Engine g.row.T.Denot). after_make (Line c.args.line c.counter_of-counter.result c.args.bytes.now) e) c.in-Ok.ensures.taken
+    let tagged : c.write_sealed.new.tags ≡ after_make (Line c.args.line counter c.args.bytes.now) (with_room 1 c.self.inside.tags) =
+    c.write_sealed.ensures.tags ∙ ap (λ (e : Engine g.row.T.Denot). after_make (Line c.args.line c.counter_of-counter.result c.args.bytes.now) e) c.in-Ok.ensures.taken
     ∙ ap (λ (k : Counter). after_make (Line c.args.line k c.args.bytes.now) (with_room 1 c.self.inside.tags)) c.counter_of-counter.ensures in
-    let made : c.write_tagged.new.tags.made ≡ c.self.inside.tags.made ++ Line c.args.line counter c.args.bytes.now ∷ [] = ap (λ (e : Engine g.row.T.Denot). e.made) tagged in
-    let levels : c.write_tagged.new.tags.levels ≡ c.self.inside.tags.levels = ap (λ (e : Engine g.row.T.Denot). e.levels) tagged in
+    let made : c.write_sealed.new.tags.made ≡ c.self.inside.tags.made ++ Line c.args.line counter c.args.bytes.now ∷ [] = ap (λ (e : Engine g.row.T.Denot). e.made) tagged in
+    let levels : c.write_sealed.new.tags.levels ≡ c.self.inside.tags.levels = ap (λ (e : Engine g.row.T.Denot). e.levels) tagged in
     let whole = contents_more (line_count c.self.inside.tags.levels) c.self.inside.tags.made c.args.line counter c.args.bytes.now inside long in
-    let grown : contents_of (line_count c.write_tagged.new.tags.levels) c.write_tagged.new.tags.made
+    let grown : contents_of (line_count c.write_sealed.new.tags.levels) c.write_sealed.new.tags.made
     ≡ with_line (contents_of (line_count c.self.inside.tags.levels) c.self.inside.tags.made) c.args.line c.args.bytes.now =
-    ap (λ (xs : List Message). contents_of (line_count c.write_tagged.new.tags.levels) xs) made
+    ap (λ (xs : List Message). contents_of (line_count c.write_sealed.new.tags.levels) xs) made
     ∙ ap (λ (l : ℕ). contents_of (line_count l) (c.self.inside.tags.made ++ Line c.args.line counter c.args.bytes.now ∷ [])) levels ∙ sym whole in
     rw (← c.self.view_is) grown
 
-pub returns-in-Ok-write_tagged-clause-moved : goal.returns-in-Ok-write_tagged-clause-moved
+pub returns-in-Ok-write_sealed-clause-moved : goal.returns-in-Ok-write_sealed-clause-moved
 unfolding after_write
-returns-in-Ok-write_tagged-clause-moved g c =
+returns-in-Ok-write_sealed-clause-moved g c =
     let d = g.T.Tagger.data_tag_of in
     let n = g.T.Tagger.node_tag_of in
     let counter : Counter = record { page = c.index-writes.result.now + 1; line = 0 } in
-    let tagged : c.write_tagged.new.tags ≡ after_make (Line c.args.line counter c.args.bytes.now) (with_room 1 c.self.inside.tags) =
-    c.write_tagged.ensures.tags ∙ ap (λ (e : Engine g.row.T.Denot). after_make (Line c.args.line c.counter_of-counter.result c.args.bytes.now) e) c.in-Ok.ensures.taken
+    let tagged : c.write_sealed.new.tags ≡ after_make (Line c.args.line counter c.args.bytes.now) (with_room 1 c.self.inside.tags) =
+    c.write_sealed.ensures.tags ∙ ap (λ (e : Engine g.row.T.Denot). after_make (Line c.args.line c.counter_of-counter.result c.args.bytes.now) e) c.in-Ok.ensures.taken
     ∙ ap (λ (k : Counter). after_make (Line c.args.line k c.args.bytes.now) (with_room 1 c.self.inside.tags)) c.counter_of-counter.ensures in
-    let told' = g.B.Bus.told c.write_tagged.new.bus in
+    let told' = g.B.Bus.told c.write_sealed.new.bus in
     let told = g.B.Bus.told c.self.inside.bus in
     let wrote : told' ≡ after_write (line_place c.args.line) (c.args.bytes.now ++ tags_of d n c.self.inside.tags (Line c.args.line counter c.args.bytes.now)) told =
     subst (λ (k : Counter). told' ≡ after_write (line_place c.args.line) (c.args.bytes.now ++ tags_of d n c.self.inside.tags (Line c.args.line k c.args.bytes.now)) told) c.counter_of-counter.ensures
-    (subst (λ (e : Engine g.row.T.Denot). told' ≡ after_write (line_place c.args.line) (c.args.bytes.now ++ tags_of d n e (Line c.args.line c.counter_of-counter.result c.args.bytes.now)) told) c.in-Ok.ensures.taken c.in-Ok-write_tagged.ensures.ok) in
+    (subst (λ (e : Engine g.row.T.Denot). told' ≡ after_write (line_place c.args.line) (c.args.bytes.now ++ tags_of d n e (Line c.args.line c.counter_of-counter.result c.args.bytes.now)) told) c.in-Ok.ensures.taken c.in-Ok-write_sealed.ensures.ok) in
     subst (λ (m : Protected g.row.B.Denot g.row.T.Denot). Moves g.B.Bus.told m (record {
-      bus = c.write_tagged.new.bus;
-      engine = c.write_tagged.new.tags;
+      bus = c.write_sealed.new.bus;
+      engine = c.write_sealed.new.tags;
+      pads = c.write_sealed.new.pads;
       counters = slice_set c.self.inside.counters.items c.args.line (c.index-writes.result.now + 1);
       limit = c.self.inside.page_limit;
       stopped = c.self.inside.stopped;
     })) c.self.view_is
-    (tagged_moves g.B.Bus.told (record { bus = c.self.inside.bus; engine = c.self.inside.tags; counters = c.self.inside.counters.items; limit = c.self.inside.page_limit; stopped = c.self.inside.stopped }) c.args.line counter c.args.bytes.now c.write_tagged.new.bus c.write_tagged.new.tags
+    (tagged_moves g.B.Bus.told (record { bus = c.self.inside.bus; engine = c.self.inside.tags; pads = c.self.inside.pads; counters = c.self.inside.counters.items; limit = c.self.inside.page_limit; stopped = c.self.inside.stopped }) c.args.line counter c.args.bytes.now c.write_sealed.new.bus c.write_sealed.new.tags
     (slice_set c.self.inside.counters.items c.args.line (c.index-writes.result.now + 1)) c.self.inside.stopped tagged (ap (λ (t : Told). t.reads) wrote))
 
-pub returns-in-Ok-write_tagged-clause-spent : goal.returns-in-Ok-write_tagged-clause-spent
-returns-in-Ok-write_tagged-clause-spent g c = λ _.
+pub returns-in-Ok-write_sealed-clause-spent : goal.returns-in-Ok-write_sealed-clause-spent
+returns-in-Ok-write_sealed-clause-spent g c = λ _.
     let inside : c.args.line < line_count c.self.inside.tags.levels = rw (← c.self.view_is) at c.requires.inside in
     let counted = c.self.invariant.1.counted in
     let read = counter_read (line_count c.self.inside.tags.levels) c.self.inside.page_limit c.self.inside.tags.made c.self.inside.counters.items c.args.line c.index-writes.result.now counted inside c.index-writes.ensures in (
@@ -151,27 +152,27 @@ returns-in-Ok-write_tagged-clause-spent g c = λ _.
           counted inside read c.if-writes-self.false (rw (← c.self.view_is) at full)),
     )
 
-pub returns-in-Err-write_tagged-clause-refused : goal.returns-in-Err-write_tagged-clause-refused
-returns-in-Err-write_tagged-clause-refused g c = λ unstopped sound.
+pub returns-in-Err-write_sealed-clause-refused : goal.returns-in-Err-write_sealed-clause-refused
+returns-in-Err-write_sealed-clause-refused g c = λ unstopped sound.
     let inside : c.args.line < line_count c.self.inside.tags.levels = rw (← c.self.view_is) at c.requires.inside in
     let counted = c.self.invariant.1.counted in
     let read = counter_read (line_count c.self.inside.tags.levels) c.self.inside.page_limit c.self.inside.tags.made c.self.inside.counters.items c.args.line c.index-writes.result.now counted inside c.index-writes.ensures in
     let long : length c.args.bytes.now ≡ 64 = search rules in
     let counter : Counter = record { page = c.index-writes.result.now + 1; line = 0 } in
-    let tagged : c.write_tagged.new.tags ≡ after_make (Line c.args.line counter c.args.bytes.now) (with_room 1 c.self.inside.tags) =
-    c.write_tagged.ensures.tags ∙ ap (λ (e : Engine g.row.T.Denot). after_make (Line c.args.line c.counter_of-counter.result c.args.bytes.now) e) c.in-Ok.ensures.taken
+    let tagged : c.write_sealed.new.tags ≡ after_make (Line c.args.line counter c.args.bytes.now) (with_room 1 c.self.inside.tags) =
+    c.write_sealed.ensures.tags ∙ ap (λ (e : Engine g.row.T.Denot). after_make (Line c.args.line c.counter_of-counter.result c.args.bytes.now) e) c.in-Ok.ensures.taken
     ∙ ap (λ (k : Counter). after_make (Line c.args.line k c.args.bytes.now) (with_room 1 c.self.inside.tags)) c.counter_of-counter.ensures in
-    let made : c.write_tagged.new.tags.made ≡ c.self.inside.tags.made ++ Line c.args.line counter c.args.bytes.now ∷ [] = ap (λ (e : Engine g.row.T.Denot). e.made) tagged in
-    let levels : c.write_tagged.new.tags.levels ≡ c.self.inside.tags.levels = ap (λ (e : Engine g.row.T.Denot). e.levels) tagged in
+    let made : c.write_sealed.new.tags.made ≡ c.self.inside.tags.made ++ Line c.args.line counter c.args.bytes.now ∷ [] = ap (λ (e : Engine g.row.T.Denot). e.made) tagged in
+    let levels : c.write_sealed.new.tags.levels ≡ c.self.inside.tags.levels = ap (λ (e : Engine g.row.T.Denot). e.levels) tagged in
     let whole = contents_more (line_count c.self.inside.tags.levels) c.self.inside.tags.made c.args.line counter c.args.bytes.now inside long in
-    let grown : contents_of (line_count c.write_tagged.new.tags.levels) c.write_tagged.new.tags.made
+    let grown : contents_of (line_count c.write_sealed.new.tags.levels) c.write_sealed.new.tags.made
     ≡ with_line (contents_of (line_count c.self.inside.tags.levels) c.self.inside.tags.made) c.args.line c.args.bytes.now =
-    ap (λ (xs : List Message). contents_of (line_count c.write_tagged.new.tags.levels) xs) made
+    ap (λ (xs : List Message). contents_of (line_count c.write_sealed.new.tags.levels) xs) made
     ∙ ap (λ (l : ℕ). contents_of (line_count l) (c.self.inside.tags.made ++ Line c.args.line counter c.args.bytes.now ∷ [])) levels ∙ sym whole in
     inr (rw (← c.self.view_is) grown)
 
-pub returns-in-Err-write_tagged-clause-spent : goal.returns-in-Err-write_tagged-clause-spent
-returns-in-Err-write_tagged-clause-spent g c = λ _.
+pub returns-in-Err-write_sealed-clause-spent : goal.returns-in-Err-write_sealed-clause-spent
+returns-in-Err-write_sealed-clause-spent g c = λ _.
     let inside : c.args.line < line_count c.self.inside.tags.levels = rw (← c.self.view_is) at c.requires.inside in
     let counted = c.self.invariant.1.counted in
     let read = counter_read (line_count c.self.inside.tags.levels) c.self.inside.page_limit c.self.inside.tags.made c.self.inside.counters.items c.args.line c.index-writes.result.now counted inside c.index-writes.ensures in (
