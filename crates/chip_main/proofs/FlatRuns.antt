@@ -1,7 +1,5 @@
 -- A run of a flat program, as its pieces were made.
-use Rattle.std.proofs.Common.{◌≡◌, ℕ, List, [], length, refl, ap}
-use Rattle.sec_base.specs.declared.account.Message.{Message}
-use Rattle.sec_base.specs.declared.layout.Place.{Place}
+use Rattle.std.proofs.Common.{◌≡◌, ℕ, List, [], refl, ap}
 use Rattle.sec_base.specs.declared.program.Image.{Image}
 use Rattle.bus_model.specs.Told.{Told, NothingWritten, nothing_told}
 use Rattle.hmac_tag.specs.DeviceKeys.{keys_of}

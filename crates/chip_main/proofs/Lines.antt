@@ -1,7 +1,6 @@
 -- A text of lines, of which one may not have been written.
-use Rattle.std.proofs.Common.{◌≡◌, ◌≤◌, ℕ, List, ◌++◌, refl, sym, ap, ◌∙◌, subst, Result, Ok, Err, arith, append_assoc}
+use Rattle.std.proofs.Common.{◌≡◌, ◌≤◌, ℕ, List, ◌++◌, sym, ap, ◌∙◌, subst, Ok, Err, arith, append_assoc}
 use Rattle.sec_base.specs.Count.{Rose}
-use Rattle.sec_base.specs.Lists.{IsPrefix}
 use Rattle.sec_base.specs.Writing.{SinkState, gained, Gains}
 use Rattle.sec_base.specs.declared.writing.SinkStop.{SinkStop}
 use Rattle.sec_base.specs.declared.writing.SinkStop.TheVariants.{Failed, NoMemory}

@@ -1,33 +1,23 @@
 -- What the course of a call says of its status and of what was told.
-use Rattle.std.proofs.Common.{◌≡◌, ◌≢◌, ◌<◌, ◌≤◌, ◌⊎◌, ◌↔◌, inl, inr, List, [], ◌∷◌, ◌++◌, ℕ, length, Option, Some, None, Result, Ok, Err, Contains, IfNone, IfSome, IsSome, slice_index_or, refl, sym, ap, ◌∙◌, subst, arith}
-use Rattle.sec_base.specs.Count.{Rose}
-use Rattle.sec_base.specs.Reading.{FilesState, HasBytes, HasOver, IsOver}
-use Rattle.sec_base.specs.Writing.{SinkState, Gains, Silent, gained}
+use Rattle.std.proofs.Common.{◌≡◌, ◌≢◌, ◌<◌, ◌≤◌, ◌⊎◌, inl, inr, List, [], ◌∷◌, ◌++◌, ℕ, length, Option, Some, None, Ok, Err, Contains, IfNone, IfSome, refl, sym, ap, ◌∙◌, subst, arith}
+use Rattle.sec_base.specs.Reading.{FilesState, HasBytes}
+use Rattle.sec_base.specs.Writing.{SinkState, Gains, Silent}
 use Rattle.sec_base.specs.declared.account.Evidence.{Evidence}
 use Rattle.sec_base.specs.declared.answers.Ending.{Ending}
 use Rattle.sec_base.specs.declared.answers.Ending.TheVariants.{Halted, Trapped, OutOfSteps, Tampered, Spent, WriteFault, NoMemory as memory_ended}
 use Rattle.sec_base.specs.declared.writing.SinkStop.TheVariants.{Failed, NoMemory as no_memory}
 use Rattle.sec_base.proofs.Writes.{gained-nil}
-use Rattle.bus_model.specs.Told.{Told}
-use Rattle.rv32_core.specs.Follows.{IsWhole}
-use Rattle.chip_run.specs.declared.RunRecord.{RunRecord}
 use Rattle.chip_main.specs.declared.refusal.Refusal.{Refusal}
 use Rattle.chip_main.specs.declared.refusal.Refusal.TheVariants.{Usage, Unread, TooLong, TooLarge}
 use Rattle.chip_main.specs.declared.course.Course.{Course}
 use Rattle.chip_main.specs.declared.course.Course.TheVariants.{Refused, NoMemory, Ran}
-use Rattle.chip_main.specs.declared.run_bus.RunBus.{RunBus}
-use Rattle.chip_main.specs.declared.run_bus.RunBus.TheVariants.{Honest}
 use Rattle.chip_main.specs.declared.Done.{Done}
-use Rattle.chip_main.specs.Flat.{budget, flat_opening, flat_size, file_limit}
-use Rattle.chip_main.specs.Statuses.{ending_status, forged_status, refusal_status, run_status, status_with, untold_ending_status}
-use Rattle.chip_main.specs.Texts.{refusal_line}
+use Rattle.chip_main.specs.Flat.{flat_size}
+use Rattle.chip_main.specs.Statuses.{ending_status, evidence_status, refusal_status, status_with, untold_ending_status}
 use Rattle.chip_main.specs.Causes.{HasTold}
-use Rattle.chip_main.specs.FlatRun.{RunsRequest, RunsFlat}
-use Rattle.chip_main.specs.Buses.{run_told, lies_of, IfBoth, AreBothAnd, IfRun, IsRunAnd}
-use Rattle.chip_main.specs.Endings.{EndedHalted, EndedTrapped, EndedOutOfSteps, EndedTampered, EndedSpent, EndedForged}
+use Rattle.chip_main.specs.Buses.{lies_of}
 use Rattle.chip_main.specs.Answer.{LacksMemory, TellsRefusal, TellsRun}
 use Rattle.chip_main.specs.Course.{CameAbout, Telling, IsTold, Outcome, course_run, course_bus, course_text, status_of}
-use Rattle.chip_main.proofs.RunStatuses.{halted_cause, trapped_cause, out_of_steps_cause, tampered_cause, spent_cause, forged_cause, honest_unforged, unforged_run_status}
 
 -- the statuses that come, and those that come without a run
 abbrev pub all_statuses : List ℕ
@@ -45,18 +35,18 @@ ending_listed (Spent page) = (6, omega arith, refl)
 ending_listed WriteFault = (9, omega arith, refl)
 ending_listed memory_ended = (10, omega arith, refl)
 
-forged_listed : (ending : Ending) → Contains all_statuses (forged_status ending)
-forged_listed (Halted code) = (7, omega arith, refl)
-forged_listed (Trapped cause pc) = (7, omega arith, refl)
-forged_listed OutOfSteps = (7, omega arith, refl)
-forged_listed (Tampered place) = (7, omega arith, refl)
-forged_listed (Spent page) = (7, omega arith, refl)
-forged_listed WriteFault = (9, omega arith, refl)
-forged_listed memory_ended = (10, omega arith, refl)
+evidence_listed : (ending : Ending) → Contains all_statuses (evidence_status ending)
+evidence_listed (Halted code) = (7, omega arith, refl)
+evidence_listed (Trapped cause pc) = (7, omega arith, refl)
+evidence_listed OutOfSteps = (7, omega arith, refl)
+evidence_listed (Tampered place) = (7, omega arith, refl)
+evidence_listed (Spent page) = (7, omega arith, refl)
+evidence_listed WriteFault = (9, omega arith, refl)
+evidence_listed memory_ended = (10, omega arith, refl)
 
 run_listed : (evidence : Option Evidence) (ending : Ending) → Contains all_statuses (status_with evidence ending)
 run_listed None ending = ending_listed ending
-run_listed (Some evidence) ending = forged_listed ending
+run_listed (Some evidence) ending = evidence_listed ending
 
 untold_ending_listed : (ending : Ending) → Contains all_statuses (untold_ending_status ending)
 untold_ending_listed (Halted code) = (9, omega arith, refl)

@@ -1,5 +1,5 @@
 -- What the course of a call says of its run and of the run's bus.
-use Rattle.std.proofs.Common.{◌≡◌, ◌≢◌, ◌<◌, ◌≤◌, ◌⊎◌, ◌↔◌, inl, inr, List, [], ◌∷◌, ℕ, length, Option, Some, None, Result, Ok, Err, Contains, IsSome, refl, sym, ap, ◌∙◌, subst, arith}
+use Rattle.std.proofs.Common.{◌≡◌, ◌≢◌, ◌<◌, ◌≤◌, ◌⊎◌, ◌↔◌, inl, inr, List, [], ◌∷◌, ℕ, length, Option, Some, None, Ok, Err, Contains, IsSome, refl, sym, ap, ◌∙◌, subst, arith}
 use Rattle.sec_base.specs.Count.{Rose}
 use Rattle.sec_base.specs.Reading.{FilesState, HasOver, IsOver}
 use Rattle.sec_base.specs.Writing.{SinkState}
@@ -21,9 +21,9 @@ use Rattle.chip_main.specs.Statuses.{ending_status, refusal_status, run_status, 
 use Rattle.chip_main.specs.Causes.{HasTold}
 use Rattle.chip_main.specs.FlatRun.{RunsRequest, RunsFlat}
 use Rattle.chip_main.specs.Buses.{run_told, lies_of, IfBoth, AreBothAnd, IfRun, IsRunAnd}
-use Rattle.chip_main.specs.Endings.{EndedHalted, EndedTrapped, EndedOutOfSteps, EndedTampered, EndedSpent, EndedForged}
+use Rattle.chip_main.specs.Endings.{EndedHalted, EndedTrapped, EndedOutOfSteps, EndedTampered, EndedSpent, EndedWithEvidence}
 use Rattle.chip_main.specs.Course.{CameAbout, Telling, IsTold, Outcome, course_run, course_bus, course_text, status_of}
-use Rattle.chip_main.proofs.RunStatuses.{halted_cause, trapped_cause, out_of_steps_cause, tampered_cause, spent_cause, forged_cause, honest_unforged, unforged_run_status}
+use Rattle.chip_main.proofs.RunStatuses.{halted_cause, trapped_cause, out_of_steps_cause, tampered_cause, spent_cause, evidence_cause, honest_without_evidence, run_status_without_evidence}
 use Rattle.chip_main.proofs.Outcomes.{same_bytes}
 
 -- a run and its bus come together
@@ -136,8 +136,8 @@ tampered o is = cause 5 EndedTampered of_run_5 (λ bytes run told runs is_status
 pub spent : {request : Option (List ℕ)} {files files' : FilesState} {out out' note note' : SinkState} {done : Done} → Outcome request files files' out out' note note' done → done.status ≡ 6 → IsRunAnd done EndedSpent
 spent o is = cause 6 EndedSpent of_run_6 (λ bytes run told runs is_status. spent_cause runs is_status) o is
 
-pub forged : {request : Option (List ℕ)} {files files' : FilesState} {out out' note note' : SinkState} {done : Done} → Outcome request files files' out out' note note' done → done.status ≡ 7 → IsRunAnd done EndedForged
-forged o is = cause 7 EndedForged of_run_7 (λ bytes run told runs is_status. forged_cause runs is_status) o is
+pub with_evidence : {request : Option (List ℕ)} {files files' : FilesState} {out out' note note' : SinkState} {done : Done} → Outcome request files files' out out' note note' done → done.status ≡ 7 → IsRunAnd done EndedWithEvidence
+with_evidence o is = cause 7 EndedWithEvidence of_run_7 (λ bytes run told runs is_status. evidence_cause runs is_status) o is
 
 -- the one false answer of a bus that was caught
 caught_once : (run : Option RunRecord) (bus : Option RunBus) → AreBothAnd run bus EndedTampered → lies_of bus ≡ 1
@@ -180,13 +180,13 @@ memory_cases memory_ended = inl refl
 ran_whole : (bytes : List ℕ) (out out' : SinkState) (run : RunRecord) (told : Told) → RunsFlat bytes out out' run told → told.lies ≡ 0 → ¬ Rose out.faults out'.faults →
     Contains other_statuses (run_status run) ⊎ RanWhole bytes (run_status run) run told
 ran_whole bytes out out' run told runs none quiet =
-    let unforged = unforged_run_status run (honest_unforged runs none) in
+    let ending_is = run_status_without_evidence run (honest_without_evidence runs none) in
     elim (memory_cases run.ending) [
-      | inl gone ↦ inl (other (run_status run) (unforged ∙ ap ending_status gone))
+      | inl gone ↦ inl (other (run_status run) (ending_is ∙ ap ending_status gone))
       | inr had ↦ elim (runs.whole quiet none had) [
-          | inl whole ↦ inr (whole, unforged)
-          | inr spent ↦ inl (used_up (run_status run) (unforged ∙ ap ending_status spent.1))
-        ]
+        | inl whole ↦ inr (whole, ending_is)
+        | inr spent ↦ inl (used_up (run_status run) (ending_is ∙ ap ending_status spent.1))
+      ]
     ]
 
 whole_of : (course : Course) (telling : Telling) (name bytes : List ℕ) (files files' : FilesState) (out out' note note' : SinkState) → CameAbout course (Some name) files files' out out' →

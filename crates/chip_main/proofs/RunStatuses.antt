@@ -1,5 +1,5 @@
 -- What a run's status says of how it ended.
-use Rattle.std.proofs.Common.{◌≡◌, ◌≢◌, ◌<◌, ◌≤◌, ◌⊎◌, inl, inr, List, ℕ, Option, Some, None, IfSome, refl, sym, ap, ◌∙◌, subst, arith}
+use Rattle.std.proofs.Common.{◌≡◌, ◌≢◌, ◌<◌, ◌≤◌, inl, inr, List, ℕ, Option, Some, None, IfSome, refl, sym, ◌∙◌, subst, arith}
 use Rattle.sec_base.specs.Evidence.{IsEvidence}
 use Rattle.sec_base.specs.Writing.{SinkState}
 use Rattle.sec_base.specs.declared.account.Evidence.{Evidence}
@@ -11,41 +11,41 @@ use Rattle.bus_model.specs.Told.{Told}
 use Rattle.chip_run.specs.declared.RunRecord.{RunRecord}
 use Rattle.chip_run.specs.Account.{HonestOrCaught, IsCaught, IsOfFirstLie}
 use Rattle.chip_main.specs.Flat.{device_tag}
-use Rattle.chip_main.specs.Statuses.{ending_status, forged_status, status_with, run_status}
+use Rattle.chip_main.specs.Statuses.{ending_status, evidence_status, status_with, run_status}
 use Rattle.chip_main.specs.FlatRun.{RunsFlat}
-use Rattle.chip_main.specs.Endings.{EndedHalted, EndedTrapped, EndedOutOfSteps, EndedTampered, EndedSpent, EndedForged}
+use Rattle.chip_main.specs.Endings.{EndedHalted, EndedTrapped, EndedOutOfSteps, EndedTampered, EndedSpent, EndedWithEvidence}
 
 -- with evidence the status is 7 or more
-forged_high : (ending : Ending) → 7 ≤ forged_status ending
-forged_high (Halted code) = omega arith
-forged_high (Trapped cause pc) = omega arith
-forged_high OutOfSteps = omega arith
-forged_high (Tampered place) = omega arith
-forged_high (Spent page) = omega arith
-forged_high WriteFault = omega arith
-forged_high NoMemory = omega arith
+evidence_high : (ending : Ending) → 7 ≤ evidence_status ending
+evidence_high (Halted code) = omega arith
+evidence_high (Trapped cause pc) = omega arith
+evidence_high OutOfSteps = omega arith
+evidence_high (Tampered place) = omega arith
+evidence_high (Spent page) = omega arith
+evidence_high WriteFault = omega arith
+evidence_high NoMemory = omega arith
 
 -- so below 7 there is none
-low_unforged : (evidence : Option Evidence) (ending : Ending) → status_with evidence ending < 7 → evidence ≡ None
-low_unforged None ending low = refl
-low_unforged (Some evidence) ending low = absurd (omega (arith, forged_high ending))
+low_without_evidence : (evidence : Option Evidence) (ending : Ending) → status_with evidence ending < 7 → evidence ≡ None
+low_without_evidence None ending low = refl
+low_without_evidence (Some evidence) ending low = absurd (omega (arith, evidence_high ending))
 
-unforged_status : (evidence : Option Evidence) (ending : Ending) → evidence ≡ None → status_with evidence ending ≡ ending_status ending
-unforged_status None ending none = refl
-unforged_status (Some evidence) ending none = absurd cc
+status_without_evidence : (evidence : Option Evidence) (ending : Ending) → evidence ≡ None → status_with evidence ending ≡ ending_status ending
+status_without_evidence None ending none = refl
+status_without_evidence (Some evidence) ending none = absurd cc
 
-pub unforged_run_status : (run : RunRecord) → run.evidence ≡ None → run_status run ≡ ending_status run.ending
-unforged_run_status run none = unforged_status run.evidence run.ending none
+pub run_status_without_evidence : (run : RunRecord) → run.evidence ≡ None → run_status run ≡ ending_status run.ending
+run_status_without_evidence run none = status_without_evidence run.evidence run.ending none
 
 -- no evidence, and the status of the ending
-Unforged : RunRecord → ℕ → Type 0
-Unforged run status = (run.evidence ≡ None) × (ending_status run.ending ≡ status)
+HasNoEvidence : RunRecord → ℕ → Type 0
+HasNoEvidence run status = (run.evidence ≡ None) × (ending_status run.ending ≡ status)
 
-low_status : (run : RunRecord) (status : ℕ) → run_status run ≡ status → status < 7 → Unforged run status
-unfolding Unforged
+low_status : (run : RunRecord) (status : ℕ) → run_status run ≡ status → status < 7 → HasNoEvidence run status
+unfolding HasNoEvidence
 low_status run status is low =
-    let none = low_unforged run.evidence run.ending (subst (λ (n : ℕ). n < 7) (sym is) low) in
-    (none, sym (unforged_run_status run none) ∙ is)
+    let none = low_without_evidence run.evidence run.ending (subst (λ (n : ℕ). n < 7) (sym is) low) in
+    (none, sym (run_status_without_evidence run none) ∙ is)
 
 halted_of : (ending : Ending) → ending_status ending ≡ 0 → (code : ℕ) × (ending ≡ Halted code)
 halted_of (Halted code) is = (code, refl)
@@ -101,19 +101,19 @@ no_seven (Spent page) is = omega arith
 no_seven WriteFault is = omega arith
 no_seven NoMemory is = omega arith
 
-forged_of : (evidence : Option Evidence) (ending : Ending) → status_with evidence ending ≡ 7 → (found : Evidence) × (evidence ≡ Some found)
-forged_of None ending is = absurd (no_seven ending is)
-forged_of (Some evidence) ending is = (evidence, refl)
+evidence_of : (evidence : Option Evidence) (ending : Ending) → status_with evidence ending ≡ 7 → (found : Evidence) × (evidence ≡ Some found)
+evidence_of None ending is = absurd (no_seven ending is)
+evidence_of (Some evidence) ending is = (evidence, refl)
 
 fault_is_no_seven : (evidence : Option Evidence) (ending : Ending) → status_with evidence ending ≡ 7 → ending ≢ WriteFault
 fault_is_no_seven None ending is fault = no_seven ending is
 fault_is_no_seven (Some evidence) ending is fault =
-    let nine : ◌≡◌ {A = ℕ} 9 7 = subst (λ (e : Ending). forged_status e ≡ 7) fault is in omega arith
+    let nine : ◌≡◌ {A = ℕ} 9 7 = subst (λ (e : Ending). evidence_status e ≡ 7) fault is in omega arith
 
 memory_is_no_seven : (evidence : Option Evidence) (ending : Ending) → status_with evidence ending ≡ 7 → ending ≢ NoMemory
 memory_is_no_seven None ending is gone = no_seven ending is
 memory_is_no_seven (Some evidence) ending is gone =
-    let ten : ◌≡◌ {A = ℕ} 10 7 = subst (λ (e : Ending). forged_status e ≡ 7) gone is in omega arith
+    let ten : ◌≡◌ {A = ℕ} 10 7 = subst (λ (e : Ending). evidence_status e ≡ 7) gone is in omega arith
 
 if_some : {A : Type 0} (P : A → Type 0) (o : Option A) (x : A) → o ≡ Some x → IfSome o P → P x
 if_some P o x is holds = subst (λ (v : Option _). IfSome v P) is holds
@@ -126,41 +126,41 @@ caught run told place ended (inr is) = is
 
 -- the causes of the statuses
 pub halted_cause : {bytes : List ℕ} {old new : SinkState} {run : RunRecord} {told : Told} → RunsFlat bytes old new run told → run_status run ≡ 0 → EndedHalted run told
-unfolding Unforged
+unfolding HasNoEvidence
 halted_cause {run = run} runs is =
     let low = low_status run 0 is (omega arith) in
     let ending = halted_of run.ending low.1 in
-    record { unforged = low.0; code = ending.0; ended = ending.1 }
+    record { no_evidence = low.0; code = ending.0; ended = ending.1 }
 
 pub trapped_cause : {bytes : List ℕ} {old new : SinkState} {run : RunRecord} {told : Told} → RunsFlat bytes old new run told → run_status run ≡ 1 → EndedTrapped run told
-unfolding Unforged
+unfolding HasNoEvidence
 trapped_cause {run = run} runs is =
     let low = low_status run 1 is (omega arith) in
     let ending = trapped_of run.ending low.1 in
-    record { unforged = low.0; cause = ending.0; pc = ending.1; ended = ending.2 }
+    record { no_evidence = low.0; cause = ending.0; pc = ending.1; ended = ending.2 }
 
 pub out_of_steps_cause : {bytes : List ℕ} {old new : SinkState} {run : RunRecord} {told : Told} → RunsFlat bytes old new run told → run_status run ≡ 4 → EndedOutOfSteps run told
-unfolding Unforged
+unfolding HasNoEvidence
 out_of_steps_cause {run = run} runs is =
-    let low = low_status run 4 is (omega arith) in record { unforged = low.0; ended = out_of_steps_of run.ending low.1 }
+    let low = low_status run 4 is (omega arith) in record { no_evidence = low.0; ended = out_of_steps_of run.ending low.1 }
 
 pub tampered_cause : {bytes : List ℕ} {old new : SinkState} {run : RunRecord} {told : Told} → RunsFlat bytes old new run told → run_status run ≡ 5 → EndedTampered run told
-unfolding Unforged
+unfolding HasNoEvidence
 tampered_cause {run = run} {told = told} runs is =
     let low = low_status run 5 is (omega arith) in
     let ending = tampered_of run.ending low.1 in
-    record { unforged = low.0; caught = caught run told ending.0 ending.1 (runs.answers low.0) }
+    record { no_evidence = low.0; caught = caught run told ending.0 ending.1 (runs.answers low.0) }
 
 pub spent_cause : {bytes : List ℕ} {old new : SinkState} {run : RunRecord} {told : Told} → RunsFlat bytes old new run told → run_status run ≡ 6 → EndedSpent run told
-unfolding Unforged
+unfolding HasNoEvidence
 spent_cause {run = run} runs is =
     let low = low_status run 6 is (omega arith) in
     let ending = spent_of run.ending low.1 in
-    record { unforged = low.0; page = ending.0; ended = ending.1; used_up = runs.spent ending.0 low.0 ending.1 }
+    record { no_evidence = low.0; page = ending.0; ended = ending.1; used_up = runs.spent ending.0 low.0 ending.1 }
 
-pub forged_cause : {bytes : List ℕ} {old new : SinkState} {run : RunRecord} {told : Told} → RunsFlat bytes old new run told → run_status run ≡ 7 → EndedForged run told
-forged_cause {run = run} {told = told} runs is =
-    let found = forged_of run.evidence run.ending is in
+pub evidence_cause : {bytes : List ℕ} {old new : SinkState} {run : RunRecord} {told : Told} → RunsFlat bytes old new run told → run_status run ≡ 7 → EndedWithEvidence run told
+evidence_cause {run = run} {told = told} runs is =
+    let found = evidence_of run.evidence run.ending is in
     record {
       evidence = found.0;
       there = found.1;
@@ -171,9 +171,9 @@ forged_cause {run = run} {told = told} runs is =
     }
 
 -- evidence is of a false answer
-unforged_honest : (evidence : Option Evidence) (run : RunRecord) (told : Told) → IfSome evidence (IsOfFirstLie run.made told) → told.lies ≡ 0 → evidence ≡ None
-unforged_honest None run told first none = refl
-unforged_honest (Some evidence) run told first none = let some : 0 < told.lies = first.lies in absurd (omega arith)
+none_without_lie : (evidence : Option Evidence) (run : RunRecord) (told : Told) → IfSome evidence (IsOfFirstLie run.made told) → told.lies ≡ 0 → evidence ≡ None
+none_without_lie None run told first none = refl
+none_without_lie (Some evidence) run told first none = let some : 0 < told.lies = first.lies in absurd (omega arith)
 
-pub honest_unforged : {bytes : List ℕ} {old new : SinkState} {run : RunRecord} {told : Told} → RunsFlat bytes old new run told → told.lies ≡ 0 → run.evidence ≡ None
-honest_unforged {run = run} {told = told} runs none = unforged_honest run.evidence run told runs.first_lie none
+pub honest_without_evidence : {bytes : List ℕ} {old new : SinkState} {run : RunRecord} {told : Told} → RunsFlat bytes old new run told → told.lies ≡ 0 → run.evidence ≡ None
+honest_without_evidence {run = run} {told = told} runs none = none_without_lie run.evidence run told runs.first_lie none

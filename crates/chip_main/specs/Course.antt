@@ -8,7 +8,6 @@ use Rattle.sec_base.specs.declared.writing.SinkStop.TheVariants.{Failed, NoMemor
 use Rattle.chip_run.specs.declared.RunRecord.{RunRecord}
 use Rattle.chip_main.specs.declared.Done.{Done}
 use Rattle.chip_main.specs.declared.run_bus.RunBus.{RunBus}
-use Rattle.chip_main.specs.declared.refusal.Refusal.{Refusal}
 use Rattle.chip_main.specs.declared.refusal.Refusal.TheVariants.{Usage, Unread, TooLong, TooLarge}
 use Rattle.chip_main.specs.declared.course.Course.{Course}
 use Rattle.chip_main.specs.declared.course.Course.TheVariants.{Refused, NoMemory, Ran}
@@ -16,7 +15,7 @@ use Rattle.chip_main.specs.Flat.{flat_size}
 use Rattle.chip_main.specs.Texts.{record_text, refusal_line}
 use Rattle.chip_main.specs.Statuses.{run_status, refusal_status, untold_ending_status}
 use Rattle.chip_main.specs.Buses.{run_told, lies_of}
-use Rattle.chip_main.specs.Causes.{AsksAtMost, AsksFor, HasRead, IsCause}
+use Rattle.chip_main.specs.Causes.{AsksAtMost, AsksFor, IsCause}
 use Rattle.chip_main.specs.FlatRun.{RunsFlat, RunsRequest}
 use Rattle.chip_main.specs.Answer.{GainsFront}
 

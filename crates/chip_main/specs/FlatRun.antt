@@ -22,35 +22,29 @@ pub record RunsFlat (bytes : List ℕ) (old new : SinkState) (run : RunRecord) (
   -- the sink gained what was printed, and without evidence the run follows the plain machine so far
   pub follows : (printed : List ℕ) × Gains old printed new
       × (run.evidence ≡ None → Follows (flat_opening bytes) budget run.retired run.ending printed)
-
   -- Without evidence no answer of the bus was false, and it did not end as tampering; or one was, fails its check,
   -- was the last access, and the run ended as tampering of its place.
   pub answers : run.evidence ≡ None → HonestOrCaught device_tag run.made told (λ place. run.ending ≡ Tampered place)
   -- evidence is what it says, and is of the first false answer
   pub genuine : IfSome run.evidence (IsEvidence device_tag run.made)
   pub first_lie : IfSome run.evidence (IsOfFirstLie run.made told)
-
   -- where the memory did not end it, the memory outside has what the plain machine's has
   pub written_out : run.evidence ≡ None → ¬ IsMemoryEnding run.ending →
       IsWrittenOut (line_count flat_levels) run.made (plain (flat_opening bytes) run.retired).state.memory
   pub holds_last : run.evidence ≡ None → ¬ IsMemoryEnding run.ending →
       HoldsLast device_tag (line_count flat_levels) run.made told.written
-
   -- the budget ends it exactly where it is used up by a program that goes on
   pub out_of_steps : run.evidence ≡ None → ¬ IsMemoryEnding run.ending → ((run.ending ≡ OutOfSteps)
       ↔ ((run.retired ≡ budget) × ((plain (flat_opening bytes) budget).exit ≡ None)))
   pub budget_used : run.ending ≡ OutOfSteps → run.retired ≡ budget
   pub within : run.retired ≤ budget
-
   -- where no answer was false and the sink had no fault, it is the plain machine's run over the whole budget, or a
   -- page was used up, or memory was not to be had
   pub whole : ¬ (Rose old.faults new.faults) → told.lies ≡ 0 → run.ending ≢ NoMemory →
       IsWhole (flat_opening bytes) budget run.retired run.ending ⊎ ((page : ℕ) × (run.ending ≡ Spent page))
-
   pub spent : (page : ℕ) → run.evidence ≡ None → run.ending ≡ Spent page →
       IsSpent (line_count flat_levels) page_limit run.made page
   pub write_fault : run.ending ≡ WriteFault → Rose old.faults new.faults
-
   pub levels : told.levels ≡ flat_levels
   -- nothing is enciphered or signed yet
   pub used : run.used ≡ []

@@ -17,18 +17,18 @@ ending_status WriteFault = 9
 ending_status NoMemory = 10
 
 -- evidence goes before all endings but a write fault and want of memory
-abbrev pub forged_status : Ending → ℕ
-forged_status WriteFault = 9
-forged_status NoMemory = 10
-forged_status (Halted code) = 7
-forged_status (Trapped cause pc) = 7
-forged_status OutOfSteps = 7
-forged_status (Tampered place) = 7
-forged_status (Spent page) = 7
+abbrev pub evidence_status : Ending → ℕ
+evidence_status WriteFault = 9
+evidence_status NoMemory = 10
+evidence_status (Halted code) = 7
+evidence_status (Trapped cause pc) = 7
+evidence_status OutOfSteps = 7
+evidence_status (Tampered place) = 7
+evidence_status (Spent page) = 7
 
 abbrev pub status_with : Option Evidence → Ending → ℕ
 status_with None ending = ending_status ending
-status_with (Some evidence) ending = forged_status ending
+status_with (Some evidence) ending = evidence_status ending
 
 abbrev pub run_status : RunRecord → ℕ
 run_status run = status_with run.evidence run.ending

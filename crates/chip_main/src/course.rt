@@ -2,7 +2,7 @@ ghost use Rattle.std.specs.Prelude.{◌≡◌, ◌≤◌};
 ghost use Rattle.std.specs.Option.{option_map};
 ghost use Rattle.chip_main.specs.Request.{request_of, texts};
 ghost use Rattle.chip_main.specs.Course.{CameAbout};
-ghost use Rattle.chip_main.specs.Statuses.{run_status as status_of_run, ending_status as status_of_ending, forged_status as forged_status_of_ending, untold_ending_status as untold_status_of_ending};
+ghost use Rattle.chip_main.specs.Statuses.{run_status as status_of_run, ending_status as status_of_ending, evidence_status as evidence_status_of_ending, untold_ending_status as untold_status_of_ending};
 
 use crate::flat::run_flat;
 use crate::refusal::Refusal;
@@ -55,7 +55,7 @@ fn run_status(run: &RunRecord) -> u8
     ensures { result ≡ status_of_run run.now }
 {
     match run.evidence {
-        Some(_) => forged_status(run.ending),
+        Some(_) => evidence_status(run.ending),
         None => ending_status(run.ending),
     }
 }
@@ -75,8 +75,8 @@ fn ending_status(ending: Ending) -> u8
 }
 
 // Evidence goes before all endings but a write fault and want of memory.
-fn forged_status(ending: Ending) -> u8
-    ensures { result ≡ forged_status_of_ending ending }
+fn evidence_status(ending: Ending) -> u8
+    ensures { result ≡ evidence_status_of_ending ending }
 {
     match ending {
         Ending::WriteFault => 9,

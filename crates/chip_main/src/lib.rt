@@ -11,7 +11,7 @@ ghost use Rattle.chip_main.specs.Statuses.{ending_status};
 ghost use Rattle.chip_main.specs.Causes.{AsksAtMost, AsksFor, HasTold, IsOverLimit, IsOverMemory};
 ghost use Rattle.chip_main.specs.FlatRun.{RunsRequest};
 ghost use Rattle.chip_main.specs.Buses.{lies_of, IfRun, IsRunAnd};
-ghost use Rattle.chip_main.specs.Endings.{EndedHalted, EndedTrapped, EndedOutOfSteps, EndedTampered, EndedSpent, EndedForged};
+ghost use Rattle.chip_main.specs.Endings.{EndedHalted, EndedTrapped, EndedOutOfSteps, EndedTampered, EndedSpent, EndedWithEvidence};
 ghost use Rattle.chip_main.specs.Answer.{LacksMemory, TellsRefusal, TellsRun};
 ghost use Rattle.chip_main.specs.Course.{course_run, course_bus, status_of, Outcome};
 
@@ -64,7 +64,7 @@ pub fn run_words<F: Files, O: Sink, N: Sink>(
     ensures tampered { result.status ≡ 5 → IsRunAnd result EndedTampered }
     ensures tampered_lies { result.status ≡ 5 → result.lies ≡ 1 }
     ensures spent { result.status ≡ 6 → IsRunAnd result EndedSpent }
-    ensures evidence { result.status ≡ 7 → IsRunAnd result EndedForged }
+    ensures evidence { result.status ≡ 7 → IsRunAnd result EndedWithEvidence }
     ensures read_fault { result.status ≡ 8 → Rose (F.state files.old).faults (F.state files.new).faults
         × AsksFor (request_of (texts words.now)) (F.state files.old) (F.state files.new) }
     ensures write_fault { result.status ≡ 9 → Rose (O.state out.old).faults (O.state out.new).faults

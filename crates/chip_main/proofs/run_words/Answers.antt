@@ -1,5 +1,5 @@
 use Rattle.chip_main.proofs.Outcomes.{statuses, tells_run, tells_why_not, too_large, unrun_statuses}
-use Rattle.chip_main.proofs.RunOutcomes.{bus_together, halted, forged, honest, out_of_steps, runs_request, spent, tampered, tampered_once, trapped, whole}
+use Rattle.chip_main.proofs.RunOutcomes.{bus_together, halted, with_evidence, honest, out_of_steps, runs_request, spent, tampered, tampered_once, trapped, whole}
 use Rattle.chip_main.proofs.run_words.Goals as goal
 
 pub returns-clause-statuses : goal.returns-clause-statuses
@@ -24,7 +24,7 @@ pub returns-clause-spent : goal.returns-clause-spent
 returns-clause-spent g c = spent c.answer-done.ensures.outcome
 
 pub returns-clause-evidence : goal.returns-clause-evidence
-returns-clause-evidence g c = forged c.answer-done.ensures.outcome
+returns-clause-evidence g c = with_evidence c.answer-done.ensures.outcome
 
 pub returns-clause-run : goal.returns-clause-run
 returns-clause-run g c = runs_request c.answer-done.ensures.outcome
