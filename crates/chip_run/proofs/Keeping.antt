@@ -1,5 +1,5 @@
 -- What a protected memory keeps over a read and a write of a line.
-use Rattle.std.proofs.Common.{◌≡◌, ◌≢◌, ℕ, ◌+◌, ◌/◌, ◌<◌, ◌≤◌, ◌⊎◌, inl, inr, Bool, true, false, cond, nat_eq, List, [], ◌∷◌, ◌++◌, length, take, drop, Option, Some, None, IfSome, Contains, Result, Ok, Err, slice_index, slice_set, replicate, refl, ap, sym, ◌∙◌, subst, arith}
+use Rattle.std.proofs.Common.{◌≡◌, ◌≢◌, ℕ, ◌+◌, ◌/◌, ◌<◌, inl, inr, Bool, true, false, cond, nat_eq, List, [], ◌∷◌, ◌++◌, length, take, drop, Option, Some, None, IfSome, Contains, Err, slice_index, slice_set, replicate, refl, ap, sym, ◌∙◌, subst, arith}
 use Rattle.std.specs.Option.{option_or}
 use Rattle.std.proofs.lemmas.Bool.{cases_eq}
 use Rattle.std.proofs.lemmas.Bool.Decides.{Decides-eqb}
@@ -16,7 +16,7 @@ use Rattle.sec_base.specs.declared.account.Evidence.{Evidence}
 use Rattle.sec_base.specs.declared.account.Evidence.TheVariants.{Forgery, Collision}
 use Rattle.sec_base.specs.declared.answers.MemStop.{MemStop}
 use Rattle.sec_base.specs.declared.answers.MemStop.TheVariants.{Tampered, Spent, NoMemory}
-use Rattle.sec_base.specs.Evidence.{sealed_bytes, sealed_of, LineFails, Fails, IsEvidence, HasLastCounter}
+use Rattle.sec_base.specs.Evidence.{sealed_bytes, sealed_of, LineFails, IsEvidence, HasLastCounter}
 use Rattle.sec_base.specs.Last.{last_at, last_data, last_pair, data_pairs}
 use Rattle.sec_base.specs.Layout.{line_count}
 use Rattle.sec_base.specs.Messages.{has_message}
@@ -24,11 +24,11 @@ use Rattle.sec_base.proofs.SameMessages.{has_message-Decides}
 use Rattle.sec_base.proofs.SamePlaces.{at_place-here, at_place-there, false_from}
 use Rattle.bus_model.specs.Told.{Told, Lie, after_read, after_write, after_answer, after_lie, first_lie}
 use Rattle.bus_model.proofs.Steps.{true_or_false, answered, lied, read_levels, read_written}
-use Rattle.tag_engine.specs.Engine.{Engine, new_engine, tags_of, forgery_of, after_check, after_make, with_room}
+use Rattle.tag_engine.specs.Engine.{Engine, new_engine, tags_of, forgery_of, after_make, with_room}
 use Rattle.tag_engine.proofs.Forgeries.{known, still_genuine}
 use Rattle.chip_run.specs.Contents.{line_writes, writes_of, IsSpent, HoldsLast}
-use Rattle.chip_run.specs.Account.{HonestOrCaught, IsHonest, IsCaught, IsOfFirstLie}
-use Rattle.chip_run.specs.Protected.{Protected, IsKept, AreCounted, IsNumbered, Passed, Failed, IsCheckedRead, lasting_stop, after_line}
+use Rattle.chip_run.specs.Account.{HonestOrCaught, IsOfFirstLie}
+use Rattle.chip_run.specs.Protected.{IsKept, AreCounted, Passed, IsCheckedRead, lasting_stop, after_line}
 use Rattle.chip_run.proofs.LineMessages.{some_same, last_data-same, last_data-other, last_made, last_pair-some, counted_new, counted_more}
 
 -- Sealed lines

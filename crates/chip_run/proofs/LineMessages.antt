@@ -1,5 +1,5 @@
 -- The messages of lines, and one more of them.
-use Rattle.std.proofs.Common.{◌≡◌, ◌≢◌, ℕ, zero, suc, ◌+◌, ◌<◌, ◌≤◌, ◌⊎◌, inl, inr, Bool, true, false, cond, nat_eq, List, [], ◌∷◌, ◌++◌, length, Option, Some, None, Contains, slice_index, slice_index_or, slice_set, replicate, refl, ap, sym, ◌∙◌, subst, arith, get_or-set_other}
+use Rattle.std.proofs.Common.{◌≡◌, ◌≢◌, ℕ, zero, suc, ◌+◌, ◌<◌, ◌≤◌, inl, inr, Bool, true, false, cond, nat_eq, List, [], ◌∷◌, ◌++◌, length, Option, Some, None, Contains, slice_index, slice_index_or, slice_set, replicate, refl, ap, sym, ◌∙◌, subst, arith, get_or-set_other}
 use Rattle.std.specs.Option.{option_map}
 use Rattle.std.specs.List.{slice_get}
 use Rattle.std.proofs.lemmas.Bool.{cases_eq}
@@ -14,7 +14,7 @@ use Rattle.sec_base.specs.Last.{data_part, last_at, last_data, last_pair, data_p
 use Rattle.sec_base.specs.Lines.{with_line}
 use Rattle.sec_base.proofs.LastMessages.{last_of_same, last_of_other, linked, HasPart, last_pair-data_pairs}
 use Rattle.sec_base.proofs.SamePlaces.{false_from}
-use Rattle.sec_base.proofs.JoinedLines.{with_line-joined_lines, line_at-joined_lines}
+use Rattle.sec_base.proofs.JoinedLines.{with_line-joined_lines}
 use Rattle.chip_run.specs.Contents.{bytes_of, line_bytes, contents_of, writes_of, line_writes}
 use Rattle.chip_run.specs.LineLengths.{length-line_bytes, as_line-whole}
 use Rattle.chip_run.specs.Protected.{IsNumbered, AreCounted}

@@ -1,12 +1,10 @@
 -- What a memory of lines holds, by the messages that were tagged.
-use Rattle.std.proofs.Common.{◌≡◌, ◌≢◌, ℕ, ◌+◌, ◌*◌, ◌<◌, ◌≤◌, List, [], ◌∷◌, ◌++◌, length, take, replicate, Option, Some, None, refl, ap, sym, ◌∙◌, arith, length-append, length-take}
-use Rattle.std.proofs.lemmas.List.{length-replicate, take-append-le, take_all}
+use Rattle.std.proofs.Common.{◌≡◌, ℕ, ◌*◌, List, ◌++◌, length, replicate, Option, Some, None, refl, ◌∙◌, arith, length-append, length-take}
+use Rattle.std.proofs.lemmas.List.{take-append-le, take_all}
 use Rattle.sec_base.specs.declared.sealing.Counter.{Counter}
 use Rattle.sec_base.specs.declared.account.Message.{Message}
-use Rattle.sec_base.specs.declared.account.Message.TheVariants.{Line}
-use Rattle.sec_base.specs.Last.{last_data, data_part}
-use Rattle.sec_base.specs.Lines.{line_at, with_line, joined_lines}
-use Rattle.sec_base.proofs.JoinedLines.{length-joined_lines, line_at-joined_lines, with_line-joined_lines}
+use Rattle.sec_base.specs.Last.{last_data}
+use Rattle.sec_base.proofs.JoinedLines.{length-joined_lines}
 use Rattle.chip_run.specs.Contents.{as_line, bytes_of, line_bytes, contents_of}
 
 -- a line has 64 bytes
