@@ -82,7 +82,7 @@ impl FlipBus {
 impl Bus for FlipBus {
     ghost told = { flip_told };
 
-    /// What was written at the line's place, but for the one read.
+    /// What was written at the line's place, but for the one read. It is never refused.
     fn read_data(&mut self, line: u32) -> Result<Sealed, NoMemory>
         requires inside { IsPlace (flip_told self.old).levels (Line line) }
 
@@ -111,9 +111,11 @@ impl Bus for FlipBus {
         Ok(answer)
     }
 
+    /// Puts a line and its tag at the line's place. It is never refused.
     fn write_data(&mut self, line: u32, sealed: &Sealed) -> Result<(), NoMemory>
         requires inside { IsPlace (flip_told self.old).levels (Line line) }
 
+        ensures is_ok { IsOk result }
         ensures flip { self.new.flip ≡ self.old.flip }
         ensures ok { OnOk result (flip_told self.new ≡ after_write (Line line) (sealed_bytes sealed.now) (flip_told self.old)) }
         ensures err { OnErr result (flip_told self.new ≡ flip_told self.old) }
@@ -123,7 +125,7 @@ impl Bus for FlipBus {
         Ok(())
     }
 
-    /// What was written at the node's place, but for the one read.
+    /// What was written at the node's place, but for the one read. It is never refused.
     fn read_node(&mut self, level: u8, index: u32) -> Result<[u8; 64], NoMemory>
         requires inside { IsPlace (flip_told self.old).levels (Node level index) }
 
@@ -157,9 +159,11 @@ impl Bus for FlipBus {
         Ok(changed)
     }
 
+    /// Puts a block at the node's place. It is never refused.
     fn write_node(&mut self, level: u8, index: u32, block: &[u8; 64]) -> Result<(), NoMemory>
         requires inside { IsPlace (flip_told self.old).levels (Node level index) }
 
+        ensures is_ok { IsOk result }
         ensures flip { self.new.flip ≡ self.old.flip }
         ensures ok { OnOk result (flip_told self.new ≡ after_write (Node level index) block.now (flip_told self.old)) }
         ensures err { OnErr result (flip_told self.new ≡ flip_told self.old) }

@@ -95,7 +95,7 @@ impl HonestBus {
 impl Bus for HonestBus {
     ghost told = { honest_told };
 
-    /// What was written at the line's place.
+    /// What was written at the line's place. It is never refused.
     fn read_data(&mut self, line: u32) -> Result<Sealed, NoMemory>
         requires inside { IsPlace (honest_told self.old).levels (Line line) }
 
@@ -112,14 +112,22 @@ impl Bus for HonestBus {
         Ok(place.sealed)
     }
 
-    fn write_data(&mut self, line: u32, sealed: &Sealed) -> Result<(), NoMemory> {
+    /// Puts a line and its tag at the line's place. It is never refused.
+    fn write_data(&mut self, line: u32, sealed: &Sealed) -> Result<(), NoMemory>
+        requires inside { IsPlace (honest_told self.old).levels (Line line) }
+
+        ensures is_ok { IsOk result }
+        ensures ok { OnOk result (honest_told self.new ≡ after_write (Line line) (sealed_bytes sealed.now) (honest_told self.old)) }
+        ensures err { OnErr result (honest_told self.new ≡ honest_told self.old) }
+        ensures levels { (honest_told self.new).levels ≡ (honest_told self.old).levels }
+    {
         self.accesses = self.accesses.saturating_add(1);
         let place = &mut self.lines[line as usize];
         place.sealed = *sealed;
         Ok(())
     }
 
-    /// What was written at the node's place.
+    /// What was written at the node's place. It is never refused.
     fn read_node(&mut self, level: u8, index: u32) -> Result<[u8; 64], NoMemory>
         requires inside { IsPlace (honest_told self.old).levels (Node level index) }
 
@@ -136,7 +144,15 @@ impl Bus for HonestBus {
         Ok(node.block)
     }
 
-    fn write_node(&mut self, level: u8, index: u32, block: &[u8; 64]) -> Result<(), NoMemory> {
+    /// Puts a block at the node's place. It is never refused.
+    fn write_node(&mut self, level: u8, index: u32, block: &[u8; 64]) -> Result<(), NoMemory>
+        requires inside { IsPlace (honest_told self.old).levels (Node level index) }
+
+        ensures is_ok { IsOk result }
+        ensures ok { OnOk result (honest_told self.new ≡ after_write (Node level index) block.now (honest_told self.old)) }
+        ensures err { OnErr result (honest_told self.new ≡ honest_told self.old) }
+        ensures levels { (honest_told self.new).levels ≡ (honest_told self.old).levels }
+    {
         self.accesses = self.accesses.saturating_add(1);
         let node = &mut self.nodes[self.geometry.node_number(level, index) as usize];
         node.block = *block;
