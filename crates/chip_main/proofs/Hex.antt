@@ -1,5 +1,5 @@
 -- What a hole of eight hexadecimal digits writes for a word.
-use Rattle.std.proofs.Common.{◌≡◌, ◌<◌, ◌≤◌, ℕ, zero, suc, ◌+◌, ◌-◌, ◌/◌, ◌%◌, ◌^◌, List, [], ◌∷◌, ◌++◌, length, replicate, true, false, refl, sym, ap, ◌∙◌, arith, append_assoc, nat_eq, ⊎_elim, append-nil, Option, Some}
+use Rattle.std.proofs.Common.{◌≡◌, ◌<◌, ◌≤◌, ℕ, zero, suc, ◌+◌, ◌-◌, ◌/◌, ◌%◌, ◌^◌, List, [], ◌∷◌, ◌++◌, length, replicate, true, false, refl, ap, ◌∙◌, arith, nat_eq, ⊎_elim, append-nil, Some}
 use Rattle.std.proofs.Math.Nat.{sub-zero}
 use Rattle.std.proofs.lemmas.Bool.{cases_lt, eq-eqb}
 use Rattle.std.specs.Fmt.{styled_digits_output, digits_output, digits, digits_onto, digit_glyph, padded_integral, format_spec, char_count}

@@ -1,3 +1,7 @@
-pub mod TwoLines
 pub mod Hex
+pub mod HonestBuses
+pub mod Lines
+pub mod FlatRuns
+pub mod RunStatuses
 pub mod Outcomes
+pub mod RunOutcomes

@@ -7,7 +7,7 @@ use Rattle.sec_base.specs.Writing.{SinkState, Gains, Silent}
 use Rattle.sec_base.specs.declared.answers.Ending.TheVariants.{NoMemory}
 use Rattle.chip_run.specs.declared.RunRecord.{RunRecord}
 use Rattle.chip_main.specs.declared.refusal.Refusal.{Refusal}
-use Rattle.chip_main.specs.Statuses.{ending_status, refusal_status}
+use Rattle.chip_main.specs.Statuses.{run_status, refusal_status}
 use Rattle.chip_main.specs.Texts.{record_text, refusal_line}
 use Rattle.chip_main.specs.Causes.{IsCause}
 
@@ -20,11 +20,11 @@ abbrev pub GainsText : SinkState → List ℕ → SinkState → ℕ → Type 0
 GainsText old text new status =
     Gains old text new ⊎ (GainsFront old text new × (Rose old.faults new.faults ⊎ (status ≡ 10)))
 
--- A run's record was told whole, with the status of its ending; or a front part of it, with 9 where a write failed,
--- or with 10 where memory was not to be had.
-abbrev pub TellsRun : ℕ → RunRecord → SinkState → SinkState → Type 0
-TellsRun status run old new = (Gains old (record_text run) new × (status ≡ ending_status run.ending))
-    ⊎ (GainsFront old (record_text run) new
+-- A run's record was told whole, with so many lies and the status of the run; or a front part of it, with 9 where a
+-- write failed, or with 10 where memory was not to be had.
+abbrev pub TellsRun : ℕ → RunRecord → ℕ → SinkState → SinkState → Type 0
+TellsRun status run lies old new = (Gains old (record_text run lies) new × (status ≡ run_status run))
+    ⊎ (GainsFront old (record_text run lies) new
     × (((status ≡ 9) × (run.ending ≢ NoMemory) × Rose old.faults new.faults) ⊎ (status ≡ 10)))
 
 -- a refusal with its cause, its line and its status, or 10 for it

@@ -1,34 +1,56 @@
 -- A run of a flat program.
-use Rattle.std.specs.Prelude.{◌≡◌, ◌≢◌, ◌≤◌, ◌↔◌, List, ℕ, length, Option, None}
+use Rattle.std.specs.Prelude.{◌≡◌, ◌≢◌, ◌≤◌, ◌↔◌, ◌⊎◌, List, [], ℕ, length, Option, None, IfSome}
 use Rattle.sec_base.specs.Count.{Rose}
+use Rattle.sec_base.specs.Evidence.{IsEvidence}
+use Rattle.sec_base.specs.Layout.{line_count}
 use Rattle.sec_base.specs.Reading.{FilesState}
 use Rattle.sec_base.specs.Writing.{SinkState, Gains}
-use Rattle.sec_base.specs.declared.layout.Place.{Place}
 use Rattle.sec_base.specs.declared.answers.Ending.TheVariants.{OutOfSteps, Tampered, Spent, WriteFault, NoMemory}
+use Rattle.bus_model.specs.Told.{Told}
 use Rattle.rv32_core.specs.Machine.{plain}
 use Rattle.rv32_core.specs.Follows.{Follows, IsWhole}
 use Rattle.chip_run.specs.declared.RunRecord.{RunRecord}
-use Rattle.chip_main.specs.Flat.{budget, flat_opening, flat_size}
+use Rattle.chip_run.specs.Account.{HonestOrCaught, IsOfFirstLie}
+use Rattle.chip_run.specs.Contents.{HoldsLast, IsSpent, IsWrittenOut}
+use Rattle.chip_run.specs.Session.{IsMemoryEnding}
+use Rattle.chip_main.specs.Flat.{budget, device_tag, flat_levels, flat_opening, flat_size, page_limit}
 use Rattle.chip_main.specs.Causes.{HasRead}
 
--- a run of the flat program of these bytes, which prints to a sink
-pub record RunsFlat (bytes : List ℕ) (old new : SinkState) (run : RunRecord) : Type 0 where
+-- a run of the flat program of these bytes, which prints to a sink, over a bus that was told this
+pub record RunsFlat (bytes : List ℕ) (old new : SinkState) (run : RunRecord) (told : Told) : Type 0 where
   pub fits : length bytes ≤ flat_size
-  -- it follows the plain machine, and the sink gained what that printed
+  -- the sink gained what was printed, and without evidence the run follows the plain machine so far
   pub follows : (printed : List ℕ) × Gains old printed new
-      × Follows (flat_opening bytes) budget run.retired run.ending printed
+      × (run.evidence ≡ None → Follows (flat_opening bytes) budget run.retired run.ending printed)
+  -- Without evidence no answer of the bus was false, and it did not end as tampering; or one was, fails its check,
+  -- was the last access, and the run ended as tampering of its place.
+  pub answers : run.evidence ≡ None → HonestOrCaught device_tag run.made told (λ place. run.ending ≡ Tampered place)
+  -- evidence is what it says, and is of the first false answer
+  pub genuine : IfSome run.evidence (IsEvidence device_tag run.made)
+  pub first_lie : IfSome run.evidence (IsOfFirstLie run.made told)
+  -- where the memory did not end it, the memory outside has what the plain machine's has
+  pub written_out : run.evidence ≡ None → ¬ IsMemoryEnding run.ending →
+      IsWrittenOut (line_count flat_levels) run.made (plain (flat_opening bytes) run.retired).state.memory
+  pub holds_last : run.evidence ≡ None → ¬ IsMemoryEnding run.ending →
+      HoldsLast device_tag (line_count flat_levels) run.made told.written
   -- the budget ends it exactly where it is used up by a program that goes on
-  pub out_of_steps : run.ending ≢ NoMemory → ((run.ending ≡ OutOfSteps)
+  pub out_of_steps : run.evidence ≡ None → ¬ IsMemoryEnding run.ending → ((run.ending ≡ OutOfSteps)
       ↔ ((run.retired ≡ budget) × ((plain (flat_opening bytes) budget).exit ≡ None)))
-  -- without a fault of the sink it is the plain machine's run over the whole budget
-  pub whole : ¬ (Rose old.faults new.faults) → run.ending ≢ NoMemory →
-      IsWhole (flat_opening bytes) budget run.retired run.ending
+  pub budget_used : run.ending ≡ OutOfSteps → run.retired ≡ budget
+  pub within : run.retired ≤ budget
+  -- where no answer was false and the sink had no fault, it is the plain machine's run over the whole budget, or a
+  -- page was used up, or memory was not to be had
+  pub whole : ¬ (Rose old.faults new.faults) → told.lies ≡ 0 → run.ending ≢ NoMemory →
+      IsWhole (flat_opening bytes) budget run.retired run.ending ⊎ ((page : ℕ) × (run.ending ≡ Spent page))
+  pub spent : (page : ℕ) → run.evidence ≡ None → run.ending ≡ Spent page →
+      IsSpent (line_count flat_levels) page_limit run.made page
   pub write_fault : run.ending ≡ WriteFault → Rose old.faults new.faults
-  -- this memory neither tampers nor is used up
-  pub untampered : (place : Place) → run.ending ≢ Tampered place
-  pub unspent : (page : ℕ) → run.ending ≢ Spent page
+  pub levels : told.levels ≡ flat_levels
+  -- nothing is enciphered or signed yet
+  pub used : run.used ≡ []
+  pub report : run.report ≡ None
 
 -- a run of the request's file
-abbrev pub RunsRequest : Option (List ℕ) → FilesState → SinkState → SinkState → RunRecord → Type 0
-RunsRequest request files old new run =
-    (bytes : List ℕ) × HasRead request files bytes × RunsFlat bytes old new run
+abbrev pub RunsRequest : Option (List ℕ) → FilesState → SinkState → SinkState → RunRecord → Told → Type 0
+RunsRequest request files old new run told =
+    (bytes : List ℕ) × HasRead request files bytes × RunsFlat bytes old new run told

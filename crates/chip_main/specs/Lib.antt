@@ -4,5 +4,7 @@ pub mod Texts
 pub mod Statuses
 pub mod Causes
 pub mod FlatRun
+pub mod Buses
+pub mod Endings
 pub mod Answer
 pub mod Course

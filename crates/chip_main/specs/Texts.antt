@@ -44,8 +44,12 @@ ending_line NoMemory = codes "no memory\n"
 abbrev pub retired_line : ℕ → List ℕ
 retired_line retired = codes "retired " ++ decimal retired ++ codes "\n"
 
-abbrev pub record_text : RunRecord → List ℕ
-record_text run = ending_line run.ending ++ retired_line run.retired
+-- the third says how many answers of the bus were false
+abbrev pub lies_line : ℕ → List ℕ
+lies_line lies = codes "lies " ++ decimal lies ++ codes "\n"
+
+abbrev pub record_text : RunRecord → ℕ → List ℕ
+record_text run lies = ending_line run.ending ++ (retired_line run.retired ++ lies_line lies)
 
 -- the one line of a refusal
 abbrev pub refusal_line : Refusal → List ℕ

@@ -1,11 +1,12 @@
 ghost use Rattle.std.specs.Prelude.{◌≡◌, ◌≤◌};
 ghost use Rattle.std.specs.Option.{option_map};
 ghost use Rattle.chip_main.specs.Request.{request_of, texts};
-ghost use Rattle.chip_main.specs.Course.{CameAbout, untold_ending_status as untold_status_of_ending};
-ghost use Rattle.chip_main.specs.Statuses.{ending_status as status_of_ending};
+ghost use Rattle.chip_main.specs.Course.{CameAbout};
+ghost use Rattle.chip_main.specs.Statuses.{run_status as status_of_run, ending_status as status_of_ending, evidence_status as evidence_status_of_ending, untold_ending_status as untold_status_of_ending};
 
 use crate::flat::run_flat;
 use crate::refusal::Refusal;
+use crate::run_bus::RunBus;
 use chip_run::RunRecord;
 use sec_base::{Ending, Files, ReadStop, Sink};
 use std::alloc::Global;
@@ -20,12 +21,12 @@ pub enum Course {
     Refused(Refusal),
     /// There is no run, since there was no memory for it.
     NoMemory,
-    /// There was a run.
-    Ran(RunRecord),
+    /// There was a run, over this bus.
+    Ran(RunRecord, RunBus),
 }
 
 impl Course {
-    ghost use Rattle.chip_main.specs.Course.{course_run, course_status, untold_status};
+    ghost use Rattle.chip_main.specs.Course.{course_status, untold_status};
 
     /// The status, where the course was told whole.
     pub fn status(&self) -> u8
@@ -34,7 +35,7 @@ impl Course {
         match self {
             Course::Refused(refusal) => refusal.status(),
             Course::NoMemory => 10,
-            Course::Ran(run) => ending_status(run.ending),
+            Course::Ran(run, _) => run_status(run),
         }
     }
 
@@ -45,18 +46,17 @@ impl Course {
         match self {
             Course::Refused(refusal) => refusal.status(),
             Course::NoMemory => 10,
-            Course::Ran(run) => untold_ending_status(run.ending),
+            Course::Ran(run, _) => untold_ending_status(run.ending),
         }
     }
+}
 
-    /// The run, where there was one.
-    pub fn into_run(self) -> Option<RunRecord>
-        ensures { result ≡ course_run self }
-    {
-        match self {
-            Course::Ran(run) => Some(run),
-            Course::Refused(_) | Course::NoMemory => None,
-        }
+fn run_status(run: &RunRecord) -> u8
+    ensures { result ≡ status_of_run run.now }
+{
+    match run.evidence {
+        Some(_) => evidence_status(run.ending),
+        None => ending_status(run.ending),
     }
 }
 
@@ -71,6 +71,21 @@ fn ending_status(ending: Ending) -> u8
         Ending::Spent(_) => 6,
         Ending::WriteFault => 9,
         Ending::NoMemory => 10,
+    }
+}
+
+// Evidence goes before all endings but a write fault and want of memory.
+fn evidence_status(ending: Ending) -> u8
+    ensures { result ≡ evidence_status_of_ending ending }
+{
+    match ending {
+        Ending::WriteFault => 9,
+        Ending::NoMemory => 10,
+        Ending::Halted(_)
+        | Ending::Trapped { .. }
+        | Ending::OutOfSteps
+        | Ending::Tampered(_)
+        | Ending::Spent(_) => 7,
     }
 }
 

@@ -5,7 +5,10 @@ ghost use Rattle.chip_main.specs.Course.{ComesFlat};
 
 use crate::course::Course;
 use crate::refusal::Refusal;
+use crate::run_bus::RunBus;
+use bus_model::HonestBus;
 use chip_run::{Setup, run};
+use hmac_tag::{HmacTagger, derive};
 use sec_base::{Bytes, Geometry, Image, NoMemory, Segment, Segments, Sink};
 use std::alloc::Global;
 
@@ -15,7 +18,16 @@ const LEVELS: u8 = 1;
 /// How many instructions may be retired.
 const BUDGET: u64 = 10_000_000;
 
-/// Runs a flat program with no input.
+/// How often a line may be written.
+const PAGE_LIMIT: u64 = u64::MAX;
+
+/// The key that the keys of the device are derived from.
+const DEVICE_KEY: [u8; 32] = [
+    0, 1, 2, 3, 4, 5, 6, 7, 8, 9, 10, 11, 12, 13, 14, 15, 16, 17, 18, 19, 20, 21, 22, 23, 24, 25,
+    26, 27, 28, 29, 30, 31,
+];
+
+/// Runs a flat program with no input, over an honest bus.
 pub fn run_flat<O: Sink>(alloc: Global, bytes: Bytes, out: &mut O) -> Course
     ensures came { ComesFlat result bytes (O.state out.old) (O.state out.new) }
     ensures faults { (O.state out.old).faults ≤ (O.state out.new).faults }
@@ -29,11 +41,21 @@ pub fn run_flat<O: Sink>(alloc: Global, bytes: Bytes, out: &mut O) -> Course
         Ok(image) => image,
         Err(_) => return Course::NoMemory,
     };
+    let bus = match HonestBus::new(alloc, geometry) {
+        Ok(bus) => RunBus::Honest(bus),
+        Err(_) => return Course::NoMemory,
+    };
+    let keys = derive(&DEVICE_KEY);
     let setup = Setup {
         geometry,
+        keys,
         budget: BUDGET,
+        page_limit: PAGE_LIMIT,
+        nonce: [0; 16],
     };
-    Course::Ran(run(alloc, &image, &[], &setup, out))
+    let tagger = HmacTagger::new(&keys);
+    let (record, bus) = run(alloc, &image, &[], &setup, tagger, bus, out);
+    Course::Ran(record, bus)
 }
 
 // The program of a flat file: one segment at address 0, where it also begins.

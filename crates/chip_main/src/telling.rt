@@ -1,6 +1,6 @@
 ghost use Rattle.std.specs.Prelude.{◌≡◌, ◌≤◌, IfOk, string_bytes};
 ghost use Rattle.sec_base.specs.declared.answers.Ending.TheVariants.{Tampered, Trapped};
-ghost use Rattle.chip_main.specs.Texts.{cause_text, ending_line, record_text, retired_line};
+ghost use Rattle.chip_main.specs.Texts.{cause_text, ending_line, lies_line, record_text, retired_line};
 ghost use Rattle.chip_main.specs.Course.{course_text, IsTold};
 
 use crate::course::Course;
@@ -15,20 +15,25 @@ pub fn tell<N: Sink>(alloc: Global, course: &Course, note: &mut N) -> Result<(),
 {
     match course {
         Course::Refused(refusal) => {
-            write_all(note, refusal.line().as_bytes())?;
+            write_line(note, refusal.line())?;
             Ok(())
         }
         Course::NoMemory => Ok(()),
-        Course::Ran(run) => {
-            tell_run(alloc, run, note)?;
+        Course::Ran(run, bus) => {
+            tell_run(alloc, run, bus.lies(), note)?;
             Ok(())
         }
     }
 }
 
-// How the run ended, and how many instructions were retired.
-fn tell_run<N: Sink>(alloc: Global, run: &RunRecord, note: &mut N) -> Result<(), SinkStop>
-    ensures told { IsTold (record_text run.now) (N.state note.old) (N.state note.new) result }
+// How the run ended, how many instructions were retired, and how many answers were false.
+fn tell_run<N: Sink>(
+    alloc: Global,
+    run: &RunRecord,
+    lies: u64,
+    note: &mut N,
+) -> Result<(), SinkStop>
+    ensures told { IsTold (record_text run.now lies) (N.state note.old) (N.state note.new) result }
     ensures faults { (N.state note.old).faults ≤ (N.state note.new).faults }
 {
     let Ok(ending) = ending_text(alloc, run.ending) else {
@@ -37,14 +42,36 @@ fn tell_run<N: Sink>(alloc: Global, run: &RunRecord, note: &mut N) -> Result<(),
     let Ok(retired) = retired_text(alloc, run.retired) else {
         return Err(SinkStop::NoMemory);
     };
-    match write_all(note, ending.as_bytes()) {
+    let Ok(lies) = lies_text(alloc, lies) else {
+        return Err(SinkStop::NoMemory);
+    };
+    match write_line(note, ending.as_str()) {
         Ok(()) => {}
         Err(stop) => return Err(stop),
     }
-    match write_all(note, retired.as_bytes()) {
+    match write_line(note, retired.as_str()) {
+        Ok(()) => {}
+        Err(stop) => return Err(stop),
+    }
+    match write_line(note, lies.as_str()) {
         Ok(()) => Ok(()),
         Err(stop) => Err(stop),
     }
+}
+
+// A line of a text, as one piece.
+fn write_line<N: Sink>(note: &mut N, line: &str) -> Result<(), SinkStop>
+    ensures told { IsTold line.now (N.state note.old) (N.state note.new) result }
+    ensures faults { (N.state note.old).faults ≤ (N.state note.new).faults }
+{
+    write_all(note, line.as_bytes())?;
+    Ok(())
+}
+
+fn lies_text(alloc: Global, lies: u64) -> Result<String, NoMemory>
+    ensures { IfOk result (λ line. string_bytes line ≡ lies_line lies) }
+{
+    Ok(format!(in alloc; "lies {lies}\n")?)
 }
 
 fn retired_text(alloc: Global, retired: u64) -> Result<String, NoMemory>

@@ -1,9 +1,10 @@
 // Whole calls. Each expected text and status is worked out by hand from the words and the machine's rules.
 ghost use Rattle.std.specs.Prelude.{None};
 
-use super::{Done, run_words};
+use super::{Done, RunBus, run_words};
+use bus_model::{Bus, HonestBus};
 use chip_run::RunRecord;
-use sec_base::{Ending, MemoryFiles, MemorySink, NoMemory, Sink, SinkStop};
+use sec_base::{Ending, Geometry, MemoryFiles, MemorySink, NoMemory, Sealed, Sink, SinkStop};
 use std::alloc::Global;
 use std::test::Fail;
 
@@ -112,17 +113,25 @@ fn ending(done: &Done) -> Option<Ending> {
 #[test]
 fn a_program_exits(rt: HostRuntime) -> Result<(), Fail> {
     let call = run_program(rt.alloc(), &EXIT_7, &[], &[])?;
-    assert_eq!(rt; call.note.bytes(), b"halted 7\nretired 3\n".as_slice());
+    assert_eq!(rt;
+        call.note.bytes(),
+        b"halted 7\nretired 3\nlies 0\n".as_slice()
+    );
     assert_eq!(rt; call.out.bytes(), b"".as_slice());
     assert_eq!(rt; call.done.status, 0);
     assert_eq!(rt; ending(&call.done), Some(Ending::Halted(7)));
+    assert_eq!(rt; call.done.lies, 0);
+    assert!(rt; call.done.bus.is_some());
     Ok(())
 }
 
 #[test]
 fn a_program_stores_and_loads(rt: HostRuntime) -> Result<(), Fail> {
     let call = run_program(rt.alloc(), &EXIT_65, &[], &[])?;
-    assert_eq!(rt; call.note.bytes(), b"halted 65\nretired 6\n".as_slice());
+    assert_eq!(rt;
+        call.note.bytes(),
+        b"halted 65\nretired 6\nlies 0\n".as_slice()
+    );
     assert_eq!(rt; call.out.bytes(), b"".as_slice());
     assert_eq!(rt; call.done.status, 0);
     Ok(())
@@ -131,7 +140,10 @@ fn a_program_stores_and_loads(rt: HostRuntime) -> Result<(), Fail> {
 #[test]
 fn a_program_prints(rt: HostRuntime) -> Result<(), Fail> {
     let call = run_program(rt.alloc(), &PRINT_A, &[], &[])?;
-    assert_eq!(rt; call.note.bytes(), b"halted 1\nretired 10\n".as_slice());
+    assert_eq!(rt;
+        call.note.bytes(),
+        b"halted 1\nretired 10\nlies 0\n".as_slice()
+    );
     assert_eq!(rt; call.out.bytes(), b"A".as_slice());
     assert_eq!(rt; call.done.status, 0);
     Ok(())
@@ -141,18 +153,18 @@ fn a_program_prints(rt: HostRuntime) -> Result<(), Fail> {
 fn programs_trap(rt: HostRuntime) -> Result<(), Fail> {
     // Nothing at all; three instructions and a word that is none; a load one past the memory; one at address 1.
     let rows: [(&[u32], &[u8]); 4] = [
-        (&[], b"trapped illegal pc 00000000\nretired 0\n"),
+        (&[], b"trapped illegal pc 00000000\nretired 0\nlies 0\n"),
         (
             &[NOTHING, NOTHING, NOTHING],
-            b"trapped illegal pc 0000000c\nretired 3\n",
+            b"trapped illegal pc 0000000c\nretired 3\nlies 0\n",
         ),
         (
             &[0x000042b7, 0x0002a503],
-            b"trapped outside memory pc 00000004\nretired 1\n",
+            b"trapped outside memory pc 00000004\nretired 1\nlies 0\n",
         ),
         (
             &[0x00102503],
-            b"trapped misaligned data pc 00000000\nretired 0\n",
+            b"trapped misaligned data pc 00000000\nretired 0\nlies 0\n",
         ),
     ];
     for (words, text) in rows {
@@ -170,7 +182,7 @@ fn a_program_fills_the_memory(rt: HostRuntime) -> Result<(), Fail> {
     let call = run_program(rt.alloc(), words.as_slice(), &[], &[])?;
     assert_eq!(rt;
         call.note.bytes(),
-        b"trapped outside memory pc 00004000\nretired 4096\n".as_slice()
+        b"trapped outside memory pc 00004000\nretired 4096\nlies 0\n".as_slice()
     );
     assert_eq!(rt; call.done.status, 1);
     Ok(())
@@ -190,6 +202,8 @@ fn files_are_refused(rt: HostRuntime) -> Result<(), Fail> {
         assert_eq!(rt; call.out.bytes(), b"".as_slice());
         assert_eq!(rt; call.done.status, 3);
         assert_eq!(rt; ending(&call.done), None);
+        assert_eq!(rt; call.done.lies, 0);
+        assert!(rt; call.done.bus.is_none());
     }
     Ok(())
 }
@@ -237,7 +251,7 @@ fn files_are_not_read(rt: HostRuntime) -> Result<(), Fail> {
 #[test]
 fn a_fault_of_note_keeps_the_run(rt: HostRuntime) -> Result<(), Fail> {
     // The number of the write that fails, and what was told before.
-    let rows: [(u64, &[u8]); 2] = [(1, b""), (2, b"halted 7\n")];
+    let rows: [(u64, &[u8]); 3] = [(1, b""), (2, b"halted 7\n"), (3, b"halted 7\nretired 3\n")];
     for (fails, text) in rows {
         let call = run_program(rt.alloc(), &EXIT_7, &[], &[fails])?;
         assert_eq!(rt; call.note.bytes(), text);
@@ -259,7 +273,10 @@ fn a_fault_of_note_keeps_a_refusal(rt: HostRuntime) -> Result<(), Fail> {
 #[test]
 fn a_fault_of_out_ends_the_run(rt: HostRuntime) -> Result<(), Fail> {
     let call = run_program(rt.alloc(), &PRINT_A, &[1], &[])?;
-    assert_eq!(rt; call.note.bytes(), b"write fault\nretired 7\n".as_slice());
+    assert_eq!(rt;
+        call.note.bytes(),
+        b"write fault\nretired 7\nlies 0\n".as_slice()
+    );
     assert_eq!(rt; call.out.bytes(), b"".as_slice());
     assert_eq!(rt; call.done.status, 9);
     assert_eq!(rt; ending(&call.done), Some(Ending::WriteFault));
@@ -277,8 +294,28 @@ fn a_slow_sink_gets_the_same_bytes(rt: HostRuntime) -> Result<(), Fail> {
         bytes: Vec::new(rt.alloc()),
     };
     let done = run_words(rt.alloc(), &RUN, &mut files, &mut out, &mut note);
-    assert_eq!(rt; note.bytes.as_slice(), b"halted 1\nretired 10\n".as_slice());
+    assert_eq!(rt;
+        note.bytes.as_slice(),
+        b"halted 1\nretired 10\nlies 0\n".as_slice()
+    );
     assert_eq!(rt; out.bytes.as_slice(), b"A".as_slice());
     assert_eq!(rt; done.status, 0);
+    Ok(())
+}
+
+#[test]
+fn a_run_bus_answers_what_was_written(rt: HostRuntime) -> Result<(), Fail> {
+    let geometry = Geometry::new(1).ok_or("no geometry")?;
+    let mut bus = RunBus::Honest(HonestBus::new(rt.alloc(), geometry)?);
+    let sealed = Sealed {
+        cipher: [1; 64],
+        tag: [2; 16],
+    };
+    bus.write_data(255, &sealed)?;
+    bus.write_node(1, 0, &[3; 64])?;
+    assert_eq!(rt; bus.read_data(255)?, sealed);
+    assert_eq!(rt; bus.read_node(1, 0)?, [3; 64]);
+    assert_eq!(rt; bus.read_node(0, 0)?, [0; 64]);
+    assert_eq!(rt; bus.lies(), 0);
     Ok(())
 }

@@ -58,27 +58,43 @@ impl Tagger for Zeros {
 
 #[test]
 fn a_tag_is_that_of_the_messages_bytes(rt: HostRuntime) -> Result<(), Fail> {
-    let geometry = Geometry::new(1).ok_or("no geometry")?;
-    let counter = Counter { page: 0, line: 1 };
-    let mut engine = TagEngine::new(rt.alloc(), FirstBytes, geometry)?;
-    let tag = engine.make_data(5, counter, &[0; 64])?;
-    assert_eq!(rt; tag, [0x44, 5, 0, 0, 0, 0, 0, 0, 0, 0, 0, 0, 0, 1, 0, 0]);
-    let sealed = Sealed {
-        cipher: [0; 64],
-        tag,
-    };
-    assert!(rt; engine.check_data(5, counter, &sealed));
-    let (made, evidence) = engine.finish();
-    assert_eq!(rt; made.len(), 1);
-    assert_eq!(rt;
-        made.get(0),
-        Some(Message::Line {
-            line: 5,
-            counter,
-            cipher: [0; 64]
-        })
-    );
-    assert_eq!(rt; evidence, None);
+    let rows = [
+        (
+            1,
+            255,
+            Counter { page: 0, line: 1 },
+            [0; 64],
+            [0x44, 255, 0, 0, 0, 0, 0, 0, 0, 0, 0, 0, 0, 1, 0, 0],
+        ),
+        (
+            6,
+            0x0003_0201,
+            Counter {
+                page: 0x0b0a_0908_0706_0504,
+                line: 12,
+            },
+            [13; 64],
+            [0x44, 1, 2, 3, 0, 4, 5, 6, 7, 8, 9, 10, 11, 12, 13, 13],
+        ),
+    ];
+    for (levels, line, counter, cipher, wanted) in rows {
+        let geometry = Geometry::new(levels).ok_or("no geometry")?;
+        let mut engine = TagEngine::new(rt.alloc(), FirstBytes, geometry)?;
+        let tag = engine.make_data(line, counter, &cipher)?;
+        assert_eq!(rt; tag, wanted, "line {line}");
+        assert!(rt; engine.check_data(line, counter, &Sealed { cipher, tag }));
+        let (made, evidence) = engine.finish();
+        assert_eq!(rt; made.len(), 1);
+        assert_eq!(rt;
+            made.get(0),
+            Some(Message::Line {
+                line,
+                counter,
+                cipher
+            })
+        );
+        assert_eq!(rt; evidence, None);
+    }
     Ok(())
 }
 
@@ -122,8 +138,20 @@ fn the_first_message_never_made_comes_at_the_end(rt: HostRuntime) -> Result<(), 
     for (case, counter, sealed, passes) in rows {
         assert_eq!(rt; engine.check_data(64, counter, &sealed), passes, "{case}");
     }
+    let sevens = Message::Line {
+        line: 64,
+        counter: first,
+        cipher: [7; 64],
+    };
+    let eights = Message::Line {
+        line: 64,
+        counter: second,
+        cipher: [8; 64],
+    };
     let (made, evidence) = engine.finish();
     assert_eq!(rt; made.len(), 2);
+    assert_eq!(rt; made.get(0), Some(sevens));
+    assert_eq!(rt; made.get(1), Some(eights));
     let forgery = Evidence::Forgery {
         line: 64,
         counter: second,

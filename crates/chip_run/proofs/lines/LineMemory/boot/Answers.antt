@@ -1,4 +1,4 @@
-use Rattle.std.proofs.Common.{sym, ap, ◌∙◌}
+use Rattle.std.proofs.Common.{sym, ap}
 use Rattle.tag_engine.specs.Engine.{Engine}
 use Rattle.chip_run.proofs.Keeping.{kept_new}
 use Rattle.chip_run.proofs.lines.LineMemory.boot.Goals as goal

@@ -1,17 +1,16 @@
-use Rattle.std.proofs.Common.{◌≡◌, ◌+◌, ◌<◌, ◌++◌, ◌∷◌, [], ℕ, List, None, Some, Err, inr, length, slice_set, refl, rules, sym, ap, ◌∙◌, subst}
+use Rattle.std.proofs.Common.{◌≡◌, ◌+◌, ◌<◌, ◌++◌, ◌∷◌, [], ℕ, List, None, inr, length, slice_set, refl, rules, sym, ap, ◌∙◌, subst}
 use Rattle.sec_base.specs.Layout.{line_count}
 use Rattle.sec_base.specs.Lines.{with_line}
 use Rattle.sec_base.specs.declared.layout.Place.TheVariants.{Line as line_place}
 use Rattle.sec_base.specs.declared.sealing.Counter.{Counter}
 use Rattle.sec_base.specs.declared.account.Message.{Message}
 use Rattle.sec_base.specs.declared.account.Message.TheVariants.{Line}
-use Rattle.sec_base.specs.declared.answers.MemStop.TheVariants.{Spent, NoMemory}
 use Rattle.bus_model.specs.Told.{Told, after_write}
 use Rattle.tag_engine.specs.Engine.{Engine, tags_of, after_make, with_room}
-use Rattle.chip_run.specs.Contents.{contents_of, IsSpent}
-use Rattle.chip_run.specs.Protected.{Protected, Moves, IsKept, lasting_stop}
+use Rattle.chip_run.specs.Contents.{contents_of}
+use Rattle.chip_run.specs.Protected.{Protected, Moves, lasting_stop}
 use Rattle.chip_run.proofs.LineMessages.{contents_more, counter_read, used_up, not_used_up}
-use Rattle.chip_run.proofs.LineMoves.{stop_moves, tagged_moves}
+use Rattle.chip_run.proofs.LineMoves.{tagged_moves}
 use Rattle.chip_run.proofs.Keeping.{spent_kept, memory_kept, written_kept, unwritten_kept}
 use Rattle.chip_run.proofs.lines.LineMemoryLineStore.write_line.Goals as goal
 

@@ -1,0 +1,24 @@
+-- A run of a flat program, as its pieces were made.
+use Rattle.std.proofs.Common.{◌≡◌, ℕ, List, [], refl, ap}
+use Rattle.sec_base.specs.declared.program.Image.{Image}
+use Rattle.bus_model.specs.Told.{Told, NothingWritten, nothing_told}
+use Rattle.hmac_tag.specs.DeviceKeys.{keys_of}
+use Rattle.hmac_tag.specs.Tags.{TagKeys, tag_of}
+use Rattle.hmac_tag.specs.declared.derivation.Keys.{Keys}
+use Rattle.tag_engine.specs.Tag.{engine_tag}
+use Rattle.rv32_core.specs.Machine.{opening}
+use Rattle.chip_main.specs.Flat.{device_key, device_tag, flat_opening, flat_segments, flat_size}
+
+-- a new bus has nothing written
+pub nothing_written : (told : Told) (levels : ℕ) → told ≡ nothing_told levels → NothingWritten told
+nothing_written told levels new = record { zeros = λ place inside. ap (λ (t : Told). t.written place) new }
+
+-- the tags are the device's
+pub device_tag_is : (tagger : TagKeys) (keys : Keys) (levels : ℕ) → tagger ≡ record { line_key = keys.line_key; tree_key = keys.tree_key } → keys ≡ keys_of device_key → levels ≡ 1 →
+    engine_tag (tag_of tagger.line_key) (tag_of tagger.tree_key) levels ≡ device_tag
+unfolding device_tag
+device_tag_is tagger keys levels under derived one = rw (under, derived, one) refl
+
+-- the machine is the flat program's as it begins
+pub opening_is : (image : Image) (input bytes : List ℕ) → image.entry ≡ 0 → image.size ≡ flat_size → image.segments ≡ flat_segments bytes → input ≡ [] → opening image input ≡ flat_opening bytes
+opening_is image input bytes entry size segments none = rw (entry, size, segments, none) refl

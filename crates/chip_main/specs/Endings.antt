@@ -1,0 +1,48 @@
+-- How a run ended, as each status says.
+use Rattle.std.specs.Prelude.{◌≡◌, ◌≢◌, ℕ, Some, None}
+use Rattle.sec_base.specs.Evidence.{IsEvidence}
+use Rattle.sec_base.specs.Layout.{line_count}
+use Rattle.sec_base.specs.declared.account.Evidence.{Evidence}
+use Rattle.sec_base.specs.declared.answers.Cause.{Cause}
+use Rattle.sec_base.specs.declared.answers.Ending.TheVariants.{Halted, Trapped, OutOfSteps, Tampered, Spent, WriteFault, NoMemory}
+use Rattle.bus_model.specs.Told.{Told}
+use Rattle.chip_run.specs.declared.RunRecord.{RunRecord}
+use Rattle.chip_run.specs.Account.{IsCaught, IsOfFirstLie}
+use Rattle.chip_run.specs.Contents.{IsSpent}
+use Rattle.chip_main.specs.Flat.{device_tag, flat_levels, page_limit}
+
+pub record EndedHalted (run : RunRecord) (told : Told) : Type 0 where
+  pub no_evidence : run.evidence ≡ None
+  pub code : ℕ
+  pub ended : run.ending ≡ Halted code
+
+pub record EndedTrapped (run : RunRecord) (told : Told) : Type 0 where
+  pub no_evidence : run.evidence ≡ None
+  pub cause : Cause
+  pub pc : ℕ
+  pub ended : run.ending ≡ Trapped cause pc
+
+pub record EndedOutOfSteps (run : RunRecord) (told : Told) : Type 0 where
+  pub no_evidence : run.evidence ≡ None
+  pub ended : run.ending ≡ OutOfSteps
+
+-- The one false answer of the bus failed its check, was the last access, and ended the run as tampering of its place.
+pub record EndedTampered (run : RunRecord) (told : Told) : Type 0 where
+  pub no_evidence : run.evidence ≡ None
+  pub caught : IsCaught device_tag run.made told (λ place. run.ending ≡ Tampered place)
+
+-- Some line of the page was written as often as the limit allows.
+pub record EndedSpent (run : RunRecord) (told : Told) : Type 0 where
+  pub no_evidence : run.evidence ≡ None
+  pub page : ℕ
+  pub ended : run.ending ≡ Spent page
+  pub used_up : IsSpent (line_count flat_levels) page_limit run.made page
+
+-- There is evidence of the first false answer, and neither the sink nor want of memory ended the run.
+pub record EndedWithEvidence (run : RunRecord) (told : Told) : Type 0 where
+  pub evidence : Evidence
+  pub there : run.evidence ≡ Some evidence
+  pub genuine : IsEvidence device_tag run.made evidence
+  pub first_lie : IsOfFirstLie run.made told evidence
+  pub written : run.ending ≢ WriteFault
+  pub in_memory : run.ending ≢ NoMemory

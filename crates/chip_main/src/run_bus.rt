@@ -1,0 +1,57 @@
+ghost use Rattle.std.specs.Prelude.{◌≡◌};
+ghost use Rattle.chip_main.specs.Buses.{run_told};
+
+use bus_model::{Bus, HonestBus};
+use sec_base::{NoMemory, Sealed};
+
+/// The bus of a run to the memory outside the chip.
+#[derive(Debug, Drop)]
+pub enum RunBus {
+    /// It answers what was written.
+    Honest(HonestBus),
+}
+
+impl RunBus {
+    /// How many answers were false.
+    pub fn lies(&self) -> u64
+        ensures { result ≡ (run_told self.now).lies }
+    {
+        match self {
+            RunBus::Honest(_) => 0,
+        }
+    }
+}
+
+impl Bus for RunBus {
+    ghost told = { run_told };
+
+    fn read_data(&mut self, line: u32) -> Result<Sealed, NoMemory> {
+        match self {
+            RunBus::Honest(bus) => {
+                let sealed = bus.read_data(line)?;
+                Ok(sealed)
+            }
+        }
+    }
+
+    fn write_data(&mut self, line: u32, sealed: &Sealed) -> Result<(), NoMemory> {
+        match self {
+            RunBus::Honest(bus) => bus.write_data(line, sealed),
+        }
+    }
+
+    fn read_node(&mut self, level: u8, index: u32) -> Result<[u8; 64], NoMemory> {
+        match self {
+            RunBus::Honest(bus) => {
+                let block = bus.read_node(level, index)?;
+                Ok(block)
+            }
+        }
+    }
+
+    fn write_node(&mut self, level: u8, index: u32, block: &[u8; 64]) -> Result<(), NoMemory> {
+        match self {
+            RunBus::Honest(bus) => bus.write_node(level, index, block),
+        }
+    }
+}
