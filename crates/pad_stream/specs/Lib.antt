@@ -1,0 +1,2 @@
+pub mod Pad
+pub mod Stream
