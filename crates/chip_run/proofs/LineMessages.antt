@@ -218,3 +218,11 @@ pub not_used_up : (lines limit : ℕ) (made : List Message) (counters : List ℕ
     writes ≡ slice_index counters line → writes < limit → line_writes made line ≡ limit → ⊥
 not_used_up lines limit made counters line writes counted inside read below full =
     let count : writes ≡ line_writes made line = read ∙ counted.counts line inside in omega (arith, count, full)
+
+-- a write raises the counter by one
+pub raised_writes : (lines limit : ℕ) (made made' : List Message) (counters : List ℕ) (line writes : ℕ) (cipher : List ℕ) → AreCounted lines limit made counters → line < lines →
+    writes ≡ slice_index counters line → made' ≡ made ++ Line line (record { page = writes + 1; line = 0 }) cipher ∷ [] → line_writes made' line ≡ line_writes made line + 1
+raised_writes lines limit made made' counters line writes cipher counted inside read more =
+    let count : writes ≡ line_writes made line = read ∙ counted.counts line inside in
+    ap (λ (xs : List Message). line_writes xs line) more ∙ ap writes_of (last_data-same made line (record { page = writes + 1; line = 0 }) cipher)
+    ∙ ap (λ (n : ℕ). n + 1) count

@@ -1,11 +1,11 @@
 // How a run is closed: its memory is given up, and its record made.
-ghost use Rattle.std.specs.Prelude.{◌≡◌, [], ℕ, None, Some, IfSome};
+ghost use Rattle.std.specs.Prelude.{◌≡◌, ◌≤◌, [], ℕ, None, Some, IfSome};
 ghost use Rattle.sec_base.specs.Evidence.{IsEvidence};
 ghost use Rattle.sec_base.specs.Layout.{line_count};
 ghost use Rattle.sec_base.specs.declared.answers.Ending.TheVariants.{Tampered, Spent, NoMemory as memory_ended};
 ghost use Rattle.tag_engine.specs.Engine.{tags_of};
 ghost use Rattle.chip_run.specs.Account.{HonestOrCaught, IsOfFirstLie};
-ghost use Rattle.chip_run.specs.Contents.{HoldsLast, IsSpent};
+ghost use Rattle.chip_run.specs.Contents.{HoldsLast, IsSpent, line_writes};
 ghost use Rattle.chip_run.specs.Session.{CarriesEnding, IsMemoryEnding};
 
 use crate::ram::LineRam;
@@ -42,6 +42,7 @@ pub(crate) fn close<B: Bus, T: Tagger>(
         (line_count memory.lines.engine.levels) memory.lines.engine.made (B.told memory.lines.bus).written }
     ensures spent { (page : ℕ) → ending ≡ Spent page →
         IsSpent (line_count memory.lines.engine.levels) memory.lines.limit memory.lines.engine.made page }
+    ensures limited { (line : ℕ) → line_writes memory.lines.engine.made line ≤ memory.lines.limit }
     ensures levels { (B.told memory.lines.bus).levels ≡ memory.lines.engine.levels }
 {
     let (made, evidence, bus) = memory.into_lines().finish();

@@ -9,7 +9,7 @@ use Rattle.bus_model.specs.Told.{Told, after_write}
 use Rattle.tag_engine.specs.Engine.{Engine, tags_of, after_make, with_room}
 use Rattle.chip_run.specs.Contents.{contents_of}
 use Rattle.chip_run.specs.Protected.{Protected, Moves, lasting_stop}
-use Rattle.chip_run.proofs.LineMessages.{contents_more, counter_read, used_up, not_used_up}
+use Rattle.chip_run.proofs.LineMessages.{contents_more, counter_read, raised_writes, used_up, not_used_up}
 use Rattle.chip_run.proofs.LineMoves.{tagged_moves}
 use Rattle.chip_run.proofs.Keeping.{spent_kept, memory_kept, written_kept, unwritten_kept}
 use Rattle.chip_run.proofs.lines.LineMemoryLineStore.write_line.Goals as goal
@@ -178,3 +178,16 @@ returns-in-Err-write_tagged-clause-spent g c = λ _.
       λ full. absurd (not_used_up (line_count c.self.inside.tags.levels) c.self.inside.page_limit c.self.inside.tags.made c.self.inside.counters.items c.args.line c.index-writes.result.now
           counted inside read c.if-writes-self.false (rw (← c.self.view_is) at full)),
     )
+
+pub returns-in-Ok-write_tagged-clause-raised : goal.returns-in-Ok-write_tagged-clause-raised
+returns-in-Ok-write_tagged-clause-raised g c =
+    let inside : c.args.line < line_count c.self.inside.tags.levels = rw (← c.self.view_is) at c.requires.inside in
+    let counted = c.self.invariant.1.counted in
+    let read = counter_read (line_count c.self.inside.tags.levels) c.self.inside.page_limit c.self.inside.tags.made c.self.inside.counters.items c.args.line c.index-writes.result.now counted inside c.index-writes.ensures in
+    let counter : Counter = record { page = c.index-writes.result.now + 1; line = 0 } in
+    let tagged : c.write_tagged.new.tags ≡ after_make (Line c.args.line counter c.args.bytes.now) (with_room 1 c.self.inside.tags) =
+    c.write_tagged.ensures.tags ∙ ap (λ (e : Engine g.row.T.Denot). after_make (Line c.args.line c.counter_of-counter.result c.args.bytes.now) e) c.in-Ok.ensures.taken
+    ∙ ap (λ (k : Counter). after_make (Line c.args.line k c.args.bytes.now) (with_room 1 c.self.inside.tags)) c.counter_of-counter.ensures in
+    let made : c.write_tagged.new.tags.made ≡ c.self.inside.tags.made ++ Line c.args.line counter c.args.bytes.now ∷ [] = ap (λ (e : Engine g.row.T.Denot). e.made) tagged in
+    rw (← c.self.view_is) (raised_writes (line_count c.self.inside.tags.levels) c.self.inside.page_limit c.self.inside.tags.made c.write_tagged.new.tags.made c.self.inside.counters.items
+    c.args.line c.index-writes.result.now c.args.bytes.now counted inside read made)
