@@ -1,5 +1,5 @@
 -- A run of a flat program.
-use Rattle.std.specs.Prelude.{◌≡◌, ◌≢◌, ◌≤◌, ◌↔◌, ◌⊎◌, List, [], ℕ, length, Option, None, IfSome}
+use Rattle.std.specs.Prelude.{◌≡◌, ◌≢◌, ◌<◌, ◌≤◌, ◌↔◌, ◌⊎◌, List, [], ℕ, length, Option, None, IfSome}
 use Rattle.sec_base.specs.Count.{Rose}
 use Rattle.sec_base.specs.Evidence.{IsEvidence}
 use Rattle.sec_base.specs.Layout.{line_count}
@@ -11,8 +11,8 @@ use Rattle.rv32_core.specs.Machine.{plain}
 use Rattle.rv32_core.specs.Follows.{Follows, IsWhole}
 use Rattle.chip_run.specs.declared.RunRecord.{RunRecord}
 use Rattle.chip_run.specs.Account.{HonestOrCaught, IsOfFirstLie}
-use Rattle.chip_run.specs.Contents.{HoldsLast, IsSpent, IsWrittenOut}
-use Rattle.chip_run.specs.Session.{IsMemoryEnding}
+use Rattle.chip_run.specs.Contents.{HoldsLast, IsSpent, IsWrittenOut, line_writes}
+use Rattle.chip_run.specs.Session.{IsMemoryEnding, IsStop}
 use Rattle.chip_main.specs.Flat.{budget, device_tag, flat_levels, flat_opening, flat_size, page_limit}
 use Rattle.chip_main.specs.Causes.{HasRead}
 
@@ -38,10 +38,14 @@ pub record RunsFlat (bytes : List ℕ) (old new : SinkState) (run : RunRecord) (
       ↔ ((run.retired ≡ budget) × ((plain (flat_opening bytes) budget).exit ≡ None)))
   pub budget_used : run.ending ≡ OutOfSteps → run.retired ≡ budget
   pub within : run.retired ≤ budget
+  -- the memory and the sink end it only while the budget allows one more instruction
+  pub early : IsStop run.ending → run.retired < budget
   -- where no answer was false and the sink had no fault, it is the plain machine's run over the whole budget, or a
   -- page was used up, or memory was not to be had
   pub whole : ¬ (Rose old.faults new.faults) → told.lies ≡ 0 → run.ending ≢ NoMemory →
       IsWhole (flat_opening bytes) budget run.retired run.ending ⊎ ((page : ℕ) × (run.ending ≡ Spent page))
+  -- no line is written more often than the limit allows, and a page is used up only where one was written so often
+  pub limited : (line : ℕ) → line_writes run.made line ≤ page_limit
   pub spent : (page : ℕ) → run.evidence ≡ None → run.ending ≡ Spent page →
       IsSpent (line_count flat_levels) page_limit run.made page
   pub write_fault : run.ending ≡ WriteFault → Rose old.faults new.faults

@@ -1,5 +1,5 @@
 -- How a run ends, by the stop that its memory keeps.
-use Rattle.std.proofs.Common.{◌≡◌, inl, inr, ℕ, List, Option, Some, None, ap, subst}
+use Rattle.std.proofs.Common.{◌≡◌, ◌≤◌, inl, inr, ℕ, List, Option, Some, None, ap, subst}
 use Rattle.sec_base.specs.Layout.{line_count}
 use Rattle.sec_base.specs.declared.layout.Place.{Place}
 use Rattle.sec_base.specs.declared.account.Message.{Message}
@@ -10,7 +10,7 @@ use Rattle.sec_base.specs.declared.answers.MemStop.TheVariants.{Tampered as tamp
 use Rattle.bus_model.specs.Told.{Told}
 use Rattle.tag_engine.specs.Engine.{Engine}
 use Rattle.chip_run.specs.Account.{HonestOrCaught}
-use Rattle.chip_run.specs.Contents.{IsSpent}
+use Rattle.chip_run.specs.Contents.{IsSpent, line_writes}
 use Rattle.chip_run.specs.Protected.{Protected, IsKept}
 use Rattle.chip_run.specs.Session.{CarriesEnding}
 
@@ -54,3 +54,8 @@ pub ended_spent : {B T : Type 0} (tags : Engine T → Message → List ℕ) (tol
 ended_spent {B} {T} tags told given lines ending page same carries kept is =
     let kept_lines = subst (λ (memory : Protected B T). IsKept (tags memory.engine) (told memory.bus) memory) same kept in
     kept_lines.spent page (stopped_spent lines.stopped ending page carries is)
+
+pub ended_limited : {B T : Type 0} (tags : Engine T → Message → List ℕ) (told : B → Told) (given lines : Protected B T) (line : ℕ) → given ≡ lines → IsKept (tags given.engine) (told given.bus) given → line_writes lines.engine.made line ≤ lines.limit
+ended_limited {B} {T} tags told given lines line same kept =
+    let kept_lines = subst (λ (memory : Protected B T). IsKept (tags memory.engine) (told memory.bus) memory) same kept in
+    kept_lines.counted.limited line

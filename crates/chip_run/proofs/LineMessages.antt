@@ -14,7 +14,7 @@ use Rattle.sec_base.specs.Last.{data_part, last_at, last_data, last_pair, data_p
 use Rattle.sec_base.specs.Lines.{with_line}
 use Rattle.sec_base.specs.Used.{IsBefore}
 use Rattle.pad_stream.specs.Pad.{enciphered}
-use Rattle.sec_base.proofs.LastMessages.{last_of_same, last_of_other, linked, HasPart, last_pair-data_pairs, pair_made}
+use Rattle.sec_base.proofs.LastMessages.{last_of_same, last_of_other, linked, HasPart, last_pair-data_pairs, pair_made, data_pairs-append}
 use Rattle.sec_base.proofs.SamePlaces.{false_from}
 use Rattle.sec_base.proofs.JoinedLines.{with_line-joined_lines, line_at-joined_lines}
 use Rattle.chip_run.specs.Contents.{bytes_of, line_bytes, contents_of, writes_by, line_writes}
@@ -239,3 +239,26 @@ pub not_used_up : (lines limit : ℕ) (made : List Message) (counters : List ℕ
     writes ≡ slice_index counters line → writes < limit → times_tagged made line ≡ limit → ⊥
 not_used_up lines limit made counters line writes counted inside read below full =
     let count : writes ≡ times_tagged made line = read ∙ counted.counts line inside in omega (arith, count, full)
+
+-- a write raises the counter by one
+pub raised_writes : (lines limit : ℕ) (made made' : List Message) (counters : List ℕ) (line writes : ℕ) (cipher : List ℕ) → AreCounted lines limit made counters → line < lines →
+    writes ≡ slice_index counters line → made' ≡ made ++ Line line (record { page = writes + 1; line = 0 }) cipher ∷ [] → times_tagged made' line ≡ times_tagged made line + 1
+raised_writes lines limit made made' counters line writes cipher counted inside read more =
+    let count : writes ≡ times_tagged made line = read ∙ counted.counts line inside in
+    ap (λ (xs : List Message). times_tagged xs line) more ∙ ap writes_of (last_data-same made line (record { page = writes + 1; line = 0 }) cipher)
+    ∙ ap (λ (n : ℕ). n + 1) count
+
+paired_more : (made : List Message) (used : List (ℕ × Counter)) (line : ℕ) (counter : Counter) (cipher : List ℕ) → data_pairs made ≡ used →
+    data_pairs (made ++ Line line counter cipher ∷ []) ≡ used ++ (line, counter) ∷ []
+unfolding data_pairs
+paired_more made used line counter cipher paired =
+    data_pairs-append made (Line line counter cipher ∷ []) ∙ ap (λ (xs : List (ℕ × Counter)). xs ++ (line, counter) ∷ []) paired
+
+pub raised_used : (lines limit : ℕ) (made made' : List Message) (used used' : List (ℕ × Counter)) (counters : List ℕ) (line writes : ℕ) (cipher : List ℕ) → AreCounted lines limit made counters → line < lines →
+    writes ≡ slice_index counters line → data_pairs made ≡ used → made' ≡ made ++ Line line (record { page = writes + 1; line = 0 }) cipher ∷ [] →
+    used' ≡ used ++ (line, record { page = writes + 1; line = 0 }) ∷ [] → line_writes used' line ≡ line_writes used line + 1
+raised_used lines limit made made' used used' counters line writes cipher counted inside read paired more more_used =
+    let counter : Counter = record { page = writes + 1; line = 0 } in
+    let paired' : data_pairs made' ≡ used' = ap data_pairs more ∙ paired_more made used line counter cipher paired ∙ sym more_used in
+    let rose = raised_writes lines limit made made' counters line writes cipher counted inside read more in
+    writes_same made' used' line paired' ∙ rose ∙ ap (λ (n : ℕ). n + 1) (sym (writes_same made used line paired))

@@ -1,5 +1,5 @@
 // How a run is closed: its memory is given up, and its record made.
-ghost use Rattle.std.specs.Prelude.{◌≡◌, [], ℕ, None, Some, IfSome};
+ghost use Rattle.std.specs.Prelude.{◌≡◌, ◌≤◌, [], ℕ, None, Some, IfSome};
 ghost use Rattle.sec_base.specs.Evidence.{IsEvidence};
 ghost use Rattle.sec_base.specs.Last.{data_pairs};
 ghost use Rattle.sec_base.specs.Layout.{line_count};
@@ -7,7 +7,7 @@ ghost use Rattle.sec_base.specs.Used.{AreRising};
 ghost use Rattle.sec_base.specs.declared.answers.Ending.TheVariants.{Tampered, Spent, NoMemory as memory_ended};
 ghost use Rattle.tag_engine.specs.Engine.{tags_of};
 ghost use Rattle.chip_run.specs.Account.{HonestOrCaught, IsOfFirstLie};
-ghost use Rattle.chip_run.specs.Contents.{HoldsLast, HoldsSealed, IsSpent};
+ghost use Rattle.chip_run.specs.Contents.{HoldsLast, HoldsSealed, IsSpent, line_writes};
 ghost use Rattle.chip_run.specs.Session.{CarriesEnding, IsMemoryEnding};
 
 use crate::account::Account;
@@ -48,6 +48,7 @@ pub(crate) fn close<B: Bus, T: Tagger>(
     ensures rising { AreRising memory.lines.pads.used }
     ensures sealed { HoldsSealed (tags_of T.data_tag_of T.node_tag_of memory.lines.engine)
         (line_count memory.lines.engine.levels) memory.lines.engine.made memory.lines.pads.used (B.told memory.lines.bus).written }
+    ensures limited { (line : ℕ) → line_writes memory.lines.pads.used line ≤ memory.lines.limit }
     ensures levels { (B.told memory.lines.bus).levels ≡ memory.lines.engine.levels }
 {
     let (account, bus) = memory.into_lines().finish();

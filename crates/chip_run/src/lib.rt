@@ -15,7 +15,7 @@ ghost use Rattle.tag_engine.specs.Tag.{engine_tag};
 ghost use Rattle.rv32_core.specs.Machine.{opening, plain};
 ghost use Rattle.rv32_core.specs.Follows.{Follows, IsWhole};
 ghost use Rattle.chip_run.specs.Account.{HonestOrCaught, IsOfFirstLie};
-ghost use Rattle.chip_run.specs.Contents.{HoldsLast, HoldsSealed, IsSpent, IsWrittenOut};
+ghost use Rattle.chip_run.specs.Contents.{HoldsLast, HoldsSealed, IsSpent, IsWrittenOut, line_writes};
 ghost use Rattle.chip_run.specs.Session.{IsMemoryEnding, IsStop};
 
 mod account;
@@ -104,6 +104,8 @@ pub fn run<B: Bus, T: Tagger, S: Sink>(
         IsWhole (opening image.now input.now) setup.now.budget result.0.retired result.0.ending
         ⊎ ((page : ℕ) × (result.0.ending ≡ Spent page)) }
 
+    // No line is written more often than the limit allows, and a page is used up only where one was written so often.
+    ensures limited { (line : ℕ) → line_writes result.0.used line ≤ setup.now.page_limit }
     ensures spent { (page : ℕ) → result.0.evidence ≡ None → result.0.ending ≡ Spent page →
         IsSpent (line_count setup.now.geometry) setup.now.page_limit result.0.used page }
     ensures write_fault { result.0.ending ≡ WriteFault → Rose (S.state out.old).faults (S.state out.new).faults }

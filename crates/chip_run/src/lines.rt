@@ -1,6 +1,6 @@
 // The lines of the protected memory: they stand outside the chip, enciphered, each with a tag beside it and a counter
 // on the chip.
-ghost use Rattle.std.specs.Prelude.{◌≡◌, ◌≢◌, ◌↔◌, ◌/◌, ◌<◌, ◌⊎◌, ◌∷◌, [], ℕ, None, Some, Ok, Err, IfOk, IfErr, OnOk, OnErr, IfSome, replicate};
+ghost use Rattle.std.specs.Prelude.{◌≡◌, ◌≢◌, ◌↔◌, ◌+◌, ◌/◌, ◌<◌, ◌⊎◌, ◌∷◌, [], ℕ, None, Some, Ok, Err, IfOk, IfErr, OnOk, OnErr, IfSome, replicate};
 ghost use Rattle.sec_base.specs.Count.{Rose};
 ghost use Rattle.sec_base.specs.Layout.{IsPlace, line_count};
 ghost use Rattle.sec_base.specs.Lines.{line_at, with_line};
@@ -225,6 +225,8 @@ impl<B: Bus, T: Tagger> LineStore for LineMemory<B, T> {
             ((result ≡ Err (Spent (line / 64))) ↔ (line_writes self.old.pads.used line ≡ self.old.limit)) }
         ensures spent_stays { (page : ℕ) → result ≡ Err (Spent page) → (page ≡ line / 64)
             × (self.new ≡ record self.old { stopped = Some (Spent page) }) }
+        // The line's counter is raised by one.
+        ensures raised { OnOk result (line_writes self.new.pads.used line ≡ line_writes self.old.pads.used line + 1) }
         ensures untampered { (place : Place) → lasting_stop self.old.stopped ≡ None → result ≢ Err (Tampered place) }
     {
         if let Some(stop) = lasting(self.stopped) {

@@ -8,7 +8,7 @@ use Rattle.tag_engine.specs.Engine.{tags_of}
 use Rattle.chip_run.specs.Contents.{contents_of}
 use Rattle.chip_run.specs.Protected.{new_protected}
 use Rattle.chip_run.specs.Session.{IsStop, FollowsWith}
-use Rattle.chip_run.proofs.Runs.{opening_zeros, opening_follows, nothing_follows, levels_stay, reads_stay, reads_stored, written_out, budget_ends, honest_run}
+use Rattle.chip_run.proofs.Runs.{opening_zeros, opening_follows, nothing_follows, levels_stay, limit_stays, limit_stored, limited_by, never_limited, reads_stay, reads_stored, written_out, budget_ends, honest_run}
 use Rattle.chip_run.proofs.run.Given.{Over}
 use Rattle.chip_run.proofs.run.Goals as goal
 
@@ -99,3 +99,23 @@ pub returns-in-Err-store_image-clause-reads : goal.returns-in-Err-store_image-cl
 returns-in-Err-store_image-clause-reads g c =
     reads_stored g.B.Bus.told c.args.bus c.close.result.1 c.args.tagger c.args.setup.now.geometry c.args.setup.now.page_limit
     c.new-memory.result.lines c.store_image.new.ram.lines _ (c.new-memory.ensures ∙ c.in-Ok.ensures.new) c.in-Err-store_image.ensures.moved.1 c.close.ensures.bus
+
+pub returns-in-Err-clause-limited : goal.returns-in-Err-clause-limited
+returns-in-Err-clause-limited g c = λ line. never_limited c.no_run.result.made line c.args.setup.now.page_limit c.no_run.ensures.made
+
+pub returns-in-Err-store_image-clause-limited : goal.returns-in-Err-store_image-clause-limited
+returns-in-Err-store_image-clause-limited g c = λ line.
+    limited_by c.close.result.0.made c.store_image.new.ram.lines.engine.made line c.args.setup.now.page_limit c.store_image.new.ram.lines.limit c.close.ensures.made
+    (limit_stored g.B.Bus.told c.args.bus c.args.tagger c.args.setup.now.geometry c.args.setup.now.page_limit
+    c.new-memory.result.lines c.store_image.new.ram.lines _ (c.new-memory.ensures ∙ c.in-Ok.ensures.new) c.in-Err-store_image.ensures.moved.1)
+    (c.close.ensures.limited line)
+
+pub returns-clause-limited : goal.returns-clause-limited
+returns-clause-limited g c = λ line.
+    let memory = c.finish-ending.new.self.memory in
+    limited_by c.close-2.result.0.made memory.lines.engine.made line c.args.setup.now.page_limit memory.lines.limit
+    (c.close-2.ensures.made ∙ ap (λ memory. memory.lines.engine.made) c.into_memory.ensures)
+    (limit_stays g.B.Bus.told c.args.bus c.args.tagger c.args.setup.now.geometry c.args.setup.now.page_limit
+    c.new-memory.result.lines c.store_image.new.ram.lines c.new-session.result.memory.lines memory.lines _ _
+    (booted g c) c.in_default.ensures.moved.1 (ap (λ memory. memory.lines) c.new-session.ensures.memory) c.finish-ending.ensures.moved.1)
+    (rw (← c.into_memory.ensures) (c.close-2.ensures.limited line))

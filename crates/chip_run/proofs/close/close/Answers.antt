@@ -1,5 +1,5 @@
 use Rattle.tag_engine.specs.Engine.{tags_of}
-use Rattle.chip_run.proofs.Closing.{ended_answers, ended_spent}
+use Rattle.chip_run.proofs.Closing.{ended_answers, ended_limited, ended_spent}
 use Rattle.chip_run.proofs.close.close.Goals as goal
 
 pub returns-clause-answers : goal.returns-clause-answers
@@ -11,3 +11,8 @@ pub returns-clause-spent : goal.returns-clause-spent
 returns-clause-spent g c = λ page is.
     ended_spent (tags_of g.T.Tagger.data_tag_of g.T.Tagger.node_tag_of) g.B.Bus.told c.into_lines.result c.args.memory.lines c.args.ending page
     c.into_lines.ensures c.requires.ending c.finish-made.ensures.kept is
+
+pub returns-clause-limited : goal.returns-clause-limited
+returns-clause-limited g c = λ line.
+    ended_limited (tags_of g.T.Tagger.data_tag_of g.T.Tagger.node_tag_of) g.B.Bus.told c.into_lines.result c.args.memory.lines line
+    c.into_lines.ensures c.finish-made.ensures.kept

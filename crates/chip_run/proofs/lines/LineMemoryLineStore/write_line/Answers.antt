@@ -13,7 +13,7 @@ use Rattle.pad_stream.specs.Stream.{Stream, after_encrypt, with_room as pads_wit
 use Rattle.pad_stream.proofs.Enciphering.{enciphered_long}
 use Rattle.chip_run.specs.Contents.{contents_of, sealed_line}
 use Rattle.chip_run.specs.Protected.{Protected, Moves, lasting_stop}
-use Rattle.chip_run.proofs.LineMessages.{contents_more, counter_read, used_up, not_used_up, writes_same}
+use Rattle.chip_run.proofs.LineMessages.{contents_more, counter_read, raised_used, used_up, not_used_up, writes_same}
 use Rattle.chip_run.proofs.LineMoves.{stop_moves, tagged_moves}
 use Rattle.chip_run.proofs.Keeping.{spent_kept, memory_kept, written_kept, unwritten_kept}
 use Rattle.chip_run.proofs.lines.LineMemoryLineStore.write_line.Goals as goal
@@ -228,3 +228,25 @@ returns-in-Err-write_sealed-clause-spent g c = λ _.
     (λ is. absurd (cc), λ full. absurd (not_used_up (line_count c.self.inside.tags.levels) c.self.inside.page_limit c.self.inside.tags.made c.self.inside.counters.items c.args.line c.index-writes.result.now
     counted inside read c.if-writes-self.false
     (sym (writes_same c.self.inside.tags.made c.self.inside.pads.used c.args.line c.self.invariant.1.paired) ∙ rw (← c.self.view_is) at full)))
+
+pub returns-in-Ok-write_sealed-clause-raised : goal.returns-in-Ok-write_sealed-clause-raised
+returns-in-Ok-write_sealed-clause-raised g c =
+    let inside : c.args.line < line_count c.self.inside.tags.levels = rw (← c.self.view_is) at c.requires.inside in
+    let counted = c.self.invariant.1.counted in
+    let read = counter_read (line_count c.self.inside.tags.levels) c.self.inside.page_limit c.self.inside.tags.made c.self.inside.counters.items c.args.line c.index-writes.result.now counted inside c.index-writes.ensures in
+    let counter : Counter = record { page = c.index-writes.result.now + 1; line = 0 } in
+    let key : List ℕ = c.self.inside.pads.key in
+    let cipher : List ℕ = enciphered key c.args.line counter c.args.bytes.now in
+    let key_is : c.reserve-2.new.self.key ≡ key = ap (λ (p : Stream). p.key) c.in-Ok-2.ensures.taken in
+    let tagged : c.write_sealed.new.tags ≡ after_make (Line c.args.line counter cipher) (with_room 1 c.self.inside.tags) =
+    c.write_sealed.ensures.tags
+    ∙ ap (λ (e : Engine g.row.T.Denot). after_make (Line c.args.line c.counter_of-counter.result (enciphered c.reserve-2.new.self.key c.args.line c.counter_of-counter.result c.args.bytes.now)) e) c.in-Ok.ensures.taken
+    ∙ ap (λ (k : List ℕ). after_make (Line c.args.line c.counter_of-counter.result (enciphered k c.args.line c.counter_of-counter.result c.args.bytes.now)) (with_room 1 c.self.inside.tags)) key_is
+    ∙ ap (λ (k : Counter). after_make (Line c.args.line k (enciphered key c.args.line k c.args.bytes.now)) (with_room 1 c.self.inside.tags)) c.counter_of-counter.ensures in
+    let streamed : c.write_sealed.new.pads ≡ after_encrypt c.args.line counter (pads_with_room 1 c.self.inside.pads) =
+    c.write_sealed.ensures.pads ∙ ap (λ (p : Stream). after_encrypt c.args.line c.counter_of-counter.result p) c.in-Ok-2.ensures.taken
+    ∙ ap (λ (k : Counter). after_encrypt c.args.line k (pads_with_room 1 c.self.inside.pads)) c.counter_of-counter.ensures in
+    let made : c.write_sealed.new.tags.made ≡ c.self.inside.tags.made ++ Line c.args.line counter cipher ∷ [] = ap (λ (e : Engine g.row.T.Denot). e.made) tagged in
+    let used : c.write_sealed.new.pads.used ≡ c.self.inside.pads.used ++ (c.args.line, counter) ∷ [] = ap (λ (p : Stream). p.used) streamed in
+    rw (← c.self.view_is) (raised_used (line_count c.self.inside.tags.levels) c.self.inside.page_limit c.self.inside.tags.made c.write_sealed.new.tags.made c.self.inside.pads.used c.write_sealed.new.pads.used
+    c.self.inside.counters.items c.args.line c.index-writes.result.now cipher counted inside read c.self.invariant.1.paired made used)
