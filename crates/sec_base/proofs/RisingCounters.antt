@@ -36,8 +36,8 @@ get_listed (x ∷ items) (suc at) item there =
     let rest = get_listed items at item there in
     (suc rest.0, omega (arith, rest.1), rest.2)
 
-same_entry : (line other : ℕ) (counter later : Counter) → (line, counter) ≡ (other, later) → (line ≡ other) × (counter ≡ later)
-same_entry line other counter later same = (ap (λ (p : ℕ × Counter). p.0) same, ap (λ (p : ℕ × Counter). p.1) same)
+same_entry : (first second : ℕ × Counter) → first ≡ second → (first.0 ≡ second.0) × (first.1 ≡ second.1)
+same_entry first second same = (ap (λ (p : ℕ × Counter). p.0) same, ap (λ (p : ℕ × Counter). p.1) same)
 
 -- an entry more, behind all of its line
 pub rising_more : (used : List (ℕ × Counter)) (line : ℕ) (counter : Counter) → AreRising used →
@@ -50,7 +50,7 @@ rising_more used line counter rising behind = record { rise = λ first second ot
             | inr last ↦ absurd (omega (arith, last.0, early.0))
           ]
       | inr late ↦
-          let entry = same_entry line other counter later late.1 in
+          let entry = same_entry (line, counter) (other, later) late.1 in
           elim (get_more used (line, counter) (other, was) first here) [
             | inl before ↦
                 let listed : Contains used (line, was) = subst (λ (l : ℕ). Contains used (l, was)) (sym entry.0) (get_listed used first (other, was) before.1) in

@@ -4,6 +4,7 @@ use Rattle.sec_base.specs.Lines.{line_at}
 use Rattle.sec_base.specs.declared.sealing.Counter.{Counter}
 use Rattle.sec_base.specs.declared.answers.MemStop.{MemStop}
 use Rattle.sec_base.specs.declared.answers.MemStop.TheVariants.{Tampered}
+use Rattle.pad_stream.specs.Pad.{enciphered}
 use Rattle.tag_engine.specs.Engine.{Engine, tags_of}
 use Rattle.chip_run.specs.Contents.{contents_of}
 use Rattle.sec_base.specs.Last.{last_pair}
@@ -39,7 +40,7 @@ invariant_of-self g c =
     let read = counter_read (line_count c.self.inside.tags.levels) c.self.inside.page_limit c.self.inside.tags.made c.self.inside.counters.items c.args.line c.index-writes.result.now counted inside c.index-writes.ensures in
     let passed = rw c.counter_of-counter.ensures at c.in-Ok.ensures in (
       c.self.invariant.0 ∙ sym (ap (λ (e : Engine g.row.T.Denot). e.levels) passed.checked),
-      passed_kept g.T.Tagger.data_tag_of g.T.Tagger.node_tag_of (g.B.Bus.told c.self.inside.bus) c.self.inside.bus c.read_checked.new.bus c.self.inside.tags
+      passed_kept g.T.Tagger.data_tag_of g.T.Tagger.node_tag_of (g.B.Bus.told c.self.inside.bus) c.self.inside.bus c.read_checked.new.bus c.self.inside.tags c.self.inside.pads
           c.self.inside.counters.items c.self.inside.page_limit c.self.inside.stopped c.args.line c.index-writes.result.now
           c.self.invariant.1 going inside read c.if-writes-eq0.false (g.B.Bus.told c.read_checked.new.bus) c.read_checked.new.tags c.in-Ok.cipher passed,
     )
@@ -54,7 +55,7 @@ invariant_of-self-in-Err g c =
     (g.B.Bus.told c.self.inside.bus) (g.B.Bus.told c.read_checked.new.bus) c.self.inside.tags c.read_checked.new.tags (Err c.in-Err.stop)) c.counter_of-counter.ensures c.in-Err.ensures in (
       c.self.invariant.0 ∙ sym (stopped_levels (tags_of g.T.Tagger.data_tag_of g.T.Tagger.node_tag_of c.self.inside.tags) c.args.line (record { page = c.index-writes.result.now; line = 0 })
           (g.B.Bus.told c.self.inside.bus) (g.B.Bus.told c.read_checked.new.bus) c.self.inside.tags c.read_checked.new.tags c.in-Err.stop stops),
-      stopped_kept g.T.Tagger.data_tag_of g.T.Tagger.node_tag_of (g.B.Bus.told c.self.inside.bus) c.self.inside.bus c.read_checked.new.bus c.self.inside.tags
+      stopped_kept g.T.Tagger.data_tag_of g.T.Tagger.node_tag_of (g.B.Bus.told c.self.inside.bus) c.self.inside.bus c.read_checked.new.bus c.self.inside.tags c.self.inside.pads
           c.self.inside.counters.items c.self.inside.page_limit c.self.inside.stopped c.args.line c.index-writes.result.now
           c.self.invariant.1 going inside read c.if-writes-eq0.false (g.B.Bus.told c.read_checked.new.bus) c.read_checked.new.tags c.in-Err.stop stops,
     )
@@ -70,7 +71,9 @@ returns-in-Ok-clause-value g c = λ unstopped sound.
     c.self.inside.counters.items c.self.inside.page_limit c.self.inside.stopped c.args.line c.index-writes.result.now
     c.self.invariant.1 going inside read c.if-writes-eq0.false (g.B.Bus.told c.read_checked.new.bus) c.read_checked.new.tags c.in-Ok.cipher passed sound in
     let there = line_there c.self.inside.pads.key (line_count c.self.inside.tags.levels) c.self.inside.tags.made c.args.line (Some (record { page = c.index-writes.result.now; line = 0 }, c.in-Ok.cipher)) inside last in
-    rw (← c.self.view_is) (?)
+    let plain : c.decrypt.result ≡ enciphered c.self.inside.pads.key c.args.line (record { page = c.index-writes.result.now; line = 0 }) c.in-Ok.cipher =
+    c.decrypt.ensures.plain ∙ ap (λ (k : Counter). enciphered c.self.inside.pads.key c.args.line k c.in-Ok.cipher) c.counter_of-counter.ensures in
+    rw (← c.self.view_is) (plain ∙ sym there)
 
 pub returns-in-Ok-clause-moved : goal.returns-in-Ok-clause-moved
 returns-in-Ok-clause-moved g c =

@@ -68,14 +68,14 @@ invariant_of-self-in-Ok-write_sealed g c =
     let counter : Counter = record { page = c.index-writes.result.now + 1; line = 0 } in
     let key : List ℕ = c.self.inside.pads.key in
     let cipher : List ℕ = enciphered key c.args.line counter c.args.bytes.now in
-    let key_is : c.reserve-2.new.self.key ≡ key = ap (λ (p : Stream). p.key) c.in-Ok-2.ensures.taken in
+    let key_is : c.reserve-2.new.self.key ≡ key = ap (λ (p : Stream). p.key) c.in-Ok-reserve.ensures.taken in
     let tagged : c.write_sealed.new.tags ≡ after_make (Line c.args.line counter cipher) (with_room 1 c.self.inside.tags) =
     c.write_sealed.ensures.tags
     ∙ ap (λ (e : Engine g.row.T.Denot). after_make (Line c.args.line c.counter_of-counter.result (enciphered c.reserve-2.new.self.key c.args.line c.counter_of-counter.result c.args.bytes.now)) e) c.in-Ok.ensures.taken
     ∙ ap (λ (k : List ℕ). after_make (Line c.args.line c.counter_of-counter.result (enciphered k c.args.line c.counter_of-counter.result c.args.bytes.now)) (with_room 1 c.self.inside.tags)) key_is
     ∙ ap (λ (k : Counter). after_make (Line c.args.line k (enciphered key c.args.line k c.args.bytes.now)) (with_room 1 c.self.inside.tags)) c.counter_of-counter.ensures in
     let streamed : c.write_sealed.new.pads ≡ after_encrypt c.args.line counter (pads_with_room 1 c.self.inside.pads) =
-    c.write_sealed.ensures.pads ∙ ap (λ (p : Stream). after_encrypt c.args.line c.counter_of-counter.result p) c.in-Ok-2.ensures.taken
+    c.write_sealed.ensures.pads ∙ ap (λ (p : Stream). after_encrypt c.args.line c.counter_of-counter.result p) c.in-Ok-reserve.ensures.taken
     ∙ ap (λ (k : Counter). after_encrypt c.args.line k (pads_with_room 1 c.self.inside.pads)) c.counter_of-counter.ensures in
     let long = enciphered_long key c.args.line counter c.args.bytes.now in
     let told' = g.B.Bus.told c.write_sealed.new.bus in
@@ -100,14 +100,14 @@ invariant_of-self-in-Err-write_sealed g c =
     let counter : Counter = record { page = c.index-writes.result.now + 1; line = 0 } in
     let key : List ℕ = c.self.inside.pads.key in
     let cipher : List ℕ = enciphered key c.args.line counter c.args.bytes.now in
-    let key_is : c.reserve-2.new.self.key ≡ key = ap (λ (p : Stream). p.key) c.in-Ok-2.ensures.taken in
+    let key_is : c.reserve-2.new.self.key ≡ key = ap (λ (p : Stream). p.key) c.in-Ok-reserve.ensures.taken in
     let tagged : c.write_sealed.new.tags ≡ after_make (Line c.args.line counter cipher) (with_room 1 c.self.inside.tags) =
     c.write_sealed.ensures.tags
     ∙ ap (λ (e : Engine g.row.T.Denot). after_make (Line c.args.line c.counter_of-counter.result (enciphered c.reserve-2.new.self.key c.args.line c.counter_of-counter.result c.args.bytes.now)) e) c.in-Ok.ensures.taken
     ∙ ap (λ (k : List ℕ). after_make (Line c.args.line c.counter_of-counter.result (enciphered k c.args.line c.counter_of-counter.result c.args.bytes.now)) (with_room 1 c.self.inside.tags)) key_is
     ∙ ap (λ (k : Counter). after_make (Line c.args.line k (enciphered key c.args.line k c.args.bytes.now)) (with_room 1 c.self.inside.tags)) c.counter_of-counter.ensures in
     let streamed : c.write_sealed.new.pads ≡ after_encrypt c.args.line counter (pads_with_room 1 c.self.inside.pads) =
-    c.write_sealed.ensures.pads ∙ ap (λ (p : Stream). after_encrypt c.args.line c.counter_of-counter.result p) c.in-Ok-2.ensures.taken
+    c.write_sealed.ensures.pads ∙ ap (λ (p : Stream). after_encrypt c.args.line c.counter_of-counter.result p) c.in-Ok-reserve.ensures.taken
     ∙ ap (λ (k : Counter). after_encrypt c.args.line k (pads_with_room 1 c.self.inside.pads)) c.counter_of-counter.ensures in
     let long = enciphered_long key c.args.line counter c.args.bytes.now in
     (c.self.invariant.0 ∙ sym (ap (λ (e : Engine g.row.T.Denot). e.levels) tagged),
@@ -123,14 +123,14 @@ returns-in-Ok-write_sealed-clause-stored g c = λ unstopped sound.
     let counter : Counter = record { page = c.index-writes.result.now + 1; line = 0 } in
     let key : List ℕ = c.self.inside.pads.key in
     let cipher : List ℕ = enciphered key c.args.line counter c.args.bytes.now in
-    let key_is : c.reserve-2.new.self.key ≡ key = ap (λ (p : Stream). p.key) c.in-Ok-2.ensures.taken in
+    let key_is : c.reserve-2.new.self.key ≡ key = ap (λ (p : Stream). p.key) c.in-Ok-reserve.ensures.taken in
     let tagged : c.write_sealed.new.tags ≡ after_make (Line c.args.line counter cipher) (with_room 1 c.self.inside.tags) =
     c.write_sealed.ensures.tags
     ∙ ap (λ (e : Engine g.row.T.Denot). after_make (Line c.args.line c.counter_of-counter.result (enciphered c.reserve-2.new.self.key c.args.line c.counter_of-counter.result c.args.bytes.now)) e) c.in-Ok.ensures.taken
     ∙ ap (λ (k : List ℕ). after_make (Line c.args.line c.counter_of-counter.result (enciphered k c.args.line c.counter_of-counter.result c.args.bytes.now)) (with_room 1 c.self.inside.tags)) key_is
     ∙ ap (λ (k : Counter). after_make (Line c.args.line k (enciphered key c.args.line k c.args.bytes.now)) (with_room 1 c.self.inside.tags)) c.counter_of-counter.ensures in
     let streamed : c.write_sealed.new.pads ≡ after_encrypt c.args.line counter (pads_with_room 1 c.self.inside.pads) =
-    c.write_sealed.ensures.pads ∙ ap (λ (p : Stream). after_encrypt c.args.line c.counter_of-counter.result p) c.in-Ok-2.ensures.taken
+    c.write_sealed.ensures.pads ∙ ap (λ (p : Stream). after_encrypt c.args.line c.counter_of-counter.result p) c.in-Ok-reserve.ensures.taken
     ∙ ap (λ (k : Counter). after_encrypt c.args.line k (pads_with_room 1 c.self.inside.pads)) c.counter_of-counter.ensures in
     let undone : enciphered key c.args.line counter cipher ≡ c.args.bytes.now =
     subst (λ (k : Counter). enciphered key c.args.line k (enciphered key c.args.line k c.args.bytes.now) ≡ c.args.bytes.now) c.counter_of-counter.ensures
@@ -154,14 +154,14 @@ returns-in-Ok-write_sealed-clause-moved g c =
     let counter : Counter = record { page = c.index-writes.result.now + 1; line = 0 } in
     let key : List ℕ = c.self.inside.pads.key in
     let cipher : List ℕ = enciphered key c.args.line counter c.args.bytes.now in
-    let key_is : c.reserve-2.new.self.key ≡ key = ap (λ (p : Stream). p.key) c.in-Ok-2.ensures.taken in
+    let key_is : c.reserve-2.new.self.key ≡ key = ap (λ (p : Stream). p.key) c.in-Ok-reserve.ensures.taken in
     let tagged : c.write_sealed.new.tags ≡ after_make (Line c.args.line counter cipher) (with_room 1 c.self.inside.tags) =
     c.write_sealed.ensures.tags
     ∙ ap (λ (e : Engine g.row.T.Denot). after_make (Line c.args.line c.counter_of-counter.result (enciphered c.reserve-2.new.self.key c.args.line c.counter_of-counter.result c.args.bytes.now)) e) c.in-Ok.ensures.taken
     ∙ ap (λ (k : List ℕ). after_make (Line c.args.line c.counter_of-counter.result (enciphered k c.args.line c.counter_of-counter.result c.args.bytes.now)) (with_room 1 c.self.inside.tags)) key_is
     ∙ ap (λ (k : Counter). after_make (Line c.args.line k (enciphered key c.args.line k c.args.bytes.now)) (with_room 1 c.self.inside.tags)) c.counter_of-counter.ensures in
     let streamed : c.write_sealed.new.pads ≡ after_encrypt c.args.line counter (pads_with_room 1 c.self.inside.pads) =
-    c.write_sealed.ensures.pads ∙ ap (λ (p : Stream). after_encrypt c.args.line c.counter_of-counter.result p) c.in-Ok-2.ensures.taken
+    c.write_sealed.ensures.pads ∙ ap (λ (p : Stream). after_encrypt c.args.line c.counter_of-counter.result p) c.in-Ok-reserve.ensures.taken
     ∙ ap (λ (k : Counter). after_encrypt c.args.line k (pads_with_room 1 c.self.inside.pads)) c.counter_of-counter.ensures in
     let told' = g.B.Bus.told c.write_sealed.new.bus in
     let told = g.B.Bus.told c.self.inside.bus in
@@ -197,14 +197,14 @@ returns-in-Err-write_sealed-clause-refused g c = λ unstopped sound.
     let counter : Counter = record { page = c.index-writes.result.now + 1; line = 0 } in
     let key : List ℕ = c.self.inside.pads.key in
     let cipher : List ℕ = enciphered key c.args.line counter c.args.bytes.now in
-    let key_is : c.reserve-2.new.self.key ≡ key = ap (λ (p : Stream). p.key) c.in-Ok-2.ensures.taken in
+    let key_is : c.reserve-2.new.self.key ≡ key = ap (λ (p : Stream). p.key) c.in-Ok-reserve.ensures.taken in
     let tagged : c.write_sealed.new.tags ≡ after_make (Line c.args.line counter cipher) (with_room 1 c.self.inside.tags) =
     c.write_sealed.ensures.tags
     ∙ ap (λ (e : Engine g.row.T.Denot). after_make (Line c.args.line c.counter_of-counter.result (enciphered c.reserve-2.new.self.key c.args.line c.counter_of-counter.result c.args.bytes.now)) e) c.in-Ok.ensures.taken
     ∙ ap (λ (k : List ℕ). after_make (Line c.args.line c.counter_of-counter.result (enciphered k c.args.line c.counter_of-counter.result c.args.bytes.now)) (with_room 1 c.self.inside.tags)) key_is
     ∙ ap (λ (k : Counter). after_make (Line c.args.line k (enciphered key c.args.line k c.args.bytes.now)) (with_room 1 c.self.inside.tags)) c.counter_of-counter.ensures in
     let streamed : c.write_sealed.new.pads ≡ after_encrypt c.args.line counter (pads_with_room 1 c.self.inside.pads) =
-    c.write_sealed.ensures.pads ∙ ap (λ (p : Stream). after_encrypt c.args.line c.counter_of-counter.result p) c.in-Ok-2.ensures.taken
+    c.write_sealed.ensures.pads ∙ ap (λ (p : Stream). after_encrypt c.args.line c.counter_of-counter.result p) c.in-Ok-reserve.ensures.taken
     ∙ ap (λ (k : Counter). after_encrypt c.args.line k (pads_with_room 1 c.self.inside.pads)) c.counter_of-counter.ensures in
     let undone : enciphered key c.args.line counter cipher ≡ c.args.bytes.now =
     subst (λ (k : Counter). enciphered key c.args.line k (enciphered key c.args.line k c.args.bytes.now) ≡ c.args.bytes.now) c.counter_of-counter.ensures
@@ -237,16 +237,28 @@ returns-in-Ok-write_sealed-clause-raised g c =
     let counter : Counter = record { page = c.index-writes.result.now + 1; line = 0 } in
     let key : List ℕ = c.self.inside.pads.key in
     let cipher : List ℕ = enciphered key c.args.line counter c.args.bytes.now in
-    let key_is : c.reserve-2.new.self.key ≡ key = ap (λ (p : Stream). p.key) c.in-Ok-2.ensures.taken in
+    let key_is : c.reserve-2.new.self.key ≡ key = ap (λ (p : Stream). p.key) c.in-Ok-reserve.ensures.taken in
     let tagged : c.write_sealed.new.tags ≡ after_make (Line c.args.line counter cipher) (with_room 1 c.self.inside.tags) =
     c.write_sealed.ensures.tags
     ∙ ap (λ (e : Engine g.row.T.Denot). after_make (Line c.args.line c.counter_of-counter.result (enciphered c.reserve-2.new.self.key c.args.line c.counter_of-counter.result c.args.bytes.now)) e) c.in-Ok.ensures.taken
     ∙ ap (λ (k : List ℕ). after_make (Line c.args.line c.counter_of-counter.result (enciphered k c.args.line c.counter_of-counter.result c.args.bytes.now)) (with_room 1 c.self.inside.tags)) key_is
     ∙ ap (λ (k : Counter). after_make (Line c.args.line k (enciphered key c.args.line k c.args.bytes.now)) (with_room 1 c.self.inside.tags)) c.counter_of-counter.ensures in
     let streamed : c.write_sealed.new.pads ≡ after_encrypt c.args.line counter (pads_with_room 1 c.self.inside.pads) =
-    c.write_sealed.ensures.pads ∙ ap (λ (p : Stream). after_encrypt c.args.line c.counter_of-counter.result p) c.in-Ok-2.ensures.taken
+    c.write_sealed.ensures.pads ∙ ap (λ (p : Stream). after_encrypt c.args.line c.counter_of-counter.result p) c.in-Ok-reserve.ensures.taken
     ∙ ap (λ (k : Counter). after_encrypt c.args.line k (pads_with_room 1 c.self.inside.pads)) c.counter_of-counter.ensures in
     let made : c.write_sealed.new.tags.made ≡ c.self.inside.tags.made ++ Line c.args.line counter cipher ∷ [] = ap (λ (e : Engine g.row.T.Denot). e.made) tagged in
     let used : c.write_sealed.new.pads.used ≡ c.self.inside.pads.used ++ (c.args.line, counter) ∷ [] = ap (λ (p : Stream). p.used) streamed in
     rw (← c.self.view_is) (raised_used (line_count c.self.inside.tags.levels) c.self.inside.page_limit c.self.inside.tags.made c.write_sealed.new.tags.made c.self.inside.pads.used c.write_sealed.new.pads.used
     c.self.inside.counters.items c.args.line c.index-writes.result.now cipher counted inside read c.self.invariant.1.paired made used)
+
+pub invariant_of-self-in-Err-reserve : goal.invariant_of-self-in-Err-reserve
+invariant_of-self-in-Err-reserve g c = ?
+
+pub returns-in-Err-reserve-clause-moved : goal.returns-in-Err-reserve-clause-moved
+returns-in-Err-reserve-clause-moved g c = ?
+
+pub returns-in-Err-reserve-clause-refused : goal.returns-in-Err-reserve-clause-refused
+returns-in-Err-reserve-clause-refused g c = ?
+
+pub returns-in-Err-reserve-clause-spent : goal.returns-in-Err-reserve-clause-spent
+returns-in-Err-reserve-clause-spent g c = ?

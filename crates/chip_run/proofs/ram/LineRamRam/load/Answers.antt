@@ -6,6 +6,6 @@ use Rattle.chip_run.proofs.ram.LineRamRam.load.Goals as goal
 pub returns-in-Ok-clause-value : goal.returns-in-Ok-clause-value
 returns-in-Ok-clause-value g c = λ going sound.
     number_read
-    (contents_of (line_count c.args.self.now.lines.engine.levels) c.args.self.now.lines.engine.made)
+    (contents_of c.args.self.now.lines.pads.key (line_count c.args.self.now.lines.engine.levels) c.args.self.now.lines.engine.made)
     c.in-Ok.line c.args.addr c.number_in.result c.args.width
     c.requires.aligned (c.in-Ok.ensures.value going sound) c.number_in.ensures.value
