@@ -239,6 +239,28 @@ memory_kept {B} {T} d n told bus bus' engine pads counters limit stopped engine'
     subst (λ (e : Engine T). IsKept (tags_of d n e) told (record { bus = bus'; engine = e; pads = pads; counters = counters; limit = limit; stopped = Some NoMemory })) (sym same)
     (ended_kept d n told bus bus' engine pads counters limit stopped NoMemory kept going (λ page is. absurd (cc)) (λ place is. absurd (cc)) (λ goes_on. absurd (cc)))
 
+-- the same where there is room for one more message
+pub roomed_kept : {B T : Type 0} (d n : T → List ℕ → List ℕ) (told : Told) (bus bus' : B) (engine : Engine T) (pads : Stream) (counters : List ℕ) (limit : ℕ) (stopped : Option MemStop) (engine' : Engine T) (pads' : Stream) →
+    IsKept (tags_of d n engine) told (record { bus = bus; engine = engine; pads = pads; counters = counters; limit = limit; stopped = stopped }) → lasting_stop stopped ≡ None →
+    engine' ≡ with_room 1 engine → pads' ≡ pads →
+    IsKept (tags_of d n engine') told (record { bus = bus'; engine = engine'; pads = pads'; counters = counters; limit = limit; stopped = Some NoMemory })
+roomed_kept {B} {T} d n told bus bus' engine pads counters limit stopped engine' pads' kept going more same =
+    let ended = memory_kept d n told bus bus' engine pads counters limit stopped engine kept going refl in
+    subst (λ (p : Stream). IsKept (tags_of d n engine') told (record { bus = bus'; engine = engine'; pads = p; counters = counters; limit = limit; stopped = Some NoMemory })) (sym same)
+    (subst (λ (e : Engine T). IsKept (tags_of d n e) told (record { bus = bus'; engine = e; pads = pads; counters = counters; limit = limit; stopped = Some NoMemory })) (sym more)
+    (record {
+      levels = ended.levels;
+      paired = ended.paired;
+      rising = ended.rising;
+      sealed = ended.sealed;
+      counted = ended.counted;
+      stored = ended.stored;
+      answers = ended.answers;
+      genuine = ended.genuine;
+      shown = ended.shown;
+      spent = ended.spent;
+    }))
+
 or_none : {A : Type 0} (first second : Option A) → option_or first second ≡ None → second ≡ None
 or_none None second none = none
 or_none (Some x) second none = absurd (cc)

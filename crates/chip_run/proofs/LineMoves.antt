@@ -25,7 +25,7 @@ use Rattle.pad_stream.specs.Stream.{Stream, after_encrypt, with_room as pads_wit
 use Rattle.chip_run.specs.Contents.{bytes_of, line_bytes, contents_of}
 use Rattle.chip_run.specs.LineLengths.{length-line_bytes}
 use Rattle.chip_run.specs.Moving.{moves_not}
-use Rattle.chip_run.specs.Protected.{Protected, Moves, WereRead, ReadMoved, Passed, Failed, IsCheckedRead, AreCounted, after_line, writes_of}
+use Rattle.chip_run.specs.Protected.{Protected, Moves, WereRead, ReadMoved, IsMoved, Passed, Failed, IsCheckedRead, AreCounted, after_line, writes_of, lasting_stop}
 use Rattle.chip_run.proofs.LineMessages.{last_made, last_pair-none}
 
 -- Counts of reads
@@ -161,6 +161,18 @@ module _ {B T : Type 0} (told : B → Told) (old : Protected B T) (line : ℕ) w
     evidence = λ evidence is. ap (λ (e : Engine T). e.evidence) tagged ∙ is;
   }
 
+-- a stop that lasts, answered again
+stopped_already : (stopped : Option MemStop) (stop : MemStop) → lasting_stop stopped ≡ Some stop → stopped ≡ None → ⊥
+stopped_already None stop lasting going = cc
+stopped_already (Some other) stop lasting going = cc
+
+pub lasting_read : {B T : Type 0} (told : B → Told) (memory : Protected B T) (line : ℕ) (stop : MemStop) → lasting_stop memory.stopped ≡ Some stop →
+    ReadMoved told memory line memory
+lasting_read told memory line stop lasting = record {
+  moves = moves_not told memory;
+  read = record { read = λ going quiet other listed. absurd (stopped_already memory.stopped stop lasting going) };
+}
+
 -- Lines that were never written
 
 unwritten_by : (lines limit : ℕ) (made : List Message) (counters : List ℕ) (line : ℕ) (last : Option (Counter × List ℕ)) → AreCounted lines limit made counters →
@@ -187,3 +199,12 @@ pub stopped_levels : {T : Type 0} (tag_of : Message → List ℕ) (line : ℕ) (
 stopped_levels {T} tag_of line counter told told' engine engine' (Spent page) result = absurd result
 stopped_levels {T} tag_of line counter told told' engine engine' NoMemory result = ap (λ (e : Engine T). e.levels) result.1
 stopped_levels {T} tag_of line counter told told' engine engine' (Tampered place) result = ap (λ (e : Engine T). e.levels) result.1.unchanged
+
+-- a memory that answers its stop again
+pub stopped_unmoved : {B T : Type 0} (told : B → Told) (memory : Protected B T) (lines : List ℕ) (stop : MemStop) → memory.stopped ≡ Some stop →
+    IsMoved told memory lines memory
+stopped_unmoved told memory lines stop stopped = record {
+  moves = moves_not told memory;
+  stays = λ other is. is;
+  read = record { read = λ going quiet other listed. absurd (cc) };
+}

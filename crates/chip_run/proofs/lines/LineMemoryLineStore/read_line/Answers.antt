@@ -10,7 +10,7 @@ use Rattle.chip_run.specs.Contents.{contents_of}
 use Rattle.sec_base.specs.Last.{last_pair}
 use Rattle.chip_run.specs.Protected.{Protected, ReadMoved, IsCheckedRead, lasting_stop}
 use Rattle.chip_run.proofs.LineMessages.{counter_read, last_pair-none}
-use Rattle.chip_run.proofs.LineMoves.{fresh_moved, passed_moved, stopped_moved, stopped_levels, never_written, line_there}
+use Rattle.chip_run.proofs.LineMoves.{lasting_read, fresh_moved, passed_moved, stopped_moved, stopped_levels, never_written, line_there}
 use Rattle.chip_run.proofs.Keeping.{passed_kept, passed_bytes, stopped_kept, tampered_lied}
 use Rattle.chip_run.proofs.lines.LineMemoryLineStore.read_line.Goals as goal
 
@@ -117,3 +117,8 @@ returns-in-Err-clause-tampered g c = λ place _ quiet is.
     (tampered_lied g.T.Tagger.data_tag_of g.T.Tagger.node_tag_of (g.B.Bus.told c.self.inside.bus) c.self.inside.bus c.read_checked.new.bus c.self.inside.tags c.self.inside.pads
     c.self.inside.counters.items c.self.inside.page_limit c.self.inside.stopped c.args.line c.index-writes.result.now
     c.self.invariant.1 going inside read c.if-writes-eq0.false (g.B.Bus.told c.read_checked.new.bus) c.read_checked.new.tags place sound tampers)
+
+pub returns-in-Some-clause-moved : goal.returns-in-Some-clause-moved
+returns-in-Some-clause-moved g c =
+    rw (← c.self.view_is) (lasting_read g.B.Bus.told (record { bus = c.self.inside.bus; engine = c.self.inside.tags; pads = c.self.inside.pads; counters = c.self.inside.counters.items; limit = c.self.inside.page_limit; stopped = c.self.inside.stopped })
+    c.args.line c.in-Some.stop (sym c.lasting.ensures ∙ c.in-Some.is))

@@ -1,4 +1,4 @@
-use Rattle.std.proofs.Common.{◌≡◌, ◌+◌, ◌<◌, ◌++◌, ◌∷◌, [], ℕ, List, None, Some, Err, inr, length, slice_set, refl, rules, sym, ap, ◌∙◌, subst}
+use Rattle.std.proofs.Common.{◌≡◌, ◌+◌, ◌/◌, ◌<◌, ◌++◌, ◌∷◌, [], ℕ, List, None, Some, Err, inl, inr, length, slice_set, refl, rules, sym, ap, ◌∙◌, subst}
 use Rattle.sec_base.specs.Layout.{line_count}
 use Rattle.sec_base.specs.Lines.{with_line}
 use Rattle.sec_base.specs.declared.layout.Place.TheVariants.{Line as line_place}
@@ -14,8 +14,9 @@ use Rattle.pad_stream.proofs.Enciphering.{enciphered_long}
 use Rattle.chip_run.specs.Contents.{contents_of, sealed_line}
 use Rattle.chip_run.specs.Protected.{Protected, Moves, lasting_stop}
 use Rattle.chip_run.proofs.LineMessages.{contents_more, counter_read, raised_used, used_up, not_used_up, writes_same}
+use Rattle.chip_run.specs.Moving.{moves_not}
 use Rattle.chip_run.proofs.LineMoves.{stop_moves, tagged_moves}
-use Rattle.chip_run.proofs.Keeping.{spent_kept, memory_kept, written_kept, unwritten_kept}
+use Rattle.chip_run.proofs.Keeping.{spent_kept, memory_kept, roomed_kept, written_kept, unwritten_kept}
 use Rattle.chip_run.proofs.lines.LineMemoryLineStore.write_line.Goals as goal
 
 pub invariant_of-self : goal.invariant_of-self
@@ -252,13 +253,98 @@ returns-in-Ok-write_sealed-clause-raised g c =
     c.self.inside.counters.items c.args.line c.index-writes.result.now cipher counted inside read c.self.invariant.1.paired made used)
 
 pub invariant_of-self-in-Err-reserve : goal.invariant_of-self-in-Err-reserve
-invariant_of-self-in-Err-reserve g c = ?
+invariant_of-self-in-Err-reserve g c =
+    let going : lasting_stop c.self.inside.stopped ≡ None = sym c.lasting.ensures ∙ c.in_default.is in
+    (c.self.invariant.0 ∙ sym (ap (λ (e : Engine g.row.T.Denot). e.levels) c.in-Ok.ensures.taken),
+    roomed_kept g.T.Tagger.data_tag_of g.T.Tagger.node_tag_of (g.B.Bus.told c.self.inside.bus) c.self.inside.bus c.self.inside.bus c.self.inside.tags c.self.inside.pads
+    c.self.inside.counters.items c.self.inside.page_limit c.self.inside.stopped c.reserve.new.self c.reserve-2.new.self c.self.invariant.1 going c.in-Ok.ensures.taken c.in-Err-reserve.ensures.refused)
 
 pub returns-in-Err-reserve-clause-moved : goal.returns-in-Err-reserve-clause-moved
-returns-in-Err-reserve-clause-moved g c = ?
+returns-in-Err-reserve-clause-moved g c =
+    subst (λ (m : Protected g.row.B.Denot g.row.T.Denot). Moves g.B.Bus.told m (record {
+      bus = c.self.inside.bus;
+      engine = c.reserve.new.self;
+      pads = c.reserve-2.new.self;
+      counters = c.self.inside.counters.items;
+      limit = c.self.inside.page_limit;
+      stopped = Some NoMemory;
+    })) c.self.view_is
+    (stop_moves g.B.Bus.told (record { bus = c.self.inside.bus; engine = c.self.inside.tags; pads = c.self.inside.pads; counters = c.self.inside.counters.items; limit = c.self.inside.page_limit; stopped = c.self.inside.stopped }) c.args.line c.self.inside.bus c.reserve.new.self c.reserve-2.new.self (Some NoMemory) refl
+    (ap (λ (e : Engine g.row.T.Denot). e.tagger) c.in-Ok.ensures.taken) (ap (λ (e : Engine g.row.T.Denot). e.levels) c.in-Ok.ensures.taken) (ap (λ (e : Engine g.row.T.Denot). e.made) c.in-Ok.ensures.taken) (ap (λ (e : Engine g.row.T.Denot). e.evidence) c.in-Ok.ensures.taken)
+    (ap (λ (p : Stream). p.key) c.in-Err-reserve.ensures.refused) (ap (λ (p : Stream). p.used) c.in-Err-reserve.ensures.refused))
 
 pub returns-in-Err-reserve-clause-refused : goal.returns-in-Err-reserve-clause-refused
-returns-in-Err-reserve-clause-refused g c = ?
+returns-in-Err-reserve-clause-refused g c = λ _ _.
+    let same : contents_of c.reserve-2.new.self.key (line_count c.reserve.new.self.levels) c.reserve.new.self.made
+        ≡ contents_of c.self.inside.pads.key (line_count c.self.inside.tags.levels) c.self.inside.tags.made =
+    ap (λ (p : Stream). contents_of p.key (line_count c.reserve.new.self.levels) c.reserve.new.self.made) c.in-Err-reserve.ensures.refused
+    ∙ ap (λ (e : Engine g.row.T.Denot). contents_of c.self.inside.pads.key (line_count e.levels) e.made) c.in-Ok.ensures.taken in
+    inl (rw (← c.self.view_is) same)
 
 pub returns-in-Err-reserve-clause-spent : goal.returns-in-Err-reserve-clause-spent
-returns-in-Err-reserve-clause-spent g c = ?
+returns-in-Err-reserve-clause-spent g c = λ _.
+    let inside : c.args.line < line_count c.self.inside.tags.levels = rw (← c.self.view_is) at c.requires.inside in
+    let counted = c.self.invariant.1.counted in
+    let read = counter_read (line_count c.self.inside.tags.levels) c.self.inside.page_limit c.self.inside.tags.made c.self.inside.counters.items c.args.line c.index-writes.result.now counted inside c.index-writes.ensures in
+    (λ is. absurd (cc), λ full. absurd (not_used_up (line_count c.self.inside.tags.levels) c.self.inside.page_limit c.self.inside.tags.made c.self.inside.counters.items c.args.line c.index-writes.result.now
+    counted inside read c.if-writes-self.false
+    (sym (writes_same c.self.inside.tags.made c.self.inside.pads.used c.args.line c.self.invariant.1.paired) ∙ rw (← c.self.view_is) at full)))
+
+pub returns-in-Some-clause-moved : goal.returns-in-Some-clause-moved
+returns-in-Some-clause-moved g c = moves_not g.B.Bus.told c.args.self.now
+
+pub returns-then-writes-self-clause-moved : goal.returns-then-writes-self-clause-moved
+returns-then-writes-self-clause-moved g c =
+    subst (λ (m : Protected g.row.B.Denot g.row.T.Denot). Moves g.B.Bus.told m (record {
+      bus = c.self.inside.bus;
+      engine = c.self.inside.tags;
+      pads = c.self.inside.pads;
+      counters = c.self.inside.counters.items;
+      limit = c.self.inside.page_limit;
+      stopped = Some (Spent (c.args.line / 64));
+    })) c.self.view_is
+    (stop_moves g.B.Bus.told (record { bus = c.self.inside.bus; engine = c.self.inside.tags; pads = c.self.inside.pads; counters = c.self.inside.counters.items; limit = c.self.inside.page_limit; stopped = c.self.inside.stopped }) c.args.line c.self.inside.bus c.self.inside.tags c.self.inside.pads (Some (Spent (c.args.line / 64))) refl
+    refl refl refl refl refl refl)
+
+pub returns-in-Err-clause-moved : goal.returns-in-Err-clause-moved
+returns-in-Err-clause-moved g c =
+    subst (λ (m : Protected g.row.B.Denot g.row.T.Denot). Moves g.B.Bus.told m (record {
+      bus = c.self.inside.bus;
+      engine = c.reserve.new.self;
+      pads = c.self.inside.pads;
+      counters = c.self.inside.counters.items;
+      limit = c.self.inside.page_limit;
+      stopped = Some NoMemory;
+    })) c.self.view_is
+    (stop_moves g.B.Bus.told (record { bus = c.self.inside.bus; engine = c.self.inside.tags; pads = c.self.inside.pads; counters = c.self.inside.counters.items; limit = c.self.inside.page_limit; stopped = c.self.inside.stopped }) c.args.line c.self.inside.bus c.reserve.new.self c.self.inside.pads (Some NoMemory) refl
+    (ap (λ (e : Engine g.row.T.Denot). e.tagger) c.in-Err.ensures.refused) (ap (λ (e : Engine g.row.T.Denot). e.levels) c.in-Err.ensures.refused) (ap (λ (e : Engine g.row.T.Denot). e.made) c.in-Err.ensures.refused) (ap (λ (e : Engine g.row.T.Denot). e.evidence) c.in-Err.ensures.refused) refl refl)
+
+pub returns-in-Err-write_sealed-clause-moved : goal.returns-in-Err-write_sealed-clause-moved
+returns-in-Err-write_sealed-clause-moved g c =
+    let d = g.T.Tagger.data_tag_of in
+    let n = g.T.Tagger.node_tag_of in
+    let counter : Counter = record { page = c.index-writes.result.now + 1; line = 0 } in
+    let key : List ℕ = c.self.inside.pads.key in
+    let cipher : List ℕ = enciphered key c.args.line counter c.args.bytes.now in
+    let key_is : c.reserve-2.new.self.key ≡ key = ap (λ (p : Stream). p.key) c.in-Ok-reserve.ensures.taken in
+    let tagged : c.write_sealed.new.tags ≡ after_make (Line c.args.line counter cipher) (with_room 1 c.self.inside.tags) =
+    c.write_sealed.ensures.tags
+    ∙ ap (λ (e : Engine g.row.T.Denot). after_make (Line c.args.line c.counter_of-counter.result (enciphered c.reserve-2.new.self.key c.args.line c.counter_of-counter.result c.args.bytes.now)) e) c.in-Ok.ensures.taken
+    ∙ ap (λ (k : List ℕ). after_make (Line c.args.line c.counter_of-counter.result (enciphered k c.args.line c.counter_of-counter.result c.args.bytes.now)) (with_room 1 c.self.inside.tags)) key_is
+    ∙ ap (λ (k : Counter). after_make (Line c.args.line k (enciphered key c.args.line k c.args.bytes.now)) (with_room 1 c.self.inside.tags)) c.counter_of-counter.ensures in
+    let streamed : c.write_sealed.new.pads ≡ after_encrypt c.args.line counter (pads_with_room 1 c.self.inside.pads) =
+    c.write_sealed.ensures.pads ∙ ap (λ (p : Stream). after_encrypt c.args.line c.counter_of-counter.result p) c.in-Ok-reserve.ensures.taken
+    ∙ ap (λ (k : Counter). after_encrypt c.args.line k (pads_with_room 1 c.self.inside.pads)) c.counter_of-counter.ensures in
+    let told' = g.B.Bus.told c.write_sealed.new.bus in
+    let told = g.B.Bus.told c.self.inside.bus in
+    let wrote : told' ≡ told = c.in-Err-write_sealed.ensures.err in
+    subst (λ (m : Protected g.row.B.Denot g.row.T.Denot). Moves g.B.Bus.told m (record {
+      bus = c.write_sealed.new.bus;
+      engine = c.write_sealed.new.tags;
+      pads = c.write_sealed.new.pads;
+      counters = slice_set c.self.inside.counters.items c.args.line (c.index-writes.result.now + 1);
+      limit = c.self.inside.page_limit;
+      stopped = Some NoMemory;
+    })) c.self.view_is
+    (tagged_moves g.B.Bus.told (record { bus = c.self.inside.bus; engine = c.self.inside.tags; pads = c.self.inside.pads; counters = c.self.inside.counters.items; limit = c.self.inside.page_limit; stopped = c.self.inside.stopped }) c.args.line counter cipher c.write_sealed.new.bus c.write_sealed.new.tags c.write_sealed.new.pads
+    (slice_set c.self.inside.counters.items c.args.line (c.index-writes.result.now + 1)) (Some NoMemory) tagged streamed (ap (λ (t : Told). t.reads) wrote))

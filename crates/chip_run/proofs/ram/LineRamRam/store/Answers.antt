@@ -1,4 +1,6 @@
-use Rattle.std.proofs.Common.{◌∙◌}
+use Rattle.sec_base.specs.Layout.{line_of}
+use Rattle.chip_run.proofs.LineMoves.{stopped_unmoved}
+use Rattle.std.proofs.Common.{◌∷◌, [], sym, ◌∙◌}
 use Rattle.sec_base.specs.Layout.{line_count}
 use Rattle.chip_run.specs.Contents.{contents_of}
 use Rattle.chip_run.specs.LineLengths.{length-contents_of}
@@ -32,3 +34,7 @@ returns-in-Err-write_line-clause-refused g c = λ going sound.
     (length-contents_of key lines made) c.requires.inside c.requires.aligned
     (c.in-Ok.ensures.value going was_sound) (c.in-Ok.ensures.contents going was_sound) c.put_number.ensures
     (c.in-Err-write_line.ensures.refused (c.in-Ok.ensures.goes_on ∙ going) sound)
+
+pub returns-in-Some-clause-moved : goal.returns-in-Some-clause-moved
+returns-in-Some-clause-moved g c =
+    stopped_unmoved g.B.Bus.told c.args.self.now.lines (line_of c.args.addr ∷ []) c.in-Some.stop (sym c.stopped.ensures ∙ c.in-Some.is)
