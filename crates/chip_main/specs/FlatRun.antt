@@ -5,15 +5,15 @@ use Rattle.sec_base.specs.Evidence.{IsEvidence}
 use Rattle.sec_base.specs.Last.{data_pairs}
 use Rattle.sec_base.specs.Layout.{line_count}
 use Rattle.sec_base.specs.Reading.{FilesState}
-use Rattle.sec_base.specs.Used.{AreRising, NoRepeat}
 use Rattle.sec_base.specs.Writing.{SinkState, Gains}
 use Rattle.sec_base.specs.declared.answers.Ending.TheVariants.{OutOfSteps, Tampered, Spent, WriteFault, NoMemory}
 use Rattle.bus_model.specs.Told.{Told}
+use Rattle.pad_stream.specs.Used.{AreRising, NoRepeat, of_lines}
 use Rattle.rv32_core.specs.Machine.{plain}
 use Rattle.rv32_core.specs.Follows.{Follows, IsWhole}
 use Rattle.chip_run.specs.declared.RunRecord.{RunRecord}
 use Rattle.chip_run.specs.Account.{HonestOrCaught, IsOfFirstLie}
-use Rattle.chip_run.specs.Contents.{HoldsLast, HoldsSealed, IsSpent, IsWrittenOut, line_writes}
+use Rattle.chip_run.specs.Contents.{AreNumbered, HoldsLast, HoldsSealed, IsSpent, IsWrittenOut, line_writes}
 use Rattle.chip_run.specs.Session.{IsMemoryEnding, IsStop}
 use Rattle.chip_main.specs.Flat.{budget, device_enc_key, device_tag, flat_levels, flat_opening, flat_size, page_limit}
 use Rattle.chip_main.specs.Causes.{HasRead}
@@ -30,10 +30,12 @@ pub record RunsFlat (bytes : List ℕ) (old new : SinkState) (run : RunRecord) (
   -- evidence is what it says, and is of the first false answer
   pub genuine : IfSome run.evidence (IsEvidence device_tag run.made)
   pub first_lie : IfSome run.evidence (IsOfFirstLie run.made told)
-  -- no line was enciphered twice under one counter, and what was enciphered is what was tagged
+  -- No line was enciphered twice under one counter. A line's counters are (n, 0) with rising n from 1 on, and each
+  -- line of the memory was tagged under the same, in the same order.
   pub no_repeat : run.evidence ≡ None → NoRepeat run.used
   pub rising : run.evidence ≡ None → AreRising run.used
-  pub paired : run.evidence ≡ None → data_pairs run.made ≡ run.used
+  pub numbered : run.evidence ≡ None → AreNumbered (line_count flat_levels) run.used
+  pub paired : run.evidence ≡ None → data_pairs run.made ≡ of_lines (line_count flat_levels) run.used
   -- each line's place that isn't zeros holds what was enciphered and tagged for it
   pub sealed : HoldsSealed device_tag (line_count flat_levels) run.made run.used told.written
   -- where the memory did not end it, the memory outside has what the plain machine's has

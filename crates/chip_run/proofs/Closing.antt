@@ -1,5 +1,6 @@
 -- How a run ends, by the stop that its memory keeps.
-use Rattle.std.proofs.Common.{◌≡◌, ◌≤◌, inl, inr, ℕ, List, Option, Some, None, ap, subst, arith}
+use Rattle.std.proofs.Common.{◌≡◌, ◌≤◌, inl, inr, ℕ, List, Option, Some, None, ap, sym, ◌∙◌, subst, arith}
+use Rattle.sec_base.specs.Last.{data_pairs}
 use Rattle.sec_base.specs.Layout.{line_count}
 use Rattle.sec_base.specs.declared.layout.Place.{Place}
 use Rattle.sec_base.specs.declared.account.Message.{Message}
@@ -10,10 +11,12 @@ use Rattle.sec_base.specs.declared.answers.MemStop.TheVariants.{Tampered as tamp
 use Rattle.bus_model.specs.Told.{Told}
 use Rattle.tag_engine.specs.Engine.{Engine}
 use Rattle.chip_run.specs.Account.{HonestOrCaught}
-use Rattle.chip_run.specs.Contents.{IsSpent, line_writes}
+use Rattle.chip_run.specs.Contents.{AreNumbered, IsSpent, line_writes}
 use Rattle.chip_run.specs.Protected.{Protected, IsKept}
 use Rattle.chip_run.specs.Session.{CarriesEnding}
+use Rattle.pad_stream.specs.Used.{of_lines}
 use Rattle.chip_run.proofs.LineMessages.{writes_same}
+use Rattle.chip_run.proofs.Pairs.{pairs_numbered, all_of_lines}
 use Rattle.sec_base.specs.declared.sealing.Counter.{Counter}
 
 -- It ends as tampering where the memory stopped so
@@ -66,3 +69,13 @@ ended_limited {B} {T} tags told given lines line same kept =
 pub ended_kept : {B T : Type 0} (tags : Engine T → Message → List ℕ) (told : B → Told) (given lines : Protected B T) → given ≡ lines → IsKept (tags given.engine) (told given.bus) given → IsKept (tags lines.engine) (told lines.bus) lines
 ended_kept {B} {T} tags told given lines same kept =
     subst (λ (memory : Protected B T). IsKept (tags memory.engine) (told memory.bus) memory) same kept
+
+pub ended_numbered : {B T : Type 0} (tags : Engine T → Message → List ℕ) (told : B → Told) (given lines : Protected B T) → given ≡ lines → IsKept (tags given.engine) (told given.bus) given → AreNumbered (line_count lines.engine.levels) lines.pads.used
+ended_numbered {B} {T} tags told given lines same kept =
+    let kept_lines = ended_kept tags told given lines same kept in
+    pairs_numbered (line_count lines.engine.levels) lines.limit lines.engine.made lines.pads.used lines.counters kept_lines.counted kept_lines.paired
+
+pub ended_paired : {B T : Type 0} (tags : Engine T → Message → List ℕ) (told : B → Told) (given lines : Protected B T) → given ≡ lines → IsKept (tags given.engine) (told given.bus) given → data_pairs lines.engine.made ≡ of_lines (line_count lines.engine.levels) lines.pads.used
+ended_paired {B} {T} tags told given lines same kept =
+    (ended_kept tags told given lines same kept).paired
+    ∙ sym (all_of_lines (line_count lines.engine.levels) lines.pads.used (ended_numbered tags told given lines same kept))

@@ -27,10 +27,10 @@ use Rattle.bus_model.specs.Told.{Told, Lie, NothingWritten, after_read, after_wr
 use Rattle.bus_model.proofs.Steps.{true_or_false, answered, lied, read_levels, read_written}
 use Rattle.tag_engine.specs.Engine.{Engine, new_engine, tags_of, forgery_of, after_check, after_make, with_room}
 use Rattle.tag_engine.proofs.Forgeries.{known, still_genuine}
-use Rattle.sec_base.specs.Used.{AreRising}
+use Rattle.pad_stream.specs.Used.{AreRising}
 use Rattle.sec_base.specs.Places.{zeros_of}
-use Rattle.sec_base.proofs.RisingCounters.{rising_nothing, rising_more}
-use Rattle.sec_base.proofs.LastMessages.{data_pairs-append}
+use Rattle.pad_stream.proofs.RisingCounters.{rising_nothing, rising_more}
+use Rattle.chip_run.proofs.Pairs.{data_pairs-append}
 use Rattle.pad_stream.specs.Stream.{Stream, new_stream, after_encrypt, with_room as pads_with_room}
 use Rattle.chip_run.specs.Contents.{line_writes, sealed_line, IsSpent, IsSealed, HoldsSealed, HoldsLast}
 use Rattle.chip_run.specs.Account.{HonestOrCaught, IsHonest, IsCaught, IsOfFirstLie}

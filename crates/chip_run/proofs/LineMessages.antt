@@ -12,9 +12,10 @@ use Rattle.sec_base.specs.declared.account.Message.{Message}
 use Rattle.sec_base.specs.declared.account.Message.TheVariants.{Line, Node}
 use Rattle.sec_base.specs.Last.{data_part, last_at, last_data, last_pair, data_pairs}
 use Rattle.sec_base.specs.Lines.{with_line}
-use Rattle.sec_base.specs.Used.{IsBefore}
+use Rattle.pad_stream.specs.Used.{IsBefore}
 use Rattle.pad_stream.specs.Pad.{enciphered}
-use Rattle.sec_base.proofs.LastMessages.{last_of_same, last_of_other, linked, HasPart, last_pair-data_pairs, pair_made, data_pairs-append}
+use Rattle.sec_base.proofs.LastMessages.{last_of_same, last_of_other, linked, HasPart, last_pair-data_pairs}
+use Rattle.chip_run.proofs.Pairs.{pair_made, data_pairs-append}
 use Rattle.sec_base.proofs.SamePlaces.{false_from}
 use Rattle.sec_base.proofs.JoinedLines.{with_line-joined_lines, line_at-joined_lines}
 use Rattle.chip_run.specs.Contents.{bytes_of, line_bytes, contents_of, writes_by, line_writes}
@@ -132,6 +133,7 @@ counted_new lines limit = record {
   long = length-replicate lines 0;
   counts = λ line inside. get_or-replicate lines line 0 0 inside;
   limited = λ line. omega arith;
+  inside = λ line counter cipher listed. absurd (omega (arith, listed.1));
   numbered = λ line counter cipher listed. absurd (omega (arith, listed.1));
 }
 
@@ -214,6 +216,11 @@ counted_more lines limit made counters counters' line writes cipher was inside c
             | inl same ↦ let here : times_tagged made' other ≡ writes + 1 = ap (λ (l : ℕ). times_tagged made' l) same ∙ now in omega (arith, here)
             | inr differs ↦ let here : times_tagged made' other ≡ times_tagged made other = ap writes_of (last_data-other made line other counter cipher differs) in
                 omega (arith, here, was.limited other)
+          ];
+      inside = λ other counter' cipher' listed.
+          elim (Contains-push_cases made (Line line counter cipher) (Line other counter' cipher') listed) [
+            | inl early ↦ was.inside other counter' cipher' early
+            | inr same ↦ let lines_same : line ≡ other = cc in omega (arith, lines_same)
           ];
       numbered = λ other counter' cipher' listed.
           elim (Contains-push_cases made (Line line counter cipher) (Line other counter' cipher') listed) [

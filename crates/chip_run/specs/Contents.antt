@@ -31,6 +31,11 @@ writes_by (Some counter) = counter.page
 abbrev pub line_writes : List (ℕ × Counter) → ℕ → ℕ
 line_writes used line = writes_by (last_pair line used)
 
+-- Each line that was enciphered is one of the memory, and its counter is (n, 0) with an n above 0.
+pub record AreNumbered (lines : ℕ) (used : List (ℕ × Counter)) : Type 0 where
+  pub numbered : (line : ℕ) (counter : Counter) → Contains used (line, counter) →
+      (line < lines) × (1 ≤ counter.page) × (counter.line ≡ 0)
+
 -- some line of the page was written as often as the limit allows
 pub record IsSpent (lines limit : ℕ) (used : List (ℕ × Counter)) (page : ℕ) : Type 0 where
   pub line : ℕ

@@ -3,11 +3,12 @@ use Rattle.std.proofs.Common.{◌≡◌, ◌⊎◌, inl, inr, ℕ, ◌+◌, ◌�
 use Rattle.std.proofs.lemmas.List.{append-nil}
 use Rattle.std.proofs.lemmas.List.Elements.{Contains-append_cases}
 use Rattle.sec_base.specs.Count.{Rose, RoseBy}
-use Rattle.sec_base.specs.Last.{IsFresh}
+use Rattle.sec_base.specs.Last.{IsFresh, data_pairs}
 use Rattle.sec_base.specs.declared.sealing.Counter.{Counter}
 use Rattle.sec_base.specs.declared.layout.Place.{Place}
 use Rattle.sec_base.specs.declared.layout.Place.TheVariants.{Line as line_place}
 use Rattle.sec_base.specs.declared.account.Message.{Message}
+use Rattle.sec_base.specs.declared.account.Message.TheVariants.{Line}
 use Rattle.sec_base.specs.declared.account.Evidence.{Evidence}
 use Rattle.sec_base.specs.declared.answers.MemStop.{MemStop}
 use Rattle.bus_model.specs.Told.{Told}
@@ -58,10 +59,32 @@ pub was_none : {A : Type 0} (old new : Option A) → ((x : A) → old ≡ Some x
 was_none None new kept none = refl
 was_none (Some x) new kept none = let still = kept x refl in absurd (cc)
 
+-- messages of these lines and counters
+abbrev as_messages : List (ℕ × Counter) → List Message
+as_messages [] = []
+as_messages (entry ∷ used) = Line entry.0 entry.1 [] ∷ as_messages used
+
+pairs_back : (used : List (ℕ × Counter)) → data_pairs (as_messages used) ≡ used
+unfolding data_pairs
+pairs_back [] = refl
+pairs_back (entry ∷ used) = ap (λ (rest : List (ℕ × Counter)). entry ∷ rest) (pairs_back used)
+
+as_messages-append : (front more : List (ℕ × Counter)) → as_messages (front ++ more) ≡ as_messages front ++ as_messages more
+as_messages-append [] more = refl
+as_messages-append (entry ∷ front) more = ap (λ (rest : List Message). Line entry.0 entry.1 [] ∷ rest) (as_messages-append front more)
+
+-- a line that no later entry is of was fresh before
+fresh_sooner : (line : ℕ) (front more : List (ℕ × Counter)) → IsFresh line (front ++ more) → IsFresh line front
+fresh_sooner line front more fresh =
+    subst (λ (used : List (ℕ × Counter)). IsFresh line used) (pairs_back front)
+    (fresh_front line (as_messages front) (as_messages more)
+    (subst (λ (made : List Message). IsFresh line (data_pairs made)) (as_messages-append front more)
+    (subst (λ (used : List (ℕ × Counter)). IsFresh line used) (sym (pairs_back (front ++ more))) fresh)))
+
 fresh_before : {B T : Type 0} (told : B → Told) (first second : Protected B T) (line : ℕ) → Moves told first second →
     IsFresh line second.pads.used → IsFresh line first.pads.used
 fresh_before told first second line moves fresh =
-    fresh_front line first.pads.used moves.more_used (subst (λ (used : List (ℕ × Counter)). IsFresh line used) moves.used fresh)
+    fresh_sooner line first.pads.used moves.more_used (subst (λ (used : List (ℕ × Counter)). IsFresh line used) moves.used fresh)
 
 -- lines that were read, after other calls
 read_later : {B T : Type 0} (told : B → Told) (first second third : Protected B T) (line : ℕ) → Moves told first second →

@@ -15,7 +15,7 @@ use Rattle.sec_base.specs.Last.{last_data, data_pairs, IsFresh}
 use Rattle.sec_base.specs.Layout.{line_count}
 use Rattle.bus_model.specs.Told.{Told, after_read}
 use Rattle.tag_engine.specs.Engine.{Engine, new_engine, after_check}
-use Rattle.sec_base.specs.Used.{AreRising}
+use Rattle.pad_stream.specs.Used.{AreRising}
 use Rattle.pad_stream.specs.Stream.{Stream, new_stream}
 use Rattle.chip_run.specs.Contents.{IsSpent, HoldsLast, HoldsSealed}
 use Rattle.chip_run.specs.Account.{HonestOrCaught, IsOfFirstLie}
@@ -69,6 +69,7 @@ pub record AreCounted (lines limit : ℕ) (made : List Message) (counters : List
   pub long : length counters ≡ lines
   pub counts : (line : ℕ) → line < lines → slice_index counters line ≡ times_tagged made line
   pub limited : (line : ℕ) → times_tagged made line ≤ limit
+  pub inside : (line : ℕ) (counter : Counter) (cipher : List ℕ) → Contains made (Line line counter cipher) → line < lines
   pub numbered : (line : ℕ) (counter : Counter) (cipher : List ℕ) →
       Contains made (Line line counter cipher) → IsNumbered made line counter cipher
 

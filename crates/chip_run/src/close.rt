@@ -3,11 +3,11 @@ ghost use Rattle.std.specs.Prelude.{◌≡◌, ◌≤◌, [], ℕ, None, Some, I
 ghost use Rattle.sec_base.specs.Evidence.{IsEvidence};
 ghost use Rattle.sec_base.specs.Last.{data_pairs};
 ghost use Rattle.sec_base.specs.Layout.{line_count};
-ghost use Rattle.sec_base.specs.Used.{AreRising};
+ghost use Rattle.pad_stream.specs.Used.{AreRising, of_lines};
 ghost use Rattle.sec_base.specs.declared.answers.Ending.TheVariants.{Tampered, Spent, NoMemory as memory_ended};
 ghost use Rattle.tag_engine.specs.Engine.{tags_of};
 ghost use Rattle.chip_run.specs.Account.{HonestOrCaught, IsOfFirstLie};
-ghost use Rattle.chip_run.specs.Contents.{HoldsLast, HoldsSealed, IsSpent, line_writes};
+ghost use Rattle.chip_run.specs.Contents.{AreNumbered, HoldsLast, HoldsSealed, IsSpent, line_writes};
 ghost use Rattle.chip_run.specs.Session.{CarriesEnding, IsMemoryEnding};
 
 use crate::account::Account;
@@ -44,7 +44,8 @@ pub(crate) fn close<B: Bus, T: Tagger>(
         (line_count memory.lines.engine.levels) memory.lines.engine.made (B.told memory.lines.bus).written }
     ensures spent { (page : ℕ) → ending ≡ Spent page →
         IsSpent (line_count memory.lines.engine.levels) memory.lines.limit memory.lines.pads.used page }
-    ensures paired { data_pairs memory.lines.engine.made ≡ memory.lines.pads.used }
+    ensures paired { data_pairs memory.lines.engine.made ≡ of_lines (line_count memory.lines.engine.levels) memory.lines.pads.used }
+    ensures numbered { AreNumbered (line_count memory.lines.engine.levels) memory.lines.pads.used }
     ensures rising { AreRising memory.lines.pads.used }
     ensures sealed { HoldsSealed (tags_of T.data_tag_of T.node_tag_of memory.lines.engine)
         (line_count memory.lines.engine.levels) memory.lines.engine.made memory.lines.pads.used (B.told memory.lines.bus).written }

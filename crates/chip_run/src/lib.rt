@@ -5,7 +5,7 @@ ghost use Rattle.std.specs.Prelude.{◌≡◌, ◌≢◌, ◌<◌, ◌≤◌, �
 ghost use Rattle.sec_base.specs.Count.{Rose, RoseBy};
 ghost use Rattle.sec_base.specs.Last.{data_pairs};
 ghost use Rattle.sec_base.specs.Layout.{line_count, memory_size};
-ghost use Rattle.sec_base.specs.Used.{AreRising, NoRepeat};
+ghost use Rattle.pad_stream.specs.Used.{AreRising, NoRepeat, of_lines};
 ghost use Rattle.sec_base.specs.Evidence.{IsEvidence};
 ghost use Rattle.sec_base.specs.Writing.{Gains};
 ghost use Rattle.sec_base.specs.declared.layout.Place.{Place};
@@ -15,7 +15,7 @@ ghost use Rattle.tag_engine.specs.Tag.{engine_tag};
 ghost use Rattle.rv32_core.specs.Machine.{opening, plain};
 ghost use Rattle.rv32_core.specs.Follows.{Follows, IsWhole};
 ghost use Rattle.chip_run.specs.Account.{HonestOrCaught, IsOfFirstLie};
-ghost use Rattle.chip_run.specs.Contents.{HoldsLast, HoldsSealed, IsSpent, IsWrittenOut, line_writes};
+ghost use Rattle.chip_run.specs.Contents.{AreNumbered, HoldsLast, HoldsSealed, IsSpent, IsWrittenOut, line_writes};
 ghost use Rattle.chip_run.specs.Session.{IsMemoryEnding, IsStop};
 
 mod account;
@@ -70,10 +70,13 @@ pub fn run<B: Bus, T: Tagger, S: Sink>(
         (IsEvidence (engine_tag (T.data_tag_of tagger) (T.node_tag_of tagger) setup.now.geometry) result.0.made) }
     ensures first_lie { IfSome result.0.evidence (IsOfFirstLie result.0.made (B.told result.1)) }
 
-    // No line was enciphered twice under one counter, and what was enciphered is what was tagged.
+    // No line was enciphered twice under one counter. A line's counters are (n, 0) with rising n from 1 on, and each
+    // line of the memory was tagged under the same, in the same order.
     ensures no_repeat { result.0.evidence ≡ None → NoRepeat result.0.used }
     ensures rising { result.0.evidence ≡ None → AreRising result.0.used }
-    ensures paired { result.0.evidence ≡ None → data_pairs result.0.made ≡ result.0.used }
+    ensures numbered { result.0.evidence ≡ None → AreNumbered (line_count setup.now.geometry) result.0.used }
+    ensures paired { result.0.evidence ≡ None →
+        data_pairs result.0.made ≡ of_lines (line_count setup.now.geometry) result.0.used }
 
     // Each line's place that isn't zeros holds what was enciphered and tagged for it.
     ensures sealed { HoldsSealed (engine_tag (T.data_tag_of tagger) (T.node_tag_of tagger) setup.now.geometry)

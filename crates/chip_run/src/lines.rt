@@ -48,7 +48,7 @@ impl<B: Bus, T: Tagger> Model for LineMemory<B, T> {
     ghost view = { λ memory. record {
       bus = memory.bus;
       engine = memory.tags;
-      pads = memory.pads;
+          pads = memory.pads;
       counters = memory.counters.items;
       limit = memory.page_limit;
       stopped = memory.stopped;
@@ -58,7 +58,7 @@ impl<B: Bus, T: Tagger> Model for LineMemory<B, T> {
         × IsKept {B = B} {T = T} (tags_of T.data_tag_of T.node_tag_of memory.tags) (B.told memory.bus) (record {
           bus = memory.bus;
           engine = memory.tags;
-      pads = memory.pads;
+          pads = memory.pads;
           counters = memory.counters.items;
           limit = memory.page_limit;
           stopped = memory.stopped;

@@ -34,7 +34,6 @@ impl PadEngine {
     /// An engine with this key that enciphered nothing.
     pub fn new(alloc: Global, enc_key: &[u8; 16]) -> Result<PadEngine, NoMemory>
         ensures fresh { IfOk result (λ engine. engine ≡ new_stream enc_key.now) }
-        ensures sure { IsOk result }
     {
         Ok(PadEngine {
             key: Key::new(enc_key),

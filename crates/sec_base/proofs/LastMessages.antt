@@ -1,5 +1,5 @@
 -- The last item of a list that has a part.
-use Rattle.std.proofs.Common.{◌≡◌, ℕ, ◌+◌, Bool, true, false, cond, nat_eq, zero, suc, List, [], ◌∷◌, ◌++◌, length, fold, Option, Some, None, refl, ap, sym, ◌∙◌, arith, length-append, append_assoc, append-nil, Contains}
+use Rattle.std.proofs.Common.{◌≡◌, ℕ, ◌+◌, Bool, true, false, cond, nat_eq, zero, suc, List, [], ◌∷◌, ◌++◌, length, fold, Option, Some, None, refl, ap, sym, ◌∙◌, arith, length-append, append_assoc, append-nil, subst}
 use Rattle.std.specs.Option.{option_map, option_or}
 use Rattle.std.specs.List.{slice_get, filter_map}
 use Rattle.std.proofs.lemmas.List.Sums.{fold-append}
@@ -161,9 +161,6 @@ unfolding last_at data_pairs
 last_pair-data_pairs line made =
     pairs_on line made (0, None) (0, None) refl ∙ mapped_twice (λ (found : ℕ × (Counter × List ℕ)). found.1) (λ (found : Counter × List ℕ). found.0) (last_at (data_part line) made)
 
-Contains-skip : {A : Type 0} (first : A) (rest : List A) (item : A) → Contains rest item → Contains (first ∷ rest) item
-Contains-skip first rest item listed = (suc listed.0, omega (arith, listed.1), listed.2)
-
 none_front : {A B : Type 0} (part : A → Option B) (front more : List A) → last_of part (front ++ more) ≡ None → last_of part front ≡ None
 unfolding last_at
 none_front {A} {B} part front more e =
@@ -176,32 +173,14 @@ none_front {A} {B} part front more e =
     kept_none part more (fold (passed part) start front) (sym (ap (λ (seen : ℕ × Option (ℕ × B)). seen.1) whole) ∙ none) in
     ap (λ (found : Option (ℕ × B)). option_map (λ (x : ℕ × B). x.1) found) front_none
 
--- the lines and counters of messages that follow one another
-pub data_pairs-append : (front more : List Message) → data_pairs (front ++ more) ≡ data_pairs front ++ data_pairs more
+pairs-append : (front more : List Message) → data_pairs (front ++ more) ≡ data_pairs front ++ data_pairs more
 unfolding data_pairs
-data_pairs-append [] more = refl
-data_pairs-append (Node level index block ∷ front) more = data_pairs-append front more
-data_pairs-append (Line line counter cipher ∷ front) more = ap (λ (pairs : List (ℕ × Counter)). (line, counter) ∷ pairs) (data_pairs-append front more)
+pairs-append [] more = refl
+pairs-append (Node level index block ∷ front) more = pairs-append front more
+pairs-append (Line line counter cipher ∷ front) more = ap (λ (pairs : List (ℕ × Counter)). (line, counter) ∷ pairs) (pairs-append front more)
 
--- a line and a counter among them are those of a message
-pub record HasMessage (made : List Message) (line : ℕ) (counter : Counter) : Type 0 where
-  pub cipher : List ℕ
-  pub listed : Contains made (Line line counter cipher)
-
-pub pair_made : (made : List Message) (line : ℕ) (counter : Counter) → Contains (data_pairs made) (line, counter) → HasMessage made line counter
-unfolding data_pairs
-pair_made [] line counter (k, below, at) = absurd (omega (arith, below))
-pair_made (Node level index block ∷ made) line counter listed =
-    let found = pair_made made line counter listed in
-    record { cipher = found.cipher; listed = Contains-skip (Node level index block) made (Line line counter found.cipher) found.listed }
-pair_made (Line other later cipher ∷ made) line counter (zero, below, at) =
-    let lines : other ≡ line = ap (λ (p : ℕ × Counter). p.0) at in
-    let counters : later ≡ counter = ap (λ (p : ℕ × Counter). p.1) at in
-    record { cipher = cipher; listed = (zero, omega arith, ap (λ (l : ℕ). Line l later cipher) lines ∙ ap (λ (c : Counter). Line line c cipher) counters) }
-pair_made (Line other later cipher ∷ made) line counter (suc k, below, at) =
-    let found = pair_made made line counter (k, omega (arith, below), at) in
-    record { cipher = found.cipher; listed = Contains-skip (Line other later cipher) made (Line line counter found.cipher) found.listed }
-
--- a line of which no later entry speaks was fresh before
-pub fresh_front : (line : ℕ) (front more : List (ℕ × Counter)) → IsFresh line (front ++ more) → IsFresh line front
-fresh_front line front more fresh = none_front (counter_part line) front more fresh
+-- a line of which no message speaks was fresh before
+pub fresh_front : (line : ℕ) (front more : List Message) → IsFresh line (data_pairs (front ++ more)) → IsFresh line (data_pairs front)
+fresh_front line front more fresh =
+    none_front (counter_part line) (data_pairs front) (data_pairs more)
+    (subst (λ (pairs : List (ℕ × Counter)). IsFresh line pairs) (pairs-append front more) fresh)

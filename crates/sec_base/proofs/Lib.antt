@@ -8,4 +8,3 @@ pub mod SameMessages
 pub mod SamePlaces
 pub mod JoinedLines
 pub mod LineNumbers
-pub mod RisingCounters

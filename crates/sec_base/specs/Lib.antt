@@ -16,4 +16,3 @@ pub mod Last
 pub mod Evidence
 pub mod Nodes
 pub mod Places
-pub mod Used

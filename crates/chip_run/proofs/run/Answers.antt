@@ -8,7 +8,7 @@ use Rattle.tag_engine.specs.Engine.{tags_of}
 use Rattle.chip_run.specs.Contents.{contents_of}
 use Rattle.chip_run.specs.Protected.{new_protected}
 use Rattle.chip_run.specs.Session.{IsStop, FollowsWith}
-use Rattle.chip_run.proofs.Runs.{opening_zeros, opening_follows, nothing_follows, levels_stay, key_stays, no_repeat, nothing_rising, nothing_paired, limit_stays, limit_stored, limited_by, never_limited, reads_stay, reads_stored, written_out, budget_ends, honest_run}
+use Rattle.chip_run.proofs.Runs.{opening_zeros, opening_follows, nothing_follows, levels_stay, key_stays, no_repeat, nothing_rising, nothing_paired, nothing_numbered, limit_stays, limit_stored, limited_by, never_limited, reads_stay, reads_stored, written_out, budget_ends, honest_run}
 use Rattle.chip_run.proofs.run.Given.{Over}
 use Rattle.chip_run.proofs.run.Goals as goal
 
@@ -130,10 +130,13 @@ pub returns-in-Err-clause-no_repeat : goal.returns-in-Err-clause-no_repeat
 returns-in-Err-clause-no_repeat g c = λ quiet. no_repeat c.no_run.result.used (nothing_rising c.no_run.result.used c.no_run.ensures.used)
 
 pub returns-in-Err-clause-paired : goal.returns-in-Err-clause-paired
-returns-in-Err-clause-paired g c = λ quiet. nothing_paired c.no_run.result.made c.no_run.result.used c.no_run.ensures.made c.no_run.ensures.used
+returns-in-Err-clause-paired g c = λ quiet. nothing_paired (line_count c.args.setup.now.geometry) c.no_run.result.made c.no_run.result.used c.no_run.ensures.made c.no_run.ensures.used
 
 pub returns-in-Err-store_image-clause-no_repeat : goal.returns-in-Err-store_image-clause-no_repeat
 returns-in-Err-store_image-clause-no_repeat g c = λ quiet. no_repeat c.close.result.0.used (rw c.close.ensures.used c.close.ensures.rising)
 
 pub returns-clause-no_repeat : goal.returns-clause-no_repeat
 returns-clause-no_repeat g c = λ quiet. no_repeat c.close-2.result.0.used (rw c.close-2.ensures.used c.close-2.ensures.rising)
+
+pub returns-in-Err-clause-numbered : goal.returns-in-Err-clause-numbered
+returns-in-Err-clause-numbered g c = λ quiet. nothing_numbered (line_count c.args.setup.now.geometry) c.no_run.result.used c.no_run.ensures.used

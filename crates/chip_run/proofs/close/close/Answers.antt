@@ -1,5 +1,5 @@
 use Rattle.tag_engine.specs.Engine.{tags_of}
-use Rattle.chip_run.proofs.Closing.{ended_answers, ended_kept, ended_limited, ended_spent}
+use Rattle.chip_run.proofs.Closing.{ended_answers, ended_kept, ended_limited, ended_numbered, ended_paired, ended_spent}
 use Rattle.chip_run.proofs.close.close.Goals as goal
 
 pub returns-clause-answers : goal.returns-clause-answers
@@ -19,7 +19,11 @@ returns-clause-limited g c = λ line.
 
 pub returns-clause-paired : goal.returns-clause-paired
 returns-clause-paired g c =
-    (ended_kept (tags_of g.T.Tagger.data_tag_of g.T.Tagger.node_tag_of) g.B.Bus.told c.into_lines.result c.args.memory.lines c.into_lines.ensures c.finish-account.ensures.kept).paired
+    ended_paired (tags_of g.T.Tagger.data_tag_of g.T.Tagger.node_tag_of) g.B.Bus.told c.into_lines.result c.args.memory.lines c.into_lines.ensures c.finish-account.ensures.kept
+
+pub returns-clause-numbered : goal.returns-clause-numbered
+returns-clause-numbered g c =
+    ended_numbered (tags_of g.T.Tagger.data_tag_of g.T.Tagger.node_tag_of) g.B.Bus.told c.into_lines.result c.args.memory.lines c.into_lines.ensures c.finish-account.ensures.kept
 
 pub returns-clause-rising : goal.returns-clause-rising
 returns-clause-rising g c =
