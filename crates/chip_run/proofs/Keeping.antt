@@ -1,5 +1,5 @@
 -- What a protected memory keeps over a read and a write of a line.
-use Rattle.std.proofs.Common.{◌≡◌, ◌≢◌, ℕ, ◌+◌, ◌/◌, ◌<◌, ◌≤◌, ◌⊎◌, inl, inr, Bool, true, false, cond, nat_eq, List, [], ◌∷◌, ◌++◌, length, take, drop, Option, Some, None, IfSome, Contains, Result, Ok, Err, slice_index, slice_set, replicate, refl, ap, sym, ◌∙◌, subst, arith}
+use Rattle.std.proofs.Common.{◌≡◌, ◌≢◌, ℕ, ◌+◌, ◌/◌, ◌<◌, ◌⊎◌, inl, inr, Bool, true, false, cond, nat_eq, List, [], ◌∷◌, ◌++◌, length, take, drop, Option, Some, None, IfSome, Contains, Err, slice_index, slice_set, replicate, refl, ap, sym, ◌∙◌, subst, arith}
 use Rattle.std.specs.Option.{option_or}
 use Rattle.std.proofs.lemmas.Bool.{cases_eq}
 use Rattle.std.proofs.lemmas.Bool.Decides.{Decides-eqb}
@@ -17,7 +17,7 @@ use Rattle.sec_base.specs.declared.account.Evidence.{Evidence}
 use Rattle.sec_base.specs.declared.account.Evidence.TheVariants.{Forgery, Collision}
 use Rattle.sec_base.specs.declared.answers.MemStop.{MemStop}
 use Rattle.sec_base.specs.declared.answers.MemStop.TheVariants.{Tampered, Spent, NoMemory}
-use Rattle.sec_base.specs.Evidence.{sealed_bytes, sealed_of, LineFails, Fails, IsEvidence, HasLastCounter}
+use Rattle.sec_base.specs.Evidence.{sealed_bytes, sealed_of, LineFails, IsEvidence, HasLastCounter}
 use Rattle.sec_base.specs.Last.{last_at, last_data, last_pair, data_pairs}
 use Rattle.sec_base.specs.Layout.{line_count}
 use Rattle.sec_base.specs.Messages.{has_message}
@@ -25,7 +25,7 @@ use Rattle.sec_base.proofs.SameMessages.{has_message-Decides}
 use Rattle.sec_base.proofs.SamePlaces.{at_place-here, at_place-there, false_from}
 use Rattle.bus_model.specs.Told.{Told, Lie, NothingWritten, after_read, after_write, after_answer, after_lie, first_lie}
 use Rattle.bus_model.proofs.Steps.{true_or_false, answered, lied, read_levels, read_written}
-use Rattle.tag_engine.specs.Engine.{Engine, new_engine, tags_of, forgery_of, after_check, after_make, with_room}
+use Rattle.tag_engine.specs.Engine.{Engine, new_engine, tags_of, forgery_of, after_make, with_room}
 use Rattle.tag_engine.proofs.Forgeries.{known, still_genuine}
 use Rattle.pad_stream.specs.Used.{AreRising}
 use Rattle.sec_base.specs.Places.{zeros_of}
@@ -33,8 +33,8 @@ use Rattle.pad_stream.proofs.RisingCounters.{rising_nothing, rising_more}
 use Rattle.chip_run.proofs.Pairs.{data_pairs-append}
 use Rattle.pad_stream.specs.Stream.{Stream, new_stream, after_encrypt, with_room as pads_with_room}
 use Rattle.chip_run.specs.Contents.{line_writes, sealed_line, IsSpent, IsSealed, HoldsSealed, HoldsLast}
-use Rattle.chip_run.specs.Account.{HonestOrCaught, IsHonest, IsCaught, IsOfFirstLie}
-use Rattle.chip_run.specs.Protected.{Protected, IsKept, AreCounted, IsNumbered, Passed, Failed, IsCheckedRead, lasting_stop, after_line, writes_of, times_tagged}
+use Rattle.chip_run.specs.Account.{HonestOrCaught, IsOfFirstLie}
+use Rattle.chip_run.specs.Protected.{IsKept, AreCounted, Passed, IsCheckedRead, lasting_stop, after_line, writes_of, times_tagged}
 use Rattle.chip_run.proofs.LineMessages.{some_same, last_data-same, last_data-other, last_made, last_pair-some, counted_new, counted_more, writes_same, behind}
 
 -- Sealed lines
@@ -520,11 +520,13 @@ sealed_more tag_of made more used more_used line bytes is = record {
 
 holds_more : (tag_of : Message → List ℕ) (lines : ℕ) (made more : List Message) (used more_used : List (ℕ × Counter)) (written : Place → List ℕ) →
     HoldsSealed tag_of lines made used written → HoldsSealed tag_of lines (made ++ more) (used ++ more_used) written
-holds_more tag_of lines made more used more_used written was = record { holds = λ line inside.
-    elim (was.holds line inside) [
-      | inl zeros ↦ inl zeros
-      | inr is ↦ inr (sealed_more tag_of made more used more_used line (written (line_place line)) is)
-    ] }
+holds_more tag_of lines made more used more_used written was = record {
+  holds = λ line inside.
+      elim (was.holds line inside) [
+        | inl zeros ↦ inl zeros
+        | inr is ↦ inr (sealed_more tag_of made more used more_used line (written (line_place line)) is)
+      ];
+}
 
 module _ {B T : Type 0} (d n : T → List ℕ → List ℕ) (told : Told) (bus bus' : B) (engine engine' : Engine T) (pads pads' : Stream) (counters counters' : List ℕ) (limit : ℕ) (stopped : Option MemStop) (line writes : ℕ) (cipher : List ℕ)
     (kept : IsKept (tags_of d n engine) told (record { bus = bus; engine = engine; pads = pads; counters = counters; limit = limit; stopped = stopped }))
@@ -532,7 +534,6 @@ module _ {B T : Type 0} (d n : T → List ℕ → List ℕ) (told : Told) (bus b
     (below : writes < limit) (long : length cipher ≡ 64) (set : counters' ≡ slice_set counters line (writes + 1))
     (tagged : engine' ≡ after_make (Line line (record { page = writes + 1; line = 0 }) cipher) (with_room 1 engine))
     (enciphered_is : pads' ≡ after_encrypt line (record { page = writes + 1; line = 0 }) (pads_with_room 1 pads)) where
-
   abbrev counter : Counter
   counter = record { page = writes + 1; line = 0 }
 
@@ -602,22 +603,24 @@ module _ {B T : Type 0} (d n : T → List ℕ → List ℕ) (told : Told) (bus b
   line_after = sealed_line (tags_of d n engine) line (record { page = writes + 1; line = 0 }) cipher
 
   stored_more : engine.evidence ≡ None → HoldsLast (tags_of d n engine) (line_count engine.levels) made_after (at_place (line_place line) line_after told.written)
-  stored_more quiet = record { holds = λ other counter' cipher' within last.
-      elim (cases_eq other line) [
-        | inl same ↦
-            let mine : Counter × List ℕ = (record { page = writes + 1; line = 0 }, cipher) in
-            let theirs : Counter × List ℕ = (counter', cipher') in
-            let here : last_data other made_after ≡ Some mine = ap (λ (l : ℕ). last_data l made_after) same ∙ last_data-same engine.made line (record { page = writes + 1; line = 0 }) cipher in
-            let pair : mine ≡ theirs = some_same mine theirs (sym here ∙ last) in
-            ap (λ (l : ℕ). at_place (line_place line) line_after told.written (line_place l)) same
-            ∙ at_place-here (line_place line) line_after told.written
-            ∙ ap (λ (p : Counter × List ℕ). sealed_line (tags_of d n engine) line p.0 p.1) pair
-            ∙ ap (λ (l : ℕ). sealed_line (tags_of d n engine) l counter' cipher') (sym same)
-        | inr differs ↦
-            let apart : line_place other ≢ line_place line = λ e. differs (cc) in
-            at_place-there (line_place line) (line_place other) line_after told.written apart
-            ∙ (kept.stored quiet going).holds other counter' cipher' within (sym (last_data-other engine.made line other (record { page = writes + 1; line = 0 }) cipher differs) ∙ last)
-      ] }
+  stored_more quiet = record {
+    holds = λ other counter' cipher' within last.
+        elim (cases_eq other line) [
+          | inl same ↦
+              let mine : Counter × List ℕ = (record { page = writes + 1; line = 0 }, cipher) in
+              let theirs : Counter × List ℕ = (counter', cipher') in
+              let here : last_data other made_after ≡ Some mine = ap (λ (l : ℕ). last_data l made_after) same ∙ last_data-same engine.made line (record { page = writes + 1; line = 0 }) cipher in
+              let pair : mine ≡ theirs = some_same mine theirs (sym here ∙ last) in
+              ap (λ (l : ℕ). at_place (line_place line) line_after told.written (line_place l)) same
+              ∙ at_place-here (line_place line) line_after told.written
+              ∙ ap (λ (p : Counter × List ℕ). sealed_line (tags_of d n engine) line p.0 p.1) pair
+              ∙ ap (λ (l : ℕ). sealed_line (tags_of d n engine) l counter' cipher') (sym same)
+          | inr differs ↦
+              let apart : line_place other ≢ line_place line = λ e. differs (cc) in
+              at_place-there (line_place line) (line_place other) line_after told.written apart
+              ∙ (kept.stored quiet going).holds other counter' cipher' within (sym (last_data-other engine.made line other (record { page = writes + 1; line = 0 }) cipher differs) ∙ last)
+        ];
+  }
 
   sealed_here : IsSealed (tags_of d n engine) made_after used_after line line_after
   sealed_here = record {
@@ -632,19 +635,21 @@ module _ {B T : Type 0} (d n : T → List ℕ → List ℕ) (told : Told) (bus b
   sealed_after =
       let was = holds_more (tags_of d n engine) (line_count engine.levels) engine.made (Line line (record { page = writes + 1; line = 0 }) cipher ∷ [])
       pads.used ((line, record { page = writes + 1; line = 0 }) ∷ []) told.written kept.sealed in
-      record { holds = λ other within.
-          elim (cases_eq other line) [
-            | inl same ↦
-                let here : at_place (line_place line) line_after told.written (line_place line) ≡ line_after = at_place-here (line_place line) line_after told.written in
-                subst (λ (l : ℕ). (at_place (line_place line) line_after told.written (line_place l) ≡ zeros_of (line_place l))
-                ⊎ IsSealed (tags_of d n engine) made_after used_after l (at_place (line_place line) line_after told.written (line_place l))) (sym same)
-                (inr (subst (λ (bytes : List ℕ). IsSealed (tags_of d n engine) made_after used_after line bytes) (sym here) sealed_here))
-            | inr differs ↦
-                let apart : line_place other ≢ line_place line = λ e. differs (cc) in
-                let there : at_place (line_place line) line_after told.written (line_place other) ≡ told.written (line_place other) =
-                at_place-there (line_place line) (line_place other) line_after told.written apart in
-                subst (λ (bytes : List ℕ). (bytes ≡ zeros_of (line_place other)) ⊎ IsSealed (tags_of d n engine) made_after used_after other bytes) (sym there) (was.holds other within)
-          ] }
+      record {
+        holds = λ other within.
+            elim (cases_eq other line) [
+              | inl same ↦
+                  let here : at_place (line_place line) line_after told.written (line_place line) ≡ line_after = at_place-here (line_place line) line_after told.written in
+                  subst (λ (l : ℕ). (at_place (line_place line) line_after told.written (line_place l) ≡ zeros_of (line_place l))
+                  ⊎ IsSealed (tags_of d n engine) made_after used_after l (at_place (line_place line) line_after told.written (line_place l))) (sym same)
+                  (inr (subst (λ (bytes : List ℕ). IsSealed (tags_of d n engine) made_after used_after line bytes) (sym here) sealed_here))
+              | inr differs ↦
+                  let apart : line_place other ≢ line_place line = λ e. differs (cc) in
+                  let there : at_place (line_place line) line_after told.written (line_place other) ≡ told.written (line_place other) =
+                  at_place-there (line_place line) (line_place other) line_after told.written apart in
+                  subst (λ (bytes : List ℕ). (bytes ≡ zeros_of (line_place other)) ⊎ IsSealed (tags_of d n engine) made_after used_after other bytes) (sym there) (was.holds other within)
+            ];
+      }
 
   wrote_with : (told' : Told) (stopped' : Option MemStop) →
       IsKept (tags_of d n (after_make (Line line (record { page = writes + 1; line = 0 }) cipher) (with_room 1 engine))) told' (record {

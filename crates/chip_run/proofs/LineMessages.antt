@@ -1,5 +1,5 @@
 -- The messages of lines, and one more of them.
-use Rattle.std.proofs.Common.{◌≡◌, ◌≢◌, ℕ, zero, suc, ◌+◌, ◌<◌, ◌≤◌, ◌⊎◌, inl, inr, Bool, true, false, cond, nat_eq, List, [], ◌∷◌, ◌++◌, length, Option, Some, None, Contains, slice_index, slice_index_or, slice_set, replicate, refl, ap, sym, ◌∙◌, subst, arith, get_or-set_other}
+use Rattle.std.proofs.Common.{◌≡◌, ◌≢◌, ℕ, zero, suc, ◌+◌, ◌<◌, ◌≤◌, inl, inr, Bool, true, false, cond, nat_eq, List, [], ◌∷◌, ◌++◌, length, Option, Some, None, Contains, slice_index, slice_index_or, slice_set, replicate, refl, ap, sym, ◌∙◌, subst, arith, get_or-set_other}
 use Rattle.std.specs.Option.{option_map}
 use Rattle.std.specs.List.{slice_get}
 use Rattle.std.proofs.lemmas.Bool.{cases_eq}
@@ -17,7 +17,7 @@ use Rattle.pad_stream.specs.Pad.{enciphered}
 use Rattle.sec_base.proofs.LastMessages.{last_of_same, last_of_other, linked, HasPart, last_pair-data_pairs}
 use Rattle.chip_run.proofs.Pairs.{pair_made, data_pairs-append}
 use Rattle.sec_base.proofs.SamePlaces.{false_from}
-use Rattle.sec_base.proofs.JoinedLines.{with_line-joined_lines, line_at-joined_lines}
+use Rattle.sec_base.proofs.JoinedLines.{with_line-joined_lines}
 use Rattle.chip_run.specs.Contents.{bytes_of, line_bytes, contents_of, writes_by, line_writes}
 use Rattle.chip_run.specs.LineLengths.{length-line_bytes}
 use Rattle.chip_run.specs.Protected.{IsNumbered, AreCounted, writes_of, times_tagged}

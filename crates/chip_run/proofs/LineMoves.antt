@@ -1,16 +1,14 @@
 -- What a read and a write of a line make of a protected memory.
-use Rattle.std.proofs.Common.{◌≡◌, ◌≢◌, ℕ, zero, suc, ◌+◌, ◌<◌, ◌≤◌, ◌⊎◌, inl, inr, Bool, true, false, cond, List, [], ◌∷◌, ◌++◌, length, Option, Some, None, Contains, Result, Ok, Err, slice_index, refl, ap, sym, ◌∙◌, subst, arith}
+use Rattle.std.proofs.Common.{◌≡◌, ℕ, zero, suc, ◌<◌, inl, inr, Bool, true, false, cond, List, [], ◌∷◌, ◌++◌, Option, Some, None, Contains, Err, slice_index, refl, ap, sym, ◌∙◌, subst, arith}
 use Rattle.std.specs.Option.{option_or}
 use Rattle.std.proofs.lemmas.List.{append-nil}
 use Rattle.sec_base.specs.Count.{more_by, Rose, RoseBy}
 use Rattle.sec_base.specs.Places.{place_eq, at_place}
-use Rattle.sec_base.specs.Last.{last_data, last_pair, IsFresh}
-use Rattle.sec_base.specs.Layout.{line_count}
-use Rattle.sec_base.specs.Lines.{line_at, with_line}
+use Rattle.sec_base.specs.Last.{last_data, IsFresh}
+use Rattle.sec_base.specs.Lines.{line_at}
 use Rattle.sec_base.specs.declared.layout.Place.{Place}
 use Rattle.sec_base.specs.declared.layout.Place.TheVariants.{Line as line_place}
 use Rattle.sec_base.specs.declared.sealing.Counter.{Counter}
-use Rattle.sec_base.specs.declared.sealing.Sealed.{Sealed}
 use Rattle.sec_base.specs.declared.account.Message.{Message}
 use Rattle.sec_base.specs.declared.account.Message.TheVariants.{Line}
 use Rattle.sec_base.specs.declared.account.Evidence.{Evidence}
@@ -18,15 +16,15 @@ use Rattle.sec_base.specs.declared.answers.MemStop.{MemStop}
 use Rattle.sec_base.specs.declared.answers.MemStop.TheVariants.{Tampered, Spent, NoMemory}
 use Rattle.sec_base.proofs.SamePlaces.{place_eq-Decides}
 use Rattle.sec_base.proofs.JoinedLines.{line_at-joined_lines}
-use Rattle.bus_model.specs.Told.{Told, after_read, after_write}
+use Rattle.bus_model.specs.Told.{Told, after_read}
 use Rattle.bus_model.proofs.Steps.{read_reads, read_rose}
-use Rattle.tag_engine.specs.Engine.{Engine, forgery_of, after_check, after_make, with_room}
+use Rattle.tag_engine.specs.Engine.{Engine, forgery_of, after_make, with_room}
 use Rattle.pad_stream.specs.Stream.{Stream, after_encrypt, with_room as pads_with_room}
 use Rattle.chip_run.specs.Contents.{bytes_of, line_bytes, contents_of}
 use Rattle.chip_run.specs.LineLengths.{length-line_bytes}
 use Rattle.chip_run.specs.Moving.{moves_not}
-use Rattle.chip_run.specs.Protected.{Protected, Moves, WereRead, ReadMoved, IsMoved, Passed, Failed, IsCheckedRead, AreCounted, after_line, writes_of, lasting_stop}
-use Rattle.chip_run.proofs.LineMessages.{last_made, last_pair-none}
+use Rattle.chip_run.specs.Protected.{Protected, Moves, WereRead, ReadMoved, IsMoved, Passed, IsCheckedRead, AreCounted, writes_of, lasting_stop}
+use Rattle.chip_run.proofs.LineMessages.{last_made}
 
 -- Counts of reads
 

@@ -1,5 +1,5 @@
 -- Lines and counters, and the messages that they are of.
-use Rattle.std.proofs.Common.{◌≡◌, ℕ, zero, suc, ◌+◌, ◌<◌, ◌≤◌, Bool, true, cond, nat_lt, List, [], ◌∷◌, ◌++◌, Option, Some, None, Contains, refl, ap, sym, ◌∙◌, subst, arith}
+use Rattle.std.proofs.Common.{◌≡◌, ℕ, zero, suc, Bool, true, cond, nat_lt, List, [], ◌∷◌, ◌++◌, Contains, refl, ap, sym, ◌∙◌, subst, arith}
 use Rattle.std.specs.List.{filter}
 use Rattle.sec_base.specs.declared.sealing.Counter.{Counter}
 use Rattle.sec_base.specs.declared.account.Message.{Message}
@@ -42,10 +42,12 @@ pair_made (Line other later cipher ∷ made) line counter (suc k, below, at) =
 -- what was enciphered is of the memory's lines, each under a counter of its own
 pub pairs_numbered : (lines limit : ℕ) (made : List Message) (used : List (ℕ × Counter)) (counters : List ℕ) → AreCounted lines limit made counters → data_pairs made ≡ used →
     AreNumbered lines used
-pairs_numbered lines limit made used counters counted paired = record { numbered = λ line counter listed.
-    let found = pair_made made line counter (subst (λ (xs : List (ℕ × Counter)). Contains xs (line, counter)) (sym paired) listed) in
-    let numbered = counted.numbered line counter found.cipher found.listed in
-    (counted.inside line counter found.cipher found.listed, numbered.least, numbered.own) }
+pairs_numbered lines limit made used counters counted paired = record {
+  numbered = λ line counter listed.
+      let found = pair_made made line counter (subst (λ (xs : List (ℕ × Counter)). Contains xs (line, counter)) (sym paired) listed) in
+      let numbered = counted.numbered line counter found.cipher found.listed in
+      (counted.inside line counter found.cipher found.listed, numbered.least, numbered.own);
+}
 
 -- a test that all pass leaves nothing out
 kept_all : {A : Type 0} (passes : A → Bool) (items : List A) → ((item : A) → Contains items item → passes item ≡ true) → filter passes items ≡ items

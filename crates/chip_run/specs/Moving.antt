@@ -1,18 +1,15 @@
 -- What calls make of a protected memory, one after another.
-use Rattle.std.proofs.Common.{◌≡◌, ◌⊎◌, inl, inr, ℕ, ◌+◌, ◌≤◌, List, [], ◌∷◌, ◌++◌, Option, Some, None, Contains, refl, ap, sym, ◌∙◌, subst, arith, append_assoc}
+use Rattle.std.proofs.Common.{◌≡◌, ◌⊎◌, inl, inr, ℕ, List, [], ◌∷◌, ◌++◌, Option, Some, None, Contains, refl, ap, sym, ◌∙◌, subst, arith, append_assoc}
 use Rattle.std.proofs.lemmas.List.{append-nil}
 use Rattle.std.proofs.lemmas.List.Elements.{Contains-append_cases}
-use Rattle.sec_base.specs.Count.{Rose, RoseBy}
+use Rattle.sec_base.specs.Count.{Rose}
 use Rattle.sec_base.specs.Last.{IsFresh, data_pairs}
 use Rattle.sec_base.specs.declared.sealing.Counter.{Counter}
-use Rattle.sec_base.specs.declared.layout.Place.{Place}
 use Rattle.sec_base.specs.declared.layout.Place.TheVariants.{Line as line_place}
 use Rattle.sec_base.specs.declared.account.Message.{Message}
 use Rattle.sec_base.specs.declared.account.Message.TheVariants.{Line}
-use Rattle.sec_base.specs.declared.account.Evidence.{Evidence}
-use Rattle.sec_base.specs.declared.answers.MemStop.{MemStop}
 use Rattle.bus_model.specs.Told.{Told}
-use Rattle.chip_run.specs.Protected.{Protected, Moves, WereRead, IsMoved}
+use Rattle.chip_run.specs.Protected.{Protected, Moves, IsMoved}
 use Rattle.sec_base.proofs.LastMessages.{fresh_front}
 
 pub moves_not : {B T : Type 0} (told : B → Told) (memory : Protected B T) → Moves told memory memory

@@ -48,7 +48,7 @@ impl<B: Bus, T: Tagger> Model for LineMemory<B, T> {
     ghost view = { λ memory. record {
       bus = memory.bus;
       engine = memory.tags;
-          pads = memory.pads;
+      pads = memory.pads;
       counters = memory.counters.items;
       limit = memory.page_limit;
       stopped = memory.stopped;
@@ -254,7 +254,14 @@ impl<B: Bus, T: Tagger> LineStore for LineMemory<B, T> {
         }
         let counter = counter_of(writes + 1);
         self.counters[line as usize] = writes + 1;
-        match write_sealed(&mut self.bus, &mut self.tags, &mut self.pads, line, counter, bytes) {
+        match write_sealed(
+            &mut self.bus,
+            &mut self.tags,
+            &mut self.pads,
+            line,
+            counter,
+            bytes,
+        ) {
             Ok(()) => Ok(()),
             Err(_) => {
                 self.stopped = Some(MemStop::NoMemory);

@@ -42,22 +42,24 @@ same_entry first second same = (ap (λ (p : ℕ × Counter). p.0) same, ap (λ (
 -- an entry more, behind all of its line
 pub rising_more : (used : List (ℕ × Counter)) (line : ℕ) (counter : Counter) → AreRising used →
     ((before : Counter) → Contains used (line, before) → IsBefore before counter) → AreRising (used ++ (line, counter) ∷ [])
-rising_more used line counter rising behind = record { rise = λ first second other was later order here there.
-    elim (get_more used (line, counter) (other, later) second there) [
-      | inl early ↦
-          elim (get_more used (line, counter) (other, was) first here) [
-            | inl before ↦ rising.rise first second other was later order before.1 early.1
-            | inr last ↦ absurd (omega (arith, last.0, early.0))
-          ]
-      | inr late ↦
-          let entry = same_entry (line, counter) (other, later) late.1 in
-          elim (get_more used (line, counter) (other, was) first here) [
-            | inl before ↦
-                let listed : Contains used (line, was) = subst (λ (l : ℕ). Contains used (l, was)) (sym entry.0) (get_listed used first (other, was) before.1) in
-                subst (λ (c : Counter). IsBefore was c) entry.1 (behind was listed)
-            | inr last ↦ absurd (omega (arith, last.0, late.0))
-          ]
-    ] }
+rising_more used line counter rising behind = record {
+  rise = λ first second other was later order here there.
+      elim (get_more used (line, counter) (other, later) second there) [
+        | inl early ↦
+            elim (get_more used (line, counter) (other, was) first here) [
+              | inl before ↦ rising.rise first second other was later order before.1 early.1
+              | inr last ↦ absurd (omega (arith, last.0, early.0))
+            ]
+        | inr late ↦
+            let entry = same_entry (line, counter) (other, later) late.1 in
+            elim (get_more used (line, counter) (other, was) first here) [
+              | inl before ↦
+                  let listed : Contains used (line, was) = subst (λ (l : ℕ). Contains used (l, was)) (sym entry.0) (get_listed used first (other, was) before.1) in
+                  subst (λ (c : Counter). IsBefore was c) entry.1 (behind was listed)
+              | inr last ↦ absurd (omega (arith, last.0, late.0))
+            ]
+      ];
+}
 
 pub rising_nothing : AreRising []
 rising_nothing = record { rise = λ first second line counter later order here there. absurd (cc) }
@@ -68,14 +70,16 @@ not_before counter (inr line) = omega (arith, line.1)
 
 -- counters that rise don't repeat
 pub rising_once : (used : List (ℕ × Counter)) → AreRising used → NoRepeat used
-rising_once used rising = record { once = λ first second entry here there.
-    elim (cases_lt first second) [
-      | inl before ↦ absurd (not_before entry.1 (rising.rise first second entry.0 entry.1 entry.1 before here there))
-      | inr after ↦
-          elim (cases_eq first second) [
-            | inl same ↦ same
-            | inr differs ↦
-                let behind : second < first = omega arith in
-                absurd (not_before entry.1 (rising.rise second first entry.0 entry.1 entry.1 behind there here))
-          ]
-    ] }
+rising_once used rising = record {
+  once = λ first second entry here there.
+      elim (cases_lt first second) [
+        | inl before ↦ absurd (not_before entry.1 (rising.rise first second entry.0 entry.1 entry.1 before here there))
+        | inr after ↦
+            elim (cases_eq first second) [
+              | inl same ↦ same
+              | inr differs ↦
+                  let behind : second < first = omega arith in
+                  absurd (not_before entry.1 (rising.rise second first entry.0 entry.1 entry.1 behind there here))
+            ]
+      ];
+}

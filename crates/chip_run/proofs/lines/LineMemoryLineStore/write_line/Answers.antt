@@ -1,4 +1,4 @@
-use Rattle.std.proofs.Common.{◌≡◌, ◌+◌, ◌/◌, ◌<◌, ◌++◌, ◌∷◌, [], ℕ, List, None, Some, Err, inl, inr, length, slice_set, refl, rules, sym, ap, ◌∙◌, subst}
+use Rattle.std.proofs.Common.{◌≡◌, ◌+◌, ◌/◌, ◌<◌, ◌++◌, ◌∷◌, [], ℕ, List, None, Some, inl, inr, slice_set, refl, sym, ap, ◌∙◌, subst}
 use Rattle.sec_base.specs.Layout.{line_count}
 use Rattle.sec_base.specs.Lines.{with_line}
 use Rattle.sec_base.specs.declared.layout.Place.TheVariants.{Line as line_place}
@@ -24,13 +24,14 @@ invariant_of-self g c =
     let inside : c.args.line < line_count c.self.inside.tags.levels = rw (← c.self.view_is) at c.requires.inside in
     let counted = c.self.invariant.1.counted in
     let read = counter_read (line_count c.self.inside.tags.levels) c.self.inside.page_limit c.self.inside.tags.made c.self.inside.counters.items c.args.line c.index-writes.result.now counted inside c.index-writes.ensures in
-    let going : lasting_stop c.self.inside.stopped ≡ None = sym c.lasting.ensures ∙ c.in_default.is in
-    (c.self.invariant.0,
-    spent_kept g.T.Tagger.data_tag_of g.T.Tagger.node_tag_of (g.B.Bus.told c.self.inside.bus) c.self.inside.bus c.self.inside.bus c.self.inside.tags c.self.inside.pads
-    c.self.inside.counters.items c.self.inside.page_limit c.self.inside.stopped c.args.line c.self.invariant.1 going inside
-    (writes_same c.self.inside.tags.made c.self.inside.pads.used c.args.line c.self.invariant.1.paired
-    ∙ used_up (line_count c.self.inside.tags.levels) c.self.inside.page_limit c.self.inside.tags.made c.self.inside.counters.items c.args.line c.index-writes.result.now
-    counted inside read c.if-writes-self.true))
+    let going : lasting_stop c.self.inside.stopped ≡ None = sym c.lasting.ensures ∙ c.in_default.is in (
+      c.self.invariant.0,
+      spent_kept g.T.Tagger.data_tag_of g.T.Tagger.node_tag_of (g.B.Bus.told c.self.inside.bus) c.self.inside.bus c.self.inside.bus c.self.inside.tags c.self.inside.pads
+          c.self.inside.counters.items c.self.inside.page_limit c.self.inside.stopped c.args.line c.self.invariant.1 going inside
+          (writes_same c.self.inside.tags.made c.self.inside.pads.used c.args.line c.self.invariant.1.paired
+          ∙ used_up (line_count c.self.inside.tags.levels) c.self.inside.page_limit c.self.inside.tags.made c.self.inside.counters.items c.args.line c.index-writes.result.now
+          counted inside read c.if-writes-self.true),
+    )
 
 pub returns-then-writes-self-clause-spent : goal.returns-then-writes-self-clause-spent
 returns-then-writes-self-clause-spent g c = λ _.
@@ -44,19 +45,22 @@ returns-then-writes-self-clause-spent g c = λ _.
 
 pub invariant_of-self-in-Err : goal.invariant_of-self-in-Err
 invariant_of-self-in-Err g c =
-    let going : lasting_stop c.self.inside.stopped ≡ None = sym c.lasting.ensures ∙ c.in_default.is in
-    (c.self.invariant.0 ∙ sym (ap (λ (e : Engine g.row.T.Denot). e.levels) c.in-Err.ensures.refused),
-    memory_kept g.T.Tagger.data_tag_of g.T.Tagger.node_tag_of (g.B.Bus.told c.self.inside.bus) c.self.inside.bus c.self.inside.bus c.self.inside.tags c.self.inside.pads
-    c.self.inside.counters.items c.self.inside.page_limit c.self.inside.stopped c.reserve.new.self c.self.invariant.1 going c.in-Err.ensures.refused)
+    let going : lasting_stop c.self.inside.stopped ≡ None = sym c.lasting.ensures ∙ c.in_default.is in (
+      c.self.invariant.0 ∙ sym (ap (λ (e : Engine g.row.T.Denot). e.levels) c.in-Err.ensures.refused),
+      memory_kept g.T.Tagger.data_tag_of g.T.Tagger.node_tag_of (g.B.Bus.told c.self.inside.bus) c.self.inside.bus c.self.inside.bus c.self.inside.tags c.self.inside.pads
+          c.self.inside.counters.items c.self.inside.page_limit c.self.inside.stopped c.reserve.new.self c.self.invariant.1 going c.in-Err.ensures.refused,
+    )
 
 pub returns-in-Err-clause-spent : goal.returns-in-Err-clause-spent
 returns-in-Err-clause-spent g c = λ _.
     let inside : c.args.line < line_count c.self.inside.tags.levels = rw (← c.self.view_is) at c.requires.inside in
     let counted = c.self.invariant.1.counted in
-    let read = counter_read (line_count c.self.inside.tags.levels) c.self.inside.page_limit c.self.inside.tags.made c.self.inside.counters.items c.args.line c.index-writes.result.now counted inside c.index-writes.ensures in
-    (λ is. absurd (cc), λ full. absurd (not_used_up (line_count c.self.inside.tags.levels) c.self.inside.page_limit c.self.inside.tags.made c.self.inside.counters.items c.args.line c.index-writes.result.now
-    counted inside read c.if-writes-self.false
-    (sym (writes_same c.self.inside.tags.made c.self.inside.pads.used c.args.line c.self.invariant.1.paired) ∙ rw (← c.self.view_is) at full)))
+    let read = counter_read (line_count c.self.inside.tags.levels) c.self.inside.page_limit c.self.inside.tags.made c.self.inside.counters.items c.args.line c.index-writes.result.now counted inside c.index-writes.ensures in (
+      λ is. absurd (cc),
+      λ full. absurd (not_used_up (line_count c.self.inside.tags.levels) c.self.inside.page_limit c.self.inside.tags.made c.self.inside.counters.items c.args.line c.index-writes.result.now
+          counted inside read c.if-writes-self.false
+          (sym (writes_same c.self.inside.tags.made c.self.inside.pads.used c.args.line c.self.invariant.1.paired) ∙ rw (← c.self.view_is) at full)),
+    )
 
 pub invariant_of-self-in-Ok-write_sealed : goal.invariant_of-self-in-Ok-write_sealed
 invariant_of-self-in-Ok-write_sealed g c =
@@ -84,11 +88,12 @@ invariant_of-self-in-Ok-write_sealed g c =
     let wrote : told' ≡ after_write (line_place c.args.line) (sealed_line (tags_of d n c.self.inside.tags) c.args.line counter cipher) told =
     subst (λ (k : Counter). told' ≡ after_write (line_place c.args.line) (sealed_line (tags_of d n c.self.inside.tags) c.args.line k (enciphered key c.args.line k c.args.bytes.now)) told) c.counter_of-counter.ensures
     (subst (λ (k : List ℕ). told' ≡ after_write (line_place c.args.line) (sealed_line (tags_of d n c.self.inside.tags) c.args.line c.counter_of-counter.result (enciphered k c.args.line c.counter_of-counter.result c.args.bytes.now)) told) key_is
-    (subst (λ (e : Engine g.row.T.Denot). told' ≡ after_write (line_place c.args.line) (sealed_line (tags_of d n e) c.args.line c.counter_of-counter.result (enciphered c.reserve-2.new.self.key c.args.line c.counter_of-counter.result c.args.bytes.now)) told) c.in-Ok.ensures.taken c.in-Ok-write_sealed.ensures.ok)) in
-    (c.self.invariant.0 ∙ sym (ap (λ (e : Engine g.row.T.Denot). e.levels) tagged),
-    written_kept d n (g.B.Bus.told c.self.inside.bus) c.self.inside.bus c.write_sealed.new.bus c.self.inside.tags c.write_sealed.new.tags c.self.inside.pads c.write_sealed.new.pads
-    c.self.inside.counters.items (slice_set c.self.inside.counters.items c.args.line (c.index-writes.result.now + 1)) c.self.inside.page_limit c.self.inside.stopped c.args.line c.index-writes.result.now cipher
-    c.self.invariant.1 going inside read c.if-writes-self.false long refl tagged streamed told' wrote)
+    (subst (λ (e : Engine g.row.T.Denot). told' ≡ after_write (line_place c.args.line) (sealed_line (tags_of d n e) c.args.line c.counter_of-counter.result (enciphered c.reserve-2.new.self.key c.args.line c.counter_of-counter.result c.args.bytes.now)) told) c.in-Ok.ensures.taken c.in-Ok-write_sealed.ensures.ok)) in (
+      c.self.invariant.0 ∙ sym (ap (λ (e : Engine g.row.T.Denot). e.levels) tagged),
+      written_kept d n (g.B.Bus.told c.self.inside.bus) c.self.inside.bus c.write_sealed.new.bus c.self.inside.tags c.write_sealed.new.tags c.self.inside.pads c.write_sealed.new.pads
+          c.self.inside.counters.items (slice_set c.self.inside.counters.items c.args.line (c.index-writes.result.now + 1)) c.self.inside.page_limit c.self.inside.stopped c.args.line c.index-writes.result.now cipher
+          c.self.invariant.1 going inside read c.if-writes-self.false long refl tagged streamed told' wrote,
+    )
 
 pub invariant_of-self-in-Err-write_sealed : goal.invariant_of-self-in-Err-write_sealed
 invariant_of-self-in-Err-write_sealed g c =
@@ -110,11 +115,12 @@ invariant_of-self-in-Err-write_sealed g c =
     let streamed : c.write_sealed.new.pads ≡ after_encrypt c.args.line counter (pads_with_room 1 c.self.inside.pads) =
     c.write_sealed.ensures.pads ∙ ap (λ (p : Stream). after_encrypt c.args.line c.counter_of-counter.result p) c.in-Ok-reserve.ensures.taken
     ∙ ap (λ (k : Counter). after_encrypt c.args.line k (pads_with_room 1 c.self.inside.pads)) c.counter_of-counter.ensures in
-    let long = enciphered_long key c.args.line counter c.args.bytes.now in
-    (c.self.invariant.0 ∙ sym (ap (λ (e : Engine g.row.T.Denot). e.levels) tagged),
-    unwritten_kept d n (g.B.Bus.told c.self.inside.bus) c.self.inside.bus c.write_sealed.new.bus c.self.inside.tags c.write_sealed.new.tags c.self.inside.pads c.write_sealed.new.pads
-    c.self.inside.counters.items (slice_set c.self.inside.counters.items c.args.line (c.index-writes.result.now + 1)) c.self.inside.page_limit c.self.inside.stopped c.args.line c.index-writes.result.now cipher
-    c.self.invariant.1 going inside read c.if-writes-self.false long refl tagged streamed (g.B.Bus.told c.write_sealed.new.bus) c.in-Err-write_sealed.ensures.err)
+    let long = enciphered_long key c.args.line counter c.args.bytes.now in (
+      c.self.invariant.0 ∙ sym (ap (λ (e : Engine g.row.T.Denot). e.levels) tagged),
+      unwritten_kept d n (g.B.Bus.told c.self.inside.bus) c.self.inside.bus c.write_sealed.new.bus c.self.inside.tags c.write_sealed.new.tags c.self.inside.pads c.write_sealed.new.pads
+          c.self.inside.counters.items (slice_set c.self.inside.counters.items c.args.line (c.index-writes.result.now + 1)) c.self.inside.page_limit c.self.inside.stopped c.args.line c.index-writes.result.now cipher
+          c.self.invariant.1 going inside read c.if-writes-self.false long refl tagged streamed (g.B.Bus.told c.write_sealed.new.bus) c.in-Err-write_sealed.ensures.err,
+    )
 
 pub returns-in-Ok-write_sealed-clause-stored : goal.returns-in-Ok-write_sealed-clause-stored
 returns-in-Ok-write_sealed-clause-stored g c = λ unstopped sound.
@@ -141,7 +147,7 @@ returns-in-Ok-write_sealed-clause-stored g c = λ unstopped sound.
     let keys : c.write_sealed.new.pads.key ≡ key = ap (λ (p : Stream). p.key) streamed in
     let whole = contents_more key (line_count c.self.inside.tags.levels) c.self.inside.tags.made c.args.line counter c.args.bytes.now inside undone in
     let grown : contents_of c.write_sealed.new.pads.key (line_count c.write_sealed.new.tags.levels) c.write_sealed.new.tags.made
-        ≡ with_line (contents_of key (line_count c.self.inside.tags.levels) c.self.inside.tags.made) c.args.line c.args.bytes.now =
+    ≡ with_line (contents_of key (line_count c.self.inside.tags.levels) c.self.inside.tags.made) c.args.line c.args.bytes.now =
     ap (λ (k : List ℕ). contents_of k (line_count c.write_sealed.new.tags.levels) c.write_sealed.new.tags.made) keys
     ∙ ap (λ (xs : List Message). contents_of key (line_count c.write_sealed.new.tags.levels) xs) made
     ∙ ap (λ (l : ℕ). contents_of key (line_count l) (c.self.inside.tags.made ++ Line c.args.line counter cipher ∷ [])) levels ∙ sym whole in
@@ -185,10 +191,12 @@ pub returns-in-Ok-write_sealed-clause-spent : goal.returns-in-Ok-write_sealed-cl
 returns-in-Ok-write_sealed-clause-spent g c = λ _.
     let inside : c.args.line < line_count c.self.inside.tags.levels = rw (← c.self.view_is) at c.requires.inside in
     let counted = c.self.invariant.1.counted in
-    let read = counter_read (line_count c.self.inside.tags.levels) c.self.inside.page_limit c.self.inside.tags.made c.self.inside.counters.items c.args.line c.index-writes.result.now counted inside c.index-writes.ensures in
-    (λ is. absurd (cc), λ full. absurd (not_used_up (line_count c.self.inside.tags.levels) c.self.inside.page_limit c.self.inside.tags.made c.self.inside.counters.items c.args.line c.index-writes.result.now
-    counted inside read c.if-writes-self.false
-    (sym (writes_same c.self.inside.tags.made c.self.inside.pads.used c.args.line c.self.invariant.1.paired) ∙ rw (← c.self.view_is) at full)))
+    let read = counter_read (line_count c.self.inside.tags.levels) c.self.inside.page_limit c.self.inside.tags.made c.self.inside.counters.items c.args.line c.index-writes.result.now counted inside c.index-writes.ensures in (
+      λ is. absurd (cc),
+      λ full. absurd (not_used_up (line_count c.self.inside.tags.levels) c.self.inside.page_limit c.self.inside.tags.made c.self.inside.counters.items c.args.line c.index-writes.result.now
+          counted inside read c.if-writes-self.false
+          (sym (writes_same c.self.inside.tags.made c.self.inside.pads.used c.args.line c.self.invariant.1.paired) ∙ rw (← c.self.view_is) at full)),
+    )
 
 pub returns-in-Err-write_sealed-clause-refused : goal.returns-in-Err-write_sealed-clause-refused
 returns-in-Err-write_sealed-clause-refused g c = λ unstopped sound.
@@ -215,7 +223,7 @@ returns-in-Err-write_sealed-clause-refused g c = λ unstopped sound.
     let keys : c.write_sealed.new.pads.key ≡ key = ap (λ (p : Stream). p.key) streamed in
     let whole = contents_more key (line_count c.self.inside.tags.levels) c.self.inside.tags.made c.args.line counter c.args.bytes.now inside undone in
     let grown : contents_of c.write_sealed.new.pads.key (line_count c.write_sealed.new.tags.levels) c.write_sealed.new.tags.made
-        ≡ with_line (contents_of key (line_count c.self.inside.tags.levels) c.self.inside.tags.made) c.args.line c.args.bytes.now =
+    ≡ with_line (contents_of key (line_count c.self.inside.tags.levels) c.self.inside.tags.made) c.args.line c.args.bytes.now =
     ap (λ (k : List ℕ). contents_of k (line_count c.write_sealed.new.tags.levels) c.write_sealed.new.tags.made) keys
     ∙ ap (λ (xs : List Message). contents_of key (line_count c.write_sealed.new.tags.levels) xs) made
     ∙ ap (λ (l : ℕ). contents_of key (line_count l) (c.self.inside.tags.made ++ Line c.args.line counter cipher ∷ [])) levels ∙ sym whole in
@@ -225,10 +233,12 @@ pub returns-in-Err-write_sealed-clause-spent : goal.returns-in-Err-write_sealed-
 returns-in-Err-write_sealed-clause-spent g c = λ _.
     let inside : c.args.line < line_count c.self.inside.tags.levels = rw (← c.self.view_is) at c.requires.inside in
     let counted = c.self.invariant.1.counted in
-    let read = counter_read (line_count c.self.inside.tags.levels) c.self.inside.page_limit c.self.inside.tags.made c.self.inside.counters.items c.args.line c.index-writes.result.now counted inside c.index-writes.ensures in
-    (λ is. absurd (cc), λ full. absurd (not_used_up (line_count c.self.inside.tags.levels) c.self.inside.page_limit c.self.inside.tags.made c.self.inside.counters.items c.args.line c.index-writes.result.now
-    counted inside read c.if-writes-self.false
-    (sym (writes_same c.self.inside.tags.made c.self.inside.pads.used c.args.line c.self.invariant.1.paired) ∙ rw (← c.self.view_is) at full)))
+    let read = counter_read (line_count c.self.inside.tags.levels) c.self.inside.page_limit c.self.inside.tags.made c.self.inside.counters.items c.args.line c.index-writes.result.now counted inside c.index-writes.ensures in (
+      λ is. absurd (cc),
+      λ full. absurd (not_used_up (line_count c.self.inside.tags.levels) c.self.inside.page_limit c.self.inside.tags.made c.self.inside.counters.items c.args.line c.index-writes.result.now
+          counted inside read c.if-writes-self.false
+          (sym (writes_same c.self.inside.tags.made c.self.inside.pads.used c.args.line c.self.invariant.1.paired) ∙ rw (← c.self.view_is) at full)),
+    )
 
 pub returns-in-Ok-write_sealed-clause-raised : goal.returns-in-Ok-write_sealed-clause-raised
 returns-in-Ok-write_sealed-clause-raised g c =
@@ -254,10 +264,11 @@ returns-in-Ok-write_sealed-clause-raised g c =
 
 pub invariant_of-self-in-Err-reserve : goal.invariant_of-self-in-Err-reserve
 invariant_of-self-in-Err-reserve g c =
-    let going : lasting_stop c.self.inside.stopped ≡ None = sym c.lasting.ensures ∙ c.in_default.is in
-    (c.self.invariant.0 ∙ sym (ap (λ (e : Engine g.row.T.Denot). e.levels) c.in-Ok.ensures.taken),
-    roomed_kept g.T.Tagger.data_tag_of g.T.Tagger.node_tag_of (g.B.Bus.told c.self.inside.bus) c.self.inside.bus c.self.inside.bus c.self.inside.tags c.self.inside.pads
-    c.self.inside.counters.items c.self.inside.page_limit c.self.inside.stopped c.reserve.new.self c.reserve-2.new.self c.self.invariant.1 going c.in-Ok.ensures.taken c.in-Err-reserve.ensures.refused)
+    let going : lasting_stop c.self.inside.stopped ≡ None = sym c.lasting.ensures ∙ c.in_default.is in (
+      c.self.invariant.0 ∙ sym (ap (λ (e : Engine g.row.T.Denot). e.levels) c.in-Ok.ensures.taken),
+      roomed_kept g.T.Tagger.data_tag_of g.T.Tagger.node_tag_of (g.B.Bus.told c.self.inside.bus) c.self.inside.bus c.self.inside.bus c.self.inside.tags c.self.inside.pads
+          c.self.inside.counters.items c.self.inside.page_limit c.self.inside.stopped c.reserve.new.self c.reserve-2.new.self c.self.invariant.1 going c.in-Ok.ensures.taken c.in-Err-reserve.ensures.refused,
+    )
 
 pub returns-in-Err-reserve-clause-moved : goal.returns-in-Err-reserve-clause-moved
 returns-in-Err-reserve-clause-moved g c =
@@ -276,7 +287,7 @@ returns-in-Err-reserve-clause-moved g c =
 pub returns-in-Err-reserve-clause-refused : goal.returns-in-Err-reserve-clause-refused
 returns-in-Err-reserve-clause-refused g c = λ _ _.
     let same : contents_of c.reserve-2.new.self.key (line_count c.reserve.new.self.levels) c.reserve.new.self.made
-        ≡ contents_of c.self.inside.pads.key (line_count c.self.inside.tags.levels) c.self.inside.tags.made =
+    ≡ contents_of c.self.inside.pads.key (line_count c.self.inside.tags.levels) c.self.inside.tags.made =
     ap (λ (p : Stream). contents_of p.key (line_count c.reserve.new.self.levels) c.reserve.new.self.made) c.in-Err-reserve.ensures.refused
     ∙ ap (λ (e : Engine g.row.T.Denot). contents_of c.self.inside.pads.key (line_count e.levels) e.made) c.in-Ok.ensures.taken in
     inl (rw (← c.self.view_is) same)
@@ -285,10 +296,12 @@ pub returns-in-Err-reserve-clause-spent : goal.returns-in-Err-reserve-clause-spe
 returns-in-Err-reserve-clause-spent g c = λ _.
     let inside : c.args.line < line_count c.self.inside.tags.levels = rw (← c.self.view_is) at c.requires.inside in
     let counted = c.self.invariant.1.counted in
-    let read = counter_read (line_count c.self.inside.tags.levels) c.self.inside.page_limit c.self.inside.tags.made c.self.inside.counters.items c.args.line c.index-writes.result.now counted inside c.index-writes.ensures in
-    (λ is. absurd (cc), λ full. absurd (not_used_up (line_count c.self.inside.tags.levels) c.self.inside.page_limit c.self.inside.tags.made c.self.inside.counters.items c.args.line c.index-writes.result.now
-    counted inside read c.if-writes-self.false
-    (sym (writes_same c.self.inside.tags.made c.self.inside.pads.used c.args.line c.self.invariant.1.paired) ∙ rw (← c.self.view_is) at full)))
+    let read = counter_read (line_count c.self.inside.tags.levels) c.self.inside.page_limit c.self.inside.tags.made c.self.inside.counters.items c.args.line c.index-writes.result.now counted inside c.index-writes.ensures in (
+      λ is. absurd (cc),
+      λ full. absurd (not_used_up (line_count c.self.inside.tags.levels) c.self.inside.page_limit c.self.inside.tags.made c.self.inside.counters.items c.args.line c.index-writes.result.now
+          counted inside read c.if-writes-self.false
+          (sym (writes_same c.self.inside.tags.made c.self.inside.pads.used c.args.line c.self.invariant.1.paired) ∙ rw (← c.self.view_is) at full)),
+    )
 
 pub returns-in-Some-clause-moved : goal.returns-in-Some-clause-moved
 returns-in-Some-clause-moved g c = moves_not g.B.Bus.told c.args.self.now
