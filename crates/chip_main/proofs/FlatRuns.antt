@@ -7,7 +7,7 @@ use Rattle.hmac_tag.specs.Tags.{TagKeys, tag_of}
 use Rattle.hmac_tag.specs.declared.derivation.Keys.{Keys}
 use Rattle.tag_engine.specs.Tag.{engine_tag}
 use Rattle.rv32_core.specs.Machine.{opening}
-use Rattle.chip_main.specs.Flat.{device_key, device_tag, flat_opening, flat_segments, flat_size}
+use Rattle.chip_main.specs.Flat.{device_enc_key, device_key, device_tag, flat_opening, flat_segments, flat_size}
 
 -- a new bus has nothing written
 pub nothing_written : (told : Told) (levels : ℕ) → told ≡ nothing_told levels → NothingWritten told
@@ -18,6 +18,11 @@ pub device_tag_is : (tagger : TagKeys) (keys : Keys) (levels : ℕ) → tagger �
     engine_tag (tag_of tagger.line_key) (tag_of tagger.tree_key) levels ≡ device_tag
 unfolding device_tag
 device_tag_is tagger keys levels under derived one = rw (under, derived, one) refl
+
+-- and so is the key that lines are enciphered under
+pub enc_key_is : (keys : Keys) → keys ≡ keys_of device_key → keys.enc_key ≡ device_enc_key
+unfolding device_enc_key
+enc_key_is keys derived = rw derived refl
 
 -- the machine is the flat program's as it begins
 pub opening_is : (image : Image) (input bytes : List ℕ) → image.entry ≡ 0 → image.size ≡ flat_size → image.segments ≡ flat_segments bytes → input ≡ [] → opening image input ≡ flat_opening bytes

@@ -119,8 +119,8 @@ if_some : {A : Type 0} (P : A → Type 0) (o : Option A) (x : A) → o ≡ Some 
 if_some P o x is holds = subst (λ (v : Option _). IfSome v P) is holds
 
 -- where it ended as tampering, the one false answer was caught
-caught : (run : RunRecord) (told : Told) (place : Place) → run.ending ≡ Tampered place → HonestOrCaught device_tag run.made told (λ p. run.ending ≡ Tampered p) →
-    IsCaught device_tag run.made told (λ p. run.ending ≡ Tampered p)
+caught : (run : RunRecord) (told : Told) (place : Place) → run.ending ≡ Tampered place → HonestOrCaught device_tag run.used run.made told (λ p. run.ending ≡ Tampered p) →
+    IsCaught device_tag run.used run.made told (λ p. run.ending ≡ Tampered p)
 caught run told place ended (inl honest) = absurd (honest.untampered place ended)
 caught run told place ended (inr is) = is
 

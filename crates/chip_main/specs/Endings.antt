@@ -29,14 +29,14 @@ pub record EndedOutOfSteps (run : RunRecord) (told : Told) : Type 0 where
 -- The one false answer of the bus failed its check, was the last access, and ended the run as tampering of its place.
 pub record EndedTampered (run : RunRecord) (told : Told) : Type 0 where
   pub no_evidence : run.evidence ≡ None
-  pub caught : IsCaught device_tag run.made told (λ place. run.ending ≡ Tampered place)
+  pub caught : IsCaught device_tag run.used run.made told (λ place. run.ending ≡ Tampered place)
 
 -- Some line of the page was written as often as the limit allows.
 pub record EndedSpent (run : RunRecord) (told : Told) : Type 0 where
   pub no_evidence : run.evidence ≡ None
   pub page : ℕ
   pub ended : run.ending ≡ Spent page
-  pub used_up : IsSpent (line_count flat_levels) page_limit run.made page
+  pub used_up : IsSpent (line_count flat_levels) page_limit run.used page
 
 -- There is evidence of the first false answer, and neither the sink nor want of memory ended the run.
 pub record EndedWithEvidence (run : RunRecord) (told : Told) : Type 0 where

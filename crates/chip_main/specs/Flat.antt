@@ -38,6 +38,10 @@ unfoldable pub device_tag : Message → List ℕ
 device_tag message =
     engine_tag (tag_of (keys_of device_key).line_key) (tag_of (keys_of device_key).tree_key) flat_levels message
 
+-- the key that lines are enciphered under
+unfoldable pub device_enc_key : List ℕ
+device_enc_key = (keys_of device_key).enc_key
+
 -- one segment, as long as the file
 abbrev pub flat_segments : List ℕ → List Segment
 flat_segments bytes = record { addr = 0; length = length bytes; bytes = bytes } ∷ []

@@ -1,19 +1,21 @@
 -- A run of a flat program.
-use Rattle.std.specs.Prelude.{◌≡◌, ◌≢◌, ◌<◌, ◌≤◌, ◌↔◌, ◌⊎◌, List, [], ℕ, length, Option, None, IfSome}
+use Rattle.std.specs.Prelude.{◌≡◌, ◌≢◌, ◌<◌, ◌≤◌, ◌↔◌, ◌⊎◌, List, ℕ, length, Option, None, IfSome}
 use Rattle.sec_base.specs.Count.{Rose}
 use Rattle.sec_base.specs.Evidence.{IsEvidence}
+use Rattle.sec_base.specs.Last.{data_pairs}
 use Rattle.sec_base.specs.Layout.{line_count}
 use Rattle.sec_base.specs.Reading.{FilesState}
 use Rattle.sec_base.specs.Writing.{SinkState, Gains}
 use Rattle.sec_base.specs.declared.answers.Ending.TheVariants.{OutOfSteps, Tampered, Spent, WriteFault, NoMemory}
 use Rattle.bus_model.specs.Told.{Told}
+use Rattle.pad_stream.specs.Used.{AreRising, NoRepeat, of_lines}
 use Rattle.rv32_core.specs.Machine.{plain}
 use Rattle.rv32_core.specs.Follows.{Follows, IsWhole}
 use Rattle.chip_run.specs.declared.RunRecord.{RunRecord}
 use Rattle.chip_run.specs.Account.{HonestOrCaught, IsOfFirstLie}
-use Rattle.chip_run.specs.Contents.{HoldsLast, IsSpent, IsWrittenOut, line_writes}
+use Rattle.chip_run.specs.Contents.{AreNumbered, HoldsLast, HoldsSealed, IsSpent, IsWrittenOut, line_writes}
 use Rattle.chip_run.specs.Session.{IsMemoryEnding, IsStop}
-use Rattle.chip_main.specs.Flat.{budget, device_tag, flat_levels, flat_opening, flat_size, page_limit}
+use Rattle.chip_main.specs.Flat.{budget, device_enc_key, device_tag, flat_levels, flat_opening, flat_size, page_limit}
 use Rattle.chip_main.specs.Causes.{HasRead}
 
 -- a run of the flat program of these bytes, which prints to a sink, over a bus that was told this
@@ -24,13 +26,21 @@ pub record RunsFlat (bytes : List ℕ) (old new : SinkState) (run : RunRecord) (
       × (run.evidence ≡ None → Follows (flat_opening bytes) budget run.retired run.ending printed)
   -- Without evidence no answer of the bus was false, and it did not end as tampering; or one was, fails its check,
   -- was the last access, and the run ended as tampering of its place.
-  pub answers : run.evidence ≡ None → HonestOrCaught device_tag run.made told (λ place. run.ending ≡ Tampered place)
+  pub answers : run.evidence ≡ None → HonestOrCaught device_tag run.used run.made told (λ place. run.ending ≡ Tampered place)
   -- evidence is what it says, and is of the first false answer
   pub genuine : IfSome run.evidence (IsEvidence device_tag run.made)
   pub first_lie : IfSome run.evidence (IsOfFirstLie run.made told)
+  -- No line was enciphered twice under one counter. A line's counters are (n, 0) with rising n from 1 on, and each
+  -- line of the memory was tagged under the same, in the same order.
+  pub no_repeat : run.evidence ≡ None → NoRepeat run.used
+  pub rising : run.evidence ≡ None → AreRising run.used
+  pub numbered : run.evidence ≡ None → AreNumbered (line_count flat_levels) run.used
+  pub paired : run.evidence ≡ None → data_pairs run.made ≡ of_lines (line_count flat_levels) run.used
+  -- each line's place that isn't zeros holds what was enciphered and tagged for it
+  pub sealed : HoldsSealed device_tag (line_count flat_levels) run.made run.used told.written
   -- where the memory did not end it, the memory outside has what the plain machine's has
   pub written_out : run.evidence ≡ None → ¬ IsMemoryEnding run.ending →
-      IsWrittenOut (line_count flat_levels) run.made (plain (flat_opening bytes) run.retired).state.memory
+      IsWrittenOut device_enc_key (line_count flat_levels) run.made (plain (flat_opening bytes) run.retired).state.memory
   pub holds_last : run.evidence ≡ None → ¬ IsMemoryEnding run.ending →
       HoldsLast device_tag (line_count flat_levels) run.made told.written
   -- the budget ends it exactly where it is used up by a program that goes on
@@ -45,13 +55,12 @@ pub record RunsFlat (bytes : List ℕ) (old new : SinkState) (run : RunRecord) (
   pub whole : ¬ (Rose old.faults new.faults) → told.lies ≡ 0 → run.ending ≢ NoMemory →
       IsWhole (flat_opening bytes) budget run.retired run.ending ⊎ ((page : ℕ) × (run.ending ≡ Spent page))
   -- no line is written more often than the limit allows, and a page is used up only where one was written so often
-  pub limited : (line : ℕ) → line_writes run.made line ≤ page_limit
+  pub limited : (line : ℕ) → line_writes run.used line ≤ page_limit
   pub spent : (page : ℕ) → run.evidence ≡ None → run.ending ≡ Spent page →
-      IsSpent (line_count flat_levels) page_limit run.made page
+      IsSpent (line_count flat_levels) page_limit run.used page
   pub write_fault : run.ending ≡ WriteFault → Rose old.faults new.faults
   pub levels : told.levels ≡ flat_levels
-  -- nothing is enciphered or signed yet
-  pub used : run.used ≡ []
+  -- nothing is signed yet
   pub report : run.report ≡ None
 
 -- a run of the request's file

@@ -1,5 +1,6 @@
 -- How a run ends, by the stop that its memory keeps.
-use Rattle.std.proofs.Common.{◌≡◌, ◌≤◌, inl, inr, ℕ, List, Option, Some, None, ap, subst}
+use Rattle.std.proofs.Common.{◌≡◌, ◌≤◌, inl, inr, ℕ, List, Option, Some, None, ap, sym, ◌∙◌, subst, arith}
+use Rattle.sec_base.specs.Last.{data_pairs}
 use Rattle.sec_base.specs.Layout.{line_count}
 use Rattle.sec_base.specs.declared.layout.Place.{Place}
 use Rattle.sec_base.specs.declared.account.Message.{Message}
@@ -10,9 +11,13 @@ use Rattle.sec_base.specs.declared.answers.MemStop.TheVariants.{Tampered as tamp
 use Rattle.bus_model.specs.Told.{Told}
 use Rattle.tag_engine.specs.Engine.{Engine}
 use Rattle.chip_run.specs.Account.{HonestOrCaught}
-use Rattle.chip_run.specs.Contents.{IsSpent, line_writes}
+use Rattle.chip_run.specs.Contents.{AreNumbered, IsSpent, line_writes}
 use Rattle.chip_run.specs.Protected.{Protected, IsKept}
 use Rattle.chip_run.specs.Session.{CarriesEnding}
+use Rattle.pad_stream.specs.Used.{of_lines}
+use Rattle.chip_run.proofs.LineMessages.{writes_same}
+use Rattle.chip_run.proofs.Pairs.{pairs_numbered, all_of_lines}
+use Rattle.sec_base.specs.declared.sealing.Counter.{Counter}
 
 -- It ends as tampering where the memory stopped so
 
@@ -36,26 +41,41 @@ stopped_spent (Some no_memory) ending page carries is = cc
 
 -- What was taken for tampering may be said by another word
 
-answers_map : (tag_of : Message → List ℕ) (made : List Message) (told : Told) (P Q : Place → Type 0) → ((place : Place) → P place → Q place) → ((place : Place) → Q place → P place) → HonestOrCaught tag_of made told P → HonestOrCaught tag_of made told Q
-answers_map tag_of made told P Q there back (inl honest) = inl (record { lies = honest.lies; untampered = λ place q. honest.untampered place (back place q) })
-answers_map tag_of made told P Q there back (inr caught) =
+answers_map : (tag_of : Message → List ℕ) (used : List (ℕ × Counter)) (made : List Message) (told : Told) (P Q : Place → Type 0) → ((place : Place) → P place → Q place) → ((place : Place) → Q place → P place) → HonestOrCaught tag_of used made told P → HonestOrCaught tag_of used made told Q
+answers_map tag_of used made told P Q there back (inl honest) = inl (record { lies = honest.lies; untampered = λ place q. honest.untampered place (back place q) })
+answers_map tag_of used made told P Q there back (inr caught) =
     inr (record { lies = caught.lies; lie = caught.lie; first = caught.first; last = caught.last; fails = caught.fails; ended = there caught.lie.place caught.ended })
 
 -- What is kept of a memory, said of a run that it ended
 
-pub ended_answers : {B T : Type 0} (tags : Engine T → Message → List ℕ) (told : B → Told) (given lines : Protected B T) (ending : Ending) → given ≡ lines → CarriesEnding lines.stopped (Some ending) → IsKept (tags given.engine) (told given.bus) given → lines.engine.evidence ≡ None → HonestOrCaught (tags lines.engine) lines.engine.made (told lines.bus) (λ place. ending ≡ Tampered place)
+pub ended_answers : {B T : Type 0} (tags : Engine T → Message → List ℕ) (told : B → Told) (given lines : Protected B T) (ending : Ending) → given ≡ lines → CarriesEnding lines.stopped (Some ending) → IsKept (tags given.engine) (told given.bus) given → lines.engine.evidence ≡ None → HonestOrCaught (tags lines.engine) lines.pads.used lines.engine.made (told lines.bus) (λ place. ending ≡ Tampered place)
 ended_answers {B} {T} tags told given lines ending same carries kept quiet =
     let kept_lines = subst (λ (memory : Protected B T). IsKept (tags memory.engine) (told memory.bus) memory) same kept in
-    answers_map (tags lines.engine) lines.engine.made (told lines.bus) (λ place. lines.stopped ≡ Some (tampered place)) (λ place. ending ≡ Tampered place)
+    answers_map (tags lines.engine) lines.pads.used lines.engine.made (told lines.bus) (λ place. lines.stopped ≡ Some (tampered place)) (λ place. ending ≡ Tampered place)
     (λ place is. ended_tampered lines.stopped ending place carries is) (λ place is. stopped_tampered lines.stopped ending place carries is)
     (kept_lines.answers quiet)
 
-pub ended_spent : {B T : Type 0} (tags : Engine T → Message → List ℕ) (told : B → Told) (given lines : Protected B T) (ending : Ending) (page : ℕ) → given ≡ lines → CarriesEnding lines.stopped (Some ending) → IsKept (tags given.engine) (told given.bus) given → ending ≡ Spent page → IsSpent (line_count lines.engine.levels) lines.limit lines.engine.made page
+pub ended_spent : {B T : Type 0} (tags : Engine T → Message → List ℕ) (told : B → Told) (given lines : Protected B T) (ending : Ending) (page : ℕ) → given ≡ lines → CarriesEnding lines.stopped (Some ending) → IsKept (tags given.engine) (told given.bus) given → ending ≡ Spent page → IsSpent (line_count lines.engine.levels) lines.limit lines.pads.used page
 ended_spent {B} {T} tags told given lines ending page same carries kept is =
     let kept_lines = subst (λ (memory : Protected B T). IsKept (tags memory.engine) (told memory.bus) memory) same kept in
     kept_lines.spent page (stopped_spent lines.stopped ending page carries is)
 
-pub ended_limited : {B T : Type 0} (tags : Engine T → Message → List ℕ) (told : B → Told) (given lines : Protected B T) (line : ℕ) → given ≡ lines → IsKept (tags given.engine) (told given.bus) given → line_writes lines.engine.made line ≤ lines.limit
+pub ended_limited : {B T : Type 0} (tags : Engine T → Message → List ℕ) (told : B → Told) (given lines : Protected B T) (line : ℕ) → given ≡ lines → IsKept (tags given.engine) (told given.bus) given → line_writes lines.pads.used line ≤ lines.limit
 ended_limited {B} {T} tags told given lines line same kept =
     let kept_lines = subst (λ (memory : Protected B T). IsKept (tags memory.engine) (told memory.bus) memory) same kept in
-    kept_lines.counted.limited line
+    let writes = writes_same lines.engine.made lines.pads.used line kept_lines.paired in
+    omega (arith, writes, kept_lines.counted.limited line)
+
+pub ended_kept : {B T : Type 0} (tags : Engine T → Message → List ℕ) (told : B → Told) (given lines : Protected B T) → given ≡ lines → IsKept (tags given.engine) (told given.bus) given → IsKept (tags lines.engine) (told lines.bus) lines
+ended_kept {B} {T} tags told given lines same kept =
+    subst (λ (memory : Protected B T). IsKept (tags memory.engine) (told memory.bus) memory) same kept
+
+pub ended_numbered : {B T : Type 0} (tags : Engine T → Message → List ℕ) (told : B → Told) (given lines : Protected B T) → given ≡ lines → IsKept (tags given.engine) (told given.bus) given → AreNumbered (line_count lines.engine.levels) lines.pads.used
+ended_numbered {B} {T} tags told given lines same kept =
+    let kept_lines = ended_kept tags told given lines same kept in
+    pairs_numbered (line_count lines.engine.levels) lines.limit lines.engine.made lines.pads.used lines.counters kept_lines.counted kept_lines.paired
+
+pub ended_paired : {B T : Type 0} (tags : Engine T → Message → List ℕ) (told : B → Told) (given lines : Protected B T) → given ≡ lines → IsKept (tags given.engine) (told given.bus) given → data_pairs lines.engine.made ≡ of_lines (line_count lines.engine.levels) lines.pads.used
+ended_paired {B} {T} tags told given lines same kept =
+    (ended_kept tags told given lines same kept).paired
+    ∙ sym (all_of_lines (line_count lines.engine.levels) lines.pads.used (ended_numbered tags told given lines same kept))

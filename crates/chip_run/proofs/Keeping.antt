@@ -1,8 +1,9 @@
 -- What a protected memory keeps over a read and a write of a line.
-use Rattle.std.proofs.Common.{◌≡◌, ◌≢◌, ℕ, ◌+◌, ◌/◌, ◌<◌, inl, inr, Bool, true, false, cond, nat_eq, List, [], ◌∷◌, ◌++◌, length, take, drop, Option, Some, None, IfSome, Contains, Err, slice_index, slice_set, replicate, refl, ap, sym, ◌∙◌, subst, arith}
+use Rattle.std.proofs.Common.{◌≡◌, ◌≢◌, ℕ, ◌+◌, ◌/◌, ◌<◌, ◌⊎◌, inl, inr, Bool, true, false, cond, nat_eq, List, [], ◌∷◌, ◌++◌, length, take, drop, Option, Some, None, IfSome, Contains, Err, slice_index, slice_set, replicate, refl, ap, sym, ◌∙◌, subst, arith}
 use Rattle.std.specs.Option.{option_or}
 use Rattle.std.proofs.lemmas.Bool.{cases_eq}
 use Rattle.std.proofs.lemmas.Bool.Decides.{Decides-eqb}
+use Rattle.std.proofs.lemmas.List.Elements.{Contains-append_left, Contains-push}
 use Rattle.std.proofs.lemmas.List.{take_at, drop_at, take-append-le, take_all}
 use Rattle.sec_base.specs.Count.{more_by, Rose}
 use Rattle.sec_base.specs.Places.{at_place}
@@ -22,14 +23,19 @@ use Rattle.sec_base.specs.Layout.{line_count}
 use Rattle.sec_base.specs.Messages.{has_message}
 use Rattle.sec_base.proofs.SameMessages.{has_message-Decides}
 use Rattle.sec_base.proofs.SamePlaces.{at_place-here, at_place-there, false_from}
-use Rattle.bus_model.specs.Told.{Told, Lie, after_read, after_write, after_answer, after_lie, first_lie}
+use Rattle.bus_model.specs.Told.{Told, Lie, NothingWritten, after_read, after_write, after_answer, after_lie, first_lie}
 use Rattle.bus_model.proofs.Steps.{true_or_false, answered, lied, read_levels, read_written}
 use Rattle.tag_engine.specs.Engine.{Engine, new_engine, tags_of, forgery_of, after_make, with_room}
 use Rattle.tag_engine.proofs.Forgeries.{known, still_genuine}
-use Rattle.chip_run.specs.Contents.{line_writes, writes_of, IsSpent, HoldsLast}
+use Rattle.pad_stream.specs.Used.{AreRising}
+use Rattle.sec_base.specs.Places.{zeros_of}
+use Rattle.pad_stream.proofs.RisingCounters.{rising_nothing, rising_more}
+use Rattle.chip_run.proofs.Pairs.{data_pairs-append}
+use Rattle.pad_stream.specs.Stream.{Stream, new_stream, after_encrypt, with_room as pads_with_room}
+use Rattle.chip_run.specs.Contents.{line_writes, sealed_line, IsSpent, IsSealed, HoldsSealed, HoldsLast}
 use Rattle.chip_run.specs.Account.{HonestOrCaught, IsOfFirstLie}
-use Rattle.chip_run.specs.Protected.{IsKept, AreCounted, Passed, IsCheckedRead, lasting_stop, after_line}
-use Rattle.chip_run.proofs.LineMessages.{some_same, last_data-same, last_data-other, last_made, last_pair-some, counted_new, counted_more}
+use Rattle.chip_run.specs.Protected.{IsKept, AreCounted, Passed, IsCheckedRead, lasting_stop, after_line, writes_of, times_tagged}
+use Rattle.chip_run.proofs.LineMessages.{some_same, last_data-same, last_data-other, last_made, last_pair-some, counted_new, counted_more, writes_same, behind}
 
 -- Sealed lines
 
@@ -80,10 +86,10 @@ is_last lines limit made counters line writes cipher counted inside read listed 
 -- What was false
 
 -- no answer was, where nothing stopped the memory for good
-honest_by : (told : Told) (tag_of : Message → List ℕ) (made : List Message) (stopped : Option MemStop) → lasting_stop stopped ≡ None →
-    HonestOrCaught tag_of made told (λ place. stopped ≡ Some (Tampered place)) → told.lies ≡ 0
-honest_by told tag_of made stopped going (inl honest) = honest.lies
-honest_by told tag_of made stopped going (inr caught) =
+honest_by : (told : Told) (tag_of : Message → List ℕ) (used : List (ℕ × Counter)) (made : List Message) (stopped : Option MemStop) → lasting_stop stopped ≡ None →
+    HonestOrCaught tag_of used made told (λ place. stopped ≡ Some (Tampered place)) → told.lies ≡ 0
+honest_by told tag_of used made stopped going (inl honest) = honest.lies
+honest_by told tag_of used made stopped going (inr caught) =
     let ended : lasting_stop stopped ≡ Some (Tampered caught.lie.place) = ap lasting_stop caught.ended in absurd (cc)
 
 untampered_by : (stopped : Option MemStop) (place : Place) → lasting_stop stopped ≡ None → stopped ≡ Some (Tampered place) → ⊥
@@ -91,9 +97,9 @@ untampered_by stopped place going is =
     let ended : lasting_stop stopped ≡ Some (Tampered place) = ap lasting_stop is in cc
 
 -- an honest memory, with another count of accesses or another stop
-honest_with : (tag_of : Message → List ℕ) (made : List Message) (told' : Told) (stopped' : Option MemStop) → told'.lies ≡ 0 →
-    ((place : Place) → stopped' ≡ Some (Tampered place) → ⊥) → HonestOrCaught tag_of made told' (λ place. stopped' ≡ Some (Tampered place))
-honest_with tag_of made told' stopped' none untampered = inl (record { lies = none; untampered = untampered })
+honest_with : (tag_of : Message → List ℕ) (used : List (ℕ × Counter)) (made : List Message) (told' : Told) (stopped' : Option MemStop) → told'.lies ≡ 0 →
+    ((place : Place) → stopped' ≡ Some (Tampered place) → ⊥) → HonestOrCaught tag_of used made told' (λ place. stopped' ≡ Some (Tampered place))
+honest_with tag_of used made told' stopped' none untampered = inl (record { lies = none; untampered = untampered })
 
 -- a lie that is not the first
 not_first : (lies : ℕ) (before : Option Lie) (now lie : Lie) → 0 < lies → before ≡ Some lie → first_lie lies before now ≡ Some lie
@@ -191,17 +197,20 @@ shown_is made line counter sealed evidence shown =
     shown_by made line counter sealed evidence (has_message made (Line line counter sealed.cipher)) refl shown
 
 -- a stop of the memory, and nothing else
-pub ended_kept : {B T : Type 0} (d n : T → List ℕ → List ℕ) (told : Told) (bus bus' : B) (engine : Engine T) (counters : List ℕ) (limit : ℕ) (stopped : Option MemStop) (stop : MemStop) →
-    IsKept (tags_of d n engine) told (record { bus = bus; engine = engine; counters = counters; limit = limit; stopped = stopped }) → lasting_stop stopped ≡ None →
-    ((page : ℕ) → stop ≡ Spent page → IsSpent (line_count engine.levels) limit engine.made page) → ((place : Place) → stop ≢ Tampered place) →
+pub ended_kept : {B T : Type 0} (d n : T → List ℕ → List ℕ) (told : Told) (bus bus' : B) (engine : Engine T) (pads : Stream) (counters : List ℕ) (limit : ℕ) (stopped : Option MemStop) (stop : MemStop) →
+    IsKept (tags_of d n engine) told (record { bus = bus; engine = engine; pads = pads; counters = counters; limit = limit; stopped = stopped }) → lasting_stop stopped ≡ None →
+    ((page : ℕ) → stop ≡ Spent page → IsSpent (line_count engine.levels) limit pads.used page) → ((place : Place) → stop ≢ Tampered place) →
     (lasting_stop (Some stop) ≡ None → lasting_stop stopped ≡ None) →
-    IsKept (tags_of d n engine) told (record { bus = bus'; engine = engine; counters = counters; limit = limit; stopped = Some stop })
-ended_kept d n told bus bus' engine counters limit stopped stop kept going spent untampered goes = record {
+    IsKept (tags_of d n engine) told (record { bus = bus'; engine = engine; pads = pads; counters = counters; limit = limit; stopped = Some stop })
+ended_kept d n told bus bus' engine pads counters limit stopped stop kept going spent untampered goes = record {
   levels = kept.levels;
+  paired = kept.paired;
+  rising = kept.rising;
+  sealed = kept.sealed;
   counted = kept.counted;
   stored = λ quiet goes_on. kept.stored quiet (goes goes_on);
-  answers = λ quiet. honest_with (tags_of d n engine) engine.made told (Some stop)
-      (honest_by told (tags_of d n engine) engine.made stopped going (kept.answers quiet)) (λ place is. untampered place (some_same stop (Tampered place) is));
+  answers = λ quiet. honest_with (tags_of d n engine) pads.used engine.made told (Some stop)
+      (honest_by told (tags_of d n engine) pads.used engine.made stopped going (kept.answers quiet)) (λ place is. untampered place (some_same stop (Tampered place) is));
   genuine = kept.genuine;
   shown = kept.shown;
   spent = λ page is. spent page (some_same stop (Spent page) is);
@@ -212,23 +221,45 @@ some_holds None x P is holds = absurd (cc)
 some_holds (Some y) x P is holds = let same : y ≡ x = cc in subst P same holds
 
 -- a line whose counters are used up
-pub spent_kept : {B T : Type 0} (d n : T → List ℕ → List ℕ) (told : Told) (bus bus' : B) (engine : Engine T) (counters : List ℕ) (limit : ℕ) (stopped : Option MemStop) (line : ℕ) →
-    IsKept (tags_of d n engine) told (record { bus = bus; engine = engine; counters = counters; limit = limit; stopped = stopped }) → lasting_stop stopped ≡ None →
-    line < line_count engine.levels → line_writes engine.made line ≡ limit →
-    IsKept (tags_of d n engine) told (record { bus = bus'; engine = engine; counters = counters; limit = limit; stopped = Some (Spent (line / 64)) })
-spent_kept d n told bus bus' engine counters limit stopped line kept going inside full =
-    ended_kept d n told bus bus' engine counters limit stopped (Spent (line / 64)) kept going
+pub spent_kept : {B T : Type 0} (d n : T → List ℕ → List ℕ) (told : Told) (bus bus' : B) (engine : Engine T) (pads : Stream) (counters : List ℕ) (limit : ℕ) (stopped : Option MemStop) (line : ℕ) →
+    IsKept (tags_of d n engine) told (record { bus = bus; engine = engine; pads = pads; counters = counters; limit = limit; stopped = stopped }) → lasting_stop stopped ≡ None →
+    line < line_count engine.levels → line_writes pads.used line ≡ limit →
+    IsKept (tags_of d n engine) told (record { bus = bus'; engine = engine; pads = pads; counters = counters; limit = limit; stopped = Some (Spent (line / 64)) })
+spent_kept d n told bus bus' engine pads counters limit stopped line kept going inside full =
+    ended_kept d n told bus bus' engine pads counters limit stopped (Spent (line / 64)) kept going
     (λ page is. let of_page : line / 64 ≡ page = cc in record { line = line; inside = inside; of_page = of_page; used_up = full })
     (λ place is. absurd (cc)) (λ goes_on. going)
 
 -- no memory, and nothing else
-pub memory_kept : {B T : Type 0} (d n : T → List ℕ → List ℕ) (told : Told) (bus bus' : B) (engine : Engine T) (counters : List ℕ) (limit : ℕ) (stopped : Option MemStop) (engine' : Engine T) →
-    IsKept (tags_of d n engine) told (record { bus = bus; engine = engine; counters = counters; limit = limit; stopped = stopped }) → lasting_stop stopped ≡ None →
+pub memory_kept : {B T : Type 0} (d n : T → List ℕ → List ℕ) (told : Told) (bus bus' : B) (engine : Engine T) (pads : Stream) (counters : List ℕ) (limit : ℕ) (stopped : Option MemStop) (engine' : Engine T) →
+    IsKept (tags_of d n engine) told (record { bus = bus; engine = engine; pads = pads; counters = counters; limit = limit; stopped = stopped }) → lasting_stop stopped ≡ None →
     engine' ≡ engine →
-    IsKept (tags_of d n engine') told (record { bus = bus'; engine = engine'; counters = counters; limit = limit; stopped = Some NoMemory })
-memory_kept {B} {T} d n told bus bus' engine counters limit stopped engine' kept going same =
-    subst (λ (e : Engine T). IsKept (tags_of d n e) told (record { bus = bus'; engine = e; counters = counters; limit = limit; stopped = Some NoMemory })) (sym same)
-    (ended_kept d n told bus bus' engine counters limit stopped NoMemory kept going (λ page is. absurd (cc)) (λ place is. absurd (cc)) (λ goes_on. absurd (cc)))
+    IsKept (tags_of d n engine') told (record { bus = bus'; engine = engine'; pads = pads; counters = counters; limit = limit; stopped = Some NoMemory })
+memory_kept {B} {T} d n told bus bus' engine pads counters limit stopped engine' kept going same =
+    subst (λ (e : Engine T). IsKept (tags_of d n e) told (record { bus = bus'; engine = e; pads = pads; counters = counters; limit = limit; stopped = Some NoMemory })) (sym same)
+    (ended_kept d n told bus bus' engine pads counters limit stopped NoMemory kept going (λ page is. absurd (cc)) (λ place is. absurd (cc)) (λ goes_on. absurd (cc)))
+
+-- the same where there is room for one more message
+pub roomed_kept : {B T : Type 0} (d n : T → List ℕ → List ℕ) (told : Told) (bus bus' : B) (engine : Engine T) (pads : Stream) (counters : List ℕ) (limit : ℕ) (stopped : Option MemStop) (engine' : Engine T) (pads' : Stream) →
+    IsKept (tags_of d n engine) told (record { bus = bus; engine = engine; pads = pads; counters = counters; limit = limit; stopped = stopped }) → lasting_stop stopped ≡ None →
+    engine' ≡ with_room 1 engine → pads' ≡ pads →
+    IsKept (tags_of d n engine') told (record { bus = bus'; engine = engine'; pads = pads'; counters = counters; limit = limit; stopped = Some NoMemory })
+roomed_kept {B} {T} d n told bus bus' engine pads counters limit stopped engine' pads' kept going more same =
+    let ended = memory_kept d n told bus bus' engine pads counters limit stopped engine kept going refl in
+    subst (λ (p : Stream). IsKept (tags_of d n engine') told (record { bus = bus'; engine = engine'; pads = p; counters = counters; limit = limit; stopped = Some NoMemory })) (sym same)
+    (subst (λ (e : Engine T). IsKept (tags_of d n e) told (record { bus = bus'; engine = e; pads = pads; counters = counters; limit = limit; stopped = Some NoMemory })) (sym more)
+    (record {
+      levels = ended.levels;
+      paired = ended.paired;
+      rising = ended.rising;
+      sealed = ended.sealed;
+      counted = ended.counted;
+      stored = ended.stored;
+      answers = ended.answers;
+      genuine = ended.genuine;
+      shown = ended.shown;
+      spent = ended.spent;
+    }))
 
 or_none : {A : Type 0} (first second : Option A) → option_or first second ≡ None → second ≡ None
 or_none None second none = none
@@ -275,22 +306,22 @@ passed_same tag_of lines line writes made written cipher tag stored inside tagge
     ap (λ (t : List ℕ). cipher ++ t) tagged ∙ sym (stored.holds line (record { page = writes; line = 0 }) cipher inside last)
 
 -- a line without its tag fails its check
-line_fails : (tag_of : Message → List ℕ) (made : List Message) (line : ℕ) (counter : Counter) (cipher : List ℕ) (sealed : Sealed) → length sealed.cipher ≡ 64 →
+line_fails : (tag_of : Message → List ℕ) (made : List Message) (used : List (ℕ × Counter)) (line : ℕ) (counter : Counter) (cipher : List ℕ) (sealed : Sealed) → data_pairs made ≡ used → length sealed.cipher ≡ 64 →
     last_data line made ≡ Some (counter, cipher) → sealed.tag ≢ tag_of (Line line counter sealed.cipher) →
-    LineFails tag_of (data_pairs made) line (sealed_of (sealed_bytes sealed))
-line_fails tag_of made line counter cipher sealed long last untagged =
+    LineFails tag_of used line (sealed_of (sealed_bytes sealed))
+line_fails tag_of made used line counter cipher sealed paired long last untagged =
     let cipher_is : take 64 (sealed.cipher ++ sealed.tag) ≡ sealed.cipher = take_at sealed.cipher sealed.tag 64 long in
     let tag_is : drop 64 (sealed.cipher ++ sealed.tag) ≡ sealed.tag = drop_at sealed.cipher sealed.tag 64 long in
-    let fails : LineFails tag_of (data_pairs made) line sealed =
-    record { counter = counter; last = last_pair-some made line counter cipher last; fails = untagged } in
-    subst (λ (x : List ℕ). LineFails tag_of (data_pairs made) line (record { cipher = x; tag = drop 64 (sealed.cipher ++ sealed.tag) })) (sym cipher_is)
-    (subst (λ (y : List ℕ). LineFails tag_of (data_pairs made) line (record { cipher = sealed.cipher; tag = y })) (sym tag_is) fails)
+    let fails : LineFails tag_of used line sealed =
+    record { counter = counter; last = ap (last_pair line) (sym paired) ∙ last_pair-some made line counter cipher last; fails = untagged } in
+    subst (λ (x : List ℕ). LineFails tag_of used line (record { cipher = x; tag = drop 64 (sealed.cipher ++ sealed.tag) })) (sym cipher_is)
+    (subst (λ (y : List ℕ). LineFails tag_of used line (record { cipher = sealed.cipher; tag = y })) (sym tag_is) fails)
 
-module _ {B T : Type 0} (d n : T → List ℕ → List ℕ) (told : Told) (bus bus' : B) (engine : Engine T) (counters : List ℕ) (limit : ℕ) (stopped : Option MemStop) (line writes : ℕ)
-    (kept : IsKept (tags_of d n engine) told (record { bus = bus; engine = engine; counters = counters; limit = limit; stopped = stopped }))
+module _ {B T : Type 0} (d n : T → List ℕ → List ℕ) (told : Told) (bus bus' : B) (engine : Engine T) (pads : Stream) (counters : List ℕ) (limit : ℕ) (stopped : Option MemStop) (line writes : ℕ)
+    (kept : IsKept (tags_of d n engine) told (record { bus = bus; engine = engine; pads = pads; counters = counters; limit = limit; stopped = stopped }))
     (going : lasting_stop stopped ≡ None) (inside : line < line_count engine.levels) (read : writes ≡ slice_index counters line) (some : writes ≢ 0) where
   none_lied : engine.evidence ≡ None → told.lies ≡ 0
-  none_lied quiet = honest_by told (tags_of d n engine) engine.made stopped going (kept.answers quiet)
+  none_lied quiet = honest_by told (tags_of d n engine) pads.used engine.made stopped going (kept.answers quiet)
 
   last_there : LastOf engine.made line writes
   last_there = last_of_written (line_count engine.levels) limit engine.made counters line writes kept.counted inside read some
@@ -299,12 +330,15 @@ module _ {B T : Type 0} (d n : T → List ℕ → List ℕ) (told : Told) (bus b
   answered_kept : (bytes : List ℕ) (evidence : Option Evidence) (stopped' : Option MemStop) →
       (evidence ≡ None → engine.evidence ≡ None) → (lasting_stop stopped' ≡ None → stopped' ≡ stopped) →
       ((page : ℕ) → stopped' ≡ Some (Spent page) → stopped ≡ Some (Spent page)) →
-      (evidence ≡ None → HonestOrCaught (tags_of d n engine) engine.made (after_read (line_place line) bytes told) (λ place. stopped' ≡ Some (Tampered place))) →
+      (evidence ≡ None → HonestOrCaught (tags_of d n engine) pads.used engine.made (after_read (line_place line) bytes told) (λ place. stopped' ≡ Some (Tampered place))) →
       IfSome evidence (IsEvidence (tags_of d n engine) engine.made) →
       ((e : Evidence) → evidence ≡ Some e → IsOfFirstLie engine.made (after_read (line_place line) bytes told) e) →
-      IsKept (tags_of d n engine) (after_read (line_place line) bytes told) (record { bus = bus'; engine = record engine { evidence = evidence }; counters = counters; limit = limit; stopped = stopped' })
+      IsKept (tags_of d n engine) (after_read (line_place line) bytes told) (record { bus = bus'; engine = record engine { evidence = evidence }; pads = pads; counters = counters; limit = limit; stopped = stopped' })
   answered_kept bytes evidence stopped' quiet goes spent answers genuine shown = record {
     levels = read_levels (line_place line) bytes told ∙ kept.levels;
+    paired = kept.paired;
+    rising = kept.rising;
+    sealed = subst (λ (written : Place → List ℕ). HoldsSealed (tags_of d n engine) (line_count engine.levels) engine.made pads.used written) (sym (read_written (line_place line) bytes told)) kept.sealed;
     counted = kept.counted;
     stored = λ none goes_on.
         let was = kept.stored (quiet none) (ap lasting_stop (sym (goes goes_on)) ∙ goes_on) in
@@ -321,7 +355,7 @@ module _ {B T : Type 0} (d n : T → List ℕ → List ℕ) (told : Told) (bus b
   -- where it was false and fails its check
   failed_answers : (sealed : Sealed) → length sealed.cipher ≡ 64 →
       sealed.tag ≢ tags_of d n engine (Line line (record { page = writes; line = 0 }) sealed.cipher) → engine.evidence ≡ None →
-      HonestOrCaught (tags_of d n engine) engine.made (after_line line sealed told) (λ place. Some (Tampered (line_place line)) ≡ Some (Tampered place))
+      HonestOrCaught (tags_of d n engine) pads.used engine.made (after_line line sealed told) (λ place. Some (Tampered (line_place line)) ≡ Some (Tampered place))
   failed_answers sealed long untagged quiet =
       let counter : Counter = record { page = writes; line = 0 } in
       let differs = failed_differs (tags_of d n engine) (line_count engine.levels) line writes engine.made told.written last_there sealed (kept.stored quiet going) inside long untagged in
@@ -331,13 +365,13 @@ module _ {B T : Type 0} (d n : T → List ℕ → List ℕ) (told : Told) (bus b
         lie = record { access = (after_line line sealed told).accesses; place = line_place line; bytes = sealed_bytes sealed };
         first = lie.first;
         last = refl;
-        fails = line_fails (tags_of d n engine) engine.made line counter last_there.cipher sealed long last_there.last untagged;
+        fails = line_fails (tags_of d n engine) engine.made pads.used line counter last_there.cipher sealed kept.paired long last_there.last untagged;
         ended = refl;
       })
 
   failed_kept : (sealed : Sealed) → length sealed.cipher ≡ 64 →
       sealed.tag ≢ tags_of d n engine (Line line (record { page = writes; line = 0 }) sealed.cipher) →
-      IsKept (tags_of d n engine) (after_line line sealed told) (record { bus = bus'; engine = engine; counters = counters; limit = limit; stopped = Some (Tampered (line_place line)) })
+      IsKept (tags_of d n engine) (after_line line sealed told) (record { bus = bus'; engine = engine; pads = pads; counters = counters; limit = limit; stopped = Some (Tampered (line_place line)) })
   failed_kept sealed long untagged =
       answered_kept (sealed_bytes sealed) engine.evidence (Some (Tampered (line_place line)))
       (λ none. none) (λ goes_on. absurd (cc)) (λ page is. absurd (cc))
@@ -358,12 +392,12 @@ module _ {B T : Type 0} (d n : T → List ℕ → List ℕ) (told : Told) (bus b
   -- where it passes, and shows nothing
   passed_answers : (cipher tag : List ℕ) → tag ≡ tags_of d n engine (Line line (record { page = writes; line = 0 }) cipher) → engine.evidence ≡ None →
       Contains engine.made (Line line (record { page = writes; line = 0 }) cipher) →
-      HonestOrCaught (tags_of d n engine) engine.made (after_read (line_place line) (cipher ++ tag) told) (λ place. stopped ≡ Some (Tampered place))
+      HonestOrCaught (tags_of d n engine) pads.used engine.made (after_read (line_place line) (cipher ++ tag) told) (λ place. stopped ≡ Some (Tampered place))
   passed_answers cipher tag tagged quiet listed =
       let last = is_last (line_count engine.levels) limit engine.made counters line writes cipher kept.counted inside read listed in
       let same = passed_same (tags_of d n engine) (line_count engine.levels) line writes engine.made told.written cipher tag (kept.stored quiet going) inside tagged last in
       let is : after_read (line_place line) (cipher ++ tag) told ≡ after_answer (line_place line) told = answered (line_place line) (cipher ++ tag) told same in
-      honest_with (tags_of d n engine) engine.made (after_read (line_place line) (cipher ++ tag) told) stopped
+      honest_with (tags_of d n engine) pads.used engine.made (after_read (line_place line) (cipher ++ tag) told) stopped
       (ap (λ (t : Told). t.lies) is ∙ none_lied quiet) (λ place tampered. untampered_by stopped place going tampered)
 
   -- where it passes, and shows a forgery
@@ -389,7 +423,7 @@ module _ {B T : Type 0} (d n : T → List ℕ → List ℕ) (told : Told) (bus b
 
   passed_quiet : (cipher tag : List ℕ) → tag ≡ tags_of d n engine (Line line (record { page = writes; line = 0 }) cipher) → engine.evidence ≡ None →
       forgery_of engine.made line (record { page = writes; line = 0 }) (record { cipher = cipher; tag = tag }) true ≡ None →
-      HonestOrCaught (tags_of d n engine) engine.made (after_read (line_place line) (cipher ++ tag) told) (λ place. stopped ≡ Some (Tampered place))
+      HonestOrCaught (tags_of d n engine) pads.used engine.made (after_read (line_place line) (cipher ++ tag) told) (λ place. stopped ≡ Some (Tampered place))
   passed_quiet cipher tag tagged quiet none =
       passed_answers cipher tag tagged quiet (known engine.made line (record { page = writes; line = 0 }) (record { cipher = cipher; tag = tag }) none)
 
@@ -399,6 +433,7 @@ module _ {B T : Type 0} (d n : T → List ℕ → List ℕ) (told : Told) (bus b
       IsKept (tags_of d n engine) (after_read (line_place line) (cipher ++ tag) told) (record {
         bus = bus';
         engine = record engine { evidence = option_or before (forgery_of engine.made line (record { page = writes; line = 0 }) (record { cipher = cipher; tag = tag }) true) };
+        pads = pads;
         counters = counters;
         limit = limit;
         stopped = stopped;
@@ -416,11 +451,11 @@ module _ {B T : Type 0} (d n : T → List ℕ → List ℕ) (told : Told) (bus b
   -- a line that passed its check
   pub passed_kept : (told' : Told) (engine' : Engine T) (cipher : List ℕ) →
       Passed (tags_of d n engine) line (record { page = writes; line = 0 }) told told' engine engine' cipher →
-      IsKept (tags_of d n engine') told' (record { bus = bus'; engine = engine'; counters = counters; limit = limit; stopped = stopped })
+      IsKept (tags_of d n engine') told' (record { bus = bus'; engine = engine'; pads = pads; counters = counters; limit = limit; stopped = stopped })
   passed_kept told' engine' cipher passed =
       let genuine = subst (λ (e : Engine T). IfSome e.evidence (IsEvidence (tags_of d n engine) engine.made)) passed.checked passed.genuine in
-      subst (λ (t : Told). IsKept (tags_of d n engine') t (record { bus = bus'; engine = engine'; counters = counters; limit = limit; stopped = stopped })) (sym passed.answered)
-      (subst (λ (e : Engine T). IsKept (tags_of d n e) (after_read (line_place line) (cipher ++ passed.tag) told) (record { bus = bus'; engine = e; counters = counters; limit = limit; stopped = stopped }))
+      subst (λ (t : Told). IsKept (tags_of d n engine') t (record { bus = bus'; engine = engine'; pads = pads; counters = counters; limit = limit; stopped = stopped })) (sym passed.answered)
+      (subst (λ (e : Engine T). IsKept (tags_of d n e) (after_read (line_place line) (cipher ++ passed.tag) told) (record { bus = bus'; engine = e; pads = pads; counters = counters; limit = limit; stopped = stopped }))
       (sym passed.checked) (passed_by cipher passed.tag engine.evidence passed.long passed.tagged refl genuine))
 
   -- and gave its last bytes, where nothing is shown
@@ -437,124 +472,224 @@ module _ {B T : Type 0} (d n : T → List ℕ → List ℕ) (told : Told) (bus b
   -- a line that stopped the memory
   pub stopped_kept : (told' : Told) (engine' : Engine T) (stop : MemStop) →
       IsCheckedRead (tags_of d n engine) line (record { page = writes; line = 0 }) told told' engine engine' (Err stop) →
-      IsKept (tags_of d n engine') told' (record { bus = bus'; engine = engine'; counters = counters; limit = limit; stopped = Some stop })
+      IsKept (tags_of d n engine') told' (record { bus = bus'; engine = engine'; pads = pads; counters = counters; limit = limit; stopped = Some stop })
   stopped_kept told' engine' (Spent page) result = absurd result
   stopped_kept told' engine' NoMemory result =
-      subst (λ (t : Told). IsKept (tags_of d n engine') t (record { bus = bus'; engine = engine'; counters = counters; limit = limit; stopped = Some NoMemory })) (sym result.0)
-      (subst (λ (e : Engine T). IsKept (tags_of d n e) told (record { bus = bus'; engine = e; counters = counters; limit = limit; stopped = Some NoMemory })) (sym result.1)
-      (ended_kept d n told bus bus' engine counters limit stopped NoMemory kept going (λ page is. absurd (cc)) (λ place is. absurd (cc)) (λ goes_on. absurd (cc))))
+      subst (λ (t : Told). IsKept (tags_of d n engine') t (record { bus = bus'; engine = engine'; pads = pads; counters = counters; limit = limit; stopped = Some NoMemory })) (sym result.0)
+      (subst (λ (e : Engine T). IsKept (tags_of d n e) told (record { bus = bus'; engine = e; pads = pads; counters = counters; limit = limit; stopped = Some NoMemory })) (sym result.1)
+      (ended_kept d n told bus bus' engine pads counters limit stopped NoMemory kept going (λ page is. absurd (cc)) (λ place is. absurd (cc)) (λ goes_on. absurd (cc))))
   stopped_kept told' engine' (Tampered place) result =
-      subst (λ (p : Place). IsKept (tags_of d n engine') told' (record { bus = bus'; engine = engine'; counters = counters; limit = limit; stopped = Some (Tampered p) })) (sym result.0)
-      (subst (λ (t : Told). IsKept (tags_of d n engine') t (record { bus = bus'; engine = engine'; counters = counters; limit = limit; stopped = Some (Tampered (line_place line)) })) (sym result.1.answered)
-      (subst (λ (e : Engine T). IsKept (tags_of d n e) (after_line line result.1.sealed told) (record { bus = bus'; engine = e; counters = counters; limit = limit; stopped = Some (Tampered (line_place line)) })) (sym result.1.unchanged)
+      subst (λ (p : Place). IsKept (tags_of d n engine') told' (record { bus = bus'; engine = engine'; pads = pads; counters = counters; limit = limit; stopped = Some (Tampered p) })) (sym result.0)
+      (subst (λ (t : Told). IsKept (tags_of d n engine') t (record { bus = bus'; engine = engine'; pads = pads; counters = counters; limit = limit; stopped = Some (Tampered (line_place line)) })) (sym result.1.answered)
+      (subst (λ (e : Engine T). IsKept (tags_of d n e) (after_line line result.1.sealed told) (record { bus = bus'; engine = e; pads = pads; counters = counters; limit = limit; stopped = Some (Tampered (line_place line)) })) (sym result.1.unchanged)
       (failed_kept result.1.sealed result.1.long result.1.untagged)))
 
 -- a memory that was never written
-pub kept_new : {B T : Type 0} (d n : T → List ℕ → List ℕ) (told : Told) (bus : B) (tagger : T) (levels limit : ℕ) (engine : Engine T) (counters : List ℕ) →
-    engine ≡ new_engine tagger levels → counters ≡ replicate (line_count levels) 0 → told.levels ≡ levels → told.lies ≡ 0 →
-    IsKept (tags_of d n engine) told (record { bus = bus; engine = engine; counters = counters; limit = limit; stopped = None })
-unfolding last_at
-kept_new {B} {T} d n told bus tagger levels limit engine counters new zeros same none =
-    subst (λ (e : Engine T). IsKept (tags_of d n e) told (record { bus = bus; engine = e; counters = counters; limit = limit; stopped = None })) (sym new)
+pub kept_new : {B T : Type 0} (d n : T → List ℕ → List ℕ) (told : Told) (bus : B) (tagger : T) (key : List ℕ) (levels limit : ℕ) (engine : Engine T) (pads : Stream) (counters : List ℕ) →
+    engine ≡ new_engine tagger levels → pads ≡ new_stream key → counters ≡ replicate (line_count levels) 0 → told.levels ≡ levels → told.lies ≡ 0 → NothingWritten told →
+    IsKept (tags_of d n engine) told (record { bus = bus; engine = engine; pads = pads; counters = counters; limit = limit; stopped = None })
+unfolding last_at data_pairs
+kept_new {B} {T} d n told bus tagger key levels limit engine pads counters new none_used zeros same none empty =
+    subst (λ (e : Engine T). IsKept (tags_of d n e) told (record { bus = bus; engine = e; pads = pads; counters = counters; limit = limit; stopped = None })) (sym new)
+    (subst (λ (p : Stream). IsKept (tags_of d n (new_engine tagger levels)) told (record { bus = bus; engine = new_engine tagger levels; pads = p; counters = counters; limit = limit; stopped = None })) (sym none_used)
     (record {
       levels = same;
+      paired = refl;
+      rising = rising_nothing;
+      sealed = record { holds = λ line inside. inl (empty.zeros (line_place line) (subst (λ (l : ℕ). line < line_count l) (sym same) inside)) };
       counted = subst (λ (xs : List ℕ). AreCounted (line_count levels) limit [] xs) (sym zeros) (counted_new (line_count levels) limit);
       stored = λ quiet goes_on. record { holds = λ line counter cipher inside last. absurd (cc) };
       answers = λ quiet. inl (record { lies = none; untampered = λ place is. absurd (cc) });
       genuine = tt;
       shown = λ evidence is. absurd (cc);
       spent = λ page is. absurd (cc);
-    })
+    }))
 
 -- A write
 
-module _ {B T : Type 0} (d n : T → List ℕ → List ℕ) (told : Told) (bus bus' : B) (engine engine' : Engine T) (counters counters' : List ℕ) (limit : ℕ) (stopped : Option MemStop) (line writes : ℕ) (bytes : List ℕ)
-    (kept : IsKept (tags_of d n engine) told (record { bus = bus; engine = engine; counters = counters; limit = limit; stopped = stopped }))
-    (going : lasting_stop stopped ≡ None) (inside : line < line_count engine.levels) (read : writes ≡ slice_index counters line)
-    (below : writes < limit) (long : length bytes ≡ 64) (set : counters' ≡ slice_set counters line (writes + 1))
-    (tagged : engine' ≡ after_make (Line line (record { page = writes + 1; line = 0 }) bytes) (with_room 1 engine)) where
-  made_is : engine'.made ≡ engine.made ++ Line line (record { page = writes + 1; line = 0 }) bytes ∷ []
-  made_is = ap (λ (e : Engine T). e.made) tagged
+-- a line's place that holds what was made still does, when more was made and used
+sealed_more : (tag_of : Message → List ℕ) (made more : List Message) (used more_used : List (ℕ × Counter)) (line : ℕ) (bytes : List ℕ) →
+    IsSealed tag_of made used line bytes → IsSealed tag_of (made ++ more) (used ++ more_used) line bytes
+sealed_more tag_of made more used more_used line bytes is = record {
+  counter = is.counter;
+  cipher = is.cipher;
+  made_there = Contains-append_left made more (Line line is.counter is.cipher) is.made_there;
+  used_there = Contains-append_left used more_used (line, is.counter) is.used_there;
+  sealed = is.sealed;
+}
 
-  write_counted : AreCounted (line_count engine.levels) limit (engine.made ++ Line line (record { page = writes + 1; line = 0 }) bytes ∷ []) counters'
-  write_counted = counted_more (line_count engine.levels) limit engine.made counters counters' line writes bytes kept.counted inside
-      (read ∙ kept.counted.counts line inside) below long set
+holds_more : (tag_of : Message → List ℕ) (lines : ℕ) (made more : List Message) (used more_used : List (ℕ × Counter)) (written : Place → List ℕ) →
+    HoldsSealed tag_of lines made used written → HoldsSealed tag_of lines (made ++ more) (used ++ more_used) written
+holds_more tag_of lines made more used more_used written was = record {
+  holds = λ line inside.
+      elim (was.holds line inside) [
+        | inl zeros ↦ inl zeros
+        | inr is ↦ inr (sealed_more tag_of made more used more_used line (written (line_place line)) is)
+      ];
+}
+
+module _ {B T : Type 0} (d n : T → List ℕ → List ℕ) (told : Told) (bus bus' : B) (engine engine' : Engine T) (pads pads' : Stream) (counters counters' : List ℕ) (limit : ℕ) (stopped : Option MemStop) (line writes : ℕ) (cipher : List ℕ)
+    (kept : IsKept (tags_of d n engine) told (record { bus = bus; engine = engine; pads = pads; counters = counters; limit = limit; stopped = stopped }))
+    (going : lasting_stop stopped ≡ None) (inside : line < line_count engine.levels) (read : writes ≡ slice_index counters line)
+    (below : writes < limit) (long : length cipher ≡ 64) (set : counters' ≡ slice_set counters line (writes + 1))
+    (tagged : engine' ≡ after_make (Line line (record { page = writes + 1; line = 0 }) cipher) (with_room 1 engine))
+    (enciphered_is : pads' ≡ after_encrypt line (record { page = writes + 1; line = 0 }) (pads_with_room 1 pads)) where
+  abbrev counter : Counter
+  counter = record { page = writes + 1; line = 0 }
+
+  abbrev made_after : List Message
+  made_after = engine.made ++ Line line (record { page = writes + 1; line = 0 }) cipher ∷ []
+
+  abbrev used_after : List (ℕ × Counter)
+  used_after = pads.used ++ (line, record { page = writes + 1; line = 0 }) ∷ []
+
+  count : writes ≡ times_tagged engine.made line
+  count = read ∙ kept.counted.counts line inside
+
+  write_counted : AreCounted (line_count engine.levels) limit made_after counters'
+  write_counted = counted_more (line_count engine.levels) limit engine.made counters counters' line writes cipher kept.counted inside count below long set
+
+  write_paired : data_pairs made_after ≡ used_after
+  unfolding data_pairs
+  write_paired =
+      data_pairs-append engine.made (Line line (record { page = writes + 1; line = 0 }) cipher ∷ [])
+      ∙ ap (λ (xs : List (ℕ × Counter)). xs ++ (line, record { page = writes + 1; line = 0 }) ∷ []) kept.paired
+
+  write_rising : AreRising used_after
+  write_rising = rising_more pads.used line (record { page = writes + 1; line = 0 }) kept.rising
+      (behind (line_count engine.levels) limit engine.made pads.used counters line writes kept.counted kept.paired count)
 
   -- a line whose counters are used up is not this one
-  spent_stays : (page : ℕ) → IsSpent (line_count engine.levels) limit engine.made page →
-      IsSpent (line_count engine.levels) limit (engine.made ++ Line line (record { page = writes + 1; line = 0 }) bytes ∷ []) page
+  spent_stays : (page : ℕ) → IsSpent (line_count engine.levels) limit pads.used page → IsSpent (line_count engine.levels) limit used_after page
   spent_stays page spent =
-      let used : line_writes engine.made spent.line ≡ limit = spent.used_up in
-      let count : writes ≡ line_writes engine.made line = read ∙ kept.counted.counts line inside in
-      let differs : spent.line ≢ line = λ same. let here = ap (line_writes engine.made) same in omega (arith, below, used, count, here) in
+      let full : times_tagged engine.made spent.line ≡ limit = sym (writes_same engine.made pads.used spent.line kept.paired) ∙ spent.used_up in
+      let differs : spent.line ≢ line = λ same. let here = ap (times_tagged engine.made) same in omega (arith, below, full, count, here) in
       record {
         line = spent.line;
         inside = spent.inside;
         of_page = spent.of_page;
-        used_up = ap writes_of (last_data-other engine.made line spent.line (record { page = writes + 1; line = 0 }) bytes differs) ∙ used;
+        used_up = writes_same made_after used_after spent.line write_paired
+            ∙ ap writes_of (last_data-other engine.made line spent.line (record { page = writes + 1; line = 0 }) cipher differs) ∙ full;
       }
 
   wrote_kept : (told' : Told) (stopped' : Option MemStop) → told'.levels ≡ told.levels → told'.lies ≡ told.lies → told'.lie ≡ told.lie →
-      (lasting_stop stopped' ≡ None → engine.evidence ≡ None → HoldsLast (tags_of d n engine) (line_count engine.levels)
-      (engine.made ++ Line line (record { page = writes + 1; line = 0 }) bytes ∷ []) told'.written) →
+      HoldsSealed (tags_of d n engine) (line_count engine.levels) made_after used_after told'.written →
+      (lasting_stop stopped' ≡ None → engine.evidence ≡ None → HoldsLast (tags_of d n engine) (line_count engine.levels) made_after told'.written) →
       ((place : Place) → stopped' ≡ Some (Tampered place) → ⊥) → ((page : ℕ) → stopped' ≡ Some (Spent page) → stopped ≡ Some (Spent page)) →
-      IsKept (tags_of d n (after_make (Line line (record { page = writes + 1; line = 0 }) bytes) (with_room 1 engine))) told' (record {
+      IsKept (tags_of d n (after_make (Line line (record { page = writes + 1; line = 0 }) cipher) (with_room 1 engine))) told' (record {
         bus = bus';
-        engine = after_make (Line line (record { page = writes + 1; line = 0 }) bytes) (with_room 1 engine);
+        engine = after_make (Line line (record { page = writes + 1; line = 0 }) cipher) (with_room 1 engine);
+        pads = after_encrypt line (record { page = writes + 1; line = 0 }) (pads_with_room 1 pads);
         counters = counters';
         limit = limit;
         stopped = stopped';
       })
-  wrote_kept told' stopped' levels lies lie stored untampered spent = record {
+  wrote_kept told' stopped' levels lies lie sealed stored untampered spent = record {
     levels = levels ∙ kept.levels;
+    paired = write_paired;
+    rising = write_rising;
+    sealed = sealed;
     counted = write_counted;
     stored = λ quiet goes_on. stored goes_on quiet;
-    answers = λ quiet. honest_with (tags_of d n engine) (engine.made ++ Line line (record { page = writes + 1; line = 0 }) bytes ∷ []) told' stopped'
-        (lies ∙ honest_by told (tags_of d n engine) engine.made stopped going (kept.answers quiet)) untampered;
-    genuine = still_genuine (tags_of d n engine) engine.made (Line line (record { page = writes + 1; line = 0 }) bytes ∷ []) engine.evidence kept.genuine;
-    shown = λ e is. made_more (tags_of d n engine) told told' engine.made (Line line (record { page = writes + 1; line = 0 }) bytes ∷ []) e lies lie
+    answers = λ quiet. honest_with (tags_of d n engine) used_after made_after told' stopped'
+        (lies ∙ honest_by told (tags_of d n engine) pads.used engine.made stopped going (kept.answers quiet)) untampered;
+    genuine = still_genuine (tags_of d n engine) engine.made (Line line (record { page = writes + 1; line = 0 }) cipher ∷ []) engine.evidence kept.genuine;
+    shown = λ e is. made_more (tags_of d n engine) told told' engine.made (Line line (record { page = writes + 1; line = 0 }) cipher ∷ []) e lies lie
         (some_holds engine.evidence e (IsEvidence (tags_of d n engine) engine.made) is kept.genuine) (kept.shown e is);
     spent = λ page is. spent_stays page (kept.spent page (spent page is));
   }
 
-  stored_more : engine.evidence ≡ None → HoldsLast (tags_of d n engine) (line_count engine.levels) (engine.made ++ Line line (record { page = writes + 1; line = 0 }) bytes ∷ [])
-      (at_place (line_place line) (bytes ++ tags_of d n engine (Line line (record { page = writes + 1; line = 0 }) bytes)) told.written)
-  stored_more quiet =
-      let counter : Counter = record { page = writes + 1; line = 0 } in
-      let made : List Message = engine.made ++ Line line counter bytes ∷ [] in
-      let tag : List ℕ = tags_of d n engine (Line line counter bytes) in
+  abbrev line_after : List ℕ
+  line_after = sealed_line (tags_of d n engine) line (record { page = writes + 1; line = 0 }) cipher
+
+  stored_more : engine.evidence ≡ None → HoldsLast (tags_of d n engine) (line_count engine.levels) made_after (at_place (line_place line) line_after told.written)
+  stored_more quiet = record {
+    holds = λ other counter' cipher' within last.
+        elim (cases_eq other line) [
+          | inl same ↦
+              let mine : Counter × List ℕ = (record { page = writes + 1; line = 0 }, cipher) in
+              let theirs : Counter × List ℕ = (counter', cipher') in
+              let here : last_data other made_after ≡ Some mine = ap (λ (l : ℕ). last_data l made_after) same ∙ last_data-same engine.made line (record { page = writes + 1; line = 0 }) cipher in
+              let pair : mine ≡ theirs = some_same mine theirs (sym here ∙ last) in
+              ap (λ (l : ℕ). at_place (line_place line) line_after told.written (line_place l)) same
+              ∙ at_place-here (line_place line) line_after told.written
+              ∙ ap (λ (p : Counter × List ℕ). sealed_line (tags_of d n engine) line p.0 p.1) pair
+              ∙ ap (λ (l : ℕ). sealed_line (tags_of d n engine) l counter' cipher') (sym same)
+          | inr differs ↦
+              let apart : line_place other ≢ line_place line = λ e. differs (cc) in
+              at_place-there (line_place line) (line_place other) line_after told.written apart
+              ∙ (kept.stored quiet going).holds other counter' cipher' within (sym (last_data-other engine.made line other (record { page = writes + 1; line = 0 }) cipher differs) ∙ last)
+        ];
+  }
+
+  sealed_here : IsSealed (tags_of d n engine) made_after used_after line line_after
+  sealed_here = record {
+    counter = record { page = writes + 1; line = 0 };
+    cipher = cipher;
+    made_there = Contains-push engine.made (Line line (record { page = writes + 1; line = 0 }) cipher);
+    used_there = Contains-push pads.used (line, record { page = writes + 1; line = 0 });
+    sealed = refl;
+  }
+
+  sealed_after : HoldsSealed (tags_of d n engine) (line_count engine.levels) made_after used_after (at_place (line_place line) line_after told.written)
+  sealed_after =
+      let was = holds_more (tags_of d n engine) (line_count engine.levels) engine.made (Line line (record { page = writes + 1; line = 0 }) cipher ∷ [])
+      pads.used ((line, record { page = writes + 1; line = 0 }) ∷ []) told.written kept.sealed in
       record {
-        holds = λ other counter' cipher within last.
+        holds = λ other within.
             elim (cases_eq other line) [
               | inl same ↦
-                  let here : last_data other made ≡ Some (counter, bytes) = ap (λ (l : ℕ). last_data l made) same ∙ last_data-same engine.made line counter bytes in
-                  let pair : (counter, bytes) ≡ (counter', cipher) = some_same (counter, bytes) (counter', cipher) (sym here ∙ last) in
-                  ap (λ (l : ℕ). at_place (line_place line) (bytes ++ tag) told.written (line_place l)) same
-                  ∙ at_place-here (line_place line) (bytes ++ tag) told.written
-                  ∙ ap (λ (p : Counter × List ℕ). p.1 ++ tags_of d n engine (Line line p.0 p.1)) pair
-                  ∙ ap (λ (l : ℕ). cipher ++ tags_of d n engine (Line l counter' cipher)) (sym same)
+                  let here : at_place (line_place line) line_after told.written (line_place line) ≡ line_after = at_place-here (line_place line) line_after told.written in
+                  subst (λ (l : ℕ). (at_place (line_place line) line_after told.written (line_place l) ≡ zeros_of (line_place l))
+                  ⊎ IsSealed (tags_of d n engine) made_after used_after l (at_place (line_place line) line_after told.written (line_place l))) (sym same)
+                  (inr (subst (λ (bytes : List ℕ). IsSealed (tags_of d n engine) made_after used_after line bytes) (sym here) sealed_here))
               | inr differs ↦
                   let apart : line_place other ≢ line_place line = λ e. differs (cc) in
-                  at_place-there (line_place line) (line_place other) (bytes ++ tag) told.written apart
-                  ∙ (kept.stored quiet going).holds other counter' cipher within (sym (last_data-other engine.made line other counter bytes differs) ∙ last)
+                  let there : at_place (line_place line) line_after told.written (line_place other) ≡ told.written (line_place other) =
+                  at_place-there (line_place line) (line_place other) line_after told.written apart in
+                  subst (λ (bytes : List ℕ). (bytes ≡ zeros_of (line_place other)) ⊎ IsSealed (tags_of d n engine) made_after used_after other bytes) (sym there) (was.holds other within)
             ];
       }
 
+  wrote_with : (told' : Told) (stopped' : Option MemStop) →
+      IsKept (tags_of d n (after_make (Line line (record { page = writes + 1; line = 0 }) cipher) (with_room 1 engine))) told' (record {
+        bus = bus';
+        engine = after_make (Line line (record { page = writes + 1; line = 0 }) cipher) (with_room 1 engine);
+        pads = after_encrypt line (record { page = writes + 1; line = 0 }) (pads_with_room 1 pads);
+        counters = counters';
+        limit = limit;
+        stopped = stopped';
+      }) →
+      IsKept (tags_of d n engine') told' (record { bus = bus'; engine = engine'; pads = pads'; counters = counters'; limit = limit; stopped = stopped' })
+  wrote_with told' stopped' is =
+      subst (λ (e : Engine T). IsKept (tags_of d n e) told' (record { bus = bus'; engine = e; pads = pads'; counters = counters'; limit = limit; stopped = stopped' })) (sym tagged)
+      (subst (λ (p : Stream). IsKept (tags_of d n (after_make (Line line (record { page = writes + 1; line = 0 }) cipher) (with_room 1 engine))) told' (record {
+        bus = bus';
+        engine = after_make (Line line (record { page = writes + 1; line = 0 }) cipher) (with_room 1 engine);
+        pads = p;
+        counters = counters';
+        limit = limit;
+        stopped = stopped';
+      })) (sym enciphered_is) is)
+
   -- a line and its tag were written
-  pub written_kept : (told' : Told) →
-      told' ≡ after_write (line_place line) (bytes ++ tags_of d n engine (Line line (record { page = writes + 1; line = 0 }) bytes)) told →
-      IsKept (tags_of d n engine') told' (record { bus = bus'; engine = engine'; counters = counters'; limit = limit; stopped = stopped })
+  pub written_kept : (told' : Told) → told' ≡ after_write (line_place line) line_after told →
+      IsKept (tags_of d n engine') told' (record { bus = bus'; engine = engine'; pads = pads'; counters = counters'; limit = limit; stopped = stopped })
   unfolding after_write
   written_kept told' wrote =
-      subst (λ (e : Engine T). IsKept (tags_of d n e) told' (record { bus = bus'; engine = e; counters = counters'; limit = limit; stopped = stopped })) (sym tagged)
+      wrote_with told' stopped
       (wrote_kept told' stopped (ap (λ (t : Told). t.levels) wrote) (ap (λ (t : Told). t.lies) wrote) (ap (λ (t : Told). t.lie) wrote)
-      (λ goes_on quiet. subst (λ (t : Told). HoldsLast (tags_of d n engine) (line_count engine.levels) (engine.made ++ Line line (record { page = writes + 1; line = 0 }) bytes ∷ []) t.written) (sym wrote) (stored_more quiet))
+      (subst (λ (t : Told). HoldsSealed (tags_of d n engine) (line_count engine.levels) made_after used_after t.written) (sym wrote) sealed_after)
+      (λ goes_on quiet. subst (λ (t : Told). HoldsLast (tags_of d n engine) (line_count engine.levels) made_after t.written) (sym wrote) (stored_more quiet))
       (λ place is. untampered_by stopped place going is) (λ page is. is))
 
   -- there was no memory to write them
   pub unwritten_kept : (told' : Told) → told' ≡ told →
-      IsKept (tags_of d n engine') told' (record { bus = bus'; engine = engine'; counters = counters'; limit = limit; stopped = Some NoMemory })
+      IsKept (tags_of d n engine') told' (record { bus = bus'; engine = engine'; pads = pads'; counters = counters'; limit = limit; stopped = Some NoMemory })
   unwritten_kept told' same =
-      subst (λ (e : Engine T). IsKept (tags_of d n e) told' (record { bus = bus'; engine = e; counters = counters'; limit = limit; stopped = Some NoMemory })) (sym tagged)
+      wrote_with told' (Some NoMemory)
       (wrote_kept told' (Some NoMemory) (ap (λ (t : Told). t.levels) same) (ap (λ (t : Told). t.lies) same) (ap (λ (t : Told). t.lie) same)
+      (subst (λ (t : Told). HoldsSealed (tags_of d n engine) (line_count engine.levels) made_after used_after t.written) (sym same)
+      (holds_more (tags_of d n engine) (line_count engine.levels) engine.made (Line line (record { page = writes + 1; line = 0 }) cipher ∷ [])
+      pads.used ((line, record { page = writes + 1; line = 0 }) ∷ []) told.written kept.sealed))
       (λ goes_on quiet. absurd (cc)) (λ place is. absurd (cc)) (λ page is. absurd (cc)))

@@ -1,4 +1,5 @@
 pub mod Loading
+pub mod Pairs
 pub mod LineMessages
 pub mod Keeping
 pub mod LineMoves

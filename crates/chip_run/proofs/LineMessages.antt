@@ -12,12 +12,15 @@ use Rattle.sec_base.specs.declared.account.Message.{Message}
 use Rattle.sec_base.specs.declared.account.Message.TheVariants.{Line, Node}
 use Rattle.sec_base.specs.Last.{data_part, last_at, last_data, last_pair, data_pairs}
 use Rattle.sec_base.specs.Lines.{with_line}
+use Rattle.pad_stream.specs.Used.{IsBefore}
+use Rattle.pad_stream.specs.Pad.{enciphered}
 use Rattle.sec_base.proofs.LastMessages.{last_of_same, last_of_other, linked, HasPart, last_pair-data_pairs}
+use Rattle.chip_run.proofs.Pairs.{pair_made, data_pairs-append}
 use Rattle.sec_base.proofs.SamePlaces.{false_from}
 use Rattle.sec_base.proofs.JoinedLines.{with_line-joined_lines}
-use Rattle.chip_run.specs.Contents.{bytes_of, line_bytes, contents_of, writes_of, line_writes}
-use Rattle.chip_run.specs.LineLengths.{length-line_bytes, as_line-whole}
-use Rattle.chip_run.specs.Protected.{IsNumbered, AreCounted}
+use Rattle.chip_run.specs.Contents.{bytes_of, line_bytes, contents_of, writes_by, line_writes}
+use Rattle.chip_run.specs.LineLengths.{length-line_bytes}
+use Rattle.chip_run.specs.Protected.{IsNumbered, AreCounted, writes_of, times_tagged}
 
 -- a message more of the line itself
 pub last_data-same : (made : List Message) (line : ℕ) (counter : Counter) (cipher : List ℕ) →
@@ -96,13 +99,32 @@ last_pair-none made line e =
     last_pair-data_pairs line made ∙ ap (λ (o : Option (Counter × List ℕ)). option_map (λ found. found.0) o) e
 
 -- the contents after a message more
-pub contents_more : (lines : ℕ) (made : List Message) (line : ℕ) (counter : Counter) (bytes : List ℕ) → line < lines → length bytes ≡ 64 →
-    with_line (contents_of lines made) line bytes ≡ contents_of lines (made ++ Line line counter bytes ∷ [])
-contents_more lines made line counter bytes inside long =
-    with_line-joined_lines (line_bytes made) (line_bytes (made ++ Line line counter bytes ∷ [])) lines line bytes
-    (length-line_bytes made) inside
-    (ap bytes_of (last_data-same made line counter bytes) ∙ as_line-whole bytes long)
-    (λ (other : ℕ) (differs : other ≢ line). ap bytes_of (last_data-other made line other counter bytes differs))
+pub contents_more : (key : List ℕ) (lines : ℕ) (made : List Message) (line : ℕ) (counter : Counter) (bytes : List ℕ) → line < lines →
+    enciphered key line counter (enciphered key line counter bytes) ≡ bytes →
+    with_line (contents_of key lines made) line bytes ≡ contents_of key lines (made ++ Line line counter (enciphered key line counter bytes) ∷ [])
+contents_more key lines made line counter bytes inside undone =
+    let cipher : List ℕ = enciphered key line counter bytes in
+    with_line-joined_lines (line_bytes key made) (line_bytes key (made ++ Line line counter cipher ∷ [])) lines line bytes
+    (length-line_bytes key made) inside
+    (ap (bytes_of key line) (last_data-same made line counter cipher) ∙ undone)
+    (λ (other : ℕ) (differs : other ≢ line). ap (bytes_of key other) (last_data-other made line other counter cipher differs))
+
+writes_mapped : (last : Option (Counter × List ℕ)) → writes_by (option_map (λ found. found.0) last) ≡ writes_of last
+writes_mapped None = refl
+writes_mapped (Some last) = refl
+
+-- the counters that a line was enciphered under are those of its messages
+pub writes_same : (made : List Message) (used : List (ℕ × Counter)) (line : ℕ) → data_pairs made ≡ used → line_writes used line ≡ times_tagged made line
+writes_same made used line paired =
+    ap (λ (xs : List (ℕ × Counter)). line_writes xs line) (sym paired) ∙ ap writes_by (last_pair-data_pairs line made) ∙ writes_mapped (last_data line made)
+
+-- each comes before the next
+pub behind : (lines limit : ℕ) (made : List Message) (used : List (ℕ × Counter)) (counters : List ℕ) (line writes : ℕ) → AreCounted lines limit made counters → data_pairs made ≡ used →
+    writes ≡ times_tagged made line → (before : Counter) → Contains used (line, before) → IsBefore before (record { page = writes + 1; line = 0 })
+behind lines limit made used counters line writes counted paired count before listed =
+    let found = pair_made made line before (subst (λ (xs : List (ℕ × Counter)). Contains xs (line, before)) (sym paired) listed) in
+    let numbered = counted.numbered line before found.cipher found.listed in
+    inl (omega (arith, numbered.most, count))
 
 -- nothing was written yet
 pub counted_new : (lines limit : ℕ) → AreCounted lines limit [] (replicate lines 0)
@@ -111,18 +133,19 @@ counted_new lines limit = record {
   long = length-replicate lines 0;
   counts = λ line inside. get_or-replicate lines line 0 0 inside;
   limited = λ line. omega arith;
+  inside = λ line counter cipher listed. absurd (omega (arith, listed.1));
   numbered = λ line counter cipher listed. absurd (omega (arith, listed.1));
 }
 
 numbered_later : (made : List Message) (line other : ℕ) (counter counter' : Counter) (cipher cipher' : List ℕ) →
-    counter.page ≡ line_writes made line + 1 → IsNumbered made other counter' cipher' →
+    counter.page ≡ times_tagged made line + 1 → IsNumbered made other counter' cipher' →
     IsNumbered (made ++ Line line counter cipher ∷ []) other counter' cipher'
 numbered_later made line other counter counter' cipher cipher' next was =
     elim (cases_eq other line) [
       | inl same ↦
-          let now : line_writes (made ++ Line line counter cipher ∷ []) other ≡ line_writes made line + 1 =
-          ap (λ (l : ℕ). line_writes (made ++ Line line counter cipher ∷ []) l) same ∙ ap writes_of (last_data-same made line counter cipher) ∙ next in
-          let before : line_writes made other ≡ line_writes made line = ap (line_writes made) same in
+          let now : times_tagged (made ++ Line line counter cipher ∷ []) other ≡ times_tagged made line + 1 =
+          ap (λ (l : ℕ). times_tagged (made ++ Line line counter cipher ∷ []) l) same ∙ ap writes_of (last_data-same made line counter cipher) ∙ next in
+          let before : times_tagged made other ≡ times_tagged made line = ap (times_tagged made) same in
           record {
             own = was.own;
             least = was.least;
@@ -132,7 +155,7 @@ numbered_later made line other counter counter' cipher cipher' next was =
           }
       | inr differs ↦
           let stays : last_data other (made ++ Line line counter cipher ∷ []) ≡ last_data other made = last_data-other made line other counter cipher differs in
-          let writes : line_writes (made ++ Line line counter cipher ∷ []) other ≡ line_writes made other = ap writes_of stays in
+          let writes : times_tagged (made ++ Line line counter cipher ∷ []) other ≡ times_tagged made other = ap writes_of stays in
           record {
             own = was.own;
             least = was.least;
@@ -147,7 +170,7 @@ numbered_now : (made : List Message) (line writes : ℕ) (cipher : List ℕ) →
 numbered_now made line writes cipher long =
     let counter : Counter = record { page = writes + 1; line = 0 } in
     let here : last_data line (made ++ Line line counter cipher ∷ []) ≡ Some (counter, cipher) = last_data-same made line counter cipher in
-    let now : line_writes (made ++ Line line counter cipher ∷ []) line ≡ writes + 1 = ap writes_of here in
+    let now : times_tagged (made ++ Line line counter cipher ∷ []) line ≡ writes + 1 = ap writes_of here in
     record {
       own = refl;
       least = omega arith;
@@ -168,21 +191,21 @@ same_message made line other counter counter' cipher cipher' same was =
 
 -- a line was written once more
 pub counted_more : (lines limit : ℕ) (made : List Message) (counters counters' : List ℕ) (line writes : ℕ) (cipher : List ℕ) →
-    AreCounted lines limit made counters → line < lines → writes ≡ line_writes made line → writes < limit → length cipher ≡ 64 →
+    AreCounted lines limit made counters → line < lines → writes ≡ times_tagged made line → writes < limit → length cipher ≡ 64 →
     counters' ≡ slice_set counters line (writes + 1) →
     AreCounted lines limit (made ++ Line line (record { page = writes + 1; line = 0 }) cipher ∷ []) counters'
 counted_more lines limit made counters counters' line writes cipher was inside count below long stored =
     let counter : Counter = record { page = writes + 1; line = 0 } in
     let made' : List Message = made ++ Line line counter cipher ∷ [] in
-    let now : line_writes made' line ≡ writes + 1 = ap writes_of (last_data-same made line counter cipher) in
-    let next : counter.page ≡ line_writes made line + 1 = ap (λ (n : ℕ). n + 1) count in
+    let now : times_tagged made' line ≡ writes + 1 = ap writes_of (last_data-same made line counter cipher) in
+    let next : counter.page ≡ times_tagged made line + 1 = ap (λ (n : ℕ). n + 1) count in
     record {
       long = ap length stored ∙ length-set counters line (writes + 1) ∙ was.long;
       counts = λ other within.
           elim (cases_eq other line) [
             | inl same ↦ ap (λ (xs : List ℕ). slice_index xs other) stored
                 ∙ get_or-set_at counters line other (writes + 1) 0 same (omega (arith, was.long))
-                ∙ sym now ∙ ap (λ (l : ℕ). line_writes made' l) (sym same)
+                ∙ sym now ∙ ap (λ (l : ℕ). times_tagged made' l) (sym same)
             | inr differs ↦ ap (λ (xs : List ℕ). slice_index xs other) stored
                 ∙ get_or-set_other counters line other (writes + 1) 0 differs
                 ∙ was.counts other within
@@ -190,9 +213,14 @@ counted_more lines limit made counters counters' line writes cipher was inside c
           ];
       limited = λ other.
           elim (cases_eq other line) [
-            | inl same ↦ let here : line_writes made' other ≡ writes + 1 = ap (λ (l : ℕ). line_writes made' l) same ∙ now in omega (arith, here)
-            | inr differs ↦ let here : line_writes made' other ≡ line_writes made other = ap writes_of (last_data-other made line other counter cipher differs) in
+            | inl same ↦ let here : times_tagged made' other ≡ writes + 1 = ap (λ (l : ℕ). times_tagged made' l) same ∙ now in omega (arith, here)
+            | inr differs ↦ let here : times_tagged made' other ≡ times_tagged made other = ap writes_of (last_data-other made line other counter cipher differs) in
                 omega (arith, here, was.limited other)
+          ];
+      inside = λ other counter' cipher' listed.
+          elim (Contains-push_cases made (Line line counter cipher) (Line other counter' cipher') listed) [
+            | inl early ↦ was.inside other counter' cipher' early
+            | inr same ↦ let lines_same : line ≡ other = cc in omega (arith, lines_same)
           ];
       numbered = λ other counter' cipher' listed.
           elim (Contains-push_cases made (Line line counter cipher) (Line other counter' cipher') listed) [
@@ -209,20 +237,35 @@ counter_read lines limit made counters line writes counted inside read =
 
 -- it was written as often as the limit allows
 pub used_up : (lines limit : ℕ) (made : List Message) (counters : List ℕ) (line writes : ℕ) → AreCounted lines limit made counters → line < lines →
-    writes ≡ slice_index counters line → limit ≤ writes → line_writes made line ≡ limit
+    writes ≡ slice_index counters line → limit ≤ writes → times_tagged made line ≡ limit
 used_up lines limit made counters line writes counted inside read full =
-    let count : writes ≡ line_writes made line = read ∙ counted.counts line inside in omega (arith, count, counted.limited line)
+    let count : writes ≡ times_tagged made line = read ∙ counted.counts line inside in omega (arith, count, counted.limited line)
 
 -- or may be written once more
 pub not_used_up : (lines limit : ℕ) (made : List Message) (counters : List ℕ) (line writes : ℕ) → AreCounted lines limit made counters → line < lines →
-    writes ≡ slice_index counters line → writes < limit → line_writes made line ≡ limit → ⊥
+    writes ≡ slice_index counters line → writes < limit → times_tagged made line ≡ limit → ⊥
 not_used_up lines limit made counters line writes counted inside read below full =
-    let count : writes ≡ line_writes made line = read ∙ counted.counts line inside in omega (arith, count, full)
+    let count : writes ≡ times_tagged made line = read ∙ counted.counts line inside in omega (arith, count, full)
 
 -- a write raises the counter by one
 pub raised_writes : (lines limit : ℕ) (made made' : List Message) (counters : List ℕ) (line writes : ℕ) (cipher : List ℕ) → AreCounted lines limit made counters → line < lines →
-    writes ≡ slice_index counters line → made' ≡ made ++ Line line (record { page = writes + 1; line = 0 }) cipher ∷ [] → line_writes made' line ≡ line_writes made line + 1
+    writes ≡ slice_index counters line → made' ≡ made ++ Line line (record { page = writes + 1; line = 0 }) cipher ∷ [] → times_tagged made' line ≡ times_tagged made line + 1
 raised_writes lines limit made made' counters line writes cipher counted inside read more =
-    let count : writes ≡ line_writes made line = read ∙ counted.counts line inside in
-    ap (λ (xs : List Message). line_writes xs line) more ∙ ap writes_of (last_data-same made line (record { page = writes + 1; line = 0 }) cipher)
+    let count : writes ≡ times_tagged made line = read ∙ counted.counts line inside in
+    ap (λ (xs : List Message). times_tagged xs line) more ∙ ap writes_of (last_data-same made line (record { page = writes + 1; line = 0 }) cipher)
     ∙ ap (λ (n : ℕ). n + 1) count
+
+paired_more : (made : List Message) (used : List (ℕ × Counter)) (line : ℕ) (counter : Counter) (cipher : List ℕ) → data_pairs made ≡ used →
+    data_pairs (made ++ Line line counter cipher ∷ []) ≡ used ++ (line, counter) ∷ []
+unfolding data_pairs
+paired_more made used line counter cipher paired =
+    data_pairs-append made (Line line counter cipher ∷ []) ∙ ap (λ (xs : List (ℕ × Counter)). xs ++ (line, counter) ∷ []) paired
+
+pub raised_used : (lines limit : ℕ) (made made' : List Message) (used used' : List (ℕ × Counter)) (counters : List ℕ) (line writes : ℕ) (cipher : List ℕ) → AreCounted lines limit made counters → line < lines →
+    writes ≡ slice_index counters line → data_pairs made ≡ used → made' ≡ made ++ Line line (record { page = writes + 1; line = 0 }) cipher ∷ [] →
+    used' ≡ used ++ (line, record { page = writes + 1; line = 0 }) ∷ [] → line_writes used' line ≡ line_writes used line + 1
+raised_used lines limit made made' used used' counters line writes cipher counted inside read paired more more_used =
+    let counter : Counter = record { page = writes + 1; line = 0 } in
+    let paired' : data_pairs made' ≡ used' = ap data_pairs more ∙ paired_more made used line counter cipher paired ∙ sym more_used in
+    let rose = raised_writes lines limit made made' counters line writes cipher counted inside read more in
+    writes_same made' used' line paired' ∙ rose ∙ ap (λ (n : ℕ). n + 1) (sym (writes_same made used line paired))

@@ -4,7 +4,7 @@ use Rattle.std.specs.Option.{option_or}
 use Rattle.std.proofs.lemmas.List.{append-nil}
 use Rattle.sec_base.specs.Count.{more_by, Rose, RoseBy}
 use Rattle.sec_base.specs.Places.{place_eq, at_place}
-use Rattle.sec_base.specs.Last.{last_data, data_pairs, IsFresh}
+use Rattle.sec_base.specs.Last.{last_data, IsFresh}
 use Rattle.sec_base.specs.Lines.{line_at}
 use Rattle.sec_base.specs.declared.layout.Place.{Place}
 use Rattle.sec_base.specs.declared.layout.Place.TheVariants.{Line as line_place}
@@ -19,10 +19,11 @@ use Rattle.sec_base.proofs.JoinedLines.{line_at-joined_lines}
 use Rattle.bus_model.specs.Told.{Told, after_read}
 use Rattle.bus_model.proofs.Steps.{read_reads, read_rose}
 use Rattle.tag_engine.specs.Engine.{Engine, forgery_of, after_make, with_room}
-use Rattle.chip_run.specs.Contents.{bytes_of, line_bytes, writes_of, contents_of}
+use Rattle.pad_stream.specs.Stream.{Stream, after_encrypt, with_room as pads_with_room}
+use Rattle.chip_run.specs.Contents.{bytes_of, line_bytes, contents_of}
 use Rattle.chip_run.specs.LineLengths.{length-line_bytes}
 use Rattle.chip_run.specs.Moving.{moves_not}
-use Rattle.chip_run.specs.Protected.{Protected, Moves, WereRead, ReadMoved, Passed, IsCheckedRead, AreCounted}
+use Rattle.chip_run.specs.Protected.{Protected, Moves, WereRead, ReadMoved, IsMoved, Passed, IsCheckedRead, AreCounted, writes_of, lasting_stop}
 use Rattle.chip_run.proofs.LineMessages.{last_made}
 
 -- Counts of reads
@@ -51,13 +52,16 @@ module _ {B T : Type 0} (told : B → Told) (old : Protected B T) (line : ℕ) w
   -- an answer of the line's place
   pub answer_moves : (bus : B) (engine : Engine T) (counters : List ℕ) (stopped : Option MemStop) (bytes : List ℕ) (shown : Option Evidence) →
       told bus ≡ after_read (line_place line) bytes (told old.bus) → engine ≡ record old.engine { evidence = option_or old.engine.evidence shown } →
-      Moves told old (record { bus = bus; engine = engine; counters = counters; limit = old.limit; stopped = stopped })
+      Moves told old (record { bus = bus; engine = engine; pads = old.pads; counters = counters; limit = old.limit; stopped = stopped })
   answer_moves bus engine counters stopped bytes shown answered checked = record {
     tagger = ap (λ (e : Engine T). e.tagger) checked;
     levels = ap (λ (e : Engine T). e.levels) checked;
+    key = refl;
     limit = refl;
     more = [];
     made = ap (λ (e : Engine T). e.made) checked ∙ sym (append-nil old.engine.made);
+    more_used = [];
+    used = sym (append-nil old.pads.used);
     reads = λ place. subst (λ (t : Told). RoseBy 0 ((told old.bus).reads place) (t.reads place)) (sym answered)
         (reads_kept (line_place line) place bytes (told old.bus));
     evidence = λ evidence is. ap (λ (e : Engine T). e.evidence) checked ∙ first_stays old.engine.evidence shown evidence is;
@@ -65,7 +69,7 @@ module _ {B T : Type 0} (told : B → Told) (old : Protected B T) (line : ℕ) w
 
   was_read : (bus : B) (engine : Engine T) (counters : List ℕ) (stopped : Option MemStop) (bytes : List ℕ) →
       told bus ≡ after_read (line_place line) bytes (told old.bus) →
-      WereRead told old (line ∷ []) (record { bus = bus; engine = engine; counters = counters; limit = old.limit; stopped = stopped })
+      WereRead told old (line ∷ []) (record { bus = bus; engine = engine; pads = old.pads; counters = counters; limit = old.limit; stopped = stopped })
   was_read bus engine counters stopped bytes answered = record {
     read = λ going quiet other listed.
         let here : other ≡ line = only_line line other listed in
@@ -77,7 +81,7 @@ module _ {B T : Type 0} (told : B → Told) (old : Protected B T) (line : ℕ) w
   -- a line that passed its check
   pub passed_moved : (tag_of : Message → List ℕ) (counter : Counter) (bus : B) (engine : Engine T) (cipher : List ℕ) →
       Passed tag_of line counter (told old.bus) (told bus) old.engine engine cipher →
-      ReadMoved told old line (record { bus = bus; engine = engine; counters = old.counters; limit = old.limit; stopped = old.stopped })
+      ReadMoved told old line (record { bus = bus; engine = engine; pads = old.pads; counters = old.counters; limit = old.limit; stopped = old.stopped })
   passed_moved tag_of counter bus engine cipher passed = record {
     moves = answer_moves bus engine old.counters old.stopped (cipher ++ passed.tag)
         (forgery_of old.engine.made line counter (record { cipher = cipher; tag = passed.tag }) true) passed.answered passed.checked;
@@ -85,20 +89,25 @@ module _ {B T : Type 0} (told : B → Told) (old : Protected B T) (line : ℕ) w
   }
 
   -- nothing but a stop
-  pub stop_moves : (bus : B) (engine : Engine T) (stopped : Option MemStop) → told bus ≡ told old.bus → engine ≡ old.engine →
-      Moves told old (record { bus = bus; engine = engine; counters = old.counters; limit = old.limit; stopped = stopped })
-  stop_moves bus engine stopped same unchanged = record {
-    tagger = ap (λ (e : Engine T). e.tagger) unchanged;
-    levels = ap (λ (e : Engine T). e.levels) unchanged;
+  pub stop_moves : (bus : B) (engine : Engine T) (pads : Stream) (stopped : Option MemStop) → told bus ≡ told old.bus →
+      engine.tagger ≡ old.engine.tagger → engine.levels ≡ old.engine.levels → engine.made ≡ old.engine.made → engine.evidence ≡ old.engine.evidence →
+      pads.key ≡ old.pads.key → pads.used ≡ old.pads.used →
+      Moves told old (record { bus = bus; engine = engine; pads = pads; counters = old.counters; limit = old.limit; stopped = stopped })
+  stop_moves bus engine pads stopped same tagger levels made evidence key used = record {
+    tagger = tagger;
+    levels = levels;
+    key = key;
     limit = refl;
     more = [];
-    made = ap (λ (e : Engine T). e.made) unchanged ∙ sym (append-nil old.engine.made);
+    made = made ∙ sym (append-nil old.engine.made);
+    more_used = [];
+    used = used ∙ sym (append-nil old.pads.used);
     reads = λ place. let is : (told bus).reads place ≡ (told old.bus).reads place = ap (λ (t : Told). t.reads place) same in omega (arith, is);
-    evidence = λ evidence is. ap (λ (e : Engine T). e.evidence) unchanged ∙ is;
+    evidence = λ shown is. evidence ∙ is;
   }
 
   unread : (bus : B) (engine : Engine T) (stop : MemStop) →
-      WereRead told old (line ∷ []) (record { bus = bus; engine = engine; counters = old.counters; limit = old.limit; stopped = Some stop })
+      WereRead told old (line ∷ []) (record { bus = bus; engine = engine; pads = old.pads; counters = old.counters; limit = old.limit; stopped = Some stop })
   unread bus engine stop = record { read = λ going quiet other listed. absurd (cc) }
 
   nothing_shown : (engine : Engine T) → engine ≡ old.engine → (evidence : Option Evidence) → old.engine.evidence ≡ evidence →
@@ -109,10 +118,11 @@ module _ {B T : Type 0} (told : B → Told) (old : Protected B T) (line : ℕ) w
   -- a line that stopped the memory
   pub stopped_moved : (tag_of : Message → List ℕ) (counter : Counter) (bus : B) (engine : Engine T) (stop : MemStop) →
       IsCheckedRead tag_of line counter (told old.bus) (told bus) old.engine engine (Err stop) →
-      ReadMoved told old line (record { bus = bus; engine = engine; counters = old.counters; limit = old.limit; stopped = Some stop })
+      ReadMoved told old line (record { bus = bus; engine = engine; pads = old.pads; counters = old.counters; limit = old.limit; stopped = Some stop })
   stopped_moved tag_of counter bus engine (Spent page) result = absurd result
   stopped_moved tag_of counter bus engine NoMemory result = record {
-    moves = stop_moves bus engine (Some NoMemory) result.0 result.1;
+    moves = stop_moves bus engine old.pads (Some NoMemory) result.0 (ap (λ (e : Engine T). e.tagger) result.1) (ap (λ (e : Engine T). e.levels) result.1)
+        (ap (λ (e : Engine T). e.made) result.1) (ap (λ (e : Engine T). e.evidence) result.1) refl refl;
     read = unread bus engine NoMemory;
   }
   stopped_moved tag_of counter bus engine (Tampered place) result = record {
@@ -122,28 +132,44 @@ module _ {B T : Type 0} (told : B → Told) (old : Protected B T) (line : ℕ) w
   }
 
   -- a line that was never written
-  pub fresh_moved : IsFresh line (data_pairs old.engine.made) → ReadMoved told old line old
+  pub fresh_moved : IsFresh line old.pads.used → ReadMoved told old line old
   fresh_moved fresh = record {
     moves = moves_not told old;
     read = record {
       read = λ going quiet other listed.
-          inl (subst (λ (l : ℕ). IsFresh l (data_pairs old.engine.made)) (sym (only_line line other listed)) fresh);
+          inl (subst (λ (l : ℕ). IsFresh l old.pads.used) (sym (only_line line other listed)) fresh);
     };
   }
 
-  -- a line that was tagged, and written or not
-  pub tagged_moves : (counter : Counter) (bytes : List ℕ) (bus : B) (engine : Engine T) (counters : List ℕ) (stopped : Option MemStop) →
-      engine ≡ after_make (Line line counter bytes) (with_room 1 old.engine) → (told bus).reads ≡ (told old.bus).reads →
-      Moves told old (record { bus = bus; engine = engine; counters = counters; limit = old.limit; stopped = stopped })
-  tagged_moves counter bytes bus engine counters stopped tagged same = record {
+  -- a line that was enciphered and tagged, and written or not
+  pub tagged_moves : (counter : Counter) (cipher : List ℕ) (bus : B) (engine : Engine T) (pads : Stream) (counters : List ℕ) (stopped : Option MemStop) →
+      engine ≡ after_make (Line line counter cipher) (with_room 1 old.engine) → pads ≡ after_encrypt line counter (pads_with_room 1 old.pads) →
+      (told bus).reads ≡ (told old.bus).reads →
+      Moves told old (record { bus = bus; engine = engine; pads = pads; counters = counters; limit = old.limit; stopped = stopped })
+  tagged_moves counter cipher bus engine pads counters stopped tagged enciphered_is same = record {
     tagger = ap (λ (e : Engine T). e.tagger) tagged;
     levels = ap (λ (e : Engine T). e.levels) tagged;
+    key = ap (λ (p : Stream). p.key) enciphered_is;
     limit = refl;
-    more = Line line counter bytes ∷ [];
+    more = Line line counter cipher ∷ [];
     made = ap (λ (e : Engine T). e.made) tagged;
+    more_used = (line, counter) ∷ [];
+    used = ap (λ (p : Stream). p.used) enciphered_is;
     reads = λ place. let is : (told bus).reads place ≡ (told old.bus).reads place = ap (λ (f : Place → ℕ). f place) same in omega (arith, is);
     evidence = λ evidence is. ap (λ (e : Engine T). e.evidence) tagged ∙ is;
   }
+
+-- a stop that lasts, answered again
+stopped_already : (stopped : Option MemStop) (stop : MemStop) → lasting_stop stopped ≡ Some stop → stopped ≡ None → ⊥
+stopped_already None stop lasting going = cc
+stopped_already (Some other) stop lasting going = cc
+
+pub lasting_read : {B T : Type 0} (told : B → Told) (memory : Protected B T) (line : ℕ) (stop : MemStop) → lasting_stop memory.stopped ≡ Some stop →
+    ReadMoved told memory line memory
+lasting_read told memory line stop lasting = record {
+  moves = moves_not told memory;
+  read = record { read = λ going quiet other listed. absurd (stopped_already memory.stopped stop lasting going) };
+}
 
 -- Lines that were never written
 
@@ -160,10 +186,10 @@ never_written lines limit made counters line writes counted inside read none =
 
 -- The bytes of a line
 
-pub line_there : (lines : ℕ) (made : List Message) (line : ℕ) (last : Option (Counter × List ℕ)) → line < lines → last_data line made ≡ last →
-    line_at (contents_of lines made) line ≡ bytes_of last
-line_there lines made line last inside is =
-    line_at-joined_lines (line_bytes made) lines line (length-line_bytes made) inside ∙ ap bytes_of is
+pub line_there : (key : List ℕ) (lines : ℕ) (made : List Message) (line : ℕ) (last : Option (Counter × List ℕ)) → line < lines → last_data line made ≡ last →
+    line_at (contents_of key lines made) line ≡ bytes_of key line last
+line_there key lines made line last inside is =
+    line_at-joined_lines (line_bytes key made) lines line (length-line_bytes key made) inside ∙ ap (bytes_of key line) is
 
 -- the geometry stays
 pub stopped_levels : {T : Type 0} (tag_of : Message → List ℕ) (line : ℕ) (counter : Counter) (told told' : Told) (engine engine' : Engine T) (stop : MemStop) →
@@ -171,3 +197,12 @@ pub stopped_levels : {T : Type 0} (tag_of : Message → List ℕ) (line : ℕ) (
 stopped_levels {T} tag_of line counter told told' engine engine' (Spent page) result = absurd result
 stopped_levels {T} tag_of line counter told told' engine engine' NoMemory result = ap (λ (e : Engine T). e.levels) result.1
 stopped_levels {T} tag_of line counter told told' engine engine' (Tampered place) result = ap (λ (e : Engine T). e.levels) result.1.unchanged
+
+-- a memory that answers its stop again
+pub stopped_unmoved : {B T : Type 0} (told : B → Told) (memory : Protected B T) (lines : List ℕ) (stop : MemStop) → memory.stopped ≡ Some stop →
+    IsMoved told memory lines memory
+stopped_unmoved told memory lines stop stopped = record {
+  moves = moves_not told memory;
+  stays = λ other is. is;
+  read = record { read = λ going quiet other listed. absurd (cc) };
+}

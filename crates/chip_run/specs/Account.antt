@@ -3,7 +3,7 @@ use Rattle.std.specs.Prelude.{◌≡◌, ◌⊎◌, ℕ, ◌<◌, List, Some}
 use Rattle.sec_base.specs.declared.layout.Place.{Place}
 use Rattle.sec_base.specs.declared.account.Message.{Message}
 use Rattle.sec_base.specs.declared.account.Evidence.{Evidence}
-use Rattle.sec_base.specs.Last.{data_pairs}
+use Rattle.sec_base.specs.declared.sealing.Counter.{Counter}
 use Rattle.sec_base.specs.Evidence.{Fails, HasLastCounter, evidence_place, evidence_bytes}
 use Rattle.bus_model.specs.Told.{Told, Lie}
 
@@ -13,16 +13,16 @@ pub record IsHonest (told : Told) (tampered : Place → Type 0) : Type 0 where
   pub untampered : (place : Place) → ¬ tampered place
 
 -- The one false answer fails its check, was the last access, and was taken for tampering with its place.
-pub record IsCaught (tag_of : Message → List ℕ) (made : List Message) (told : Told) (tampered : Place → Type 0) : Type 0 where
+pub record IsCaught (tag_of : Message → List ℕ) (used : List (ℕ × Counter)) (made : List Message) (told : Told) (tampered : Place → Type 0) : Type 0 where
   pub lies : told.lies ≡ 1
   pub lie : Lie
   pub first : told.lie ≡ Some lie
   pub last : lie.access ≡ told.accesses
-  pub fails : Fails tag_of (data_pairs made) made lie.place lie.bytes
+  pub fails : Fails tag_of used made lie.place lie.bytes
   pub ended : tampered lie.place
 
-abbrev pub HonestOrCaught : (Message → List ℕ) → List Message → Told → (Place → Type 0) → Type 0
-HonestOrCaught tag_of made told tampered = IsHonest told tampered ⊎ IsCaught tag_of made told tampered
+abbrev pub HonestOrCaught : (Message → List ℕ) → List (ℕ × Counter) → List Message → Told → (Place → Type 0) → Type 0
+HonestOrCaught tag_of used made told tampered = IsHonest told tampered ⊎ IsCaught tag_of used made told tampered
 
 -- Evidence is of the first false answer: of its place and its bytes, and of the line's last counter.
 pub record IsOfFirstLie (made : List Message) (told : Told) (evidence : Evidence) : Type 0 where

@@ -1,4 +1,4 @@
--- The protected memory: lines outside the chip, each with a counter on the chip and a tag beside it.
+-- The protected memory: lines outside the chip, enciphered, each with a counter on the chip and a tag beside it.
 use Rattle.std.specs.Prelude.{◌≡◌, ◌≢◌, ◌⊎◌, ℕ, ◌<◌, ◌≤◌, List, [], ◌∷◌, ◌++◌, length, Option, Some, None, Contains, Result, Ok, Err, IfSome, slice_index, replicate, true}
 use Rattle.sec_base.specs.declared.layout.Place.{Place}
 use Rattle.sec_base.specs.declared.layout.Place.TheVariants.{Line as line_place}
@@ -15,23 +15,27 @@ use Rattle.sec_base.specs.Last.{last_data, data_pairs, IsFresh}
 use Rattle.sec_base.specs.Layout.{line_count}
 use Rattle.bus_model.specs.Told.{Told, after_read}
 use Rattle.tag_engine.specs.Engine.{Engine, new_engine, after_check}
-use Rattle.chip_run.specs.Contents.{line_writes, IsSpent, HoldsLast}
+use Rattle.pad_stream.specs.Used.{AreRising}
+use Rattle.pad_stream.specs.Stream.{Stream, new_stream}
+use Rattle.chip_run.specs.Contents.{IsSpent, HoldsLast, HoldsSealed}
 use Rattle.chip_run.specs.Account.{HonestOrCaught, IsOfFirstLie}
 
--- the bus, the tag engine, how often each line was written, how often one may be, and the stop that was answered, if
--- one was
+-- the bus, the tag engine, the pads, how often each line was written, how often one may be, and the stop that was
+-- answered, if one was
 pub record Protected (B T : Type 0) : Type 0 where
   pub bus : B
   pub engine : Engine T
+  pub pads : Stream
   pub counters : List ℕ
   pub limit : ℕ
   pub stopped : Option MemStop
 
 -- no line was written
-abbrev pub new_protected : {B T : Type 0} → B → T → ℕ → ℕ → Protected B T
-new_protected bus tagger levels limit = record {
+abbrev pub new_protected : {B T : Type 0} → B → T → List ℕ → ℕ → ℕ → Protected B T
+new_protected bus tagger key levels limit = record {
   bus = bus;
   engine = new_engine tagger levels;
+  pads = new_stream key;
   counters = replicate (line_count levels) 0;
   limit = limit;
   stopped = None;
@@ -44,49 +48,64 @@ lasting_stop (Some (Spent page)) = None
 lasting_stop (Some (Tampered place)) = Some (Tampered place)
 lasting_stop (Some NoMemory) = Some NoMemory
 
+-- how often a line was tagged
+abbrev pub writes_of : Option (Counter × List ℕ) → ℕ
+writes_of None = 0
+writes_of (Some last) = last.0.page
+
+abbrev pub times_tagged : List Message → ℕ → ℕ
+times_tagged made line = writes_of (last_data line made)
+
 -- A message of a line has one of the line's counters, and only the last one has the last.
 pub record IsNumbered (made : List Message) (line : ℕ) (counter : Counter) (cipher : List ℕ) : Type 0 where
   pub own : counter.line ≡ 0
   pub least : 1 ≤ counter.page
-  pub most : counter.page ≤ line_writes made line
-  pub last : counter.page ≡ line_writes made line → last_data line made ≡ Some (counter, cipher)
+  pub most : counter.page ≤ times_tagged made line
+  pub last : counter.page ≡ times_tagged made line → last_data line made ≡ Some (counter, cipher)
   pub long : length cipher ≡ 64
 
 -- what holds of the messages and the counters
 pub record AreCounted (lines limit : ℕ) (made : List Message) (counters : List ℕ) : Type 0 where
   pub long : length counters ≡ lines
-  pub counts : (line : ℕ) → line < lines → slice_index counters line ≡ line_writes made line
-  pub limited : (line : ℕ) → line_writes made line ≤ limit
+  pub counts : (line : ℕ) → line < lines → slice_index counters line ≡ times_tagged made line
+  pub limited : (line : ℕ) → times_tagged made line ≤ limit
+  pub inside : (line : ℕ) (counter : Counter) (cipher : List ℕ) → Contains made (Line line counter cipher) → line < lines
   pub numbered : (line : ℕ) (counter : Counter) (cipher : List ℕ) →
       Contains made (Line line counter cipher) → IsNumbered made line counter cipher
 
 -- what holds of a protected memory at all times
 pub record IsKept {B T : Type 0} (tag_of : Message → List ℕ) (told : Told) (memory : Protected B T) : Type 0 where
   pub levels : told.levels ≡ memory.engine.levels
+  pub paired : data_pairs memory.engine.made ≡ memory.pads.used
+  pub rising : AreRising memory.pads.used
+  pub sealed : HoldsSealed tag_of (line_count memory.engine.levels) memory.engine.made memory.pads.used told.written
   pub counted : AreCounted (line_count memory.engine.levels) memory.limit memory.engine.made memory.counters
   pub stored : memory.engine.evidence ≡ None → lasting_stop memory.stopped ≡ None →
       HoldsLast tag_of (line_count memory.engine.levels) memory.engine.made told.written
   pub answers : memory.engine.evidence ≡ None →
-      HonestOrCaught tag_of memory.engine.made told (λ place. memory.stopped ≡ Some (Tampered place))
+      HonestOrCaught tag_of memory.pads.used memory.engine.made told (λ place. memory.stopped ≡ Some (Tampered place))
   pub genuine : IfSome memory.engine.evidence (IsEvidence tag_of memory.engine.made)
   pub shown : (evidence : Evidence) → memory.engine.evidence ≡ Some evidence → IsOfFirstLie memory.engine.made told evidence
   pub spent : (page : ℕ) → memory.stopped ≡ Some (Spent page) →
-      IsSpent (line_count memory.engine.levels) memory.limit memory.engine.made page
+      IsSpent (line_count memory.engine.levels) memory.limit memory.pads.used page
 
 -- what calls leave as it was, or add to
 pub record Moves {B T : Type 0} (told : B → Told) (old new : Protected B T) : Type 0 where
   pub tagger : new.engine.tagger ≡ old.engine.tagger
   pub levels : new.engine.levels ≡ old.engine.levels
+  pub key : new.pads.key ≡ old.pads.key
   pub limit : new.limit ≡ old.limit
   pub more : List Message
   pub made : new.engine.made ≡ old.engine.made ++ more
+  pub more_used : List (ℕ × Counter)
+  pub used : new.pads.used ≡ old.pads.used ++ more_used
   pub reads : (place : Place) → RoseBy 0 ((told old.bus).reads place) ((told new.bus).reads place)
   pub evidence : (evidence : Evidence) → old.engine.evidence ≡ Some evidence → new.engine.evidence ≡ Some evidence
 
 -- Each of the lines was read from the bus or had never been written, where there is neither a stop nor evidence.
 pub record WereRead {B T : Type 0} (told : B → Told) (old : Protected B T) (lines : List ℕ) (new : Protected B T) : Type 0 where
   pub read : new.stopped ≡ None → new.engine.evidence ≡ None → (line : ℕ) → Contains lines line →
-      IsFresh line (data_pairs old.engine.made) ⊎ Rose ((told old.bus).reads (line_place line)) ((told new.bus).reads (line_place line))
+      IsFresh line old.pads.used ⊎ Rose ((told old.bus).reads (line_place line)) ((told new.bus).reads (line_place line))
 
 -- a read of a line, whatever it answered
 pub record ReadMoved {B T : Type 0} (told : B → Told) (old : Protected B T) (line : ℕ) (new : Protected B T) : Type 0 where

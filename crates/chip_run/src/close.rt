@@ -1,13 +1,16 @@
 // How a run is closed: its memory is given up, and its record made.
 ghost use Rattle.std.specs.Prelude.{◌≡◌, ◌≤◌, [], ℕ, None, Some, IfSome};
 ghost use Rattle.sec_base.specs.Evidence.{IsEvidence};
+ghost use Rattle.sec_base.specs.Last.{data_pairs};
 ghost use Rattle.sec_base.specs.Layout.{line_count};
+ghost use Rattle.pad_stream.specs.Used.{AreRising, of_lines};
 ghost use Rattle.sec_base.specs.declared.answers.Ending.TheVariants.{Tampered, Spent, NoMemory as memory_ended};
 ghost use Rattle.tag_engine.specs.Engine.{tags_of};
 ghost use Rattle.chip_run.specs.Account.{HonestOrCaught, IsOfFirstLie};
-ghost use Rattle.chip_run.specs.Contents.{HoldsLast, IsSpent, line_writes};
+ghost use Rattle.chip_run.specs.Contents.{AreNumbered, HoldsLast, HoldsSealed, IsSpent, line_writes};
 ghost use Rattle.chip_run.specs.Session.{CarriesEnding, IsMemoryEnding};
 
+use crate::account::Account;
 use crate::ram::LineRam;
 use crate::record::RunRecord;
 use bus_model::Bus;
@@ -16,7 +19,6 @@ use std::alloc::Global;
 
 // The record of a run that retired so many instructions and ended so, with its bus.
 pub(crate) fn close<B: Bus, T: Tagger>(
-    alloc: Global,
     memory: LineRam<B, T>,
     retired: u64,
     ending: Ending,
@@ -28,12 +30,12 @@ pub(crate) fn close<B: Bus, T: Tagger>(
     ensures made { result.0.made ≡ memory.lines.engine.made }
     ensures evidence { result.0.evidence ≡ memory.lines.engine.evidence }
     ensures bus { result.1 ≡ memory.lines.bus }
-    ensures used { result.0.used ≡ [] }
+    ensures used { result.0.used ≡ memory.lines.pads.used }
     ensures report { result.0.report ≡ None }
 
     ensures answers { memory.lines.engine.evidence ≡ None →
         HonestOrCaught (tags_of T.data_tag_of T.node_tag_of memory.lines.engine)
-        memory.lines.engine.made (B.told memory.lines.bus) (λ place. ending ≡ Tampered place) }
+        memory.lines.pads.used memory.lines.engine.made (B.told memory.lines.bus) (λ place. ending ≡ Tampered place) }
     ensures genuine { IfSome memory.lines.engine.evidence
         (IsEvidence (tags_of T.data_tag_of T.node_tag_of memory.lines.engine) memory.lines.engine.made) }
     ensures first_lie { IfSome memory.lines.engine.evidence (IsOfFirstLie memory.lines.engine.made (B.told memory.lines.bus)) }
@@ -41,17 +43,27 @@ pub(crate) fn close<B: Bus, T: Tagger>(
         HoldsLast (tags_of T.data_tag_of T.node_tag_of memory.lines.engine)
         (line_count memory.lines.engine.levels) memory.lines.engine.made (B.told memory.lines.bus).written }
     ensures spent { (page : ℕ) → ending ≡ Spent page →
-        IsSpent (line_count memory.lines.engine.levels) memory.lines.limit memory.lines.engine.made page }
-    ensures limited { (line : ℕ) → line_writes memory.lines.engine.made line ≤ memory.lines.limit }
+        IsSpent (line_count memory.lines.engine.levels) memory.lines.limit memory.lines.pads.used page }
+    ensures paired { data_pairs memory.lines.engine.made ≡ of_lines (line_count memory.lines.engine.levels) memory.lines.pads.used }
+    ensures numbered { AreNumbered (line_count memory.lines.engine.levels) memory.lines.pads.used }
+    ensures rising { AreRising memory.lines.pads.used }
+    ensures sealed { HoldsSealed (tags_of T.data_tag_of T.node_tag_of memory.lines.engine)
+        (line_count memory.lines.engine.levels) memory.lines.engine.made memory.lines.pads.used (B.told memory.lines.bus).written }
+    ensures limited { (line : ℕ) → line_writes memory.lines.pads.used line ≤ memory.lines.limit }
     ensures levels { (B.told memory.lines.bus).levels ≡ memory.lines.engine.levels }
 {
-    let (made, evidence, bus) = memory.into_lines().finish();
+    let (account, bus) = memory.into_lines().finish();
+    let Account {
+        made,
+        used,
+        evidence,
+    } = account;
     let record = RunRecord {
         retired,
         ending,
         evidence,
         made,
-        used: Pads::from_vec(Vec::new(alloc)),
+        used,
         report: None,
     };
     (record, bus)

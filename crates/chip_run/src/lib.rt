@@ -3,7 +3,9 @@
 
 ghost use Rattle.std.specs.Prelude.{◌≡◌, ◌≢◌, ◌<◌, ◌≤◌, ◌↔◌, ◌⊎◌, ℕ, List, [], None, IfSome};
 ghost use Rattle.sec_base.specs.Count.{Rose, RoseBy};
+ghost use Rattle.sec_base.specs.Last.{data_pairs};
 ghost use Rattle.sec_base.specs.Layout.{line_count, memory_size};
+ghost use Rattle.pad_stream.specs.Used.{AreRising, NoRepeat, of_lines};
 ghost use Rattle.sec_base.specs.Evidence.{IsEvidence};
 ghost use Rattle.sec_base.specs.Writing.{Gains};
 ghost use Rattle.sec_base.specs.declared.layout.Place.{Place};
@@ -13,9 +15,10 @@ ghost use Rattle.tag_engine.specs.Tag.{engine_tag};
 ghost use Rattle.rv32_core.specs.Machine.{opening, plain};
 ghost use Rattle.rv32_core.specs.Follows.{Follows, IsWhole};
 ghost use Rattle.chip_run.specs.Account.{HonestOrCaught, IsOfFirstLie};
-ghost use Rattle.chip_run.specs.Contents.{HoldsLast, IsSpent, IsWrittenOut, line_writes};
+ghost use Rattle.chip_run.specs.Contents.{AreNumbered, HoldsLast, HoldsSealed, IsSpent, IsWrittenOut, line_writes};
 ghost use Rattle.chip_run.specs.Session.{IsMemoryEnding, IsStop};
 
+mod account;
 mod close;
 mod lines;
 mod load;
@@ -60,16 +63,28 @@ pub fn run<B: Bus, T: Tagger, S: Sink>(
     // was the last access, and the run ended as tampering of its place.
     ensures answers { result.0.evidence ≡ None →
         HonestOrCaught (engine_tag (T.data_tag_of tagger) (T.node_tag_of tagger) setup.now.geometry)
-        result.0.made (B.told result.1) (λ place. result.0.ending ≡ Tampered place) }
+        result.0.used result.0.made (B.told result.1) (λ place. result.0.ending ≡ Tampered place) }
 
     // Evidence is what it says, and is of the first false answer.
     ensures genuine { IfSome result.0.evidence
         (IsEvidence (engine_tag (T.data_tag_of tagger) (T.node_tag_of tagger) setup.now.geometry) result.0.made) }
     ensures first_lie { IfSome result.0.evidence (IsOfFirstLie result.0.made (B.told result.1)) }
 
+    // No line was enciphered twice under one counter. A line's counters are (n, 0) with rising n from 1 on, and each
+    // line of the memory was tagged under the same, in the same order.
+    ensures no_repeat { result.0.evidence ≡ None → NoRepeat result.0.used }
+    ensures rising { result.0.evidence ≡ None → AreRising result.0.used }
+    ensures numbered { result.0.evidence ≡ None → AreNumbered (line_count setup.now.geometry) result.0.used }
+    ensures paired { result.0.evidence ≡ None →
+        data_pairs result.0.made ≡ of_lines (line_count setup.now.geometry) result.0.used }
+
+    // Each line's place that isn't zeros holds what was enciphered and tagged for it.
+    ensures sealed { HoldsSealed (engine_tag (T.data_tag_of tagger) (T.node_tag_of tagger) setup.now.geometry)
+        (line_count setup.now.geometry) result.0.made result.0.used (B.told result.1).written }
+
     // Where the memory did not end it, the memory outside has what the plain machine's has.
     ensures written_out { result.0.evidence ≡ None → ¬ IsMemoryEnding result.0.ending →
-        IsWrittenOut (line_count setup.now.geometry) result.0.made
+        IsWrittenOut setup.now.keys.enc_key (line_count setup.now.geometry) result.0.made
         (plain (opening image.now input.now) result.0.retired).state.memory }
     ensures holds_last { result.0.evidence ≡ None → ¬ IsMemoryEnding result.0.ending →
         HoldsLast (engine_tag (T.data_tag_of tagger) (T.node_tag_of tagger) setup.now.geometry)
@@ -93,28 +108,34 @@ pub fn run<B: Bus, T: Tagger, S: Sink>(
         ⊎ ((page : ℕ) × (result.0.ending ≡ Spent page)) }
 
     // No line is written more often than the limit allows, and a page is used up only where one was written so often.
-    ensures limited { (line : ℕ) → line_writes result.0.made line ≤ setup.now.page_limit }
+    ensures limited { (line : ℕ) → line_writes result.0.used line ≤ setup.now.page_limit }
     ensures spent { (page : ℕ) → result.0.evidence ≡ None → result.0.ending ≡ Spent page →
-        IsSpent (line_count setup.now.geometry) setup.now.page_limit result.0.made page }
+        IsSpent (line_count setup.now.geometry) setup.now.page_limit result.0.used page }
     ensures write_fault { result.0.ending ≡ WriteFault → Rose (S.state out.old).faults (S.state out.new).faults }
     ensures faults { (S.state out.old).faults ≤ (S.state out.new).faults }
 
     // The bus is the one that was given, with more reads.
     ensures reads { (place : Place) → RoseBy 0 ((B.told bus).reads place) ((B.told result.1).reads place) }
     ensures bus_levels { (B.told result.1).levels ≡ setup.now.geometry }
-    ensures used { result.0.used ≡ [] }
     ensures report { result.0.report ≡ None }
 {
-    let lines = match LineMemory::boot(alloc, bus, tagger, setup.geometry, setup.page_limit) {
+    let lines = match LineMemory::boot(
+        alloc,
+        bus,
+        tagger,
+        &setup.keys.enc_key,
+        setup.geometry,
+        setup.page_limit,
+    ) {
         Ok(lines) => lines,
         Err(NoMemoryWith(bus)) => return (no_run(alloc), bus),
     };
     let mut memory = LineRam::new(lines);
     if let Err(stop) = store_image(&mut memory, image) {
-        return close(alloc, memory, 0, ending_of(stop));
+        return close(memory, 0, ending_of(stop));
     }
     let mut session = Session::new(image, input, memory, setup.budget);
     let ending = session.finish(out);
     let retired = session.retired();
-    close(alloc, session.into_memory(), retired, ending)
+    close(session.into_memory(), retired, ending)
 }

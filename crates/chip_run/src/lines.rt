@@ -1,23 +1,27 @@
-// The lines of the protected memory: they stand outside the chip, each with a tag beside it and a counter on the chip.
+// The lines of the protected memory: they stand outside the chip, enciphered, each with a tag beside it and a counter
+// on the chip.
 ghost use Rattle.std.specs.Prelude.{◌≡◌, ◌≢◌, ◌↔◌, ◌+◌, ◌/◌, ◌<◌, ◌⊎◌, ◌∷◌, [], ℕ, None, Some, Ok, Err, IfOk, IfErr, OnOk, OnErr, IfSome, replicate};
 ghost use Rattle.sec_base.specs.Count.{Rose};
 ghost use Rattle.sec_base.specs.Layout.{IsPlace, line_count};
 ghost use Rattle.sec_base.specs.Lines.{line_at, with_line};
-ghost use Rattle.sec_base.specs.Evidence.{IsEvidence, sealed_bytes};
+ghost use Rattle.sec_base.specs.Evidence.{IsEvidence};
 ghost use Rattle.sec_base.specs.declared.layout.Place.{Place};
 ghost use Rattle.sec_base.specs.declared.layout.Place.TheVariants.{Line as line_place};
 ghost use Rattle.sec_base.specs.declared.answers.MemStop.{MemStop};
 ghost use Rattle.sec_base.specs.declared.answers.MemStop.TheVariants.{Tampered, Spent};
 ghost use Rattle.sec_base.specs.declared.account.Message.TheVariants.{Line};
-ghost use Rattle.bus_model.specs.Told.{after_write};
+ghost use Rattle.bus_model.specs.Told.{NothingWritten, after_write};
+ghost use Rattle.pad_stream.specs.Pad.{enciphered};
+ghost use Rattle.pad_stream.specs.Stream.{after_encrypt};
 ghost use Rattle.tag_engine.specs.Engine.{tags_of, after_make};
-ghost use Rattle.chip_run.specs.Contents.{contents_of, line_writes};
+ghost use Rattle.chip_run.specs.Contents.{contents_of, line_writes, sealed_line};
 ghost use Rattle.chip_run.specs.Protected.{new_protected, lasting_stop, IsKept, Moves, ReadMoved, IsCheckedRead};
 
+use crate::account::Account;
 use bus_model::Bus;
+use pad_stream::PadEngine;
 use sec_base::{
-    Counter, Evidence, Geometry, LineStore, MemStop, Messages, NoMemory, NoMemoryWith, Place,
-    Sealed, Tagger,
+    Counter, Geometry, LineStore, MemStop, NoMemory, NoMemoryWith, Place, Sealed, Tagger,
 };
 use std::alloc::Global;
 use std::marker::Model;
@@ -27,6 +31,7 @@ use tag_engine::TagEngine;
 pub(crate) struct LineMemory<B: Bus, T: Tagger> {
     bus: B,
     tags: TagEngine<T>,
+    pads: PadEngine,
     geometry: Geometry,
     counters: Vec<u64>,
     page_limit: u64,
@@ -43,6 +48,7 @@ impl<B: Bus, T: Tagger> Model for LineMemory<B, T> {
     ghost view = { λ memory. record {
       bus = memory.bus;
       engine = memory.tags;
+      pads = memory.pads;
       counters = memory.counters.items;
       limit = memory.page_limit;
       stopped = memory.stopped;
@@ -52,6 +58,7 @@ impl<B: Bus, T: Tagger> Model for LineMemory<B, T> {
         × IsKept {B = B} {T = T} (tags_of T.data_tag_of T.node_tag_of memory.tags) (B.told memory.bus) (record {
           bus = memory.bus;
           engine = memory.tags;
+          pads = memory.pads;
           counters = memory.counters.items;
           limit = memory.page_limit;
           stopped = memory.stopped;
@@ -65,16 +72,21 @@ impl<B: Bus, T: Tagger> LineMemory<B, T> {
         alloc: Global,
         bus: B,
         tagger: T,
+        enc_key: &[u8; 16],
         geometry: Geometry,
         page_limit: u64,
     ) -> Result<LineMemory<B, T>, NoMemoryWith<B>>
         requires levels { (B.told bus).levels ≡ geometry }
         requires honest { (B.told bus).lies ≡ 0 }
+        requires nothing_written { NothingWritten (B.told bus) }
 
-        ensures new { IfOk result (λ memory. memory ≡ new_protected bus tagger geometry page_limit) }
+        ensures new { IfOk result (λ memory. memory ≡ new_protected bus tagger enc_key.now geometry page_limit) }
         ensures refused { IfErr result (λ refusal. refusal.0 ≡ bus) }
     {
         let Ok(tags) = TagEngine::new(alloc, tagger, geometry) else {
+            return Err(NoMemoryWith(bus));
+        };
+        let Ok(pads) = PadEngine::new(alloc, enc_key) else {
             return Err(NoMemoryWith(bus));
         };
         let Ok(counters) = no_writes(alloc, geometry) else {
@@ -83,6 +95,7 @@ impl<B: Bus, T: Tagger> LineMemory<B, T> {
         Ok(LineMemory {
             bus,
             tags,
+            pads,
             geometry,
             counters,
             page_limit,
@@ -97,31 +110,37 @@ impl<B: Bus, T: Tagger> LineMemory<B, T> {
         self.stopped
     }
 
-    // Lets the tagger go, and hands back the messages that were tagged, what passed a check and was never tagged, and
-    // the bus.
-    pub(crate) fn finish(self) -> (Messages, Option<Evidence>, B)
-        ensures made { result.0 ≡ self.engine.made }
-        ensures evidence { result.1 ≡ self.engine.evidence }
-        ensures bus { result.2 ≡ self.bus }
+    // Lets the tagger go, and hands back what can be shown, and the bus.
+    pub(crate) fn finish(self) -> (Account, B)
+        ensures made { result.0.made ≡ self.engine.made }
+        ensures used { result.0.used ≡ self.pads.used }
+        ensures evidence { result.0.evidence ≡ self.engine.evidence }
+        ensures bus { result.1 ≡ self.bus }
 
-        ensures genuine { IfSome result.1 (IsEvidence (tags_of T.data_tag_of T.node_tag_of self.engine) result.0) }
+        ensures genuine { IfSome result.0.evidence (IsEvidence (tags_of T.data_tag_of T.node_tag_of self.engine) result.0.made) }
         ensures kept { IsKept (tags_of T.data_tag_of T.node_tag_of self.engine) (B.told self.bus) self }
     {
         let LineMemory {
             bus,
             tags,
+            pads,
             geometry: _,
             counters: _counters,
             page_limit: _,
             stopped: _,
         } = self;
         let (made, evidence) = tags.finish();
-        (made, evidence, bus)
+        let account = Account {
+            made,
+            used: pads.finish(),
+            evidence,
+        };
+        (account, bus)
     }
 }
 
 impl<B: Bus, T: Tagger> LineStore for LineMemory<B, T> {
-    ghost contents = { λ memory. contents_of (line_count memory.engine.levels) memory.engine.made };
+    ghost contents = { λ memory. contents_of memory.pads.key (line_count memory.engine.levels) memory.engine.made };
 
     ghost extent = { λ memory. line_count memory.engine.levels };
 
@@ -142,10 +161,10 @@ impl<B: Bus, T: Tagger> LineStore for LineMemory<B, T> {
         requires inside { line < line_count self.old.engine.levels }
 
         ensures value { self.old.stopped ≡ None → self.new.engine.evidence ≡ None →
-            IfOk result (λ bytes. bytes ≡ line_at (contents_of (line_count self.old.engine.levels) self.old.engine.made) line) }
+            IfOk result (λ bytes. bytes ≡ line_at (contents_of self.old.pads.key (line_count self.old.engine.levels) self.old.engine.made) line) }
         ensures contents { self.old.stopped ≡ None → self.new.engine.evidence ≡ None →
-            contents_of (line_count self.new.engine.levels) self.new.engine.made
-            ≡ contents_of (line_count self.old.engine.levels) self.old.engine.made }
+            contents_of self.new.pads.key (line_count self.new.engine.levels) self.new.engine.made
+            ≡ contents_of self.old.pads.key (line_count self.old.engine.levels) self.old.engine.made }
 
         ensures goes_on { OnOk result (self.new.stopped ≡ self.old.stopped) }
         ensures stops { self.old.stopped ≡ None → IfErr result (λ stop. self.new.stopped ≡ Some stop) }
@@ -170,8 +189,9 @@ impl<B: Bus, T: Tagger> LineStore for LineMemory<B, T> {
         if writes == 0 {
             return Ok([0; 64]);
         }
-        match read_checked(&mut self.bus, &mut self.tags, line, counter_of(writes)) {
-            Ok(bytes) => Ok(bytes),
+        let counter = counter_of(writes);
+        match read_checked(&mut self.bus, &mut self.tags, line, counter) {
+            Ok(cipher) => Ok(self.pads.decrypt(line, counter, &cipher)),
             Err(stop) => {
                 self.stopped = Some(stop);
                 Err(stop)
@@ -183,13 +203,13 @@ impl<B: Bus, T: Tagger> LineStore for LineMemory<B, T> {
         requires inside { line < line_count self.old.engine.levels }
 
         ensures stored { self.old.stopped ≡ None → self.new.engine.evidence ≡ None →
-            OnOk result (contents_of (line_count self.new.engine.levels) self.new.engine.made
-            ≡ with_line (contents_of (line_count self.old.engine.levels) self.old.engine.made) line bytes.now) }
+            OnOk result (contents_of self.new.pads.key (line_count self.new.engine.levels) self.new.engine.made
+            ≡ with_line (contents_of self.old.pads.key (line_count self.old.engine.levels) self.old.engine.made) line bytes.now) }
         ensures refused { self.old.stopped ≡ None → self.new.engine.evidence ≡ None → OnErr result (
-            (contents_of (line_count self.new.engine.levels) self.new.engine.made
-            ≡ contents_of (line_count self.old.engine.levels) self.old.engine.made)
-            ⊎ (contents_of (line_count self.new.engine.levels) self.new.engine.made
-            ≡ with_line (contents_of (line_count self.old.engine.levels) self.old.engine.made) line bytes.now)) }
+            (contents_of self.new.pads.key (line_count self.new.engine.levels) self.new.engine.made
+            ≡ contents_of self.old.pads.key (line_count self.old.engine.levels) self.old.engine.made)
+            ⊎ (contents_of self.new.pads.key (line_count self.new.engine.levels) self.new.engine.made
+            ≡ with_line (contents_of self.old.pads.key (line_count self.old.engine.levels) self.old.engine.made) line bytes.now)) }
 
         ensures goes_on { OnOk result (self.new.stopped ≡ self.old.stopped) }
         ensures stops { self.old.stopped ≡ None → IfErr result (λ stop. self.new.stopped ≡ Some stop) }
@@ -203,11 +223,11 @@ impl<B: Bus, T: Tagger> LineStore for LineMemory<B, T> {
 
         // A line that was written as often as the limit allows is not written again, and nothing else is refused so.
         ensures spent { lasting_stop self.old.stopped ≡ None →
-            ((result ≡ Err (Spent (line / 64))) ↔ (line_writes self.old.engine.made line ≡ self.old.limit)) }
+            ((result ≡ Err (Spent (line / 64))) ↔ (line_writes self.old.pads.used line ≡ self.old.limit)) }
         ensures spent_stays { (page : ℕ) → result ≡ Err (Spent page) → (page ≡ line / 64)
             × (self.new ≡ record self.old { stopped = Some (Spent page) }) }
         // The line's counter is raised by one.
-        ensures raised { OnOk result (line_writes self.new.engine.made line ≡ line_writes self.old.engine.made line + 1) }
+        ensures raised { OnOk result (line_writes self.new.pads.used line ≡ line_writes self.old.pads.used line + 1) }
         ensures untampered { (place : Place) → lasting_stop self.old.stopped ≡ None → result ≢ Err (Tampered place) }
     {
         if let Some(stop) = lasting(self.stopped) {
@@ -225,9 +245,23 @@ impl<B: Bus, T: Tagger> LineStore for LineMemory<B, T> {
                 return Err(MemStop::NoMemory);
             }
         }
+        match self.pads.reserve(1) {
+            Ok(()) => {}
+            Err(_) => {
+                self.stopped = Some(MemStop::NoMemory);
+                return Err(MemStop::NoMemory);
+            }
+        }
         let counter = counter_of(writes + 1);
         self.counters[line as usize] = writes + 1;
-        match write_tagged(&mut self.bus, &mut self.tags, line, counter, bytes) {
+        match write_sealed(
+            &mut self.bus,
+            &mut self.tags,
+            &mut self.pads,
+            line,
+            counter,
+            bytes,
+        ) {
             Ok(()) => Ok(()),
             Err(_) => {
                 self.stopped = Some(MemStop::NoMemory);
@@ -238,7 +272,7 @@ impl<B: Bus, T: Tagger> LineStore for LineMemory<B, T> {
 
     ghost use Rattle.chip_run.specs.LineLengths.{length-contents_of};
 
-    ghost sized = { λ memory. length-contents_of (line_count memory.engine.levels) memory.engine.made };
+    ghost sized = { λ memory. length-contents_of memory.pads.key (line_count memory.engine.levels) memory.engine.made };
 }
 
 // No line of the memory was written.
@@ -293,10 +327,12 @@ fn read_checked<B: Bus, T: Tagger>(
     }
 }
 
-// Tags a line's message, for which there is memory, and writes both to the line's place.
-fn write_tagged<B: Bus, T: Tagger>(
+// Enciphers a line under its counter, tags its message and writes both to the line's place. There is memory for the
+// message and for the counter.
+fn write_sealed<B: Bus, T: Tagger>(
     bus: &mut B,
     tags: &mut TagEngine<T>,
+    pads: &mut PadEngine,
     line: u32,
     counter: Counter,
     bytes: &[u8; 64],
@@ -304,19 +340,19 @@ fn write_tagged<B: Bus, T: Tagger>(
     requires place { IsPlace (B.told bus.old).levels (line_place line) }
     requires line { line < line_count tags.old.levels }
     requires room { 0 < tags.old.room }
+    requires pad_room { 0 < pads.old.room }
 
-    ensures tags { tags.new ≡ after_make (Line line counter bytes.now) tags.old }
-    ensures ok { OnOk result (B.told bus.new ≡ after_write (line_place line) (sealed_bytes (record {
-      cipher = bytes.now;
-      tag = tags_of T.data_tag_of T.node_tag_of tags.old (Line line counter bytes.now);
-    })) (B.told bus.old)) }
+    ensures tags { tags.new ≡ after_make (Line line counter (enciphered pads.old.key line counter bytes.now)) tags.old }
+    ensures pads { pads.new ≡ after_encrypt line counter pads.old }
+    ensures undone { enciphered pads.old.key line counter (enciphered pads.old.key line counter bytes.now) ≡ bytes.now }
+    ensures ok { OnOk result (B.told bus.new ≡ after_write (line_place line)
+        (sealed_line (tags_of T.data_tag_of T.node_tag_of tags.old) line counter (enciphered pads.old.key line counter bytes.now))
+        (B.told bus.old)) }
     ensures err { OnErr result (B.told bus.new ≡ B.told bus.old) }
 {
-    let tag = tags.make_data(line, counter, bytes)?;
-    let sealed = Sealed {
-        cipher: *bytes,
-        tag,
-    };
+    let cipher = pads.encrypt(line, counter, bytes)?;
+    let tag = tags.make_data(line, counter, &cipher)?;
+    let sealed = Sealed { cipher, tag };
     bus.write_data(line, &sealed)?;
     Ok(())
 }

@@ -35,7 +35,7 @@ impl<B: Bus, T: Tagger> Ram for LineRam<B, T> {
     ghost use Rattle.chip_run.specs.LineLengths.{length-contents_of};
     ghost use Rattle.chip_run.specs.Moving.{unmoved, moved_on};
 
-    ghost contents = { λ memory. contents_of (line_count memory.lines.engine.levels) memory.lines.engine.made };
+    ghost contents = { λ memory. contents_of memory.lines.pads.key (line_count memory.lines.engine.levels) memory.lines.engine.made };
 
     ghost extent = { λ memory. 64 * line_count memory.lines.engine.levels };
 
@@ -74,7 +74,7 @@ impl<B: Bus, T: Tagger> Ram for LineRam<B, T> {
         }
     }
 
-    ghost sized = { λ memory. length-contents_of (line_count memory.lines.engine.levels) memory.lines.engine.made };
+    ghost sized = { λ memory. length-contents_of memory.lines.pads.key (line_count memory.lines.engine.levels) memory.lines.engine.made };
 
     ghost unmoved = { λ memory. unmoved B.told memory.lines };
 

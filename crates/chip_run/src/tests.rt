@@ -4,7 +4,7 @@ ghost use Rattle.std.specs.Prelude.{◌≡◌, ◌+◌, ◌≤◌, IfOk, length,
 ghost use Rattle.sec_base.specs.Program.{IsImage, IsSegment};
 
 use crate::{RunRecord, Setup, run};
-use bus_model::{FlipBus, HonestBus};
+use bus_model::{Bus, FlipBus, HonestBus};
 use hmac_tag::{HmacTagger, Keys, derive};
 use sec_base::{
     Bytes, Counter, Ending, Evidence, Geometry, Image, MemorySink, Message, Place, Sealed, Segment,
@@ -252,6 +252,34 @@ const EXIT_65: [u32; 6] = [
     0x0000_0073,
 ];
 
+// Stores 65 at 0x1000 twice, loads it, and exits with it.
+const EXIT_65_AGAIN: [u32; 7] = [
+    0x0000_12b7,
+    0x0410_0313,
+    0x0062_a023,
+    0x0062_a023,
+    0x0002_a503,
+    0x05d0_0893,
+    0x0000_0073,
+];
+
+// The byte 65 and 63 zeros, enciphered as line 64 under the counters (1, 0) and (2, 0). The key is by Python's hmac
+// and hashlib, the four counter blocks are by `openssl enc -aes-128-ecb -nopad` (OpenSSL 3.0.19), mixed with the
+// bytes by Python 3.
+const CIPHER_65: [u8; 64] = [
+    0xbe, 0x0a, 0x60, 0x1f, 0xe0, 0x23, 0x7b, 0x2b, 0x35, 0x74, 0xc2, 0x78, 0x49, 0x42, 0xdb, 0xd7,
+    0xde, 0x90, 0x4f, 0xb4, 0x30, 0xb5, 0x52, 0x70, 0xc9, 0x96, 0x77, 0xbe, 0x7f, 0xf2, 0x2f, 0x03,
+    0x63, 0xc9, 0xee, 0xb5, 0xe7, 0x0d, 0x55, 0xfc, 0x7e, 0x79, 0x94, 0x83, 0x65, 0xd3, 0x02, 0xcc,
+    0x93, 0x67, 0x7e, 0x9c, 0x59, 0x92, 0x6e, 0x68, 0x40, 0x35, 0xef, 0xc5, 0xca, 0xbb, 0x1a, 0x4c,
+];
+
+const CIPHER_65_AGAIN: [u8; 64] = [
+    0xa7, 0xf4, 0xd8, 0x2b, 0xbc, 0x03, 0x68, 0xa6, 0x76, 0xe5, 0x3b, 0x9a, 0x0e, 0xda, 0x54, 0x7d,
+    0x73, 0x5f, 0x26, 0x94, 0xa4, 0x05, 0xc0, 0x46, 0xc0, 0x36, 0x99, 0x37, 0xd0, 0x1f, 0x01, 0x63,
+    0x54, 0x0e, 0x79, 0x94, 0x7e, 0xef, 0xc5, 0x4a, 0xdf, 0xe5, 0x2c, 0x8a, 0x9e, 0x62, 0x33, 0xa4,
+    0x3b, 0x4b, 0x63, 0x23, 0x6e, 0x61, 0xbf, 0x65, 0x8c, 0x11, 0x4c, 0x4b, 0xbc, 0x49, 0x24, 0xd5,
+];
+
 // Stores 65 at 0x1000, prints that byte, and exits with 1.
 const PRINT_A: [u32; 10] = [
     0x0000_12b7,
@@ -282,13 +310,13 @@ fn flat(alloc: Global, words: &[u32]) -> Result<Segments, AllocError>
     Ok(Segments::from_vec(items))
 }
 
-// A program of a few words over an honest bus.
+// A program of a few words over an honest bus, and the bytes that stand there for line 64 at the end.
 fn honest(
     alloc: Global,
     words: &[u32],
     page_limit: u64,
     out: &mut MemorySink,
-) -> Result<RunRecord, Fail>
+) -> Result<(RunRecord, [u8; 64]), Fail>
     requires { length words.now ≤ 16 }
 {
     let geometry = Geometry::new(1).ok_or("no geometry")?;
@@ -300,8 +328,9 @@ fn honest(
     let setup = setup(geometry, 99, page_limit);
     let tagger = HmacTagger::new(&setup.keys);
     let bus = HonestBus::new(alloc, geometry)?;
-    let (record, _bus) = run(alloc, &image, &[], &setup, tagger, bus, out);
-    Ok(record)
+    let (record, mut bus) = run(alloc, &image, &[], &setup, tagger, bus, out);
+    let sealed = bus.read_data(64)?;
+    Ok((record, sealed.cipher))
 }
 
 // The program that exits with 65, where the first read of line 64 is answered with its lowest bit flipped, and how
@@ -320,17 +349,15 @@ fn flipped<T: Tagger>(alloc: Global, tagger: T) -> Result<(RunRecord, u64), Fail
     Ok((record, bus.lies()))
 }
 
-// A line whose first byte is this, and whose others are zeros.
-fn line_of(first: u8) -> [u8; 64] {
-    let mut line = [0; 64];
-    line[0] = first;
-    line
+// The counter of a line that was written so often.
+fn written(page: u64) -> Counter {
+    Counter { page, line: 0 }
 }
 
 #[test]
 fn a_program_prints_over_an_honest_bus(rt: HostRuntime) -> Result<(), Fail> {
     let mut out = MemorySink::new(rt.alloc(), &[])?;
-    let done = honest(rt.alloc(), &PRINT_A, u64::MAX, &mut out)?;
+    let (done, _) = honest(rt.alloc(), &PRINT_A, u64::MAX, &mut out)?;
     assert_eq!(rt; out.bytes(), b"A".as_slice());
     assert_eq!(rt; done.ending, Ending::Halted(1));
     assert_eq!(rt; done.retired, 10);
@@ -341,33 +368,58 @@ fn a_program_prints_over_an_honest_bus(rt: HostRuntime) -> Result<(), Fail> {
 #[test]
 fn each_write_is_tagged(rt: HostRuntime) -> Result<(), Fail> {
     let mut out = MemorySink::new(rt.alloc(), &[])?;
-    let done = honest(rt.alloc(), &EXIT_65, u64::MAX, &mut out)?;
+    let (done, _) = honest(rt.alloc(), &EXIT_65, u64::MAX, &mut out)?;
     assert_eq!(rt; done.ending, Ending::Halted(65));
     assert_eq!(rt; done.retired, 6);
     assert_eq!(rt; done.evidence, None);
     assert_eq!(rt; done.report, None);
     assert_eq!(rt; done.made.len(), 7);
-    assert_eq!(rt; done.used.len(), 0);
     for at in 0..6u64 {
         let Some(Message::Line { line, counter, .. }) = done.made.get(at) else {
             return Err(Fail::from("no message of a line"));
         };
         assert_eq!(rt; line, 0, "message {at}");
-        assert_eq!(rt;
-            counter,
-            Counter {
-                page: at + 1,
-                line: 0
-            },
-            "message {at}"
-        );
+        assert_eq!(rt; counter, written(at + 1), "message {at}");
     }
     let last = Message::Line {
         line: 64,
-        counter: Counter { page: 1, line: 0 },
-        cipher: line_of(65),
+        counter: written(1),
+        cipher: CIPHER_65,
     };
     assert_eq!(rt; done.made.get(6), Some(last));
+    Ok(())
+}
+
+// Line 64 is enciphered once, under its first counter.
+#[test]
+fn each_encryption_is_listed(rt: HostRuntime) -> Result<(), Fail> {
+    let mut out = MemorySink::new(rt.alloc(), &[])?;
+    let (done, _) = honest(rt.alloc(), &EXIT_65, u64::MAX, &mut out)?;
+    let wanted = [
+        (0, written(1)),
+        (0, written(2)),
+        (0, written(3)),
+        (0, written(4)),
+        (0, written(5)),
+        (0, written(6)),
+        (64, written(1)),
+    ];
+    assert_eq!(rt; done.used.as_slice(), wanted.as_slice());
+    Ok(())
+}
+
+#[test]
+fn equal_bytes_are_enciphered_anew_by_each_write(rt: HostRuntime) -> Result<(), Fail> {
+    let mut out = MemorySink::new(rt.alloc(), &[])?;
+    let (_, once) = honest(rt.alloc(), &EXIT_65, u64::MAX, &mut out)?;
+    let (done, twice) = honest(rt.alloc(), &EXIT_65_AGAIN, u64::MAX, &mut out)?;
+    assert_eq!(rt; done.ending, Ending::Halted(65));
+    assert_eq!(rt; done.used.get(7), Some((64, written(1))));
+    assert_eq!(rt; done.used.get(8), Some((64, written(2))));
+    assert_eq!(rt; done.used.len(), 9);
+    assert!(rt; once != twice);
+    assert_eq!(rt; once, CIPHER_65);
+    assert_eq!(rt; twice, CIPHER_65_AGAIN);
     Ok(())
 }
 
@@ -386,11 +438,13 @@ fn a_false_answer_that_passes_its_check_is_shown(rt: HostRuntime) -> Result<(), 
     let (done, lies) = flipped(rt.alloc(), Zeros)?;
     assert_eq!(rt; done.ending, Ending::Halted(64));
     assert_eq!(rt; done.retired, 6);
+    let mut cipher = CIPHER_65;
+    cipher[0] ^= 1;
     let shown = Evidence::Forgery {
         line: 64,
-        counter: Counter { page: 1, line: 0 },
+        counter: written(1),
         sealed: Sealed {
-            cipher: line_of(64),
+            cipher,
             tag: [0; 16],
         },
         made_count: 7,
@@ -410,7 +464,7 @@ fn a_line_is_written_as_often_as_the_limit_allows(rt: HostRuntime) -> Result<(),
     ];
     for (page_limit, retired, ending) in rows {
         let mut out = MemorySink::new(rt.alloc(), &[])?;
-        let done = honest(rt.alloc(), &EXIT_65, page_limit, &mut out)?;
+        let (done, _) = honest(rt.alloc(), &EXIT_65, page_limit, &mut out)?;
         assert_eq!(rt; done.ending, ending, "limit {page_limit}");
         assert_eq!(rt; done.retired, retired, "limit {page_limit}");
         assert_eq!(rt; done.evidence, None, "limit {page_limit}");

@@ -3,11 +3,12 @@ use Rattle.sec_base.specs.Layout.{line_count}
 use Rattle.sec_base.specs.declared.sealing.Counter.{Counter}
 use Rattle.sec_base.specs.declared.answers.MemStop.{MemStop}
 use Rattle.sec_base.specs.declared.answers.MemStop.TheVariants.{Tampered}
+use Rattle.pad_stream.specs.Pad.{enciphered}
 use Rattle.tag_engine.specs.Engine.{Engine, tags_of}
-use Rattle.chip_run.specs.LineLengths.{as_line-whole}
+use Rattle.sec_base.specs.Last.{last_pair}
 use Rattle.chip_run.specs.Protected.{Protected, ReadMoved, IsCheckedRead, lasting_stop}
 use Rattle.chip_run.proofs.LineMessages.{counter_read, last_pair-none}
-use Rattle.chip_run.proofs.LineMoves.{fresh_moved, passed_moved, stopped_moved, stopped_levels, never_written, line_there}
+use Rattle.chip_run.proofs.LineMoves.{lasting_read, fresh_moved, passed_moved, stopped_moved, stopped_levels, never_written, line_there}
 use Rattle.chip_run.proofs.Keeping.{passed_kept, passed_bytes, stopped_kept, tampered_lied}
 use Rattle.chip_run.proofs.lines.LineMemoryLineStore.read_line.Goals as goal
 
@@ -17,7 +18,7 @@ returns-then-writes-eq0-clause-value g c = λ going sound.
     let counted = c.self.invariant.1.counted in
     let read = counter_read (line_count c.self.inside.tags.levels) c.self.inside.page_limit c.self.inside.tags.made c.self.inside.counters.items c.args.line c.index-writes.result.now counted inside c.index-writes.ensures in
     let none = never_written (line_count c.self.inside.tags.levels) c.self.inside.page_limit c.self.inside.tags.made c.self.inside.counters.items c.args.line c.index-writes.result.now counted inside read c.if-writes-eq0.true in
-    let there = line_there (line_count c.self.inside.tags.levels) c.self.inside.tags.made c.args.line None inside none in
+    let there = line_there c.self.inside.pads.key (line_count c.self.inside.tags.levels) c.self.inside.tags.made c.args.line None inside none in
     rw (← c.self.view_is) (sym there)
 
 pub returns-then-writes-eq0-clause-moved : goal.returns-then-writes-eq0-clause-moved
@@ -27,7 +28,7 @@ returns-then-writes-eq0-clause-moved g c =
     let read = counter_read (line_count c.self.inside.tags.levels) c.self.inside.page_limit c.self.inside.tags.made c.self.inside.counters.items c.args.line c.index-writes.result.now counted inside c.index-writes.ensures in
     let none = never_written (line_count c.self.inside.tags.levels) c.self.inside.page_limit c.self.inside.tags.made c.self.inside.counters.items c.args.line c.index-writes.result.now counted inside read c.if-writes-eq0.true in
     subst (λ (m : Protected g.row.B.Denot g.row.T.Denot). ReadMoved g.B.Bus.told m c.args.line m) c.self.view_is
-    (fresh_moved g.B.Bus.told (record { bus = c.self.inside.bus; engine = c.self.inside.tags; counters = c.self.inside.counters.items; limit = c.self.inside.page_limit; stopped = c.self.inside.stopped }) c.args.line (last_pair-none c.self.inside.tags.made c.args.line none))
+    (fresh_moved g.B.Bus.told (record { bus = c.self.inside.bus; engine = c.self.inside.tags; pads = c.self.inside.pads; counters = c.self.inside.counters.items; limit = c.self.inside.page_limit; stopped = c.self.inside.stopped }) c.args.line (ap (last_pair c.args.line) (sym c.self.invariant.1.paired) ∙ last_pair-none c.self.inside.tags.made c.args.line none))
 
 pub invariant_of-self : goal.invariant_of-self
 invariant_of-self g c =
@@ -35,11 +36,11 @@ invariant_of-self g c =
     let going : lasting_stop c.self.inside.stopped ≡ None = sym c.lasting.ensures ∙ c.in_default.is in
     let counted = c.self.invariant.1.counted in
     let read = counter_read (line_count c.self.inside.tags.levels) c.self.inside.page_limit c.self.inside.tags.made c.self.inside.counters.items c.args.line c.index-writes.result.now counted inside c.index-writes.ensures in
-    let passed = rw c.counter_of.ensures at c.in-Ok.ensures in (
+    let passed = rw c.counter_of-counter.ensures at c.in-Ok.ensures in (
       c.self.invariant.0 ∙ sym (ap (λ (e : Engine g.row.T.Denot). e.levels) passed.checked),
-      passed_kept g.T.Tagger.data_tag_of g.T.Tagger.node_tag_of (g.B.Bus.told c.self.inside.bus) c.self.inside.bus c.read_checked.new.bus c.self.inside.tags
+      passed_kept g.T.Tagger.data_tag_of g.T.Tagger.node_tag_of (g.B.Bus.told c.self.inside.bus) c.self.inside.bus c.read_checked.new.bus c.self.inside.tags c.self.inside.pads
           c.self.inside.counters.items c.self.inside.page_limit c.self.inside.stopped c.args.line c.index-writes.result.now
-          c.self.invariant.1 going inside read c.if-writes-eq0.false (g.B.Bus.told c.read_checked.new.bus) c.read_checked.new.tags c.in-Ok.bytes passed,
+          c.self.invariant.1 going inside read c.if-writes-eq0.false (g.B.Bus.told c.read_checked.new.bus) c.read_checked.new.tags c.in-Ok.cipher passed,
     )
 
 pub invariant_of-self-in-Err : goal.invariant_of-self-in-Err
@@ -49,10 +50,10 @@ invariant_of-self-in-Err g c =
     let counted = c.self.invariant.1.counted in
     let read = counter_read (line_count c.self.inside.tags.levels) c.self.inside.page_limit c.self.inside.tags.made c.self.inside.counters.items c.args.line c.index-writes.result.now counted inside c.index-writes.ensures in
     let stops = subst (λ (k : Counter). IsCheckedRead (tags_of g.T.Tagger.data_tag_of g.T.Tagger.node_tag_of c.self.inside.tags) c.args.line k
-    (g.B.Bus.told c.self.inside.bus) (g.B.Bus.told c.read_checked.new.bus) c.self.inside.tags c.read_checked.new.tags (Err c.in-Err.stop)) c.counter_of.ensures c.in-Err.ensures in (
+    (g.B.Bus.told c.self.inside.bus) (g.B.Bus.told c.read_checked.new.bus) c.self.inside.tags c.read_checked.new.tags (Err c.in-Err.stop)) c.counter_of-counter.ensures c.in-Err.ensures in (
       c.self.invariant.0 ∙ sym (stopped_levels (tags_of g.T.Tagger.data_tag_of g.T.Tagger.node_tag_of c.self.inside.tags) c.args.line (record { page = c.index-writes.result.now; line = 0 })
           (g.B.Bus.told c.self.inside.bus) (g.B.Bus.told c.read_checked.new.bus) c.self.inside.tags c.read_checked.new.tags c.in-Err.stop stops),
-      stopped_kept g.T.Tagger.data_tag_of g.T.Tagger.node_tag_of (g.B.Bus.told c.self.inside.bus) c.self.inside.bus c.read_checked.new.bus c.self.inside.tags
+      stopped_kept g.T.Tagger.data_tag_of g.T.Tagger.node_tag_of (g.B.Bus.told c.self.inside.bus) c.self.inside.bus c.read_checked.new.bus c.self.inside.tags c.self.inside.pads
           c.self.inside.counters.items c.self.inside.page_limit c.self.inside.stopped c.args.line c.index-writes.result.now
           c.self.invariant.1 going inside read c.if-writes-eq0.false (g.B.Bus.told c.read_checked.new.bus) c.read_checked.new.tags c.in-Err.stop stops,
     )
@@ -63,36 +64,40 @@ returns-in-Ok-clause-value g c = λ unstopped sound.
     let going : lasting_stop c.self.inside.stopped ≡ None = sym c.lasting.ensures ∙ c.in_default.is in
     let counted = c.self.invariant.1.counted in
     let read = counter_read (line_count c.self.inside.tags.levels) c.self.inside.page_limit c.self.inside.tags.made c.self.inside.counters.items c.args.line c.index-writes.result.now counted inside c.index-writes.ensures in
-    let passed = rw c.counter_of.ensures at c.in-Ok.ensures in
-    let last = passed_bytes g.T.Tagger.data_tag_of g.T.Tagger.node_tag_of (g.B.Bus.told c.self.inside.bus) c.self.inside.bus c.read_checked.new.bus c.self.inside.tags
+    let passed = rw c.counter_of-counter.ensures at c.in-Ok.ensures in
+    let last = passed_bytes g.T.Tagger.data_tag_of g.T.Tagger.node_tag_of (g.B.Bus.told c.self.inside.bus) c.self.inside.bus c.read_checked.new.bus c.self.inside.tags c.self.inside.pads
     c.self.inside.counters.items c.self.inside.page_limit c.self.inside.stopped c.args.line c.index-writes.result.now
-    c.self.invariant.1 going inside read c.if-writes-eq0.false (g.B.Bus.told c.read_checked.new.bus) c.read_checked.new.tags c.in-Ok.bytes passed sound in
-    let there = line_there (line_count c.self.inside.tags.levels) c.self.inside.tags.made c.args.line (Some (record { page = c.index-writes.result.now; line = 0 }, c.in-Ok.bytes)) inside last in
-    rw (← c.self.view_is) (sym (there ∙ as_line-whole c.in-Ok.bytes passed.long))
+    c.self.invariant.1 going inside read c.if-writes-eq0.false (g.B.Bus.told c.read_checked.new.bus) c.read_checked.new.tags c.in-Ok.cipher passed sound in
+    let there = line_there c.self.inside.pads.key (line_count c.self.inside.tags.levels) c.self.inside.tags.made c.args.line (Some (record { page = c.index-writes.result.now; line = 0 }, c.in-Ok.cipher)) inside last in
+    let plain : c.decrypt.result ≡ enciphered c.self.inside.pads.key c.args.line (record { page = c.index-writes.result.now; line = 0 }) c.in-Ok.cipher =
+    c.decrypt.ensures.plain ∙ ap (λ (k : Counter). enciphered c.self.inside.pads.key c.args.line k c.in-Ok.cipher) c.counter_of-counter.ensures in
+    rw (← c.self.view_is) (plain ∙ sym there)
 
 pub returns-in-Ok-clause-moved : goal.returns-in-Ok-clause-moved
 returns-in-Ok-clause-moved g c =
     subst (λ (m : Protected g.row.B.Denot g.row.T.Denot). ReadMoved g.B.Bus.told m c.args.line (record {
       bus = c.read_checked.new.bus;
       engine = c.read_checked.new.tags;
+      pads = c.self.inside.pads;
       counters = c.self.inside.counters.items;
       limit = c.self.inside.page_limit;
       stopped = c.self.inside.stopped;
     })) c.self.view_is
-    (passed_moved g.B.Bus.told (record { bus = c.self.inside.bus; engine = c.self.inside.tags; counters = c.self.inside.counters.items; limit = c.self.inside.page_limit; stopped = c.self.inside.stopped }) c.args.line
-    (tags_of g.T.Tagger.data_tag_of g.T.Tagger.node_tag_of c.self.inside.tags) c.counter_of.result c.read_checked.new.bus c.read_checked.new.tags c.in-Ok.bytes c.in-Ok.ensures)
+    (passed_moved g.B.Bus.told (record { bus = c.self.inside.bus; engine = c.self.inside.tags; pads = c.self.inside.pads; counters = c.self.inside.counters.items; limit = c.self.inside.page_limit; stopped = c.self.inside.stopped }) c.args.line
+    (tags_of g.T.Tagger.data_tag_of g.T.Tagger.node_tag_of c.self.inside.tags) c.counter_of-counter.result c.read_checked.new.bus c.read_checked.new.tags c.in-Ok.cipher c.in-Ok.ensures)
 
 pub returns-in-Err-clause-moved : goal.returns-in-Err-clause-moved
 returns-in-Err-clause-moved g c =
     subst (λ (m : Protected g.row.B.Denot g.row.T.Denot). ReadMoved g.B.Bus.told m c.args.line (record {
       bus = c.read_checked.new.bus;
       engine = c.read_checked.new.tags;
+      pads = c.self.inside.pads;
       counters = c.self.inside.counters.items;
       limit = c.self.inside.page_limit;
       stopped = Some c.in-Err.stop;
     })) c.self.view_is
-    (stopped_moved g.B.Bus.told (record { bus = c.self.inside.bus; engine = c.self.inside.tags; counters = c.self.inside.counters.items; limit = c.self.inside.page_limit; stopped = c.self.inside.stopped }) c.args.line
-    (tags_of g.T.Tagger.data_tag_of g.T.Tagger.node_tag_of c.self.inside.tags) c.counter_of.result c.read_checked.new.bus c.read_checked.new.tags c.in-Err.stop c.in-Err.ensures)
+    (stopped_moved g.B.Bus.told (record { bus = c.self.inside.bus; engine = c.self.inside.tags; pads = c.self.inside.pads; counters = c.self.inside.counters.items; limit = c.self.inside.page_limit; stopped = c.self.inside.stopped }) c.args.line
+    (tags_of g.T.Tagger.data_tag_of g.T.Tagger.node_tag_of c.self.inside.tags) c.counter_of-counter.result c.read_checked.new.bus c.read_checked.new.tags c.in-Err.stop c.in-Err.ensures)
 
 pub returns-in-Err-clause-tampered : goal.returns-in-Err-clause-tampered
 returns-in-Err-clause-tampered g c = λ place _ quiet is.
@@ -102,11 +107,16 @@ returns-in-Err-clause-tampered g c = λ place _ quiet is.
     let read = counter_read (line_count c.self.inside.tags.levels) c.self.inside.page_limit c.self.inside.tags.made c.self.inside.counters.items c.args.line c.index-writes.result.now counted inside c.index-writes.ensures in
     let stop : c.in-Err.stop ≡ Tampered place = cc in
     let stops = subst (λ (k : Counter). IsCheckedRead (tags_of g.T.Tagger.data_tag_of g.T.Tagger.node_tag_of c.self.inside.tags) c.args.line k
-    (g.B.Bus.told c.self.inside.bus) (g.B.Bus.told c.read_checked.new.bus) c.self.inside.tags c.read_checked.new.tags (Err c.in-Err.stop)) c.counter_of.ensures c.in-Err.ensures in
+    (g.B.Bus.told c.self.inside.bus) (g.B.Bus.told c.read_checked.new.bus) c.self.inside.tags c.read_checked.new.tags (Err c.in-Err.stop)) c.counter_of-counter.ensures c.in-Err.ensures in
     let tampers = subst (λ (s : MemStop). IsCheckedRead (tags_of g.T.Tagger.data_tag_of g.T.Tagger.node_tag_of c.self.inside.tags) c.args.line (record { page = c.index-writes.result.now; line = 0 })
     (g.B.Bus.told c.self.inside.bus) (g.B.Bus.told c.read_checked.new.bus) c.self.inside.tags c.read_checked.new.tags (Err s)) stop stops in
     let sound : c.self.inside.tags.evidence ≡ None = rw (← c.self.view_is) at quiet in
     rw (← c.self.view_is)
-    (tampered_lied g.T.Tagger.data_tag_of g.T.Tagger.node_tag_of (g.B.Bus.told c.self.inside.bus) c.self.inside.bus c.read_checked.new.bus c.self.inside.tags
+    (tampered_lied g.T.Tagger.data_tag_of g.T.Tagger.node_tag_of (g.B.Bus.told c.self.inside.bus) c.self.inside.bus c.read_checked.new.bus c.self.inside.tags c.self.inside.pads
     c.self.inside.counters.items c.self.inside.page_limit c.self.inside.stopped c.args.line c.index-writes.result.now
     c.self.invariant.1 going inside read c.if-writes-eq0.false (g.B.Bus.told c.read_checked.new.bus) c.read_checked.new.tags place sound tampers)
+
+pub returns-in-Some-clause-moved : goal.returns-in-Some-clause-moved
+returns-in-Some-clause-moved g c =
+    rw (← c.self.view_is) (lasting_read g.B.Bus.told (record { bus = c.self.inside.bus; engine = c.self.inside.tags; pads = c.self.inside.pads; counters = c.self.inside.counters.items; limit = c.self.inside.page_limit; stopped = c.self.inside.stopped })
+    c.args.line c.in-Some.stop (sym c.lasting.ensures ∙ c.in-Some.is))

@@ -1,17 +1,22 @@
-use Rattle.std.proofs.Common.{◌≡◌, ◌+◌, ◌<◌, ◌++◌, ◌∷◌, [], ℕ, List, None, inr, length, slice_set, refl, rules, sym, ap, ◌∙◌, subst}
+use Rattle.std.proofs.Common.{◌≡◌, ◌+◌, ◌/◌, ◌<◌, ◌++◌, ◌∷◌, [], ℕ, List, None, Some, inl, inr, slice_set, refl, sym, ap, ◌∙◌, subst}
 use Rattle.sec_base.specs.Layout.{line_count}
 use Rattle.sec_base.specs.Lines.{with_line}
 use Rattle.sec_base.specs.declared.layout.Place.TheVariants.{Line as line_place}
 use Rattle.sec_base.specs.declared.sealing.Counter.{Counter}
 use Rattle.sec_base.specs.declared.account.Message.{Message}
 use Rattle.sec_base.specs.declared.account.Message.TheVariants.{Line}
+use Rattle.sec_base.specs.declared.answers.MemStop.TheVariants.{Spent, NoMemory}
 use Rattle.bus_model.specs.Told.{Told, after_write}
 use Rattle.tag_engine.specs.Engine.{Engine, tags_of, after_make, with_room}
-use Rattle.chip_run.specs.Contents.{contents_of}
+use Rattle.pad_stream.specs.Pad.{enciphered}
+use Rattle.pad_stream.specs.Stream.{Stream, after_encrypt, with_room as pads_with_room}
+use Rattle.pad_stream.proofs.Enciphering.{enciphered_long}
+use Rattle.chip_run.specs.Contents.{contents_of, sealed_line}
 use Rattle.chip_run.specs.Protected.{Protected, Moves, lasting_stop}
-use Rattle.chip_run.proofs.LineMessages.{contents_more, counter_read, raised_writes, used_up, not_used_up}
-use Rattle.chip_run.proofs.LineMoves.{tagged_moves}
-use Rattle.chip_run.proofs.Keeping.{spent_kept, memory_kept, written_kept, unwritten_kept}
+use Rattle.chip_run.proofs.LineMessages.{contents_more, counter_read, raised_used, used_up, not_used_up, writes_same}
+use Rattle.chip_run.specs.Moving.{moves_not}
+use Rattle.chip_run.proofs.LineMoves.{stop_moves, tagged_moves}
+use Rattle.chip_run.proofs.Keeping.{spent_kept, memory_kept, roomed_kept, written_kept, unwritten_kept}
 use Rattle.chip_run.proofs.lines.LineMemoryLineStore.write_line.Goals as goal
 
 pub invariant_of-self : goal.invariant_of-self
@@ -21,9 +26,10 @@ invariant_of-self g c =
     let read = counter_read (line_count c.self.inside.tags.levels) c.self.inside.page_limit c.self.inside.tags.made c.self.inside.counters.items c.args.line c.index-writes.result.now counted inside c.index-writes.ensures in
     let going : lasting_stop c.self.inside.stopped ≡ None = sym c.lasting.ensures ∙ c.in_default.is in (
       c.self.invariant.0,
-      spent_kept g.T.Tagger.data_tag_of g.T.Tagger.node_tag_of (g.B.Bus.told c.self.inside.bus) c.self.inside.bus c.self.inside.bus c.self.inside.tags
+      spent_kept g.T.Tagger.data_tag_of g.T.Tagger.node_tag_of (g.B.Bus.told c.self.inside.bus) c.self.inside.bus c.self.inside.bus c.self.inside.tags c.self.inside.pads
           c.self.inside.counters.items c.self.inside.page_limit c.self.inside.stopped c.args.line c.self.invariant.1 going inside
-          (used_up (line_count c.self.inside.tags.levels) c.self.inside.page_limit c.self.inside.tags.made c.self.inside.counters.items c.args.line c.index-writes.result.now
+          (writes_same c.self.inside.tags.made c.self.inside.pads.used c.args.line c.self.invariant.1.paired
+          ∙ used_up (line_count c.self.inside.tags.levels) c.self.inside.page_limit c.self.inside.tags.made c.self.inside.counters.items c.args.line c.index-writes.result.now
           counted inside read c.if-writes-self.true),
     )
 
@@ -32,7 +38,8 @@ returns-then-writes-self-clause-spent g c = λ _.
     let inside : c.args.line < line_count c.self.inside.tags.levels = rw (← c.self.view_is) at c.requires.inside in
     let counted = c.self.invariant.1.counted in
     let read = counter_read (line_count c.self.inside.tags.levels) c.self.inside.page_limit c.self.inside.tags.made c.self.inside.counters.items c.args.line c.index-writes.result.now counted inside c.index-writes.ensures in
-    let full = used_up (line_count c.self.inside.tags.levels) c.self.inside.page_limit c.self.inside.tags.made c.self.inside.counters.items c.args.line c.index-writes.result.now
+    let full = writes_same c.self.inside.tags.made c.self.inside.pads.used c.args.line c.self.invariant.1.paired
+    ∙ used_up (line_count c.self.inside.tags.levels) c.self.inside.page_limit c.self.inside.tags.made c.self.inside.counters.items c.args.line c.index-writes.result.now
     counted inside read c.if-writes-self.true in
     (λ _. rw (← c.self.view_is) full, λ _. refl)
 
@@ -40,7 +47,7 @@ pub invariant_of-self-in-Err : goal.invariant_of-self-in-Err
 invariant_of-self-in-Err g c =
     let going : lasting_stop c.self.inside.stopped ≡ None = sym c.lasting.ensures ∙ c.in_default.is in (
       c.self.invariant.0 ∙ sym (ap (λ (e : Engine g.row.T.Denot). e.levels) c.in-Err.ensures.refused),
-      memory_kept g.T.Tagger.data_tag_of g.T.Tagger.node_tag_of (g.B.Bus.told c.self.inside.bus) c.self.inside.bus c.self.inside.bus c.self.inside.tags
+      memory_kept g.T.Tagger.data_tag_of g.T.Tagger.node_tag_of (g.B.Bus.told c.self.inside.bus) c.self.inside.bus c.self.inside.bus c.self.inside.tags c.self.inside.pads
           c.self.inside.counters.items c.self.inside.page_limit c.self.inside.stopped c.reserve.new.self c.self.invariant.1 going c.in-Err.ensures.refused,
     )
 
@@ -51,143 +58,306 @@ returns-in-Err-clause-spent g c = λ _.
     let read = counter_read (line_count c.self.inside.tags.levels) c.self.inside.page_limit c.self.inside.tags.made c.self.inside.counters.items c.args.line c.index-writes.result.now counted inside c.index-writes.ensures in (
       λ is. absurd (cc),
       λ full. absurd (not_used_up (line_count c.self.inside.tags.levels) c.self.inside.page_limit c.self.inside.tags.made c.self.inside.counters.items c.args.line c.index-writes.result.now
-          counted inside read c.if-writes-self.false (rw (← c.self.view_is) at full)),
+          counted inside read c.if-writes-self.false
+          (sym (writes_same c.self.inside.tags.made c.self.inside.pads.used c.args.line c.self.invariant.1.paired) ∙ rw (← c.self.view_is) at full)),
     )
 
-pub invariant_of-self-in-Ok-write_tagged : goal.invariant_of-self-in-Ok-write_tagged
-invariant_of-self-in-Ok-write_tagged g c =
+pub invariant_of-self-in-Ok-write_sealed : goal.invariant_of-self-in-Ok-write_sealed
+invariant_of-self-in-Ok-write_sealed g c =
     let inside : c.args.line < line_count c.self.inside.tags.levels = rw (← c.self.view_is) at c.requires.inside in
     let counted = c.self.invariant.1.counted in
     let read = counter_read (line_count c.self.inside.tags.levels) c.self.inside.page_limit c.self.inside.tags.made c.self.inside.counters.items c.args.line c.index-writes.result.now counted inside c.index-writes.ensures in
     let going : lasting_stop c.self.inside.stopped ≡ None = sym c.lasting.ensures ∙ c.in_default.is in
     let d = g.T.Tagger.data_tag_of in
     let n = g.T.Tagger.node_tag_of in
-    let long : length c.args.bytes.now ≡ 64 = search rules in
     let counter : Counter = record { page = c.index-writes.result.now + 1; line = 0 } in
-    let tagged : c.write_tagged.new.tags ≡ after_make (Line c.args.line counter c.args.bytes.now) (with_room 1 c.self.inside.tags) =
-    c.write_tagged.ensures.tags ∙ ap (λ (e : Engine g.row.T.Denot). after_make (Line c.args.line c.counter_of-counter.result c.args.bytes.now) e) c.in-Ok.ensures.taken
-    ∙ ap (λ (k : Counter). after_make (Line c.args.line k c.args.bytes.now) (with_room 1 c.self.inside.tags)) c.counter_of-counter.ensures in
-    let told' = g.B.Bus.told c.write_tagged.new.bus in
+    let key : List ℕ = c.self.inside.pads.key in
+    let cipher : List ℕ = enciphered key c.args.line counter c.args.bytes.now in
+    let key_is : c.reserve-2.new.self.key ≡ key = ap (λ (p : Stream). p.key) c.in-Ok-reserve.ensures.taken in
+    let tagged : c.write_sealed.new.tags ≡ after_make (Line c.args.line counter cipher) (with_room 1 c.self.inside.tags) =
+    c.write_sealed.ensures.tags
+    ∙ ap (λ (e : Engine g.row.T.Denot). after_make (Line c.args.line c.counter_of-counter.result (enciphered c.reserve-2.new.self.key c.args.line c.counter_of-counter.result c.args.bytes.now)) e) c.in-Ok.ensures.taken
+    ∙ ap (λ (k : List ℕ). after_make (Line c.args.line c.counter_of-counter.result (enciphered k c.args.line c.counter_of-counter.result c.args.bytes.now)) (with_room 1 c.self.inside.tags)) key_is
+    ∙ ap (λ (k : Counter). after_make (Line c.args.line k (enciphered key c.args.line k c.args.bytes.now)) (with_room 1 c.self.inside.tags)) c.counter_of-counter.ensures in
+    let streamed : c.write_sealed.new.pads ≡ after_encrypt c.args.line counter (pads_with_room 1 c.self.inside.pads) =
+    c.write_sealed.ensures.pads ∙ ap (λ (p : Stream). after_encrypt c.args.line c.counter_of-counter.result p) c.in-Ok-reserve.ensures.taken
+    ∙ ap (λ (k : Counter). after_encrypt c.args.line k (pads_with_room 1 c.self.inside.pads)) c.counter_of-counter.ensures in
+    let long = enciphered_long key c.args.line counter c.args.bytes.now in
+    let told' = g.B.Bus.told c.write_sealed.new.bus in
     let told = g.B.Bus.told c.self.inside.bus in
-    let wrote : told' ≡ after_write (line_place c.args.line) (c.args.bytes.now ++ tags_of d n c.self.inside.tags (Line c.args.line counter c.args.bytes.now)) told =
-    subst (λ (k : Counter). told' ≡ after_write (line_place c.args.line) (c.args.bytes.now ++ tags_of d n c.self.inside.tags (Line c.args.line k c.args.bytes.now)) told) c.counter_of-counter.ensures
-    (subst (λ (e : Engine g.row.T.Denot). told' ≡ after_write (line_place c.args.line) (c.args.bytes.now ++ tags_of d n e (Line c.args.line c.counter_of-counter.result c.args.bytes.now)) told) c.in-Ok.ensures.taken c.in-Ok-write_tagged.ensures.ok) in (
+    let wrote : told' ≡ after_write (line_place c.args.line) (sealed_line (tags_of d n c.self.inside.tags) c.args.line counter cipher) told =
+    subst (λ (k : Counter). told' ≡ after_write (line_place c.args.line) (sealed_line (tags_of d n c.self.inside.tags) c.args.line k (enciphered key c.args.line k c.args.bytes.now)) told) c.counter_of-counter.ensures
+    (subst (λ (k : List ℕ). told' ≡ after_write (line_place c.args.line) (sealed_line (tags_of d n c.self.inside.tags) c.args.line c.counter_of-counter.result (enciphered k c.args.line c.counter_of-counter.result c.args.bytes.now)) told) key_is
+    (subst (λ (e : Engine g.row.T.Denot). told' ≡ after_write (line_place c.args.line) (sealed_line (tags_of d n e) c.args.line c.counter_of-counter.result (enciphered c.reserve-2.new.self.key c.args.line c.counter_of-counter.result c.args.bytes.now)) told) c.in-Ok.ensures.taken c.in-Ok-write_sealed.ensures.ok)) in (
       c.self.invariant.0 ∙ sym (ap (λ (e : Engine g.row.T.Denot). e.levels) tagged),
-      written_kept d n (g.B.Bus.told c.self.inside.bus) c.self.inside.bus c.write_tagged.new.bus c.self.inside.tags c.write_tagged.new.tags
-          c.self.inside.counters.items (slice_set c.self.inside.counters.items c.args.line (c.index-writes.result.now + 1)) c.self.inside.page_limit c.self.inside.stopped c.args.line c.index-writes.result.now c.args.bytes.now
-          c.self.invariant.1 going inside read c.if-writes-self.false long refl tagged told' wrote,
+      written_kept d n (g.B.Bus.told c.self.inside.bus) c.self.inside.bus c.write_sealed.new.bus c.self.inside.tags c.write_sealed.new.tags c.self.inside.pads c.write_sealed.new.pads
+          c.self.inside.counters.items (slice_set c.self.inside.counters.items c.args.line (c.index-writes.result.now + 1)) c.self.inside.page_limit c.self.inside.stopped c.args.line c.index-writes.result.now cipher
+          c.self.invariant.1 going inside read c.if-writes-self.false long refl tagged streamed told' wrote,
     )
 
-pub invariant_of-self-in-Err-write_tagged : goal.invariant_of-self-in-Err-write_tagged
-invariant_of-self-in-Err-write_tagged g c =
+pub invariant_of-self-in-Err-write_sealed : goal.invariant_of-self-in-Err-write_sealed
+invariant_of-self-in-Err-write_sealed g c =
     let inside : c.args.line < line_count c.self.inside.tags.levels = rw (← c.self.view_is) at c.requires.inside in
     let counted = c.self.invariant.1.counted in
     let read = counter_read (line_count c.self.inside.tags.levels) c.self.inside.page_limit c.self.inside.tags.made c.self.inside.counters.items c.args.line c.index-writes.result.now counted inside c.index-writes.ensures in
     let going : lasting_stop c.self.inside.stopped ≡ None = sym c.lasting.ensures ∙ c.in_default.is in
     let d = g.T.Tagger.data_tag_of in
     let n = g.T.Tagger.node_tag_of in
-    let long : length c.args.bytes.now ≡ 64 = search rules in
     let counter : Counter = record { page = c.index-writes.result.now + 1; line = 0 } in
-    let tagged : c.write_tagged.new.tags ≡ after_make (Line c.args.line counter c.args.bytes.now) (with_room 1 c.self.inside.tags) =
-    c.write_tagged.ensures.tags ∙ ap (λ (e : Engine g.row.T.Denot). after_make (Line c.args.line c.counter_of-counter.result c.args.bytes.now) e) c.in-Ok.ensures.taken
-    ∙ ap (λ (k : Counter). after_make (Line c.args.line k c.args.bytes.now) (with_room 1 c.self.inside.tags)) c.counter_of-counter.ensures in (
+    let key : List ℕ = c.self.inside.pads.key in
+    let cipher : List ℕ = enciphered key c.args.line counter c.args.bytes.now in
+    let key_is : c.reserve-2.new.self.key ≡ key = ap (λ (p : Stream). p.key) c.in-Ok-reserve.ensures.taken in
+    let tagged : c.write_sealed.new.tags ≡ after_make (Line c.args.line counter cipher) (with_room 1 c.self.inside.tags) =
+    c.write_sealed.ensures.tags
+    ∙ ap (λ (e : Engine g.row.T.Denot). after_make (Line c.args.line c.counter_of-counter.result (enciphered c.reserve-2.new.self.key c.args.line c.counter_of-counter.result c.args.bytes.now)) e) c.in-Ok.ensures.taken
+    ∙ ap (λ (k : List ℕ). after_make (Line c.args.line c.counter_of-counter.result (enciphered k c.args.line c.counter_of-counter.result c.args.bytes.now)) (with_room 1 c.self.inside.tags)) key_is
+    ∙ ap (λ (k : Counter). after_make (Line c.args.line k (enciphered key c.args.line k c.args.bytes.now)) (with_room 1 c.self.inside.tags)) c.counter_of-counter.ensures in
+    let streamed : c.write_sealed.new.pads ≡ after_encrypt c.args.line counter (pads_with_room 1 c.self.inside.pads) =
+    c.write_sealed.ensures.pads ∙ ap (λ (p : Stream). after_encrypt c.args.line c.counter_of-counter.result p) c.in-Ok-reserve.ensures.taken
+    ∙ ap (λ (k : Counter). after_encrypt c.args.line k (pads_with_room 1 c.self.inside.pads)) c.counter_of-counter.ensures in
+    let long = enciphered_long key c.args.line counter c.args.bytes.now in (
       c.self.invariant.0 ∙ sym (ap (λ (e : Engine g.row.T.Denot). e.levels) tagged),
-      unwritten_kept d n (g.B.Bus.told c.self.inside.bus) c.self.inside.bus c.write_tagged.new.bus c.self.inside.tags c.write_tagged.new.tags
-          c.self.inside.counters.items (slice_set c.self.inside.counters.items c.args.line (c.index-writes.result.now + 1)) c.self.inside.page_limit c.self.inside.stopped c.args.line c.index-writes.result.now c.args.bytes.now
-          c.self.invariant.1 going inside read c.if-writes-self.false long refl tagged (g.B.Bus.told c.write_tagged.new.bus) c.in-Err-write_tagged.ensures.err,
+      unwritten_kept d n (g.B.Bus.told c.self.inside.bus) c.self.inside.bus c.write_sealed.new.bus c.self.inside.tags c.write_sealed.new.tags c.self.inside.pads c.write_sealed.new.pads
+          c.self.inside.counters.items (slice_set c.self.inside.counters.items c.args.line (c.index-writes.result.now + 1)) c.self.inside.page_limit c.self.inside.stopped c.args.line c.index-writes.result.now cipher
+          c.self.invariant.1 going inside read c.if-writes-self.false long refl tagged streamed (g.B.Bus.told c.write_sealed.new.bus) c.in-Err-write_sealed.ensures.err,
     )
 
-pub returns-in-Ok-write_tagged-clause-stored : goal.returns-in-Ok-write_tagged-clause-stored
-returns-in-Ok-write_tagged-clause-stored g c = λ unstopped sound.
+pub returns-in-Ok-write_sealed-clause-stored : goal.returns-in-Ok-write_sealed-clause-stored
+returns-in-Ok-write_sealed-clause-stored g c = λ unstopped sound.
     let inside : c.args.line < line_count c.self.inside.tags.levels = rw (← c.self.view_is) at c.requires.inside in
     let counted = c.self.invariant.1.counted in
     let read = counter_read (line_count c.self.inside.tags.levels) c.self.inside.page_limit c.self.inside.tags.made c.self.inside.counters.items c.args.line c.index-writes.result.now counted inside c.index-writes.ensures in
-    let long : length c.args.bytes.now ≡ 64 = search rules in
     let counter : Counter = record { page = c.index-writes.result.now + 1; line = 0 } in
-    let tagged : c.write_tagged.new.tags ≡ after_make (Line c.args.line counter c.args.bytes.now) (with_room 1 c.self.inside.tags) =
-    c.write_tagged.ensures.tags ∙ ap (λ (e : Engine g.row.T.Denot). after_make (Line c.args.line c.counter_of-counter.result c.args.bytes.now) e) c.in-Ok.ensures.taken
-    ∙ ap (λ (k : Counter). after_make (Line c.args.line k c.args.bytes.now) (with_room 1 c.self.inside.tags)) c.counter_of-counter.ensures in
-    let made : c.write_tagged.new.tags.made ≡ c.self.inside.tags.made ++ Line c.args.line counter c.args.bytes.now ∷ [] = ap (λ (e : Engine g.row.T.Denot). e.made) tagged in
-    let levels : c.write_tagged.new.tags.levels ≡ c.self.inside.tags.levels = ap (λ (e : Engine g.row.T.Denot). e.levels) tagged in
-    let whole = contents_more (line_count c.self.inside.tags.levels) c.self.inside.tags.made c.args.line counter c.args.bytes.now inside long in
-    let grown : contents_of (line_count c.write_tagged.new.tags.levels) c.write_tagged.new.tags.made
-    ≡ with_line (contents_of (line_count c.self.inside.tags.levels) c.self.inside.tags.made) c.args.line c.args.bytes.now =
-    ap (λ (xs : List Message). contents_of (line_count c.write_tagged.new.tags.levels) xs) made
-    ∙ ap (λ (l : ℕ). contents_of (line_count l) (c.self.inside.tags.made ++ Line c.args.line counter c.args.bytes.now ∷ [])) levels ∙ sym whole in
+    let key : List ℕ = c.self.inside.pads.key in
+    let cipher : List ℕ = enciphered key c.args.line counter c.args.bytes.now in
+    let key_is : c.reserve-2.new.self.key ≡ key = ap (λ (p : Stream). p.key) c.in-Ok-reserve.ensures.taken in
+    let tagged : c.write_sealed.new.tags ≡ after_make (Line c.args.line counter cipher) (with_room 1 c.self.inside.tags) =
+    c.write_sealed.ensures.tags
+    ∙ ap (λ (e : Engine g.row.T.Denot). after_make (Line c.args.line c.counter_of-counter.result (enciphered c.reserve-2.new.self.key c.args.line c.counter_of-counter.result c.args.bytes.now)) e) c.in-Ok.ensures.taken
+    ∙ ap (λ (k : List ℕ). after_make (Line c.args.line c.counter_of-counter.result (enciphered k c.args.line c.counter_of-counter.result c.args.bytes.now)) (with_room 1 c.self.inside.tags)) key_is
+    ∙ ap (λ (k : Counter). after_make (Line c.args.line k (enciphered key c.args.line k c.args.bytes.now)) (with_room 1 c.self.inside.tags)) c.counter_of-counter.ensures in
+    let streamed : c.write_sealed.new.pads ≡ after_encrypt c.args.line counter (pads_with_room 1 c.self.inside.pads) =
+    c.write_sealed.ensures.pads ∙ ap (λ (p : Stream). after_encrypt c.args.line c.counter_of-counter.result p) c.in-Ok-reserve.ensures.taken
+    ∙ ap (λ (k : Counter). after_encrypt c.args.line k (pads_with_room 1 c.self.inside.pads)) c.counter_of-counter.ensures in
+    let undone : enciphered key c.args.line counter cipher ≡ c.args.bytes.now =
+    subst (λ (k : Counter). enciphered key c.args.line k (enciphered key c.args.line k c.args.bytes.now) ≡ c.args.bytes.now) c.counter_of-counter.ensures
+    (subst (λ (k : List ℕ). enciphered k c.args.line c.counter_of-counter.result (enciphered k c.args.line c.counter_of-counter.result c.args.bytes.now) ≡ c.args.bytes.now) key_is c.write_sealed.ensures.undone) in
+    let made : c.write_sealed.new.tags.made ≡ c.self.inside.tags.made ++ Line c.args.line counter cipher ∷ [] = ap (λ (e : Engine g.row.T.Denot). e.made) tagged in
+    let levels : c.write_sealed.new.tags.levels ≡ c.self.inside.tags.levels = ap (λ (e : Engine g.row.T.Denot). e.levels) tagged in
+    let keys : c.write_sealed.new.pads.key ≡ key = ap (λ (p : Stream). p.key) streamed in
+    let whole = contents_more key (line_count c.self.inside.tags.levels) c.self.inside.tags.made c.args.line counter c.args.bytes.now inside undone in
+    let grown : contents_of c.write_sealed.new.pads.key (line_count c.write_sealed.new.tags.levels) c.write_sealed.new.tags.made
+    ≡ with_line (contents_of key (line_count c.self.inside.tags.levels) c.self.inside.tags.made) c.args.line c.args.bytes.now =
+    ap (λ (k : List ℕ). contents_of k (line_count c.write_sealed.new.tags.levels) c.write_sealed.new.tags.made) keys
+    ∙ ap (λ (xs : List Message). contents_of key (line_count c.write_sealed.new.tags.levels) xs) made
+    ∙ ap (λ (l : ℕ). contents_of key (line_count l) (c.self.inside.tags.made ++ Line c.args.line counter cipher ∷ [])) levels ∙ sym whole in
     rw (← c.self.view_is) grown
 
-pub returns-in-Ok-write_tagged-clause-moved : goal.returns-in-Ok-write_tagged-clause-moved
+pub returns-in-Ok-write_sealed-clause-moved : goal.returns-in-Ok-write_sealed-clause-moved
 unfolding after_write
-returns-in-Ok-write_tagged-clause-moved g c =
+returns-in-Ok-write_sealed-clause-moved g c =
     let d = g.T.Tagger.data_tag_of in
     let n = g.T.Tagger.node_tag_of in
     let counter : Counter = record { page = c.index-writes.result.now + 1; line = 0 } in
-    let tagged : c.write_tagged.new.tags ≡ after_make (Line c.args.line counter c.args.bytes.now) (with_room 1 c.self.inside.tags) =
-    c.write_tagged.ensures.tags ∙ ap (λ (e : Engine g.row.T.Denot). after_make (Line c.args.line c.counter_of-counter.result c.args.bytes.now) e) c.in-Ok.ensures.taken
-    ∙ ap (λ (k : Counter). after_make (Line c.args.line k c.args.bytes.now) (with_room 1 c.self.inside.tags)) c.counter_of-counter.ensures in
-    let told' = g.B.Bus.told c.write_tagged.new.bus in
+    let key : List ℕ = c.self.inside.pads.key in
+    let cipher : List ℕ = enciphered key c.args.line counter c.args.bytes.now in
+    let key_is : c.reserve-2.new.self.key ≡ key = ap (λ (p : Stream). p.key) c.in-Ok-reserve.ensures.taken in
+    let tagged : c.write_sealed.new.tags ≡ after_make (Line c.args.line counter cipher) (with_room 1 c.self.inside.tags) =
+    c.write_sealed.ensures.tags
+    ∙ ap (λ (e : Engine g.row.T.Denot). after_make (Line c.args.line c.counter_of-counter.result (enciphered c.reserve-2.new.self.key c.args.line c.counter_of-counter.result c.args.bytes.now)) e) c.in-Ok.ensures.taken
+    ∙ ap (λ (k : List ℕ). after_make (Line c.args.line c.counter_of-counter.result (enciphered k c.args.line c.counter_of-counter.result c.args.bytes.now)) (with_room 1 c.self.inside.tags)) key_is
+    ∙ ap (λ (k : Counter). after_make (Line c.args.line k (enciphered key c.args.line k c.args.bytes.now)) (with_room 1 c.self.inside.tags)) c.counter_of-counter.ensures in
+    let streamed : c.write_sealed.new.pads ≡ after_encrypt c.args.line counter (pads_with_room 1 c.self.inside.pads) =
+    c.write_sealed.ensures.pads ∙ ap (λ (p : Stream). after_encrypt c.args.line c.counter_of-counter.result p) c.in-Ok-reserve.ensures.taken
+    ∙ ap (λ (k : Counter). after_encrypt c.args.line k (pads_with_room 1 c.self.inside.pads)) c.counter_of-counter.ensures in
+    let told' = g.B.Bus.told c.write_sealed.new.bus in
     let told = g.B.Bus.told c.self.inside.bus in
-    let wrote : told' ≡ after_write (line_place c.args.line) (c.args.bytes.now ++ tags_of d n c.self.inside.tags (Line c.args.line counter c.args.bytes.now)) told =
-    subst (λ (k : Counter). told' ≡ after_write (line_place c.args.line) (c.args.bytes.now ++ tags_of d n c.self.inside.tags (Line c.args.line k c.args.bytes.now)) told) c.counter_of-counter.ensures
-    (subst (λ (e : Engine g.row.T.Denot). told' ≡ after_write (line_place c.args.line) (c.args.bytes.now ++ tags_of d n e (Line c.args.line c.counter_of-counter.result c.args.bytes.now)) told) c.in-Ok.ensures.taken c.in-Ok-write_tagged.ensures.ok) in
+    let wrote : told' ≡ after_write (line_place c.args.line) (sealed_line (tags_of d n c.self.inside.tags) c.args.line counter cipher) told =
+    subst (λ (k : Counter). told' ≡ after_write (line_place c.args.line) (sealed_line (tags_of d n c.self.inside.tags) c.args.line k (enciphered key c.args.line k c.args.bytes.now)) told) c.counter_of-counter.ensures
+    (subst (λ (k : List ℕ). told' ≡ after_write (line_place c.args.line) (sealed_line (tags_of d n c.self.inside.tags) c.args.line c.counter_of-counter.result (enciphered k c.args.line c.counter_of-counter.result c.args.bytes.now)) told) key_is
+    (subst (λ (e : Engine g.row.T.Denot). told' ≡ after_write (line_place c.args.line) (sealed_line (tags_of d n e) c.args.line c.counter_of-counter.result (enciphered c.reserve-2.new.self.key c.args.line c.counter_of-counter.result c.args.bytes.now)) told) c.in-Ok.ensures.taken c.in-Ok-write_sealed.ensures.ok)) in
     subst (λ (m : Protected g.row.B.Denot g.row.T.Denot). Moves g.B.Bus.told m (record {
-      bus = c.write_tagged.new.bus;
-      engine = c.write_tagged.new.tags;
+      bus = c.write_sealed.new.bus;
+      engine = c.write_sealed.new.tags;
+      pads = c.write_sealed.new.pads;
       counters = slice_set c.self.inside.counters.items c.args.line (c.index-writes.result.now + 1);
       limit = c.self.inside.page_limit;
       stopped = c.self.inside.stopped;
     })) c.self.view_is
-    (tagged_moves g.B.Bus.told (record { bus = c.self.inside.bus; engine = c.self.inside.tags; counters = c.self.inside.counters.items; limit = c.self.inside.page_limit; stopped = c.self.inside.stopped }) c.args.line counter c.args.bytes.now c.write_tagged.new.bus c.write_tagged.new.tags
-    (slice_set c.self.inside.counters.items c.args.line (c.index-writes.result.now + 1)) c.self.inside.stopped tagged (ap (λ (t : Told). t.reads) wrote))
+    (tagged_moves g.B.Bus.told (record { bus = c.self.inside.bus; engine = c.self.inside.tags; pads = c.self.inside.pads; counters = c.self.inside.counters.items; limit = c.self.inside.page_limit; stopped = c.self.inside.stopped }) c.args.line counter cipher c.write_sealed.new.bus c.write_sealed.new.tags c.write_sealed.new.pads
+    (slice_set c.self.inside.counters.items c.args.line (c.index-writes.result.now + 1)) c.self.inside.stopped tagged streamed (ap (λ (t : Told). t.reads) wrote))
 
-pub returns-in-Ok-write_tagged-clause-spent : goal.returns-in-Ok-write_tagged-clause-spent
-returns-in-Ok-write_tagged-clause-spent g c = λ _.
+pub returns-in-Ok-write_sealed-clause-spent : goal.returns-in-Ok-write_sealed-clause-spent
+returns-in-Ok-write_sealed-clause-spent g c = λ _.
     let inside : c.args.line < line_count c.self.inside.tags.levels = rw (← c.self.view_is) at c.requires.inside in
     let counted = c.self.invariant.1.counted in
     let read = counter_read (line_count c.self.inside.tags.levels) c.self.inside.page_limit c.self.inside.tags.made c.self.inside.counters.items c.args.line c.index-writes.result.now counted inside c.index-writes.ensures in (
       λ is. absurd (cc),
       λ full. absurd (not_used_up (line_count c.self.inside.tags.levels) c.self.inside.page_limit c.self.inside.tags.made c.self.inside.counters.items c.args.line c.index-writes.result.now
-          counted inside read c.if-writes-self.false (rw (← c.self.view_is) at full)),
+          counted inside read c.if-writes-self.false
+          (sym (writes_same c.self.inside.tags.made c.self.inside.pads.used c.args.line c.self.invariant.1.paired) ∙ rw (← c.self.view_is) at full)),
     )
 
-pub returns-in-Err-write_tagged-clause-refused : goal.returns-in-Err-write_tagged-clause-refused
-returns-in-Err-write_tagged-clause-refused g c = λ unstopped sound.
+pub returns-in-Err-write_sealed-clause-refused : goal.returns-in-Err-write_sealed-clause-refused
+returns-in-Err-write_sealed-clause-refused g c = λ unstopped sound.
     let inside : c.args.line < line_count c.self.inside.tags.levels = rw (← c.self.view_is) at c.requires.inside in
     let counted = c.self.invariant.1.counted in
     let read = counter_read (line_count c.self.inside.tags.levels) c.self.inside.page_limit c.self.inside.tags.made c.self.inside.counters.items c.args.line c.index-writes.result.now counted inside c.index-writes.ensures in
-    let long : length c.args.bytes.now ≡ 64 = search rules in
     let counter : Counter = record { page = c.index-writes.result.now + 1; line = 0 } in
-    let tagged : c.write_tagged.new.tags ≡ after_make (Line c.args.line counter c.args.bytes.now) (with_room 1 c.self.inside.tags) =
-    c.write_tagged.ensures.tags ∙ ap (λ (e : Engine g.row.T.Denot). after_make (Line c.args.line c.counter_of-counter.result c.args.bytes.now) e) c.in-Ok.ensures.taken
-    ∙ ap (λ (k : Counter). after_make (Line c.args.line k c.args.bytes.now) (with_room 1 c.self.inside.tags)) c.counter_of-counter.ensures in
-    let made : c.write_tagged.new.tags.made ≡ c.self.inside.tags.made ++ Line c.args.line counter c.args.bytes.now ∷ [] = ap (λ (e : Engine g.row.T.Denot). e.made) tagged in
-    let levels : c.write_tagged.new.tags.levels ≡ c.self.inside.tags.levels = ap (λ (e : Engine g.row.T.Denot). e.levels) tagged in
-    let whole = contents_more (line_count c.self.inside.tags.levels) c.self.inside.tags.made c.args.line counter c.args.bytes.now inside long in
-    let grown : contents_of (line_count c.write_tagged.new.tags.levels) c.write_tagged.new.tags.made
-    ≡ with_line (contents_of (line_count c.self.inside.tags.levels) c.self.inside.tags.made) c.args.line c.args.bytes.now =
-    ap (λ (xs : List Message). contents_of (line_count c.write_tagged.new.tags.levels) xs) made
-    ∙ ap (λ (l : ℕ). contents_of (line_count l) (c.self.inside.tags.made ++ Line c.args.line counter c.args.bytes.now ∷ [])) levels ∙ sym whole in
+    let key : List ℕ = c.self.inside.pads.key in
+    let cipher : List ℕ = enciphered key c.args.line counter c.args.bytes.now in
+    let key_is : c.reserve-2.new.self.key ≡ key = ap (λ (p : Stream). p.key) c.in-Ok-reserve.ensures.taken in
+    let tagged : c.write_sealed.new.tags ≡ after_make (Line c.args.line counter cipher) (with_room 1 c.self.inside.tags) =
+    c.write_sealed.ensures.tags
+    ∙ ap (λ (e : Engine g.row.T.Denot). after_make (Line c.args.line c.counter_of-counter.result (enciphered c.reserve-2.new.self.key c.args.line c.counter_of-counter.result c.args.bytes.now)) e) c.in-Ok.ensures.taken
+    ∙ ap (λ (k : List ℕ). after_make (Line c.args.line c.counter_of-counter.result (enciphered k c.args.line c.counter_of-counter.result c.args.bytes.now)) (with_room 1 c.self.inside.tags)) key_is
+    ∙ ap (λ (k : Counter). after_make (Line c.args.line k (enciphered key c.args.line k c.args.bytes.now)) (with_room 1 c.self.inside.tags)) c.counter_of-counter.ensures in
+    let streamed : c.write_sealed.new.pads ≡ after_encrypt c.args.line counter (pads_with_room 1 c.self.inside.pads) =
+    c.write_sealed.ensures.pads ∙ ap (λ (p : Stream). after_encrypt c.args.line c.counter_of-counter.result p) c.in-Ok-reserve.ensures.taken
+    ∙ ap (λ (k : Counter). after_encrypt c.args.line k (pads_with_room 1 c.self.inside.pads)) c.counter_of-counter.ensures in
+    let undone : enciphered key c.args.line counter cipher ≡ c.args.bytes.now =
+    subst (λ (k : Counter). enciphered key c.args.line k (enciphered key c.args.line k c.args.bytes.now) ≡ c.args.bytes.now) c.counter_of-counter.ensures
+    (subst (λ (k : List ℕ). enciphered k c.args.line c.counter_of-counter.result (enciphered k c.args.line c.counter_of-counter.result c.args.bytes.now) ≡ c.args.bytes.now) key_is c.write_sealed.ensures.undone) in
+    let made : c.write_sealed.new.tags.made ≡ c.self.inside.tags.made ++ Line c.args.line counter cipher ∷ [] = ap (λ (e : Engine g.row.T.Denot). e.made) tagged in
+    let levels : c.write_sealed.new.tags.levels ≡ c.self.inside.tags.levels = ap (λ (e : Engine g.row.T.Denot). e.levels) tagged in
+    let keys : c.write_sealed.new.pads.key ≡ key = ap (λ (p : Stream). p.key) streamed in
+    let whole = contents_more key (line_count c.self.inside.tags.levels) c.self.inside.tags.made c.args.line counter c.args.bytes.now inside undone in
+    let grown : contents_of c.write_sealed.new.pads.key (line_count c.write_sealed.new.tags.levels) c.write_sealed.new.tags.made
+    ≡ with_line (contents_of key (line_count c.self.inside.tags.levels) c.self.inside.tags.made) c.args.line c.args.bytes.now =
+    ap (λ (k : List ℕ). contents_of k (line_count c.write_sealed.new.tags.levels) c.write_sealed.new.tags.made) keys
+    ∙ ap (λ (xs : List Message). contents_of key (line_count c.write_sealed.new.tags.levels) xs) made
+    ∙ ap (λ (l : ℕ). contents_of key (line_count l) (c.self.inside.tags.made ++ Line c.args.line counter cipher ∷ [])) levels ∙ sym whole in
     inr (rw (← c.self.view_is) grown)
 
-pub returns-in-Err-write_tagged-clause-spent : goal.returns-in-Err-write_tagged-clause-spent
-returns-in-Err-write_tagged-clause-spent g c = λ _.
+pub returns-in-Err-write_sealed-clause-spent : goal.returns-in-Err-write_sealed-clause-spent
+returns-in-Err-write_sealed-clause-spent g c = λ _.
     let inside : c.args.line < line_count c.self.inside.tags.levels = rw (← c.self.view_is) at c.requires.inside in
     let counted = c.self.invariant.1.counted in
     let read = counter_read (line_count c.self.inside.tags.levels) c.self.inside.page_limit c.self.inside.tags.made c.self.inside.counters.items c.args.line c.index-writes.result.now counted inside c.index-writes.ensures in (
       λ is. absurd (cc),
       λ full. absurd (not_used_up (line_count c.self.inside.tags.levels) c.self.inside.page_limit c.self.inside.tags.made c.self.inside.counters.items c.args.line c.index-writes.result.now
-          counted inside read c.if-writes-self.false (rw (← c.self.view_is) at full)),
+          counted inside read c.if-writes-self.false
+          (sym (writes_same c.self.inside.tags.made c.self.inside.pads.used c.args.line c.self.invariant.1.paired) ∙ rw (← c.self.view_is) at full)),
     )
 
-pub returns-in-Ok-write_tagged-clause-raised : goal.returns-in-Ok-write_tagged-clause-raised
-returns-in-Ok-write_tagged-clause-raised g c =
+pub returns-in-Ok-write_sealed-clause-raised : goal.returns-in-Ok-write_sealed-clause-raised
+returns-in-Ok-write_sealed-clause-raised g c =
     let inside : c.args.line < line_count c.self.inside.tags.levels = rw (← c.self.view_is) at c.requires.inside in
     let counted = c.self.invariant.1.counted in
     let read = counter_read (line_count c.self.inside.tags.levels) c.self.inside.page_limit c.self.inside.tags.made c.self.inside.counters.items c.args.line c.index-writes.result.now counted inside c.index-writes.ensures in
     let counter : Counter = record { page = c.index-writes.result.now + 1; line = 0 } in
-    let tagged : c.write_tagged.new.tags ≡ after_make (Line c.args.line counter c.args.bytes.now) (with_room 1 c.self.inside.tags) =
-    c.write_tagged.ensures.tags ∙ ap (λ (e : Engine g.row.T.Denot). after_make (Line c.args.line c.counter_of-counter.result c.args.bytes.now) e) c.in-Ok.ensures.taken
-    ∙ ap (λ (k : Counter). after_make (Line c.args.line k c.args.bytes.now) (with_room 1 c.self.inside.tags)) c.counter_of-counter.ensures in
-    let made : c.write_tagged.new.tags.made ≡ c.self.inside.tags.made ++ Line c.args.line counter c.args.bytes.now ∷ [] = ap (λ (e : Engine g.row.T.Denot). e.made) tagged in
-    rw (← c.self.view_is) (raised_writes (line_count c.self.inside.tags.levels) c.self.inside.page_limit c.self.inside.tags.made c.write_tagged.new.tags.made c.self.inside.counters.items
-    c.args.line c.index-writes.result.now c.args.bytes.now counted inside read made)
+    let key : List ℕ = c.self.inside.pads.key in
+    let cipher : List ℕ = enciphered key c.args.line counter c.args.bytes.now in
+    let key_is : c.reserve-2.new.self.key ≡ key = ap (λ (p : Stream). p.key) c.in-Ok-reserve.ensures.taken in
+    let tagged : c.write_sealed.new.tags ≡ after_make (Line c.args.line counter cipher) (with_room 1 c.self.inside.tags) =
+    c.write_sealed.ensures.tags
+    ∙ ap (λ (e : Engine g.row.T.Denot). after_make (Line c.args.line c.counter_of-counter.result (enciphered c.reserve-2.new.self.key c.args.line c.counter_of-counter.result c.args.bytes.now)) e) c.in-Ok.ensures.taken
+    ∙ ap (λ (k : List ℕ). after_make (Line c.args.line c.counter_of-counter.result (enciphered k c.args.line c.counter_of-counter.result c.args.bytes.now)) (with_room 1 c.self.inside.tags)) key_is
+    ∙ ap (λ (k : Counter). after_make (Line c.args.line k (enciphered key c.args.line k c.args.bytes.now)) (with_room 1 c.self.inside.tags)) c.counter_of-counter.ensures in
+    let streamed : c.write_sealed.new.pads ≡ after_encrypt c.args.line counter (pads_with_room 1 c.self.inside.pads) =
+    c.write_sealed.ensures.pads ∙ ap (λ (p : Stream). after_encrypt c.args.line c.counter_of-counter.result p) c.in-Ok-reserve.ensures.taken
+    ∙ ap (λ (k : Counter). after_encrypt c.args.line k (pads_with_room 1 c.self.inside.pads)) c.counter_of-counter.ensures in
+    let made : c.write_sealed.new.tags.made ≡ c.self.inside.tags.made ++ Line c.args.line counter cipher ∷ [] = ap (λ (e : Engine g.row.T.Denot). e.made) tagged in
+    let used : c.write_sealed.new.pads.used ≡ c.self.inside.pads.used ++ (c.args.line, counter) ∷ [] = ap (λ (p : Stream). p.used) streamed in
+    rw (← c.self.view_is) (raised_used (line_count c.self.inside.tags.levels) c.self.inside.page_limit c.self.inside.tags.made c.write_sealed.new.tags.made c.self.inside.pads.used c.write_sealed.new.pads.used
+    c.self.inside.counters.items c.args.line c.index-writes.result.now cipher counted inside read c.self.invariant.1.paired made used)
+
+pub invariant_of-self-in-Err-reserve : goal.invariant_of-self-in-Err-reserve
+invariant_of-self-in-Err-reserve g c =
+    let going : lasting_stop c.self.inside.stopped ≡ None = sym c.lasting.ensures ∙ c.in_default.is in (
+      c.self.invariant.0 ∙ sym (ap (λ (e : Engine g.row.T.Denot). e.levels) c.in-Ok.ensures.taken),
+      roomed_kept g.T.Tagger.data_tag_of g.T.Tagger.node_tag_of (g.B.Bus.told c.self.inside.bus) c.self.inside.bus c.self.inside.bus c.self.inside.tags c.self.inside.pads
+          c.self.inside.counters.items c.self.inside.page_limit c.self.inside.stopped c.reserve.new.self c.reserve-2.new.self c.self.invariant.1 going c.in-Ok.ensures.taken c.in-Err-reserve.ensures.refused,
+    )
+
+pub returns-in-Err-reserve-clause-moved : goal.returns-in-Err-reserve-clause-moved
+returns-in-Err-reserve-clause-moved g c =
+    subst (λ (m : Protected g.row.B.Denot g.row.T.Denot). Moves g.B.Bus.told m (record {
+      bus = c.self.inside.bus;
+      engine = c.reserve.new.self;
+      pads = c.reserve-2.new.self;
+      counters = c.self.inside.counters.items;
+      limit = c.self.inside.page_limit;
+      stopped = Some NoMemory;
+    })) c.self.view_is
+    (stop_moves g.B.Bus.told (record { bus = c.self.inside.bus; engine = c.self.inside.tags; pads = c.self.inside.pads; counters = c.self.inside.counters.items; limit = c.self.inside.page_limit; stopped = c.self.inside.stopped }) c.args.line c.self.inside.bus c.reserve.new.self c.reserve-2.new.self (Some NoMemory) refl
+    (ap (λ (e : Engine g.row.T.Denot). e.tagger) c.in-Ok.ensures.taken) (ap (λ (e : Engine g.row.T.Denot). e.levels) c.in-Ok.ensures.taken) (ap (λ (e : Engine g.row.T.Denot). e.made) c.in-Ok.ensures.taken) (ap (λ (e : Engine g.row.T.Denot). e.evidence) c.in-Ok.ensures.taken)
+    (ap (λ (p : Stream). p.key) c.in-Err-reserve.ensures.refused) (ap (λ (p : Stream). p.used) c.in-Err-reserve.ensures.refused))
+
+pub returns-in-Err-reserve-clause-refused : goal.returns-in-Err-reserve-clause-refused
+returns-in-Err-reserve-clause-refused g c = λ _ _.
+    let same : contents_of c.reserve-2.new.self.key (line_count c.reserve.new.self.levels) c.reserve.new.self.made
+    ≡ contents_of c.self.inside.pads.key (line_count c.self.inside.tags.levels) c.self.inside.tags.made =
+    ap (λ (p : Stream). contents_of p.key (line_count c.reserve.new.self.levels) c.reserve.new.self.made) c.in-Err-reserve.ensures.refused
+    ∙ ap (λ (e : Engine g.row.T.Denot). contents_of c.self.inside.pads.key (line_count e.levels) e.made) c.in-Ok.ensures.taken in
+    inl (rw (← c.self.view_is) same)
+
+pub returns-in-Err-reserve-clause-spent : goal.returns-in-Err-reserve-clause-spent
+returns-in-Err-reserve-clause-spent g c = λ _.
+    let inside : c.args.line < line_count c.self.inside.tags.levels = rw (← c.self.view_is) at c.requires.inside in
+    let counted = c.self.invariant.1.counted in
+    let read = counter_read (line_count c.self.inside.tags.levels) c.self.inside.page_limit c.self.inside.tags.made c.self.inside.counters.items c.args.line c.index-writes.result.now counted inside c.index-writes.ensures in (
+      λ is. absurd (cc),
+      λ full. absurd (not_used_up (line_count c.self.inside.tags.levels) c.self.inside.page_limit c.self.inside.tags.made c.self.inside.counters.items c.args.line c.index-writes.result.now
+          counted inside read c.if-writes-self.false
+          (sym (writes_same c.self.inside.tags.made c.self.inside.pads.used c.args.line c.self.invariant.1.paired) ∙ rw (← c.self.view_is) at full)),
+    )
+
+pub returns-in-Some-clause-moved : goal.returns-in-Some-clause-moved
+returns-in-Some-clause-moved g c = moves_not g.B.Bus.told c.args.self.now
+
+pub returns-then-writes-self-clause-moved : goal.returns-then-writes-self-clause-moved
+returns-then-writes-self-clause-moved g c =
+    subst (λ (m : Protected g.row.B.Denot g.row.T.Denot). Moves g.B.Bus.told m (record {
+      bus = c.self.inside.bus;
+      engine = c.self.inside.tags;
+      pads = c.self.inside.pads;
+      counters = c.self.inside.counters.items;
+      limit = c.self.inside.page_limit;
+      stopped = Some (Spent (c.args.line / 64));
+    })) c.self.view_is
+    (stop_moves g.B.Bus.told (record { bus = c.self.inside.bus; engine = c.self.inside.tags; pads = c.self.inside.pads; counters = c.self.inside.counters.items; limit = c.self.inside.page_limit; stopped = c.self.inside.stopped }) c.args.line c.self.inside.bus c.self.inside.tags c.self.inside.pads (Some (Spent (c.args.line / 64))) refl
+    refl refl refl refl refl refl)
+
+pub returns-in-Err-clause-moved : goal.returns-in-Err-clause-moved
+returns-in-Err-clause-moved g c =
+    subst (λ (m : Protected g.row.B.Denot g.row.T.Denot). Moves g.B.Bus.told m (record {
+      bus = c.self.inside.bus;
+      engine = c.reserve.new.self;
+      pads = c.self.inside.pads;
+      counters = c.self.inside.counters.items;
+      limit = c.self.inside.page_limit;
+      stopped = Some NoMemory;
+    })) c.self.view_is
+    (stop_moves g.B.Bus.told (record { bus = c.self.inside.bus; engine = c.self.inside.tags; pads = c.self.inside.pads; counters = c.self.inside.counters.items; limit = c.self.inside.page_limit; stopped = c.self.inside.stopped }) c.args.line c.self.inside.bus c.reserve.new.self c.self.inside.pads (Some NoMemory) refl
+    (ap (λ (e : Engine g.row.T.Denot). e.tagger) c.in-Err.ensures.refused) (ap (λ (e : Engine g.row.T.Denot). e.levels) c.in-Err.ensures.refused) (ap (λ (e : Engine g.row.T.Denot). e.made) c.in-Err.ensures.refused) (ap (λ (e : Engine g.row.T.Denot). e.evidence) c.in-Err.ensures.refused) refl refl)
+
+pub returns-in-Err-write_sealed-clause-moved : goal.returns-in-Err-write_sealed-clause-moved
+returns-in-Err-write_sealed-clause-moved g c =
+    let d = g.T.Tagger.data_tag_of in
+    let n = g.T.Tagger.node_tag_of in
+    let counter : Counter = record { page = c.index-writes.result.now + 1; line = 0 } in
+    let key : List ℕ = c.self.inside.pads.key in
+    let cipher : List ℕ = enciphered key c.args.line counter c.args.bytes.now in
+    let key_is : c.reserve-2.new.self.key ≡ key = ap (λ (p : Stream). p.key) c.in-Ok-reserve.ensures.taken in
+    let tagged : c.write_sealed.new.tags ≡ after_make (Line c.args.line counter cipher) (with_room 1 c.self.inside.tags) =
+    c.write_sealed.ensures.tags
+    ∙ ap (λ (e : Engine g.row.T.Denot). after_make (Line c.args.line c.counter_of-counter.result (enciphered c.reserve-2.new.self.key c.args.line c.counter_of-counter.result c.args.bytes.now)) e) c.in-Ok.ensures.taken
+    ∙ ap (λ (k : List ℕ). after_make (Line c.args.line c.counter_of-counter.result (enciphered k c.args.line c.counter_of-counter.result c.args.bytes.now)) (with_room 1 c.self.inside.tags)) key_is
+    ∙ ap (λ (k : Counter). after_make (Line c.args.line k (enciphered key c.args.line k c.args.bytes.now)) (with_room 1 c.self.inside.tags)) c.counter_of-counter.ensures in
+    let streamed : c.write_sealed.new.pads ≡ after_encrypt c.args.line counter (pads_with_room 1 c.self.inside.pads) =
+    c.write_sealed.ensures.pads ∙ ap (λ (p : Stream). after_encrypt c.args.line c.counter_of-counter.result p) c.in-Ok-reserve.ensures.taken
+    ∙ ap (λ (k : Counter). after_encrypt c.args.line k (pads_with_room 1 c.self.inside.pads)) c.counter_of-counter.ensures in
+    let told' = g.B.Bus.told c.write_sealed.new.bus in
+    let told = g.B.Bus.told c.self.inside.bus in
+    let wrote : told' ≡ told = c.in-Err-write_sealed.ensures.err in
+    subst (λ (m : Protected g.row.B.Denot g.row.T.Denot). Moves g.B.Bus.told m (record {
+      bus = c.write_sealed.new.bus;
+      engine = c.write_sealed.new.tags;
+      pads = c.write_sealed.new.pads;
+      counters = slice_set c.self.inside.counters.items c.args.line (c.index-writes.result.now + 1);
+      limit = c.self.inside.page_limit;
+      stopped = Some NoMemory;
+    })) c.self.view_is
+    (tagged_moves g.B.Bus.told (record { bus = c.self.inside.bus; engine = c.self.inside.tags; pads = c.self.inside.pads; counters = c.self.inside.counters.items; limit = c.self.inside.page_limit; stopped = c.self.inside.stopped }) c.args.line counter cipher c.write_sealed.new.bus c.write_sealed.new.tags c.write_sealed.new.pads
+    (slice_set c.self.inside.counters.items c.args.line (c.index-writes.result.now + 1)) (Some NoMemory) tagged streamed (ap (λ (t : Told). t.reads) wrote))

@@ -1,0 +1,60 @@
+-- Lines and counters, and the messages that they are of.
+use Rattle.std.proofs.Common.{◌≡◌, ℕ, zero, suc, Bool, true, cond, nat_lt, List, [], ◌∷◌, ◌++◌, Contains, refl, ap, sym, ◌∙◌, subst, arith}
+use Rattle.std.specs.List.{filter}
+use Rattle.sec_base.specs.declared.sealing.Counter.{Counter}
+use Rattle.sec_base.specs.declared.account.Message.{Message}
+use Rattle.sec_base.specs.declared.account.Message.TheVariants.{Line, Node}
+use Rattle.sec_base.specs.Last.{data_pairs}
+use Rattle.std.proofs.lemmas.Bool.{lt-ltb}
+use Rattle.pad_stream.specs.Used.{of_lines}
+use Rattle.chip_run.specs.Contents.{AreNumbered}
+use Rattle.chip_run.specs.Protected.{AreCounted}
+
+Contains-skip : {A : Type 0} (first : A) (rest : List A) (item : A) → Contains rest item → Contains (first ∷ rest) item
+Contains-skip first rest item listed = (suc listed.0, omega (arith, listed.1), listed.2)
+
+-- the lines and counters of messages that follow one another
+pub data_pairs-append : (front more : List Message) → data_pairs (front ++ more) ≡ data_pairs front ++ data_pairs more
+unfolding data_pairs
+data_pairs-append [] more = refl
+data_pairs-append (Node level index block ∷ front) more = data_pairs-append front more
+data_pairs-append (Line line counter cipher ∷ front) more = ap (λ (pairs : List (ℕ × Counter)). (line, counter) ∷ pairs) (data_pairs-append front more)
+
+-- a line and a counter among them are those of a message
+pub record HasMessage (made : List Message) (line : ℕ) (counter : Counter) : Type 0 where
+  pub cipher : List ℕ
+  pub listed : Contains made (Line line counter cipher)
+
+pub pair_made : (made : List Message) (line : ℕ) (counter : Counter) → Contains (data_pairs made) (line, counter) → HasMessage made line counter
+unfolding data_pairs
+pair_made [] line counter (k, below, at) = absurd (omega (arith, below))
+pair_made (Node level index block ∷ made) line counter listed =
+    let found = pair_made made line counter listed in
+    record { cipher = found.cipher; listed = Contains-skip (Node level index block) made (Line line counter found.cipher) found.listed }
+pair_made (Line other later cipher ∷ made) line counter (zero, below, at) =
+    let lines : other ≡ line = ap (λ (p : ℕ × Counter). p.0) at in
+    let counters : later ≡ counter = ap (λ (p : ℕ × Counter). p.1) at in
+    record { cipher = cipher; listed = (zero, omega arith, ap (λ (l : ℕ). Line l later cipher) lines ∙ ap (λ (c : Counter). Line line c cipher) counters) }
+pair_made (Line other later cipher ∷ made) line counter (suc k, below, at) =
+    let found = pair_made made line counter (k, omega (arith, below), at) in
+    record { cipher = found.cipher; listed = Contains-skip (Line other later cipher) made (Line line counter found.cipher) found.listed }
+
+-- what was enciphered is of the memory's lines, each under a counter of its own
+pub pairs_numbered : (lines limit : ℕ) (made : List Message) (used : List (ℕ × Counter)) (counters : List ℕ) → AreCounted lines limit made counters → data_pairs made ≡ used →
+    AreNumbered lines used
+pairs_numbered lines limit made used counters counted paired = record {
+  numbered = λ line counter listed.
+      let found = pair_made made line counter (subst (λ (xs : List (ℕ × Counter)). Contains xs (line, counter)) (sym paired) listed) in
+      let numbered = counted.numbered line counter found.cipher found.listed in
+      (counted.inside line counter found.cipher found.listed, numbered.least, numbered.own);
+}
+
+-- a test that all pass leaves nothing out
+kept_all : {A : Type 0} (passes : A → Bool) (items : List A) → ((item : A) → Contains items item → passes item ≡ true) → filter passes items ≡ items
+kept_all passes [] all = refl
+kept_all passes (first ∷ items) all =
+    ap (λ (b : Bool). cond b (first ∷ filter passes items) (filter passes items)) (all first (zero, omega arith, refl))
+    ∙ ap (λ (rest : List _). first ∷ rest) (kept_all passes items (λ item listed. all item (Contains-skip first items item listed)))
+
+pub all_of_lines : (lines : ℕ) (used : List (ℕ × Counter)) → AreNumbered lines used → of_lines lines used ≡ used
+all_of_lines lines used own = kept_all (λ (entry : ℕ × Counter). nat_lt entry.0 lines) used (λ entry listed. lt-ltb entry.0 lines (own.numbered entry.0 entry.1 listed).0)

@@ -1,0 +1,3 @@
+mod Pieces
+pub mod Enciphering
+pub mod RisingCounters

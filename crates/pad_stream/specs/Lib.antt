@@ -1,0 +1,3 @@
+pub mod Pad
+pub mod Stream
+pub mod Used
