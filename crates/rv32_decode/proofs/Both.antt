@@ -90,7 +90,7 @@ module _ (i : Inst) (wf : IsInst i) where
       let r = row_for i.op in
       let pattern = is_pattern r.mask r.format r.pattern (row_fits i.op) in
       let back : read r.format i.op (r.pattern + placed r.format i) ≡ i
-      = read_placed r.pattern i wf.rd wf.rs1 wf.rs2 r.format pattern wf.format in
+      = read_placed r.pattern i wf.rd wf.rs1 wf.rs2 r.format (r.pattern + placed r.format i) pattern wf.format refl in
       rw (row_of_word (word_of i) i.op word_matches, name_of_row i.op, back) refl
 
 missing : (w : ℕ) (o : Option Row) → is_some (option_map (λ r. read r.format r.op w) o) ≡ is_some o

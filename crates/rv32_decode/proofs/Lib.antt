@@ -1,5 +1,6 @@
-pub mod Masks
-pub mod Search
-pub mod Rows
-pub mod Words
 pub mod Both
+pub mod Masks
+pub mod Rows
+pub mod Search
+pub mod Signed
+pub mod Words

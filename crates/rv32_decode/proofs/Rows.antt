@@ -9,7 +9,7 @@ use Rattle.rv32_decode.proofs.Search.{each_pair, find_all, find_none, find_passe
 use Rattle.rv32_decode.specs.Fixed.{are_fixed, row_at}
 use Rattle.rv32_decode.specs.Table.{Row, field, is_word_of, number_of, row_for, row_of, rows}
 use Rattle.rv32_decode.specs.declared.Op.{Op}
-use Rattle.rv32_decode.specs.declared.Op.TheVariants.{Lui, Lw, Sw, Addi, Ecall}
+use Rattle.rv32_decode.specs.declared.Op.TheVariants.{Lui, Auipc, Jal, Jalr, Beq, Bne, Blt, Bge, Bltu, Bgeu, Lb, Lh, Lw, Lbu, Lhu, Sb, Sh, Sw, Addi, Slti, Sltiu, Xori, Ori, Andi, Slli, Srli, Srai, Add, Sub, Sll, Slt, Sltu, Xor, Srl, Sra, Or, And, Mul, Mulh, Mulhsu, Mulhu, Div, Divu, Rem, Remu, Fence, FenceI, Ecall, Ebreak}
 
 abbrev fits : Row → Bool
 fits r = is_regular r.mask r.format r.pattern
@@ -37,18 +37,106 @@ rows_named = refl
 row_found : (op : Op) → find (λ r. number_of r.op == number_of op) rows ≡ Some (row_for op)
 unfolding rows number_of row_for
 row_found Lui = refl
+row_found Auipc = refl
+row_found Jal = refl
+row_found Jalr = refl
+row_found Beq = refl
+row_found Bne = refl
+row_found Blt = refl
+row_found Bge = refl
+row_found Bltu = refl
+row_found Bgeu = refl
+row_found Lb = refl
+row_found Lh = refl
 row_found Lw = refl
+row_found Lbu = refl
+row_found Lhu = refl
+row_found Sb = refl
+row_found Sh = refl
 row_found Sw = refl
 row_found Addi = refl
+row_found Slti = refl
+row_found Sltiu = refl
+row_found Xori = refl
+row_found Ori = refl
+row_found Andi = refl
+row_found Slli = refl
+row_found Srli = refl
+row_found Srai = refl
+row_found Add = refl
+row_found Sub = refl
+row_found Sll = refl
+row_found Slt = refl
+row_found Sltu = refl
+row_found Xor = refl
+row_found Srl = refl
+row_found Sra = refl
+row_found Or = refl
+row_found And = refl
+row_found Mul = refl
+row_found Mulh = refl
+row_found Mulhsu = refl
+row_found Mulhu = refl
+row_found Div = refl
+row_found Divu = refl
+row_found Rem = refl
+row_found Remu = refl
+row_found Fence = refl
+row_found FenceI = refl
 row_found Ecall = refl
+row_found Ebreak = refl
 
 pub name_of_row : (op : Op) → (row_for op).op ≡ op
 unfolding rows number_of row_for
 name_of_row Lui = refl
+name_of_row Auipc = refl
+name_of_row Jal = refl
+name_of_row Jalr = refl
+name_of_row Beq = refl
+name_of_row Bne = refl
+name_of_row Blt = refl
+name_of_row Bge = refl
+name_of_row Bltu = refl
+name_of_row Bgeu = refl
+name_of_row Lb = refl
+name_of_row Lh = refl
 name_of_row Lw = refl
+name_of_row Lbu = refl
+name_of_row Lhu = refl
+name_of_row Sb = refl
+name_of_row Sh = refl
 name_of_row Sw = refl
 name_of_row Addi = refl
+name_of_row Slti = refl
+name_of_row Sltiu = refl
+name_of_row Xori = refl
+name_of_row Ori = refl
+name_of_row Andi = refl
+name_of_row Slli = refl
+name_of_row Srli = refl
+name_of_row Srai = refl
+name_of_row Add = refl
+name_of_row Sub = refl
+name_of_row Sll = refl
+name_of_row Slt = refl
+name_of_row Sltu = refl
+name_of_row Xor = refl
+name_of_row Srl = refl
+name_of_row Sra = refl
+name_of_row Or = refl
+name_of_row And = refl
+name_of_row Mul = refl
+name_of_row Mulh = refl
+name_of_row Mulhsu = refl
+name_of_row Mulhu = refl
+name_of_row Div = refl
+name_of_row Divu = refl
+name_of_row Rem = refl
+name_of_row Remu = refl
+name_of_row Fence = refl
+name_of_row FenceI = refl
 name_of_row Ecall = refl
+name_of_row Ebreak = refl
 
 both_words : (w m n p q : ℕ) → bit_and w m ≡ p → bit_and w n ≡ q → bit_and p n ≡ bit_and q m
 both_words w m n p q e f =

@@ -1,15 +1,19 @@
 -- The table searched by the fields that a row fixes in its words: opcode, funct3 and funct7, or the whole word.
-use Rattle.rv32_decode.specs.Table.{Row, rows}
+use Rattle.rv32_decode.specs.Table.{Row, field, rows}
 use Rattle.rv32_decode.specs.declared.Op.{Op}
 use Rattle.rv32_decode.specs.declared.table.Format.{Format}
-use Rattle.rv32_decode.specs.declared.table.Format.TheVariants.{U, I, S, N}
-use Rattle.std.specs.Prelude.{ℕ, ◌/◌, ◌%◌, ◌^◌, ◌==◌, ◌&&◌, Bool, Option, find, option_map}
+use Rattle.rv32_decode.specs.declared.table.Format.TheVariants.{R, I, S, B, U, J, H, N}
+use Rattle.std.specs.Prelude.{ℕ, ◌%◌, ◌^◌, ◌==◌, ◌&&◌, Bool, Option, find, option_map}
 
 -- whether the fields are those of the pattern, as far as the format fixes them
 abbrev pub are_fixed : ℕ → ℕ → ℕ → ℕ → Format → ℕ → Bool
+are_fixed opcode funct3 funct7 word R pattern = (opcode == pattern % 2 ^ 7) && ((funct3 == field pattern 12 3) && (funct7 == field pattern 25 7))
+are_fixed opcode funct3 funct7 word I pattern = (opcode == pattern % 2 ^ 7) && (funct3 == field pattern 12 3)
+are_fixed opcode funct3 funct7 word S pattern = (opcode == pattern % 2 ^ 7) && (funct3 == field pattern 12 3)
+are_fixed opcode funct3 funct7 word B pattern = (opcode == pattern % 2 ^ 7) && (funct3 == field pattern 12 3)
 are_fixed opcode funct3 funct7 word U pattern = opcode == pattern % 2 ^ 7
-are_fixed opcode funct3 funct7 word I pattern = (opcode == pattern % 2 ^ 7) && (funct3 == pattern / 2 ^ 12 % 2 ^ 3)
-are_fixed opcode funct3 funct7 word S pattern = (opcode == pattern % 2 ^ 7) && (funct3 == pattern / 2 ^ 12 % 2 ^ 3)
+are_fixed opcode funct3 funct7 word J pattern = opcode == pattern % 2 ^ 7
+are_fixed opcode funct3 funct7 word H pattern = (opcode == pattern % 2 ^ 7) && ((funct3 == field pattern 12 3) && (funct7 == field pattern 25 7))
 are_fixed opcode funct3 funct7 word N pattern = (opcode == pattern % 2 ^ 7) && (word == pattern)
 
 unfoldable pub row_at : ℕ → ℕ → ℕ → ℕ → Option Row

@@ -2,7 +2,7 @@
 
 ghost use Rattle.rv32_decode.specs.Table.{field, signed};
 ghost use Rattle.rv32_decode.specs.Table as spec;
-ghost use Rattle.std.specs.Prelude.{◌<◌, ◌≡◌, ◌≤◌, ◌^◌};
+ghost use Rattle.std.specs.Prelude.{◌*◌, ◌+◌, ◌<◌, ◌≡◌, ◌≤◌, ◌^◌};
 
 use crate::table::Format;
 use crate::{Inst, Op};
@@ -37,41 +37,99 @@ fn register(word: u32, low: u32) -> u8
     bits(word, low, 5) as u8
 }
 
+// The immediates (RISC-V unprivileged manual, section 2.3).
+
+fn imm_i(word: u32) -> i32
+    ensures { result ≡ spec.imm_i word }
+{
+    extend(bits(word, 20, 12), 12)
+}
+
+fn imm_s(word: u32) -> i32
+    ensures { result ≡ spec.imm_s word }
+{
+    extend(bits(word, 25, 7) * 0x20 + bits(word, 7, 5), 12)
+}
+
+fn imm_b(word: u32) -> i32
+    ensures { result ≡ spec.imm_b word }
+{
+    let high = bits(word, 31, 1) * 0x1000 + bits(word, 7, 1) * 0x800;
+    extend(high + bits(word, 25, 6) * 0x20 + bits(word, 8, 4) * 2, 13)
+}
+
+fn imm_u(word: u32) -> i32
+    ensures { result ≡ spec.imm_u word }
+{
+    (bits(word, 12, 20) * 0x1000).cast_signed()
+}
+
+fn imm_j(word: u32) -> i32
+    ensures { result ≡ spec.imm_j word }
+{
+    let high = bits(word, 31, 1) * 0x10_0000 + bits(word, 12, 8) * 0x1000;
+    extend(
+        high + bits(word, 20, 1) * 0x800 + bits(word, 21, 10) * 2,
+        21,
+    )
+}
+
+fn shift(word: u32) -> i32
+    ensures { result ≡ spec.shift_of word }
+{
+    bits(word, 20, 5) as i32
+}
+
+fn inst(op: Op, rd: u8, rs1: u8, rs2: u8, imm: i32) -> Inst
+    ensures { result ≡ record { op = op; rd = rd; rs1 = rs1; rs2 = rs2; imm = imm } }
+{
+    Inst {
+        op,
+        rd,
+        rs1,
+        rs2,
+        imm,
+    }
+}
+
 // A word's fields in a format.
 #[tactic(auto, unfolding(crate::specs::Table::read))]
 pub fn read(format: Format, op: Op, word: u32) -> Inst
     ensures { result ≡ spec.read format op word }
 {
+    let rd = register(word, 7);
+    let rs1 = register(word, 15);
+    let rs2 = register(word, 20);
     match format {
-        Format::U => Inst {
-            op,
-            rd: register(word, 7),
-            rs1: 0,
-            rs2: 0,
-            imm: (bits(word, 12, 20) * 4096).cast_signed(),
-        },
-        Format::I => Inst {
-            op,
-            rd: register(word, 7),
-            rs1: register(word, 15),
-            rs2: 0,
-            imm: extend(bits(word, 20, 12), 12),
-        },
-        Format::S => Inst {
-            op,
-            rd: 0,
-            rs1: register(word, 15),
-            rs2: register(word, 20),
-            imm: extend(bits(word, 25, 7) * 32 + bits(word, 7, 5), 12),
-        },
-        Format::N => Inst {
-            op,
-            rd: 0,
-            rs1: 0,
-            rs2: 0,
-            imm: 0,
-        },
+        Format::R => inst(op, rd, rs1, rs2, 0),
+        Format::I => inst(op, rd, rs1, 0, imm_i(word)),
+        Format::S => inst(op, 0, rs1, rs2, imm_s(word)),
+        Format::B => inst(op, 0, rs1, rs2, imm_b(word)),
+        Format::U => inst(op, rd, 0, 0, imm_u(word)),
+        Format::J => inst(op, rd, 0, 0, imm_j(word)),
+        Format::H => inst(op, rd, rs1, 0, shift(word)),
+        Format::N => inst(op, 0, 0, 0, 0),
     }
+}
+
+fn placed_s(imm: u32) -> u32
+    ensures { result ≡ field imm 0 5 * 2 ^ 7 + field imm 5 7 * 2 ^ 25 }
+{
+    bits(imm, 0, 5) * 0x80 + bits(imm, 5, 7) * 0x200_0000
+}
+
+fn placed_b(imm: u32) -> u32
+    ensures { result ≡ field imm 11 1 * 2 ^ 7 + field imm 1 4 * 2 ^ 8 + field imm 5 6 * 2 ^ 25 + field imm 12 1 * 2 ^ 31 }
+{
+    let low = bits(imm, 11, 1) * 0x80 + bits(imm, 1, 4) * 0x100;
+    low + bits(imm, 5, 6) * 0x200_0000 + bits(imm, 12, 1) * 0x8000_0000
+}
+
+fn placed_j(imm: u32) -> u32
+    ensures { result ≡ field imm 12 8 * 2 ^ 12 + field imm 11 1 * 2 ^ 20 + field imm 1 10 * 2 ^ 21 + field imm 20 1 * 2 ^ 31 }
+{
+    let low = bits(imm, 12, 8) * 0x1000 + bits(imm, 11, 1) * 0x10_0000;
+    low + bits(imm, 1, 10) * 0x20_0000 + bits(imm, 20, 1) * 0x8000_0000
 }
 
 // The fields in their places in a word.
@@ -82,14 +140,18 @@ pub fn placed(format: Format, inst: &Inst) -> u32
     requires rs2 { inst.now.rs2 < 32 }
     ensures { result ≡ spec.placed format inst.now }
 {
-    let rd = inst.rd as u32 * 128;
-    let rs1 = inst.rs1 as u32 * 32768;
-    let rs2 = inst.rs2 as u32 * 1048576;
+    let rd = inst.rd as u32 * 0x80;
+    let rs1 = inst.rs1 as u32 * 0x8000;
+    let rs2 = inst.rs2 as u32 * 0x10_0000;
     let imm = inst.imm.cast_unsigned();
     match format {
-        Format::U => rd + bits(imm, 12, 20) * 4096,
-        Format::I => rd + rs1 + bits(imm, 0, 12) * 1048576,
-        Format::S => bits(imm, 0, 5) * 128 + rs1 + rs2 + bits(imm, 5, 7) * 33554432,
+        Format::R => rd + rs1 + rs2,
+        Format::I => rd + rs1 + bits(imm, 0, 12) * 0x10_0000,
+        Format::S => placed_s(imm) + rs1 + rs2,
+        Format::B => placed_b(imm) + rs1 + rs2,
+        Format::U => rd + bits(imm, 12, 20) * 0x1000,
+        Format::J => rd + placed_j(imm),
+        Format::H => rd + rs1 + bits(imm, 0, 5) * 0x10_0000,
         Format::N => 0,
     }
 }

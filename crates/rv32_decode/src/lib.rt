@@ -1,4 +1,4 @@
-//! The instruction table, read from words and written to them. It has five rows of RV32I so far.
+//! The instruction table of RV32I, M and Zifencei, read from words and written to them.
 #![tactic(auto)]
 
 ghost use Rattle.rv32_decode.specs.Table.{IsInst, instruction_of, is_word_of, rows, word_of};
@@ -14,10 +14,54 @@ mod tests;
 #[derive(Clone, Copy, Debug, PartialEq, Eq)]
 pub enum Op {
     Lui,
+    Auipc,
+    Jal,
+    Jalr,
+    Beq,
+    Bne,
+    Blt,
+    Bge,
+    Bltu,
+    Bgeu,
+    Lb,
+    Lh,
     Lw,
+    Lbu,
+    Lhu,
+    Sb,
+    Sh,
     Sw,
     Addi,
+    Slti,
+    Sltiu,
+    Xori,
+    Ori,
+    Andi,
+    Slli,
+    Srli,
+    Srai,
+    Add,
+    Sub,
+    Sll,
+    Slt,
+    Sltu,
+    Xor,
+    Srl,
+    Sra,
+    Or,
+    And,
+    Mul,
+    Mulh,
+    Mulhsu,
+    Mulhu,
+    Div,
+    Divu,
+    Rem,
+    Remu,
+    Fence,
+    FenceI,
     Ecall,
+    Ebreak,
 }
 
 /// An instruction: the row and its fields. A field that the row's format lacks is 0.
