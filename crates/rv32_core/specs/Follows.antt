@@ -4,7 +4,8 @@ use Rattle.sec_base.specs.Lists.{IsPrefix}
 use Rattle.sec_base.specs.declared.answers.Cause.{Cause}
 use Rattle.sec_base.specs.declared.answers.Ending.{Ending}
 use Rattle.sec_base.specs.declared.answers.Ending.TheVariants.{Halted, Trapped, OutOfSteps, Tampered, Spent, WriteFault, NoMemory}
-use Rattle.rv32_core.specs.Effect.{After, next}
+use Rattle.rv32_core.specs.After.{After}
+use Rattle.rv32_core.specs.Effect.{next}
 use Rattle.rv32_core.specs.Machine.{Machine, plain}
 
 -- the machine's next instruction traps so

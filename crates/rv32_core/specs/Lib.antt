@@ -1,4 +1,7 @@
 pub mod State
+pub mod Arithmetic
+pub mod After
+pub mod Services
 pub mod Effect
 pub mod Touch
 pub mod Machine

@@ -5,7 +5,8 @@ use Rattle.sec_base.specs.declared.program.Image.{Image}
 use Rattle.sec_base.specs.declared.program.Segment.{Segment}
 use Rattle.sec_base.specs.Opening.{opening_memory, first_break}
 use Rattle.rv32_core.specs.State.{State, CallState, opening_hart}
-use Rattle.rv32_core.specs.Effect.{After, next}
+use Rattle.rv32_core.specs.After.{After}
+use Rattle.rv32_core.specs.Effect.{next}
 
 -- the state, all that was printed, how many instructions were retired, and the code of a program that ended
 pub record Machine : Type 0 where

@@ -1,5 +1,5 @@
 -- What a step that ended so was, seen from the plain machine.
-use Rattle.std.specs.Prelude.{◌≡◌, ◌<◌, ◌⊎◌, ℕ, List, [], length, Option, Some, None, Result, Ok, Err}
+use Rattle.std.specs.Prelude.{◌≡◌, ◌<◌, ◌⊎◌, ℕ, ◌-◌, List, [], length, take, Option, Some, None, Result, Ok, Err}
 use Rattle.sec_base.specs.Lists.{IsPrefix}
 use Rattle.sec_base.specs.declared.answers.Cause.{Cause}
 use Rattle.sec_base.specs.declared.answers.MemStop.{MemStop}
@@ -8,8 +8,9 @@ use Rattle.rv32_core.specs.declared.hart.Step.{Step}
 use Rattle.rv32_core.specs.declared.hart.Step.TheVariants.{Retired, Halted}
 use Rattle.rv32_core.specs.declared.hart.StepStop.{StepStop}
 use Rattle.rv32_core.specs.declared.hart.StepStop.TheVariants.{Trap, Mem, WriteFault}
-use Rattle.rv32_core.specs.State.{State}
-use Rattle.rv32_core.specs.Effect.{After}
+use Rattle.rv32_core.specs.State.{State, CallState, with_bytes}
+use Rattle.rv32_core.specs.After.{After}
+use Rattle.rv32_core.specs.Services.{a1, next_input}
 
 abbrev pub exit_of : Step → Option ℕ
 exit_of Retired = None
@@ -20,18 +21,27 @@ abbrev pub prints_of : Result After Cause → List ℕ
 prints_of (Ok after) = after.prints
 prints_of (Err cause) = []
 
--- the memory as it was, or as the instruction makes it
-abbrev pub IsHalfDone : Result After Cause → List ℕ → List ℕ → Type 0
-IsHalfDone (Ok after) old new = (new ≡ old) ⊎ (new ≡ after.state.memory)
-IsHalfDone (Err cause) old new = new ≡ old
+-- the bytes of the input that an instruction takes
+abbrev pub input_taken : CallState → CallState → List ℕ
+input_taken old new = next_input old (new.position - old.position)
+
+-- the memory with the first of the bytes that the instruction takes from the input, from a1 on
+abbrev pub IsReadInPart : After → State → List ℕ → Type 0
+IsReadInPart after old new =
+    (count : ℕ) × (new ≡ with_bytes old.memory (a1 old) (take count (input_taken old.calls after.state.calls)))
+
+-- the memory as it was, or as the instruction makes it, or with a part of what it reads
+abbrev pub IsHalfDone : Result After Cause → State → List ℕ → Type 0
+IsHalfDone (Ok after) old new = (new ≡ old.memory) ⊎ ((new ≡ after.state.memory) ⊎ IsReadInPart after old new)
+IsHalfDone (Err cause) old new = new ≡ old.memory
 
 -- A step led from a state to another, and this was printed, where the plain machine's instruction comes out so:
--- it is that instruction, or that trap with nothing changed, or a stop in the middle of its printing.
+-- it is that instruction, or that trap with nothing changed, or a stop in the middle of its printing or its reading.
 abbrev pub IsOutcome : Result After Cause → Result Step StepStop → State → State → List ℕ → Type 0
 IsOutcome next (Ok step) old new printed = next ≡ Ok (record { state = new; prints = printed; exit = exit_of step })
 IsOutcome next (Err (Trap cause)) old new printed = (next ≡ Err cause) × (new.memory ≡ old.memory) × (printed ≡ [])
 IsOutcome next (Err (Mem stop)) old new printed =
-    IsPrefix printed (prints_of next) × IsHalfDone next old.memory new.memory
+    IsPrefix printed (prints_of next) × IsHalfDone next old new.memory
 IsOutcome next (Err WriteFault) old new printed = IsPrefix printed (prints_of next) × (new.memory ≡ old.memory)
 
 -- A step answers the stop that the memory gave in it, and no other but want of memory.

@@ -1,5 +1,5 @@
 -- Bytes of the memory that are printed, and a printing that stops.
-use Rattle.std.specs.Prelude.{◌≡◌, ℕ, List, take, drop, Option, Some, None, Result, Ok, Err}
+use Rattle.std.specs.Prelude.{◌≡◌, ℕ, ◌-◌, ◌%◌, min, List, take, drop, Option, Some, None, Result, Ok, Err}
 use Rattle.sec_base.specs.Lists.{IsPrefix}
 use Rattle.sec_base.specs.declared.answers.MemStop.{MemStop}
 use Rattle.sec_base.specs.declared.answers.MemStop.TheVariants.{NoMemory}
@@ -9,6 +9,11 @@ use Rattle.rv32_core.specs.declared.hart.StepStop.TheVariants.{Trap, Mem, WriteF
 -- so many bytes from an address on
 abbrev pub bytes_at : List ℕ → ℕ → ℕ → List ℕ
 bytes_at memory from count = take count (drop from memory)
+
+-- What is printed up to an end goes out in pieces, each as soon as it is loaded whole. A piece goes up to the next
+-- multiple of 64 of the address, or to the end.
+abbrev pub piece_length : ℕ → ℕ → ℕ
+piece_length at end = min (64 - at % 64) (end - at)
 
 -- all was printed, or a front part and then came a stop; nothing traps
 abbrev pub IsPrinted : Result Unit StepStop → List ℕ → List ℕ → Type 0

@@ -1,5 +1,5 @@
 -- What a program can see of the machine that runs it (RISC-V unprivileged manual, RV32I, 2.1).
-use Rattle.std.specs.Prelude.{ℕ, ◌+◌, ◌-◌, ◌%◌, ◌^◌, List, replicate, slice_index, slice_set, ◌==◌, if◌then◌else◌, ℤ}
+use Rattle.std.specs.Prelude.{ℕ, ◌+◌, ◌-◌, ◌%◌, ◌^◌, List, ◌++◌, length, take, drop, replicate, slice_index, slice_set, ◌==◌, if◌then◌else◌, ℤ}
 use Rattle.std.specs.Int.{w32, cast_unsigned}
 
 -- the hart: its program counter and its 32 registers
@@ -45,6 +45,10 @@ written_hart hart number value = record { pc = sum_of hart.pc 4; registers = wit
 
 abbrev pub with_hart : State → Hart → State
 with_hart state hart = record { hart = hart; calls = state.calls; memory = state.memory }
+
+-- the memory with these bytes from an address on
+unfoldable pub with_bytes : List ℕ → ℕ → List ℕ → List ℕ
+with_bytes memory address bytes = take address memory ++ bytes ++ drop (address + length bytes) memory
 
 -- a program begins at its entry with its stack pointer, register 2, 64 bytes below the memory's end
 abbrev pub opening_hart : ℕ → ℕ → Hart

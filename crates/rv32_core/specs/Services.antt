@@ -1,0 +1,105 @@
+-- The services of ECALL: the number stands in a7, the arguments in a0 to a2, the answer comes in a0.
+use Rattle.std.specs.Prelude.{ℕ, ◌+◌, ◌-◌, ◌^◌, ◌==◌, nat_le, ◌||◌, ◌&&◌, not, if◌then◌else◌, Bool, List, [], length, take, drop, Some, None}
+use Rattle.rv32_core.specs.State.{State, CallState, register, written_hart, with_bytes}
+use Rattle.rv32_core.specs.After.{After, quietly, passed, written}
+
+abbrev pub a0 : State → ℕ
+a0 state = register state.hart 10
+
+abbrev pub a1 : State → ℕ
+a1 state = register state.hart 11
+
+abbrev pub a2 : State → ℕ
+a2 state = register state.hart 12
+
+abbrev pub a7 : State → ℕ
+a7 state = register state.hart 17
+
+abbrev pub answered : State → ℕ → State
+answered state value = written state 10 value
+
+-- a negative answer
+abbrev pub minus : ℕ → ℕ
+minus number = 2 ^ 32 - number
+
+-- the range lies inside the memory; one of no bytes always does
+abbrev pub is_inside : ℕ → ℕ → ℕ → Bool
+is_inside address count size = (count == 0) || nat_le (address + count) size
+
+-- the one output has two descriptors, the one input has one
+abbrev pub is_output : ℕ → Bool
+is_output descriptor = (descriptor == 1) || (descriptor == 2)
+
+abbrev pub is_input : ℕ → Bool
+is_input descriptor = descriptor == 0
+
+-- the next bytes of the input, at most so many
+abbrev pub next_input : CallState → ℕ → List ℕ
+next_input calls count = take count (drop calls.position calls.input)
+
+abbrev pub at_position : CallState → ℕ → CallState
+at_position calls position = record {
+  input = calls.input;
+  position = position;
+  first_break = calls.first_break;
+  brk = calls.brk;
+}
+
+abbrev pub with_break : CallState → ℕ → CallState
+with_break calls brk = record {
+  input = calls.input;
+  position = calls.position;
+  first_break = calls.first_break;
+  brk = brk;
+}
+
+-- 63, read: the next bytes of the input, a2 or what is left, are stored from a1 on
+abbrev pub reads : State → List ℕ → After
+reads state bytes = quietly (record {
+  hart = written_hart state.hart 10 (length bytes);
+  calls = at_position state.calls (state.calls.position + length bytes);
+  memory = with_bytes state.memory (a1 state) bytes;
+})
+
+abbrev pub read_service : State → After
+read_service state =
+    if not (is_input (a0 state)) then quietly (answered state (minus 9))
+    else (if not (is_inside (a1 state) (a2 state) (length state.memory)) then quietly (answered state (minus 14))
+    else reads state (next_input state.calls (a2 state)))
+
+-- 64, write: a2 bytes from a1 on go to the output
+abbrev pub write_service : State → After
+write_service state =
+    if not (is_output (a0 state)) then quietly (answered state (minus 9))
+    else (if not (is_inside (a1 state) (a2 state) (length state.memory)) then quietly (answered state (minus 14))
+    else record {
+      state = answered state (a2 state);
+      prints = take (a2 state) (drop (a1 state) state.memory);
+      exit = None;
+    })
+
+-- 93, exit: the program ends with code a0
+abbrev pub exit_service : State → After
+exit_service state = record { state = passed state; prints = []; exit = Some (a0 state) }
+
+-- 214, brk: the break moves to a0 where that is no lower than it was at first and leaves the stack a page
+abbrev pub is_break : State → ℕ → Bool
+is_break state address = nat_le state.calls.first_break address && nat_le address (length state.memory - 4096)
+
+abbrev pub new_break : State → ℕ
+new_break state = if is_break state (a0 state) then a0 state else state.calls.brk
+
+abbrev pub brk_service : State → After
+brk_service state = quietly (record {
+  hart = written_hart state.hart 10 (new_break state);
+  calls = with_break state.calls (new_break state);
+  memory = state.memory;
+})
+
+unfoldable pub service : State → After
+service state =
+    if a7 state == 63 then read_service state
+    else (if a7 state == 64 then write_service state
+    else (if a7 state == 93 then exit_service state
+    else (if a7 state == 214 then brk_service state
+    else quietly (answered state (minus 38)))))
