@@ -1,6 +1,6 @@
 use Rattle.std.proofs.Common.{◌≡◌, ℕ, List, None, take, fold}
 use Rattle.sec_base.specs.Opening.{laid_over}
-use Rattle.chip_run.proofs.load.store_image.Given as goal
+use Rattle.rv32_run.proofs.load.store_image.Given as goal
 
 abbrev pub invariant-loop-segment : goal.invariant-loop-segment
 invariant-loop-segment g l =

@@ -1,7 +1,7 @@
 use Rattle.std.proofs.Common.{◌++◌, [], refl, sym, arith, ◌∙◌}
 use Rattle.sec_base.specs.Opening.{segment_memory}
-use Rattle.chip_run.proofs.Loading.{laid_nothing, laid_more, laid_all, length-segment_memory}
-use Rattle.chip_run.proofs.load.store_segment.Goals as goal
+use Rattle.rv32_run.proofs.Loading.{laid_nothing, laid_more, laid_all, length-segment_memory}
+use Rattle.rv32_run.proofs.load.store_segment.Goals as goal
 
 pub loop-at-init : goal.loop-at-init
 loop-at-init g c = record {

@@ -1,8 +1,8 @@
 -- Turns of a session.
-use Rattle.std.proofs.Common.{◌≡◌, ◌≢◌, ◌+◌, ◌<◌, ◌≤◌, ◌↔◌, ℕ, List, [], ◌++◌, Option, Some, None, Result, Ok, Err, refl, sym, ap, ◌∙◌, subst, arith, append_assoc}
+use Rattle.std.proofs.Common.{◌≡◌, ◌≢◌, ◌+◌, ◌<◌, ◌≤◌, ◌↔◌, ℕ, List, [], ◌++◌, Option, Some, None, Result, Ok, Err, length, refl, sym, ap, ◌∙◌, subst, arith, append_assoc}
 use Rattle.sec_base.specs.declared.answers.Ending.{Ending}
 use Rattle.sec_base.specs.declared.answers.Cause.{Cause}
-use Rattle.sec_base.specs.declared.answers.Ending.TheVariants.{Halted, Trapped, OutOfSteps, WriteFault}
+use Rattle.sec_base.specs.declared.answers.Ending.TheVariants.{Halted, Trapped, OutOfSteps, Tampered, Spent, WriteFault, NoMemory}
 use Rattle.sec_base.specs.declared.answers.MemStop.{MemStop}
 use Rattle.sec_base.specs.declared.answers.MemStop.TheVariants.{Tampered as tampered, Spent as spent, NoMemory as no_memory}
 use Rattle.sec_base.specs.Writing.{SinkState, gained, Gains}
@@ -13,11 +13,12 @@ use Rattle.rv32_core.specs.declared.hart.StepStop.{StepStop}
 use Rattle.rv32_core.specs.declared.hart.StepStop.TheVariants.{Trap, Mem, WriteFault as WriteFault_step}
 use Rattle.rv32_core.specs.State.{State, Hart, CallState}
 use Rattle.rv32_core.specs.Effect.{next}
-use Rattle.rv32_core.specs.Outcome.{IsOutcome}
+use Rattle.rv32_core.specs.Outcome.{IsOutcome, prints_of}
 use Rattle.rv32_core.specs.Machine.{Machine, plain}
 use Rattle.rv32_core.specs.Follows.{EndsAs}
 use Rattle.rv32_core.proofs.Plain.{going_on, plain_stepped, out_of_steps_follows, step_halts, step_traps, step_stops, step_fails}
-use Rattle.chip_run.specs.Session.{Reaches, IsMemoryEnding, FollowsWith, stop_ending, CarriesEnding}
+use Rattle.rv32_run.specs.Running.{Running}
+use Rattle.rv32_run.specs.Session.{Reaches, IsMemoryEnding, IsStop, FollowsWith, retired_after, stop_ending, CarriesEnding}
 
 -- a stop of the memory ends a program that goes on
 ends_by : (stop : MemStop) (state : State) (before printed : List ℕ) (n budget : ℕ) → EndsAs (stop_ending stop) (going_on state before n) n budget printed
@@ -28,6 +29,25 @@ ends_by no_memory state before printed n budget = refl
 pub stop_ends : (stop : MemStop) (ending : Ending) (state : State) (before printed : List ℕ) (n budget : ℕ) → ending ≡ stop_ending stop → EndsAs ending (going_on state before n) n budget printed
 stop_ends stop ending state before printed n budget e =
     subst (λ (x : Ending). EndsAs x (going_on state before n) n budget printed) (sym e) (ends_by stop state before printed n budget)
+
+-- A session, and the parts that it is made of
+
+pub parts_reach : {M : Type 0} (contents : M → List ℕ) (parts session : Running M) (start : Machine) (before : List ℕ) → parts ≡ session → Reaches start session.retired session.core session.calls (contents session.memory) before → Reaches start parts.retired parts.core parts.calls (contents parts.memory) before
+parts_reach {M} contents parts session start before same here =
+    subst (λ (r : Running M). Reaches start r.retired r.core r.calls (contents r.memory) before) (sym same) here
+
+pub parts_follow : {M : Type 0} (parts session : Running M) (start : Machine) (n : ℕ) (ending : Ending) (memory printed : List ℕ) → parts ≡ session → FollowsWith start parts.budget n ending memory printed → FollowsWith start session.budget n ending memory printed
+parts_follow {M} parts session start n ending memory printed same follows =
+    subst (λ (r : Running M). FollowsWith start r.budget n ending memory printed) same follows
+
+pub parts_going : {M : Type 0} (stopped : M → Option MemStop) (parts session : Running M) → parts ≡ session → stopped session.memory ≡ None → stopped parts.memory ≡ None
+parts_going {M} stopped parts session same going = subst (λ (r : Running M). stopped r.memory ≡ None) (sym same) going
+
+pub parts_within : {M : Type 0} (parts session : Running M) → parts ≡ session → session.retired ≤ session.budget → parts.retired ≤ parts.budget
+parts_within {M} parts session same within = subst (λ (r : Running M). r.retired ≤ r.budget) (sym same) within
+
+pub parts_used : {M : Type 0} (parts session : Running M) → parts ≡ session → parts.retired ≡ parts.budget → session.retired ≡ session.budget
+parts_used {M} parts session same used = subst (λ (r : Running M). r.retired ≡ r.budget) same used
 
 -- A turn that ends a run
 
@@ -86,6 +106,23 @@ pub allowed : (ending : Option Ending) (n budget : ℕ) → n ≤ budget → (en
 allowed ending n budget within exact goes_on =
     let apart : n ≢ budget = λ used. let ended = exact.1 used in cc in
     omega arith
+
+-- a stop retires nothing
+stop_retires : (ending : Ending) (n : ℕ) → IsStop ending → retired_after (Some ending) n ≡ n
+stop_retires (Halted code) n stops = absurd stops
+stop_retires (Trapped cause pc) n stops = absurd stops
+stop_retires OutOfSteps n stops = absurd stops
+stop_retires (Tampered place) n stops = refl
+stop_retires (Spent page) n stops = refl
+stop_retires WriteFault n stops = refl
+stop_retires NoMemory n stops = refl
+
+-- and what its instruction prints is what the machine prints next
+pub stop_prints : (start : Machine) (n m : ℕ) (ending : Ending) (state : State) (printed : List ℕ) → plain start n ≡ going_on state printed n → m ≡ retired_after (Some ending) n → IsStop ending → 0 < length (prints_of (next state)) → 0 < length (prints_of (next (plain start m).state))
+stop_prints start n m ending state printed here count stops prints =
+    let same : n ≡ m = sym (count ∙ stop_retires ending n stops) in
+    subst (λ (k : ℕ). 0 < length (prints_of (next (plain start k).state))) same
+    (subst (λ (machine : Machine). 0 < length (prints_of (next machine.state))) (sym here) prints)
 
 -- One turn after others: what they printed, together
 

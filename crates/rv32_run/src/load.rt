@@ -2,12 +2,13 @@
 ghost use Rattle.std.specs.Prelude.{◌≡◌, ◌+◌, ◌<◌, ◌≤◌, ◌^◌, ℕ, List, None, Some, IfOk, IfErr, OnOk, length, slice_index, replicate};
 ghost use Rattle.sec_base.specs.Opening.{segment_memory, laid_over, opening_memory};
 ghost use Rattle.sec_base.specs.Program.{IsSegment};
-ghost use Rattle.chip_run.specs.Loading.{laid_at, part, word_bytes};
+ghost use Rattle.rv32_run.specs.Loading.{laid_at, part, word_bytes};
 
 use sec_base::{Image, MemStop, Ram, Segment, Width};
 
-// Stores a program's segments over zeros, in order.
-pub(crate) fn store_image<M: Ram>(ram: &mut M, image: &Image) -> Result<(), MemStop>
+/// Stores a program's segments over zeros, in order: each segment's bytes, and zeros up to its length. Only a stop of
+/// the memory refuses it.
+pub fn store_image<M: Ram>(ram: &mut M, image: &Image) -> Result<(), MemStop>
     requires extent { M.extent ram.old ≡ image.now.size }
     requires zeros { M.sound ram.old → M.contents ram.old ≡ replicate image.now.size 0 }
     requires going { M.stopped ram.old ≡ None }

@@ -1,7 +1,7 @@
 use Rattle.std.proofs.Common.{arith}
 use Rattle.sec_base.specs.Opening.{segment_memory}
-use Rattle.chip_run.proofs.Loading.{made_of, part_word, length-segment_memory}
-use Rattle.chip_run.proofs.load.word_at.Goals as goal
+use Rattle.rv32_run.proofs.Loading.{made_of, part_word, length-segment_memory}
+use Rattle.rv32_run.proofs.load.word_at.Goals as goal
 
 pub returns : goal.returns
 returns c =

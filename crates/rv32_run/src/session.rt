@@ -1,17 +1,20 @@
 // A run that is under way.
-ghost use Rattle.std.specs.Prelude.{◌≡◌, ◌↔◌, ◌<◌, ◌≤◌, ◌++◌, ℕ, List, None, Some};
+ghost use Rattle.std.specs.Prelude.{◌≡◌, ◌↔◌, ◌<◌, ◌≤◌, ◌++◌, ℕ, List, None, Some, IfSome, length};
 ghost use Rattle.sec_base.specs.declared.answers.Ending.TheVariants.{OutOfSteps, WriteFault};
 ghost use Rattle.sec_base.specs.Count.{Rose};
 ghost use Rattle.sec_base.specs.Writing.{Gains};
-ghost use Rattle.rv32_core.specs.Machine.{Machine, opening_calls};
 ghost use Rattle.rv32_core.specs.State.{opening_hart};
-ghost use Rattle.chip_run.specs.Session.{Reaches, FollowsWith, Turns, retired_after, IsStop, stop_ending, CarriesEnding};
+ghost use Rattle.rv32_core.specs.Effect.{next};
+ghost use Rattle.rv32_core.specs.Outcome.{prints_of};
+ghost use Rattle.rv32_core.specs.Machine.{Machine, plain, opening_calls};
+ghost use Rattle.rv32_run.specs.Session.{Reaches, FollowsWith, Turns, retired_after, IsStop, stop_ending, CarriesEnding};
 
 use rv32_core::{Calls, Core, Step, StepStop};
 use sec_base::{Ending, Image, MemStop, Ram, Sink};
+use std::marker::Model;
 
-// A processor with its services and its memory, and how many instructions it retired and may retire.
-pub(crate) struct Session<'a, M> {
+/// A processor with its services and its memory, and how many instructions it retired and may retire.
+pub struct Session<'a, M: Ram> {
     core: Core,
     calls: Calls<'a>,
     memory: M,
@@ -19,9 +22,23 @@ pub(crate) struct Session<'a, M> {
     budget: u64,
 }
 
+impl<'a, M: Ram> Model for Session<'a, M> {
+    ghost use Rattle.rv32_run.specs.Running.{Running};
+
+    ghost Value = { Running M };
+
+    ghost view = { λ session. record {
+      core = session.core;
+      calls = session.calls;
+      memory = session.memory;
+      retired = session.retired;
+      budget = session.budget;
+    } };
+}
+
 impl<'a, M: Ram> Session<'a, M> {
-    // A program in its memory, before its first instruction.
-    pub(crate) fn new(image: &Image, input: &'a [u8], memory: M, budget: u64) -> Session<'a, M>
+    /// A program in its memory, before its first instruction.
+    pub fn new(image: &Image, input: &'a [u8], memory: M, budget: u64) -> Session<'a, M>
         ensures core { result.core ≡ opening_hart image.now.entry image.now.size }
         ensures calls { result.calls ≡ opening_calls image.now.segments input.now }
         ensures memory { result.memory ≡ memory }
@@ -37,15 +54,15 @@ impl<'a, M: Ram> Session<'a, M> {
         }
     }
 
-    // How many instructions were retired.
-    pub(crate) fn retired(&self) -> u64
+    /// How many instructions were retired.
+    pub fn retired(&self) -> u64
         ensures { result ≡ self.now.retired }
     {
         self.retired
     }
 
-    // The memory as it is.
-    pub(crate) fn into_memory(self) -> M
+    /// The memory as it is.
+    pub fn into_memory(self) -> M
         ensures { result ≡ self.entry.memory }
     {
         let Session {
@@ -58,8 +75,8 @@ impl<'a, M: Ram> Session<'a, M> {
         memory
     }
 
-    // Does one instruction, where the budget allows one more, and answers how the run ended, if it did.
-    fn turn<S: Sink>(&mut self, out: &mut S) -> Option<Ending>
+    /// Does one instruction, where the budget allows one more, and answers how the run ended, if it did.
+    pub fn turn<S: Sink>(&mut self, out: &mut S) -> Option<Ending>
         requires within { self.old.retired ≤ self.old.budget }
         requires going { M.stopped self.old.memory ≡ None }
 
@@ -72,6 +89,11 @@ impl<'a, M: Ram> Session<'a, M> {
         ensures out_of_steps { (result ≡ Some OutOfSteps) ↔ (self.old.retired ≡ self.old.budget) }
         ensures retired { self.new.retired ≡ retired_after result self.old.retired }
         ensures budget { self.new.budget ≡ self.old.budget }
+
+        // Where the memory did not stop, only an instruction that prints is stopped.
+        ensures sink_stop { M.stopped self.new.memory ≡ None → M.sound self.new.memory → IfSome result (λ ending.
+            IsStop ending → 0 < length (prints_of (next
+            (record { hart = self.old.core; calls = self.old.calls; memory = M.contents self.old.memory })))) }
 
         ensures mem { CarriesEnding (M.stopped self.new.memory) result }
         ensures write_fault { result ≡ Some WriteFault → Rose (S.state out.old).faults (S.state out.new).faults }
@@ -102,8 +124,8 @@ impl<'a, M: Ram> Session<'a, M> {
         }
     }
 
-    // Goes on to the end.
-    pub(crate) fn finish<S: Sink>(&mut self, out: &mut S) -> Ending
+    /// Goes on to the end.
+    pub fn finish<S: Sink>(&mut self, out: &mut S) -> Ending
         requires within { self.old.retired ≤ self.old.budget }
         requires going { M.stopped self.old.memory ≡ None }
 
@@ -115,8 +137,11 @@ impl<'a, M: Ram> Session<'a, M> {
         ensures within { self.new.retired ≤ self.old.budget }
         ensures budget_used { result ≡ OutOfSteps → self.new.retired ≡ self.old.budget }
 
-        // A stop comes while the budget allows one more instruction.
+        // A stop comes while the budget allows one more instruction, and where the memory did not stop, at one that prints.
         ensures early { IsStop result → self.new.retired < self.old.budget }
+        ensures sink_stop { M.stopped self.new.memory ≡ None → M.sound self.new.memory → (start : Machine) (before : List ℕ) →
+            Reaches start self.old.retired self.old.core self.old.calls (M.contents self.old.memory) before →
+            IsStop result → 0 < length (prints_of (next (plain start self.new.retired).state)) }
 
         ensures mem { CarriesEnding (M.stopped self.new.memory) (Some result) }
         ensures write_fault { result ≡ WriteFault → Rose (S.state out.old).faults (S.state out.new).faults }
@@ -134,8 +159,8 @@ impl<'a, M: Ram> Session<'a, M> {
     }
 }
 
-// How a run ends that the memory stops.
-pub(crate) fn ending_of(stop: MemStop) -> Ending
+/// How a run ends that the memory stops.
+pub fn ending_of(stop: MemStop) -> Ending
     ensures { result ≡ stop_ending stop }
 {
     match stop {

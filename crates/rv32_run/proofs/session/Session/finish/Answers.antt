@@ -1,6 +1,6 @@
 use Rattle.std.proofs.Common.{◌++◌, ◌∙◌, arith}
-use Rattle.chip_run.proofs.Turns.{carries_on, allowed, gains_on, reaches_on, follows_on}
-use Rattle.chip_run.proofs.session.Session.finish.Goals as goal
+use Rattle.rv32_run.proofs.Turns.{carries_on, allowed, gains_on, reaches_on, follows_on, stop_prints}
+use Rattle.rv32_run.proofs.session.Session.finish.Goals as goal
 
 pub loop-ending-preserved : goal.loop-ending-preserved
 loop-ending-preserved g c =
@@ -41,3 +41,12 @@ returns-in-Some-clause-moved g c =
     let so_far = c.loop-ending.invariant in
     let turn = c.in-Some.ensures in
     (so_far.moved.0 ++ turn.moved.0, g.met.M.Ram.moved_on _ _ _ _ _ so_far.moved.1 turn.moved.1)
+
+pub returns-in-Some-clause-sink_stop : goal.returns-in-Some-clause-sink_stop
+returns-in-Some-clause-sink_stop g c =
+    let so_far = c.loop-ending.invariant in
+    let turn = c.in-Some.ensures in
+    λ going sound start before here stops.
+        let begun = so_far.turns.2 (turn.lost sound) start before here in
+        stop_prints start c.loop-ending.self.retired c.turn.new.self.retired c.in-Some.ending _ _ begun turn.retired stops
+        (turn.sink_stop going sound stops)

@@ -1,6 +1,6 @@
 use Rattle.std.proofs.Common.{◌++◌, ◌∙◌}
-use Rattle.chip_run.proofs.Loading.{segment_more, segments_all}
-use Rattle.chip_run.proofs.load.store_image.Goals as goal
+use Rattle.rv32_run.proofs.Loading.{segment_more, segments_all}
+use Rattle.rv32_run.proofs.load.store_image.Goals as goal
 
 pub loop-segment-preserved : goal.loop-segment-preserved
 loop-segment-preserved g c =

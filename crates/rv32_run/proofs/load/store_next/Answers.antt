@@ -1,7 +1,7 @@
 use Rattle.std.proofs.Common.{◌+◌, arith}
 use Rattle.sec_base.specs.Opening.{segment_memory}
-use Rattle.chip_run.proofs.Loading.{word_stored, byte_stored, length-segment_memory}
-use Rattle.chip_run.proofs.load.store_next.Goals as goal
+use Rattle.rv32_run.proofs.Loading.{word_stored, byte_stored, length-segment_memory}
+use Rattle.rv32_run.proofs.load.store_next.Goals as goal
 
 pub returns-in_ok-store-clause-stored : goal.returns-in_ok-store-clause-stored
 returns-in_ok-store-clause-stored g c = λ sound.

@@ -1,7 +1,7 @@
 use Rattle.std.proofs.Common.{◌≡◌, ◌≤◌, ◌-◌, ℕ, List, None, take}
 use Rattle.sec_base.specs.Opening.{segment_memory}
-use Rattle.chip_run.specs.Loading.{laid_at}
-use Rattle.chip_run.proofs.load.store_segment.Given as goal
+use Rattle.rv32_run.specs.Loading.{laid_at}
+use Rattle.rv32_run.proofs.load.store_segment.Given as goal
 
 abbrev pub invariant-loop-at : goal.invariant-loop-at
 invariant-loop-at g l =

@@ -8,7 +8,7 @@ use Rattle.sec_base.specs.declared.memory.Width.TheVariants.{Four}
 use Rattle.sec_base.specs.declared.program.Segment.{Segment}
 use Rattle.sec_base.specs.Opening.{segment_memory, laid_over, opening_memory}
 use Rattle.sec_base.specs.Width.{with_number}
-use Rattle.chip_run.specs.Loading.{laid_at, part, word_bytes}
+use Rattle.rv32_run.specs.Loading.{laid_at, part, word_bytes}
 
 laid-sets : (m : List ℕ) (a : ℕ) (p : List ℕ) → a + length p ≤ length m → laid_at m a p ≡ sets m a p
 unfolding laid_at

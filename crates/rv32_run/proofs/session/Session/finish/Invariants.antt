@@ -1,8 +1,8 @@
 use Rattle.std.proofs.Common.{◌≡◌, ◌≤◌, ◌++◌, ◌-◌, ℕ, List, None}
 use Rattle.sec_base.specs.Writing.{Gains}
 use Rattle.rv32_core.specs.Machine.{Machine}
-use Rattle.chip_run.specs.Session.{Reaches}
-use Rattle.chip_run.proofs.session.Session.finish.Given as goal
+use Rattle.rv32_run.specs.Session.{Reaches}
+use Rattle.rv32_run.proofs.session.Session.finish.Given as goal
 
 abbrev pub invariant-loop-ending : goal.invariant-loop-ending
 invariant-loop-ending g l =
