@@ -1,8 +1,9 @@
 -- Whole runs: how they begin, and how the budget ends them.
-use Rattle.std.proofs.Common.{◌≡◌, ◌≢◌, ◌<◌, ◌↔◌, ℕ, List, [], ◌++◌, None, refl, sym, ap, ◌∙◌, subst, arith}
+use Rattle.std.proofs.Common.{◌≡◌, ◌≢◌, ◌<◌, ◌↔◌, ℕ, List, [], ◌++◌, Some, None, refl, sym, ap, ◌∙◌, subst, arith}
 use Rattle.sec_base.specs.declared.answers.Ending.{Ending}
 use Rattle.sec_base.specs.declared.answers.Ending.TheVariants.{OutOfSteps, Tampered, Spent, WriteFault, NoMemory}
 use Rattle.sec_base.specs.declared.answers.MemStop.{MemStop}
+use Rattle.sec_base.specs.declared.answers.MemStop.TheVariants.{Tampered as tampered, Spent as spent}
 use Rattle.sec_base.specs.declared.layout.Place.{Place}
 use Rattle.sec_base.specs.declared.program.Segment.{Segment}
 use Rattle.sec_base.specs.Opening.{opening_memory}
@@ -12,24 +13,28 @@ use Rattle.rv32_core.specs.Outcome.{prints_of}
 use Rattle.rv32_core.specs.Machine.{Machine, plain, opening_calls, opening_of}
 use Rattle.rv32_core.specs.Follows.{Follows}
 use Rattle.rv32_core.proofs.Plain.{going_on, stopped_follows, out_of_steps_run}
-use Rattle.rv32_run.specs.Session.{Reaches, IsStop, IsMemoryEnding, FollowsWith, stop_ending}
+use Rattle.rv32_run.specs.Session.{Reaches, IsStop, IsMemoryEnding, FollowsWith, stop_ending, CarriesEnding}
 use Rattle.rv32_run.proofs.Turns.{stop_ends}
 
 -- A program as it begins
 
-pub opening_reaches : (entry size : ℕ) (segments : List Segment) (input : List ℕ) (hart : Hart) (calls : CallState) (memory : List ℕ) → hart ≡ opening_hart entry size → calls ≡ opening_calls segments input → memory ≡ opening_memory size segments → Reaches (opening_of entry size segments input) 0 hart calls memory []
+opening_reaches : (entry size : ℕ) (segments : List Segment) (input : List ℕ) (hart : Hart) (calls : CallState) (memory : List ℕ) → hart ≡ opening_hart entry size → calls ≡ opening_calls segments input → memory ≡ opening_memory size segments → Reaches (opening_of entry size segments input) 0 hart calls memory []
 unfolding plain opening_of
 opening_reaches entry size segments input hart calls memory core services bytes = sym (
     ap (λ (h : Hart). going_on (record { hart = h; calls = calls; memory = memory }) [] 0) core
     ∙ ap (λ (s : CallState). going_on (record { hart = opening_hart entry size; calls = s; memory = memory }) [] 0) services
     ∙ ap (λ (m : List ℕ). going_on (record { hart = opening_hart entry size; calls = opening_calls segments input; memory = m }) [] 0) bytes)
 
+pub opening_begins : (entry size : ℕ) (segments : List Segment) (input : List ℕ) (hart : Hart) (calls : CallState) (memory : List ℕ) (n : ℕ) → hart ≡ opening_hart entry size → calls ≡ opening_calls segments input → memory ≡ opening_memory size segments → n ≡ 0 → Reaches (opening_of entry size segments input) n hart calls memory []
+opening_begins entry size segments input hart calls memory n core services bytes none =
+    subst (λ (m : ℕ). Reaches (opening_of entry size segments input) m hart calls memory []) (sym none)
+    (opening_reaches entry size segments input hart calls memory core services bytes)
+
 -- a session that began so follows it
 pub opening_follows : (entry size : ℕ) (segments : List Segment) (input : List ℕ) (hart : Hart) (calls : CallState) (opened memory : List ℕ) (n budget allowance finished retired : ℕ) (ended ending : Ending) (printed : List ℕ) → hart ≡ opening_hart entry size → calls ≡ opening_calls segments input → opened ≡ opening_memory size segments → n ≡ 0 → budget ≡ allowance → retired ≡ finished → ending ≡ ended → ((start : Machine) (before : List ℕ) → Reaches start n hart calls opened before → FollowsWith start budget finished ended memory (before ++ printed)) → FollowsWith (opening_of entry size segments input) allowance retired ending memory printed
 opening_follows entry size segments input hart calls opened memory n budget allowance finished retired ended ending printed core services bytes none same count is follows =
     let start = opening_of entry size segments input in
-    let begins = opening_reaches entry size segments input hart calls opened core services bytes in
-    let here = subst (λ (m : ℕ). Reaches start m hart calls opened []) (sym none) begins in
+    let here = opening_begins entry size segments input hart calls opened n core services bytes none in
     subst (λ (e : Ending). FollowsWith start allowance retired e memory printed) (sym is)
     (subst (λ (m : ℕ). FollowsWith start allowance m ended memory printed) (sym count)
     (subst (λ (b : ℕ). FollowsWith start b finished ended memory printed) same (follows start [] here)))
@@ -42,6 +47,14 @@ nothing_follows entry size segments input budget retired stop ending none e =
     (stopped_follows (opening_of entry size segments input) budget 0 state [] [] ending
     (opening_reaches entry size segments input (opening_hart entry size) (opening_calls segments input) (opening_memory size segments) refl refl refl)
     (omega arith) (prints_of (next state), refl) (stop_ends stop ending state [] [] 0 budget e))
+
+-- A run whose memory did not stop ended neither as tampering nor as a page that is used up
+
+pub never_tampered : (ending : Ending) → CarriesEnding None (Some ending) → (place : Place) → ending ≢ Tampered place
+never_tampered ending carries place e = let stop = carries (tampered place) (ap Some e) in cc
+
+pub never_spent : (ending : Ending) → CarriesEnding None (Some ending) → (page : ℕ) → ending ≢ Spent page
+never_spent ending carries page e = let stop = carries (spent page) (ap Some e) in cc
 
 -- The run and its budget
 

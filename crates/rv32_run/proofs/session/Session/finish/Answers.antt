@@ -47,6 +47,6 @@ returns-in-Some-clause-sink_stop g c =
     let so_far = c.loop-ending.invariant in
     let turn = c.in-Some.ensures in
     λ going sound start before here stops.
-        let begun = so_far.turns.2 (turn.lost sound) start before here in
-        stop_prints start c.loop-ending.self.retired c.turn.new.self.retired c.in-Some.ending _ _ begun turn.retired stops
-        (turn.sink_stop going sound stops)
+    let begun = so_far.turns.2 (turn.lost sound) start before here in
+    stop_prints start c.loop-ending.self.retired c.turn.new.self.retired c.in-Some.ending _ _ begun turn.retired stops
+    (turn.sink_stop going sound stops)
