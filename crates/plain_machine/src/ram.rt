@@ -25,7 +25,8 @@ impl Model for FlatRam {
 impl FlatRam {
     /// A memory of so many bytes, all of them 0. Only want of memory refuses it.
     pub fn new(alloc: Global, size: u32) -> Result<FlatRam, NoMemory>
-        ensures { IfOk result (λ memory. memory ≡ replicate size 0) }
+        ensures zeros { IfOk result (λ memory. memory ≡ replicate size 0) }
+        ensures size { IfOk result (λ memory. length memory ≡ size) }
     {
         let bytes = vec![in alloc; 0; size as usize]?;
         Ok(FlatRam { bytes })
