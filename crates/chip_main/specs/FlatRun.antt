@@ -14,7 +14,7 @@ use Rattle.rv32_core.specs.Follows.{Follows, IsWhole}
 use Rattle.chip_run.specs.declared.RunRecord.{RunRecord}
 use Rattle.chip_run.specs.Account.{HonestOrCaught, IsOfFirstLie}
 use Rattle.chip_run.specs.Contents.{AreNumbered, HoldsLast, HoldsSealed, IsSpent, IsWrittenOut, line_writes}
-use Rattle.chip_run.specs.Session.{IsMemoryEnding, IsStop}
+use Rattle.rv32_run.specs.Session.{IsMemoryEnding, IsStop}
 use Rattle.chip_main.specs.Flat.{budget, device_enc_key, device_tag, flat_levels, flat_opening, flat_size, page_limit}
 use Rattle.chip_main.specs.Causes.{HasRead}
 

@@ -13,7 +13,7 @@ use Rattle.tag_engine.specs.Engine.{Engine}
 use Rattle.chip_run.specs.Account.{HonestOrCaught}
 use Rattle.chip_run.specs.Contents.{AreNumbered, IsSpent, line_writes}
 use Rattle.chip_run.specs.Protected.{Protected, IsKept}
-use Rattle.chip_run.specs.Session.{CarriesEnding}
+use Rattle.rv32_run.specs.Session.{CarriesEnding}
 use Rattle.pad_stream.specs.Used.{of_lines}
 use Rattle.chip_run.proofs.LineMessages.{writes_same}
 use Rattle.chip_run.proofs.Pairs.{pairs_numbered, all_of_lines}

@@ -1,36 +1,28 @@
--- Whole runs: how they begin, and what is known at their end.
+-- Whole runs, and what is known at their end.
 use Rattle.std.proofs.Common.{◌≡◌, ◌≢◌, ◌⊎◌, inl, inr, ◌+◌, ◌*◌, ◌<◌, ◌≤◌, ◌↔◌, ℕ, zero, suc, List, [], ◌++◌, replicate, Option, Some, None, IfSome, refl, sym, ap, ◌∙◌, subst, arith}
 use Rattle.std.proofs.lemmas.List.{replicate-append-replicate}
 use Rattle.sec_base.specs.declared.answers.Ending.{Ending}
 use Rattle.sec_base.specs.declared.answers.Ending.TheVariants.{Halted, Trapped, OutOfSteps, Tampered, Spent, WriteFault, NoMemory}
-use Rattle.sec_base.specs.declared.answers.MemStop.{MemStop}
 use Rattle.sec_base.specs.declared.account.Message.{Message}
 use Rattle.sec_base.specs.declared.account.Evidence.{Evidence}
 use Rattle.sec_base.specs.declared.layout.Place.{Place}
-use Rattle.sec_base.specs.declared.program.Segment.{Segment}
 use Rattle.sec_base.specs.Count.{RoseBy}
 use Rattle.sec_base.specs.Last.{last_at, data_pairs}
 use Rattle.sec_base.specs.Layout.{line_count, memory_size}
 use Rattle.sec_base.specs.Lines.{line_at, joined_lines}
-use Rattle.sec_base.specs.Opening.{opening_memory}
 use Rattle.sec_base.proofs.JoinedLines.{line_at-joined_lines}
 use Rattle.bus_model.specs.Told.{Told, NothingWritten}
 use Rattle.pad_stream.specs.Used.{AreRising, NoRepeat, of_lines}
 use Rattle.pad_stream.proofs.RisingCounters.{rising_nothing, rising_once}
 use Rattle.sec_base.specs.declared.sealing.Counter.{Counter}
 use Rattle.sec_base.specs.declared.layout.Place.TheVariants.{Line as line_place}
-use Rattle.rv32_core.specs.State.{State, Hart, CallState, opening_hart}
-use Rattle.rv32_core.specs.Effect.{next}
-use Rattle.rv32_core.specs.Outcome.{prints_of}
-use Rattle.rv32_core.specs.Machine.{Machine, plain, opening_calls, opening_of}
+use Rattle.rv32_core.specs.Machine.{Machine}
 use Rattle.rv32_core.specs.Follows.{Follows, IsWhole}
-use Rattle.rv32_core.proofs.Plain.{going_on, stopped_follows, whole_run, out_of_steps_run}
+use Rattle.rv32_core.proofs.Plain.{whole_run}
 use Rattle.chip_run.specs.Account.{HonestOrCaught, IsOfFirstLie}
 use Rattle.chip_run.specs.Contents.{AreNumbered, line_bytes, line_writes, contents_of, HoldsSealed, IsWrittenOut}
 use Rattle.chip_run.specs.LineLengths.{length-line_bytes}
 use Rattle.chip_run.specs.Protected.{Protected, new_protected, IsMoved}
-use Rattle.chip_run.specs.Session.{Reaches, IsStop, IsMemoryEnding, FollowsWith, stop_ending}
-use Rattle.chip_run.proofs.Turns.{stop_ends}
 
 -- A memory of which no line was written has zeros
 
@@ -54,34 +46,6 @@ opening_zeros {B} {T} bus tagger key levels limit size memory new as_large =
     ap (λ (m : Protected B T). contents_of m.pads.key (line_count m.engine.levels) m.engine.made) new
     ∙ joined_zeros (line_bytes key []) (line_count levels) (no_messages key)
     ∙ ap (λ (n : ℕ). replicate n 0) long
-
--- A program as it begins
-
-pub opening_reaches : (entry size : ℕ) (segments : List Segment) (input : List ℕ) (hart : Hart) (calls : CallState) (memory : List ℕ) → hart ≡ opening_hart entry size → calls ≡ opening_calls segments input → memory ≡ opening_memory size segments → Reaches (opening_of entry size segments input) 0 hart calls memory []
-unfolding plain opening_of
-opening_reaches entry size segments input hart calls memory core services bytes = sym (
-    ap (λ (h : Hart). going_on (record { hart = h; calls = calls; memory = memory }) [] 0) core
-    ∙ ap (λ (s : CallState). going_on (record { hart = opening_hart entry size; calls = s; memory = memory }) [] 0) services
-    ∙ ap (λ (m : List ℕ). going_on (record { hart = opening_hart entry size; calls = opening_calls segments input; memory = m }) [] 0) bytes)
-
--- a session that began so follows it
-pub opening_follows : (entry size : ℕ) (segments : List Segment) (input : List ℕ) (hart : Hart) (calls : CallState) (opened memory : List ℕ) (n budget allowance finished retired : ℕ) (ended ending : Ending) (printed : List ℕ) → hart ≡ opening_hart entry size → calls ≡ opening_calls segments input → opened ≡ opening_memory size segments → n ≡ 0 → budget ≡ allowance → retired ≡ finished → ending ≡ ended → ((start : Machine) (before : List ℕ) → Reaches start n hart calls opened before → FollowsWith start budget finished ended memory (before ++ printed)) → FollowsWith (opening_of entry size segments input) allowance retired ending memory printed
-opening_follows entry size segments input hart calls opened memory n budget allowance finished retired ended ending printed core services bytes none same count is follows =
-    let start = opening_of entry size segments input in
-    let begins = opening_reaches entry size segments input hart calls opened core services bytes in
-    let here = subst (λ (m : ℕ). Reaches start m hart calls opened []) (sym none) begins in
-    subst (λ (e : Ending). FollowsWith start allowance retired e memory printed) (sym is)
-    (subst (λ (m : ℕ). FollowsWith start allowance m ended memory printed) (sym count)
-    (subst (λ (b : ℕ). FollowsWith start b finished ended memory printed) same (follows start [] here)))
-
--- a run that the memory stops before its first instruction
-pub nothing_follows : (entry size : ℕ) (segments : List Segment) (input : List ℕ) (budget retired : ℕ) (stop : MemStop) (ending : Ending) → retired ≡ 0 → ending ≡ stop_ending stop → Follows (opening_of entry size segments input) budget retired ending []
-nothing_follows entry size segments input budget retired stop ending none e =
-    let state : State = record { hart = opening_hart entry size; calls = opening_calls segments input; memory = opening_memory size segments } in
-    subst (λ (n : ℕ). Follows (opening_of entry size segments input) budget n ending []) (sym none)
-    (stopped_follows (opening_of entry size segments input) budget 0 state [] [] ending
-    (opening_reaches entry size segments input (opening_hart entry size) (opening_calls segments input) (opening_memory size segments) refl refl refl)
-    (omega arith) (prints_of (next state), refl) (stop_ends stop ending state [] [] 0 budget e))
 
 -- the memory is as large as it was
 pub levels_stay : {B T : Type 0} (told : B → Told) (bus : B) (tagger : T) (key : List ℕ) (levels limit : ℕ) (opened stored begun ended : Protected B T) (storing running : List ℕ) → opened ≡ new_protected bus tagger key levels limit → IsMoved told opened storing stored → begun ≡ stored → IsMoved told begun running ended → ended.engine.levels ≡ levels
@@ -162,20 +126,6 @@ written_out key levels made memory key' levels' made' same_key same_levels same_
       out = λ line inside free.
           sym (line_at-joined_lines (line_bytes key made) lines line (length-line_bytes key made) inside) ∙ ap (λ (bytes : List ℕ). line_at bytes line) whole;
     }
-
--- The run and its budget
-
-by_memory : (ending other : Ending) → IsMemoryEnding other → ¬ IsMemoryEnding ending → ending ≢ other
-by_memory ending other is quiet same = quiet (subst IsMemoryEnding (sym same) is)
-
--- a fault of the sink comes early
-early_fault : (ending : Ending) (n budget : ℕ) → (IsStop ending → n < budget) → ending ≡ WriteFault → n < budget
-early_fault ending n budget early e = early (subst IsStop (sym e) tt)
-
-pub budget_ends : (start : Machine) (budget n : ℕ) (ending : Ending) (printed : List ℕ) → Follows start budget n ending printed → (IsStop ending → n < budget) → ¬ IsMemoryEnding ending → (ending ≡ OutOfSteps) ↔ ((n ≡ budget) × ((plain start budget).exit ≡ None))
-budget_ends start budget n ending printed follows early quiet =
-    out_of_steps_run start budget n ending printed follows (early_fault ending n budget early) (by_memory ending NoMemory tt quiet)
-    (λ (place : Place). by_memory ending (Tampered place) tt quiet) (λ (page : ℕ). by_memory ending (Spent page) tt quiet)
 
 -- Where no answer was false
 

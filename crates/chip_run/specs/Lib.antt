@@ -1,5 +1,3 @@
-pub mod Loading
-pub mod Session
 pub mod Contents
 pub mod Account
 pub mod Protected

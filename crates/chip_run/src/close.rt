@@ -8,7 +8,7 @@ ghost use Rattle.sec_base.specs.declared.answers.Ending.TheVariants.{Tampered, S
 ghost use Rattle.tag_engine.specs.Engine.{tags_of};
 ghost use Rattle.chip_run.specs.Account.{HonestOrCaught, IsOfFirstLie};
 ghost use Rattle.chip_run.specs.Contents.{AreNumbered, HoldsLast, HoldsSealed, IsSpent, line_writes};
-ghost use Rattle.chip_run.specs.Session.{CarriesEnding, IsMemoryEnding};
+ghost use Rattle.rv32_run.specs.Session.{CarriesEnding, IsMemoryEnding};
 
 use crate::account::Account;
 use crate::ram::LineRam;

@@ -16,26 +16,23 @@ ghost use Rattle.rv32_core.specs.Machine.{opening, plain};
 ghost use Rattle.rv32_core.specs.Follows.{Follows, IsWhole};
 ghost use Rattle.chip_run.specs.Account.{HonestOrCaught, IsOfFirstLie};
 ghost use Rattle.chip_run.specs.Contents.{AreNumbered, HoldsLast, HoldsSealed, IsSpent, IsWrittenOut, line_writes};
-ghost use Rattle.chip_run.specs.Session.{IsMemoryEnding, IsStop};
+ghost use Rattle.rv32_run.specs.Session.{IsMemoryEnding, IsStop};
 
 mod account;
 mod close;
 mod lines;
-mod load;
 mod ram;
 mod record;
-mod session;
 #[cfg(test)]
 mod tests;
 
 use bus_model::Bus;
 use close::{close, no_run};
 use lines::LineMemory;
-use load::store_image;
 use ram::LineRam;
 pub use record::{RunRecord, Setup};
+use rv32_run::{Session, ending_of, store_image};
 use sec_base::{Image, NoMemoryWith, Sink, Tagger};
-use session::{Session, ending_of};
 use std::alloc::Global;
 
 /// Runs a program on an input, in a memory that stands outside the chip, and writes what it prints to a sink. The bus

@@ -7,8 +7,9 @@ use Rattle.rv32_core.specs.Machine.{opening}
 use Rattle.tag_engine.specs.Engine.{tags_of}
 use Rattle.chip_run.specs.Contents.{contents_of}
 use Rattle.chip_run.specs.Protected.{new_protected}
-use Rattle.chip_run.specs.Session.{IsStop, FollowsWith}
-use Rattle.chip_run.proofs.Runs.{opening_zeros, opening_follows, nothing_follows, levels_stay, key_stays, no_repeat, nothing_rising, nothing_paired, nothing_numbered, limit_stays, limit_stored, limited_by, never_limited, reads_stay, reads_stored, written_out, budget_ends, honest_run}
+use Rattle.rv32_run.specs.Session.{IsStop, FollowsWith}
+use Rattle.rv32_run.proofs.Runs.{opening_follows, nothing_follows, budget_ends}
+use Rattle.chip_run.proofs.Runs.{opening_zeros, levels_stay, key_stays, no_repeat, nothing_rising, nothing_paired, nothing_numbered, limit_stays, limit_stored, limited_by, never_limited, reads_stay, reads_stored, written_out, honest_run}
 use Rattle.chip_run.proofs.run.Given.{Over}
 use Rattle.chip_run.proofs.run.Goals as goal
 

@@ -1,0 +1,116 @@
+-- Bytes that are laid over a memory one after another.
+use Rattle.std.proofs.Common.{◌≡◌, ◌≤◌, ◌<◌, ℕ, suc, ◌+◌, ◌*◌, ◌/◌, ◌%◌, ◌^◌, List, [], ◌∷◌, ◌++◌, length, take, drop, get_or, set, replicate, fold, refl, sym, ap, ◌∙◌, arith, length-append, length-drop, add-zero}
+use Rattle.std.proofs.lemmas.List.{append-nil, take-append-drop, take_all, drop_more, length-take, length-replicate}
+use Rattle.std.proofs.lemmas.List.Sums.{fold_more}
+use Rattle.std.proofs.lemmas.List.Edits.{sets-eq}
+use Rattle.std.proofs.Math.Seq.{sets, length-sets, take-add}
+use Rattle.sec_base.specs.declared.memory.Width.TheVariants.{Four}
+use Rattle.sec_base.specs.declared.program.Segment.{Segment}
+use Rattle.sec_base.specs.Opening.{segment_memory, laid_over, opening_memory}
+use Rattle.sec_base.specs.Width.{with_number}
+use Rattle.rv32_run.specs.Loading.{laid_at, part, word_bytes}
+
+laid-sets : (m : List ℕ) (a : ℕ) (p : List ℕ) → a + length p ≤ length m → laid_at m a p ≡ sets m a p
+unfolding laid_at
+laid-sets m a p h = sym (sets-eq p m a h)
+
+sets-append : (m : List ℕ) (a : ℕ) (p q : List ℕ) → sets (sets m a p) (a + length p) q ≡ sets m a (p ++ q)
+sets-append m a [] q = ap (λ (n : ℕ). sets m n q) (add-zero a)
+sets-append m a (x ∷ p) q =
+    let e : a + suc (length p) ≡ suc a + length p = omega arith in
+    ap (λ (n : ℕ). sets (sets (set m a x) (suc a) p) n q) e ∙ sets-append (set m a x) (suc a) p q
+
+pub laid_byte : (m : List ℕ) (a b : ℕ) → a < length m → set m a b ≡ laid_at m a (b ∷ [])
+laid_byte m a b h = sym (laid-sets m a (b ∷ []) (omega arith))
+
+pub laid_word : (m : List ℕ) (a n : ℕ) → a + 4 ≤ length m → with_number m a Four n ≡ laid_at m a (word_bytes n)
+laid_word m a n h =
+    let second : a + 1 ≡ suc a = omega arith in
+    let third : a + 2 ≡ suc (suc a) = omega arith in
+    let fourth : a + 3 ≡ suc (suc (suc a)) = omega arith in
+    rw (second, third, fourth) (sym (laid-sets m a (word_bytes n) h))
+
+pub laid_nothing : (m : List ℕ) (a : ℕ) → laid_at m a [] ≡ m
+unfolding laid_at
+laid_nothing m a =
+    ap (λ (xs : List ℕ). xs ++ drop (a + 0) m) (append-nil (take a m)) ∙ ap (λ (n : ℕ). take a m ++ drop n m) (add-zero a)
+    ∙ take-append-drop a m
+
+pub laid_on : (m : List ℕ) (a b : ℕ) (p q : List ℕ) → b ≡ a + length p → b + length q ≤ length m → laid_at (laid_at m a p) b q ≡ laid_at m a (p ++ q)
+laid_on m a b p q e h =
+    ap (λ (xs : List ℕ). laid_at xs b q) (laid-sets m a p (omega arith))
+    ∙ laid-sets (sets m a p) b q (omega (arith, length-sets m a p))
+    ∙ ap (λ (n : ℕ). sets (sets m a p) n q) e ∙ sets-append m a p q
+    ∙ sym (laid-sets m a (p ++ q) (omega (arith, length-append p q)))
+
+pub length-part : (bytes : List ℕ) (at count : ℕ) → at + count ≤ length bytes → length (part bytes at count) ≡ count
+unfolding part
+length-part bytes at count h = simp (length-take, length-drop) (omega arith)
+
+pub part_byte : (bytes : List ℕ) (at : ℕ) → at < length bytes → part bytes at 1 ≡ get_or bytes at 0 ∷ []
+unfolding part
+part_byte bytes at h = ap (take 1) (drop_more bytes at 0 h)
+
+pub part_word : (bytes : List ℕ) (at : ℕ) → at + 4 ≤ length bytes → part bytes at 4 ≡ get_or bytes at 0 ∷ get_or bytes (at + 1) 0 ∷ get_or bytes (at + 2) 0 ∷ get_or bytes (at + 3) 0 ∷ []
+unfolding part
+part_word bytes at h =
+    let third : at + 1 + 1 ≡ at + 2 = omega arith in
+    let fourth : at + 2 + 1 ≡ at + 3 = omega arith in
+    rw (drop_more bytes at 0 (omega arith), drop_more bytes (at + 1) 0 (omega arith), third, drop_more bytes (at + 2) 0 (omega arith), fourth, drop_more bytes (at + 3) 0 (omega arith)) refl
+
+pub part_more : (bytes : List ℕ) (at count : ℕ) → take at bytes ++ part bytes at count ≡ take (at + count) bytes
+unfolding part
+part_more bytes at count = sym (take-add at count bytes)
+
+pub length-segment_memory : (segment : Segment) → length segment.bytes ≤ segment.length → length (segment_memory segment) ≡ segment.length
+length-segment_memory segment h = simp (length-append, length-replicate) (omega arith)
+
+pub laid_whole : (m : List ℕ) (segment : Segment) → length segment.bytes ≤ segment.length → laid_at m segment.addr (segment_memory segment) ≡ laid_over m segment
+unfolding laid_at
+laid_whole m segment h =
+    ap (λ (n : ℕ). take segment.addr m ++ segment_memory segment ++ drop (segment.addr + n) m) (length-segment_memory segment h)
+
+-- one more part of a segment
+pub laid_more : (m now new : List ℕ) (a at count : ℕ) (bytes : List ℕ) → at + count ≤ length bytes → a + length bytes ≤ length m → now ≡ laid_at m a (take at bytes) → new ≡ laid_at now (a + at) (part bytes at count) → new ≡ laid_at m a (take (at + count) bytes)
+laid_more m now new a at count bytes h inside before after =
+    after ∙ ap (λ (xs : List ℕ). laid_at xs (a + at) (part bytes at count)) before
+    ∙ laid_on m a (a + at) (take at bytes) (part bytes at count) (omega (arith, length-take at bytes)) (omega (arith, length-part bytes at count h))
+    ∙ ap (laid_at m a) (part_more bytes at count)
+
+-- a word that is made of four bytes has these bytes
+pub made_of : (a b c d n : ℕ) → a < 2 ^ 8 → b < 2 ^ 8 → c < 2 ^ 8 → d < 2 ^ 8 → n ≡ a + b * 2 ^ 8 + c * 2 ^ 16 + d * 2 ^ 24 → word_bytes n ≡ a ∷ b ∷ c ∷ d ∷ []
+made_of a b c d n ha hb hc hd e =
+    let first : n % 2 ^ 8 ≡ a = omega arith in
+    let second : n / 2 ^ 8 % 2 ^ 8 ≡ b = omega arith in
+    let third : n / 2 ^ 16 % 2 ^ 8 ≡ c = omega arith in
+    let fourth : n / 2 ^ 24 % 2 ^ 8 ≡ d = omega arith in
+    rw (first, second, third, fourth) refl
+
+-- a word, or a byte, of a list that was stored
+pub word_stored : (old new : List ℕ) (address n : ℕ) (bytes : List ℕ) (at : ℕ) → address + 4 ≤ length old → word_bytes n ≡ part bytes at 4 → new ≡ with_number old address Four n → new ≡ laid_at old address (part bytes at 4)
+word_stored old new address n bytes at h e stored = stored ∙ laid_word old address n h ∙ ap (laid_at old address) e
+
+pub byte_stored : (old new : List ℕ) (address n : ℕ) (bytes : List ℕ) (at : ℕ) → address < length old → at < length bytes → n < 2 ^ 8 → n ≡ get_or bytes at 0 → new ≡ set old address (n % 2 ^ 8) → new ≡ laid_at old address (part bytes at 1)
+byte_stored old new address n bytes at h inside small e stored =
+    let whole : n % 2 ^ 8 ≡ get_or bytes at 0 = omega arith in
+    stored ∙ laid_byte old address (n % 2 ^ 8) h ∙ ap (λ (b : ℕ). laid_at old address (b ∷ [])) whole
+    ∙ ap (laid_at old address) (sym (part_byte bytes at inside))
+
+-- all of a segment
+pub laid_all : (m now : List ℕ) (segment : Segment) (at : ℕ) → length segment.bytes ≤ segment.length → segment.length ≤ at → now ≡ laid_at m segment.addr (take at (segment_memory segment)) → now ≡ laid_over m segment
+laid_all m now segment at h past e =
+    e ∙ ap (laid_at m segment.addr) (take_all at (segment_memory segment) (omega (arith, length-segment_memory segment h)))
+    ∙ laid_whole m segment h
+
+-- one more segment
+pub segment_more : (start now new : List ℕ) (segments : List Segment) (i : ℕ) (segment : Segment) → i < length segments → segment ≡ get_or segments i segment → now ≡ fold laid_over start (take i segments) → new ≡ laid_over now segment → new ≡ fold laid_over start (take (i + 1) segments)
+segment_more start now new segments i segment h item before after =
+    after ∙ ap (λ (xs : List ℕ). laid_over xs segment) before
+    ∙ ap (laid_over (fold laid_over start (take i segments))) item
+    ∙ sym (fold_more laid_over start segments i segment h)
+
+-- all segments
+pub segments_all : (start now : List ℕ) (segments all : List Segment) (size i : ℕ) → length segments ≤ i → now ≡ fold laid_over start (take i segments) → start ≡ replicate size 0 → segments ≡ all → now ≡ opening_memory size all
+unfolding opening_memory
+segments_all start now segments all size i h e zeros same =
+    e ∙ ap (fold laid_over start) (take_all i segments h ∙ same) ∙ ap (λ (xs : List ℕ). fold laid_over xs all) zeros

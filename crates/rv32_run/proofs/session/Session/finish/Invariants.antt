@@ -1,0 +1,26 @@
+use Rattle.std.proofs.Common.{◌≡◌, ◌≤◌, ◌++◌, ◌-◌, ℕ, List, None}
+use Rattle.sec_base.specs.Writing.{Gains}
+use Rattle.rv32_core.specs.Machine.{Machine}
+use Rattle.rv32_run.specs.Session.{Reaches}
+use Rattle.rv32_run.proofs.session.Session.finish.Given as goal
+
+abbrev pub invariant-loop-ending : goal.invariant-loop-ending
+invariant-loop-ending g l =
+    let ram = g.M.Ram in
+    let sink = g.S.Sink in
+    record {
+      turns : (printed : List ℕ) × Gains (sink.state l.fn.out) printed (sink.state l.out)
+          × (ram.sound l.self.memory → (start : Machine) (before : List ℕ) →
+          Reaches start l.fn.self.retired l.fn.self.core l.fn.self.calls (ram.contents l.fn.self.memory) before →
+          Reaches start l.self.retired l.self.core l.self.calls (ram.contents l.self.memory) (before ++ printed));
+      within : l.self.retired ≤ l.self.budget;
+      budget : l.self.budget ≡ l.fn.self.budget;
+      going : ram.stopped l.self.memory ≡ None;
+      faults : (sink.state l.fn.out).faults ≤ (sink.state l.out).faults;
+      extent : ram.extent l.self.memory ≡ ram.extent l.fn.self.memory;
+      lost : ram.sound l.self.memory → ram.sound l.fn.self.memory;
+      moved : (lines : List ℕ) × ram.moved l.fn.self.memory lines l.self.memory;
+    }
+
+abbrev pub decreases-loop-ending : goal.decreases-loop-ending
+decreases-loop-ending g l = l.self.budget - l.self.retired

@@ -1,0 +1,106 @@
+// How a program is stored in memory.
+ghost use Rattle.std.specs.Prelude.{◌≡◌, ◌+◌, ◌<◌, ◌≤◌, ◌^◌, ℕ, List, None, Some, IfOk, IfErr, OnOk, length, slice_index, replicate};
+ghost use Rattle.sec_base.specs.Opening.{segment_memory, laid_over, opening_memory};
+ghost use Rattle.sec_base.specs.Program.{IsSegment};
+ghost use Rattle.rv32_run.specs.Loading.{laid_at, part, word_bytes};
+
+use sec_base::{Image, MemStop, Ram, Segment, Width};
+
+/// Stores a program's segments over zeros, in order: each segment's bytes, and zeros up to its length. Only a stop of
+/// the memory refuses it.
+pub fn store_image<M: Ram>(ram: &mut M, image: &Image) -> Result<(), MemStop>
+    requires extent { M.extent ram.old ≡ image.now.size }
+    requires zeros { M.sound ram.old → M.contents ram.old ≡ replicate image.now.size 0 }
+    requires going { M.stopped ram.old ≡ None }
+
+    ensures stored { M.sound ram.new →
+        OnOk result (M.contents ram.new ≡ opening_memory image.now.size image.now.segments) }
+
+    ensures goes_on { OnOk result (M.stopped ram.new ≡ None) }
+    ensures stops { IfErr result (λ stop. M.stopped ram.new ≡ Some stop) }
+
+    ensures extent { M.extent ram.new ≡ M.extent ram.old }
+    ensures lost { M.sound ram.new → M.sound ram.old }
+    ensures moved { (lines : List ℕ) × M.moved ram.old lines ram.new }
+{
+    for segment in image.segments.as_slice() {
+        store_segment(ram, segment)?;
+    }
+    Ok(())
+}
+
+// Stores a segment's bytes, and zeros up to its length.
+fn store_segment<M: Ram>(ram: &mut M, segment: &Segment) -> Result<(), MemStop>
+    requires segment { IsSegment (M.extent ram.old) segment.now }
+    requires small { M.extent ram.old < 2 ^ 32 }
+    requires going { M.stopped ram.old ≡ None }
+
+    ensures stored { M.sound ram.new → OnOk result (M.contents ram.new ≡ laid_over (M.contents ram.old) segment.now) }
+
+    ensures goes_on { OnOk result (M.stopped ram.new ≡ None) }
+    ensures stops { IfErr result (λ stop. M.stopped ram.new ≡ Some stop) }
+
+    ensures extent { M.extent ram.new ≡ M.extent ram.old }
+    ensures lost { M.sound ram.new → M.sound ram.old }
+    ensures moved { (lines : List ℕ) × M.moved ram.old lines ram.new }
+{
+    let mut at = 0;
+    while at < segment.length {
+        at += store_next(ram, segment, at)?;
+    }
+    Ok(())
+}
+
+// Stores the next word of a segment's memory, or a byte where no word begins, and answers how many bytes it stored.
+fn store_next<M: Ram>(ram: &mut M, segment: &Segment, at: u32) -> Result<u32, MemStop>
+    requires segment { IsSegment (M.extent ram.old) segment.now }
+    requires small { M.extent ram.old < 2 ^ 32 }
+    requires below { at < segment.now.length }
+    requires going { M.stopped ram.old ≡ None }
+
+    ensures stored { M.sound ram.new → IfOk result (λ count. M.contents ram.new
+        ≡ laid_at (M.contents ram.old) (segment.now.addr + at) (part (segment_memory segment.now) at count)) }
+    ensures some { IfOk result (λ count. 0 < count) }
+    ensures most { IfOk result (λ count. at + count ≤ segment.now.length) }
+
+    ensures goes_on { OnOk result (M.stopped ram.new ≡ None) }
+    ensures stops { IfErr result (λ stop. M.stopped ram.new ≡ Some stop) }
+
+    ensures extent { M.extent ram.new ≡ M.extent ram.old }
+    ensures lost { M.sound ram.new → M.sound ram.old }
+    ensures moved { (lines : List ℕ) × M.moved ram.old lines ram.new }
+{
+    let addr = segment.addr + at;
+    if addr % 4 == 0 && segment.length - at >= 4 {
+        ram.store(addr, Width::Four, word_at(segment, at))?;
+        Ok(4)
+    } else {
+        ram.store(addr, Width::One, u32::from(byte_at(segment, at)))?;
+        Ok(1)
+    }
+}
+
+// The word of a segment's memory from a place on.
+fn word_at(segment: &Segment, at: u32) -> u32
+    requires bytes { length segment.now.bytes ≤ segment.now.length }
+    requires inside { at + 4 ≤ segment.now.length }
+    requires small { at + 4 < 2 ^ 32 }
+    ensures { word_bytes result ≡ part (segment_memory segment.now) at 4 }
+{
+    u32::from_le_bytes([
+        byte_at(segment, at),
+        byte_at(segment, at + 1),
+        byte_at(segment, at + 2),
+        byte_at(segment, at + 3),
+    ])
+}
+
+// A byte of a segment's memory.
+fn byte_at(segment: &Segment, at: u32) -> u8
+    ensures { result ≡ slice_index (segment_memory segment.now) at }
+{
+    match segment.bytes.as_slice().get(at as usize) {
+        Some(byte) => *byte,
+        None => 0,
+    }
+}

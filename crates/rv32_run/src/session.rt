@@ -1,0 +1,171 @@
+// A run that is under way.
+ghost use Rattle.std.specs.Prelude.{◌≡◌, ◌↔◌, ◌<◌, ◌≤◌, ◌++◌, ℕ, List, None, Some, IfSome, length};
+ghost use Rattle.sec_base.specs.declared.answers.Ending.TheVariants.{OutOfSteps, WriteFault};
+ghost use Rattle.sec_base.specs.Count.{Rose};
+ghost use Rattle.sec_base.specs.Writing.{Gains};
+ghost use Rattle.rv32_core.specs.State.{opening_hart};
+ghost use Rattle.rv32_core.specs.Effect.{next};
+ghost use Rattle.rv32_core.specs.Outcome.{prints_of};
+ghost use Rattle.rv32_core.specs.Machine.{Machine, plain, opening_calls};
+ghost use Rattle.rv32_run.specs.Session.{Reaches, FollowsWith, Turns, retired_after, IsStop, stop_ending, CarriesEnding};
+
+use rv32_core::{Calls, Core, Step, StepStop};
+use sec_base::{Ending, Image, MemStop, Ram, Sink};
+use std::marker::Model;
+
+/// A processor with its services and its memory, and how many instructions it retired and may retire.
+pub struct Session<'a, M: Ram> {
+    core: Core,
+    calls: Calls<'a>,
+    memory: M,
+    retired: u64,
+    budget: u64,
+}
+
+impl<'a, M: Ram> Model for Session<'a, M> {
+    ghost use Rattle.rv32_run.specs.Running.{Running};
+
+    ghost Value = { Running M };
+
+    ghost view = { λ session. record {
+      core = session.core;
+      calls = session.calls;
+      memory = session.memory;
+      retired = session.retired;
+      budget = session.budget;
+    } };
+}
+
+impl<'a, M: Ram> Session<'a, M> {
+    /// A program in its memory, before its first instruction.
+    pub fn new(image: &Image, input: &'a [u8], memory: M, budget: u64) -> Session<'a, M>
+        ensures core { result.core ≡ opening_hart image.now.entry image.now.size }
+        ensures calls { result.calls ≡ opening_calls image.now.segments input.now }
+        ensures memory { result.memory ≡ memory }
+        ensures retired { result.retired ≡ 0 }
+        ensures budget { result.budget ≡ budget }
+    {
+        Session {
+            core: Core::new(image.entry, image.size),
+            calls: Calls::new(input, image),
+            memory,
+            retired: 0,
+            budget,
+        }
+    }
+
+    /// How many instructions were retired.
+    pub fn retired(&self) -> u64
+        ensures { result ≡ self.now.retired }
+    {
+        self.retired
+    }
+
+    /// The memory as it is.
+    pub fn into_memory(self) -> M
+        ensures { result ≡ self.entry.memory }
+    {
+        let Session {
+            core: _core,
+            calls: _calls,
+            memory,
+            retired: _,
+            budget: _,
+        } = self;
+        memory
+    }
+
+    /// Does one instruction, where the budget allows one more, and answers how the run ended, if it did.
+    pub fn turn<S: Sink>(&mut self, out: &mut S) -> Option<Ending>
+        requires within { self.old.retired ≤ self.old.budget }
+        requires going { M.stopped self.old.memory ≡ None }
+
+        // Where the memory can be relied on, it goes on as the plain machine does.
+        ensures turns { (printed : List ℕ) × Gains (S.state out.old) printed (S.state out.new)
+            × (M.sound self.new.memory → (start : Machine) (before : List ℕ) →
+            Reaches start self.old.retired self.old.core self.old.calls (M.contents self.old.memory) before →
+            Turns start self.old.budget result self.new.retired self.new.core self.new.calls (M.contents self.new.memory) (before ++ printed)) }
+
+        ensures out_of_steps { (result ≡ Some OutOfSteps) ↔ (self.old.retired ≡ self.old.budget) }
+        ensures retired { self.new.retired ≡ retired_after result self.old.retired }
+        ensures budget { self.new.budget ≡ self.old.budget }
+
+        // Where the memory did not stop, only an instruction that prints is stopped.
+        ensures sink_stop { M.stopped self.new.memory ≡ None → M.sound self.new.memory → IfSome result (λ ending.
+            IsStop ending → 0 < length (prints_of (next
+            (record { hart = self.old.core; calls = self.old.calls; memory = M.contents self.old.memory })))) }
+
+        ensures mem { CarriesEnding (M.stopped self.new.memory) result }
+        ensures write_fault { result ≡ Some WriteFault → Rose (S.state out.old).faults (S.state out.new).faults }
+        ensures faults { (S.state out.old).faults ≤ (S.state out.new).faults }
+
+        ensures extent { M.extent self.new.memory ≡ M.extent self.old.memory }
+        ensures lost { M.sound self.new.memory → M.sound self.old.memory }
+        ensures moved { (lines : List ℕ) × M.moved self.old.memory lines self.new.memory }
+    {
+        if self.retired == self.budget {
+            return Some(Ending::OutOfSteps);
+        }
+        match self.core.step(&mut self.memory, &mut self.calls, out) {
+            Ok(Step::Retired) => {
+                self.retired += 1;
+                None
+            }
+            Ok(Step::Halted(code)) => {
+                self.retired += 1;
+                Some(Ending::Halted(code))
+            }
+            Err(StepStop::Trap(cause)) => Some(Ending::Trapped {
+                cause,
+                pc: self.core.pc(),
+            }),
+            Err(StepStop::Mem(stop)) => Some(ending_of(stop)),
+            Err(StepStop::WriteFault) => Some(Ending::WriteFault),
+        }
+    }
+
+    /// Goes on to the end.
+    pub fn finish<S: Sink>(&mut self, out: &mut S) -> Ending
+        requires within { self.old.retired ≤ self.old.budget }
+        requires going { M.stopped self.old.memory ≡ None }
+
+        // Where the memory can be relied on, the run follows the plain machine.
+        ensures follows { (printed : List ℕ) × Gains (S.state out.old) printed (S.state out.new)
+            × (M.sound self.new.memory → (start : Machine) (before : List ℕ) →
+            Reaches start self.old.retired self.old.core self.old.calls (M.contents self.old.memory) before →
+            FollowsWith start self.old.budget self.new.retired result (M.contents self.new.memory) (before ++ printed)) }
+        ensures within { self.new.retired ≤ self.old.budget }
+        ensures budget_used { result ≡ OutOfSteps → self.new.retired ≡ self.old.budget }
+
+        // A stop comes while the budget allows one more instruction, and where the memory did not stop, at one that prints.
+        ensures early { IsStop result → self.new.retired < self.old.budget }
+        ensures sink_stop { M.stopped self.new.memory ≡ None → M.sound self.new.memory → (start : Machine) (before : List ℕ) →
+            Reaches start self.old.retired self.old.core self.old.calls (M.contents self.old.memory) before →
+            IsStop result → 0 < length (prints_of (next (plain start self.new.retired).state)) }
+
+        ensures mem { CarriesEnding (M.stopped self.new.memory) (Some result) }
+        ensures write_fault { result ≡ WriteFault → Rose (S.state out.old).faults (S.state out.new).faults }
+        ensures faults { (S.state out.old).faults ≤ (S.state out.new).faults }
+
+        ensures extent { M.extent self.new.memory ≡ M.extent self.old.memory }
+        ensures lost { M.sound self.new.memory → M.sound self.old.memory }
+        ensures moved { (lines : List ℕ) × M.moved self.old.memory lines self.new.memory }
+    {
+        loop {
+            if let Some(ending) = self.turn(out) {
+                return ending;
+            }
+        }
+    }
+}
+
+/// How a run ends that the memory stops.
+pub fn ending_of(stop: MemStop) -> Ending
+    ensures { result ≡ stop_ending stop }
+{
+    match stop {
+        MemStop::Tampered(place) => Ending::Tampered(place),
+        MemStop::Spent(page) => Ending::Spent(page),
+        MemStop::NoMemory => Ending::NoMemory,
+    }
+}
