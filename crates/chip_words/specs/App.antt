@@ -1,5 +1,5 @@
 -- The command line of the program, as `clap` defines one: what each command takes.
-use Rattle.std.specs.Prelude.{◌-◌, ◌^◌, List, [], ◌∷◌, Some, codes, true, false}
+use Rattle.std.specs.Prelude.{◌-◌, ◌^◌, List, [], ◌∷◌, ◌++◌, Some, codes, true, false}
 use Rattle.clap.specs.Walk.{Rule, Text}
 use Rattle.clap.specs.Simple.{App, Shape, new_rule, new_shape}
 use Rattle.clap.specs.declared.builder.action.ArgAction.TheVariants.{SetTrue}
@@ -35,13 +35,13 @@ steps_rule = record (new_rule (codes "steps")) {
   defaults = codes "10000000" ∷ [];
 }
 
--- what `run` and `plain` take
-abbrev pub execution_rules : List Rule
-execution_rules = file_rule ∷ flat_rule ∷ input_rule ∷ levels_rule ∷ steps_rule ∷ []
-
 -- what `dis` takes
 abbrev pub listing_rules : List Rule
 listing_rules = file_rule ∷ flat_rule ∷ levels_rule ∷ []
+
+-- what `run` and `plain` take
+abbrev pub execution_rules : List Rule
+execution_rules = listing_rules ++ input_rule ∷ steps_rule ∷ []
 
 -- a command with these arguments
 abbrev pub command : Text → List Rule → Shape

@@ -71,11 +71,15 @@ asked_by name values = if bytes_eq name (codes "run") then Some (to_run (executi
     else (if bytes_eq name (codes "plain") then Some (to_run_plain (execution_of values))
     else (if bytes_eq name (codes "dis") then Some (to_list (listing_of values)) else None))
 
+-- what a command asks for, where there is one
+abbrev pub asked_in : Option (Text × List Row) → Option Asked
+asked_in command = option_and_then (λ c. asked_by c.0 c.1) command
+
 -- The words ask for something where `clap` has no fault to find in them: then their command says what, and its values
 -- say of which file and how.
 abbrev pub request_of : List Text → Option Asked
-request_of words = if is_empty (fault_of chip_app words)
-    then option_and_then (λ command. asked_by command.0 command.1) (subcommand_of chip_app words) else None
+request_of words =
+    if is_empty (fault_of chip_app words) then asked_in (subcommand_of chip_app words) else None
 
 -- ---- what every request keeps to
 
