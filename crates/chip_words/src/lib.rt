@@ -9,6 +9,8 @@ ghost use Rattle.chip_words.specs.Words.{asked, texts, IfUsage};
 
 mod app;
 mod request;
+#[cfg(test)]
+mod tests;
 mod values;
 
 use clap::Error;
