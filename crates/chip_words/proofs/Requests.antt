@@ -1,6 +1,6 @@
 -- What follows from a request.
 use Rattle.std.proofs.Common.{◌≡◌, ◌≤◌, ◌⊎◌, ◌∙◌, ap, subst, ℕ, Bool, List, [], ◌∷◌, Option, Some, None, Ok, true, false, not, refl, sym, inl, inr, is_some, if◌then◌else◌, arith, unwrap_or}
-use Rattle.std.specs.Prelude.{codes}
+use Rattle.std.specs.Prelude.{◌↔◌, codes, IsSome}
 use Rattle.std.specs.Option.{option_map_or}
 use Rattle.std.specs.Str.{bytes_eq}
 use Rattle.std.proofs.lemmas.Slice.Eq.{bytes_eq-Decides}
@@ -99,6 +99,14 @@ none_chosen kinds request some = go (is_empty kinds) refl
 
 request_of-taken : (words : List Text) → fault_of chip_app words ≡ [] → request_of words ≡ asked_in (subcommand_of chip_app words)
 request_of-taken words e = ap (λ (kinds : Kinds). if is_empty kinds then asked_in (subcommand_of chip_app words) else None) e
+
+-- words ask for something just where they have no fault
+pub request_is_there : (words : List Text) → IsSome (request_of words) ↔ (fault_of chip_app words ≡ [])
+request_is_there words = (go (is_empty (fault_of chip_app words)) refl, λ e. ap is_some (request_of-taken words e) ∙ asks words e)
+  where
+    go : (b : Bool) → is_empty (fault_of chip_app words) ≡ b → IsSome (request_of words) → fault_of chip_app words ≡ []
+    go true is some = is_nil (fault_of chip_app words) is
+    go false is some = absurd (let bad : false ≡ true = rw is at some in cc)
 
 -- a parse of the words has found what they ask for
 pub parse_asks : (a : App) (words : List Text) (m : ArgMatches) → a ≡ chip_app → HasMatchesOf a words m
