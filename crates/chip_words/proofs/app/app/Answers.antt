@@ -1,0 +1,16 @@
+use Rattle.std.proofs.Common.{rules, ◌≡◌, ◌∙◌, ap, ap₂, List, [], true, codes}
+use Rattle.clap.specs.Simple.{App, app_of, app_of_fields, new_app, new_shape, on_top, with_subcommand}
+use Rattle.chip_words.proofs.app.app.Goals as goal
+
+pub returns : goal.returns
+returns c =
+    let name_is : app_of c.new.result ≡ new_app (codes "chip") = c.new.ensures.app ∙ ap new_app (search rules) in
+    let needs = ap app_of_fields c.subcommand_required.ensures
+    ∙ ap (on_top (λ s. record s { subcommand_required = true })) name_is in
+    let top = ap app_of_fields c.arg_required_else_help.ensures
+    ∙ ap (on_top (λ s. record s { arg_required_else_help = true })) needs in
+    let run = c.in_ok-subcommand.ensures.shape c.in_ok-run.ensures.local
+    ∙ ap₂ with_subcommand top c.in_ok-run.ensures.shape in
+    let plain = c.in_ok-subcommand-2.ensures.shape c.in_ok-plain.ensures.local
+    ∙ ap₂ with_subcommand run c.in_ok-plain.ensures.shape in
+    c.in_ok-app.ensures.shape c.in_ok-dis.ensures.local ∙ ap₂ with_subcommand plain c.in_ok-dis.ensures.shape

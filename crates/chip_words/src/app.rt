@@ -1,0 +1,103 @@
+// The command line of the program: what each command takes.
+ghost use Rattle.std.specs.Prelude.{◌≡◌, [], IfOk, false};
+ghost use Rattle.clap.specs.Walk.{rule_of};
+ghost use Rattle.clap.specs.Simple.{app_of, shape_of};
+ghost use Rattle.clap.specs.declared.builder.command.Command.TheViews.{out-Command as fields_of};
+ghost use Rattle.chip_words.specs.App.{chip_app, command, execution_rules, listing_rules};
+ghost use Rattle.chip_words.specs.App.{file_rule, flat_rule, input_rule, levels_rule, steps_rule};
+
+use clap::{Arg, ArgAction, Command, value_parser};
+use std::alloc::{AllocError, Global};
+
+pub(crate) fn app<'a>(alloc: Global) -> Result<Command<'a>, AllocError>
+    ensures { IfOk result (λ app. app_of app ≡ chip_app) }
+{
+    let run = execution(alloc, "run", "Runs a program on protected memory")?;
+    let plain = execution(alloc, "plain", "Runs a program on the plain machine")?;
+    let dis = listing(alloc, "dis", "Lists the instructions of a program")?;
+    let app = Command::new(alloc, "chip")
+        .subcommand_required(true)
+        .arg_required_else_help(true)
+        .subcommand(run)?
+        .subcommand(plain)?
+        .subcommand(dis)?;
+    Ok(app)
+}
+
+// A command that runs a program.
+fn execution<'a>(alloc: Global, name: &'a str, about: &'a str) -> Result<Command<'a>, AllocError>
+    ensures shape { IfOk result (λ c. shape_of c ≡ command name.entry.now execution_rules) }
+    ensures local { IfOk result (λ c. (fields_of c).has_globals ≡ false) }
+{
+    let command = listing(alloc, name, about)?
+        .arg(input(alloc))?
+        .arg(steps(alloc))?;
+    Ok(command)
+}
+
+// A command that lists a program.
+fn listing<'a>(alloc: Global, name: &'a str, about: &'a str) -> Result<Command<'a>, AllocError>
+    ensures shape { IfOk result (λ c. shape_of c ≡ command name.entry.now listing_rules) }
+    ensures local { IfOk result (λ c. (fields_of c).has_globals ≡ false) }
+{
+    let command = Command::new(alloc, name)
+        .about(about)
+        .arg(file(alloc))?
+        .arg(flat(alloc))?
+        .arg(levels(alloc))?;
+    Ok(command)
+}
+
+fn file<'a>(alloc: Global) -> Arg<'a>
+    ensures rule { rule_of result ≡ file_rule }
+    ensures local { result.global ≡ false }
+{
+    Arg::new(alloc, "file")
+        .value_name("FILE")
+        .required(true)
+        .help("The program")
+}
+
+fn flat<'a>(alloc: Global) -> Arg<'a>
+    ensures rule { rule_of result ≡ flat_rule }
+    ensures local { result.global ≡ false }
+{
+    Arg::new(alloc, "flat")
+        .long("flat")
+        .action(ArgAction::SetTrue)
+        .help("FILE has the program's bytes and nothing else")
+}
+
+fn input<'a>(alloc: Global) -> Arg<'a>
+    ensures rule { rule_of result ≡ input_rule }
+    ensures local { result.global ≡ false }
+{
+    Arg::new(alloc, "input")
+        .long("input")
+        .value_name("F")
+        .help("The program's input, empty by default")
+}
+
+fn levels<'a>(alloc: Global) -> Arg<'a>
+    ensures rule { rule_of result ≡ levels_rule }
+    ensures local { result.global ≡ false }
+{
+    Arg::new(alloc, "levels")
+        .long("levels")
+        .value_name("L")
+        .value_parser(value_parser!(u64).range(1..=6))
+        .default_value("4")
+        .help("The levels of the memory's tree, 1 to 6")
+}
+
+fn steps<'a>(alloc: Global) -> Arg<'a>
+    ensures rule { rule_of result ≡ steps_rule }
+    ensures local { result.global ≡ false }
+{
+    Arg::new(alloc, "steps")
+        .long("steps")
+        .value_name("N")
+        .value_parser(value_parser!(u64))
+        .default_value("10000000")
+        .help("How many instructions may be retired")
+}

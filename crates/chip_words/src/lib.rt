@@ -1,0 +1,54 @@
+//! The words of the command line: what they ask for.
+#![tactic(auto)]
+
+ghost use Rattle.std.specs.Prelude.{◌≡◌, ◌≢◌, ◌≤◌, ◌↔◌, [], Some, None, IfOk, IfErr, IsSome};
+ghost use Rattle.clap.specs.Values.{kind_of};
+ghost use Rattle.clap.specs.declared.error.kind.ErrorKind.TheVariants.{OutOfMemory};
+ghost use Rattle.clap.specs.Faults.{fault_of};
+ghost use Rattle.chip_words.specs.App.{chip_app};
+ghost use Rattle.chip_words.specs.Request.{request_of, levels_asked};
+ghost use Rattle.chip_words.specs.Words.{asked, texts, IfUsage};
+
+mod app;
+mod request;
+#[cfg(test)]
+mod tests;
+mod values;
+
+use clap::Error;
+use clap::error::ErrorKind;
+pub use request::{Execution, Listing, Request, WordsError};
+use std::alloc::Global;
+
+/// What the words of the process ask for, the program's name first. A question for help is refused with its answer.
+#[tactic(auto, using(crate::proofs::Requests::request_is_there))]
+pub fn read_words<'a>(alloc: Global, words: &'a [&'a str]) -> Result<Request<'a>, WordsError>
+    ensures taken { IfOk result (λ request. request_of (texts words.now) ≡ Some (asked request)) }
+    ensures refused { IfErr result (λ error. IfUsage error (request_of (texts words.now) ≡ None)) }
+
+    // Words ask for something just where clap has no fault to find in them.
+    ensures faultless { IsSome (request_of (texts words.now)) ↔ (fault_of chip_app (texts words.now) ≡ []) }
+    ensures levels { IfOk result (λ request. (1 ≤ levels_asked (asked request)) × (levels_asked (asked request) ≤ 6)) }
+{
+    let app = match app::app(alloc) {
+        Ok(app) => app,
+        Err(_) => return Err(WordsError::NoMemory),
+    };
+    match app.try_get_matches_from(words) {
+        Ok(matches) => Ok(values::requested(&matches)),
+        Err(error) => Err(refusal(alloc, &error)),
+    }
+}
+
+// Why no matches came, with clap's text for the user.
+fn refusal(alloc: Global, error: &Error) -> WordsError
+    ensures { IfUsage result (kind_of error.now ≢ OutOfMemory) }
+{
+    if error.kind() == ErrorKind::OutOfMemory {
+        return WordsError::NoMemory;
+    }
+    match format!(in alloc; "{error}") {
+        Ok(text) => WordsError::Usage(text),
+        Err(_) => WordsError::NoMemory,
+    }
+}
