@@ -1,5 +1,5 @@
 -- What a hole with so many hexadecimal digits writes.
-use Rattle.std.proofs.Common.{◌≡◌, ℕ, ◌-◌, [], length, false, Some, refl, ap, arith}
+use Rattle.std.proofs.Common.{◌≡◌, ℕ, ◌-◌, [], length, false, Some, refl, arith}
 use Rattle.std.proofs.lemmas.List.{append-nil}
 use Rattle.std.specs.Fmt.{char_count, digits, digits_output, format_spec, padded_integral, styled_digits_output}
 use Rattle.rv32_text.specs.Text.{hex8}

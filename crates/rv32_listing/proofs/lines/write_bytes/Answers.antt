@@ -1,8 +1,8 @@
-use Rattle.std.proofs.Common.{◌≡◌, ◌<◌, ◌≤◌, ◌+◌, ℕ, length, drop, Err, rules, arith}
+use Rattle.std.proofs.Common.{◌≡◌, ◌<◌, ◌≤◌, length, Err, rules, arith}
 use Rattle.std.proofs.lemmas.List.{take_rest, length-drop}
 use Rattle.sec_base.proofs.Writes.{part_done}
 use Rattle.rv32_listing.proofs.Firsts.{byte_first, word_first, none_left}
-use Rattle.rv32_listing.proofs.Parts.{part_written, part_stopped}
+use Rattle.rv32_listing.proofs.Parts.{first_written, first_stopped}
 use Rattle.rv32_listing.proofs.lines.write_bytes.Goals as goal
 
 pub returns-in_err-write_byte_line-clause-listed : goal.returns-in_err-write_byte_line-clause-listed
@@ -11,7 +11,7 @@ returns-in_err-write_byte_line-clause-listed g c =
     let some : 0 < length c.loop-rest.rest.now = search rules in
     let same : c.from_residual.result ≡ Err c.in_err-write_byte_line.field-0.0 = search rules in
     rw same
-    (part_stopped _ _ _ _ _ _ _ _ (byte_first c.loop-rest.address c.loop-rest.rest.now some few) c.loop-rest.invariant.part c.in_err-write_byte_line.ensures.listed)
+    (first_stopped _ _ _ _ _ _ _ _ (byte_first c.loop-rest.address c.loop-rest.rest.now some few) c.loop-rest.invariant.part c.in_err-write_byte_line.ensures.listed)
 
 pub loop-rest-preserved-then-rest-lt4 : goal.loop-rest-preserved-then-rest-lt4
 loop-rest-preserved-then-rest-lt4 g c =
@@ -19,7 +19,7 @@ loop-rest-preserved-then-rest-lt4 g c =
     let some : 0 < length c.loop-rest.rest.now = search rules in
     rw take_rest
     (record {
-      part = part_written _ _ _ _ _ _ _ (byte_first c.loop-rest.address c.loop-rest.rest.now some few) c.loop-rest.invariant.part c.in_ok-write_byte_line.ensures.listed c.write_byte_line.ensures.faults;
+      part = first_written _ _ _ _ _ _ _ (byte_first c.loop-rest.address c.loop-rest.rest.now some few) c.loop-rest.invariant.part c.in_ok-write_byte_line.ensures.listed c.write_byte_line.ensures.faults;
       place = simp length-drop (omega arith);
     })
 
@@ -28,14 +28,14 @@ returns-in_err-write_word_line-clause-listed g c =
     let many : 4 ≤ length c.loop-rest.rest.now = omega arith in
     let same : c.from_residual-in_err-write_word_line.result ≡ Err c.in_err-write_word_line.field-0.0 = search rules in
     rw same
-    (part_stopped _ _ _ _ _ _ _ _ (word_first c.loop-rest.address c.loop-rest.rest.now _ many c.from_le_bytes-word.ensures) c.loop-rest.invariant.part c.in_err-write_word_line.ensures.listed)
+    (first_stopped _ _ _ _ _ _ _ _ (word_first c.loop-rest.address c.loop-rest.rest.now _ many c.from_le_bytes-word.ensures) c.loop-rest.invariant.part c.in_err-write_word_line.ensures.listed)
 
 pub loop-rest-preserved : goal.loop-rest-preserved
 loop-rest-preserved g c =
     let many : 4 ≤ length c.loop-rest.rest.now = omega arith in
     rw take_rest
     (record {
-      part = part_written _ _ _ _ _ _ _ (word_first c.loop-rest.address c.loop-rest.rest.now _ many c.from_le_bytes-word.ensures) c.loop-rest.invariant.part c.in_ok-write_word_line.ensures.listed c.write_word_line.ensures.faults;
+      part = first_written _ _ _ _ _ _ _ (word_first c.loop-rest.address c.loop-rest.rest.now _ many c.from_le_bytes-word.ensures) c.loop-rest.invariant.part c.in_ok-write_word_line.ensures.listed c.write_word_line.ensures.faults;
       place = simp length-drop (omega arith);
     })
 

@@ -1,4 +1,4 @@
-use Rattle.std.proofs.Common.{◌≡◌, ◌+◌, ℕ, length}
+use Rattle.std.proofs.Common.{◌≡◌, ◌+◌, length}
 use Rattle.sec_base.proofs.Writes.{IsPart}
 use Rattle.rv32_listing.specs.Listing.{bytes_lines}
 use Rattle.rv32_listing.proofs.lines.write_bytes.Given as goal
