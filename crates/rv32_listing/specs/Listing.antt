@@ -1,0 +1,36 @@
+-- The listing of a program: a line of text for each word of its segments, and for each byte that is left over.
+use Rattle.std.specs.Prelude.{ℕ, ◌+◌, ◌-◌, List, [], ◌∷◌, ◌++◌, length, replicate, codes, false}
+use Rattle.std.specs.Fmt.{digits}
+use Rattle.std.specs.Int.{w32, from_le_bytes}
+use Rattle.sec_base.specs.declared.program.Segment.{Segment}
+use Rattle.rv32_text.specs.Text.{hex8, text_of_word}
+
+-- two hexadecimal digits, with their leading zero
+unfoldable pub hex2 : ℕ → List ℕ
+hex2 n = replicate (2 - length (digits 16 false n)) 48 ++ digits 16 false n
+
+-- a word at an address: the address, the word, and its text there
+unfoldable pub word_line : ℕ → ℕ → List ℕ
+word_line address word =
+    hex8 address ++ codes " " ++ hex8 word ++ codes " " ++ text_of_word word address ++ codes "\n"
+
+-- a byte at an address: the address, the byte, and the byte as data
+unfoldable pub byte_line : ℕ → ℕ → List ℕ
+byte_line address byte = hex8 address ++ codes " " ++ hex2 byte ++ codes " .byte 0x" ++ hex2 byte ++ codes "\n"
+
+-- bytes from an address on: their words, four bytes at a time and the lowest byte first, and then the bytes that
+-- are left over
+unfoldable pub bytes_lines : ℕ → List ℕ → List ℕ
+bytes_lines address (a ∷ b ∷ c ∷ d ∷ bytes) =
+    word_line address (from_le_bytes w32 (a ∷ b ∷ c ∷ d ∷ [])) ++ bytes_lines (address + 4) bytes
+bytes_lines address (byte ∷ bytes) = byte_line address byte ++ bytes_lines (address + 1) bytes
+bytes_lines address [] = []
+
+-- a segment: its bytes, without the zeros that its memory goes on with
+abbrev pub segment_lines : Segment → List ℕ
+segment_lines segment = bytes_lines segment.addr segment.bytes
+
+-- the segments of a program, in order
+unfoldable pub listing_of : List Segment → List ℕ
+listing_of [] = []
+listing_of (segment ∷ segments) = segment_lines segment ++ listing_of segments

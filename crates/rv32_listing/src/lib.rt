@@ -1,0 +1,30 @@
+//! The listing of a program: its words as lines of text, in the assembly language of the RISC-V unprivileged manual.
+#![tactic(auto)]
+
+ghost use Rattle.std.specs.Prelude.{◌≤◌};
+ghost use Rattle.rv32_listing.specs.Listing.{listing_of};
+ghost use Rattle.rv32_listing.specs.Listed.{IsListed};
+
+mod lines;
+#[cfg(test)]
+mod tests;
+
+use lines::write_bytes;
+use sec_base::{Image, Sink, SinkStop};
+use std::alloc::Global;
+
+/// Writes a line for each whole word of a program's segments, such as `00000000 00700513 addi a0, zero, 7`: the
+/// address, the word, and its text there. Words are cut from a segment's first byte on, at whatever address it
+/// stands, and the bytes that are left over at its end have a line each, such as `00000008 ff .byte 0xff`. The
+/// zeros behind a segment's bytes have no lines.
+///
+/// Each line is one piece. After an error a front part of the listing was written.
+pub fn write_listing<S: Sink>(alloc: Global, image: &Image, out: &mut S) -> Result<(), SinkStop>
+    ensures listed { IsListed (listing_of image.now.segments) (S.state out.old) (S.state out.new) result }
+    ensures faults { (S.state out.old).faults ≤ (S.state out.new).faults }
+{
+    for segment in image.segments.as_slice() {
+        write_bytes(alloc, segment.addr, segment.bytes.as_slice(), out)?;
+    }
+    Ok(())
+}
