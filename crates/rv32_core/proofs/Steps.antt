@@ -9,7 +9,9 @@ use Rattle.rv32_decode.specs.Table.{instruction_of}
 use Rattle.rv32_core.specs.declared.hart.StepStop.{StepStop}
 use Rattle.rv32_core.specs.declared.hart.StepStop.TheVariants.{Trap, Mem, WriteFault}
 use Rattle.rv32_core.specs.State.{State, Hart, CallState, next_hart, written_hart}
-use Rattle.rv32_core.specs.Effect.{After, next, fetched, service, write_service, is_output, is_inside, a0, a1, a2, a7}
+use Rattle.rv32_core.specs.After.{After}
+use Rattle.rv32_core.specs.Services.{service, write_service, is_output, is_inside, a0, a1, a2, a7}
+use Rattle.rv32_core.specs.Effect.{next, fetched}
 use Rattle.rv32_core.specs.Touch.{Range, HasLinesOf, HasLinesOfAll, touches, data_touches, service_touches, write_touches}
 use Rattle.rv32_core.specs.Fetching.{IsFetched, StopsFetch}
 use Rattle.sec_base.specs.declared.answers.MemStop.{MemStop}
