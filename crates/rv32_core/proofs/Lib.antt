@@ -1,4 +1,6 @@
 pub mod Loading
 pub mod Plain
 pub mod Printed
+pub mod Serving
 pub mod Steps
+pub mod Storing

@@ -1,5 +1,5 @@
 // What the instructions compute from words (RISC-V unprivileged manual, section 2.4 and M).
-ghost use Rattle.std.specs.Prelude.{◌≡◌, nat_lt};
+ghost use Rattle.std.specs.Prelude.{◌≡◌, ◌*ℤ◌, nat_lt};
 ghost use Rattle.rv32_core.specs.Arithmetic as spec;
 
 /// 1 where a is below b, else 0.
@@ -39,7 +39,14 @@ pub fn shift_right_signed(a: u32, amount: u32) -> u32
 pub fn high_product(a: u32, b: u32) -> u32
     ensures { result ≡ spec.high_product a b }
 {
-    high_word(i64::from(a.cast_signed()) * i64::from(b.cast_signed()))
+    high_word(product(a.cast_signed(), b.cast_signed()))
+}
+
+#[inline]
+fn product(a: i32, b: i32) -> i64
+    ensures { result ≡ a *ℤ b }
+{
+    i64::from(a) * i64::from(b)
 }
 
 /// The high 32 bits of the product of a signed word and an unsigned one.
