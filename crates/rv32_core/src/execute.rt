@@ -3,6 +3,7 @@ ghost use Rattle.std.specs.Prelude.{◌≡◌, ◌≤◌, ℕ, List, None, Err, 
 ghost use Rattle.sec_base.specs.Count.{Rose};
 ghost use Rattle.sec_base.specs.Writing.{Gains};
 ghost use Rattle.rv32_decode.specs.Table.{IsInst};
+ghost use Rattle.rv32_core.specs.State.{word};
 ghost use Rattle.rv32_core.specs.Effect.{effect};
 ghost use Rattle.rv32_core.specs.Touch.{data_touches, HasLinesOfAll};
 ghost use Rattle.rv32_core.specs.declared.hart.StepStop.TheVariants.{WriteFault};
@@ -53,7 +54,7 @@ impl Core {
     {
         let a = self.reg(inst.rs1);
         let b = self.reg(inst.rs2);
-        let i = inst.imm.cast_unsigned();
+        let i = immediate(inst);
         match inst.op {
             Op::Lui => self.retire(inst.rd, i),
             Op::Auipc => self.retire(inst.rd, self.pc().wrapping_add(i)),
@@ -106,4 +107,12 @@ impl Core {
             Op::Ebreak => Err(StepStop::Trap(Cause::Breakpoint)),
         }
     }
+}
+
+// The immediate as a word.
+#[inline]
+fn immediate(inst: &Inst) -> u32
+    ensures { result ≡ word inst.now.imm }
+{
+    inst.imm.cast_unsigned()
 }
