@@ -1,5 +1,6 @@
 -- Rows of the instruction table that print nothing.
-use Rattle.std.proofs.Common.{◌≡◌, ℕ, Bool, true, false, List, [], sym, ◌∙◌, ap, Result, Ok, nat_lt, nat_le, not}
+use Rattle.std.proofs.Common.{◌≡◌, ℕ, List, [], sym, refl, Result, Ok, nat_lt, nat_le, not, inl, inr, lt-ltb, le-ltb}
+use Rattle.std.proofs.lemmas.Bool.{cases_lt, le-leb, lt-leb}
 use Rattle.sec_base.specs.declared.answers.Cause.{Cause}
 use Rattle.sec_base.specs.Writing.{SinkState, Gains}
 use Rattle.sec_base.proofs.Writes.{gained-nil}
@@ -9,7 +10,6 @@ use Rattle.rv32_core.specs.declared.hart.StepStop.{StepStop}
 use Rattle.rv32_core.specs.State.{State, Hart, written_hart, with_hart}
 use Rattle.rv32_core.specs.After.{After, quietly, written}
 use Rattle.rv32_core.specs.Outcome.{IsOutcome}
-use Rattle.rv32_core.proofs.Steps.{outcome_as}
 
 -- what holds under two premises, with nothing printed
 abbrev pub IsQuiet : Type 0 → Type 0 → SinkState → Result After Cause → Result Step StepStop → State → State → Type 0
@@ -26,11 +26,10 @@ computed sink next result state hart number value retired is made = (
   λ none sound. rw (retired, is) made,
 )
 
--- an outcome of what the row does, under another name
-pub done_as : {None Sound : Type 0} (sink : SinkState) (next next' : Result After Cause) (result : Result Step StepStop) (old new : State) →
-    next ≡ next' → (None → Sound → IsOutcome next' result old new []) → IsQuiet None Sound sink next result old new
-done_as sink next next' result old new e h = (
-  [],
-  sym (gained-nil sink.written),
-  λ none sound. outcome_as next next' result old new [] e (h none sound),
-)
+-- not below
+pub not_below : (a b : ℕ) → nat_le b a ≡ not (nat_lt a b)
+not_below a b =
+    elim (cases_lt a b) [
+      | inl less ↦ rw (lt-ltb a b less, lt-leb b a less) refl
+      | inr more ↦ rw (le-ltb a b more, le-leb b a more) refl
+    ]

@@ -1,8 +1,6 @@
-use Rattle.std.proofs.Common.{◌+◌, ◌*◌, ◌-◌, ◌/◌, ◌%◌, ◌^◌, [], refl, sym, bit_or, bit_xor}
+use Rattle.std.proofs.Common.{◌*◌, ◌%◌, ◌^◌, [], refl, sym, bit_or, bit_xor}
 use Rattle.sec_base.proofs.Writes.{gained-nil}
-use Rattle.sec_base.specs.declared.memory.Width.TheVariants.{One, Two, Four}
-use Rattle.rv32_core.specs.State.{State}
-use Rattle.rv32_core.proofs.Rows.{computed, done_as}
+use Rattle.rv32_core.proofs.Rows.{computed, not_below}
 use Rattle.rv32_core.proofs.hart.Core.execute.Goals as goal
 
 pub returns-in-Slti-clause-outcome : goal.returns-in-Slti-clause-outcome
@@ -127,7 +125,7 @@ pub returns-in-Bltu-clause-outcome : goal.returns-in-Bltu-clause-outcome
 returns-in-Bltu-clause-outcome g c = ([], sym (gained-nil _), λ none sound. rw c.in-Bltu.is (rw (c.reg-a.ensures, c.reg-b.ensures) at (c.branch-self-in-Bltu.ensures.outcome c.args.calls.now (g.M.Ram.contents c.args.ram.now))))
 
 pub returns-in-Bgeu-clause-outcome : goal.returns-in-Bgeu-clause-outcome
-returns-in-Bgeu-clause-outcome g c = ([], sym (gained-nil _), λ none sound. let h = rw (c.reg-a.ensures, c.reg-b.ensures) at (c.branch-self-in-Bgeu.ensures.outcome c.args.calls.now (g.M.Ram.contents c.args.ram.now)) in rw c.in-Bgeu.is ?)
+returns-in-Bgeu-clause-outcome g c = ([], sym (gained-nil _), λ none sound. rw c.in-Bgeu.is (rw (not_below c.reg-a.result c.reg-b.result, c.reg-a.ensures, c.reg-b.ensures) at (c.branch-self-in-Bgeu.ensures.outcome c.args.calls.now (g.M.Ram.contents c.args.ram.now))))
 
 pub returns-in-Lb-clause-outcome : goal.returns-in-Lb-clause-outcome
 returns-in-Lb-clause-outcome g c = ([], sym (gained-nil _), λ none sound. rw c.in-Lb.is (c.load.ensures.outcome none sound c.args.calls.now))
