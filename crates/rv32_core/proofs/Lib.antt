@@ -1,4 +1,7 @@
 pub mod Loading
 pub mod Plain
 pub mod Printed
+pub mod Rows
+pub mod Serving
 pub mod Steps
+pub mod Storing

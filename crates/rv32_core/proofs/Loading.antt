@@ -13,6 +13,9 @@ pub record IsLoading (before now : List ℕ) (from count : ℕ) (piece : List �
   pub same : now ≡ before
   pub loaded : (k : ℕ) → k < count → get_or piece k 0 ≡ get_or before (from + k) 0
 
+pub no_lines : (from : ℕ) → HasLinesOf [] (record { from = from; count = 0 })
+no_lines from = λ k below. absurd (omega arith)
+
 -- the lines of one byte more
 pub lines_more : (lines : List ℕ) (from i : ℕ) → HasLinesOf lines (record { from = from; count = i }) → HasLinesOf (lines ++ line_of (from + i) ∷ []) (record { from = from; count = i + 1 })
 lines_more lines from i h = λ k below.

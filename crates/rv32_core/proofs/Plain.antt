@@ -8,7 +8,8 @@ use Rattle.sec_base.specs.declared.answers.Ending.{Ending}
 use Rattle.sec_base.specs.declared.answers.Ending.TheVariants.{Halted, Trapped, OutOfSteps, Tampered, Spent, WriteFault, NoMemory}
 use Rattle.sec_base.specs.declared.layout.Place.{Place}
 use Rattle.rv32_core.specs.State.{State}
-use Rattle.rv32_core.specs.Effect.{After, next}
+use Rattle.rv32_core.specs.After.{After}
+use Rattle.rv32_core.specs.Effect.{next}
 use Rattle.rv32_core.specs.Machine.{Machine, done, one_more_of, one_more, plain}
 use Rattle.sec_base.specs.declared.answers.MemStop.{MemStop}
 use Rattle.rv32_core.specs.declared.hart.Step.{Step}

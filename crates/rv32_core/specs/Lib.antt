@@ -6,6 +6,7 @@ pub mod Effect
 pub mod Touch
 pub mod Machine
 pub mod Fetching
+pub mod Loading
 pub mod Printing
 pub mod Outcome
 pub mod Follows

@@ -1,16 +1,31 @@
-// What a fetch, a load, a store or a service may reach.
-ghost use Rattle.std.specs.Prelude.{◌≡◌, ◌≢◌, ◌+◌, ◌%◌, ◌<◌, ◌≤◌, ℕ, List, None, Ok, Err, OnOk};
+// Fetches, loads and stores (RISC-V unprivileged manual, section 2.6).
+ghost use Rattle.std.specs.Prelude.{◌≡◌, ◌≢◌, ◌+◌, ◌*◌, ◌%◌, ◌^◌, ◌<◌, ◌≤◌, ℕ, List, [], None, Ok, Err, OnErr, OnOk};
 ghost use Rattle.sec_base.specs.Width.{number_at, width_bytes};
 ghost use Rattle.sec_base.specs.declared.memory.Width.TheVariants.{Four};
-ghost use Rattle.rv32_core.specs.Effect.{data_fault, is_inside, is_output};
+ghost use Rattle.rv32_decode.specs.Table.{IsInst};
+ghost use Rattle.rv32_core.specs.State.{CallState};
+ghost use Rattle.rv32_core.specs.Effect.{data_fault, data_address, loads, stores};
 ghost use Rattle.rv32_core.specs.Touch.{HasLinesOf};
 ghost use Rattle.rv32_core.specs.declared.hart.StepStop.TheVariants.{WriteFault};
 ghost use Rattle.rv32_core.specs.Fetching.{IsFetched, StopsFetch};
+ghost use Rattle.rv32_core.specs.Loading.{extended as extended_by};
+ghost use Rattle.rv32_core.specs.Outcome.{IsOutcome, CarriesStop, OnlyTraps};
 
-use crate::hart::StepStop;
+use crate::hart::{Core, Step, StepStop};
+use rv32_decode::Inst;
 use sec_base::{Cause, Ram, Width};
 
+/// What comes in above a number that is shorter than a word.
+#[derive(Clone, Copy, Debug, PartialEq, Eq)]
+pub enum Extension {
+    /// Zeros.
+    Zero,
+    /// Copies of its top bit.
+    Sign,
+}
+
 /// The word at the program counter.
+#[inline]
 pub fn fetch<M: Ram>(ram: &mut M, pc: u32) -> Result<u32, StepStop>
     requires { pc % 4 ≡ 0 }
 
@@ -34,8 +49,94 @@ pub fn fetch<M: Ram>(ram: &mut M, pc: u32) -> Result<u32, StepStop>
     }
 }
 
-/// Why a load or a store traps.
-pub fn fault_at(address: u32, width: Width, size: u32) -> Option<Cause>
+impl Core {
+    // A load of this width, extended to a word.
+    #[inline]
+    pub(crate) fn load<M: Ram>(
+        &mut self,
+        inst: &Inst,
+        width: Width,
+        extension: Extension,
+        ram: &mut M,
+    ) -> Result<Step, StepStop>
+        requires { IsInst inst.now }
+
+        ensures outcome { M.stopped ram.old ≡ None → M.sound ram.new → (calls : CallState) → IsOutcome
+            (loads width (extended_by extension width) inst.now (record { hart = self.old; calls = calls; memory = M.contents ram.old }))
+            result
+            (record { hart = self.old; calls = calls; memory = M.contents ram.old })
+            (record { hart = self.new; calls = calls; memory = M.contents ram.new })
+            [] }
+        ensures stays { OnErr result (self.new ≡ self.old) }
+
+        ensures mem { M.stopped ram.old ≡ None → CarriesStop (M.stopped ram.new) result }
+        ensures only_traps { M.stopped ram.old ≡ None → M.stopped ram.new ≡ None → OnlyTraps result }
+        ensures write_fault { result ≢ Err WriteFault }
+
+        ensures extent { M.extent ram.new ≡ M.extent ram.old }
+        ensures lost { M.sound ram.new → M.sound ram.old }
+        ensures moved { (lines : List ℕ) × M.moved ram.old lines ram.new
+            × OnOk result (HasLinesOf lines (record { from = data_address inst.now self.old; count = width_bytes width })) }
+    {
+        let address = self.reg(inst.rs1).wrapping_add(inst.imm.cast_unsigned());
+        if let Some(cause) = fault_at(address, width, ram.size()) {
+            return Err(StepStop::Trap(cause));
+        }
+        match ram.load(address, width) {
+            Ok(number) => self.retire(inst.rd, extended(number, width, extension)),
+            Err(stop) => Err(StepStop::Mem(stop)),
+        }
+    }
+
+    // A store of this width.
+    #[inline]
+    pub(crate) fn store<M: Ram>(&mut self, inst: &Inst, width: Width, ram: &mut M) -> Result<Step, StepStop>
+        requires { IsInst inst.now }
+
+        ensures outcome { M.stopped ram.old ≡ None → M.sound ram.new → (calls : CallState) → IsOutcome
+            (stores width inst.now (record { hart = self.old; calls = calls; memory = M.contents ram.old }))
+            result
+            (record { hart = self.old; calls = calls; memory = M.contents ram.old })
+            (record { hart = self.new; calls = calls; memory = M.contents ram.new })
+            [] }
+        ensures stays { OnErr result (self.new ≡ self.old) }
+
+        ensures mem { M.stopped ram.old ≡ None → CarriesStop (M.stopped ram.new) result }
+        ensures only_traps { M.stopped ram.old ≡ None → M.stopped ram.new ≡ None → OnlyTraps result }
+        ensures write_fault { result ≢ Err WriteFault }
+
+        ensures extent { M.extent ram.new ≡ M.extent ram.old }
+        ensures lost { M.sound ram.new → M.sound ram.old }
+        ensures moved { (lines : List ℕ) × M.moved ram.old lines ram.new
+            × OnOk result (HasLinesOf lines (record { from = data_address inst.now self.old; count = width_bytes width })) }
+    {
+        let address = self.reg(inst.rs1).wrapping_add(inst.imm.cast_unsigned());
+        if let Some(cause) = fault_at(address, width, ram.size()) {
+            return Err(StepStop::Trap(cause));
+        }
+        match ram.store(address, width, self.reg(inst.rs2)) {
+            Ok(()) => self.pass(),
+            Err(stop) => Err(StepStop::Mem(stop)),
+        }
+    }
+}
+
+// A number of this width as a word.
+#[inline]
+fn extended(number: u32, width: Width, extension: Extension) -> u32
+    requires { number < 2 ^ (8 * width_bytes width) }
+    ensures { result ≡ extended_by extension width number }
+{
+    match (extension, width) {
+        (Extension::Sign, Width::One) if number >= 0x80 => number + 0xffff_ff00,
+        (Extension::Sign, Width::Two) if number >= 0x8000 => number + 0xffff_0000,
+        _ => number,
+    }
+}
+
+// Why a load or a store traps.
+#[inline]
+fn fault_at(address: u32, width: Width, size: u32) -> Option<Cause>
     ensures { result ≡ data_fault address width size }
 {
     let bytes = bytes_of(width);
@@ -49,6 +150,7 @@ pub fn fault_at(address: u32, width: Width, size: u32) -> Option<Cause>
 }
 
 // How many bytes a width has.
+#[inline]
 fn bytes_of(width: Width) -> u32
     ensures bytes { result ≡ width_bytes width }
     ensures some { 0 < result }
@@ -58,18 +160,4 @@ fn bytes_of(width: Width) -> u32
         Width::Two => 2,
         Width::Four => 4,
     }
-}
-
-/// Whether a range lies inside a memory of this size; one of no bytes always does.
-pub fn reaches_inside(address: u32, count: u32, size: u32) -> bool
-    ensures { result ≡ is_inside address count size }
-{
-    count == 0 || u64::from(address) + u64::from(count) <= u64::from(size)
-}
-
-/// Whether a descriptor is the output's.
-pub fn names_output(descriptor: u32) -> bool
-    ensures { result ≡ is_output descriptor }
-{
-    descriptor == 1 || descriptor == 2
 }

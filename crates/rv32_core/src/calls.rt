@@ -1,4 +1,4 @@
-ghost use Rattle.std.specs.Prelude.{◌≡◌, ◌≤◌, All};
+ghost use Rattle.std.specs.Prelude.{◌≡◌, ◌+◌, ◌≤◌, All, length, if◌then◌else◌};
 ghost use Rattle.sec_base.specs.Program.{IsSegment};
 ghost use Rattle.sec_base.specs.Opening.{first_break as break_after, segments_end as end_of};
 
@@ -15,6 +15,7 @@ pub struct Calls<'a> {
 }
 
 impl<'a> Model for Calls<'a> {
+    ghost use Rattle.std.specs.Prelude.{◌≤◌, length};
     ghost use Rattle.rv32_core.specs.State.{CallState};
 
     ghost Value = { CallState };
@@ -25,10 +26,13 @@ impl<'a> Model for Calls<'a> {
       first_break = calls.first_break;
       brk = calls.brk;
     } };
+
+    ghost invariant = { λ calls. calls.position ≤ length calls.input.now };
 }
 
 impl<'a> Calls<'a> {
     ghost use Rattle.rv32_core.specs.Machine.{opening_calls};
+    ghost use Rattle.rv32_core.specs.Services.{next_input, at_position, is_break, with_break};
 
     /// The services of a program that begins with this input.
     pub fn new(input: &'a [u8], image: &Image) -> Calls<'a>
@@ -42,10 +46,38 @@ impl<'a> Calls<'a> {
             brk: first_break,
         }
     }
+
+    /// The next bytes of the input, at most so many.
+    pub(crate) fn next_bytes(&self, count: u32) -> &[u8]
+        ensures bytes { result.now ≡ next_input self.now count }
+        ensures left { self.now.position + length result.now ≤ length self.now.input }
+    {
+        let rest = &self.input[self.position..];
+        &rest[..rest.len().min(count as usize)]
+    }
+
+    /// So many bytes of the input were read.
+    pub(crate) fn advance(&mut self, count: usize)
+        requires { self.old.position + count ≤ length self.old.input }
+        ensures { self.new ≡ at_position self.old (self.old.position + count) }
+    {
+        self.position += count;
+    }
+
+    /// Moves the break to an address where it may stand, and answers the break.
+    pub(crate) fn move_break(&mut self, address: u32, size: u32) -> u32
+        ensures answer { result ≡ (if is_break self.old size address then address else self.old.brk) }
+        ensures moved { self.new ≡ with_break self.old result }
+    {
+        if self.first_break <= address && address <= size.saturating_sub(4096) {
+            self.brk = address;
+        }
+        self.brk
+    }
 }
 
-#[tactic(auto, unfolding(sec_base::specs::Opening::first_break))]
 // Where the program's break is at first: the greatest end of a segment, rounded up to a multiple of 16.
+#[tactic(auto, unfolding(sec_base::specs::Opening::first_break))]
 fn first_break(image: &Image) -> u32
     ensures { result ≡ break_after image.now.segments }
 {

@@ -1,18 +1,15 @@
-ghost use Rattle.std.specs.Prelude.{◌≡◌, ◌≢◌, ◌%◌, ◌<◌, ◌≤◌, ℕ, List, [], None, Ok, Err, OnErr, OnOk};
+ghost use Rattle.std.specs.Prelude.{◌≡◌, ◌%◌, ◌<◌, ◌≤◌, ℕ, List, None, Ok, Err, OnErr, OnOk};
 ghost use Rattle.sec_base.specs.Count.{Rose};
 ghost use Rattle.sec_base.specs.Layout.{IsMemorySize};
 ghost use Rattle.sec_base.specs.Writing.{Gains};
-ghost use Rattle.sec_base.specs.Width.{width_bytes};
-ghost use Rattle.rv32_decode.specs.Table.{IsInst};
-ghost use Rattle.rv32_core.specs.State.{State, CallState, opening_hart, register, written_hart};
-ghost use Rattle.rv32_core.specs.Effect.{next, effect, loads, stores, service, write_service, data_address};
-ghost use Rattle.rv32_core.specs.Touch.{touches, data_touches, service_touches, write_touches, HasLinesOf, HasLinesOfAll};
+ghost use Rattle.rv32_core.specs.State.{State, opening_hart, register, with_register, next_hart, written_hart};
+ghost use Rattle.rv32_core.specs.Effect.{next};
+ghost use Rattle.rv32_core.specs.Touch.{touches, HasLinesOfAll};
 
-use crate::access::{fault_at, fetch, names_output, reaches_inside};
+use crate::access::fetch;
 use crate::calls::Calls;
-use crate::print::print;
-use rv32_decode::{Inst, Op, decode};
-use sec_base::{Cause, MemStop, Ram, Sink, Width};
+use rv32_decode::decode;
+use sec_base::{Cause, MemStop, Ram, Sink};
 use std::marker::Model;
 
 /// What an instruction that was retired leads to.
@@ -35,7 +32,7 @@ pub enum StepStop {
     WriteFault,
 }
 
-/// A hart of RV32I: its program counter, a multiple of 4, and its 32 registers, of which the first is 0.
+/// A hart of RV32IM: its program counter, a multiple of 4, and its 32 registers, of which the first is 0.
 #[derive(Drop)]
 pub struct Core {
     pc: u32,
@@ -56,8 +53,9 @@ impl Model for Core {
 impl Core {
     ghost use Rattle.rv32_core.specs.declared.hart.Step.{Step};
     ghost use Rattle.rv32_core.specs.declared.hart.StepStop.{StepStop};
+    ghost use Rattle.rv32_core.specs.declared.hart.Step.TheVariants.{Retired};
     ghost use Rattle.rv32_core.specs.declared.hart.StepStop.TheVariants.{WriteFault};
-    ghost use Rattle.rv32_core.specs.Outcome.{IsOutcome, CarriesStop, IsSinkStop, OnlyTraps};
+    ghost use Rattle.rv32_core.specs.Outcome.{IsOutcome, CarriesStop, IsSinkStop};
 
     /// A hart at a program's entry, with its stack pointer 64 bytes below the end of a memory of `size` bytes.
     pub fn new(entry: u32, size: u32) -> Core
@@ -129,217 +127,43 @@ impl Core {
         }
     }
 
-    // Does a decoded instruction.
-    fn execute<M: Ram, S: Sink>(
-        &mut self,
-        inst: &Inst,
-        ram: &mut M,
-        calls: &Calls,
-        out: &mut S,
-    ) -> Result<Step, StepStop>
-        requires { IsInst inst.now }
-
-        ensures outcome { (printed : List ℕ) × Gains (S.state out.old) printed (S.state out.new)
-            × (M.stopped ram.old ≡ None → M.sound ram.new → IsOutcome
-            (effect inst.now.op inst.now (record { hart = self.old; calls = calls.now; memory = M.contents ram.old }))
-            result
-            (record { hart = self.old; calls = calls.now; memory = M.contents ram.old })
-            (record { hart = self.new; calls = calls.now; memory = M.contents ram.new })
-            printed) }
-        ensures stays { OnErr result (self.new ≡ self.old) }
-
-        ensures mem { M.stopped ram.old ≡ None → CarriesStop (M.stopped ram.new) result }
-        ensures sink_stop { M.stopped ram.old ≡ None → M.sound ram.new → M.stopped ram.new ≡ None → IsSinkStop result
-            (effect inst.now.op inst.now (record { hart = self.old; calls = calls.now; memory = M.contents ram.old })) }
-        ensures write_fault { result ≡ Err WriteFault → Rose (S.state out.old).faults (S.state out.new).faults }
-        ensures faults { (S.state out.old).faults ≤ (S.state out.new).faults }
-
-        ensures extent { M.extent ram.new ≡ M.extent ram.old }
-        ensures lost { M.sound ram.new → M.sound ram.old }
-        ensures moved { (lines : List ℕ) × M.moved ram.old lines ram.new
-            × (M.stopped ram.old ≡ None → M.sound ram.new → OnOk result (HasLinesOfAll lines
-            (data_touches inst.now.op inst.now (record { hart = self.old; calls = calls.now; memory = M.contents ram.old })))) }
+    // A value goes to a register; register 0 keeps its 0.
+    #[inline]
+    pub(crate) fn set_reg(&mut self, number: u8, value: u32)
+        requires { number < 32 }
+        ensures { self.new ≡ record { pc = self.old.pc; registers = with_register self.old.registers number value } }
     {
-        match inst.op {
-            Op::Lui => {
-                self.retire(inst.rd, inst.imm.cast_unsigned());
-                Ok(Step::Retired)
-            }
-            Op::Addi => {
-                let value = self.reg(inst.rs1).wrapping_add_signed(inst.imm);
-                self.retire(inst.rd, value);
-                Ok(Step::Retired)
-            }
-            Op::Lw => self.load(inst, Width::Four, ram),
-            Op::Sw => self.store(inst, Width::Four, ram),
-            Op::Ecall => self.serve(ram, out),
+        if number != 0 {
+            self.registers[number as usize] = value;
         }
     }
 
-    // A value goes to a register, and the next instruction in order is next.
-    fn retire(&mut self, register: u8, value: u32)
-        requires { register < 32 }
-        ensures { self.new ≡ written_hart self.old register value }
+    #[inline]
+    pub(crate) fn set_pc(&mut self, target: u32)
+        requires { target % 4 ≡ 0 }
+        ensures { self.new ≡ record { pc = target; registers = self.old.registers } }
     {
-        if register != 0 {
-            self.registers[register as usize] = value;
-        }
+        self.pc = target;
+    }
+
+    // The next instruction in order is next.
+    #[inline]
+    pub(crate) fn pass(&mut self) -> Result<Step, StepStop>
+        ensures hart { self.new ≡ next_hart self.old }
+        ensures retired { result ≡ Ok Retired }
+    {
         self.pc = self.pc.wrapping_add(4);
-    }
-
-    fn load<M: Ram>(&mut self, inst: &Inst, width: Width, ram: &mut M) -> Result<Step, StepStop>
-        requires { IsInst inst.now }
-
-        ensures outcome { M.stopped ram.old ≡ None → M.sound ram.new → (calls : CallState) → IsOutcome
-            (loads width inst.now (record { hart = self.old; calls = calls; memory = M.contents ram.old }))
-            result
-            (record { hart = self.old; calls = calls; memory = M.contents ram.old })
-            (record { hart = self.new; calls = calls; memory = M.contents ram.new })
-            [] }
-        ensures stays { OnErr result (self.new ≡ self.old) }
-
-        ensures mem { M.stopped ram.old ≡ None → CarriesStop (M.stopped ram.new) result }
-        ensures only_traps { M.stopped ram.old ≡ None → M.stopped ram.new ≡ None → OnlyTraps result }
-        ensures write_fault { result ≢ Err WriteFault }
-
-        ensures extent { M.extent ram.new ≡ M.extent ram.old }
-        ensures lost { M.sound ram.new → M.sound ram.old }
-        ensures moved { (lines : List ℕ) × M.moved ram.old lines ram.new
-            × OnOk result (HasLinesOf lines (record { from = data_address inst.now self.old; count = width_bytes width })) }
-    {
-        let address = self.reg(inst.rs1).wrapping_add_signed(inst.imm);
-        if let Some(cause) = fault_at(address, width, ram.size()) {
-            return Err(StepStop::Trap(cause));
-        }
-        match ram.load(address, width) {
-            Ok(value) => {
-                self.retire(inst.rd, value);
-                Ok(Step::Retired)
-            }
-            Err(stop) => Err(StepStop::Mem(stop)),
-        }
-    }
-
-    fn store<M: Ram>(&mut self, inst: &Inst, width: Width, ram: &mut M) -> Result<Step, StepStop>
-        requires { IsInst inst.now }
-
-        ensures outcome { M.stopped ram.old ≡ None → M.sound ram.new → (calls : CallState) → IsOutcome
-            (stores width inst.now (record { hart = self.old; calls = calls; memory = M.contents ram.old }))
-            result
-            (record { hart = self.old; calls = calls; memory = M.contents ram.old })
-            (record { hart = self.new; calls = calls; memory = M.contents ram.new })
-            [] }
-        ensures stays { OnErr result (self.new ≡ self.old) }
-
-        ensures mem { M.stopped ram.old ≡ None → CarriesStop (M.stopped ram.new) result }
-        ensures only_traps { M.stopped ram.old ≡ None → M.stopped ram.new ≡ None → OnlyTraps result }
-        ensures write_fault { result ≢ Err WriteFault }
-
-        ensures extent { M.extent ram.new ≡ M.extent ram.old }
-        ensures lost { M.sound ram.new → M.sound ram.old }
-        ensures moved { (lines : List ℕ) × M.moved ram.old lines ram.new
-            × OnOk result (HasLinesOf lines (record { from = data_address inst.now self.old; count = width_bytes width })) }
-    {
-        let address = self.reg(inst.rs1).wrapping_add_signed(inst.imm);
-        if let Some(cause) = fault_at(address, width, ram.size()) {
-            return Err(StepStop::Trap(cause));
-        }
-        match ram.store(address, width, self.reg(inst.rs2)) {
-            Ok(()) => {
-                self.pc = self.pc.wrapping_add(4);
-                Ok(Step::Retired)
-            }
-            Err(stop) => Err(StepStop::Mem(stop)),
-        }
-    }
-
-    // Does the service that a7 names.
-    #[tactic(auto, unfolding(crate::specs::Effect::service))]
-    fn serve<M: Ram, S: Sink>(&mut self, ram: &mut M, out: &mut S) -> Result<Step, StepStop>
-        ensures outcome { (printed : List ℕ) × Gains (S.state out.old) printed (S.state out.new)
-            × (M.stopped ram.old ≡ None → M.sound ram.new → (calls : CallState) → IsOutcome
-            (Ok (service (record { hart = self.old; calls = calls; memory = M.contents ram.old })))
-            result
-            (record { hart = self.old; calls = calls; memory = M.contents ram.old })
-            (record { hart = self.new; calls = calls; memory = M.contents ram.new })
-            printed) }
-        ensures stays { OnErr result (self.new ≡ self.old) }
-
-        ensures mem { M.stopped ram.old ≡ None → CarriesStop (M.stopped ram.new) result }
-        ensures sink_stop { M.stopped ram.old ≡ None → M.sound ram.new → M.stopped ram.new ≡ None → (calls : CallState) →
-            IsSinkStop result (Ok (service (record { hart = self.old; calls = calls; memory = M.contents ram.old }))) }
-        ensures write_fault { result ≡ Err WriteFault → Rose (S.state out.old).faults (S.state out.new).faults }
-        ensures faults { (S.state out.old).faults ≤ (S.state out.new).faults }
-
-        ensures extent { M.extent ram.new ≡ M.extent ram.old }
-        ensures lost { M.sound ram.new → M.sound ram.old }
-        ensures moved { (lines : List ℕ) × M.moved ram.old lines ram.new
-            × (M.stopped ram.old ≡ None → M.sound ram.new → (calls : CallState) → OnOk result (HasLinesOfAll lines
-            (service_touches (record { hart = self.old; calls = calls; memory = M.contents ram.old })))) }
-    {
-        let number = self.registers[17];
-        if number == WRITE {
-            return self.write_out(ram, out);
-        }
-        if number == EXIT {
-            let code = self.registers[10];
-            self.pc = self.pc.wrapping_add(4);
-            return Ok(Step::Halted(code));
-        }
-        self.retire(10, NO_SUCH_SERVICE);
         Ok(Step::Retired)
     }
 
-    // Prints the a2 bytes from a1 on to the descriptor in a0.
-    fn write_out<M: Ram, S: Sink>(&mut self, ram: &mut M, out: &mut S) -> Result<Step, StepStop>
-        ensures outcome { (printed : List ℕ) × Gains (S.state out.old) printed (S.state out.new)
-            × (M.stopped ram.old ≡ None → M.sound ram.new → (calls : CallState) → IsOutcome
-            (Ok (write_service (record { hart = self.old; calls = calls; memory = M.contents ram.old })))
-            result
-            (record { hart = self.old; calls = calls; memory = M.contents ram.old })
-            (record { hart = self.new; calls = calls; memory = M.contents ram.new })
-            printed) }
-        ensures stays { OnErr result (self.new ≡ self.old) }
-
-        ensures mem { M.stopped ram.old ≡ None → CarriesStop (M.stopped ram.new) result }
-        ensures sink_stop { M.stopped ram.old ≡ None → M.sound ram.new → M.stopped ram.new ≡ None → (calls : CallState) →
-            IsSinkStop result (Ok (write_service (record { hart = self.old; calls = calls; memory = M.contents ram.old }))) }
-        ensures write_fault { result ≡ Err WriteFault → Rose (S.state out.old).faults (S.state out.new).faults }
-        ensures faults { (S.state out.old).faults ≤ (S.state out.new).faults }
-
-        ensures extent { M.extent ram.new ≡ M.extent ram.old }
-        ensures lost { M.sound ram.new → M.sound ram.old }
-        ensures moved { (lines : List ℕ) × M.moved ram.old lines ram.new
-            × (M.stopped ram.old ≡ None → M.sound ram.new → (calls : CallState) → OnOk result (HasLinesOfAll lines
-            (write_touches (record { hart = self.old; calls = calls; memory = M.contents ram.old })))) }
+    // A value goes to a register, and the next instruction in order is next.
+    #[inline]
+    pub(crate) fn retire(&mut self, number: u8, value: u32) -> Result<Step, StepStop>
+        requires { number < 32 }
+        ensures hart { self.new ≡ written_hart self.old number value }
+        ensures retired { result ≡ Ok Retired }
     {
-        let from = self.registers[11];
-        let count = self.registers[12];
-        if !names_output(self.registers[10]) {
-            self.retire(10, BAD_DESCRIPTOR);
-            return Ok(Step::Retired);
-        }
-        if !reaches_inside(from, count, ram.size()) {
-            self.retire(10, BAD_ADDRESS);
-            return Ok(Step::Retired);
-        }
-        match print(ram, out, from, count) {
-            Ok(()) => {
-                self.retire(10, count);
-                Ok(Step::Retired)
-            }
-            Err(stop) => Err(stop),
-        }
+        self.set_reg(number, value);
+        self.pass()
     }
 }
-
-// The services, and their negative answers.
-const WRITE: u32 = 64;
-
-const EXIT: u32 = 93;
-
-const BAD_DESCRIPTOR: u32 = u32::MAX - 8;
-
-const BAD_ADDRESS: u32 = u32::MAX - 13;
-
-const NO_SUCH_SERVICE: u32 = u32::MAX - 37;

@@ -5,7 +5,7 @@ ghost use Rattle.sec_base.specs.Lists.{IsPrefix};
 ghost use Rattle.sec_base.specs.Writing.{Gains};
 ghost use Rattle.rv32_core.specs.declared.hart.StepStop.TheVariants.{WriteFault};
 ghost use Rattle.rv32_core.specs.Touch.{HasLinesOf};
-ghost use Rattle.rv32_core.specs.Printing.{bytes_at, IsPrinted, StopsAs};
+ghost use Rattle.rv32_core.specs.Printing.{bytes_at, piece_length as length_of_piece, IsPrinted, StopsAs};
 
 use crate::hart::StepStop;
 use sec_base::{MemStop, Ram, Sink, SinkStop, Width, write_all};
@@ -37,13 +37,21 @@ pub fn print<M: Ram, S: Sink>(
     let end = from + count;
     let mut at = from;
     while at < end {
-        let length = (64 - at % 64).min(end - at);
+        let length = piece_length(at, end);
         match print_piece(ram, out, at, length) {
             Ok(()) => at += length,
             Err(stop) => return Err(stop),
         }
     }
     Ok(())
+}
+
+// How long the next piece is that goes out: up to the next multiple of 64 of the address, or to the end.
+fn piece_length(at: u32, end: u32) -> u32
+    requires { at ≤ end }
+    ensures { result ≡ length_of_piece at end }
+{
+    (64 - at % 64).min(end - at)
 }
 
 // Prints at most 64 bytes as one piece.

@@ -10,7 +10,7 @@ loop-at-preserved g c =
     let piece = c.print_piece.ensures in
     let whole = c.in-Ok.ensures.printed in
     let more = c.in-Ok.ensures.moved in
-    let n = c.min-length.result in
+    let n = c.piece_length-length.result in
     record {
       printed = (
         before.printed.0 ++ whole.0,
@@ -44,9 +44,9 @@ returns-in-Err-clause-printed g c =
       before.printed.0 ++ part.0,
       gains_both (g.S.Sink.state c.args.out.now) (g.S.Sink.state c.loop-at.out) (g.S.Sink.state c.print_piece.new.out) _ _ before.printed.1 part.1,
       λ none sound.
-          prefix_both (g.M.Ram.contents c.args.ram.now) before.printed.0 part.0 c.args.from c.loop-at.at c.min-length.result c.args.count before.begun (omega arith)
+          prefix_both (g.M.Ram.contents c.args.ram.now) before.printed.0 part.0 c.args.from c.loop-at.at c.piece_length-length.result c.args.count before.begun (omega arith)
           (before.printed.2 none (piece.lost sound))
-          (subst (λ (m : List ℕ). IsPrefix part.0 (bytes_at m c.loop-at.at c.min-length.result)) (before.contents none (piece.lost sound)) (part.2 (before.stopped none) sound)),
+          (subst (λ (m : List ℕ). IsPrefix part.0 (bytes_at m c.loop-at.at c.piece_length-length.result)) (before.contents none (piece.lost sound)) (part.2 (before.stopped none) sound)),
     )
 
 pub returns-in-Err-clause-moved : goal.returns-in-Err-clause-moved

@@ -1,4 +1,4 @@
-use Rattle.std.proofs.Common.{◌≡◌, ◌≤◌, ◌+◌, ◌++◌, [], sym, ◌∙◌, subst, refl, length, Err, ℕ, List}
+use Rattle.std.proofs.Common.{◌≡◌, ◌≤◌, ◌+◌, ◌++◌, [], sym, ◌∙◌, subst, refl, length, Result, Err, ℕ, List}
 use Rattle.std.specs.Result.{OnOk}
 use Rattle.sec_base.specs.Width.{number_at}
 use Rattle.sec_base.specs.declared.memory.Width.TheVariants.{Four}
@@ -6,7 +6,11 @@ use Rattle.rv32_core.specs.State.{Hart, State}
 use Rattle.rv32_core.specs.Fetching.{IsFetched}
 use Rattle.rv32_core.specs.Touch.{HasLinesOf, HasLinesOfAll, data_touches}
 use Rattle.sec_base.proofs.Writes.{gained-nil}
-use Rattle.rv32_core.proofs.Steps.{fetch_stopped, illegal, touches_found, going_from_fetch, on_ok}
+use Rattle.sec_base.specs.declared.answers.Cause.{Cause}
+use Rattle.rv32_core.specs.After.{After}
+use Rattle.rv32_core.specs.Effect.{next, effect}
+use Rattle.rv32_core.specs.Outcome.{IsSinkStop}
+use Rattle.rv32_core.proofs.Steps.{found, fetch_stopped, illegal, touches_found, going_from_fetch, on_ok}
 use Rattle.rv32_core.proofs.hart.Core.step.Goals as goal
 
 pub returns-in-Err-clause-outcome : goal.returns-in-Err-clause-outcome
@@ -49,3 +53,20 @@ returns-in-None-clause-outcome g c = (
     refl,
   ),
 )
+
+pub returns-in-Some-clause-sink_stop : goal.returns-in-Some-clause-sink_stop
+returns-in-Some-clause-sink_stop g c = λ none sound going.
+    let contents = g.M.Ram.contents c.args.ram.now in
+    let before : State = record { hart = c.args.self.now; calls = c.args.calls.now; memory = contents } in
+    let there = c.execute.ensures.lost sound in
+    let fetched = c.in-Ok.ensures.fetched none there in
+    let is : next before ≡ effect c.in-Some.inst.op c.in-Some.inst before =
+    found before c.in-Ok.word c.in-Some.inst
+    (subst (λ (h : Hart). h.pc + 4 ≤ length contents) c.self.view_is fetched.0)
+    (subst (λ (h : Hart). c.in-Ok.word ≡ number_at contents h.pc Four) c.self.view_is fetched.1)
+    (sym c.decode.ensures.row ∙ c.in-Some.is) in
+    subst (λ (r : Result After Cause). IsSinkStop c.execute.result r) (sym is)
+    (subst
+    (λ (m : List ℕ). IsSinkStop c.execute.result (effect c.in-Some.inst.op c.in-Some.inst (record { hart = c.args.self.now; calls = c.args.calls.now; memory = m })))
+    (c.fetch.ensures.contents none there)
+    (c.execute.ensures.sink_stop (going_from_fetch _ c.in-Ok.word (c.in-Ok.ensures.mem none)) sound going))

@@ -1,0 +1,35 @@
+-- Rows of the instruction table that print nothing.
+use Rattle.std.proofs.Common.{◌≡◌, ℕ, List, [], sym, refl, Result, Ok, nat_lt, nat_le, not, inl, inr, lt-ltb, le-ltb}
+use Rattle.std.proofs.lemmas.Bool.{cases_lt, le-leb, lt-leb}
+use Rattle.sec_base.specs.declared.answers.Cause.{Cause}
+use Rattle.sec_base.specs.Writing.{SinkState, Gains}
+use Rattle.sec_base.proofs.Writes.{gained-nil}
+use Rattle.rv32_core.specs.declared.hart.Step.{Step}
+use Rattle.rv32_core.specs.declared.hart.Step.TheVariants.{Retired}
+use Rattle.rv32_core.specs.declared.hart.StepStop.{StepStop}
+use Rattle.rv32_core.specs.State.{State, Hart, written_hart, with_hart}
+use Rattle.rv32_core.specs.After.{After, quietly, written}
+use Rattle.rv32_core.specs.Outcome.{IsOutcome}
+
+-- what holds under two premises, with nothing printed
+abbrev pub IsQuiet : Type 0 → Type 0 → SinkState → Result After Cause → Result Step StepStop → State → State → Type 0
+IsQuiet None Sound sink next result old new =
+    (printed : List ℕ) × Gains sink printed sink × (None → Sound → IsOutcome next result old new printed)
+
+-- a computation
+pub computed : {None Sound : Type 0} (sink : SinkState) (next : Result After Cause) (result : Result Step StepStop) (state : State) (hart : Hart) (number value : ℕ) →
+    result ≡ Ok Retired → hart ≡ written_hart state.hart number value → next ≡ Ok (quietly (written state number value)) →
+    IsQuiet None Sound sink next result state (with_hart state hart)
+computed sink next result state hart number value retired is made = (
+  [],
+  sym (gained-nil sink.written),
+  λ none sound. rw (retired, is) made,
+)
+
+-- not below
+pub not_below : (a b : ℕ) → nat_le b a ≡ not (nat_lt a b)
+not_below a b =
+    elim (cases_lt a b) [
+      | inl less ↦ rw (lt-ltb a b less, lt-leb b a less) refl
+      | inr more ↦ rw (le-ltb a b more, le-leb b a more) refl
+    ]

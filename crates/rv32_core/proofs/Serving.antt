@@ -1,0 +1,97 @@
+-- What the services make of a state.
+use Rattle.std.proofs.Common.{◌≡◌, ◌≢◌, ◌+◌, ◌-◌, ℕ, Bool, true, false, List, [], ◌∷◌, length, take, drop, refl, sym, ◌∙◌, ap, inr, subst, arith, None, Some, Result, Ok, Err, cond, ne_eqb}
+use Rattle.std.specs.Result.{OnOk}
+use Rattle.std.proofs.lemmas.List.{length-take, take_min}
+use Rattle.sec_base.specs.declared.answers.Cause.{Cause}
+use Rattle.rv32_core.specs.declared.hart.Step.{Step}
+use Rattle.rv32_core.specs.declared.hart.Step.TheVariants.{Retired}
+use Rattle.rv32_core.specs.declared.hart.StepStop.{StepStop}
+use Rattle.rv32_core.specs.State.{State, Hart, CallState, written_hart, with_bytes}
+use Rattle.rv32_core.specs.After.{After, quietly, passed}
+use Rattle.rv32_core.specs.Services.{service, read_service, write_service, exit_service, brk_service, reads, answered, at_position, next_input, is_output, is_input, is_inside, a0, a1, a2, a7}
+use Rattle.rv32_core.specs.Touch.{Range, HasLinesOf, HasLinesOfAll, service_touches, read_touches, write_touches}
+use Rattle.rv32_core.specs.Outcome.{IsOutcome, IsHalfDone, input_taken}
+
+-- The service that a number names
+
+pub service_of_read : (state : State) → a7 state ≡ 63 → service state ≡ read_service state
+unfolding service
+service_of_read state number = rw number refl
+
+pub service_of_other : (state : State) → a7 state ≢ 63 → a7 state ≢ 64 → a7 state ≢ 93 → a7 state ≢ 214 →
+    service state ≡ quietly (answered state 4294967258)
+unfolding service
+service_of_other state read write exit brk =
+    rw (ne_eqb _ _ read, ne_eqb _ _ write, ne_eqb _ _ exit, ne_eqb _ _ brk) refl
+
+pub touches_of_write : (state : State) → a7 state ≡ 64 → service_touches state ≡ write_touches state
+touches_of_write state number = rw number refl
+
+-- Refusals
+
+pub write_elsewhere : (state : State) → is_output (a0 state) ≡ false → write_service state ≡ quietly (answered state 4294967287)
+write_elsewhere state elsewhere = rw elsewhere refl
+
+pub write_outside : (state : State) → is_output (a0 state) ≡ true → is_inside (a1 state) (a2 state) (length state.memory) ≡ false →
+    write_service state ≡ quietly (answered state 4294967282)
+write_outside state output outside = rw (output, outside) refl
+
+-- the range of a1 and a2, as it was tested
+pub inside_as : (state : State) (from count size : ℕ) (answer : Bool) → from ≡ a1 state → count ≡ a2 state → size ≡ length state.memory → is_inside from count size ≡ answer →
+    is_inside (a1 state) (a2 state) (length state.memory) ≡ answer
+inside_as state from count size answer e f s h = rw (sym e, sym f, sym s) h
+
+-- An answer in a0 and nothing else
+pub answer_outcome : (after : After) (result : Result Step StepStop) (state : State) (hart : Hart) (value : ℕ) → result ≡ Ok Retired → hart ≡ written_hart state.hart 10 value → after ≡ quietly (answered state value) →
+    IsOutcome (Ok after) result state (record { hart = hart; calls = state.calls; memory = state.memory }) []
+answer_outcome after result state hart value retired is made =
+    rw retired (ap (λ (a : After). Ok a) made ∙ ap (λ (h : Hart). Ok (quietly (record { hart = h; calls = state.calls; memory = state.memory }))) (sym is))
+
+-- Reading
+
+read_inside : (state : State) → a0 state ≡ 0 → is_inside (a1 state) (a2 state) (length state.memory) ≡ true →
+    read_service state ≡ reads state (next_input state.calls (a2 state))
+read_inside state input inside = rw (input, inside) refl
+
+taken_again : (count : ℕ) (input : List ℕ) → take (length (take count input)) input ≡ take count input
+taken_again count input = ap (λ (n : ℕ). take n input) (length-take count input) ∙ take_min count input
+
+-- a stop left a part of it stored
+pub read_in_part : (state : State) (memory bytes : List ℕ) (from count : ℕ) → from ≡ a1 state → a0 state ≡ 0 → is_inside (a1 state) (a2 state) (length state.memory) ≡ true → bytes ≡ next_input state.calls (a2 state) → memory ≡ with_bytes state.memory from (take count bytes) →
+    IsHalfDone (Ok (read_service state)) state memory
+read_in_part state memory bytes from count at input inside is stores =
+    let next = next_input state.calls (a2 state) in
+    let position = state.calls.position in
+    let some : position + length next - position ≡ length next = omega arith in
+    let taken : input_taken state.calls (reads state next).state.calls ≡ next =
+    ap (λ (n : ℕ). next_input state.calls n) some ∙ taken_again (a2 state) (drop position state.calls.input) in
+    let part : memory ≡ with_bytes state.memory (a1 state) (take count (input_taken state.calls (reads state next).state.calls)) =
+    stores ∙ ap (λ (n : ℕ). with_bytes state.memory n (take count bytes)) at
+    ∙ ap (λ (xs : List ℕ). with_bytes state.memory (a1 state) (take count xs)) (is ∙ sym taken) in
+    subst (λ (a : After). IsHalfDone (Ok a) state memory) (sym (read_inside state input inside)) (inr (inr (count, part)))
+
+-- What a service touches
+
+pub lines_of_write : (lines : List ℕ) (state : State) (from count : ℕ) → from ≡ a1 state → count ≡ a2 state → HasLinesOf lines (record { from = from; count = count }) → HasLinesOfAll lines (write_touches state)
+lines_of_write lines state from count e f got = chosen _
+  where
+    h : HasLinesOf lines (record { from = a1 state; count = a2 state })
+    h = rw (sym e, sym f) got
+    chosen : (b : Bool) → HasLinesOfAll lines (cond b (record { from = a1 state; count = a2 state } ∷ []) [])
+    chosen true = (h, tt)
+    chosen false = tt
+
+pub lines_of_read : (lines : List ℕ) (state : State) (from : ℕ) (bytes : List ℕ) → from ≡ a1 state → bytes ≡ next_input state.calls (a2 state) → HasLinesOf lines (record { from = from; count = length bytes }) → HasLinesOfAll lines (read_touches state)
+lines_of_read lines state from bytes e is got = chosen _
+  where
+    range : Range
+    range = record { from = a1 state; count = length (next_input state.calls (a2 state)) }
+    h : HasLinesOf lines range
+    h = rw (sym e, sym is) got
+    chosen : (b : Bool) → HasLinesOfAll lines (cond b (range ∷ []) [])
+    chosen true = (h, tt)
+    chosen false = tt
+
+pub on_any : {A E : Type 0} {P : Type 0} → (r : Result A E) → P → OnOk r P
+on_any (Ok x) h = h
+on_any (Err e) h = tt

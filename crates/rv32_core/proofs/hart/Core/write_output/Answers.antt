@@ -1,0 +1,38 @@
+use Rattle.std.proofs.Common.{◌≡◌, false, true, [], length, sym, ◌∙◌, ap}
+use Rattle.sec_base.proofs.Writes.{gained-nil}
+use Rattle.rv32_core.specs.State.{State}
+use Rattle.rv32_core.specs.Services.{is_output, is_inside, a0, a1, a2}
+use Rattle.rv32_core.proofs.Serving.{answer_outcome, inside_as, write_elsewhere, write_outside, lines_of_write, on_any}
+use Rattle.rv32_core.proofs.hart.Core.write_output.Goals as goal
+
+pub returns-then-not-names_output-clause-outcome : goal.returns-then-not-names_output-clause-outcome
+returns-then-not-names_output-clause-outcome g c = (
+  [],
+  sym (gained-nil _),
+  λ none sound calls.
+      let before : State = record { hart = c.args.self.now; calls = calls; memory = g.M.Ram.contents c.args.ram.now } in
+      let elsewhere : is_output (a0 before) ≡ false = ap is_output (sym c.reg.ensures) ∙ sym c.names_output.ensures ∙ c.if-not-names_output.true in
+      answer_outcome _ c.retire.result before _ 4294967287 c.retire.ensures.retired c.retire.ensures.hart (write_elsewhere before elsewhere),
+)
+
+pub returns-then-not-reaches_inside-clause-outcome : goal.returns-then-not-reaches_inside-clause-outcome
+returns-then-not-reaches_inside-clause-outcome g c = (
+  [],
+  sym (gained-nil _),
+  λ none sound calls.
+      let before : State = record { hart = c.args.self.now; calls = calls; memory = g.M.Ram.contents c.args.ram.now } in
+      let output : is_output (a0 before) ≡ true = ap is_output (sym c.reg.ensures) ∙ sym c.names_output.ensures ∙ c.if-not-names_output.false in
+      let outside : is_inside (a1 before) (a2 before) (length before.memory) ≡ false =
+      inside_as before c.reg-from.result c.reg-count.result c.size.result false c.reg-from.ensures c.reg-count.ensures (c.size.ensures ∙ sym (g.met.M.Ram.sized c.args.ram.now)) (sym c.reaches_inside.ensures ∙ c.if-not-reaches_inside.true) in
+      answer_outcome _ c.retire-then-not-reaches_inside.result before _ 4294967282 c.retire-then-not-reaches_inside.ensures.retired c.retire-then-not-reaches_inside.ensures.hart (write_outside before output outside),
+)
+
+pub returns-in-Ok-clause-moved : goal.returns-in-Ok-clause-moved
+returns-in-Ok-clause-moved g c =
+    let moved = c.in-Ok.ensures.moved in (
+      moved.0,
+      moved.1,
+      λ none sound calls.
+          let before : State = record { hart = c.args.self.now; calls = calls; memory = g.M.Ram.contents c.args.ram.now } in
+          on_any c.retire-in-Ok.result (lines_of_write moved.0 before c.reg-from.result c.reg-count.result c.reg-from.ensures c.reg-count.ensures moved.2),
+    )

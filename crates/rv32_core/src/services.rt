@@ -1,0 +1,194 @@
+// The services of ECALL.
+ghost use Rattle.std.specs.Prelude.{◌≡◌, ◌≢◌, ◌≤◌, ℕ, List, [], None, Ok, Err, OnErr, OnOk};
+ghost use Rattle.sec_base.specs.Count.{Rose};
+ghost use Rattle.sec_base.specs.Writing.{Gains};
+ghost use Rattle.rv32_core.specs.State.{CallState, register, next_hart};
+ghost use Rattle.rv32_core.specs.Services.{service, read_service, write_service, brk_service, is_inside, is_output};
+ghost use Rattle.rv32_core.specs.Touch.{service_touches, read_touches, write_touches, HasLinesOfAll};
+ghost use Rattle.rv32_core.specs.declared.hart.Step.TheVariants.{Retired, Halted};
+ghost use Rattle.rv32_core.specs.declared.hart.StepStop.TheVariants.{WriteFault};
+ghost use Rattle.rv32_core.specs.Outcome.{IsOutcome, CarriesStop, IsSinkStop, OnlyTraps};
+
+use crate::calls::Calls;
+use crate::hart::{Core, Step, StepStop};
+use crate::input::store_bytes;
+use crate::print::print;
+use sec_base::{Ram, Sink};
+
+// The services, and their negative answers.
+const READ: u32 = 63;
+
+const WRITE: u32 = 64;
+
+const EXIT: u32 = 93;
+
+const BRK: u32 = 214;
+
+const BAD_DESCRIPTOR: u32 = u32::MAX - 8;
+
+const BAD_ADDRESS: u32 = u32::MAX - 13;
+
+const NO_SUCH_SERVICE: u32 = u32::MAX - 37;
+
+impl Core {
+    // Does the service that a7 names.
+    #[tactic(auto, unfolding(crate::specs::Services::service))]
+    pub(crate) fn serve<M: Ram, S: Sink>(
+        &mut self,
+        ram: &mut M,
+        calls: &mut Calls,
+        out: &mut S,
+    ) -> Result<Step, StepStop>
+        ensures outcome { (printed : List ℕ) × Gains (S.state out.old) printed (S.state out.new)
+            × (M.stopped ram.old ≡ None → M.sound ram.new → IsOutcome
+            (Ok (service (record { hart = self.old; calls = calls.old; memory = M.contents ram.old })))
+            result
+            (record { hart = self.old; calls = calls.old; memory = M.contents ram.old })
+            (record { hart = self.new; calls = calls.new; memory = M.contents ram.new })
+            printed) }
+        ensures stays { OnErr result ((self.new ≡ self.old) × (calls.new ≡ calls.old)) }
+
+        ensures mem { M.stopped ram.old ≡ None → CarriesStop (M.stopped ram.new) result }
+        ensures sink_stop { M.stopped ram.old ≡ None → M.sound ram.new → M.stopped ram.new ≡ None → IsSinkStop result
+            (Ok (service (record { hart = self.old; calls = calls.old; memory = M.contents ram.old }))) }
+        ensures write_fault { result ≡ Err WriteFault → Rose (S.state out.old).faults (S.state out.new).faults }
+        ensures faults { (S.state out.old).faults ≤ (S.state out.new).faults }
+
+        ensures extent { M.extent ram.new ≡ M.extent ram.old }
+        ensures lost { M.sound ram.new → M.sound ram.old }
+        ensures moved { (lines : List ℕ) × M.moved ram.old lines ram.new
+            × (M.stopped ram.old ≡ None → M.sound ram.new → OnOk result (HasLinesOfAll lines
+            (service_touches (record { hart = self.old; calls = calls.old; memory = M.contents ram.old })))) }
+    {
+        let number = self.reg(17);
+        if number == READ {
+            return self.read_input(ram, calls);
+        }
+        if number == WRITE {
+            return self.write_output(ram, out);
+        }
+        if number == EXIT {
+            return self.exit();
+        }
+        if number == BRK {
+            return self.move_break(ram, calls);
+        }
+        self.retire(10, NO_SUCH_SERVICE)
+    }
+
+    // The next a2 bytes of the input, or what is left of it, are stored from a1 on.
+    fn read_input<M: Ram>(&mut self, ram: &mut M, calls: &mut Calls) -> Result<Step, StepStop>
+        ensures outcome { M.stopped ram.old ≡ None → M.sound ram.new → IsOutcome
+            (Ok (read_service (record { hart = self.old; calls = calls.old; memory = M.contents ram.old })))
+            result
+            (record { hart = self.old; calls = calls.old; memory = M.contents ram.old })
+            (record { hart = self.new; calls = calls.new; memory = M.contents ram.new })
+            [] }
+        ensures stays { OnErr result ((self.new ≡ self.old) × (calls.new ≡ calls.old)) }
+
+        ensures mem { M.stopped ram.old ≡ None → CarriesStop (M.stopped ram.new) result }
+        ensures only_traps { M.stopped ram.old ≡ None → M.stopped ram.new ≡ None → OnlyTraps result }
+        ensures write_fault { result ≢ Err WriteFault }
+
+        ensures extent { M.extent ram.new ≡ M.extent ram.old }
+        ensures lost { M.sound ram.new → M.sound ram.old }
+        ensures moved { (lines : List ℕ) × M.moved ram.old lines ram.new
+            × (M.stopped ram.old ≡ None → M.sound ram.new → OnOk result (HasLinesOfAll lines
+            (read_touches (record { hart = self.old; calls = calls.old; memory = M.contents ram.old })))) }
+    {
+        let from = self.reg(11);
+        let count = self.reg(12);
+        if self.reg(10) != 0 {
+            return self.retire(10, BAD_DESCRIPTOR);
+        }
+        if !reaches_inside(from, count, ram.size()) {
+            return self.retire(10, BAD_ADDRESS);
+        }
+        let bytes = calls.next_bytes(count);
+        let taken = bytes.len();
+        match store_bytes(ram, from, bytes) {
+            Ok(()) => {
+                calls.advance(taken);
+                self.retire(10, taken as u32)
+            }
+            Err(stop) => Err(StepStop::Mem(stop)),
+        }
+    }
+
+    // Prints the a2 bytes from a1 on to the descriptor in a0.
+    fn write_output<M: Ram, S: Sink>(&mut self, ram: &mut M, out: &mut S) -> Result<Step, StepStop>
+        ensures outcome { (printed : List ℕ) × Gains (S.state out.old) printed (S.state out.new)
+            × (M.stopped ram.old ≡ None → M.sound ram.new → (calls : CallState) → IsOutcome
+            (Ok (write_service (record { hart = self.old; calls = calls; memory = M.contents ram.old })))
+            result
+            (record { hart = self.old; calls = calls; memory = M.contents ram.old })
+            (record { hart = self.new; calls = calls; memory = M.contents ram.new })
+            printed) }
+        ensures stays { OnErr result (self.new ≡ self.old) }
+
+        ensures mem { M.stopped ram.old ≡ None → CarriesStop (M.stopped ram.new) result }
+        ensures sink_stop { M.stopped ram.old ≡ None → M.sound ram.new → M.stopped ram.new ≡ None → (calls : CallState) →
+            IsSinkStop result (Ok (write_service (record { hart = self.old; calls = calls; memory = M.contents ram.old }))) }
+        ensures write_fault { result ≡ Err WriteFault → Rose (S.state out.old).faults (S.state out.new).faults }
+        ensures faults { (S.state out.old).faults ≤ (S.state out.new).faults }
+
+        ensures extent { M.extent ram.new ≡ M.extent ram.old }
+        ensures lost { M.sound ram.new → M.sound ram.old }
+        ensures moved { (lines : List ℕ) × M.moved ram.old lines ram.new
+            × (M.stopped ram.old ≡ None → M.sound ram.new → (calls : CallState) → OnOk result (HasLinesOfAll lines
+            (write_touches (record { hart = self.old; calls = calls; memory = M.contents ram.old })))) }
+    {
+        let from = self.reg(11);
+        let count = self.reg(12);
+        if !names_output(self.reg(10)) {
+            return self.retire(10, BAD_DESCRIPTOR);
+        }
+        if !reaches_inside(from, count, ram.size()) {
+            return self.retire(10, BAD_ADDRESS);
+        }
+        match print(ram, out, from, count) {
+            Ok(()) => self.retire(10, count),
+            Err(stop) => Err(stop),
+        }
+    }
+
+    // Ends the program with the code in a0.
+    fn exit(&mut self) -> Result<Step, StepStop>
+        ensures hart { self.new ≡ next_hart self.old }
+        ensures halted { result ≡ Ok (Halted (register self.old 10)) }
+    {
+        let code = self.reg(10);
+        match self.pass() {
+            Ok(_) => Ok(Step::Halted(code)),
+            Err(stop) => Err(stop),
+        }
+    }
+
+    // Moves the program's break to the address in a0, where it may stand there.
+    fn move_break<M: Ram>(&mut self, ram: &M, calls: &mut Calls) -> Result<Step, StepStop>
+        ensures outcome { IsOutcome
+            (Ok (brk_service (record { hart = self.old; calls = calls.old; memory = M.contents ram.now })))
+            result
+            (record { hart = self.old; calls = calls.old; memory = M.contents ram.now })
+            (record { hart = self.new; calls = calls.new; memory = M.contents ram.now })
+            [] }
+        ensures retired { result ≡ Ok Retired }
+    {
+        let brk = calls.move_break(self.reg(10), ram.size());
+        self.retire(10, brk)
+    }
+}
+
+// Whether a range lies inside a memory of this size; one of no bytes always does.
+fn reaches_inside(address: u32, count: u32, size: u32) -> bool
+    ensures { result ≡ is_inside address count size }
+{
+    count == 0 || u64::from(address) + u64::from(count) <= u64::from(size)
+}
+
+// Whether a descriptor is the output's.
+fn names_output(descriptor: u32) -> bool
+    ensures { result ≡ is_output descriptor }
+{
+    descriptor == 1 || descriptor == 2
+}
