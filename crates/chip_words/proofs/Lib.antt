@@ -1,3 +1,4 @@
-pub mod Numbers
 pub mod Walks
+pub mod Fits
+pub mod Commands
 pub mod Requests

@@ -9,7 +9,7 @@ use Rattle.clap.specs.ValueTests.{is_unsigned_in}
 use Rattle.clap.specs.Kinds.{FailsBy, HasKind, Kinds, check_kinds, or_else}
 use Rattle.clap.specs.Walk.{Held, Names, Row, Text, Walk, finished, first_of, is_empty, nothing_held, settled, stop_after, walk, walk_from}
 use Rattle.clap.specs.Simple.{App, HasMatchesOf, Shape, argument_words, built, entered, is_simple, names_of, subcommand_of, subcommand_rows_of}
-use Rattle.clap.specs.Faults.{check_fault, defaults_fault, fault_of, is_simple_and_free, level_fault, settle_fault, walk_fault}
+use Rattle.clap.specs.Faults.{check_fault, defaults_fault, entered_fault, fault_of, is_simple_and_free, level_fault, settle_fault, walk_fault}
 use Rattle.clap.specs.declared.error.Error.{Error}
 use Rattle.clap.specs.declared.error.kind.ErrorKind.TheVariants.{OutOfMemory}
 use Rattle.clap.specs.declared.parser.matches.ArgMatches.{ArgMatches}
@@ -18,10 +18,12 @@ use Rattle.clap.proofs.OnLiterals.{clap_on_literals}
 use Rattle.clap.proofs.SimpleLemmas.{is_nil}
 use Rattle.clap.proofs.ValueTestLemmas.{accepts-Accepts}
 use Rattle.chip_words.specs.App.{chip_app}
-use Rattle.chip_words.specs.Request.{Asked, asked_in, execution_of, levels_asked, levels_of, listing_of, number_in, request_of, to_list, to_run, to_run_plain}
+use Rattle.chip_words.specs.Request.{Asked, asked_in, execution_of, levels_asked, levels_of, listing_of, request_of, to_list, to_run, to_run_plain}
 use Rattle.chip_words.specs.Words.{IfUsage}
 use Rattle.chip_words.specs.declared.request.WordsError.{WordsError}
 use Rattle.chip_words.specs.declared.request.WordsError.TheVariants.{Usage, NoMemory}
+use Rattle.chip_words.specs.Commands.{IfCommand}
+use Rattle.chip_words.proofs.Commands.{command_has}
 use Rattle.chip_words.proofs.Walks.{IsNoHelp, both_empty, walk_keeps}
 
 -- ---- a level without a fault
@@ -39,7 +41,7 @@ check_has s rows false needs e = absurd (no_kinds _ _ _ needs e)
 
 level_parts : (s : Shape) (names : Names) (h : Held) (words : List Text) (has : Bool) (below : Kinds)
     → s.subcommand_required ≡ true → level_fault s names h words has below ≡ []
-    → (walk_fault s names (walk_from h) words ≡ []) × (has ≡ true)
+    → (walk_fault s names (walk_from h) words ≡ []) × (below ≡ []) × (has ≡ true)
 level_parts s names h words has below needs e =
     let end = (walk s.rules names h words).held in
     let checked = check_fault s (finished s.rules end) has in
@@ -49,7 +51,7 @@ level_parts s names h words has below needs e =
     let second = both_empty below ended first.1 in
     let third = both_empty (settle_fault s.rules s.args_override_self end) defaulted second.1 in
     let fourth = both_empty (defaults_fault (settled s.rules end).rows s.rules) checked third.1 in
-    (first.0, check_has s (finished s.rules end) has needs fourth.1)
+    (first.0, second.0, check_has s (finished s.rules end) has needs fourth.1)
 
 -- ---- the command that was met
 
@@ -71,14 +73,16 @@ named (Some p) free some = go (bytes_eq (codes "run") p.0) refl (bytes_eq (codes
     go false x false y false z true u = absurd (let bad = rw (help_is u) at free in cc)
     go false x false y false z false u = absurd (let bad = rw (x, y, z, u) at some in cc)
 
--- words without a fault ask for something
-pub asks : (words : List Text) → fault_of chip_app words ≡ [] → is_some (asked_in (subcommand_of chip_app words)) ≡ true
+-- words without a fault ask for something, and their command has its values
+asks : (words : List Text) → fault_of chip_app words ≡ []
+    → (is_some (asked_in (subcommand_of chip_app words)) ≡ true) × IfCommand (subcommand_of chip_app words)
 asks words e =
     let a = built chip_app in
     let taken = argument_words chip_app words in
-    let parts = level_parts a.top (names_of a) nothing_held taken _ _ refl e in
-    named (stop_after a.top.rules (names_of a) taken)
-    (walk_keeps a.top (names_of a) taken (walk_from nothing_held) refl tt parts.0) parts.1
+    let stop = stop_after a.top.rules (names_of a) taken in
+    let parts = level_parts a.top (names_of a) nothing_held taken (is_some (entered a stop)) (entered_fault a stop) refl e in
+    let free = walk_keeps a.top (names_of a) taken (walk_from nothing_held) refl tt parts.0 in
+    (named stop free parts.2, command_has stop free parts.1)
 
 -- ---- requests and parses
 
@@ -102,7 +106,7 @@ request_of-taken words e = ap (λ (kinds : Kinds). if is_empty kinds then asked_
 
 -- words ask for something just where they have no fault
 pub request_is_there : (words : List Text) → IsSome (request_of words) ↔ (fault_of chip_app words ≡ [])
-request_is_there words = (go (is_empty (fault_of chip_app words)) refl, λ e. ap is_some (request_of-taken words e) ∙ asks words e)
+request_is_there words = (go (is_empty (fault_of chip_app words)) refl, λ e. ap is_some (request_of-taken words e) ∙ (asks words e).0)
   where
     go : (b : Bool) → is_empty (fault_of chip_app words) ≡ b → IsSome (request_of words) → fault_of chip_app words ≡ []
     go true is some = is_nil (fault_of chip_app words) is
@@ -111,11 +115,12 @@ request_is_there words = (go (is_empty (fault_of chip_app words)) refl, λ e. ap
 -- a parse of the words has found what they ask for
 pub parse_asks : (a : App) (words : List Text) (m : ArgMatches) → a ≡ chip_app → HasMatchesOf a words m
     → (is_simple_and_free a ≡ true → FailsBy {T = ArgMatches} (fault_of a words) (Ok m))
-    → (request_of words ≡ asked_in (subcommand_rows_of m)) × (is_some (asked_in (subcommand_rows_of m)) ≡ true)
+    → (request_of words ≡ asked_in (subcommand_rows_of m)) × (is_some (asked_in (subcommand_rows_of m)) ≡ true) × IfCommand (subcommand_rows_of m)
 parse_asks a words m is matches fails =
     let none : fault_of chip_app words ≡ [] = subst (λ (x : App). is_simple_and_free x ≡ true → fault_of x words ≡ []) is fails chip_is_free in
     let rows : subcommand_rows_of m ≡ subcommand_of chip_app words = (subst (λ (x : App). HasMatchesOf x words m) is matches chip_is_simple).1 in
-    (request_of-taken words none ∙ ap asked_in (sym rows), ap (λ o. is_some (asked_in o)) rows ∙ asks words none)
+    let found = asks words none in
+    (request_of-taken words none ∙ ap asked_in (sym rows), ap (λ o. is_some (asked_in o)) rows ∙ found.0, subst IfCommand (sym rows) found.1)
 
 -- words that a parse refuses, and not for want of memory, ask for nothing
 pub refusal_asks : (a : App) (words : List Text) (e : Error) → a ≡ chip_app
@@ -128,29 +133,13 @@ refusal_asks a words e is fails kept =
 
 -- ---- levels
 
-number_in-bounds : (least most otherwise : ℕ) (text : Text) → least ≤ otherwise → otherwise ≤ most
-    → (least ≤ number_in least most otherwise text) × (number_in least most otherwise text ≤ most)
-number_in-bounds least most otherwise text low high = go (is_unsigned_in least most text) refl
-  where
-    go : (b : Bool) → is_unsigned_in least most text ≡ b
-        → (least ≤ number_in least most otherwise text) × (number_in least most otherwise text ≤ most)
-    go true is = let within = accepts-Accepts false (Unsigned least most) text is in (rw is within.2, rw is within.3)
-    go false is = (rw is low, rw is high)
-
 abbrev HasLevels : ℕ → Type 0
 HasLevels n = (1 ≤ n) × (n ≤ 6)
 
-levels_in : (values : List Row) → HasLevels (levels_of values)
-levels_in values = go (first_of (codes "levels") values)
-  where
-    go : (o : Option Text) → HasLevels (option_map_or (number_in 1 6 4) o 4)
-    go None = (omega arith, omega arith)
-    go (Some text) = number_in-bounds 1 6 4 text (omega arith) (omega arith)
-
--- a request has from 1 to 6 levels
-pub levels_asked-bounds : (o : Option (Text × List Row)) (r : Asked) → asked_in o ≡ Some r → (1 ≤ levels_asked r) × (levels_asked r ≤ 6)
-levels_asked-bounds None r e = absurd cc
-levels_asked-bounds (Some p) r e =
+-- a command asks for 1 to 6 levels
+pub levels_asked-bounds : (o : Option (Text × List Row)) (r : Asked) → IfCommand o → asked_in o ≡ Some r → (1 ≤ levels_asked r) × (levels_asked r ≤ 6)
+levels_asked-bounds None r has e = absurd cc
+levels_asked-bounds (Some p) r has e =
     go (bytes_eq p.0 (codes "run")) refl (bytes_eq p.0 (codes "plain")) refl (bytes_eq p.0 (codes "dis")) refl
   where
     at : (x : Asked) → HasLevels (levels_asked x) → Some x ≡ Some r → HasLevels (levels_asked r)
@@ -158,17 +147,16 @@ levels_asked-bounds (Some p) r e =
 
     go : (a : Bool) → bytes_eq p.0 (codes "run") ≡ a → (b : Bool) → bytes_eq p.0 (codes "plain") ≡ b
         → (c : Bool) → bytes_eq p.0 (codes "dis") ≡ c → HasLevels (levels_asked r)
-    go true x b y c z = at (to_run (execution_of p.1)) (levels_in p.1) (rw x at e)
-    go false x true y c z = at (to_run_plain (execution_of p.1)) (levels_in p.1) (rw (x, y) at e)
-    go false x false y true z = at (to_list (listing_of p.1)) (levels_in p.1) (rw (x, y, z) at e)
+    go true x b y c z = at (to_run (execution_of p.1)) has.listing.bounds (rw x at e)
+    go false x true y c z = at (to_run_plain (execution_of p.1)) has.listing.bounds (rw (x, y) at e)
+    go false x false y true z = at (to_list (listing_of p.1)) has.listing.bounds (rw (x, y, z) at e)
     go false x false y false z = absurd (let bad : None ≡ Some r = rw (x, y, z) at e in cc)
 
+-- and so does a request
 pub request_of-levels : (words : List Text) (r : Asked) → request_of words ≡ Some r → (1 ≤ levels_asked r) × (levels_asked r ≤ 6)
-request_of-levels words r e = go (is_empty (fault_of chip_app words)) refl
-  where
-    go : (b : Bool) → is_empty (fault_of chip_app words) ≡ b → HasLevels (levels_asked r)
-    go true is = levels_asked-bounds (subcommand_of chip_app words) r (rw is at e)
-    go false is = absurd (let bad : None ≡ Some r = rw is at e in cc)
+request_of-levels words r e =
+    let none = (request_is_there words).0 (ap is_some e) in
+    levels_asked-bounds (subcommand_of chip_app words) r (asks words none).1 (sym (request_of-taken words none) ∙ e)
 
 -- ---- errors
 

@@ -1,3 +1,4 @@
 pub mod App
 pub mod Request
+pub mod Commands
 pub mod Words

@@ -1,11 +1,8 @@
 -- What a list of words asks for: what `clap`'s definition of the command line gives for them.
-use Rattle.std.specs.Prelude.{◌-◌, ◌^◌, ℕ, Bool, false, List, [], ◌∷◌, map, Option, Some, None, option_map, option_and_then, unwrap_or, codes, if◌then◌else◌}
-use Rattle.std.specs.Borrow.{Bor}
-use Rattle.std.specs.Option.{option_map_or}
+use Rattle.std.specs.Prelude.{ℕ, Bool, List, [], ◌∷◌, Option, Some, None, option_and_then, unwrap_or, codes, if◌then◌else◌}
 use Rattle.std.specs.Str.{bytes_eq}
 use Rattle.std.specs.Str.Parse.{digits_value, without_leading_plus}
 use Rattle.clap.specs.Walk.{Row, Text, first_of, is_empty}
-use Rattle.clap.specs.ValueTests.{is_unsigned_in}
 use Rattle.clap.specs.Simple.{subcommand_of}
 use Rattle.clap.specs.Faults.{fault_of}
 use Rattle.chip_words.specs.App.{chip_app}
@@ -31,25 +28,28 @@ pub data Asked : Type 0 where
 
 -- ---- the values of a command
 
--- the number that the text spells, which lies from `least` to `most`
-abbrev pub number_in : ℕ → ℕ → ℕ → Text → ℕ
-number_in least most otherwise text =
-    if is_unsigned_in least most text then digits_value 10 (without_leading_plus text) else otherwise
+-- the first value of the argument of this name
+abbrev pub value_of : Text → List Row → Text
+value_of id values = unwrap_or (first_of id values) []
+
+-- the number that the digits write, where a plus may stand before them
+abbrev pub number_of : Text → ℕ
+number_of text = digits_value 10 (without_leading_plus text)
 
 abbrev pub file_of : List Row → Text
-file_of values = unwrap_or (first_of (codes "file") values) []
+file_of values = value_of (codes "file") values
 
 abbrev pub flat_of : List Row → Bool
-flat_of values = option_map_or (λ text. bytes_eq text (codes "true")) (first_of (codes "flat") values) false
+flat_of values = bytes_eq (value_of (codes "flat") values) (codes "true")
 
 abbrev pub input_of : List Row → Option Text
 input_of values = first_of (codes "input") values
 
 abbrev pub levels_of : List Row → ℕ
-levels_of values = option_map_or (number_in 1 6 4) (first_of (codes "levels") values) 4
+levels_of values = number_of (value_of (codes "levels") values)
 
 abbrev pub steps_of : List Row → ℕ
-steps_of values = option_map_or (number_in 0 (2 ^ 64 - 1) 10000000) (first_of (codes "steps") values) 10000000
+steps_of values = number_of (value_of (codes "steps") values)
 
 abbrev pub execution_of : List Row → ExecutionAsked
 execution_of values = record {

@@ -1,9 +1,11 @@
 // What a command is asked for, by its values.
-ghost use Rattle.std.specs.Prelude.{◌≡◌, true, is_some, option_map};
+ghost use Rattle.std.specs.Prelude.{◌≡◌, IsSome, Some, option_map};
 ghost use Rattle.clap.specs.Walk.{first_of, rows_of};
 ghost use Rattle.clap.specs.Words.{found_of, subcommand_rows_of};
 ghost use Rattle.chip_words.specs.Request.{asked_in, execution_of, file_of, flat_of, input_of};
-ghost use Rattle.chip_words.specs.Request.{levels_of, listing_of, number_in, steps_of};
+ghost use Rattle.chip_words.specs.Request.{levels_of, listing_of, number_of, steps_of, value_of};
+ghost use Rattle.chip_words.specs.Commands.{HasExecution, HasListing, HasNumber, HasValue};
+ghost use Rattle.chip_words.specs.Commands.{IfCommand};
 ghost use Rattle.chip_words.specs.Words.{asked, execution, listing};
 
 use crate::request::{Execution, Listing, Request};
@@ -11,7 +13,8 @@ use clap::ArgMatches;
 
 // What the command that was met asks for.
 pub(crate) fn requested<'a>(matches: &ArgMatches<'a>) -> Request<'a>
-    requires { is_some (asked_in (subcommand_rows_of matches.now)) ≡ true }
+    requires asks { IsSome (asked_in (subcommand_rows_of matches.now)) }
+    requires values { IfCommand (subcommand_rows_of matches.now) }
     ensures { asked_in (subcommand_rows_of matches.now) ≡ Some (asked result) }
 {
     let (name, values) = matches.subcommand().unwrap();
@@ -23,33 +26,26 @@ pub(crate) fn requested<'a>(matches: &ArgMatches<'a>) -> Request<'a>
 }
 
 fn execution<'a>(values: &ArgMatches<'a>) -> Execution<'a>
+    requires { HasExecution (rows_of (found_of values.now)) }
     ensures { execution result ≡ execution_of (rows_of (found_of values.now)) }
 {
     Execution {
-        file: file(values),
+        file: value(values, "file"),
         flat: is_flat(values),
         input: text(values, "input"),
         levels: levels(values),
-        steps: steps(values),
+        steps: number(values, "steps"),
     }
 }
 
 fn listing<'a>(values: &ArgMatches<'a>) -> Listing<'a>
+    requires { HasListing (rows_of (found_of values.now)) }
     ensures { listing result ≡ listing_of (rows_of (found_of values.now)) }
 {
     Listing {
-        file: file(values),
+        file: value(values, "file"),
         flat: is_flat(values),
         levels: levels(values),
-    }
-}
-
-fn file<'a>(values: &ArgMatches<'a>) -> &'a str
-    ensures { result.now ≡ file_of (rows_of (found_of values.now)) }
-{
-    match text(values, "file") {
-        Some(name) => name,
-        None => "",
     }
 }
 
@@ -63,21 +59,24 @@ fn is_flat(values: &ArgMatches<'_>) -> bool
 }
 
 fn levels(values: &ArgMatches<'_>) -> u8
+    requires { HasListing (rows_of (found_of values.now)) }
     ensures { result ≡ levels_of (rows_of (found_of values.now)) }
 {
-    match text(values, "levels") {
-        Some(digits) => number_in(digits, 1, 6, 4) as u8,
-        None => 4,
-    }
+    number(values, "levels") as u8
 }
 
-fn steps(values: &ArgMatches<'_>) -> u64
-    ensures { result ≡ steps_of (rows_of (found_of values.now)) }
+fn number(values: &ArgMatches<'_>, id: &str) -> u64
+    requires { HasNumber id.now (rows_of (found_of values.now)) }
+    ensures { result ≡ number_of (value_of id.now (rows_of (found_of values.now))) }
 {
-    match text(values, "steps") {
-        Some(digits) => number_in(digits, 0, u64::MAX, 10000000),
-        None => 10000000,
-    }
+    value(values, id).parse::<u64>().unwrap()
+}
+
+fn value<'a>(values: &ArgMatches<'a>, id: &str) -> &'a str
+    requires { HasValue id.now (rows_of (found_of values.now)) }
+    ensures { result.now ≡ value_of id.now (rows_of (found_of values.now)) }
+{
+    text(values, id).unwrap()
 }
 
 // The first value of this id.
@@ -86,20 +85,4 @@ fn text<'a>(values: &ArgMatches<'a>, id: &str) -> Option<&'a str>
 {
     let text = values.get_str(id);
     text
-}
-
-// The number that the digits spell, where it lies within the bounds.
-fn number_in(digits: &str, least: u64, most: u64, otherwise: u64) -> u64
-    ensures { result ≡ number_in least most otherwise digits.now }
-{
-    match digits.parse::<u64>() {
-        Ok(number) => {
-            if least <= number && number <= most {
-                number
-            } else {
-                otherwise
-            }
-        }
-        Err(_) => otherwise,
-    }
 }

@@ -1,21 +1,25 @@
-use Rattle.std.proofs.Common.{◌∙◌}
 use Rattle.clap.specs.Simple.{app_of, subcommand_rows_of}
-use Rattle.chip_words.specs.Request.{request_of}
-use Rattle.chip_words.specs.Words.{asked, texts, IfUsage}
-use Rattle.chip_words.proofs.Requests.{IfUsage-weaker, levels_asked-bounds, parse_asks, refusal_asks, request_of-levels}
+use Rattle.chip_words.specs.Words.{asked, texts}
+use Rattle.chip_words.proofs.Requests.{IfUsage-weaker, levels_asked-bounds, parse_asks, refusal_asks}
 use Rattle.chip_words.proofs.read_words.Goals as goal
 
-pub requested-requires : goal.requested-requires
-requested-requires c =
+pub requested-requires-clause-asks : goal.requested-requires-clause-asks
+requested-requires-clause-asks c =
     let parse = c.in-Ok-try_get_matches_from in
     (parse_asks (app_of c.in-Ok.app) (texts c.args.words.now) parse.matches c.in-Ok.ensures parse.ensures.matches parse.ensures.kinds).1
 
+pub requested-requires-clause-values : goal.requested-requires-clause-values
+requested-requires-clause-values c =
+    let parse = c.in-Ok-try_get_matches_from in
+    (parse_asks (app_of c.in-Ok.app) (texts c.args.words.now) parse.matches c.in-Ok.ensures parse.ensures.matches parse.ensures.kinds).2
+
 pub returns-in-Ok-try_get_matches_from-clause-levels : goal.returns-in-Ok-try_get_matches_from-clause-levels
 returns-in-Ok-try_get_matches_from-clause-levels c =
-    levels_asked-bounds (subcommand_rows_of c.in-Ok-try_get_matches_from.matches) (asked c.requested.result) c.requested.ensures
+    let parse = c.in-Ok-try_get_matches_from in
+    let has = (parse_asks (app_of c.in-Ok.app) (texts c.args.words.now) parse.matches c.in-Ok.ensures parse.ensures.matches parse.ensures.kinds).2 in
+    levels_asked-bounds (subcommand_rows_of parse.matches) (asked c.requested.result) has c.requested.ensures
 
 pub returns-in-Err-try_get_matches_from-clause-refused : goal.returns-in-Err-try_get_matches_from-clause-refused
 returns-in-Err-try_get_matches_from-clause-refused c =
     let parse = c.in-Err-try_get_matches_from in
-    let x = request_of-levels in
     IfUsage-weaker c.refusal.result _ _ c.refusal.ensures (refusal_asks (app_of c.in-Ok.app) (texts c.args.words.now) parse.error c.in-Ok.ensures parse.ensures.kinds)

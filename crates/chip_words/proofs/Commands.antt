@@ -1,0 +1,183 @@
+-- A command without a fault has the values that it can't do without.
+use Rattle.std.proofs.Common.{◌≡◌, ◌⊎◌, ◌<◌, ◌≤◌, ◌^◌, ◌&&◌, ap, subst, ℕ, Bool, List, [], ◌∷◌, ◌++◌, Option, Some, None, true, false, not, refl, sym, inl, inr, is_some, unwrap_or, arith}
+use Rattle.std.specs.Prelude.{codes, find, fold, ◌-◌}
+use Rattle.std.specs.List.{list_any, slice_index_or}
+use Rattle.std.specs.Option.{option_map_or}
+use Rattle.std.specs.Str.{bytes_eq}
+use Rattle.std.specs.Str.Parse.{IsNumeral, without_leading_plus}
+use Rattle.clap.specs.Facts.{explicit_source, parser_of_value}
+use Rattle.clap.specs.Kinds.{Kinds, check_kinds, or_else}
+use Rattle.clap.specs.Takes.{is_given}
+use Rattle.clap.specs.ValueTests.{accepts}
+use Rattle.clap.specs.Walk.{Held, Row, Rule, Text, arg_by_id, finished, first_of, nothing_held, rows_after, settled, takes_values, walk, walk_from}
+use Rattle.clap.specs.Simple.{Shape, built, entered, filled, help_shape, with_index}
+use Rattle.clap.specs.Faults.{check_fault, defaults_fault, entered_fault, level_fault, settle_fault, walk_fault}
+use Rattle.clap.specs.declared.builder.value_parser.ValueParser.TheVariants.{Unsigned}
+use Rattle.clap.proofs.ValueTestLemmas.{accepts-Accepts}
+use Rattle.std.proofs.lemmas.Slice.Eq.{bytes_eq-Decides}
+use Rattle.chip_words.specs.App.{chip_app, file_rule, levels_rule, steps_rule}
+use Rattle.chip_words.specs.Request.{number_of, value_of}
+use Rattle.chip_words.specs.Commands.{HasExecution, HasItsValues, HasListing, HasNumber, HasValue, IfCommand}
+use Rattle.chip_words.proofs.Walks.{IsNoHelp, both_empty}
+use Rattle.chip_words.proofs.Fits.{AllFit, HasSome, IsIn, Owns, defaults_have, finished_fits, first_passes, row_found, walk_fits}
+
+-- ---- the parts of a level without a fault
+
+no_argument_wanted : (help command argument : Bool) → check_kinds help command argument ≡ [] → argument ≡ false
+no_argument_wanted true command argument e = absurd cc
+no_argument_wanted false true argument e = absurd cc
+no_argument_wanted false false true e = absurd cc
+no_argument_wanted false false false e = refl
+
+pub record IsFaultless (s : Shape) (words : List Text) : Type 0 where
+  pub fits : AllFit s.rules (rows_after s.rules [] words)
+  pub checked : check_fault s (rows_after s.rules [] words) false ≡ []
+
+pub faultless : (s : Shape) (words : List Text) → Owns s.rules s.rules → level_fault s [] nothing_held words false [] ≡ [] → IsFaultless s words
+faultless s words owns e =
+    let end = (walk s.rules [] nothing_held words).held in
+    let checked = check_fault s (finished s.rules end) false in
+    let defaulted = or_else (defaults_fault (settled s.rules end).rows s.rules) checked in
+    let ended = or_else (settle_fault s.rules s.args_override_self end) defaulted in
+    let first = both_empty (walk_fault s [] (walk_from nothing_held) words) ended e in
+    let second = both_empty (settle_fault s.rules s.args_override_self end) defaulted first.1 in
+    let third = both_empty (defaults_fault (settled s.rules end).rows s.rules) checked second.1 in
+    record {
+      fits = finished_fits s.rules s.args_override_self end owns
+          (walk_fits s [] words (walk_from nothing_held) owns tt first.0) second.0 third.0;
+      checked = third.1;
+    }
+
+-- ---- an argument that is there
+
+-- the first value passes the argument's parser
+abbrev IsPassed : Rule → List Row → Type 0
+IsPassed a rows = (v : Text) × (first_of a.id rows ≡ Some v) × (accepts a.ignore_case (parser_of_value a.parser) v ≡ true)
+
+default_passed : (s : Shape) (words : List Text) (a : Rule) → IsFaultless s words → IsIn a s.rules → HasSome a.defaults
+    → arg_by_id s.rules a.id ≡ Some a → takes_values a ≡ true → IsPassed a (rows_after s.rules [] words)
+default_passed s words a clean among some own takes =
+    let end = (walk s.rules [] nothing_held words).held in
+    let row = row_found a.id (rows_after s.rules [] words) (defaults_have a s.rules (settled s.rules end).rows among some) in
+    first_passes s.rules a (rows_after s.rules [] words) row.0 clean.fits row.1 own takes
+
+none_fails : (f : Rule → Bool) (a : Rule) (d : List Rule) → IsIn a d → list_any f d ≡ false → f a ≡ false
+none_fails f a [] among e = absurd among
+none_fails f a (x ∷ xs) among e = go (f x) refl among (λ in_rest later. none_fails f a xs in_rest later)
+  where
+    go : (b : Bool) → f x ≡ b → ((x ≡ a) ⊎ IsIn a xs) → (IsIn a xs → list_any f xs ≡ false → f a ≡ false) → f a ≡ false
+    go true is either later = absurd (let bad = rw is at e in cc)
+    go false is (inl same) later = subst (λ (y : Rule). f y ≡ false) same is
+    go false is (inr in_rest) later = later in_rest (rw is at e)
+
+given_row : (id : Text) (o : Option Row) → option_map_or (λ r. explicit_source r.source) o false ≡ true → (r : Row) × (o ≡ Some r)
+given_row id None e = absurd cc
+given_row id (Some r) e = (r, refl)
+
+required_passed : (s : Shape) (words : List Text) (a : Rule) → IsFaultless s words → s.subcommand_negates_reqs ≡ false → IsIn a s.rules → a.required ≡ true
+    → arg_by_id s.rules a.id ≡ Some a → takes_values a ≡ true → IsPassed a (rows_after s.rules [] words)
+required_passed s words a clean negates among required own takes =
+    let rows = rows_after s.rules [] words in
+    let wanted = no_argument_wanted _ _ _ clean.checked in
+    let none : list_any (λ (x : Rule). x.required && not (is_given x.id rows)) s.rules ≡ false = rw negates at wanted in
+    let given : (a.required && not (is_given a.id rows)) ≡ false = none_fails (λ x. x.required && not (is_given x.id rows)) a s.rules among none in
+    let row = given_row a.id (find (λ r. bytes_eq r.id a.id) rows) (not_false (is_given a.id rows) (rw required at given)) in
+    first_passes s.rules a rows row.0 clean.fits row.1 own takes
+  where
+    not_false : (b : Bool) → not b ≡ false → b ≡ true
+    not_false true e = refl
+    not_false false e = absurd cc
+
+value_there : (id v : Text) (rows : List Row) → first_of id rows ≡ Some v → HasValue id rows
+value_there id v rows is = ap is_some is
+
+number_there : (least most : ℕ) (id v : Text) (rows : List Row) → first_of id rows ≡ Some v → accepts false (Unsigned least most) v ≡ true
+    → HasNumber id rows × ((least ≤ number_of (value_of id rows)) × (number_of (value_of id rows) ≤ most))
+number_there least most id v rows is passed =
+    let within = accepts-Accepts false (Unsigned least most) v passed in
+    let same : Some v ≡ first_of id rows = sym is in
+    subst (λ (o : Option Text). ((is_some o ≡ true) × (IsNumeral 10 (without_leading_plus (unwrap_or o [])) × (number_of (unwrap_or o []) < 2 ^ 64)))
+    × ((least ≤ number_of (unwrap_or o [])) × (number_of (unwrap_or o []) ≤ most))) same
+    ((refl, (within.0, within.1)), (within.2, within.3))
+
+-- ---- the commands
+
+abbrev file_built : Rule
+file_built = with_index 1 (filled file_rule)
+
+abbrev levels_built : Rule
+levels_built = filled levels_rule
+
+abbrev steps_built : Rule
+steps_built = filled steps_rule
+
+-- a command that has the arguments of `dis`, whatever else it has
+listing_there : (s : Shape) (words : List Text) → IsFaultless s words → s.subcommand_negates_reqs ≡ false
+    → IsIn file_built s.rules → arg_by_id s.rules (codes "file") ≡ Some file_built
+    → IsIn levels_built s.rules → arg_by_id s.rules (codes "levels") ≡ Some levels_built → HasListing (rows_after s.rules [] words)
+listing_there s words clean negates in_file own_file in_levels own_levels =
+    let file = required_passed s words file_built clean negates in_file refl own_file refl in
+    let levels = default_passed s words levels_built clean in_levels tt own_levels refl in
+    let numbers = number_there 1 6 (codes "levels") levels.0 (rows_after s.rules [] words) levels.1 levels.2 in
+    record {
+      file = value_there (codes "file") file.0 (rows_after s.rules [] words) file.1;
+      levels = numbers.0;
+      bounds = numbers.1;
+    }
+
+-- `run` and `plain`, by their names
+abbrev execution_built : Text → Shape
+execution_built name = record (slice_index_or (built chip_app).subs 0 help_shape) { name = name }
+
+abbrev dis_built : Shape
+dis_built = slice_index_or (built chip_app).subs 2 help_shape
+
+execution_owns : (name : Text) → Owns (execution_built name).rules (execution_built name).rules
+execution_owns name = (
+  (refl, λ takes. refl),
+  ((refl, λ takes. absurd cc), ((refl, λ takes. refl), ((refl, λ takes. refl), ((refl, λ takes. refl), ((refl, λ takes. absurd cc), tt))))),
+)
+
+listing_owns : Owns dis_built.rules dis_built.rules
+listing_owns = ((refl, λ takes. refl), ((refl, λ takes. absurd cc), ((refl, λ takes. refl), ((refl, λ takes. absurd cc), tt))))
+
+execution_has : (name : Text) (words : List Text) → level_fault (execution_built name) [] nothing_held words false [] ≡ []
+    → HasExecution (rows_after (execution_built name).rules [] words)
+execution_has name words e =
+    let s = execution_built name in
+    let clean = faultless s words (execution_owns name) e in
+    let steps = default_passed s words steps_built clean (inr (inr (inr (inr (inl refl))))) tt refl refl in
+    record {
+      listing = listing_there s words clean refl (inl refl) refl (inr (inr (inl refl))) refl;
+      steps = (number_there 0 (2 ^ 64 - 1) (codes "steps") steps.0 (rows_after s.rules [] words) steps.1 steps.2).0;
+    }
+
+dis_has : (words : List Text) → level_fault dis_built [] nothing_held words false [] ≡ [] → HasListing (rows_after dis_built.rules [] words)
+dis_has words e =
+    listing_there dis_built words (faultless dis_built words listing_owns e) refl (inl refl) refl (inr (inr (inl refl))) refl
+
+as_execution : (name : Text) (words : List Text) → level_fault (execution_built name) [] nothing_held words false [] ≡ []
+    → HasItsValues name (rows_after (execution_built name).rules [] words)
+as_execution name words e = let h = execution_has name words e in record { listing = h.listing; run = λ is. h; plain = λ is. h }
+
+as_listing : (words : List Text) → level_fault dis_built [] nothing_held words false [] ≡ []
+    → HasItsValues (codes "dis") (rows_after dis_built.rules [] words)
+as_listing words e = record { listing = dis_has words e; run = λ is. absurd cc; plain = λ is. absurd cc }
+
+-- the command that was met is one of the three, and has its values
+pub command_has : (stop : Option (Text × List Text)) → IsNoHelp stop → entered_fault (built chip_app) stop ≡ [] → IfCommand (entered (built chip_app) stop)
+command_has None free e = tt
+command_has (Some p) free e =
+    go (bytes_eq (codes "run") p.0) refl (bytes_eq (codes "plain") p.0) refl (bytes_eq (codes "dis") p.0) refl (bytes_eq (codes "help") p.0) refl
+  where
+    help_is : bytes_eq (codes "help") p.0 ≡ true → bytes_eq p.0 (codes "help") ≡ true
+    help_is is = (bytes_eq-Decides p.0 (codes "help")).1 (sym ((bytes_eq-Decides (codes "help") p.0).0 is))
+
+    go : (a : Bool) → bytes_eq (codes "run") p.0 ≡ a → (b : Bool) → bytes_eq (codes "plain") p.0 ≡ b
+        → (c : Bool) → bytes_eq (codes "dis") p.0 ≡ c → (d : Bool) → bytes_eq (codes "help") p.0 ≡ d
+        → IfCommand (entered (built chip_app) (Some p))
+    go true x b y c z d u = rw x (as_execution (codes "run") p.1 (rw x at e))
+    go false x true y c z d u = rw (x, y) (as_execution (codes "plain") p.1 (rw (x, y) at e))
+    go false x false y true z d u = rw (x, y, z) (as_listing p.1 (rw (x, y, z) at e))
+    go false x false y false z true u = absurd (let bad = rw (help_is u) at free in cc)
+    go false x false y false z false u = rw (x, y, z, u) tt

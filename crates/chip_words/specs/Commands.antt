@@ -1,0 +1,33 @@
+-- What the values of a command keep to that `clap` has no fault to find in.
+use Rattle.std.specs.Prelude.{◌≡◌, ◌<◌, ◌≤◌, ◌^◌, List, Option, Some, None, true, codes, IsSome, ⊤}
+use Rattle.std.specs.Str.{bytes_eq}
+use Rattle.std.specs.Str.Parse.{IsNumeral, without_leading_plus}
+use Rattle.clap.specs.Walk.{Row, Text, first_of}
+use Rattle.chip_words.specs.Request.{levels_of, number_of, value_of}
+
+abbrev pub HasValue : Text → List Row → Type 0
+HasValue id values = IsSome (first_of id values)
+
+-- the value is a number of 64 bits
+abbrev pub HasNumber : Text → List Row → Type 0
+HasNumber id values = HasValue id values
+    × (IsNumeral 10 (without_leading_plus (value_of id values)) × (number_of (value_of id values) < 2 ^ 64))
+
+pub record HasListing (values : List Row) : Type 0 where
+  pub file : HasValue (codes "file") values
+  pub levels : HasNumber (codes "levels") values
+  pub bounds : (1 ≤ levels_of values) × (levels_of values ≤ 6)
+
+pub record HasExecution (values : List Row) : Type 0 where
+  pub listing : HasListing values
+  pub steps : HasNumber (codes "steps") values
+
+-- a command has the values that it can't do without
+pub record HasItsValues (name : Text) (values : List Row) : Type 0 where
+  pub listing : HasListing values
+  pub run : bytes_eq name (codes "run") ≡ true → HasExecution values
+  pub plain : bytes_eq name (codes "plain") ≡ true → HasExecution values
+
+abbrev pub IfCommand : Option (Text × List Row) → Type 0
+IfCommand None = ⊤
+IfCommand (Some c) = HasItsValues c.0 c.1
