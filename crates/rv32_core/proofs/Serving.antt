@@ -77,6 +77,7 @@ lines_of_write lines state from count e f got = chosen _
   where
     h : HasLinesOf lines (record { from = a1 state; count = a2 state })
     h = rw (sym e, sym f) got
+
     chosen : (b : Bool) → HasLinesOfAll lines (cond b (record { from = a1 state; count = a2 state } ∷ []) [])
     chosen true = (h, tt)
     chosen false = tt
@@ -86,8 +87,10 @@ lines_of_read lines state from bytes e is got = chosen _
   where
     range : Range
     range = record { from = a1 state; count = length (next_input state.calls (a2 state)) }
+
     h : HasLinesOf lines range
     h = rw (sym e, sym is) got
+
     chosen : (b : Bool) → HasLinesOfAll lines (cond b (range ∷ []) [])
     chosen true = (h, tt)
     chosen false = tt

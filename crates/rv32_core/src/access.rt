@@ -90,7 +90,12 @@ impl Core {
 
     // A store of this width.
     #[inline]
-    pub(crate) fn store<M: Ram>(&mut self, inst: &Inst, width: Width, ram: &mut M) -> Result<Step, StepStop>
+    pub(crate) fn store<M: Ram>(
+        &mut self,
+        inst: &Inst,
+        width: Width,
+        ram: &mut M,
+    ) -> Result<Step, StepStop>
         requires { IsInst inst.now }
 
         ensures outcome { M.stopped ram.old ≡ None → M.sound ram.new → (calls : CallState) → IsOutcome
