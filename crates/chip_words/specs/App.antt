@@ -1,0 +1,62 @@
+-- The command line of the program, as `clap` defines one: what each command takes.
+use Rattle.std.specs.Prelude.{◌-◌, ◌^◌, List, [], ◌∷◌, Some, codes, true, false}
+use Rattle.clap.specs.Walk.{Rule, Text}
+use Rattle.clap.specs.Simple.{App, Shape, new_rule, new_shape}
+use Rattle.clap.specs.declared.builder.action.ArgAction.TheVariants.{SetTrue}
+use Rattle.clap.specs.declared.builder.value_parser.ValueParser.TheVariants.{Unsigned}
+
+-- `FILE`, which a command can't do without
+abbrev pub file_rule : Rule
+file_rule = record (new_rule (codes "file")) { value_names = 1; required = true }
+
+-- `--flat`
+abbrev pub flat_rule : Rule
+flat_rule = record (new_rule (codes "flat")) { long = Some (codes "flat"); action = Some SetTrue }
+
+-- `--input F`
+abbrev pub input_rule : Rule
+input_rule = record (new_rule (codes "input")) { long = Some (codes "input"); value_names = 1 }
+
+-- `--levels L`, from 1 to 6, and 4 where it is left out
+abbrev pub levels_rule : Rule
+levels_rule = record (new_rule (codes "levels")) {
+  long = Some (codes "levels");
+  value_names = 1;
+  parser = Some (Unsigned 1 6);
+  defaults = codes "4" ∷ [];
+}
+
+-- `--steps N`, any number of 64 bits, and 10000000 where it is left out
+abbrev pub steps_rule : Rule
+steps_rule = record (new_rule (codes "steps")) {
+  long = Some (codes "steps");
+  value_names = 1;
+  parser = Some (Unsigned 0 (2 ^ 64 - 1));
+  defaults = codes "10000000" ∷ [];
+}
+
+-- what `run` and `plain` take
+abbrev pub execution_rules : List Rule
+execution_rules = file_rule ∷ flat_rule ∷ input_rule ∷ levels_rule ∷ steps_rule ∷ []
+
+-- what `dis` takes
+abbrev pub listing_rules : List Rule
+listing_rules = file_rule ∷ flat_rule ∷ levels_rule ∷ []
+
+-- a command with these arguments
+abbrev pub command : Text → List Rule → Shape
+command name rules = record (new_shape name) { rules = rules }
+
+-- the program, which needs a command, and shows its help where it is given nothing
+abbrev pub chip_app : App
+chip_app = record {
+  top = record (new_shape (codes "chip")) {
+    is_leaf = false;
+    subcommand_required = true;
+    arg_required_else_help = true;
+  };
+  subs = command (codes "run") execution_rules
+      ∷ command (codes "plain") execution_rules
+      ∷ command (codes "dis") listing_rules
+      ∷ [];
+}

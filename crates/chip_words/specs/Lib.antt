@@ -1,0 +1,3 @@
+pub mod App
+pub mod Request
+pub mod Words

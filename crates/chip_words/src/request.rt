@@ -1,0 +1,50 @@
+// What words ask for, and why they ask for nothing.
+use thiserror::Error;
+
+/// What the words ask for.
+#[derive(Clone, Copy, Debug, PartialEq, Eq)]
+pub enum Request<'a> {
+    /// To run a program on protected memory.
+    Run(Execution<'a>),
+    /// To run it on the plain machine.
+    Plain(Execution<'a>),
+    /// To list its instructions.
+    Dis(Listing<'a>),
+}
+
+/// What is to be run, and how.
+#[derive(Clone, Copy, Debug, PartialEq, Eq)]
+pub struct Execution<'a> {
+    /// The program's file.
+    pub file: &'a str,
+    /// The file has the program's bytes and nothing else.
+    pub flat: bool,
+    /// The file of the program's input, where it has one.
+    pub input: Option<&'a str>,
+    /// The levels of the memory's tree, 1 to 6.
+    pub levels: u8,
+    /// How many instructions may be retired.
+    pub steps: u64,
+}
+
+/// What is to be listed, and how.
+#[derive(Clone, Copy, Debug, PartialEq, Eq)]
+pub struct Listing<'a> {
+    /// The program's file.
+    pub file: &'a str,
+    /// The file has the program's bytes and nothing else.
+    pub flat: bool,
+    /// The levels of the memory's tree, 1 to 6.
+    pub levels: u8,
+}
+
+/// Why words ask for nothing that can be done.
+#[derive(Debug, Drop, Error)]
+pub enum WordsError {
+    /// They are no request, or a question for help: a text that says so.
+    #[error("{0}")]
+    Usage(String),
+    /// Memory for reading them was not to be had.
+    #[error("out of memory")]
+    NoMemory,
+}
