@@ -81,7 +81,7 @@ front (Refused Unread) request files files' out out' came = front_stops Unread (
 front (Refused TooLong) request files files' out out' came = front_stops TooLong (needs_of request) files files' came.0
 front (Refused TooLarge) request files files' out out' came = front_stops TooLarge (needs_of request) files files' came.0
 front NoMemory request files files' out out' came =
-    (came.0.before ++ came.0.tried, (came.0.after, came.0.order ∙ sym (append_assoc came.0.before came.0.tried came.0.after)), came.0.asked)
+    (came.0.before ++ came.0.tried, (came.0.after, came.0.order), came.0.asked)
 front (Ran run bus) request files files' out out' came = front_all (needs_of request) files files' (ran_taken request files files' out out' run _ came).asked
 front (RanPlain run) request files files' out out' came = front_all (needs_of request) files files' (plainly_ran_taken request files files' out out' run came).asked
 front (Listed telling) request files files' out out' came = front_all (needs_of request) files files' (listed_taken request files files' out out' telling came).asked

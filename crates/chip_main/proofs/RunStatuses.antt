@@ -152,7 +152,8 @@ tampered_cause {levels = levels} {run = run} {told = told} runs is =
     let ending = tampered_of run.ending low.1 in
     record {
       no_evidence = low.0;
-      caught = rw runs.bus_levels (caught (device_tag levels) run told ending.0 ending.1 (runs.answers low.0));
+      caught = subst (λ (n : ℕ). IsCaught (device_tag n) run.used run.made told (λ p. run.ending ≡ Tampered p)) (sym runs.bus_levels)
+          (caught (device_tag levels) run told ending.0 ending.1 (runs.answers low.0));
     }
 
 pub spent_cause : {levels steps : ℕ} {program input : List ℕ} {old new : SinkState} {run : RunRecord} {told : Told} → RunsFlat levels steps program input old new run told → run_status run ≡ 6 → EndedSpent run told

@@ -109,8 +109,7 @@ stops_first NoMemory need more old new stops = record {
   tried = stops.tried;
   after = stops.after ++ more;
   order = ap (λ (l : List Need). l ++ more) stops.order
-      ∙ append_assoc stops.before (stops.tried ++ stops.after) more
-      ∙ ap (λ (l : List Need). stops.before ++ l) (append_assoc stops.tried stops.after more);
+      ∙ append_assoc (stops.before ++ stops.tried) stops.after more;
   accepted = stops.accepted;
   one = stops.one;
   asked = stops.asked;

@@ -1,9 +1,14 @@
 -- What was read for a request.
-use Rattle.std.specs.Prelude.{◌≡◌, List, [], ℕ, Option, Some, None, true}
+use Rattle.std.specs.Prelude.{◌≡◌, List, [], ℕ, Option, Some, None, option_map, true}
+use Rattle.std.specs.Borrow.{Bor}
 use Rattle.sec_base.specs.Reading.{FilesState}
 use Rattle.chip_words.specs.Request.{ExecutionAsked, ListingAsked}
 use Rattle.chip_main.specs.Needs.{IsAccepted, IsOffered, execution_needs, input_need, listing_needs, program_need}
 use Rattle.chip_main.specs.Causes.{Asks}
+
+-- the name of a file, where there is one
+abbrev pub named : Option (Bor (List ℕ)) → Option (List ℕ)
+named file = option_map (λ name. name.now) file
 
 -- the input is the named file's bytes, and nothing where none is named
 abbrev pub IsInput : FilesState → Option (List ℕ) → List ℕ → Type 0

@@ -1,4 +1,5 @@
 ghost use Rattle.std.specs.Prelude.{◌≡◌};
+ghost use Rattle.std.specs.Option.{option_map};
 ghost use Rattle.chip_main.specs.Statuses.{run_status as status_of_run, ending_status as status_of_ending, evidence_status as evidence_status_of_ending, untold_ending_status as untold_status_of_ending, listing_status as status_of_listing};
 
 use crate::refusal::Refusal;
@@ -23,7 +24,7 @@ pub enum Course {
 }
 
 impl Course {
-    ghost use Rattle.chip_main.specs.Course.{course_status, untold_status};
+    ghost use Rattle.chip_main.specs.Course.{course_bus, course_run, course_status, untold_status};
 
     /// The status, where the course was told whole.
     pub fn status(&self) -> u8
@@ -48,6 +49,17 @@ impl Course {
             Course::Ran(run, _) => untold_ending_status(run.ending),
             Course::RanPlain(run) => untold_ending_status(run.ending),
             Course::Listed(listed) => listing_status(*listed),
+        }
+    }
+
+    /// The run on protected memory and its bus, where there was one.
+    pub fn into_run(self) -> Option<(RunRecord, RunBus)>
+        ensures run { option_map (λ ran. ran.0) result ≡ course_run self }
+        ensures bus { option_map (λ ran. ran.1) result ≡ course_bus self }
+    {
+        match self {
+            Course::Ran(run, bus) => Some((run, bus)),
+            Course::Refused(_) | Course::NoMemory | Course::RanPlain(_) | Course::Listed(_) => None,
         }
     }
 }

@@ -176,14 +176,14 @@ fn conclude(course: Course, told: Result<(), SinkStop>) -> Done
         Err(SinkStop::Failed) => course.untold_status(),
         Err(SinkStop::NoMemory) => 10,
     };
-    match course {
-        Course::Ran(run, bus) => Done {
+    match course.into_run() {
+        Some((run, bus)) => Done {
             status,
             run: Some(run),
             lies: bus.lies(),
             bus: Some(bus),
         },
-        Course::Refused(_) | Course::NoMemory | Course::RanPlain(_) | Course::Listed(_) => Done {
+        None => Done {
             status,
             run: None,
             lies: 0,

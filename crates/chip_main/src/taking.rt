@@ -1,11 +1,11 @@
-ghost use Rattle.std.specs.Prelude.{◌≡◌, ◌≤◌, [], ◌∷◌, ◌++◌, List, ℕ, Option, length, true, option_map, IfOk, IfErr, OnOk};
+ghost use Rattle.std.specs.Prelude.{◌≡◌, ◌≤◌, [], ◌∷◌, ◌++◌, List, ℕ, Option, length, true, IfOk, IfErr, OnOk};
 ghost use Rattle.sec_base.specs.Reading.{HasBytes};
 ghost use Rattle.chip_words.specs.Words.{execution as execution_asked};
 ghost use Rattle.chip_main.specs.declared.refusal.Refusal.{Refusal};
 ghost use Rattle.chip_main.specs.Flat.{IsFlatImage};
 ghost use Rattle.chip_main.specs.Needs.{IsAccepted, execution_needs, file_limit, input_needs, program_need};
 ghost use Rattle.chip_main.specs.Causes.{Asks, StopsAs};
-ghost use Rattle.chip_main.specs.Taken.{IsInput, Takes};
+ghost use Rattle.chip_main.specs.Taken.{IsInput, Takes, named};
 
 use crate::flat::flat_image;
 use crate::refusal::Refusal;
@@ -82,10 +82,10 @@ pub fn take_program<F: Files>(
 
 // The bytes of the input's file, where one is named.
 fn take_input<F: Files>(alloc: Global, file: Option<&str>, files: &mut F) -> Result<Bytes, Stop>
-    ensures taken { IfOk result (IsInput (F.state files.old) (option_map (λ name. name.now) file)) }
-    ensures asked { OnOk result (Asks (input_needs (option_map (λ name. name.now) file)) (F.state files.old) (F.state files.new)) }
+    ensures taken { IfOk result (IsInput (F.state files.old) (named file.entry)) }
+    ensures asked { OnOk result (Asks (input_needs (named file.entry)) (F.state files.old) (F.state files.new)) }
     ensures stopped { IfErr result (λ stop.
-        StopsAs stop (input_needs (option_map (λ name. name.now) file)) (F.state files.old) (F.state files.new)) }
+        StopsAs stop (input_needs (named file.entry)) (F.state files.old) (F.state files.new)) }
     ensures held { (F.state files.new).held ≡ (F.state files.old).held }
     ensures faults { (F.state files.old).faults ≤ (F.state files.new).faults }
     ensures bytes_taken { (F.state files.old).taken ≤ (F.state files.new).taken }

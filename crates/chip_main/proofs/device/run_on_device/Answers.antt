@@ -3,7 +3,7 @@ use Rattle.chip_main.proofs.FlatRuns.{device_tag_is, enc_key_is, nothing_written
 use Rattle.chip_main.proofs.device.run_on_device.Goals as goal
 
 pub run-done-requires-clause-nothing_written : goal.run-done-requires-clause-nothing_written
-run-done-requires-clause-nothing_written g c = nothing_written _ _ c.in-Ok-new.ensures
+run-done-requires-clause-nothing_written g c = nothing_written _ _ c.in-Ok.ensures
 
 pub returns-clause-ran : goal.returns-clause-ran
 returns-clause-ran g c = λ program flat.
