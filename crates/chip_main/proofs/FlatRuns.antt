@@ -7,17 +7,17 @@ use Rattle.hmac_tag.specs.Tags.{TagKeys, tag_of}
 use Rattle.hmac_tag.specs.declared.derivation.Keys.{Keys}
 use Rattle.tag_engine.specs.Tag.{engine_tag}
 use Rattle.rv32_core.specs.Machine.{opening}
-use Rattle.chip_main.specs.Flat.{device_enc_key, device_key, device_tag, flat_opening, flat_segments, flat_size}
+use Rattle.chip_main.specs.Flat.{IsFlatImage, device_enc_key, device_key, device_tag, flat_opening}
 
 -- a new bus has nothing written
 pub nothing_written : (told : Told) (levels : ℕ) → told ≡ nothing_told levels → NothingWritten told
 nothing_written told levels new = record { zeros = λ place inside. ap (λ (t : Told). t.written place) new }
 
 -- the tags are the device's
-pub device_tag_is : (tagger : TagKeys) (keys : Keys) (levels : ℕ) → tagger ≡ record { line_key = keys.line_key; tree_key = keys.tree_key } → keys ≡ keys_of device_key → levels ≡ 1 →
-    engine_tag (tag_of tagger.line_key) (tag_of tagger.tree_key) levels ≡ device_tag
+pub device_tag_is : (tagger : TagKeys) (keys : Keys) (levels : ℕ) → tagger ≡ record { line_key = keys.line_key; tree_key = keys.tree_key } → keys ≡ keys_of device_key →
+    engine_tag (tag_of tagger.line_key) (tag_of tagger.tree_key) levels ≡ device_tag levels
 unfolding device_tag
-device_tag_is tagger keys levels under derived one = rw (under, derived, one) refl
+device_tag_is tagger keys levels under derived = rw (under, derived) refl
 
 -- and so is the key that lines are enciphered under
 pub enc_key_is : (keys : Keys) → keys ≡ keys_of device_key → keys.enc_key ≡ device_enc_key
@@ -25,5 +25,5 @@ unfolding device_enc_key
 enc_key_is keys derived = rw derived refl
 
 -- the machine is the flat program's as it begins
-pub opening_is : (image : Image) (input bytes : List ℕ) → image.entry ≡ 0 → image.size ≡ flat_size → image.segments ≡ flat_segments bytes → input ≡ [] → opening image input ≡ flat_opening bytes
-opening_is image input bytes entry size segments none = rw (entry, size, segments, none) refl
+pub opening_is : (levels : ℕ) (program input : List ℕ) (image : Image) → IsFlatImage levels program image → opening image input ≡ flat_opening levels program input
+opening_is levels program input image flat = rw (flat.entry, flat.size, flat.segments) refl

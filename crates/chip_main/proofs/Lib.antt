@@ -2,6 +2,10 @@ pub mod Hex
 pub mod HonestBuses
 pub mod Lines
 pub mod FlatRuns
+pub mod Takings
+pub mod Courses
 pub mod RunStatuses
 pub mod Outcomes
 pub mod RunOutcomes
+pub mod Requested
+pub mod Wholes

@@ -1,30 +1,33 @@
 -- What the course of a call says of its status and of what was told.
-use Rattle.std.proofs.Common.{◌≡◌, ◌≢◌, ◌<◌, ◌≤◌, ◌⊎◌, inl, inr, List, [], ◌∷◌, ◌++◌, ℕ, length, Option, Some, None, Ok, Err, Contains, IfNone, IfSome, refl, sym, ap, ◌∙◌, subst, arith}
-use Rattle.sec_base.specs.Reading.{FilesState, HasBytes}
+use Rattle.std.proofs.Common.{◌≡◌, ◌≢◌, ◌<◌, ◌≤◌, ◌⊎◌, inl, inr, List, [], ◌∷◌, ◌++◌, ℕ, length, Option, Some, None, Ok, Err, Contains, IfNone, IfSome, IsSome, ◌↔◌, refl, sym, ap, ◌∙◌, subst, arith}
+use Rattle.sec_base.specs.Count.{Rose}
+use Rattle.sec_base.specs.Reading.{FilesState}
 use Rattle.sec_base.specs.Writing.{SinkState, Gains, Silent}
 use Rattle.sec_base.specs.declared.account.Evidence.{Evidence}
 use Rattle.sec_base.specs.declared.answers.Ending.{Ending}
 use Rattle.sec_base.specs.declared.answers.Ending.TheVariants.{Halted, Trapped, OutOfSteps, Tampered, Spent, WriteFault, NoMemory as memory_ended}
 use Rattle.sec_base.specs.declared.writing.SinkStop.TheVariants.{Failed, NoMemory as no_memory}
-use Rattle.sec_base.proofs.Writes.{gained-nil}
+use Rattle.plain_machine.specs.declared.PlainRecord.{PlainRecord}
+use Rattle.chip_words.specs.Request.{Asked}
 use Rattle.chip_main.specs.declared.refusal.Refusal.{Refusal}
-use Rattle.chip_main.specs.declared.refusal.Refusal.TheVariants.{Usage, Unread, TooLong, TooLarge}
+use Rattle.chip_main.specs.declared.refusal.Refusal.TheVariants.{Usage, NotFlat, Unread, TooLong, TooLarge}
 use Rattle.chip_main.specs.declared.course.Course.{Course}
-use Rattle.chip_main.specs.declared.course.Course.TheVariants.{Refused, NoMemory, Ran}
+use Rattle.chip_main.specs.declared.course.Course.TheVariants.{Refused, NoMemory, Ran, RanPlain, Listed}
 use Rattle.chip_main.specs.declared.Done.{Done}
-use Rattle.chip_main.specs.Flat.{flat_size}
-use Rattle.chip_main.specs.Statuses.{ending_status, evidence_status, refusal_status, status_with, untold_ending_status}
-use Rattle.chip_main.specs.Causes.{HasTold}
-use Rattle.chip_main.specs.Buses.{lies_of}
-use Rattle.chip_main.specs.Answer.{LacksMemory, TellsRefusal, TellsRun}
-use Rattle.chip_main.specs.Course.{CameAbout, Telling, IsTold, Outcome, course_run, course_bus, course_text, status_of}
+use Rattle.chip_main.specs.Needs.{IsNotFlat, needs_of}
+use Rattle.chip_main.specs.Causes.{IsRefused, RunsOut, Stops}
+use Rattle.chip_main.specs.Statuses.{Telling, ending_status, evidence_status, listing_status, refusal_status, run_status, status_with, untold_ending_status}
+use Rattle.chip_main.specs.Buses.{lies_of, run_told}
+use Rattle.chip_main.specs.Requests.{Lists, PlainlyRunsRequest, RunsRequest}
+use Rattle.chip_main.specs.Answer.{LacksMemory, TellsEnding, TellsPlain, TellsRefusal, TellsRun, Undone}
+use Rattle.chip_main.specs.Texts.{plain_text, record_text, refusal_text}
+use Rattle.chip_main.specs.Told.{GainsFront, IsTold}
+use Rattle.chip_main.specs.Course.{CameAbout, Outcome, TellsCourse, course_bus, course_run, course_status, status_of, untold_status}
 
--- the statuses that come, and those that come without a run
+-- ---- the statuses
+
 abbrev pub all_statuses : List ℕ
 all_statuses = 0 ∷ 1 ∷ 2 ∷ 3 ∷ 4 ∷ 5 ∷ 6 ∷ 7 ∷ 8 ∷ 9 ∷ 10 ∷ []
-
-abbrev pub refused_statuses : List ℕ
-refused_statuses = 2 ∷ 3 ∷ 8 ∷ 10 ∷ []
 
 ending_listed : (ending : Ending) → Contains all_statuses (ending_status ending)
 ending_listed (Halted code) = (0, omega arith, refl)
@@ -57,107 +60,184 @@ untold_ending_listed (Spent page) = (9, omega arith, refl)
 untold_ending_listed WriteFault = (9, omega arith, refl)
 untold_ending_listed memory_ended = (10, omega arith, refl)
 
+listing_listed : (telling : Telling) → Contains all_statuses (listing_status telling)
+listing_listed (Ok _) = (0, omega arith, refl)
+listing_listed (Err Failed) = (9, omega arith, refl)
+listing_listed (Err no_memory) = (10, omega arith, refl)
+
 refusal_listed : (refusal : Refusal) → Contains all_statuses (refusal_status refusal)
-refusal_listed Usage = (2, omega arith, refl)
+refusal_listed (Usage text) = (2, omega arith, refl)
+refusal_listed NotFlat = (2, omega arith, refl)
 refusal_listed Unread = (8, omega arith, refl)
 refusal_listed TooLong = (3, omega arith, refl)
 refusal_listed TooLarge = (3, omega arith, refl)
 
-refusal_refused : (refusal : Refusal) → Contains refused_statuses (refusal_status refusal)
-refusal_refused Usage = (0, omega arith, refl)
-refusal_refused Unread = (2, omega arith, refl)
-refusal_refused TooLong = (1, omega arith, refl)
-refusal_refused TooLarge = (1, omega arith, refl)
+course_listed : (course : Course) → Contains all_statuses (course_status course)
+course_listed (Refused refusal) = refusal_listed refusal
+course_listed NoMemory = (10, omega arith, refl)
+course_listed (Ran run bus) = run_listed run.evidence run.ending
+course_listed (RanPlain run) = ending_listed run.ending
+course_listed (Listed telling) = listing_listed telling
+
+untold_listed : (course : Course) → Contains all_statuses (untold_status course)
+untold_listed (Refused refusal) = refusal_listed refusal
+untold_listed NoMemory = (10, omega arith, refl)
+untold_listed (Ran run bus) = untold_ending_listed run.ending
+untold_listed (RanPlain run) = untold_ending_listed run.ending
+untold_listed (Listed telling) = listing_listed telling
 
 status_listed : (course : Course) (telling : Telling) → Contains all_statuses (status_of course telling)
-status_listed (Refused refusal) (Ok _) = refusal_listed refusal
-status_listed (Refused refusal) (Err Failed) = refusal_listed refusal
-status_listed (Refused refusal) (Err no_memory) = (10, omega arith, refl)
-status_listed NoMemory (Ok _) = (10, omega arith, refl)
-status_listed NoMemory (Err Failed) = (10, omega arith, refl)
-status_listed NoMemory (Err no_memory) = (10, omega arith, refl)
-status_listed (Ran run bus) (Ok _) = run_listed run.evidence run.ending
-status_listed (Ran run bus) (Err Failed) = untold_ending_listed run.ending
-status_listed (Ran run bus) (Err no_memory) = (10, omega arith, refl)
+status_listed course (Ok _) = course_listed course
+status_listed course (Err Failed) = untold_listed course
+status_listed course (Err no_memory) = (10, omega arith, refl)
 
-pub statuses : {request : Option (List ℕ)} {files files' : FilesState} {out out' note note' : SinkState} {done : Done} → Outcome request files files' out out' note note' done → Contains all_statuses done.status
+pub statuses : {request : Option Asked} {files files' : FilesState} {out out' note note' : SinkState} {done : Done} → Outcome request files files' out out' note note' done → Contains all_statuses done.status
 statuses o = subst (λ (n : ℕ). Contains all_statuses n) (sym o.status) (status_listed o.course o.told)
 
-unrun_listed : (course : Course) (telling : Telling) → IfNone (course_run course) (Contains refused_statuses (status_of course telling))
-unrun_listed (Refused refusal) (Ok _) = refusal_refused refusal
-unrun_listed (Refused refusal) (Err Failed) = refusal_refused refusal
-unrun_listed (Refused refusal) (Err no_memory) = (3, omega arith, refl)
-unrun_listed NoMemory (Ok _) = (3, omega arith, refl)
-unrun_listed NoMemory (Err Failed) = (3, omega arith, refl)
-unrun_listed NoMemory (Err no_memory) = (3, omega arith, refl)
-unrun_listed (Ran run bus) telling = tt
+-- ---- which course a status is of
 
-pub unrun_statuses : {request : Option (List ℕ)} {files files' : FilesState} {out out' note note' : SinkState} {done : Done} → Outcome request files files' out out' note note' done → IfNone done.run (Contains refused_statuses done.status)
-unrun_statuses o = rw (o.run, o.status) (unrun_listed o.course o.told)
+untold_high : (ending : Ending) → 9 ≤ untold_ending_status ending
+untold_high (Halted code) = omega arith
+untold_high (Trapped cause pc) = omega arith
+untold_high OutOfSteps = omega arith
+untold_high (Tampered place) = omega arith
+untold_high (Spent page) = omega arith
+untold_high WriteFault = omega arith
+untold_high memory_ended = omega arith
 
--- a name has one content
-pub same_bytes : (held : Option (List ℕ → Option (List ℕ))) (name bytes other : List ℕ) → HasTold held name bytes → HasBytes held name other → other ≡ bytes
-same_bytes None name bytes other told has = absurd told
-same_bytes (Some held) name bytes other told has = let e : Some other ≡ Some bytes = sym has ∙ told in cc
+-- a status below 9 is the course's own
+course_is : (course : Course) (telling : Telling) (status : ℕ) → status < 9 → status_of course telling ≡ status → course_status course ≡ status
+course_is course (Ok _) status low is = is
+course_is course (Err no_memory) status low is = absurd (omega arith)
+course_is (Refused refusal) (Err Failed) status low is = is
+course_is NoMemory (Err Failed) status low is = is
+course_is (Ran run bus) (Err Failed) status low is = absurd (omega (arith, untold_high run.ending))
+course_is (RanPlain run) (Err Failed) status low is = absurd (omega (arith, untold_high run.ending))
+course_is (Listed telling) (Err Failed) status low is = is
 
-abbrev pub too_large_statuses : List ℕ
-too_large_statuses = 3 ∷ 8 ∷ 10 ∷ []
+pub own_status : {request : Option Asked} {files files' : FilesState} {out out' note note' : SinkState} {done : Done} → (o : Outcome request files files' out out' note note' done) → (status : ℕ) → status < 9 → done.status ≡ status →
+    course_status o.course ≡ status
+own_status o status low is = course_is o.course o.told status low (sym o.status ∙ is)
 
-too_large_listed : (course : Course) (telling : Telling) (name bytes : List ℕ) (files files' : FilesState) (out out' : SinkState) → CameAbout course (Some name) files files' out out' → HasTold files.held name bytes → flat_size < length bytes → Contains too_large_statuses (status_of course telling)
-too_large_listed (Refused Usage) telling name bytes files files' out out' came content large = let none : Some name ≡ None = came.0.0 in absurd cc
-too_large_listed (Refused Unread) (Ok _) name bytes files files' out out' came content large = (1, omega arith, refl)
-too_large_listed (Refused Unread) (Err Failed) name bytes files files' out out' came content large = (1, omega arith, refl)
-too_large_listed (Refused TooLong) (Ok _) name bytes files files' out out' came content large = (0, omega arith, refl)
-too_large_listed (Refused TooLong) (Err Failed) name bytes files files' out out' came content large = (0, omega arith, refl)
-too_large_listed (Refused TooLarge) (Ok _) name bytes files files' out out' came content large = (0, omega arith, refl)
-too_large_listed (Refused TooLarge) (Err Failed) name bytes files files' out out' came content large = (0, omega arith, refl)
-too_large_listed (Refused refusal) (Err no_memory) name bytes files files' out out' came content large = (2, omega arith, refl)
-too_large_listed NoMemory (Ok _) name bytes files files' out out' came content large = (2, omega arith, refl)
-too_large_listed NoMemory (Err Failed) name bytes files files' out out' came content large = (2, omega arith, refl)
-too_large_listed NoMemory (Err no_memory) name bytes files files' out out' came content large = (2, omega arith, refl)
-too_large_listed (Ran run bus) telling name bytes files files' out out' came content large =
-    let same = same_bytes files.held name bytes came.1.0 content came.1.1.0 in
-    let fits : length came.1.0 ≤ flat_size = came.1.2.fits in
-    absurd (omega (arith, ap length same))
+-- a status of what was done, and one of a refusal
+abbrev pub IsOfResult : ℕ → Type 0
+IsOfResult n = (n < 2) ⊎ (((3 < n) × (n < 8)) ⊎ (8 < n))
 
-pub too_large : {request : Option (List ℕ)} {files files' : FilesState} {out out' note note' : SinkState} {done : Done} → Outcome request files files' out out' note note' done → (name bytes : List ℕ) → request ≡ Some name → HasTold files.held name bytes → flat_size < length bytes → Contains too_large_statuses done.status
-too_large {request} {files} {files'} {out} {out'} o name bytes asks content large =
-    let came = subst (λ (r : Option (List ℕ)). CameAbout o.course r files files' out out') asks o.came in
-    subst (λ (n : ℕ). Contains too_large_statuses n) (sym o.status) (too_large_listed o.course o.told name bytes files files' out out' came content large)
+abbrev pub IsOfRefusal : ℕ → Type 0
+IsOfRefusal n = (1 < n) × (n < 9) × ((n < 4) ⊎ (7 < n))
 
--- nothing was told
-silent_front : (old new : SinkState) (front rest : List ℕ) → [] ≡ front ++ rest → Gains old front new → Silent old new
-silent_front old new [] rest parts gains = gains ∙ gained-nil old.written
-silent_front old new (x ∷ xs) rest parts gains = absurd cc
+apart : (n status : ℕ) → IsOfResult n → IsOfRefusal status → n ≢ status
+apart n status (inl low) refusing is = let more = refusing.0 in omega arith
+apart n status (inr (inr high)) refusing is = let fewer = refusing.1 in omega arith
+apart n status (inr (inl mid)) refusing is = elim refusing.2 [
+  | inl low ↦ let more = mid.0 in absurd (omega arith)
+  | inr high ↦ let fewer = mid.1 in absurd (omega arith)
+]
 
-silent : (old new : SinkState) (telling : Telling) → IsTold [] old new telling → Silent old new
-silent old new (Ok _) tells = tells ∙ gained-nil old.written
-silent old new (Err Failed) tells = silent_front old new tells.0.0 tells.0.1.0 tells.0.1.1 tells.0.2
-silent old new (Err no_memory) tells = silent_front old new tells.0 tells.1.0 tells.1.1 tells.2
+ending_result : (ending : Ending) → IsOfResult (ending_status ending)
+ending_result (Halted code) = inl (omega arith)
+ending_result (Trapped cause pc) = inl (omega arith)
+ending_result OutOfSteps = inr (inl (omega arith, omega arith))
+ending_result (Tampered place) = inr (inl (omega arith, omega arith))
+ending_result (Spent page) = inr (inl (omega arith, omega arith))
+ending_result WriteFault = inr (inr (omega arith))
+ending_result memory_ended = inr (inr (omega arith))
 
--- what a call without a run tells
-abbrev pub TellsWhyNot : ℕ → Option (List ℕ) → FilesState → FilesState → SinkState → SinkState → Type 0
-TellsWhyNot status request files files' note note' = TellsRefusal status request files files' note note' ⊎ LacksMemory status request note note'
+evidence_result : (ending : Ending) → IsOfResult (evidence_status ending)
+evidence_result (Halted code) = inr (inl (omega arith, omega arith))
+evidence_result (Trapped cause pc) = inr (inl (omega arith, omega arith))
+evidence_result OutOfSteps = inr (inl (omega arith, omega arith))
+evidence_result (Tampered place) = inr (inl (omega arith, omega arith))
+evidence_result (Spent page) = inr (inl (omega arith, omega arith))
+evidence_result WriteFault = inr (inr (omega arith))
+evidence_result memory_ended = inr (inr (omega arith))
 
-unrun_told : (course : Course) (telling : Telling) (request : Option (List ℕ)) (files files' : FilesState) (out out' note note' : SinkState) → CameAbout course request files files' out out' → IsTold (course_text course) note note' telling →
-    IfNone (course_run course) (TellsWhyNot (status_of course telling) request files files' note note')
-unrun_told (Refused refusal) (Ok _) request files files' out out' note note' came tells =
-    inl (record { refusal = refusal; cause = came.0; line = inl tells; status_is = inl refl })
-unrun_told (Refused refusal) (Err Failed) request files files' out out' note note' came tells =
-    inl (record { refusal = refusal; cause = came.0; line = inr (tells.0, inl tells.1); status_is = inl refl })
-unrun_told (Refused refusal) (Err no_memory) request files files' out out' note note' came tells =
-    inl (record { refusal = refusal; cause = came.0; line = inr (tells, inr refl); status_is = inr refl })
-unrun_told NoMemory (Ok _) request files files' out out' note note' came tells =
-    inr (record { requested = came.0; silent = silent note note' (Ok tt) tells; status_is = refl })
-unrun_told NoMemory (Err Failed) request files files' out out' note note' came tells =
-    inr (record { requested = came.0; silent = silent note note' (Err Failed) tells; status_is = refl })
-unrun_told NoMemory (Err no_memory) request files files' out out' note note' came tells =
-    inr (record { requested = came.0; silent = silent note note' (Err no_memory) tells; status_is = refl })
-unrun_told (Ran run bus) telling request files files' out out' note note' came tells = tt
+run_result : (evidence : Option Evidence) (ending : Ending) → IsOfResult (status_with evidence ending)
+run_result None ending = ending_result ending
+run_result (Some evidence) ending = evidence_result ending
 
-pub tells_why_not : {request : Option (List ℕ)} {files files' : FilesState} {out out' note note' : SinkState} {done : Done} → Outcome request files files' out out' note note' done → IfNone done.run (TellsWhyNot done.status request files files' note note')
-tells_why_not {request} {files} {files'} {out} {out'} {note} {note'} o =
-    rw (o.run, o.status) (unrun_told o.course o.told request files files' out out' note note' o.came o.tells)
+listing_result : (telling : Telling) → IsOfResult (listing_status telling)
+listing_result (Ok _) = inl (omega arith)
+listing_result (Err Failed) = inr (inr (omega arith))
+listing_result (Err no_memory) = inr (inr (omega arith))
+
+-- there was a refusal with this status
+refusal_is : (course : Course) (status : ℕ) → IsOfRefusal status → course_status course ≡ status → (refusal : Refusal) × (course ≡ Refused refusal) × (refusal_status refusal ≡ status)
+refusal_is (Refused refusal) status refusing is = (refusal, refl, is)
+refusal_is NoMemory status refusing is = absurd (let fewer = refusing.1 in omega arith)
+refusal_is (Ran run bus) status refusing is = absurd (apart (run_status run) status (run_result run.evidence run.ending) refusing is)
+refusal_is (RanPlain run) status refusing is = absurd (apart (ending_status run.ending) status (ending_result run.ending) refusing is)
+refusal_is (Listed telling) status refusing is = absurd (apart (listing_status telling) status (listing_result telling) refusing is)
+
+-- so it has its cause
+refused_as : {request : Option Asked} {files files' : FilesState} {out out' note note' : SinkState} {done : Done} → Outcome request files files' out out' note note' done → (status : ℕ) → IsOfRefusal status → done.status ≡ status →
+    (refusal : Refusal) × IsRefused refusal request files files' × (refusal_status refusal ≡ status)
+refused_as {request} {files} {files'} {out} {out'} o status refusing is =
+    let found = refusal_is o.course status refusing (own_status o status refusing.1 is) in
+    let came = subst (λ (course : Course). CameAbout course request files files' out out') found.1 o.came in
+    (found.0, came.0, found.2)
+
+usage_cause : (refusal : Refusal) (request : Option Asked) (files files' : FilesState) → IsRefused refusal request files files' → refusal_status refusal ≡ 2 → (request ≡ None) ⊎ IsNotFlat request
+usage_cause (Usage text) request files files' cause is = inl cause.0
+usage_cause NotFlat request files files' cause is = inr cause.0
+usage_cause Unread request files files' cause is = absurd (omega arith)
+usage_cause TooLong request files files' cause is = absurd (omega arith)
+usage_cause TooLarge request files files' cause is = absurd (omega arith)
+
+pub usage : {request : Option Asked} {files files' : FilesState} {out out' note note' : SinkState} {done : Done} → Outcome request files files' out out' note note' done → done.status ≡ 2 → (request ≡ None) ⊎ IsNotFlat request
+usage {request} {files} {files'} o is =
+    let found = refused_as o 2 (omega arith, omega arith, inl (omega arith)) is in usage_cause found.0 request files files' found.1 found.2
+
+long_cause : (refusal : Refusal) (request : Option Asked) (files files' : FilesState) → IsRefused refusal request files files' → refusal_status refusal ≡ 3 →
+    Stops TooLong (needs_of request) files files' ⊎ Stops TooLarge (needs_of request) files files'
+long_cause (Usage text) request files files' cause is = absurd (omega arith)
+long_cause NotFlat request files files' cause is = absurd (omega arith)
+long_cause Unread request files files' cause is = absurd (omega arith)
+long_cause TooLong request files files' cause is = inl cause
+long_cause TooLarge request files files' cause is = inr cause
+
+pub refused : {request : Option Asked} {files files' : FilesState} {out out' note note' : SinkState} {done : Done} → Outcome request files files' out out' note note' done → done.status ≡ 3 →
+    Stops TooLong (needs_of request) files files' ⊎ Stops TooLarge (needs_of request) files files'
+refused {request} {files} {files'} o is =
+    let found = refused_as o 3 (omega arith, omega arith, inl (omega arith)) is in long_cause found.0 request files files' found.1 found.2
+
+unread_cause : (refusal : Refusal) (request : Option Asked) (files files' : FilesState) → IsRefused refusal request files files' → refusal_status refusal ≡ 8 → Stops Unread (needs_of request) files files'
+unread_cause (Usage text) request files files' cause is = absurd (omega arith)
+unread_cause NotFlat request files files' cause is = absurd (omega arith)
+unread_cause Unread request files files' cause is = cause
+unread_cause TooLong request files files' cause is = absurd (omega arith)
+unread_cause TooLarge request files files' cause is = absurd (omega arith)
+
+pub read_fault : {request : Option Asked} {files files' : FilesState} {out out' note note' : SinkState} {done : Done} → Outcome request files files' out out' note note' done → done.status ≡ 8 → Stops Unread (needs_of request) files files'
+read_fault {request} {files} {files'} o is =
+    let found = refused_as o 8 (omega arith, omega arith, inr (omega arith)) is in unread_cause found.0 request files files' found.1 found.2
+
+-- ---- what was told
+
+-- what holds of a course in which nothing was done
+abbrev pub IfUndone : Course → Type 0 → Type 0
+IfUndone (Refused refusal) P = P
+IfUndone NoMemory P = P
+IfUndone (Ran run bus) P = Unit {0}
+IfUndone (RanPlain run) P = Unit {0}
+IfUndone (Listed telling) P = Unit {0}
+
+pub undone_of : (course : Course) (telling : Telling) (request : Option Asked) (files files' : FilesState) (out out' note note' : SinkState) → CameAbout course request files files' out out' → TellsCourse course note note' telling →
+    IfUndone course (Undone (status_of course telling) request files files' out out' note note')
+undone_of (Refused refusal) (Ok _) request files files' out out' note note' came tells =
+    record { silent = came.1; told = inl (record { refusal = refusal; cause = came.0; text = inl tells; status_is = inl refl }) }
+undone_of (Refused refusal) (Err Failed) request files files' out out' note note' came tells =
+    record { silent = came.1; told = inl (record { refusal = refusal; cause = came.0; text = inr (tells.0, inl tells.1); status_is = inl refl }) }
+undone_of (Refused refusal) (Err no_memory) request files files' out out' note note' came tells =
+    record { silent = came.1; told = inl (record { refusal = refusal; cause = came.0; text = inr (tells, inr refl); status_is = inr refl }) }
+undone_of NoMemory telling request files files' out out' note note' came tells =
+    record { silent = came.1; told = inr (record { runs_out = came.0; silent = tells.0; status_is = ten telling tells.1 }) }
+  where
+    ten : (telling : Telling) → telling ≡ Ok tt → status_of NoMemory telling ≡ 10
+    ten telling whole = rw whole refl
+undone_of (Ran run bus) telling request files files' out out' note note' came tells = tt
+undone_of (RanPlain run) telling request files files' out out' note note' came tells = tt
+undone_of (Listed listed) telling request files files' out out' note note' came tells = tt
 
 untold_cases : (ending : Ending) → ((untold_ending_status ending ≡ 9) × (ending ≢ memory_ended)) ⊎ (untold_ending_status ending ≡ 10)
 untold_cases (Halted code) = inl (refl, λ e. cc)
@@ -168,15 +248,27 @@ untold_cases (Spent page) = inl (refl, λ e. cc)
 untold_cases WriteFault = inl (refl, λ e. cc)
 untold_cases memory_ended = inr refl
 
-told_run : (course : Course) (telling : Telling) (note note' : SinkState) → IsTold (course_text course) note note' telling →
+untold_ending : (text : List ℕ) (whole : ℕ) (ending : Ending) (old new : SinkState) → GainsFront old text new → Rose old.faults new.faults → TellsEnding text whole ending (untold_ending_status ending) old new
+untold_ending text whole ending old new front risen =
+    inr (front, elim (untold_cases ending) [ inl untold ↦ inl (untold.0, untold.1, risen) | inr none ↦ inr none ])
+
+told_run : (course : Course) (telling : Telling) (note note' : SinkState) → TellsCourse course note note' telling →
     IfSome (course_run course) (λ run. TellsRun (status_of course telling) run (lies_of (course_bus course)) note note')
 told_run (Refused refusal) telling note note' tells = tt
 told_run NoMemory telling note note' tells = tt
+told_run (RanPlain run) telling note note' tells = tt
+told_run (Listed listed) telling note note' tells = tt
 told_run (Ran run bus) (Ok _) note note' tells = inl (tells, refl)
 told_run (Ran run bus) (Err Failed) note note' tells =
-    inr (tells.0, elim (untold_cases run.ending) [ inl untold ↦ inl (untold.0, untold.1, tells.1) | inr none ↦ inr none ])
+    untold_ending (record_text run (run_told bus).lies) (run_status run) run.ending note note' tells.0 tells.1
 told_run (Ran run bus) (Err no_memory) note note' tells = inr (tells, inr refl)
 
-pub tells_run : {request : Option (List ℕ)} {files files' : FilesState} {out out' note note' : SinkState} {done : Done} → Outcome request files files' out out' note note' done →
+pub tells_run : {request : Option Asked} {files files' : FilesState} {out out' note note' : SinkState} {done : Done} → Outcome request files files' out out' note note' done →
     IfSome done.run (λ run. TellsRun done.status run done.lies note note')
 tells_run {note} {note'} o = rw (o.run, o.status, o.lies) (told_run o.course o.told note note' o.tells)
+
+pub told_plain : (run : PlainRecord) (telling : Telling) (note note' : SinkState) → TellsCourse (RanPlain run) note note' telling → TellsPlain (status_of (RanPlain run) telling) run note note'
+told_plain run (Ok _) note note' tells = inl (tells, refl)
+told_plain run (Err Failed) note note' tells =
+    untold_ending (plain_text run) (ending_status run.ending) run.ending note note' tells.0 tells.1
+told_plain run (Err no_memory) note note' tells = inr (tells, inr refl)

@@ -1,38 +1,42 @@
--- What the course of a call says of its run and of the run's bus.
-use Rattle.std.proofs.Common.{◌≡◌, ◌≢◌, ◌<◌, ◌≤◌, ◌⊎◌, ◌↔◌, inl, inr, List, [], ◌∷◌, ℕ, length, Option, Some, None, Ok, Err, Contains, IsSome, refl, sym, ap, ◌∙◌, subst, arith}
+-- What the course of a call says of what was done.
+use Rattle.std.proofs.Common.{◌≡◌, ◌≢◌, ◌<◌, ◌≤◌, ◌↔◌, ◌⊎◌, inl, inr, List, ℕ, Option, Some, None, Ok, Err, IsSome, refl, sym, ap, ◌∙◌, subst, arith}
 use Rattle.sec_base.specs.Count.{Rose}
-use Rattle.sec_base.specs.Reading.{FilesState, HasOver, IsOver}
+use Rattle.sec_base.specs.Reading.{FilesState}
 use Rattle.sec_base.specs.Writing.{SinkState}
+use Rattle.sec_base.specs.declared.account.Evidence.{Evidence}
 use Rattle.sec_base.specs.declared.answers.Ending.{Ending}
 use Rattle.sec_base.specs.declared.answers.Ending.TheVariants.{Halted, Trapped, OutOfSteps, Tampered, Spent, WriteFault, NoMemory as memory_ended}
 use Rattle.sec_base.specs.declared.writing.SinkStop.TheVariants.{Failed, NoMemory as no_memory}
 use Rattle.bus_model.specs.Told.{Told}
-use Rattle.rv32_core.specs.Follows.{IsWhole}
+use Rattle.plain_machine.specs.declared.PlainRecord.{PlainRecord}
 use Rattle.chip_run.specs.declared.RunRecord.{RunRecord}
+use Rattle.chip_words.specs.Request.{Asked, ExecutionAsked, ListingAsked, to_run, to_run_plain, to_list}
 use Rattle.chip_main.specs.declared.refusal.Refusal.{Refusal}
-use Rattle.chip_main.specs.declared.refusal.Refusal.TheVariants.{Usage, Unread, TooLong, TooLarge}
+use Rattle.chip_main.specs.declared.refusal.Refusal.TheVariants.{Usage, NotFlat, Unread, TooLong, TooLarge}
 use Rattle.chip_main.specs.declared.run_bus.RunBus.{RunBus}
 use Rattle.chip_main.specs.declared.run_bus.RunBus.TheVariants.{Honest}
 use Rattle.chip_main.specs.declared.course.Course.{Course}
-use Rattle.chip_main.specs.declared.course.Course.TheVariants.{Refused, NoMemory, Ran}
+use Rattle.chip_main.specs.declared.course.Course.TheVariants.{Refused, NoMemory, Ran, RanPlain, Listed}
 use Rattle.chip_main.specs.declared.Done.{Done}
-use Rattle.chip_main.specs.Flat.{budget, flat_opening, flat_size, file_limit}
-use Rattle.chip_main.specs.Statuses.{ending_status, refusal_status, run_status, untold_ending_status}
-use Rattle.chip_main.specs.Causes.{HasTold}
-use Rattle.chip_main.specs.FlatRun.{RunsRequest, RunsFlat}
-use Rattle.chip_main.specs.Buses.{run_told, lies_of, IfBoth, AreBothAnd, IfRun, IsRunAnd}
+use Rattle.chip_main.specs.FlatRun.{RunsFlat}
+use Rattle.chip_main.specs.Statuses.{Telling, ending_status, evidence_status, listing_status, refusal_status, run_status, status_with}
+use Rattle.chip_main.specs.Buses.{AreBothAnd, IfBoth, IfRun, IsRunAnd, lies_of, run_told}
 use Rattle.chip_main.specs.Endings.{EndedHalted, EndedTrapped, EndedOutOfSteps, EndedTampered, EndedSpent, EndedWithEvidence}
-use Rattle.chip_main.specs.Course.{CameAbout, Telling, IsTold, Outcome, course_run, course_bus, course_text, status_of}
-use Rattle.chip_main.proofs.RunStatuses.{halted_cause, trapped_cause, out_of_steps_cause, tampered_cause, spent_cause, evidence_cause, honest_without_evidence, run_status_without_evidence}
-use Rattle.chip_main.proofs.Outcomes.{same_bytes}
+use Rattle.chip_main.specs.Requests.{ByCommand, Lists, ListsRequest, PlainlyRuns, PlainlyRunsRequest, RunsExecution, RunsRequest}
+use Rattle.chip_main.specs.Answer.{IsHalted, IsTrapped, IsOutOfSteps, ListsWhole, PlainlyEnded}
+use Rattle.chip_main.specs.Course.{CameAbout, Outcome, TellsCourse, course_bus, course_run, course_status, status_of}
+use Rattle.chip_main.proofs.Outcomes.{own_status}
+use Rattle.chip_main.proofs.RunStatuses.{evidence_cause, halted_cause, halted_of, no_seven, out_of_steps_cause, out_of_steps_of, spent_cause, spent_of, tampered_cause, tampered_of, trapped_cause, trapped_of}
 
 -- a run and its bus come together
 together : (course : Course) → IsSome (course_run course) ↔ IsSome (course_bus course)
 together (Refused refusal) = (λ is. is, λ is. is)
 together NoMemory = (λ is. is, λ is. is)
 together (Ran run bus) = (λ is. is, λ is. is)
+together (RanPlain run) = (λ is. is, λ is. is)
+together (Listed telling) = (λ is. is, λ is. is)
 
-pub bus_together : {request : Option (List ℕ)} {files files' : FilesState} {out out' note note' : SinkState} {done : Done} → Outcome request files files' out out' note note' done → IsSome done.run ↔ IsSome done.bus
+pub bus_together : {request : Option Asked} {files files' : FilesState} {out out' note note' : SinkState} {done : Done} → Outcome request files files' out out' note note' done → IsSome done.run ↔ IsSome done.bus
 bus_together o = rw (o.run, o.bus) (together o.course)
 
 -- the bus is honest
@@ -40,104 +44,152 @@ none_false : (course : Course) → lies_of (course_bus course) ≡ 0
 none_false (Refused refusal) = refl
 none_false NoMemory = refl
 none_false (Ran run (Honest kept)) = refl
+none_false (RanPlain run) = refl
+none_false (Listed telling) = refl
 
-pub honest : {request : Option (List ℕ)} {files files' : FilesState} {out out' note note' : SinkState} {done : Done} → Outcome request files files' out out' note note' done → done.lies ≡ 0
+pub honest : {request : Option Asked} {files files' : FilesState} {out out' note note' : SinkState} {done : Done} → Outcome request files files' out out' note note' done → done.lies ≡ 0
 honest o = o.lies ∙ none_false o.course
 
-runs : (course : Course) (request : Option (List ℕ)) (files files' : FilesState) (out out' : SinkState) → CameAbout course request files files' out out' →
-    IfBoth (course_run course) (course_bus course) (RunsRequest request files out out')
+runs : (course : Course) (request : Option Asked) (files files' : FilesState) (out out' : SinkState) → CameAbout course request files files' out out' →
+    IfBoth (course_run course) (course_bus course) (RunsRequest request files files' out out')
 runs (Refused refusal) request files files' out out' came = tt
 runs NoMemory request files files' out out' came = tt
-runs (Ran run bus) request files files' out out' came = came.1
+runs (Ran run bus) request files files' out out' came = came
+runs (RanPlain run) request files files' out out' came = tt
+runs (Listed telling) request files files' out out' came = tt
 
-pub runs_request : {request : Option (List ℕ)} {files files' : FilesState} {out out' note note' : SinkState} {done : Done} → Outcome request files files' out out' note note' done → IfRun done (RunsRequest request files out out')
+pub runs_request : {request : Option Asked} {files files' : FilesState} {out out' note note' : SinkState} {done : Done} → Outcome request files files' out out' note note' done → IfRun done (RunsRequest request files files' out out')
 runs_request {request} {files} {files'} {out} {out'} o = rw (o.run, o.bus) (runs o.course request files files' out out' o.came)
 
--- a status that only a run has
-abbrev pub IsOfRun : ℕ → Type 0
-IsOfRun status = (status ≢ 2) × (status ≢ 3) × (status < 8)
+-- ---- what a status says of what was done, by the command
 
--- a run has this status, and is the request's
-abbrev pub RanAs : ℕ → Option (List ℕ) → FilesState → SinkState → SinkState → RunRecord → Told → Type 0
-RanAs status request files out out' run told = (run_status run ≡ status) × RunsRequest request files out out' run told
+-- what a status says of a run on protected memory, of one on the plain machine, and of a listing
+pub record Says (status : ℕ) (Run : RunRecord → Told → Type 0) (Plain : ExecutionAsked → Type 0) (Dis : ListingAsked → Type 0) (files files' : FilesState) (out out' : SinkState) : Type 0 where
+  pub refuses : (refusal : Refusal) → refusal_status refusal ≢ status
+  pub low : status < 9
+  pub of_run : (execution : ExecutionAsked) (run : RunRecord) (told : Told) → RunsExecution execution files files' out out' run told → run_status run ≡ status → Run run told
+  pub of_plain : (execution : ExecutionAsked) (run : PlainRecord) → PlainlyRuns execution files files' out out' run → ending_status run.ending ≡ status → Plain execution
+  pub of_listing : (listing : ListingAsked) (telling : Telling) → Lists listing files files' out out' telling → listing_status telling ≡ status → Dis listing
 
-unrefused : (refusal : Refusal) (status : ℕ) → IsOfRun status → refusal_status refusal ≢ status
-unrefused Usage status of_run is = of_run.0 (sym is)
-unrefused Unread status of_run is = omega (arith, of_run.2)
-unrefused TooLong status of_run is = of_run.1 (sym is)
-unrefused TooLarge status of_run is = of_run.1 (sym is)
+said_of_run : (request : Option Asked) (run : RunRecord) (told : Told) (status : ℕ) (Run : RunRecord → Told → Type 0) (Plain : ExecutionAsked → Type 0) (Dis : ListingAsked → Type 0) (files files' : FilesState) (out out' : SinkState) →
+    Says status Run Plain Dis files files' out out' → RunsRequest request files files' out out' run told → run_status run ≡ status → ByCommand request (λ _. Run run told) Plain Dis
+said_of_run None run told status Run Plain Dis files files' out out' says came is = absurd came
+said_of_run (Some (to_run execution)) run told status Run Plain Dis files files' out out' says came is = says.of_run execution run told came is
+said_of_run (Some (to_run_plain execution)) run told status Run Plain Dis files files' out out' says came is = absurd came
+said_of_run (Some (to_list listing)) run told status Run Plain Dis files files' out out' says came is = absurd came
 
-untold_high : (ending : Ending) → 9 ≤ untold_ending_status ending
-untold_high (Halted code) = omega arith
-untold_high (Trapped cause pc) = omega arith
-untold_high OutOfSteps = omega arith
-untold_high (Tampered place) = omega arith
-untold_high (Spent page) = omega arith
-untold_high WriteFault = omega arith
-untold_high memory_ended = omega arith
+said_of_plain : (request : Option Asked) (run : PlainRecord) (status : ℕ) (Run : RunRecord → Told → Type 0) (Plain : ExecutionAsked → Type 0) (Dis : ListingAsked → Type 0) (files files' : FilesState) (out out' : SinkState) →
+    Says status Run Plain Dis files files' out out' → PlainlyRunsRequest request files files' out out' run → ending_status run.ending ≡ status → ByCommand request (λ _. ⊥) Plain Dis
+said_of_plain None run status Run Plain Dis files files' out out' says came is = absurd came
+said_of_plain (Some (to_run execution)) run status Run Plain Dis files files' out out' says came is = absurd came
+said_of_plain (Some (to_run_plain execution)) run status Run Plain Dis files files' out out' says came is = says.of_plain execution run came is
+said_of_plain (Some (to_list listing)) run status Run Plain Dis files files' out out' says came is = absurd came
 
-ran_as : (status : ℕ) (course : Course) (telling : Telling) (request : Option (List ℕ)) (files files' : FilesState) (out out' : SinkState) → IsOfRun status →
-    CameAbout course request files files' out out' → status_of course telling ≡ status → AreBothAnd (course_run course) (course_bus course) (RanAs status request files out out')
-ran_as status (Refused refusal) (Ok _) request files files' out out' of_run came is = absurd (unrefused refusal status of_run is)
-ran_as status (Refused refusal) (Err Failed) request files files' out out' of_run came is = absurd (unrefused refusal status of_run is)
-ran_as status (Refused refusal) (Err no_memory) request files files' out out' of_run came is = absurd (omega (arith, of_run.2))
-ran_as status NoMemory (Ok _) request files files' out out' of_run came is = absurd (omega (arith, of_run.2))
-ran_as status NoMemory (Err Failed) request files files' out out' of_run came is = absurd (omega (arith, of_run.2))
-ran_as status NoMemory (Err no_memory) request files files' out out' of_run came is = absurd (omega (arith, of_run.2))
-ran_as status (Ran run bus) (Ok _) request files files' out out' of_run came is = (is, came.1)
-ran_as status (Ran run bus) (Err Failed) request files files' out out' of_run came is = absurd (omega (arith, of_run.2, untold_high run.ending))
-ran_as status (Ran run bus) (Err no_memory) request files files' out out' of_run came is = absurd (omega (arith, of_run.2))
+said_of_listing : (request : Option Asked) (telling : Telling) (status : ℕ) (Run : RunRecord → Told → Type 0) (Plain : ExecutionAsked → Type 0) (Dis : ListingAsked → Type 0) (files files' : FilesState) (out out' : SinkState) →
+    Says status Run Plain Dis files files' out out' → ListsRequest request files files' out out' telling → listing_status telling ≡ status → ByCommand request (λ _. ⊥) Plain Dis
+said_of_listing None telling status Run Plain Dis files files' out out' says came is = absurd came
+said_of_listing (Some (to_run execution)) telling status Run Plain Dis files files' out out' says came is = absurd came
+said_of_listing (Some (to_run_plain execution)) telling status Run Plain Dis files files' out out' says came is = absurd came
+said_of_listing (Some (to_list listing)) telling status Run Plain Dis files files' out out' says came is = says.of_listing listing telling came is
 
--- what follows of a run follows of the call's
-both_map : (run : Option RunRecord) (bus : Option RunBus) (P Q : RunRecord → Told → Type 0) → ((r : RunRecord) (t : Told) → P r t → Q r t) → AreBothAnd run bus P → AreBothAnd run bus Q
-both_map None bus P Q leads holds = holds
-both_map (Some run) None P Q leads holds = holds
-both_map (Some run) (Some bus) P Q leads holds = leads run (run_told bus) holds
+said : (course : Course) (request : Option Asked) (status : ℕ) (Run : RunRecord → Told → Type 0) (Plain : ExecutionAsked → Type 0) (Dis : ListingAsked → Type 0) (files files' : FilesState) (out out' : SinkState) →
+    Says status Run Plain Dis files files' out out' → CameAbout course request files files' out out' → course_status course ≡ status →
+    ByCommand request (λ _. AreBothAnd (course_run course) (course_bus course) Run) Plain Dis
+said (Refused refusal) request status Run Plain Dis files files' out out' says came is = absurd (says.refuses refusal is)
+said NoMemory request status Run Plain Dis files files' out out' says came is = absurd (omega (arith, says.low))
+said (Ran run bus) request status Run Plain Dis files files' out out' says came is =
+    said_of_run request run (run_told bus) status Run Plain Dis files files' out out' says came is
+said (RanPlain run) request status Run Plain Dis files files' out out' says came is =
+    said_of_plain request run status Run Plain Dis files files' out out' says came is
+said (Listed telling) request status Run Plain Dis files files' out out' says came is =
+    said_of_listing request telling status Run Plain Dis files files' out out' says came is
 
--- the cause of a status
-cause : (status : ℕ) (Q : RunRecord → Told → Type 0) {request : Option (List ℕ)} {files files' : FilesState} {out out' note note' : SinkState} {done : Done} → IsOfRun status →
-    ((bytes : List ℕ) (run : RunRecord) (told : Told) → RunsFlat bytes out out' run told → run_status run ≡ status → Q run told) →
-    Outcome request files files' out out' note note' done → done.status ≡ status → IsRunAnd done Q
-cause status Q {request} {files} {files'} {out} {out'} of_run leads o is =
-    rw (o.run, o.bus) (both_map (course_run o.course) (course_bus o.course) (RanAs status request files out out') Q
-    (λ run told ran. leads ran.1.0 run told ran.1.2 ran.0)
-    (ran_as status o.course o.told request files files' out out' of_run o.came (sym o.status ∙ is)))
+by_command : (status : ℕ) (Run : RunRecord → Told → Type 0) (Plain : ExecutionAsked → Type 0) (Dis : ListingAsked → Type 0) {request : Option Asked} {files files' : FilesState} {out out' note note' : SinkState} {done : Done} →
+    Says status Run Plain Dis files files' out out' → Outcome request files files' out out' note note' done → done.status ≡ status → ByCommand request (λ _. IsRunAnd done Run) Plain Dis
+by_command status Run Plain Dis {request} {files} {files'} {out} {out'} says o is =
+    rw (o.run, o.bus) (said o.course request status Run Plain Dis files files' out out' says o.came (own_status o status says.low is))
 
-of_run_0 : IsOfRun 0
-of_run_0 = (omega arith, omega arith, omega arith)
+-- no refusal has one of these statuses
+unrefused : (status : ℕ) → status ≢ 2 → status ≢ 3 → status ≢ 8 → (refusal : Refusal) → refusal_status refusal ≢ status
+unrefused status two three eight (Usage text) is = two (sym is)
+unrefused status two three eight NotFlat is = two (sym is)
+unrefused status two three eight Unread is = eight (sym is)
+unrefused status two three eight TooLong is = three (sym is)
+unrefused status two three eight TooLarge is = three (sym is)
 
-of_run_1 : IsOfRun 1
-of_run_1 = (omega arith, omega arith, omega arith)
+-- a listing has no status from 1 to 8
+unlisted : (status : ℕ) → 0 < status → status < 9 → (telling : Telling) → listing_status telling ≢ status
+unlisted status some low (Ok _) is = omega arith
+unlisted status some low (Err Failed) is = omega arith
+unlisted status some low (Err no_memory) is = omega arith
 
-of_run_4 : IsOfRun 4
-of_run_4 = (omega arith, omega arith, omega arith)
+listed_whole : (listing : ListingAsked) (telling : Telling) (files files' : FilesState) (out out' : SinkState) → Lists listing files files' out out' telling → listing_status telling ≡ 0 → ListsWhole listing files files' out out'
+listed_whole listing (Ok _) files files' out out' lists is = (lists.0, lists.1, lists.2)
+listed_whole listing (Err Failed) files files' out out' lists is = absurd (omega arith)
+listed_whole listing (Err no_memory) files files' out out' lists is = absurd (omega arith)
 
-of_run_5 : IsOfRun 5
-of_run_5 = (omega arith, omega arith, omega arith)
+pub halted : {request : Option Asked} {files files' : FilesState} {out out' note note' : SinkState} {done : Done} → Outcome request files files' out out' note note' done → done.status ≡ 0 →
+    ByCommand request (λ _. IsRunAnd done EndedHalted) (λ execution. PlainlyEnded IsHalted execution files files' out out') (λ listing. ListsWhole listing files files' out out')
+halted {files = files} {files' = files'} {out = out} {out' = out'} o is =
+    by_command 0 EndedHalted (λ execution. PlainlyEnded IsHalted execution files files' out out') (λ listing. ListsWhole listing files files' out out') (record {
+      refuses = unrefused 0 (omega arith) (omega arith) (omega arith);
+      low = omega arith;
+      of_run = λ execution run told runs is. halted_cause runs.3 is;
+      of_plain = λ execution run runs is. (run, runs, halted_of run.ending is);
+      of_listing = λ listing telling lists is. listed_whole listing telling files files' out out' lists is;
+    }) o is
 
-of_run_6 : IsOfRun 6
-of_run_6 = (omega arith, omega arith, omega arith)
+pub trapped : {request : Option Asked} {files files' : FilesState} {out out' note note' : SinkState} {done : Done} → Outcome request files files' out out' note note' done → done.status ≡ 1 →
+    ByCommand request (λ _. IsRunAnd done EndedTrapped) (λ execution. PlainlyEnded IsTrapped execution files files' out out') (λ _. ⊥)
+trapped {files = files} {files' = files'} {out = out} {out' = out'} o is =
+    by_command 1 EndedTrapped (λ execution. PlainlyEnded IsTrapped execution files files' out out') (λ _. ⊥) (record {
+      refuses = unrefused 1 (omega arith) (omega arith) (omega arith);
+      low = omega arith;
+      of_run = λ execution run told runs is. trapped_cause runs.3 is;
+      of_plain = λ execution run runs is. (run, runs, trapped_of run.ending is);
+      of_listing = λ listing telling lists is. unlisted 1 (omega arith) (omega arith) telling is;
+    }) o is
 
-of_run_7 : IsOfRun 7
-of_run_7 = (omega arith, omega arith, omega arith)
+pub out_of_steps : {request : Option Asked} {files files' : FilesState} {out out' note note' : SinkState} {done : Done} → Outcome request files files' out out' note note' done → done.status ≡ 4 →
+    ByCommand request (λ _. IsRunAnd done EndedOutOfSteps) (λ execution. PlainlyEnded IsOutOfSteps execution files files' out out') (λ _. ⊥)
+out_of_steps {files = files} {files' = files'} {out = out} {out' = out'} o is =
+    by_command 4 EndedOutOfSteps (λ execution. PlainlyEnded IsOutOfSteps execution files files' out out') (λ _. ⊥) (record {
+      refuses = unrefused 4 (omega arith) (omega arith) (omega arith);
+      low = omega arith;
+      of_run = λ execution run told runs is. out_of_steps_cause runs.3 is;
+      of_plain = λ execution run runs is. (run, runs, out_of_steps_of run.ending is);
+      of_listing = λ listing telling lists is. unlisted 4 (omega arith) (omega arith) telling is;
+    }) o is
 
-pub halted : {request : Option (List ℕ)} {files files' : FilesState} {out out' note note' : SinkState} {done : Done} → Outcome request files files' out out' note note' done → done.status ≡ 0 → IsRunAnd done EndedHalted
-halted o is = cause 0 EndedHalted of_run_0 (λ bytes run told runs is_status. halted_cause runs is_status) o is
+pub tampered : {request : Option Asked} {files files' : FilesState} {out out' note note' : SinkState} {done : Done} → Outcome request files files' out out' note note' done → done.status ≡ 5 →
+    ByCommand request (λ _. IsRunAnd done EndedTampered) (λ _. ⊥) (λ _. ⊥)
+tampered o is = by_command 5 EndedTampered (λ _. ⊥) (λ _. ⊥) (record {
+  refuses = unrefused 5 (omega arith) (omega arith) (omega arith);
+  low = omega arith;
+  of_run = λ execution run told runs is. tampered_cause runs.3 is;
+  of_plain = λ execution run runs is. let place = tampered_of run.ending is in runs.3.untampered place.0 place.1;
+  of_listing = λ listing telling lists is. unlisted 5 (omega arith) (omega arith) telling is;
+}) o is
 
-pub trapped : {request : Option (List ℕ)} {files files' : FilesState} {out out' note note' : SinkState} {done : Done} → Outcome request files files' out out' note note' done → done.status ≡ 1 → IsRunAnd done EndedTrapped
-trapped o is = cause 1 EndedTrapped of_run_1 (λ bytes run told runs is_status. trapped_cause runs is_status) o is
+pub spent : {request : Option Asked} {files files' : FilesState} {out out' note note' : SinkState} {done : Done} → Outcome request files files' out out' note note' done → done.status ≡ 6 →
+    ByCommand request (λ _. IsRunAnd done EndedSpent) (λ _. ⊥) (λ _. ⊥)
+spent o is = by_command 6 EndedSpent (λ _. ⊥) (λ _. ⊥) (record {
+  refuses = unrefused 6 (omega arith) (omega arith) (omega arith);
+  low = omega arith;
+  of_run = λ execution run told runs is. spent_cause runs.3 is;
+  of_plain = λ execution run runs is. let page = spent_of run.ending is in runs.3.unspent page.0 page.1;
+  of_listing = λ listing telling lists is. unlisted 6 (omega arith) (omega arith) telling is;
+}) o is
 
-pub out_of_steps : {request : Option (List ℕ)} {files files' : FilesState} {out out' note note' : SinkState} {done : Done} → Outcome request files files' out out' note note' done → done.status ≡ 4 → IsRunAnd done EndedOutOfSteps
-out_of_steps o is = cause 4 EndedOutOfSteps of_run_4 (λ bytes run told runs is_status. out_of_steps_cause runs is_status) o is
-
-pub tampered : {request : Option (List ℕ)} {files files' : FilesState} {out out' note note' : SinkState} {done : Done} → Outcome request files files' out out' note note' done → done.status ≡ 5 → IsRunAnd done EndedTampered
-tampered o is = cause 5 EndedTampered of_run_5 (λ bytes run told runs is_status. tampered_cause runs is_status) o is
-
-pub spent : {request : Option (List ℕ)} {files files' : FilesState} {out out' note note' : SinkState} {done : Done} → Outcome request files files' out out' note note' done → done.status ≡ 6 → IsRunAnd done EndedSpent
-spent o is = cause 6 EndedSpent of_run_6 (λ bytes run told runs is_status. spent_cause runs is_status) o is
-
-pub with_evidence : {request : Option (List ℕ)} {files files' : FilesState} {out out' note note' : SinkState} {done : Done} → Outcome request files files' out out' note note' done → done.status ≡ 7 → IsRunAnd done EndedWithEvidence
-with_evidence o is = cause 7 EndedWithEvidence of_run_7 (λ bytes run told runs is_status. evidence_cause runs is_status) o is
+pub with_evidence : {request : Option Asked} {files files' : FilesState} {out out' note note' : SinkState} {done : Done} → Outcome request files files' out out' note note' done → done.status ≡ 7 →
+    ByCommand request (λ _. IsRunAnd done EndedWithEvidence) (λ _. ⊥) (λ _. ⊥)
+with_evidence o is = by_command 7 EndedWithEvidence (λ _. ⊥) (λ _. ⊥) (record {
+  refuses = unrefused 7 (omega arith) (omega arith) (omega arith);
+  low = omega arith;
+  of_run = λ execution run told runs is. evidence_cause runs.3 is;
+  of_plain = λ execution run runs is. no_seven run.ending is;
+  of_listing = λ listing telling lists is. unlisted 7 (omega arith) (omega arith) telling is;
+}) o is
 
 -- the one false answer of a bus that was caught
 caught_once : (run : Option RunRecord) (bus : Option RunBus) → AreBothAnd run bus EndedTampered → lies_of bus ≡ 1
@@ -145,73 +197,77 @@ caught_once None bus ended = absurd ended
 caught_once (Some run) None ended = absurd ended
 caught_once (Some run) (Some bus) ended = ended.caught.lies
 
-pub tampered_once : {request : Option (List ℕ)} {files files' : FilesState} {out out' note note' : SinkState} {done : Done} → Outcome request files files' out out' note note' done → done.status ≡ 5 → done.lies ≡ 1
-tampered_once {done = done} o is = o.lies ∙ rw (← o.bus) (caught_once done.run done.bus (tampered o is))
+of_command : (request : Option Asked) (P : Type 0) → ByCommand request (λ _. P) (λ _. ⊥) (λ _. ⊥) → P
+of_command None P holds = absurd holds
+of_command (Some (to_run execution)) P holds = holds
+of_command (Some (to_run_plain execution)) P holds = absurd holds
+of_command (Some (to_list listing)) P holds = absurd holds
 
--- The run over the whole budget.
-abbrev pub RanWhole : List ℕ → ℕ → RunRecord → Told → Type 0
-RanWhole bytes status run told = IsWhole (flat_opening bytes) budget run.retired run.ending × (status ≡ ending_status run.ending)
+pub tampered_once : {request : Option Asked} {files files' : FilesState} {out out' note note' : SinkState} {done : Done} → Outcome request files files' out out' note note' done → done.status ≡ 5 → done.lies ≡ 1
+tampered_once {request = request} {done = done} o is =
+    o.lies ∙ rw (← o.bus) (caught_once done.run done.bus (of_command request (IsRunAnd done EndedTampered) (tampered o is)))
 
-abbrev pub other_statuses : List ℕ
-other_statuses = 6 ∷ 10 ∷ []
+-- ---- failed writes
 
-other : (status : ℕ) → status ≡ 10 → Contains other_statuses status
-other status is = subst (λ (n : ℕ). Contains other_statuses n) (sym is) (1, omega arith, refl)
+fault_of : (ending : Ending) → ending_status ending ≡ 9 → ending ≡ WriteFault
+fault_of WriteFault is = refl
+fault_of (Halted code) is = absurd (omega arith)
+fault_of (Trapped cause pc) is = absurd (omega arith)
+fault_of OutOfSteps is = absurd (omega arith)
+fault_of (Tampered place) is = absurd (omega arith)
+fault_of (Spent page) is = absurd (omega arith)
+fault_of memory_ended is = absurd (omega arith)
 
-used_up : (status : ℕ) → status ≡ 6 → Contains other_statuses status
-used_up status is = subst (λ (n : ℕ). Contains other_statuses n) (sym is) (0, omega arith, refl)
+evidence_fault_of : (ending : Ending) → evidence_status ending ≡ 9 → ending ≡ WriteFault
+evidence_fault_of WriteFault is = refl
+evidence_fault_of (Halted code) is = absurd (omega arith)
+evidence_fault_of (Trapped cause pc) is = absurd (omega arith)
+evidence_fault_of OutOfSteps is = absurd (omega arith)
+evidence_fault_of (Tampered place) is = absurd (omega arith)
+evidence_fault_of (Spent page) is = absurd (omega arith)
+evidence_fault_of memory_ended is = absurd (omega arith)
 
--- a file that fits is within the limit
-within : (held : Option (List ℕ → Option (List ℕ))) (name bytes : List ℕ) → HasTold held name bytes → length bytes ≤ flat_size → ¬ HasOver held name file_limit
-within None name bytes content fits over = absurd content
-within (Some held) name bytes content fits over =
-    let long : file_limit < length bytes = subst (λ (o : Option (List ℕ)). IsOver o file_limit) content over in omega arith
+run_fault_of : (evidence : Option Evidence) (ending : Ending) → status_with evidence ending ≡ 9 → ending ≡ WriteFault
+run_fault_of None ending is = fault_of ending is
+run_fault_of (Some evidence) ending is = evidence_fault_of ending is
 
-memory_cases : (ending : Ending) → (ending ≡ memory_ended) ⊎ (ending ≢ memory_ended)
-memory_cases (Halted code) = inr (λ e. cc)
-memory_cases (Trapped cause pc) = inr (λ e. cc)
-memory_cases OutOfSteps = inr (λ e. cc)
-memory_cases (Tampered place) = inr (λ e. cc)
-memory_cases (Spent page) = inr (λ e. cc)
-memory_cases WriteFault = inr (λ e. cc)
-memory_cases memory_ended = inl refl
+refusal_no_fault : (refusal : Refusal) → refusal_status refusal ≢ 9
+refusal_no_fault (Usage text) is = omega arith
+refusal_no_fault NotFlat is = omega arith
+refusal_no_fault Unread is = omega arith
+refusal_no_fault TooLong is = omega arith
+refusal_no_fault TooLarge is = omega arith
 
--- a run without a false answer and without a fault
-ran_whole : (bytes : List ℕ) (out out' : SinkState) (run : RunRecord) (told : Told) → RunsFlat bytes out out' run told → told.lies ≡ 0 → ¬ Rose out.faults out'.faults →
-    Contains other_statuses (run_status run) ⊎ RanWhole bytes (run_status run) run told
-ran_whole bytes out out' run told runs none quiet =
-    let ending_is = run_status_without_evidence run (honest_without_evidence runs none) in
-    elim (memory_cases run.ending) [
-      | inl gone ↦ inl (other (run_status run) (ending_is ∙ ap ending_status gone))
-      | inr had ↦ elim (runs.whole quiet none had) [
-        | inl whole ↦ inr (whole, ending_is)
-        | inr spent ↦ inl (used_up (run_status run) (ending_is ∙ ap ending_status spent.1))
-      ]
-    ]
+-- a failed write of the sink for what is printed
+out_failed : (course : Course) (request : Option Asked) (files files' : FilesState) (out out' : SinkState) → CameAbout course request files files' out out' → course_status course ≡ 9 → Rose out.faults out'.faults
+out_failed (Refused refusal) request files files' out out' came is = absurd (refusal_no_fault refusal is)
+out_failed NoMemory request files files' out out' came is = absurd (omega arith)
+out_failed (Ran run bus) None files files' out out' came is = absurd came
+out_failed (Ran run bus) (Some (to_run execution)) files files' out out' came is = came.3.write_fault (run_fault_of run.evidence run.ending is)
+out_failed (Ran run bus) (Some (to_run_plain execution)) files files' out out' came is = absurd came
+out_failed (Ran run bus) (Some (to_list listing)) files files' out out' came is = absurd came
+out_failed (RanPlain run) None files files' out out' came is = absurd came
+out_failed (RanPlain run) (Some (to_run execution)) files files' out out' came is = absurd came
+out_failed (RanPlain run) (Some (to_run_plain execution)) files files' out out' came is = came.3.write_fault (fault_of run.ending is)
+out_failed (RanPlain run) (Some (to_list listing)) files files' out out' came is = absurd came
+out_failed (Listed telling) None files files' out out' came is = absurd came
+out_failed (Listed telling) (Some (to_run execution)) files files' out out' came is = absurd came
+out_failed (Listed telling) (Some (to_run_plain execution)) files files' out out' came is = absurd came
+out_failed (Listed (Ok _)) (Some (to_list listing)) files files' out out' came is = absurd (omega arith)
+out_failed (Listed (Err Failed)) (Some (to_list listing)) files files' out out' came is = came.2.1
+out_failed (Listed (Err no_memory)) (Some (to_list listing)) files files' out out' came is = absurd (omega arith)
 
-whole_of : (course : Course) (telling : Telling) (name bytes : List ℕ) (files files' : FilesState) (out out' note note' : SinkState) → CameAbout course (Some name) files files' out out' →
-    IsTold (course_text course) note note' telling → HasTold files.held name bytes → length bytes ≤ flat_size → lies_of (course_bus course) ≡ 0 →
-    ¬ Rose files.faults files'.faults → ¬ Rose out.faults out'.faults → ¬ Rose note.faults note'.faults →
-    Contains other_statuses (status_of course telling) ⊎ AreBothAnd (course_run course) (course_bus course) (RanWhole bytes (status_of course telling))
-whole_of course (Err no_memory) name bytes files files' out out' note note' came tells content fits none quiet_files quiet_out quiet_note = inl (other 10 refl)
-whole_of (Refused Usage) (Ok _) name bytes files files' out out' note note' came tells content fits none quiet_files quiet_out quiet_note = let none : Some name ≡ None = came.0.0 in absurd cc
-whole_of (Refused Unread) (Ok _) name bytes files files' out out' note note' came tells content fits none quiet_files quiet_out quiet_note = absurd (quiet_files came.0.0)
-whole_of (Refused TooLong) (Ok _) name bytes files files' out out' note note' came tells content fits none quiet_files quiet_out quiet_note = absurd (within files.held name bytes content fits came.0.0.0)
-whole_of (Refused TooLarge) (Ok _) name bytes files files' out out' note note' came tells content fits none quiet_files quiet_out quiet_note =
-    let same = same_bytes files.held name bytes came.0.0.0 content came.0.0.1.0 in
-    let large : flat_size < length came.0.0.0 = came.0.0.2 in
-    absurd (omega (arith, ap length same))
-whole_of NoMemory (Ok _) name bytes files files' out out' note note' came tells content fits none quiet_files quiet_out quiet_note = inl (other 10 refl)
-whole_of (Ran run bus) (Ok _) name bytes files files' out out' note note' came tells content fits none quiet_files quiet_out quiet_note =
-    let same = same_bytes files.held name bytes came.1.0 content came.1.1.0 in
-    subst (λ (b : List ℕ). Contains other_statuses (run_status run) ⊎ RanWhole b (run_status run) run (run_told bus)) same
-    (ran_whole came.1.0 out out' run (run_told bus) came.1.2 none quiet_out)
-whole_of course (Err Failed) name bytes files files' out out' note note' came tells content fits none quiet_files quiet_out quiet_note = absurd (quiet_note tells.1)
+failed : (course : Course) (telling : Telling) (request : Option Asked) (files files' : FilesState) (out out' note note' : SinkState) → CameAbout course request files files' out out' → TellsCourse course note note' telling → status_of course telling ≡ 9 →
+    Rose out.faults out'.faults ⊎ Rose note.faults note'.faults
+failed course (Ok _) request files files' out out' note note' came tells is = inl (out_failed course request files files' out out' came is)
+failed course (Err no_memory) request files files' out out' note note' came tells is = absurd (omega arith)
+failed (Refused refusal) (Err Failed) request files files' out out' note note' came tells is = inr tells.1
+failed NoMemory (Err Failed) request files files' out out' note note' came tells is = absurd (omega arith)
+failed (Ran run bus) (Err Failed) request files files' out out' note note' came tells is = inr tells.1
+failed (RanPlain run) (Err Failed) request files files' out out' note note' came tells is = inr tells.1
+failed (Listed listed) (Err Failed) request files files' out out' note note' came tells is = inl (out_failed (Listed listed) request files files' out out' came is)
 
-pub whole : {request : Option (List ℕ)} {files files' : FilesState} {out out' note note' : SinkState} {done : Done} → Outcome request files files' out out' note note' done → (name bytes : List ℕ) → request ≡ Some name →
-    HasTold files.held name bytes → length bytes ≤ flat_size → done.lies ≡ 0 →
-    ¬ Rose files.faults files'.faults → ¬ Rose out.faults out'.faults → ¬ Rose note.faults note'.faults →
-    Contains other_statuses done.status ⊎ IsRunAnd done (RanWhole bytes done.status)
-whole {request} {files} {files'} {out} {out'} {note} {note'} o name bytes asks content fits none quiet_files quiet_out quiet_note =
-    let came = subst (λ (r : Option (List ℕ)). CameAbout o.course r files files' out out') asks o.came in
-    rw (o.run, o.bus, o.status) (whole_of o.course o.told name bytes files files' out out' note note' came o.tells content fits (sym o.lies ∙ none) quiet_files quiet_out quiet_note)
+pub write_fault : {request : Option Asked} {files files' : FilesState} {out out' note note' : SinkState} {done : Done} → Outcome request files files' out out' note note' done → done.status ≡ 9 →
+    Rose out.faults out'.faults ⊎ Rose note.faults note'.faults
+write_fault {request} {files} {files'} {out} {out'} {note} {note'} o is =
+    failed o.course o.told request files files' out out' note note' o.came o.tells (sym o.status ∙ is)

@@ -1,8 +1,9 @@
--- What a run's status says of how it ended.
+-- What the status of a run on protected memory says of how it ended.
 use Rattle.std.proofs.Common.{◌≡◌, ◌≢◌, ◌<◌, ◌≤◌, inl, inr, List, ℕ, Option, Some, None, IfSome, refl, sym, ◌∙◌, subst, arith}
 use Rattle.sec_base.specs.Evidence.{IsEvidence}
 use Rattle.sec_base.specs.Writing.{SinkState}
 use Rattle.sec_base.specs.declared.account.Evidence.{Evidence}
+use Rattle.sec_base.specs.declared.account.Message.{Message}
 use Rattle.sec_base.specs.declared.answers.Cause.{Cause}
 use Rattle.sec_base.specs.declared.answers.Ending.{Ending}
 use Rattle.sec_base.specs.declared.answers.Ending.TheVariants.{Halted, Trapped, OutOfSteps, Tampered, Spent, WriteFault, NoMemory}
@@ -47,7 +48,7 @@ low_status run status is low =
     let none = low_without_evidence run.evidence run.ending (subst (λ (n : ℕ). n < 7) (sym is) low) in
     (none, sym (run_status_without_evidence run none) ∙ is)
 
-halted_of : (ending : Ending) → ending_status ending ≡ 0 → (code : ℕ) × (ending ≡ Halted code)
+pub halted_of : (ending : Ending) → ending_status ending ≡ 0 → (code : ℕ) × (ending ≡ Halted code)
 halted_of (Halted code) is = (code, refl)
 halted_of (Trapped cause pc) is = absurd (omega arith)
 halted_of OutOfSteps is = absurd (omega arith)
@@ -56,7 +57,7 @@ halted_of (Spent page) is = absurd (omega arith)
 halted_of WriteFault is = absurd (omega arith)
 halted_of NoMemory is = absurd (omega arith)
 
-trapped_of : (ending : Ending) → ending_status ending ≡ 1 → (cause : Cause) × (pc : ℕ) × (ending ≡ Trapped cause pc)
+pub trapped_of : (ending : Ending) → ending_status ending ≡ 1 → (cause : Cause) × (pc : ℕ) × (ending ≡ Trapped cause pc)
 trapped_of (Trapped cause pc) is = (cause, pc, refl)
 trapped_of (Halted code) is = absurd (omega arith)
 trapped_of OutOfSteps is = absurd (omega arith)
@@ -65,7 +66,7 @@ trapped_of (Spent page) is = absurd (omega arith)
 trapped_of WriteFault is = absurd (omega arith)
 trapped_of NoMemory is = absurd (omega arith)
 
-out_of_steps_of : (ending : Ending) → ending_status ending ≡ 4 → ending ≡ OutOfSteps
+pub out_of_steps_of : (ending : Ending) → ending_status ending ≡ 4 → ending ≡ OutOfSteps
 out_of_steps_of OutOfSteps is = refl
 out_of_steps_of (Halted code) is = absurd (omega arith)
 out_of_steps_of (Trapped cause pc) is = absurd (omega arith)
@@ -74,7 +75,7 @@ out_of_steps_of (Spent page) is = absurd (omega arith)
 out_of_steps_of WriteFault is = absurd (omega arith)
 out_of_steps_of NoMemory is = absurd (omega arith)
 
-tampered_of : (ending : Ending) → ending_status ending ≡ 5 → (place : Place) × (ending ≡ Tampered place)
+pub tampered_of : (ending : Ending) → ending_status ending ≡ 5 → (place : Place) × (ending ≡ Tampered place)
 tampered_of (Tampered place) is = (place, refl)
 tampered_of (Halted code) is = absurd (omega arith)
 tampered_of (Trapped cause pc) is = absurd (omega arith)
@@ -83,7 +84,7 @@ tampered_of (Spent page) is = absurd (omega arith)
 tampered_of WriteFault is = absurd (omega arith)
 tampered_of NoMemory is = absurd (omega arith)
 
-spent_of : (ending : Ending) → ending_status ending ≡ 6 → (page : ℕ) × (ending ≡ Spent page)
+pub spent_of : (ending : Ending) → ending_status ending ≡ 6 → (page : ℕ) × (ending ≡ Spent page)
 spent_of (Spent page) is = (page, refl)
 spent_of (Halted code) is = absurd (omega arith)
 spent_of (Trapped cause pc) is = absurd (omega arith)
@@ -92,7 +93,7 @@ spent_of (Tampered place) is = absurd (omega arith)
 spent_of WriteFault is = absurd (omega arith)
 spent_of NoMemory is = absurd (omega arith)
 
-no_seven : (ending : Ending) → ending_status ending ≢ 7
+pub no_seven : (ending : Ending) → ending_status ending ≢ 7
 no_seven (Halted code) is = omega arith
 no_seven (Trapped cause pc) is = omega arith
 no_seven OutOfSteps is = omega arith
@@ -119,52 +120,56 @@ if_some : {A : Type 0} (P : A → Type 0) (o : Option A) (x : A) → o ≡ Some 
 if_some P o x is holds = subst (λ (v : Option _). IfSome v P) is holds
 
 -- where it ended as tampering, the one false answer was caught
-caught : (run : RunRecord) (told : Told) (place : Place) → run.ending ≡ Tampered place → HonestOrCaught device_tag run.used run.made told (λ p. run.ending ≡ Tampered p) →
-    IsCaught device_tag run.used run.made told (λ p. run.ending ≡ Tampered p)
-caught run told place ended (inl honest) = absurd (honest.untampered place ended)
-caught run told place ended (inr is) = is
+caught : (tag_of : Message → List ℕ) (run : RunRecord) (told : Told) (place : Place) → run.ending ≡ Tampered place → HonestOrCaught tag_of run.used run.made told (λ p. run.ending ≡ Tampered p) →
+    IsCaught tag_of run.used run.made told (λ p. run.ending ≡ Tampered p)
+caught tag_of run told place ended (inl honest) = absurd (honest.untampered place ended)
+caught tag_of run told place ended (inr is) = is
 
 -- the causes of the statuses
-pub halted_cause : {bytes : List ℕ} {old new : SinkState} {run : RunRecord} {told : Told} → RunsFlat bytes old new run told → run_status run ≡ 0 → EndedHalted run told
+pub halted_cause : {levels steps : ℕ} {program input : List ℕ} {old new : SinkState} {run : RunRecord} {told : Told} → RunsFlat levels steps program input old new run told → run_status run ≡ 0 → EndedHalted run told
 unfolding HasNoEvidence
 halted_cause {run = run} runs is =
     let low = low_status run 0 is (omega arith) in
     let ending = halted_of run.ending low.1 in
     record { no_evidence = low.0; code = ending.0; ended = ending.1 }
 
-pub trapped_cause : {bytes : List ℕ} {old new : SinkState} {run : RunRecord} {told : Told} → RunsFlat bytes old new run told → run_status run ≡ 1 → EndedTrapped run told
+pub trapped_cause : {levels steps : ℕ} {program input : List ℕ} {old new : SinkState} {run : RunRecord} {told : Told} → RunsFlat levels steps program input old new run told → run_status run ≡ 1 → EndedTrapped run told
 unfolding HasNoEvidence
 trapped_cause {run = run} runs is =
     let low = low_status run 1 is (omega arith) in
     let ending = trapped_of run.ending low.1 in
     record { no_evidence = low.0; cause = ending.0; pc = ending.1; ended = ending.2 }
 
-pub out_of_steps_cause : {bytes : List ℕ} {old new : SinkState} {run : RunRecord} {told : Told} → RunsFlat bytes old new run told → run_status run ≡ 4 → EndedOutOfSteps run told
+pub out_of_steps_cause : {levels steps : ℕ} {program input : List ℕ} {old new : SinkState} {run : RunRecord} {told : Told} → RunsFlat levels steps program input old new run told → run_status run ≡ 4 → EndedOutOfSteps run told
 unfolding HasNoEvidence
 out_of_steps_cause {run = run} runs is =
     let low = low_status run 4 is (omega arith) in record { no_evidence = low.0; ended = out_of_steps_of run.ending low.1 }
 
-pub tampered_cause : {bytes : List ℕ} {old new : SinkState} {run : RunRecord} {told : Told} → RunsFlat bytes old new run told → run_status run ≡ 5 → EndedTampered run told
+pub tampered_cause : {levels steps : ℕ} {program input : List ℕ} {old new : SinkState} {run : RunRecord} {told : Told} → RunsFlat levels steps program input old new run told → run_status run ≡ 5 → EndedTampered run told
 unfolding HasNoEvidence
-tampered_cause {run = run} {told = told} runs is =
+tampered_cause {levels = levels} {run = run} {told = told} runs is =
     let low = low_status run 5 is (omega arith) in
     let ending = tampered_of run.ending low.1 in
-    record { no_evidence = low.0; caught = caught run told ending.0 ending.1 (runs.answers low.0) }
+    record {
+      no_evidence = low.0;
+      caught = subst (λ (n : ℕ). IsCaught (device_tag n) run.used run.made told (λ p. run.ending ≡ Tampered p)) (sym runs.bus_levels)
+          (caught (device_tag levels) run told ending.0 ending.1 (runs.answers low.0));
+    }
 
-pub spent_cause : {bytes : List ℕ} {old new : SinkState} {run : RunRecord} {told : Told} → RunsFlat bytes old new run told → run_status run ≡ 6 → EndedSpent run told
+pub spent_cause : {levels steps : ℕ} {program input : List ℕ} {old new : SinkState} {run : RunRecord} {told : Told} → RunsFlat levels steps program input old new run told → run_status run ≡ 6 → EndedSpent run told
 unfolding HasNoEvidence
 spent_cause {run = run} runs is =
     let low = low_status run 6 is (omega arith) in
     let ending = spent_of run.ending low.1 in
-    record { no_evidence = low.0; page = ending.0; ended = ending.1; used_up = runs.spent ending.0 low.0 ending.1 }
+    record { no_evidence = low.0; page = ending.0; ended = ending.1; used_up = rw runs.bus_levels (runs.spent ending.0 low.0 ending.1) }
 
-pub evidence_cause : {bytes : List ℕ} {old new : SinkState} {run : RunRecord} {told : Told} → RunsFlat bytes old new run told → run_status run ≡ 7 → EndedWithEvidence run told
-evidence_cause {run = run} {told = told} runs is =
+pub evidence_cause : {levels steps : ℕ} {program input : List ℕ} {old new : SinkState} {run : RunRecord} {told : Told} → RunsFlat levels steps program input old new run told → run_status run ≡ 7 → EndedWithEvidence run told
+evidence_cause {levels = levels} {run = run} {told = told} runs is =
     let found = evidence_of run.evidence run.ending is in
     record {
       evidence = found.0;
       there = found.1;
-      genuine = if_some (IsEvidence device_tag run.made) run.evidence found.0 found.1 runs.genuine;
+      genuine = rw runs.bus_levels (if_some (IsEvidence (device_tag levels) run.made) run.evidence found.0 found.1 runs.genuine);
       first_lie = if_some (IsOfFirstLie run.made told) run.evidence found.0 found.1 runs.first_lie;
       written = fault_is_no_seven run.evidence run.ending is;
       in_memory = memory_is_no_seven run.evidence run.ending is;
@@ -175,5 +180,5 @@ none_without_lie : (evidence : Option Evidence) (run : RunRecord) (told : Told) 
 none_without_lie None run told first none = refl
 none_without_lie (Some evidence) run told first none = let some : 0 < told.lies = first.lies in absurd (omega arith)
 
-pub honest_without_evidence : {bytes : List ℕ} {old new : SinkState} {run : RunRecord} {told : Told} → RunsFlat bytes old new run told → told.lies ≡ 0 → run.evidence ≡ None
+pub honest_without_evidence : {levels steps : ℕ} {program input : List ℕ} {old new : SinkState} {run : RunRecord} {told : Told} → RunsFlat levels steps program input old new run told → told.lies ≡ 0 → run.evidence ≡ None
 honest_without_evidence {run = run} {told = told} runs none = none_without_lie run.evidence run told runs.first_lie none

@@ -1,78 +1,79 @@
 -- What a call came to, how that came about, and what is made of it.
-use Rattle.std.specs.Prelude.{◌≡◌, ◌≢◌, ◌<◌, List, [], ℕ, length, Option, Some, None, Result, Ok, Err}
-use Rattle.sec_base.specs.Count.{Rose}
+use Rattle.std.specs.Prelude.{◌≡◌, List, ℕ, Option, Some, None, Ok, Err}
 use Rattle.sec_base.specs.Reading.{FilesState}
-use Rattle.sec_base.specs.Writing.{SinkState, Gains, Silent}
-use Rattle.sec_base.specs.declared.writing.SinkStop.{SinkStop}
+use Rattle.sec_base.specs.Writing.{SinkState, Silent}
 use Rattle.sec_base.specs.declared.writing.SinkStop.TheVariants.{Failed, NoMemory as no_memory}
 use Rattle.chip_run.specs.declared.RunRecord.{RunRecord}
+use Rattle.chip_words.specs.Request.{Asked}
 use Rattle.chip_main.specs.declared.Done.{Done}
 use Rattle.chip_main.specs.declared.run_bus.RunBus.{RunBus}
-use Rattle.chip_main.specs.declared.refusal.Refusal.TheVariants.{Usage, Unread, TooLong, TooLarge}
 use Rattle.chip_main.specs.declared.course.Course.{Course}
-use Rattle.chip_main.specs.declared.course.Course.TheVariants.{Refused, NoMemory, Ran}
-use Rattle.chip_main.specs.Flat.{flat_size}
-use Rattle.chip_main.specs.Texts.{record_text, refusal_line}
-use Rattle.chip_main.specs.Statuses.{run_status, refusal_status, untold_ending_status}
+use Rattle.chip_main.specs.declared.course.Course.TheVariants.{Refused, NoMemory, Ran, RanPlain, Listed}
+use Rattle.chip_main.specs.declared.taking.Stop.{Stop}
+use Rattle.chip_main.specs.declared.taking.Stop.TheVariants.{Refused as stop_refused, NoMemory as stop_no_memory}
+use Rattle.chip_main.specs.Needs.{needs_of}
+use Rattle.chip_main.specs.Causes.{IsRefused, RunsOut}
+use Rattle.chip_main.specs.Requests.{RunsRequest, PlainlyRunsRequest, ListsRequest}
+use Rattle.chip_main.specs.Texts.{plain_text, record_text, refusal_text}
+use Rattle.chip_main.specs.Statuses.{Telling, ending_status, listing_status, refusal_status, run_status, untold_ending_status}
 use Rattle.chip_main.specs.Buses.{run_told, lies_of}
-use Rattle.chip_main.specs.Causes.{AsksAtMost, AsksFor, IsCause}
-use Rattle.chip_main.specs.FlatRun.{RunsFlat, RunsRequest}
-use Rattle.chip_main.specs.Answer.{GainsFront}
-
--- how the bytes of a file come to each course
-abbrev pub ComesFlat : Course → List ℕ → SinkState → SinkState → Type 0
-ComesFlat (Refused TooLarge) bytes out out' = (flat_size < length bytes) × Silent out out'
-ComesFlat (Refused Usage) bytes out out' = ⊥
-ComesFlat (Refused Unread) bytes out out' = ⊥
-ComesFlat (Refused TooLong) bytes out out' = ⊥
-ComesFlat NoMemory bytes out out' = Silent out out'
-ComesFlat (Ran run bus) bytes out out' = RunsFlat bytes out out' run (run_told bus)
+use Rattle.chip_main.specs.Told.{IsTold}
 
 -- how each course came about, from the request, the files and the sink for what is printed
-abbrev pub CameAbout : Course → Option (List ℕ) → FilesState → FilesState → SinkState → SinkState → Type 0
-CameAbout (Refused refusal) request files files' out out' = IsCause refusal request files files' × Silent out out'
-CameAbout NoMemory request files files' out out' = (request ≢ None) × AsksAtMost request files files' × Silent out out'
-CameAbout (Ran run bus) request files files' out out' =
-    AsksFor request files files' × RunsRequest request files out out' run (run_told bus)
+abbrev pub CameAbout : Course → Option Asked → FilesState → FilesState → SinkState → SinkState → Type 0
+CameAbout (Refused refusal) request files files' out out' = IsRefused refusal request files files' × Silent out out'
+CameAbout NoMemory request files files' out out' = RunsOut (needs_of request) files files' × Silent out out'
+CameAbout (Ran run bus) request files files' out out' = RunsRequest request files files' out out' run (run_told bus)
+CameAbout (RanPlain run) request files files' out out' = PlainlyRunsRequest request files files' out out' run
+CameAbout (Listed telling) request files files' out out' = ListsRequest request files files' out out' telling
 
--- what is told of it
-abbrev pub course_text : Course → List ℕ
-course_text (Refused refusal) = refusal_line refusal
-course_text NoMemory = []
-course_text (Ran run bus) = record_text run (run_told bus).lies
+-- what a call comes to where the files were not taken
+abbrev pub stopped_course : Stop → Course
+stopped_course (stop_refused refusal) = Refused refusal
+stopped_course stop_no_memory = NoMemory
 
--- the answer of a call that tells a text
-abbrev pub Telling : Type 0
-Telling = Result (Unit {0}) SinkStop
+-- there is nothing to tell
+abbrev pub TellsNothing : SinkState → SinkState → Telling → Type 0
+TellsNothing old new telling = Silent old new × (telling ≡ Ok tt)
 
--- it was told whole; or a front part, where a write failed or memory was not to be had
-abbrev pub IsTold : List ℕ → SinkState → SinkState → Telling → Type 0
-IsTold text old new (Ok _) = Gains old text new
-IsTold text old new (Err Failed) = GainsFront old text new × Rose old.faults new.faults
-IsTold text old new (Err no_memory) = GainsFront old text new
+-- what is told of it, and how far
+abbrev pub TellsCourse : Course → SinkState → SinkState → Telling → Type 0
+TellsCourse (Refused refusal) old new telling = IsTold (refusal_text refusal) old new telling
+TellsCourse NoMemory old new telling = TellsNothing old new telling
+TellsCourse (Ran run bus) old new telling = IsTold (record_text run (run_told bus).lies) old new telling
+TellsCourse (RanPlain run) old new telling = IsTold (plain_text run) old new telling
+TellsCourse (Listed listed) old new telling = TellsNothing old new telling
 
--- the run's record and its bus, where there was a run
+-- the record of a run on protected memory and its bus, where there was one
 abbrev pub course_run : Course → Option RunRecord
 course_run (Refused refusal) = None
 course_run NoMemory = None
 course_run (Ran run bus) = Some run
+course_run (RanPlain run) = None
+course_run (Listed telling) = None
 
 abbrev pub course_bus : Course → Option RunBus
 course_bus (Refused refusal) = None
 course_bus NoMemory = None
 course_bus (Ran run bus) = Some bus
+course_bus (RanPlain run) = None
+course_bus (Listed telling) = None
 
 -- the status, where it was told whole
 abbrev pub course_status : Course → ℕ
 course_status (Refused refusal) = refusal_status refusal
 course_status NoMemory = 10
 course_status (Ran run bus) = run_status run
+course_status (RanPlain run) = ending_status run.ending
+course_status (Listed telling) = listing_status telling
 
 -- a refusal that could not be told keeps its status
 abbrev pub untold_status : Course → ℕ
 untold_status (Refused refusal) = refusal_status refusal
 untold_status NoMemory = 10
 untold_status (Ran run bus) = untold_ending_status run.ending
+untold_status (RanPlain run) = untold_ending_status run.ending
+untold_status (Listed telling) = listing_status telling
 
 -- the status of the process
 abbrev pub status_of : Course → Telling → ℕ
@@ -81,11 +82,11 @@ status_of course (Err Failed) = untold_status course
 status_of course (Err no_memory) = 10
 
 -- the whole of a call, with its answer
-pub record Outcome (request : Option (List ℕ)) (files files' : FilesState) (out out' note note' : SinkState) (done : Done) : Type 0 where
+pub record Outcome (request : Option Asked) (files files' : FilesState) (out out' note note' : SinkState) (done : Done) : Type 0 where
   pub course : Course
   pub told : Telling
   pub came : CameAbout course request files files' out out'
-  pub tells : IsTold (course_text course) note note' told
+  pub tells : TellsCourse course note note' told
   pub status : done.status ≡ status_of course told
   pub run : done.run ≡ course_run course
   pub bus : done.bus ≡ course_bus course

@@ -1,4 +1,4 @@
--- How a run ended, as each status says.
+-- How a run on protected memory ended, as each status says.
 use Rattle.std.specs.Prelude.{◌≡◌, ◌≢◌, ℕ, Some, None}
 use Rattle.sec_base.specs.Evidence.{IsEvidence}
 use Rattle.sec_base.specs.Layout.{line_count}
@@ -9,7 +9,7 @@ use Rattle.bus_model.specs.Told.{Told}
 use Rattle.chip_run.specs.declared.RunRecord.{RunRecord}
 use Rattle.chip_run.specs.Account.{IsCaught, IsOfFirstLie}
 use Rattle.chip_run.specs.Contents.{IsSpent}
-use Rattle.chip_main.specs.Flat.{device_tag, flat_levels, page_limit}
+use Rattle.chip_main.specs.Flat.{device_tag, page_limit}
 
 pub record EndedHalted (run : RunRecord) (told : Told) : Type 0 where
   pub no_evidence : run.evidence ≡ None
@@ -29,20 +29,20 @@ pub record EndedOutOfSteps (run : RunRecord) (told : Told) : Type 0 where
 -- The one false answer of the bus failed its check, was the last access, and ended the run as tampering of its place.
 pub record EndedTampered (run : RunRecord) (told : Told) : Type 0 where
   pub no_evidence : run.evidence ≡ None
-  pub caught : IsCaught device_tag run.used run.made told (λ place. run.ending ≡ Tampered place)
+  pub caught : IsCaught (device_tag told.levels) run.used run.made told (λ place. run.ending ≡ Tampered place)
 
 -- Some line of the page was written as often as the limit allows.
 pub record EndedSpent (run : RunRecord) (told : Told) : Type 0 where
   pub no_evidence : run.evidence ≡ None
   pub page : ℕ
   pub ended : run.ending ≡ Spent page
-  pub used_up : IsSpent (line_count flat_levels) page_limit run.used page
+  pub used_up : IsSpent (line_count told.levels) page_limit run.used page
 
 -- There is evidence of the first false answer, and neither the sink nor want of memory ended the run.
 pub record EndedWithEvidence (run : RunRecord) (told : Told) : Type 0 where
   pub evidence : Evidence
   pub there : run.evidence ≡ Some evidence
-  pub genuine : IsEvidence device_tag run.made evidence
+  pub genuine : IsEvidence (device_tag told.levels) run.made evidence
   pub first_lie : IsOfFirstLie run.made told evidence
   pub written : run.ending ≢ WriteFault
   pub in_memory : run.ending ≢ NoMemory

@@ -1,10 +1,9 @@
--- A run of a flat program.
-use Rattle.std.specs.Prelude.{◌≡◌, ◌≢◌, ◌<◌, ◌≤◌, ◌↔◌, ◌⊎◌, List, ℕ, length, Option, None, IfSome}
+-- A run of a flat program on protected memory.
+use Rattle.std.specs.Prelude.{◌≡◌, ◌≢◌, ◌<◌, ◌≤◌, ◌↔◌, ◌⊎◌, List, ℕ, None, IfSome}
 use Rattle.sec_base.specs.Count.{Rose}
 use Rattle.sec_base.specs.Evidence.{IsEvidence}
 use Rattle.sec_base.specs.Last.{data_pairs}
 use Rattle.sec_base.specs.Layout.{line_count}
-use Rattle.sec_base.specs.Reading.{FilesState}
 use Rattle.sec_base.specs.Writing.{SinkState, Gains}
 use Rattle.sec_base.specs.declared.answers.Ending.TheVariants.{OutOfSteps, Tampered, Spent, WriteFault, NoMemory}
 use Rattle.bus_model.specs.Told.{Told}
@@ -15,55 +14,49 @@ use Rattle.chip_run.specs.declared.RunRecord.{RunRecord}
 use Rattle.chip_run.specs.Account.{HonestOrCaught, IsOfFirstLie}
 use Rattle.chip_run.specs.Contents.{AreNumbered, HoldsLast, HoldsSealed, IsSpent, IsWrittenOut, line_writes}
 use Rattle.rv32_run.specs.Session.{IsMemoryEnding, IsStop}
-use Rattle.chip_main.specs.Flat.{budget, device_enc_key, device_tag, flat_levels, flat_opening, flat_size, page_limit}
-use Rattle.chip_main.specs.Causes.{HasRead}
+use Rattle.chip_main.specs.Flat.{device_enc_key, device_tag, flat_opening, page_limit}
 
--- a run of the flat program of these bytes, which prints to a sink, over a bus that was told this
-pub record RunsFlat (bytes : List ℕ) (old new : SinkState) (run : RunRecord) (told : Told) : Type 0 where
-  pub fits : length bytes ≤ flat_size
+-- a run of a flat program on an input, in the memory below a tree of so many levels and within a budget of steps; it
+-- prints to a sink, over a bus that was told this
+pub record RunsFlat (levels steps : ℕ) (program input : List ℕ) (old new : SinkState) (run : RunRecord) (told : Told) : Type 0 where
   -- the sink gained what was printed, and without evidence the run follows the plain machine so far
   pub follows : (printed : List ℕ) × Gains old printed new
-      × (run.evidence ≡ None → Follows (flat_opening bytes) budget run.retired run.ending printed)
+      × (run.evidence ≡ None → Follows (flat_opening levels program input) steps run.retired run.ending printed)
   -- Without evidence no answer of the bus was false, and it did not end as tampering; or one was, fails its check,
   -- was the last access, and the run ended as tampering of its place.
-  pub answers : run.evidence ≡ None → HonestOrCaught device_tag run.used run.made told (λ place. run.ending ≡ Tampered place)
+  pub answers : run.evidence ≡ None → HonestOrCaught (device_tag levels) run.used run.made told (λ place. run.ending ≡ Tampered place)
   -- evidence is what it says, and is of the first false answer
-  pub genuine : IfSome run.evidence (IsEvidence device_tag run.made)
+  pub genuine : IfSome run.evidence (IsEvidence (device_tag levels) run.made)
   pub first_lie : IfSome run.evidence (IsOfFirstLie run.made told)
   -- No line was enciphered twice under one counter. A line's counters are (n, 0) with rising n from 1 on, and each
   -- line of the memory was tagged under the same, in the same order.
   pub no_repeat : run.evidence ≡ None → NoRepeat run.used
   pub rising : run.evidence ≡ None → AreRising run.used
-  pub numbered : run.evidence ≡ None → AreNumbered (line_count flat_levels) run.used
-  pub paired : run.evidence ≡ None → data_pairs run.made ≡ of_lines (line_count flat_levels) run.used
+  pub numbered : run.evidence ≡ None → AreNumbered (line_count levels) run.used
+  pub paired : run.evidence ≡ None → data_pairs run.made ≡ of_lines (line_count levels) run.used
   -- each line's place that isn't zeros holds what was enciphered and tagged for it
-  pub sealed : HoldsSealed device_tag (line_count flat_levels) run.made run.used told.written
+  pub sealed : HoldsSealed (device_tag levels) (line_count levels) run.made run.used told.written
   -- where the memory did not end it, the memory outside has what the plain machine's has
   pub written_out : run.evidence ≡ None → ¬ IsMemoryEnding run.ending →
-      IsWrittenOut device_enc_key (line_count flat_levels) run.made (plain (flat_opening bytes) run.retired).state.memory
+      IsWrittenOut device_enc_key (line_count levels) run.made (plain (flat_opening levels program input) run.retired).state.memory
   pub holds_last : run.evidence ≡ None → ¬ IsMemoryEnding run.ending →
-      HoldsLast device_tag (line_count flat_levels) run.made told.written
+      HoldsLast (device_tag levels) (line_count levels) run.made told.written
   -- the budget ends it exactly where it is used up by a program that goes on
   pub out_of_steps : run.evidence ≡ None → ¬ IsMemoryEnding run.ending → ((run.ending ≡ OutOfSteps)
-      ↔ ((run.retired ≡ budget) × ((plain (flat_opening bytes) budget).exit ≡ None)))
-  pub budget_used : run.ending ≡ OutOfSteps → run.retired ≡ budget
-  pub within : run.retired ≤ budget
-  -- the memory and the sink end it only while the budget allows one more instruction
-  pub early : IsStop run.ending → run.retired < budget
+      ↔ ((run.retired ≡ steps) × ((plain (flat_opening levels program input) steps).exit ≡ None)))
+  pub budget_used : run.ending ≡ OutOfSteps → run.retired ≡ steps
+  pub within : run.retired ≤ steps
+  -- the memory and the sink end it only where the budget allows one more instruction, or none at all
+  pub early : IsStop run.ending → 0 < steps → run.retired < steps
   -- where no answer was false and the sink had no fault, it is the plain machine's run over the whole budget, or a
   -- page was used up, or memory was not to be had
   pub whole : ¬ (Rose old.faults new.faults) → told.lies ≡ 0 → run.ending ≢ NoMemory →
-      IsWhole (flat_opening bytes) budget run.retired run.ending ⊎ ((page : ℕ) × (run.ending ≡ Spent page))
+      IsWhole (flat_opening levels program input) steps run.retired run.ending ⊎ ((page : ℕ) × (run.ending ≡ Spent page))
   -- no line is written more often than the limit allows, and a page is used up only where one was written so often
   pub limited : (line : ℕ) → line_writes run.used line ≤ page_limit
   pub spent : (page : ℕ) → run.evidence ≡ None → run.ending ≡ Spent page →
-      IsSpent (line_count flat_levels) page_limit run.used page
+      IsSpent (line_count levels) page_limit run.used page
   pub write_fault : run.ending ≡ WriteFault → Rose old.faults new.faults
-  pub levels : told.levels ≡ flat_levels
+  pub bus_levels : told.levels ≡ levels
   -- nothing is signed yet
   pub report : run.report ≡ None
-
--- a run of the request's file
-abbrev pub RunsRequest : Option (List ℕ) → FilesState → SinkState → SinkState → RunRecord → Told → Type 0
-RunsRequest request files old new run told =
-    (bytes : List ℕ) × HasRead request files bytes × RunsFlat bytes old new run told

@@ -1,10 +1,14 @@
-pub mod Request
 pub mod Flat
-pub mod Texts
-pub mod Statuses
+pub mod Needs
 pub mod Causes
+pub mod Taken
 pub mod FlatRun
+pub mod PlainRun
 pub mod Buses
 pub mod Endings
+pub mod Texts
+pub mod Statuses
+pub mod Told
+pub mod Requests
 pub mod Answer
 pub mod Course

@@ -1,5 +1,5 @@
--- What is told of a run, or of why there is none. Each line ends with a line feed.
-use Rattle.std.specs.Prelude.{List, [], ◌∷◌, ◌++◌, ℕ, ◌/◌, ◌%◌, ◌^◌, map, codes, false}
+-- What is told of a run, or of why nothing was done. Each line ends with a line feed.
+use Rattle.std.specs.Prelude.{List, [], ◌∷◌, ◌++◌, ℕ, ◌/◌, ◌%◌, ◌^◌, map, codes, false, string_bytes}
 use Rattle.std.specs.Fmt.{decimal, digit_glyph}
 use Rattle.sec_base.specs.declared.layout.Place.{Place}
 use Rattle.sec_base.specs.declared.layout.Place.TheVariants.{Line, Node}
@@ -7,9 +7,10 @@ use Rattle.sec_base.specs.declared.answers.Cause.{Cause}
 use Rattle.sec_base.specs.declared.answers.Cause.TheVariants.{Illegal, MisalignedTarget, MisalignedData, OutsideMemory, Breakpoint}
 use Rattle.sec_base.specs.declared.answers.Ending.{Ending}
 use Rattle.sec_base.specs.declared.answers.Ending.TheVariants.{Halted, Trapped, OutOfSteps, Tampered, Spent, WriteFault, NoMemory}
+use Rattle.plain_machine.specs.declared.PlainRecord.{PlainRecord}
 use Rattle.chip_run.specs.declared.RunRecord.{RunRecord}
 use Rattle.chip_main.specs.declared.refusal.Refusal.{Refusal}
-use Rattle.chip_main.specs.declared.refusal.Refusal.TheVariants.{Usage, Unread, TooLong, TooLarge}
+use Rattle.chip_main.specs.declared.refusal.Refusal.TheVariants.{Usage, NotFlat, Unread, TooLong, TooLarge}
 
 -- the hexadecimal digit that is worth 16 ^ place, in lower case
 abbrev pub hex_digit : ℕ → ℕ → ℕ
@@ -30,7 +31,7 @@ abbrev pub place_text : Place → List ℕ
 place_text (Line line) = codes "data " ++ decimal line
 place_text (Node level index) = codes "node " ++ decimal level ++ codes " " ++ decimal index
 
--- the first line of a run's record says how it ended
+-- the first line says how a run ended
 abbrev pub ending_line : Ending → List ℕ
 ending_line (Halted code) = codes "halted " ++ decimal code ++ codes "\n"
 ending_line (Trapped cause pc) = codes "trapped " ++ cause_text cause ++ codes " pc " ++ hex_word pc ++ codes "\n"
@@ -48,12 +49,17 @@ retired_line retired = codes "retired " ++ decimal retired ++ codes "\n"
 abbrev pub lies_line : ℕ → List ℕ
 lies_line lies = codes "lies " ++ decimal lies ++ codes "\n"
 
+-- what is told of a run on protected memory, and of one on the plain machine
 abbrev pub record_text : RunRecord → ℕ → List ℕ
 record_text run lies = ending_line run.ending ++ (retired_line run.retired ++ lies_line lies)
 
--- the one line of a refusal
-abbrev pub refusal_line : Refusal → List ℕ
-refusal_line Usage = codes "usage\n"
-refusal_line Unread = codes "read fault\n"
-refusal_line TooLong = codes "refused long\n"
-refusal_line TooLarge = codes "refused elf 9 Segment\n"
+abbrev pub plain_text : PlainRecord → List ℕ
+plain_text run = ending_line run.ending ++ retired_line run.retired
+
+-- The line of a refusal. Where the words are no request, a text about them follows it.
+abbrev pub refusal_text : Refusal → List ℕ
+refusal_text (Usage text) = codes "usage\n" ++ string_bytes text
+refusal_text NotFlat = codes "usage flat\n"
+refusal_text Unread = codes "read fault\n"
+refusal_text TooLong = codes "refused long\n"
+refusal_text TooLarge = codes "refused elf 9 Segment\n"

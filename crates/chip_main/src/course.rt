@@ -1,32 +1,30 @@
-ghost use Rattle.std.specs.Prelude.{◌≡◌, ◌≤◌};
+ghost use Rattle.std.specs.Prelude.{◌≡◌};
 ghost use Rattle.std.specs.Option.{option_map};
-ghost use Rattle.chip_main.specs.Request.{request_of, texts};
-ghost use Rattle.chip_main.specs.Course.{CameAbout};
-ghost use Rattle.chip_main.specs.Statuses.{run_status as status_of_run, ending_status as status_of_ending, evidence_status as evidence_status_of_ending, untold_ending_status as untold_status_of_ending};
+ghost use Rattle.chip_main.specs.Statuses.{run_status as status_of_run, ending_status as status_of_ending, evidence_status as evidence_status_of_ending, untold_ending_status as untold_status_of_ending, listing_status as status_of_listing};
 
-use crate::flat::run_flat;
 use crate::refusal::Refusal;
 use crate::run_bus::RunBus;
 use chip_run::RunRecord;
-use sec_base::{Ending, Files, ReadStop, Sink};
-use std::alloc::Global;
-
-/// No file longer than this is read.
-const FILE_LIMIT: u64 = 1_048_576;
+use plain_machine::PlainRecord;
+use sec_base::{Ending, SinkStop};
 
 /// What a call comes to.
 #[derive(Debug, Drop)]
 pub enum Course {
-    /// There is no run, for this reason.
+    /// Nothing was done, for this reason.
     Refused(Refusal),
-    /// There is no run, since there was no memory for it.
+    /// Nothing was done, since there was no memory for it.
     NoMemory,
-    /// There was a run, over this bus.
+    /// A program ran on protected memory, over this bus.
     Ran(RunRecord, RunBus),
+    /// A program ran on the plain machine.
+    RanPlain(PlainRecord),
+    /// A program was listed, as far as this says.
+    Listed(Result<(), SinkStop>),
 }
 
 impl Course {
-    ghost use Rattle.chip_main.specs.Course.{course_status, untold_status};
+    ghost use Rattle.chip_main.specs.Course.{course_bus, course_run, course_status, untold_status};
 
     /// The status, where the course was told whole.
     pub fn status(&self) -> u8
@@ -36,6 +34,8 @@ impl Course {
             Course::Refused(refusal) => refusal.status(),
             Course::NoMemory => 10,
             Course::Ran(run, _) => run_status(run),
+            Course::RanPlain(run) => ending_status(run.ending),
+            Course::Listed(listed) => listing_status(*listed),
         }
     }
 
@@ -47,6 +47,19 @@ impl Course {
             Course::Refused(refusal) => refusal.status(),
             Course::NoMemory => 10,
             Course::Ran(run, _) => untold_ending_status(run.ending),
+            Course::RanPlain(run) => untold_ending_status(run.ending),
+            Course::Listed(listed) => listing_status(*listed),
+        }
+    }
+
+    /// The run on protected memory and its bus, where there was one.
+    pub fn into_run(self) -> Option<(RunRecord, RunBus)>
+        ensures run { option_map (λ ran. ran.0) result ≡ course_run self }
+        ensures bus { option_map (λ ran. ran.1) result ≡ course_bus self }
+    {
+        match self {
+            Course::Ran(run, bus) => Some((run, bus)),
+            Course::Refused(_) | Course::NoMemory | Course::RanPlain(_) | Course::Listed(_) => None,
         }
     }
 }
@@ -98,36 +111,12 @@ fn untold_ending_status(ending: Ending) -> u8
     }
 }
 
-/// Does what the words ask for, but for telling it.
-pub fn perform<F: Files, O: Sink>(
-    alloc: Global,
-    words: &[&str],
-    files: &mut F,
-    out: &mut O,
-) -> Course
-    ensures came { CameAbout result (request_of (texts words.now)) (F.state files.old) (F.state files.new) (O.state out.old) (O.state out.new) }
-    ensures held { (F.state files.new).held ≡ (F.state files.old).held }
-    ensures files_faults { (F.state files.old).faults ≤ (F.state files.new).faults }
-    ensures out_faults { (O.state out.old).faults ≤ (O.state out.new).faults }
+fn listing_status(listed: Result<(), SinkStop>) -> u8
+    ensures { result ≡ status_of_listing listed }
 {
-    let Some(file) = requested(words) else {
-        return Course::Refused(Refusal::Usage);
-    };
-    match files.read(alloc, file, FILE_LIMIT) {
-        Ok(bytes) => run_flat(alloc, bytes, out),
-        Err(ReadStop::Failed) => Course::Refused(Refusal::Unread),
-        Err(ReadStop::Long) => Course::Refused(Refusal::TooLong),
-        Err(ReadStop::NoMemory) => Course::NoMemory,
-    }
-}
-
-// The file that the words ask to run, where they are a request.
-fn requested<'a>(words: &[&'a str]) -> Option<&'a str>
-    ensures { option_map (λ file. file.now) result ≡ request_of (texts words.now) }
-{
-    if words.len() == 4 && words[1] == "run" && words[3] == "--flat" {
-        Some(words[2])
-    } else {
-        None
+    match listed {
+        Ok(()) => 0,
+        Err(SinkStop::Failed) => 9,
+        Err(SinkStop::NoMemory) => 10,
     }
 }

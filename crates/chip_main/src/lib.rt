@@ -1,24 +1,31 @@
 //! The top call: what the program does with its words, over any files and any sinks.
 #![tactic(auto)]
 
-ghost use Rattle.std.specs.Prelude.{◌≡◌, ◌≤◌, ◌<◌, ◌↔◌, ◌⊎◌, ℕ, List, [], ◌∷◌, length, Some, None, Contains, IsSome, IfSome, IfNone};
+ghost use Rattle.std.specs.Prelude.{◌≡◌, ◌≤◌, ◌↔◌, ◌⊎◌, ℕ, List, [], ◌∷◌, ◌++◌, Some, None, Contains, IsSome, IfSome, IfNone};
 ghost use Rattle.sec_base.specs.Count.{Rose};
 ghost use Rattle.sec_base.specs.Writing.{Silent};
 ghost use Rattle.rv32_core.specs.Follows.{IsWhole};
-ghost use Rattle.chip_main.specs.Request.{request_of, texts};
-ghost use Rattle.chip_main.specs.Flat.{budget, flat_opening, flat_size};
-ghost use Rattle.chip_main.specs.Statuses.{ending_status};
-ghost use Rattle.chip_main.specs.Causes.{AsksAtMost, AsksFor, HasTold, IsOverLimit, IsOverMemory};
-ghost use Rattle.chip_main.specs.FlatRun.{RunsRequest};
+ghost use Rattle.chip_words.specs.Request.{ExecutionAsked, ListingAsked, request_of, to_run, to_run_plain, to_list};
+ghost use Rattle.chip_words.specs.Words.{texts};
+ghost use Rattle.chip_main.specs.Flat.{flat_opening};
+ghost use Rattle.chip_main.specs.Needs.{Need, HasTold, IsNotFlat, IsUnfit, needs_of};
+ghost use Rattle.chip_main.specs.Causes.{Asks, AsksFront, AsksNothing, Stops};
+ghost use Rattle.chip_main.specs.Taken.{Offers, OffersProgram};
 ghost use Rattle.chip_main.specs.Buses.{lies_of, IfRun, IsRunAnd};
 ghost use Rattle.chip_main.specs.Endings.{EndedHalted, EndedTrapped, EndedOutOfSteps, EndedTampered, EndedSpent, EndedWithEvidence};
-ghost use Rattle.chip_main.specs.Answer.{LacksMemory, TellsRefusal, TellsRun};
+ghost use Rattle.chip_main.specs.Statuses.{ending_status};
+ghost use Rattle.chip_main.specs.Requests.{ByCommand, RunsRequest};
+ghost use Rattle.chip_main.specs.Answer.{IsHalted, IsTrapped, IsOutOfSteps, Listed, ListsWhole, PlainlyEnded, PlainlyRan, TellsRun, Undone, plain_status};
 ghost use Rattle.chip_main.specs.Course.{course_run, course_bus, status_of, Outcome};
+ghost use Rattle.chip_main.specs.declared.refusal.Refusal.TheVariants.{Unread, TooLong, TooLarge};
 
 mod course;
+mod device;
 mod flat;
+mod perform;
 mod refusal;
 mod run_bus;
+mod taking;
 mod telling;
 #[cfg(test)]
 mod tests;
@@ -35,7 +42,7 @@ use std::alloc::Global;
 pub struct Done {
     /// The status of the process.
     pub status: u8,
-    /// The run, where there was one.
+    /// The run on protected memory, where there was one.
     pub run: Option<RunRecord>,
     /// How many answers of its bus were false.
     pub lies: u64,
@@ -43,8 +50,11 @@ pub struct Done {
     pub bus: Option<RunBus>,
 }
 
-/// Does what the words of the process ask for, the program's name first: `NAME run FILE --flat` runs the flat
-/// program of a file on an empty input. What the program prints goes to `out`, the rest to `note`.
+/// Does what the words of the process ask for, the program's name first, as `clap` reads them: `run FILE --flat` runs the
+/// flat program of a file on protected memory, `plain FILE --flat` on the plain machine, and `dis FILE --flat` lists its
+/// instructions. `--levels L` says how large the memory is; of `run` and `plain`, `--input FILE` names the program's
+/// input and `--steps N` how many instructions may be retired. What is printed or listed goes to `out`, the rest to
+/// `note`.
 pub fn run_words<F: Files, O: Sink, N: Sink>(
     alloc: Global,
     words: &[&str],
@@ -52,28 +62,35 @@ pub fn run_words<F: Files, O: Sink, N: Sink>(
     out: &mut O,
     note: &mut N,
 ) -> Done
-    // The statuses, and what each one says.
+    // The statuses, and what each one says. Those that name no command come of all three.
     ensures statuses { Contains (0 ∷ 1 ∷ 2 ∷ 3 ∷ 4 ∷ 5 ∷ 6 ∷ 7 ∷ 8 ∷ 9 ∷ 10 ∷ []) result.status }
-    ensures halted { result.status ≡ 0 → IsRunAnd result EndedHalted }
-    ensures trapped { result.status ≡ 1 → IsRunAnd result EndedTrapped }
-    ensures usage { result.status ≡ 2 → request_of (texts words.now) ≡ None }
-    ensures refused { result.status ≡ 3 →
-        IsOverLimit (request_of (texts words.now)) (F.state files.old) (F.state files.new)
-        ⊎ IsOverMemory (request_of (texts words.now)) (F.state files.old) }
-    ensures out_of_steps { result.status ≡ 4 → IsRunAnd result EndedOutOfSteps }
-    ensures tampered { result.status ≡ 5 → IsRunAnd result EndedTampered }
+    ensures done { result.status ≡ 0 → ByCommand (request_of (texts words.now)) (λ _. IsRunAnd result EndedHalted)
+        (λ execution. PlainlyEnded IsHalted execution (F.state files.old) (F.state files.new) (O.state out.old) (O.state out.new))
+        (λ listing. ListsWhole listing (F.state files.old) (F.state files.new) (O.state out.old) (O.state out.new)) }
+    ensures trapped { result.status ≡ 1 → ByCommand (request_of (texts words.now)) (λ _. IsRunAnd result EndedTrapped)
+        (λ execution. PlainlyEnded IsTrapped execution (F.state files.old) (F.state files.new) (O.state out.old) (O.state out.new)) (λ _. ⊥) }
+    ensures usage { result.status ≡ 2 → ((request_of (texts words.now)) ≡ None) ⊎ IsNotFlat (request_of (texts words.now)) }
+    ensures refused { result.status ≡ 3 → Stops TooLong (needs_of (request_of (texts words.now))) (F.state files.old) (F.state files.new) ⊎ Stops TooLarge (needs_of (request_of (texts words.now))) (F.state files.old) (F.state files.new) }
+    ensures out_of_steps { result.status ≡ 4 → ByCommand (request_of (texts words.now)) (λ _. IsRunAnd result EndedOutOfSteps)
+        (λ execution. PlainlyEnded IsOutOfSteps execution (F.state files.old) (F.state files.new) (O.state out.old) (O.state out.new)) (λ _. ⊥) }
+    ensures tampered { result.status ≡ 5 → ByCommand (request_of (texts words.now)) (λ _. IsRunAnd result EndedTampered) (λ _. ⊥) (λ _. ⊥) }
     ensures tampered_lies { result.status ≡ 5 → result.lies ≡ 1 }
-    ensures spent { result.status ≡ 6 → IsRunAnd result EndedSpent }
-    ensures evidence { result.status ≡ 7 → IsRunAnd result EndedWithEvidence }
-    ensures read_fault { result.status ≡ 8 → Rose (F.state files.old).faults (F.state files.new).faults
-        × AsksFor (request_of (texts words.now)) (F.state files.old) (F.state files.new) }
+    ensures spent { result.status ≡ 6 → ByCommand (request_of (texts words.now)) (λ _. IsRunAnd result EndedSpent) (λ _. ⊥) (λ _. ⊥) }
+    ensures evidence { result.status ≡ 7 → ByCommand (request_of (texts words.now)) (λ _. IsRunAnd result EndedWithEvidence) (λ _. ⊥) (λ _. ⊥) }
+    ensures read_fault { result.status ≡ 8 → Stops Unread (needs_of (request_of (texts words.now))) (F.state files.old) (F.state files.new) }
     ensures write_fault { result.status ≡ 9 → Rose (O.state out.old).faults (O.state out.new).faults
         ⊎ Rose (N.state note.old).faults (N.state note.new).faults }
 
-    // A run is of the request's file. Without evidence it follows the plain machine, and ended as tampering at the first
-    // false answer of its bus, if there was one; evidence is of the first false answer.
-    ensures run { IfRun result (RunsRequest (request_of (texts words.now)) (F.state files.old) (O.state out.old) (O.state out.new)) }
-    ensures run_asked { IfSome result.run (λ _. AsksFor (request_of (texts words.now)) (F.state files.old) (F.state files.new)) }
+    // Words that are no request, or not for a flat program, are refused, and nothing is asked of the files.
+    ensures others { (request_of (texts words.now)) ≡ None → Contains (2 ∷ 10 ∷ []) result.status × (result.run ≡ None) }
+    ensures others_undone { (request_of (texts words.now)) ≡ None → Undone result.status (request_of (texts words.now)) (F.state files.old) (F.state files.new) (O.state out.old) (O.state out.new) (N.state note.old) (N.state note.new) }
+    ensures not_flat { IsNotFlat (request_of (texts words.now)) → Contains (2 ∷ 10 ∷ []) result.status × (result.run ≡ None) }
+    ensures unasked { needs_of (request_of (texts words.now)) ≡ [] → AsksNothing (F.state files.old) (F.state files.new) }
+
+    // A run on protected memory is of the request's program and input. Without evidence it follows the plain machine, and
+    // ended as tampering at the first false answer of its bus, if there was one; evidence is of the first false answer.
+    ensures run { IfRun result (RunsRequest (request_of (texts words.now)) (F.state files.old) (F.state files.new) (O.state out.old) (O.state out.new)) }
+    ensures run_asked { IfSome result.run (λ _. Asks (needs_of (request_of (texts words.now))) (F.state files.old) (F.state files.new)) }
     ensures run_told { IfSome result.run (λ run. TellsRun result.status run result.lies (N.state note.old) (N.state note.new)) }
 
     // Its bus comes with it, and is honest.
@@ -81,33 +98,44 @@ pub fn run_words<F: Files, O: Sink, N: Sink>(
     ensures lies { result.lies ≡ lies_of result.bus }
     ensures honest { result.lies ≡ 0 }
 
-    // Where there is none, nothing is printed, and it was refused, or there was no memory for it.
-    ensures no_run { IfNone result.run (Contains (2 ∷ 3 ∷ 8 ∷ 10 ∷ []) result.status) }
-    ensures no_run_out { IfNone result.run (Silent (O.state out.old) (O.state out.new)) }
-    ensures no_run_note { IfNone result.run (
-        TellsRefusal result.status (request_of (texts words.now)) (F.state files.old) (F.state files.new) (N.state note.old) (N.state note.new)
-        ⊎ LacksMemory result.status (request_of (texts words.now)) (N.state note.old) (N.state note.new)) }
+    // Where a run was asked for and there is none, it was refused, or there was no memory for it; and nothing was printed.
+    ensures no_run { (execution : ExecutionAsked) → (request_of (texts words.now)) ≡ Some (to_run execution) → IfNone result.run (
+        Contains (2 ∷ 3 ∷ 8 ∷ 10 ∷ []) result.status × Undone result.status (request_of (texts words.now)) (F.state files.old) (F.state files.new) (O.state out.old) (O.state out.new) (N.state note.old) (N.state note.new)) }
 
-    // Other words ask for nothing.
-    ensures others { request_of (texts words.now) ≡ None → Contains (2 ∷ 10 ∷ []) result.status × (result.run ≡ None) }
-    ensures others_unasked { request_of (texts words.now) ≡ None → (F.state files.new).asked ≡ (F.state files.old).asked }
+    // A run on the plain machine follows it, and a listing is of the request's program; or neither was done.
+    ensures plain { (execution : ExecutionAsked) → (request_of (texts words.now)) ≡ Some (to_run_plain execution) →
+        PlainlyRan result.status execution (F.state files.old) (F.state files.new) (O.state out.old) (O.state out.new) (N.state note.old) (N.state note.new) ⊎ Undone result.status (request_of (texts words.now)) (F.state files.old) (F.state files.new) (O.state out.old) (O.state out.new) (N.state note.old) (N.state note.new) }
+    ensures dis { (listing : ListingAsked) → (request_of (texts words.now)) ≡ Some (to_list listing) →
+        Listed result.status listing (F.state files.old) (F.state files.new) (O.state out.old) (O.state out.new) (N.state note.old) (N.state note.new) ⊎ Undone result.status (request_of (texts words.now)) (F.state files.old) (F.state files.new) (O.state out.old) (O.state out.new) (N.state note.old) (N.state note.new) }
 
-    // Where the files tell that the program is larger than the memory, it is refused.
-    ensures too_large { (name bytes : List ℕ) → request_of (texts words.now) ≡ Some name →
-        HasTold (F.state files.old).held name bytes → flat_size < length bytes → Contains (3 ∷ 8 ∷ 10 ∷ []) result.status }
+    // Where the files tell that one of them is over its limit or doesn't have its form, the request is refused.
+    ensures unfit { (before after : List Need) (need : Need) (bytes : List ℕ) → needs_of (request_of (texts words.now)) ≡ before ++ need ∷ after →
+        HasTold (F.state files.old).held need.name bytes → IsUnfit need bytes → Contains (3 ∷ 8 ∷ 10 ∷ []) result.status }
 
-    // Where they tell that it fits, no answer was false and nothing has a fault, it is run whole, or a page was used up,
-    // or memory was not to be had.
-    ensures whole { (name bytes : List ℕ) → request_of (texts words.now) ≡ Some name →
-        HasTold (F.state files.old).held name bytes → length bytes ≤ flat_size → result.lies ≡ 0 →
+    // Where they tell that all have their form, no answer was false and nothing has a fault, what was asked for is done
+    // whole; or a page was used up, or memory was not to be had.
+    ensures whole { (execution : ExecutionAsked) (program input : List ℕ) → (request_of (texts words.now)) ≡ Some (to_run execution) →
+        Offers execution (F.state files.old) program input → result.lies ≡ 0 →
         ¬ (Rose (F.state files.old).faults (F.state files.new).faults) →
         ¬ (Rose (O.state out.old).faults (O.state out.new).faults) →
         ¬ (Rose (N.state note.old).faults (N.state note.new).faults) →
         Contains (6 ∷ 10 ∷ []) result.status ⊎ IsRunAnd result (λ run told.
-        IsWhole (flat_opening bytes) budget run.retired run.ending × (result.status ≡ ending_status run.ending)) }
+        IsWhole (flat_opening execution.levels program input) execution.steps run.retired run.ending
+        × (result.status ≡ ending_status run.ending)) }
+    ensures whole_plain { (execution : ExecutionAsked) (program input : List ℕ) → (request_of (texts words.now)) ≡ Some (to_run_plain execution) →
+        Offers execution (F.state files.old) program input →
+        ¬ (Rose (F.state files.old).faults (F.state files.new).faults) →
+        ¬ (Rose (O.state out.old).faults (O.state out.new).faults) →
+        ¬ (Rose (N.state note.old).faults (N.state note.new).faults) →
+        Contains (plain_status execution program input ∷ 10 ∷ []) result.status }
+    ensures whole_dis { (listing : ListingAsked) (program : List ℕ) → (request_of (texts words.now)) ≡ Some (to_list listing) →
+        OffersProgram listing (F.state files.old) program →
+        ¬ (Rose (F.state files.old).faults (F.state files.new).faults) →
+        ¬ (Rose (O.state out.old).faults (O.state out.new).faults) →
+        Contains (0 ∷ 10 ∷ []) result.status }
 
-    // No other file is asked for, none changes, and no fault is taken back.
-    ensures asked { AsksAtMost (request_of (texts words.now)) (F.state files.old) (F.state files.new) }
+    // The first of the request's files were asked for, in order, each once. None changes, and no fault is taken back.
+    ensures asked { AsksFront (needs_of (request_of (texts words.now))) (F.state files.old) (F.state files.new) }
     ensures held { (F.state files.new).held ≡ (F.state files.old).held }
     ensures files_faults { (F.state files.old).faults ≤ (F.state files.new).faults }
     ensures out_faults { (O.state out.old).faults ≤ (O.state out.new).faults }
@@ -125,14 +153,13 @@ fn answer<F: Files, O: Sink, N: Sink>(
     out: &mut O,
     note: &mut N,
 ) -> Done
-    ensures outcome { Outcome (request_of (texts words.now)) (F.state files.old) (F.state files.new)
-        (O.state out.old) (O.state out.new) (N.state note.old) (N.state note.new) result }
+    ensures outcome { Outcome (request_of (texts words.now)) (F.state files.old) (F.state files.new) (O.state out.old) (O.state out.new) (N.state note.old) (N.state note.new) result }
     ensures held { (F.state files.new).held ≡ (F.state files.old).held }
     ensures files_faults { (F.state files.old).faults ≤ (F.state files.new).faults }
     ensures out_faults { (O.state out.old).faults ≤ (O.state out.new).faults }
     ensures note_faults { (N.state note.old).faults ≤ (N.state note.new).faults }
 {
-    let course = course::perform(alloc, words, files, out);
+    let course = perform::perform(alloc, words, files, out);
     let told = telling::tell(alloc, &course, note);
     conclude(course, told)
 }
@@ -149,14 +176,14 @@ fn conclude(course: Course, told: Result<(), SinkStop>) -> Done
         Err(SinkStop::Failed) => course.untold_status(),
         Err(SinkStop::NoMemory) => 10,
     };
-    match course {
-        Course::Ran(run, bus) => Done {
+    match course.into_run() {
+        Some((run, bus)) => Done {
             status,
             run: Some(run),
             lies: bus.lies(),
             bus: Some(bus),
         },
-        Course::Refused(_) | Course::NoMemory => Done {
+        None => Done {
             status,
             run: None,
             lies: 0,

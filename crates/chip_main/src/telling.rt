@@ -1,28 +1,83 @@
-ghost use Rattle.std.specs.Prelude.{◌≡◌, ◌≤◌, IfOk, string_bytes};
+ghost use Rattle.std.specs.Prelude.{◌≡◌, ◌≤◌, ◌++◌, codes, IfOk, string_bytes};
 ghost use Rattle.sec_base.specs.declared.answers.Ending.TheVariants.{Tampered, Trapped};
-ghost use Rattle.chip_main.specs.Texts.{cause_text, ending_line, lies_line, record_text, retired_line};
-ghost use Rattle.chip_main.specs.Course.{course_text, IsTold};
+ghost use Rattle.chip_main.specs.Texts.{cause_text, ending_line, lies_line, plain_text, record_text, refusal_text, retired_line};
+ghost use Rattle.chip_main.specs.Told.{IsTold};
+ghost use Rattle.chip_main.specs.Course.{TellsCourse};
 
 use crate::course::Course;
+use crate::refusal::Refusal;
 use chip_run::RunRecord;
+use plain_machine::PlainRecord;
 use sec_base::{Cause, Ending, NoMemory, Place, Sink, SinkStop, write_all};
 use std::alloc::Global;
 
 /// Tells what a call came to, a line at a time. After an error no further line is written.
 pub fn tell<N: Sink>(alloc: Global, course: &Course, note: &mut N) -> Result<(), SinkStop>
-    ensures told { IsTold (course_text course.now) (N.state note.old) (N.state note.new) result }
+    ensures told { TellsCourse course.now (N.state note.old) (N.state note.new) result }
     ensures faults { (N.state note.old).faults ≤ (N.state note.new).faults }
 {
     match course {
         Course::Refused(refusal) => {
-            write_line(note, refusal.line())?;
+            tell_refusal(refusal, note)?;
             Ok(())
         }
-        Course::NoMemory => Ok(()),
+        Course::NoMemory | Course::Listed(_) => Ok(()),
         Course::Ran(run, bus) => {
             tell_run(alloc, run, bus.lies(), note)?;
             Ok(())
         }
+        Course::RanPlain(run) => {
+            tell_plain(alloc, run, note)?;
+            Ok(())
+        }
+    }
+}
+
+fn tell_refusal<N: Sink>(refusal: &Refusal, note: &mut N) -> Result<(), SinkStop>
+    ensures told { IsTold (refusal_text refusal.now) (N.state note.old) (N.state note.new) result }
+    ensures faults { (N.state note.old).faults ≤ (N.state note.new).faults }
+{
+    match refusal {
+        Refusal::Usage(text) => tell_usage(text.as_str(), note),
+        Refusal::NotFlat => write_line(note, "usage flat\n"),
+        Refusal::Unread => write_line(note, "read fault\n"),
+        Refusal::TooLong => write_line(note, "refused long\n"),
+        Refusal::TooLarge => write_line(note, "refused elf 9 Segment\n"),
+    }
+}
+
+fn tell_usage<N: Sink>(text: &str, note: &mut N) -> Result<(), SinkStop>
+    ensures told { IsTold (codes "usage\n" ++ text.now) (N.state note.old) (N.state note.new) result }
+    ensures faults { (N.state note.old).faults ≤ (N.state note.new).faults }
+{
+    match write_line(note, "usage\n") {
+        Ok(()) => {}
+        Err(stop) => return Err(stop),
+    }
+    match write_line(note, text) {
+        Ok(()) => Ok(()),
+        Err(stop) => Err(stop),
+    }
+}
+
+// How the run ended, and how many instructions were retired.
+fn tell_plain<N: Sink>(alloc: Global, run: &PlainRecord, note: &mut N) -> Result<(), SinkStop>
+    ensures told { IsTold (plain_text run.now) (N.state note.old) (N.state note.new) result }
+    ensures faults { (N.state note.old).faults ≤ (N.state note.new).faults }
+{
+    let Ok(ending) = ending_text(alloc, run.ending) else {
+        return Err(SinkStop::NoMemory);
+    };
+    let Ok(retired) = retired_text(alloc, run.retired) else {
+        return Err(SinkStop::NoMemory);
+    };
+    match write_line(note, ending.as_str()) {
+        Ok(()) => {}
+        Err(stop) => return Err(stop),
+    }
+    match write_line(note, retired.as_str()) {
+        Ok(()) => Ok(()),
+        Err(stop) => Err(stop),
     }
 }
 
