@@ -7,7 +7,7 @@ use Rattle.sec_base.specs.declared.answers.Ending.TheVariants.{OutOfSteps, Tampe
 use Rattle.rv32_core.specs.Machine.{plain}
 use Rattle.rv32_core.specs.Follows.{Follows, IsWhole}
 use Rattle.plain_machine.specs.declared.PlainRecord.{PlainRecord}
-use Rattle.chip_run.specs.Session.{IsMemoryEnding, IsStop}
+use Rattle.rv32_run.specs.Session.{IsMemoryEnding, IsStop}
 use Rattle.chip_main.specs.Flat.{flat_opening}
 
 -- a run of a flat program on an input, in the memory below a tree of so many levels and within a budget of steps; it
