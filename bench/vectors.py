@@ -3,7 +3,7 @@
 
 Each case is one instruction with its operands. GNU as makes its word, qemu-riscv32 runs that word, and what it leaves
 in registers and memory is the case's outcome. It is compared with an evaluation of the manual's text (`evaluate`,
-below); where they differ the script ends with status 1. The tables are those of crates/plain_machine/src/vectors.rt.
+below); where they differ, or where crates/plain_machine/src/vectors.rt has other tables, the script ends with status 1.
 
 It needs Python 3, qemu-user, gcc-riscv64-unknown-elf and binutils-riscv64-unknown-elf.
 """
@@ -15,11 +15,16 @@ import subprocess
 import sys
 import tempfile
 
+KEPT = os.path.join(os.path.dirname(os.path.abspath(__file__)), "../crates/plain_machine/src/vectors.rt")
+
 # Where a case's operands and its memory word stand. The operands are loaded from there.
 FIRST, SECOND, CELL = 0x3F8, 0x3FC, 0x400
 PROLOGUE = ["lw t0, 0x3f8(zero)", "lw t1, 0x3fc(zero)", "addi a0, t0, 0", "addi a7, zero, 93"]
-# The place of the word under test, where its own place doesn't matter.
+# The sizes of memory, in pages of 4,096 bytes.
+PAGE, SMALL, LARGE = 4096, 4, 1024
+# The place of the word under test, where its own place doesn't matter, and one with room around it in 16 KiB.
 PLACE = 4 * len(PROLOGUE)
+NEAR = 0x2C00
 
 ABI = ["zero", "ra", "sp", "gp", "tp", "t0", "t1", "t2", "s0", "s1"]
 ABI += [f"a{n}" for n in range(8)] + [f"s{n}" for n in range(2, 12)] + ["t3", "t4", "t5", "t6"]
@@ -28,8 +33,9 @@ A0, T0, T1, T6 = 10, 5, 6, 31
 MASK = 0xFFFFFFFF
 TOP, MAX, ALL = 0x80000000, 0x7FFFFFFF, 0xFFFFFFFF
 ODD, EVEN = 0x55555555, 0xAAAAAAAA
+STORED = 0x8899AABB
 
-Case = collections.namedtuple("Case", "text pc first second memory")
+Case = collections.namedtuple("Case", "pages text pc first second memory")
 Outcome = collections.namedtuple("Outcome", "next registers memory")
 
 
@@ -119,27 +125,25 @@ def loads():
 
 
 def stores():
-    """Stores to the cell, which is read back whole, and to its neighbours."""
-    before, value = 0x11223344, 0x8899AABB
+    """Stores of one value to the cell, which is read back whole, and to its neighbours."""
+    before = 0x11223344
     for name, width in {"sb": 1, "sh": 2, "sw": 4}.items():
         for at in range(0, 4, width):
-            yield f"{name} t1, {at}(t0)", CELL, value, before
-        yield f"{name} t1, -2048(t0)", CELL + 2048, value, before
-        yield f"{name} t1, 2047(t0)", CELL - 2047, value, before
-        yield f"{name} t1, 4(t0)", CELL, value, before
-        yield f"{name} t1, {-width}(t0)", CELL, value, before
-        yield f"{name} t0, 0(t0)", CELL, value, before
-        yield f"{name} zero, 0(t0)", CELL, value, ALL
-        yield f"{name} t1, 0(t0)", CELL, 0, ALL
-        yield f"{name} t1, 0(t0)", CELL, ALL, 0
-        yield f"{name} t1, 1024(zero)", 5, EVEN, before
-    yield "sh t1, -2(t0)", CELL + 4, value, before
-    yield "sb t1, -1(t0)", CELL + 4, value, before
+            yield f"{name} t1, {at}(t0)", CELL, before
+        yield f"{name} t1, -2048(t0)", CELL + 2048, before
+        yield f"{name} t1, 2047(t0)", CELL - 2047, before
+        yield f"{name} t1, 4(t0)", CELL, before
+        yield f"{name} t1, {-width}(t0)", CELL, before
+        yield f"{name} t1, {-width}(t0)", CELL + 4, before
+        yield f"{name} t0, 0(t0)", CELL, before
+        yield f"{name} zero, 0(t0)", CELL, ALL
+        yield f"{name} t1, 0(t0)", CELL, 0
+        yield f"{name} t1, 0(a0)", CELL, ALL
+        yield f"{name} t1, 1024(zero)", 5, before
 
 
-def jumps():
-    """Branches and jumps, each with its place."""
-    near = 0x3800  # a place with room around it
+def branches():
+    """Branches, taken and not."""
     equal = [(0, 0), (ALL, ALL), (EVEN, EVEN)]
     unequal = [(0, 1), (TOP, 0), (EVEN, ODD)]
     below = [(ALL, 0), (TOP, MAX), (TOP, ALL), (-2, ALL), (0, 1)]  # signed
@@ -154,35 +158,51 @@ def jumps():
     offsets = [16, -32, 4092, -4096, 2048, 8, -2048, 12]
     for name, pairs in operands.items():
         for at, (first, second) in enumerate(pairs):
-            yield f"{name} t0, t1, .{offsets[at % len(offsets)]:+}", near, first, second
-    yield "beq t0, t0, .+8", near, 1, 2
-    yield "bne t0, zero, .+8", near, 1, 0
-    yield "bltu zero, t1, .-32", near, 0, 1
-    yield "beq t0, t1, .+6", near, 0, 1  # not taken, so that its target doesn't matter
-    yield "bgeu t0, t1, .-4094", near, 0, 1
-    for offset in (4, 8, -32, 2048, 4096, -4096, 0x5554):
-        yield f"jal a0, .{offset:+}", 0x8800, 5, 0
-    yield "jal a0, .+1048572", 0x100, 5, 0
-    yield "jal a0, .-1048576", 0x100100, 5, 0
-    yield "jal zero, .+8", near, 5, 0
-    yield "jal ra, .-32", near, 5, 0
+            yield f"{name} t0, t1, .{offsets[at % len(offsets)]:+}", first, second
+    yield "beq t0, t0, .+8", 1, 2
+    yield "bne t0, zero, .+8", 1, 0
+    yield "bltu zero, t1, .-32", 0, 1
+    # not taken, so that its target doesn't matter
+    yield "beq t0, t1, .+6", 0, 1
+    yield "bgeu t0, t1, .-4094", 0, 1
+
+
+def jumps():
+    """Jumps, each with its place."""
+    near = NEAR
+    for offset in (4, 8, -32, 2048, 4096, -4096, 0x1254):
+        yield f"jal a0, .{offset:+}", near, 5
+    yield "jal zero, .+8", near, 5
+    yield "jal ra, .-32", near, 5
     for text, first in (
         ("jalr a0, 0(t0)", 0x2000), ("jalr a0, 0(a0)", 0x2000), ("jalr a0, 2047(a0)", 0x2001),
         ("jalr a0, 1(t0)", 0x2000), ("jalr a0, 0(t0)", 0x2001), ("jalr a0, -1(t0)", 0x2002),
         ("jalr a0, 5(t0)", 0x2000), ("jalr a0, 2047(t0)", 0x2000 - 2047), ("jalr a0, -2048(t0)", 0x2800),
         ("jalr a0, 2047(t0)", -1791), ("jalr a0, 16(t0)", -8), ("jalr zero, 0(t0)", 0x2000),
         ("jalr zero, -3(a0)", 0x2004), ("jalr ra, 4(t0)", 0x2000), ("jalr t0, 4(t0)", 0x2000),
-        ("jalr zero, 256(zero)", 5), ("jalr a0, -2048(t0)", 0x100800),
+        ("jalr zero, 256(zero)", 5),
     ):  # fmt: skip
-        yield text, near, first, 0
+        yield text, near, first
+
+
+def far_jumps():
+    """Jumps as far as they go, each with its place."""
+    yield "jal a0, .+1048572", 0x100, 5
+    yield "jal a0, .-1048576", 0x100100, 5
+    yield "jal zero, .+0x55554", 0x100, 5
+    yield "jal ra, .-0x55554", 0x100100, 5
+    yield "jalr a0, -2048(t0)", NEAR, 0x100800
+    yield "jalr a0, 2047(a0)", 0x100100, 0x2001
 
 
 def all_cases():
     tables = {
-        "REGISTERS": [Case(text, PLACE, a, b, 0) for text, a, b in registers()],
-        "LOADS": [Case(text, PLACE, a, 0, memory) for text, a, memory in loads()],
-        "STORES": [Case(text, PLACE, a, b, memory) for text, a, b, memory in stores()],
-        "JUMPS": [Case(text, pc, a, b, 0) for text, pc, a, b in jumps()],
+        "REGISTERS": [Case(SMALL, text, PLACE, a, b, 0) for text, a, b in registers()],
+        "LOADS": [Case(SMALL, text, PLACE, a, 0, memory) for text, a, memory in loads()],
+        "STORES": [Case(SMALL, text, PLACE, a, STORED, memory) for text, a, memory in stores()],
+        "BRANCHES": [Case(SMALL, text, NEAR, a, b, 0) for text, a, b in branches()],
+        "JUMPS": [Case(SMALL, text, pc, a, 0, 0) for text, pc, a in jumps()],
+        "FAR_JUMPS": [Case(LARGE, text, pc, a, 0, 0) for text, pc, a in far_jumps()],
     }
     trim = lambda case: case._replace(first=case.first & MASK, second=case.second & MASK)
     return {name: [trim(case) for case in cases] for name, cases in tables.items()}
@@ -210,7 +230,6 @@ def assemble(texts, folder):
 
 # --- the outcome, by qemu ------------------------------------------------------------------------------------------
 
-PAGE = 4096
 LANDINGS = 960  # words of a page from which a run can be told
 REPORT, REPORT_END = 0x3F0, 0x600
 REGISTERS_AT = 0x500
@@ -233,8 +252,7 @@ def executable(image):
 
 def run(case, word, prologue, filled, folder):
     """What qemu makes of the prologue and the word, at their place, with the operands in memory."""
-    pages = 1 + max(case.pc, 0x8800, 0x100000 if case.text.startswith("jal") else 0) // PAGE + 8
-    image = bytearray(filled * pages)
+    image = bytearray(filled * case.pages)
     code = prologue + [word]
     begin = case.pc - 4 * len(prologue)
     struct.pack_into(f"<{len(code)}I", image, begin, *code)
@@ -370,23 +388,32 @@ def number(value):
     return f"0x{value >> 16:04x}_{value & 0xFFFF:04x}"
 
 
+def address(value):
+    return f"0x{value:04x}" if value <= 0xFFFF else number(value)
+
+
 def cell(outcome):
     return struct.unpack_from("<I", outcome.memory, CELL - FIRST)[0]
 
 
 def row(table, case, word, outcome):
     a0 = outcome.registers[A0]
-    return {
-        "REGISTERS": (word, case.first, case.second, a0),
-        "LOADS": (word, case.first, case.memory, a0),
-        "STORES": (word, case.first, case.second, case.memory, cell(outcome)),
-        "JUMPS": (word, case.pc, case.first, case.second, outcome.next, a0),
-    }[table]
+    first, memory = number(case.first), number(case.memory)
+    columns = {
+        "REGISTERS": [first, number(case.second), number(a0)],
+        "LOADS": [first, memory, number(a0)],
+        "STORES": [first, memory, number(cell(outcome))],
+        "BRANCHES": [first, number(case.second), address(outcome.next)],
+        "JUMPS": [address(case.pc), address(case.first), address(outcome.next), address(a0)],
+    }
+    return [number(word)] + columns[table.removeprefix("FAR_")]
 
 
 def main():
     tables = all_cases()
-    counts, differences = collections.Counter(), 0
+    counts, faults = collections.Counter(), []
+    with open(KEPT) as file:
+        kept = file.read()
     dump = [f"sw x{n}, {REGISTERS_AT + 4 * n:#x}(zero)" for n in range(32)]
     dump += ["li a0, 1", f"li a1, {REPORT:#x}", f"li a2, {REPORT_END - REPORT:#x}", "li a7, 64", "ecall"]
     dump += ["li a0, 0", "li a7, 93", "ecall"]
@@ -402,24 +429,22 @@ def main():
                 outcome = run(case, word, prologue, filled, folder)
                 name, wanted = expected(case, word)
                 counts[name] += 1
-                # What the program loads with neither is what an emulated machine begins with.
-                if outcome._replace(registers=known(outcome)) != wanted._replace(registers=known(wanted)):
-                    differences += 1
-                    print(f"{case}: qemu {outcome}, manual {wanted}", file=sys.stderr)
-                rows.append((row(table, case, word, outcome), case.text))
-            width = len(rows[0][0])
-            print(f"const {table}: [({', '.join(['u32'] * width)}); {len(rows)}] = [")
-            for values, text in rows:
-                print(f"    ({', '.join(map(number, values))}), // {text}")
-            print("];\n")
+                if known(outcome) != known(wanted):
+                    faults.append(f"{case}: qemu {outcome}, manual {wanted}")
+                rows.append(f"    ({', '.join(row(table, case, word, outcome))}), // {case.text}\n")
+            kind = "Jump" if "JUMPS" in table else "(u32, u32, u32, u32)"
+            text = f"static {table}: [{kind}; {len(rows)}] = [\n{''.join(rows)}];\n"
+            print(text)
+            if text not in kept:
+                faults.append(f"{KEPT}: another table {table}")
     listed = ", ".join(f"{name} {count}" for name, count in counts.items())
-    print(f"{sum(counts.values())} cases: {listed}; {differences} where qemu and the manual differ", file=sys.stderr)
-    sys.exit(1 if differences else 0)
+    print(f"{sum(counts.values())} cases: {listed}; {len(faults)} faults", *faults, sep="\n", file=sys.stderr)
+    sys.exit(1 if faults else 0)
 
 
 def known(outcome):
-    """The registers but sp, which qemu begins with a stack."""
-    return [value for at, value in enumerate(outcome.registers) if at != 2]
+    """The outcome but for sp, which qemu begins with a stack."""
+    return outcome._replace(registers=[value for at, value in enumerate(outcome.registers) if at != 2])
 
 
 if __name__ == "__main__":
