@@ -16,6 +16,8 @@ ghost use Rattle.rv32_run.specs.Session.{IsMemoryEnding, IsStop};
 mod ram;
 #[cfg(test)]
 mod tests;
+#[cfg(test)]
+mod vectors;
 
 pub use ram::FlatRam;
 use rv32_run::{Session, store_image};
