@@ -167,8 +167,9 @@ others o none = let still = is_idle o (ap needs_of none) in (still.status_is, st
 pub not_flat : {request : Option Asked} {files files' : FilesState} {out out' note note' : SinkState} {done : Done} → Outcome request files files' out out' note note' done → IsNotFlat request → Contains refused_statuses done.status × (done.run ≡ None)
 not_flat {request} o is = let still = is_idle o (no_needs request is) in (still.status_is, still.no_run)
 
-pub unasked : {request : Option Asked} {files files' : FilesState} {out out' note note' : SinkState} {done : Done} → Outcome request files files' out out' note note' done → needs_of request ≡ [] → AsksNothing files files'
-unasked o none = (is_idle o none).unasked
+pub unasked : {request : Option Asked} {files files' : FilesState} {out out' note note' : SinkState} {done : Done} → Outcome request files files' out out' note note' done → (request ≡ None) ⊎ IsNotFlat request → AsksNothing files files'
+unasked o (inl none) = (is_idle o (ap needs_of none)).unasked
+unasked {request} o (inr is) = (is_idle o (no_needs request is)).unasked
 
 -- ---- what was done
 

@@ -68,30 +68,44 @@ pub fn run_words<F: Files, O: Sink, N: Sink>(
         (λ execution. PlainlyEnded IsHalted execution (F.state files.old) (F.state files.new) (O.state out.old) (O.state out.new))
         (λ listing. ListsWhole listing (F.state files.old) (F.state files.new) (O.state out.old) (O.state out.new)) }
     ensures trapped { result.status ≡ 1 → ByCommand (request_of (texts words.now)) (λ _. IsRunAnd result EndedTrapped)
-        (λ execution. PlainlyEnded IsTrapped execution (F.state files.old) (F.state files.new) (O.state out.old) (O.state out.new)) (λ _. ⊥) }
-    ensures usage { result.status ≡ 2 → ((request_of (texts words.now)) ≡ None) ⊎ IsNotFlat (request_of (texts words.now)) }
-    ensures refused { result.status ≡ 3 → Stops TooLong (needs_of (request_of (texts words.now))) (F.state files.old) (F.state files.new) ⊎ Stops TooLarge (needs_of (request_of (texts words.now))) (F.state files.old) (F.state files.new) }
+        (λ execution. PlainlyEnded IsTrapped execution (F.state files.old) (F.state files.new) (O.state out.old) (O.state out.new))
+        (λ _. ⊥) }
+    ensures usage { result.status ≡ 2 → (request_of (texts words.now) ≡ None) ⊎ IsNotFlat (request_of (texts words.now)) }
+    ensures refused { result.status ≡ 3 →
+        Stops TooLong (needs_of (request_of (texts words.now))) (F.state files.old) (F.state files.new)
+        ⊎ Stops TooLarge (needs_of (request_of (texts words.now))) (F.state files.old) (F.state files.new) }
     ensures out_of_steps { result.status ≡ 4 → ByCommand (request_of (texts words.now)) (λ _. IsRunAnd result EndedOutOfSteps)
-        (λ execution. PlainlyEnded IsOutOfSteps execution (F.state files.old) (F.state files.new) (O.state out.old) (O.state out.new)) (λ _. ⊥) }
-    ensures tampered { result.status ≡ 5 → ByCommand (request_of (texts words.now)) (λ _. IsRunAnd result EndedTampered) (λ _. ⊥) (λ _. ⊥) }
+        (λ execution. PlainlyEnded IsOutOfSteps execution (F.state files.old) (F.state files.new) (O.state out.old) (O.state out.new))
+        (λ _. ⊥) }
+    ensures tampered { result.status ≡ 5 → ByCommand (request_of (texts words.now)) (λ _. IsRunAnd result EndedTampered)
+        (λ _. ⊥) (λ _. ⊥) }
     ensures tampered_lies { result.status ≡ 5 → result.lies ≡ 1 }
-    ensures spent { result.status ≡ 6 → ByCommand (request_of (texts words.now)) (λ _. IsRunAnd result EndedSpent) (λ _. ⊥) (λ _. ⊥) }
-    ensures evidence { result.status ≡ 7 → ByCommand (request_of (texts words.now)) (λ _. IsRunAnd result EndedWithEvidence) (λ _. ⊥) (λ _. ⊥) }
-    ensures read_fault { result.status ≡ 8 → Stops Unread (needs_of (request_of (texts words.now))) (F.state files.old) (F.state files.new) }
+    ensures spent { result.status ≡ 6 → ByCommand (request_of (texts words.now)) (λ _. IsRunAnd result EndedSpent)
+        (λ _. ⊥) (λ _. ⊥) }
+    ensures evidence { result.status ≡ 7 → ByCommand (request_of (texts words.now)) (λ _. IsRunAnd result EndedWithEvidence)
+        (λ _. ⊥) (λ _. ⊥) }
+    ensures read_fault { result.status ≡ 8 →
+        Stops Unread (needs_of (request_of (texts words.now))) (F.state files.old) (F.state files.new) }
     ensures write_fault { result.status ≡ 9 → Rose (O.state out.old).faults (O.state out.new).faults
         ⊎ Rose (N.state note.old).faults (N.state note.new).faults }
 
     // Words that are no request, or not for a flat program, are refused, and nothing is asked of the files.
-    ensures others { (request_of (texts words.now)) ≡ None → Contains (2 ∷ 10 ∷ []) result.status × (result.run ≡ None) }
-    ensures others_undone { (request_of (texts words.now)) ≡ None → Undone result.status (request_of (texts words.now)) (F.state files.old) (F.state files.new) (O.state out.old) (O.state out.new) (N.state note.old) (N.state note.new) }
+    ensures others { request_of (texts words.now) ≡ None → Contains (2 ∷ 10 ∷ []) result.status × (result.run ≡ None) }
+    ensures others_undone { request_of (texts words.now) ≡ None →
+        Undone result.status (request_of (texts words.now))
+        (F.state files.old) (F.state files.new) (O.state out.old) (O.state out.new) (N.state note.old) (N.state note.new) }
     ensures not_flat { IsNotFlat (request_of (texts words.now)) → Contains (2 ∷ 10 ∷ []) result.status × (result.run ≡ None) }
-    ensures unasked { needs_of (request_of (texts words.now)) ≡ [] → AsksNothing (F.state files.old) (F.state files.new) }
+    ensures unasked { (request_of (texts words.now) ≡ None) ⊎ IsNotFlat (request_of (texts words.now)) →
+        AsksNothing (F.state files.old) (F.state files.new) }
 
     // A run on protected memory is of the request's program and input. Without evidence it follows the plain machine, and
     // ended as tampering at the first false answer of its bus, if there was one; evidence is of the first false answer.
-    ensures run { IfRun result (RunsRequest (request_of (texts words.now)) (F.state files.old) (F.state files.new) (O.state out.old) (O.state out.new)) }
-    ensures run_asked { IfSome result.run (λ _. Asks (needs_of (request_of (texts words.now))) (F.state files.old) (F.state files.new)) }
-    ensures run_told { IfSome result.run (λ run. TellsRun result.status run result.lies (N.state note.old) (N.state note.new)) }
+    ensures run { IfRun result (
+        RunsRequest (request_of (texts words.now)) (F.state files.old) (F.state files.new) (O.state out.old) (O.state out.new)) }
+    ensures run_asked { IfSome result.run (λ _.
+        Asks (needs_of (request_of (texts words.now))) (F.state files.old) (F.state files.new)) }
+    ensures run_told { IfSome result.run (λ run.
+        TellsRun result.status run result.lies (N.state note.old) (N.state note.new)) }
 
     // Its bus comes with it, and is honest.
     ensures bus { IsSome result.run ↔ IsSome result.bus }
@@ -99,22 +113,32 @@ pub fn run_words<F: Files, O: Sink, N: Sink>(
     ensures honest { result.lies ≡ 0 }
 
     // Where a run was asked for and there is none, it was refused, or there was no memory for it; and nothing was printed.
-    ensures no_run { (execution : ExecutionAsked) → (request_of (texts words.now)) ≡ Some (to_run execution) → IfNone result.run (
-        Contains (2 ∷ 3 ∷ 8 ∷ 10 ∷ []) result.status × Undone result.status (request_of (texts words.now)) (F.state files.old) (F.state files.new) (O.state out.old) (O.state out.new) (N.state note.old) (N.state note.new)) }
+    ensures no_run { (execution : ExecutionAsked) → request_of (texts words.now) ≡ Some (to_run execution) →
+        IfNone result.run (Contains (2 ∷ 3 ∷ 8 ∷ 10 ∷ []) result.status
+        × Undone result.status (request_of (texts words.now))
+        (F.state files.old) (F.state files.new) (O.state out.old) (O.state out.new) (N.state note.old) (N.state note.new)) }
 
     // A run on the plain machine follows it, and a listing is of the request's program; or neither was done.
-    ensures plain { (execution : ExecutionAsked) → (request_of (texts words.now)) ≡ Some (to_run_plain execution) →
-        PlainlyRan result.status execution (F.state files.old) (F.state files.new) (O.state out.old) (O.state out.new) (N.state note.old) (N.state note.new) ⊎ Undone result.status (request_of (texts words.now)) (F.state files.old) (F.state files.new) (O.state out.old) (O.state out.new) (N.state note.old) (N.state note.new) }
-    ensures dis { (listing : ListingAsked) → (request_of (texts words.now)) ≡ Some (to_list listing) →
-        Listed result.status listing (F.state files.old) (F.state files.new) (O.state out.old) (O.state out.new) (N.state note.old) (N.state note.new) ⊎ Undone result.status (request_of (texts words.now)) (F.state files.old) (F.state files.new) (O.state out.old) (O.state out.new) (N.state note.old) (N.state note.new) }
+    ensures plain { (execution : ExecutionAsked) → request_of (texts words.now) ≡ Some (to_run_plain execution) →
+        PlainlyRan result.status execution
+        (F.state files.old) (F.state files.new) (O.state out.old) (O.state out.new) (N.state note.old) (N.state note.new)
+        ⊎ Undone result.status (request_of (texts words.now))
+        (F.state files.old) (F.state files.new) (O.state out.old) (O.state out.new) (N.state note.old) (N.state note.new) }
+    ensures dis { (listing : ListingAsked) → request_of (texts words.now) ≡ Some (to_list listing) →
+        Listed result.status listing
+        (F.state files.old) (F.state files.new) (O.state out.old) (O.state out.new) (N.state note.old) (N.state note.new)
+        ⊎ Undone result.status (request_of (texts words.now))
+        (F.state files.old) (F.state files.new) (O.state out.old) (O.state out.new) (N.state note.old) (N.state note.new) }
 
     // Where the files tell that one of them is over its limit or doesn't have its form, the request is refused.
-    ensures unfit { (before after : List Need) (need : Need) (bytes : List ℕ) → needs_of (request_of (texts words.now)) ≡ before ++ need ∷ after →
+    ensures unfit { (before after : List Need) (need : Need) (bytes : List ℕ) →
+        needs_of (request_of (texts words.now)) ≡ before ++ need ∷ after →
         HasTold (F.state files.old).held need.name bytes → IsUnfit need bytes → Contains (3 ∷ 8 ∷ 10 ∷ []) result.status }
 
     // Where they tell that all have their form, no answer was false and nothing has a fault, what was asked for is done
     // whole; or a page was used up, or memory was not to be had.
-    ensures whole { (execution : ExecutionAsked) (program input : List ℕ) → (request_of (texts words.now)) ≡ Some (to_run execution) →
+    ensures whole { (execution : ExecutionAsked) (program input : List ℕ) →
+        request_of (texts words.now) ≡ Some (to_run execution) →
         Offers execution (F.state files.old) program input → result.lies ≡ 0 →
         ¬ (Rose (F.state files.old).faults (F.state files.new).faults) →
         ¬ (Rose (O.state out.old).faults (O.state out.new).faults) →
@@ -122,13 +146,15 @@ pub fn run_words<F: Files, O: Sink, N: Sink>(
         Contains (6 ∷ 10 ∷ []) result.status ⊎ IsRunAnd result (λ run told.
         IsWhole (flat_opening execution.levels program input) execution.steps run.retired run.ending
         × (result.status ≡ ending_status run.ending)) }
-    ensures whole_plain { (execution : ExecutionAsked) (program input : List ℕ) → (request_of (texts words.now)) ≡ Some (to_run_plain execution) →
+    ensures whole_plain { (execution : ExecutionAsked) (program input : List ℕ) →
+        request_of (texts words.now) ≡ Some (to_run_plain execution) →
         Offers execution (F.state files.old) program input →
         ¬ (Rose (F.state files.old).faults (F.state files.new).faults) →
         ¬ (Rose (O.state out.old).faults (O.state out.new).faults) →
         ¬ (Rose (N.state note.old).faults (N.state note.new).faults) →
         Contains (plain_status execution program input ∷ 10 ∷ []) result.status }
-    ensures whole_dis { (listing : ListingAsked) (program : List ℕ) → (request_of (texts words.now)) ≡ Some (to_list listing) →
+    ensures whole_dis { (listing : ListingAsked) (program : List ℕ) →
+        request_of (texts words.now) ≡ Some (to_list listing) →
         OffersProgram listing (F.state files.old) program →
         ¬ (Rose (F.state files.old).faults (F.state files.new).faults) →
         ¬ (Rose (O.state out.old).faults (O.state out.new).faults) →
@@ -153,7 +179,8 @@ fn answer<F: Files, O: Sink, N: Sink>(
     out: &mut O,
     note: &mut N,
 ) -> Done
-    ensures outcome { Outcome (request_of (texts words.now)) (F.state files.old) (F.state files.new) (O.state out.old) (O.state out.new) (N.state note.old) (N.state note.new) result }
+    ensures outcome { Outcome (request_of (texts words.now))
+        (F.state files.old) (F.state files.new) (O.state out.old) (O.state out.new) (N.state note.old) (N.state note.new) result }
     ensures held { (F.state files.new).held ≡ (F.state files.old).held }
     ensures files_faults { (F.state files.old).faults ≤ (F.state files.new).faults }
     ensures out_faults { (O.state out.old).faults ≤ (O.state out.new).faults }

@@ -1,7 +1,7 @@
 ghost use Rattle.std.specs.Prelude.{◌≡◌, ◌≤◌, Some, true};
 ghost use Rattle.chip_words.specs.Request.{request_of, levels_asked, to_run, to_run_plain, to_list};
 ghost use Rattle.chip_words.specs.Words.{asked, texts, execution as execution_asked, listing as listing_asked};
-ghost use Rattle.chip_main.specs.Needs.{is_flat};
+ghost use Rattle.chip_main.specs.Needs.{is_flat as flat_asked};
 ghost use Rattle.chip_main.specs.Course.{CameAbout, stopped_course};
 
 use crate::course::Course;
@@ -48,7 +48,7 @@ fn perform_request<F: Files, O: Sink>(
     ensures files_faults { (F.state files.old).faults ≤ (F.state files.new).faults }
     ensures out_faults { (O.state out.old).faults ≤ (O.state out.new).faults }
 {
-    if !flat(request) {
+    if !is_flat(request) {
         return Course::Refused(Refusal::NotFlat);
     }
     match request {
@@ -58,8 +58,8 @@ fn perform_request<F: Files, O: Sink>(
     }
 }
 
-fn flat(request: &Request<'_>) -> bool
-    ensures { result ≡ is_flat (asked request.now) }
+fn is_flat(request: &Request<'_>) -> bool
+    ensures { result ≡ flat_asked (asked request.now) }
 {
     match request {
         Request::Run(execution) | Request::Plain(execution) => execution.flat,

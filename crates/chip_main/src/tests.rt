@@ -10,6 +10,12 @@ use std::test::Fail;
 
 const RUN: [&str; 4] = ["chip", "run", "f", "--flat"];
 
+const RUN_SMALL: [&str; 6] = ["chip", "run", "f", "--flat", "--levels", "1"];
+
+const PLAIN: [&str; 4] = ["chip", "plain", "f", "--flat"];
+
+const DIS: [&str; 4] = ["chip", "dis", "f", "--flat"];
+
 // addi a0, zero, 7; addi a7, zero, 93; ecall
 const EXIT_7: [u32; 3] = [0x00700513, 0x05d00893, 0x00000073];
 
@@ -22,6 +28,15 @@ const EXIT_65: [u32; 6] = [
 const PRINT_A: [u32; 10] = [
     0x000012b7, 0x04100313, 0x0062a023, 0x00100513, 0x00028593, 0x00100613, 0x04000893, 0x00000073,
     0x05d00893, 0x00000073,
+];
+
+// It exits with its stack pointer: addi a0, sp, 0; addi a7, zero, 93; ecall.
+const EXIT_STACK: [u32; 3] = [0x00010513, 0x05d00893, 0x00000073];
+
+// It reads at most four bytes of its input to 1000, prints them, and exits with their number.
+const COPY_4: [u32; 11] = [
+    0x00000513, 0x000015b7, 0x00400613, 0x03f00893, 0x00000073, 0x00050613, 0x00100513, 0x04000893,
+    0x00000073, 0x05d00893, 0x00000073,
 ];
 
 // addi zero, zero, 0
@@ -64,9 +79,9 @@ fn program(alloc: Global, words: &[u32]) -> Result<Vec<u8>, NoMemory> {
     Ok(bytes)
 }
 
-// The file `f` with these bytes.
-fn file(alloc: Global, bytes: &[u8]) -> Result<MemoryFiles, NoMemory> {
-    let mut files = MemoryFiles::new(alloc, &[])?;
+// The file `f` with these bytes, where the reads with these numbers fail.
+fn file(alloc: Global, bytes: &[u8], fails: &[u64]) -> Result<MemoryFiles, NoMemory> {
+    let mut files = MemoryFiles::new(alloc, fails)?;
     files.add("f", bytes)?;
     Ok(files)
 }
@@ -86,21 +101,27 @@ fn make_call(
 }
 
 // A call on a file of these bytes.
-fn run_bytes(alloc: Global, bytes: &[u8]) -> Result<Call, NoMemory> {
-    let mut files = file(alloc, bytes)?;
-    make_call(alloc, &RUN, &mut files, &[], &[])
+fn call_bytes(alloc: Global, words: &[&str], bytes: &[u8]) -> Result<Call, NoMemory> {
+    let mut files = file(alloc, bytes, &[])?;
+    make_call(alloc, words, &mut files, &[], &[])
 }
 
 // A call on a program of these words, whose writes with these numbers fail.
-fn run_program(
+fn call_program(
     alloc: Global,
-    words: &[u32],
+    words: &[&str],
+    code: &[u32],
     out_fails: &[u64],
     note_fails: &[u64],
 ) -> Result<Call, NoMemory> {
-    let bytes = program(alloc, words)?;
-    let mut files = file(alloc, bytes.as_slice())?;
-    make_call(alloc, &RUN, &mut files, out_fails, note_fails)
+    let bytes = program(alloc, code)?;
+    let mut files = file(alloc, bytes.as_slice(), &[])?;
+    make_call(alloc, words, &mut files, out_fails, note_fails)
+}
+
+// A command with `f --flat` and two more words, or none.
+fn with_option<'a>(command: &'a str, name: &'a str, value: &'a str) -> [&'a str; 6] {
+    ["chip", command, "f", "--flat", name, value]
 }
 
 fn ending(done: &Done) -> Option<Ending> {
@@ -111,75 +132,209 @@ fn ending(done: &Done) -> Option<Ending> {
 }
 
 #[test]
-fn a_program_exits(rt: HostRuntime) -> Result<(), Fail> {
-    let call = run_program(rt.alloc(), &EXIT_7, &[], &[])?;
+fn programs_run(rt: HostRuntime) -> Result<(), Fail> {
+    // A program, an option and its value, what is printed and told, and the status. From the ninth on they trap: nothing
+    // at all; a jump to 2; a load of the last word of 1 MiB and one past it; one past 16 KiB; one at address 1; a
+    // breakpoint; three instructions and then no more.
+    let rows: [(&[u32], &str, &str, &[u8], &[u8], u8); 15] = [
+        (&EXIT_7, "--levels", "4", b"", b"halted 7\nretired 3\n", 0),
+        (&EXIT_7, "--steps", "3", b"", b"halted 7\nretired 3\n", 0),
+        (
+            &EXIT_7,
+            "--steps",
+            "2",
+            b"",
+            b"out of steps\nretired 2\n",
+            4,
+        ),
+        (
+            &EXIT_7,
+            "--steps",
+            "0",
+            b"",
+            b"out of steps\nretired 0\n",
+            4,
+        ),
+        (&EXIT_65, "--levels", "1", b"", b"halted 65\nretired 6\n", 0),
+        (
+            &PRINT_A,
+            "--levels",
+            "1",
+            b"A",
+            b"halted 1\nretired 10\n",
+            0,
+        ),
+        (
+            &EXIT_STACK,
+            "--levels",
+            "1",
+            b"",
+            b"halted 16320\nretired 3\n",
+            0,
+        ),
+        (
+            &EXIT_STACK,
+            "--steps",
+            "9",
+            b"",
+            b"halted 1048512\nretired 3\n",
+            0,
+        ),
+        (
+            &[],
+            "--levels",
+            "4",
+            b"",
+            b"trapped illegal pc 00000000\nretired 0\n",
+            1,
+        ),
+        (
+            &[0x00200093, 0x00008167],
+            "--levels",
+            "4",
+            b"",
+            b"trapped misaligned target pc 00000004\nretired 1\n",
+            1,
+        ),
+        (
+            &[0x001002b7, 0xffc2a303, 0x0002a303],
+            "--levels",
+            "4",
+            b"",
+            b"trapped outside memory pc 00000008\nretired 2\n",
+            1,
+        ),
+        (
+            &[0x000042b7, 0x0002a503],
+            "--levels",
+            "1",
+            b"",
+            b"trapped outside memory pc 00000004\nretired 1\n",
+            1,
+        ),
+        (
+            &[0x00102503],
+            "--levels",
+            "1",
+            b"",
+            b"trapped misaligned data pc 00000000\nretired 0\n",
+            1,
+        ),
+        (
+            &[0x00100073],
+            "--levels",
+            "1",
+            b"",
+            b"trapped breakpoint pc 00000000\nretired 0\n",
+            1,
+        ),
+        (
+            &[NOTHING, NOTHING, NOTHING],
+            "--levels",
+            "1",
+            b"",
+            b"trapped illegal pc 0000000c\nretired 3\n",
+            1,
+        ),
+    ];
+    for (code, option, value, printed, told, status) in rows {
+        let call = call_program(
+            rt.alloc(),
+            &with_option("run", option, value),
+            code,
+            &[],
+            &[],
+        )?;
+        let mut text = told.to_vec(rt.alloc())?;
+        text.extend_from_slice(b"lies 0\n")?;
+        assert_eq!(rt; call.note.bytes(), text.as_slice());
+        assert_eq!(rt; call.out.bytes(), printed);
+        assert_eq!(rt; call.done.status, status);
+        assert!(rt; call.done.bus.is_some());
+
+        let call = call_program(
+            rt.alloc(),
+            &with_option("plain", option, value),
+            code,
+            &[],
+            &[],
+        )?;
+        assert_eq!(rt; call.note.bytes(), told);
+        assert_eq!(rt; call.out.bytes(), printed);
+        assert_eq!(rt; call.done.status, status);
+        assert!(rt; call.done.bus.is_none());
+    }
+    Ok(())
+}
+
+#[test]
+fn a_run_is_handed_back(rt: HostRuntime) -> Result<(), Fail> {
+    let call = call_program(rt.alloc(), &RUN, &EXIT_7, &[], &[])?;
     assert_eq!(rt;
         call.note.bytes(),
         b"halted 7\nretired 3\nlies 0\n".as_slice()
     );
-    assert_eq!(rt; call.out.bytes(), b"".as_slice());
     assert_eq!(rt; call.done.status, 0);
     assert_eq!(rt; ending(&call.done), Some(Ending::Halted(7)));
     assert_eq!(rt; call.done.lies, 0);
-    assert!(rt; call.done.bus.is_some());
     Ok(())
 }
 
 #[test]
-fn a_program_stores_and_loads(rt: HostRuntime) -> Result<(), Fail> {
-    let call = run_program(rt.alloc(), &EXIT_65, &[], &[])?;
-    assert_eq!(rt;
-        call.note.bytes(),
-        b"halted 65\nretired 6\nlies 0\n".as_slice()
-    );
-    assert_eq!(rt; call.out.bytes(), b"".as_slice());
-    assert_eq!(rt; call.done.status, 0);
-    Ok(())
-}
-
-#[test]
-fn a_program_prints(rt: HostRuntime) -> Result<(), Fail> {
-    let call = run_program(rt.alloc(), &PRINT_A, &[], &[])?;
-    assert_eq!(rt;
-        call.note.bytes(),
-        b"halted 1\nretired 10\nlies 0\n".as_slice()
-    );
-    assert_eq!(rt; call.out.bytes(), b"A".as_slice());
-    assert_eq!(rt; call.done.status, 0);
-    Ok(())
-}
-
-#[test]
-fn programs_trap(rt: HostRuntime) -> Result<(), Fail> {
-    // Nothing at all; three instructions and a word that is none; a load one past the memory; one at address 1.
-    let rows: [(&[u32], &[u8]); 4] = [
-        (&[], b"trapped illegal pc 00000000\nretired 0\nlies 0\n"),
-        (
-            &[NOTHING, NOTHING, NOTHING],
-            b"trapped illegal pc 0000000c\nretired 3\nlies 0\n",
-        ),
-        (
-            &[0x000042b7, 0x0002a503],
-            b"trapped outside memory pc 00000004\nretired 1\nlies 0\n",
-        ),
-        (
-            &[0x00102503],
-            b"trapped misaligned data pc 00000000\nretired 0\nlies 0\n",
-        ),
+fn programs_read_their_input(rt: HostRuntime) -> Result<(), Fail> {
+    let rows: [(&[u8], &[u8], &[u8]); 3] = [
+        (b"", b"", b"halted 0\nretired 11\n"),
+        (b"hi\n", b"hi\n", b"halted 3\nretired 11\n"),
+        (b"abcde", b"abcd", b"halted 4\nretired 11\n"),
     ];
-    for (words, text) in rows {
-        let call = run_program(rt.alloc(), words, &[], &[])?;
-        assert_eq!(rt; call.note.bytes(), text);
-        assert_eq!(rt; call.out.bytes(), b"".as_slice());
-        assert_eq!(rt; call.done.status, 1);
+    for (input, printed, told) in rows {
+        let code = program(rt.alloc(), &COPY_4)?;
+        let mut files = file(rt.alloc(), code.as_slice(), &[])?;
+        files.add("i", input)?;
+        let call = make_call(
+            rt.alloc(),
+            &with_option("plain", "--input", "i"),
+            &mut files,
+            &[],
+            &[],
+        )?;
+        assert_eq!(rt; call.note.bytes(), told);
+        assert_eq!(rt; call.out.bytes(), printed);
+        let call = make_call(
+            rt.alloc(),
+            &with_option("run", "--input", "i"),
+            &mut files,
+            &[],
+            &[],
+        )?;
+        assert_eq!(rt; call.out.bytes(), printed);
+        assert_eq!(rt; call.done.status, 0);
     }
+    Ok(())
+}
+
+#[test]
+fn programs_are_listed(rt: HostRuntime) -> Result<(), Fail> {
+    let first = b"00000000 00700513 addi a0, zero, 7\n".as_slice();
+    let mut text = first.to_vec(rt.alloc())?;
+    text.extend_from_slice(b"00000004 05d00893 addi a7, zero, 93\n00000008 00000073 ecall\n")?;
+    let call = call_program(rt.alloc(), &DIS, &EXIT_7, &[], &[])?;
+    assert_eq!(rt; call.out.bytes(), text.as_slice());
+    assert_eq!(rt; call.note.bytes(), b"".as_slice());
+    assert_eq!(rt; call.done.status, 0);
+    assert!(rt; call.done.run.is_none());
+
+    let call = call_program(rt.alloc(), &DIS, &EXIT_7, &[2], &[])?;
+    assert_eq!(rt; call.out.bytes(), first);
+    assert_eq!(rt; call.note.bytes(), b"".as_slice());
+    assert_eq!(rt; call.done.status, 9);
     Ok(())
 }
 
 #[test]
 fn a_program_fills_the_memory(rt: HostRuntime) -> Result<(), Fail> {
     let words = vec![in rt.alloc(); NOTHING; 4096]?;
-    let call = run_program(rt.alloc(), words.as_slice(), &[], &[])?;
+    let call = call_program(rt.alloc(), &RUN_SMALL, words.as_slice(), &[], &[])?;
     assert_eq!(rt;
         call.note.bytes(),
         b"trapped outside memory pc 00004000\nretired 4096\nlies 0\n".as_slice()
@@ -190,19 +345,31 @@ fn a_program_fills_the_memory(rt: HostRuntime) -> Result<(), Fail> {
 
 #[test]
 fn files_are_refused(rt: HostRuntime) -> Result<(), Fail> {
-    let rows: [(usize, &[u8]); 3] = [
-        (16385, b"refused elf 9 Segment\n"),
-        (1048576, b"refused elf 9 Segment\n"),
-        (1048577, b"refused long\n"),
+    let rows: [(&str, &str, usize, &[u8], u8); 6] = [
+        ("run", "1", 16385, b"refused elf 9 Segment\n", 3),
+        ("plain", "1", 1048576, b"refused elf 9 Segment\n", 3),
+        ("dis", "2", 65537, b"refused elf 9 Segment\n", 3),
+        ("run", "1", 1048577, b"refused long\n", 3),
+        ("dis", "6", 1048577, b"refused long\n", 3),
+        (
+            "plain",
+            "4",
+            1048576,
+            b"trapped illegal pc 00000000\nretired 0\n",
+            1,
+        ),
     ];
-    for (length, text) in rows {
+    for (command, levels, length, text, status) in rows {
         let bytes = vec![in rt.alloc(); 0u8; length]?;
-        let call = run_bytes(rt.alloc(), bytes.as_slice())?;
+        let call = call_bytes(
+            rt.alloc(),
+            &with_option(command, "--levels", levels),
+            bytes.as_slice(),
+        )?;
         assert_eq!(rt; call.note.bytes(), text);
         assert_eq!(rt; call.out.bytes(), b"".as_slice());
-        assert_eq!(rt; call.done.status, 3);
-        assert_eq!(rt; ending(&call.done), None);
-        assert_eq!(rt; call.done.lies, 0);
+        assert_eq!(rt; call.done.status, status);
+        assert!(rt; call.done.run.is_none());
         assert!(rt; call.done.bus.is_none());
     }
     Ok(())
@@ -210,24 +377,34 @@ fn files_are_refused(rt: HostRuntime) -> Result<(), Fail> {
 
 #[test]
 fn other_words_are_usage(rt: HostRuntime) -> Result<(), Fail> {
-    let rows: [&[&str]; 9] = [
+    let rows: [&[&str]; 12] = [
         &[],
         &["chip"],
         &["chip", "run"],
-        &["chip", "run", "f"],
         &["chip", "run", "f", "--flat", "x"],
-        &["chip", "plain", "f", "--flat"],
         &["chip", "run", "f", "--raw"],
-        &["chip", "run", "--flat", "f"],
+        &["chip", "run", "f", "--flat", "--levels", "7"],
+        &["chip", "plain", "f", "--flat", "--steps", "x"],
+        &["chip", "dis", "f", "--flat", "--input", "i"],
         &["run", "f", "--flat"],
+        &["chip", "asm", "f"],
+        &["chip", "--help"],
+        &["chip", "help", "run"],
     ];
     for words in rows {
         let mut files = MemoryFiles::new(rt.alloc(), &[])?;
         let call = make_call(rt.alloc(), words, &mut files, &[], &[])?;
-        assert_eq!(rt; call.note.bytes(), b"usage\n".as_slice());
+        assert!(rt; call.note.bytes().starts_with(b"usage\n"));
         assert_eq!(rt; call.out.bytes(), b"".as_slice());
         assert_eq!(rt; call.done.status, 2);
         assert_eq!(rt; ending(&call.done), None);
+    }
+    for command in ["run", "plain", "dis"] {
+        let mut files = MemoryFiles::new(rt.alloc(), &[])?;
+        let call = make_call(rt.alloc(), &["chip", command, "f"], &mut files, &[], &[])?;
+        assert_eq!(rt; call.note.bytes(), b"usage flat\n".as_slice());
+        assert_eq!(rt; call.out.bytes(), b"".as_slice());
+        assert_eq!(rt; call.done.status, 2);
     }
     Ok(())
 }
@@ -236,8 +413,7 @@ fn other_words_are_usage(rt: HostRuntime) -> Result<(), Fail> {
 fn files_are_not_read(rt: HostRuntime) -> Result<(), Fail> {
     // No such file, and a read that fails.
     let absent = MemoryFiles::new(rt.alloc(), &[])?;
-    let mut failing = MemoryFiles::new(rt.alloc(), &[1])?;
-    failing.add("f", b"")?;
+    let failing = file(rt.alloc(), b"", &[1])?;
     for mut files in [absent, failing] {
         let call = make_call(rt.alloc(), &RUN, &mut files, &[], &[])?;
         assert_eq!(rt; call.note.bytes(), b"read fault\n".as_slice());
@@ -249,30 +425,70 @@ fn files_are_not_read(rt: HostRuntime) -> Result<(), Fail> {
 }
 
 #[test]
-fn a_fault_of_note_keeps_the_run(rt: HostRuntime) -> Result<(), Fail> {
-    // The number of the write that fails, and what was told before.
-    let rows: [(u64, &[u8]); 3] = [(1, b""), (2, b"halted 7\n"), (3, b"halted 7\nretired 3\n")];
-    for (fails, text) in rows {
-        let call = run_program(rt.alloc(), &EXIT_7, &[], &[fails])?;
+fn the_input_is_read_after_the_program(rt: HostRuntime) -> Result<(), Fail> {
+    // The file's length, the input's, the reads that fail, and what comes of it.
+    let rows: [(usize, usize, &[u64], &[u8], u8); 4] = [
+        (0, 0, &[2], b"read fault\n", 8),
+        (0, 1048577, &[], b"refused long\n", 3),
+        (1048577, 0, &[2], b"refused long\n", 3),
+        (
+            0,
+            1048576,
+            &[],
+            b"trapped illegal pc 00000000\nretired 0\n",
+            1,
+        ),
+    ];
+    for (length, input, fails, text, status) in rows {
+        let bytes = vec![in rt.alloc(); 0u8; length]?;
+        let mut files = file(rt.alloc(), bytes.as_slice(), fails)?;
+        let bytes = vec![in rt.alloc(); 0u8; input]?;
+        files.add("i", bytes.as_slice())?;
+        let call = make_call(
+            rt.alloc(),
+            &with_option("plain", "--input", "i"),
+            &mut files,
+            &[],
+            &[],
+        )?;
         assert_eq!(rt; call.note.bytes(), text);
-        assert_eq!(rt; call.done.status, 9);
-        assert_eq!(rt; ending(&call.done), Some(Ending::Halted(7)));
+        assert_eq!(rt; call.out.bytes(), b"".as_slice());
+        assert_eq!(rt; call.done.status, status);
     }
     Ok(())
 }
 
 #[test]
+fn a_fault_of_note_keeps_the_run(rt: HostRuntime) -> Result<(), Fail> {
+    // The number of the write that fails, and what was told before.
+    let rows: [(u64, &[u8]); 3] = [(1, b""), (2, b"halted 7\n"), (3, b"halted 7\nretired 3\n")];
+    for (fails, text) in rows {
+        let call = call_program(rt.alloc(), &RUN, &EXIT_7, &[], &[fails])?;
+        assert_eq!(rt; call.note.bytes(), text);
+        assert_eq!(rt; call.done.status, 9);
+        assert_eq!(rt; ending(&call.done), Some(Ending::Halted(7)));
+    }
+    let call = call_program(rt.alloc(), &PLAIN, &EXIT_7, &[], &[2])?;
+    assert_eq!(rt; call.note.bytes(), b"halted 7\n".as_slice());
+    assert_eq!(rt; call.done.status, 9);
+    Ok(())
+}
+
+#[test]
 fn a_fault_of_note_keeps_a_refusal(rt: HostRuntime) -> Result<(), Fail> {
-    let mut files = MemoryFiles::new(rt.alloc(), &[])?;
-    let call = make_call(rt.alloc(), &RUN, &mut files, &[], &[1])?;
-    assert_eq!(rt; call.note.bytes(), b"".as_slice());
-    assert_eq!(rt; call.done.status, 8);
+    let rows: [(&[&str], u8); 3] = [(&RUN, 8), (&["chip", "dis", "f"], 2), (&["chip"], 2)];
+    for (words, status) in rows {
+        let mut files = MemoryFiles::new(rt.alloc(), &[])?;
+        let call = make_call(rt.alloc(), words, &mut files, &[], &[1])?;
+        assert_eq!(rt; call.note.bytes(), b"".as_slice());
+        assert_eq!(rt; call.done.status, status);
+    }
     Ok(())
 }
 
 #[test]
 fn a_fault_of_out_ends_the_run(rt: HostRuntime) -> Result<(), Fail> {
-    let call = run_program(rt.alloc(), &PRINT_A, &[1], &[])?;
+    let call = call_program(rt.alloc(), &RUN_SMALL, &PRINT_A, &[1], &[])?;
     assert_eq!(rt;
         call.note.bytes(),
         b"write fault\nretired 7\nlies 0\n".as_slice()
@@ -280,20 +496,24 @@ fn a_fault_of_out_ends_the_run(rt: HostRuntime) -> Result<(), Fail> {
     assert_eq!(rt; call.out.bytes(), b"".as_slice());
     assert_eq!(rt; call.done.status, 9);
     assert_eq!(rt; ending(&call.done), Some(Ending::WriteFault));
+
+    let call = call_program(rt.alloc(), &PLAIN, &PRINT_A, &[1], &[])?;
+    assert_eq!(rt; call.note.bytes(), b"write fault\nretired 7\n".as_slice());
+    assert_eq!(rt; call.done.status, 9);
     Ok(())
 }
 
 #[test]
 fn a_slow_sink_gets_the_same_bytes(rt: HostRuntime) -> Result<(), Fail> {
     let bytes = program(rt.alloc(), &PRINT_A)?;
-    let mut files = file(rt.alloc(), bytes.as_slice())?;
+    let mut files = file(rt.alloc(), bytes.as_slice(), &[])?;
     let mut out = ByteByByte {
         bytes: Vec::new(rt.alloc()),
     };
     let mut note = ByteByByte {
         bytes: Vec::new(rt.alloc()),
     };
-    let done = run_words(rt.alloc(), &RUN, &mut files, &mut out, &mut note);
+    let done = run_words(rt.alloc(), &RUN_SMALL, &mut files, &mut out, &mut note);
     assert_eq!(rt;
         note.bytes.as_slice(),
         b"halted 1\nretired 10\nlies 0\n".as_slice()
