@@ -36,7 +36,7 @@ pub record Follows (start : Machine) (budget retired : ℕ) (ending : Ending) (p
 
 -- how a machine that made all instructions of the budget that it can stands there
 abbrev pub standing_as : Option ℕ → Result After Cause → Machine → ℕ → Ending
-standing_as (Some code) next machine budget = Halted code
+standing_as (Some code) result machine budget = Halted code
 standing_as None (Err cause) machine budget =
     if nat_lt machine.retired budget then Trapped cause machine.state.hart.pc else OutOfSteps
 standing_as None (Ok after) machine budget = OutOfSteps

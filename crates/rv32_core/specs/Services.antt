@@ -84,7 +84,7 @@ exit_service state = record { state = passed state; prints = []; exit = Some (a0
 
 -- 214, brk: the break moves to a0 where that is no lower than it was at first and leaves the stack a page
 abbrev pub is_break : CallState → ℕ → ℕ → Bool
-is_break calls size address = nat_le calls.first_break address && nat_le address (size - 4096)
+is_break calls size address = nat_le calls.first_break address && nat_le (address + 4096) size
 
 abbrev pub new_break : State → ℕ
 new_break state = if is_break state.calls (length state.memory) (a0 state) then a0 state else state.calls.brk

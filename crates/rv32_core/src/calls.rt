@@ -69,7 +69,7 @@ impl<'a> Calls<'a> {
         ensures answer { result ≡ (if is_break self.old size address then address else self.old.brk) }
         ensures moved { self.new ≡ with_break self.old result }
     {
-        if self.first_break <= address && address <= size.saturating_sub(4096) {
+        if self.first_break <= address && u64::from(address) + 4096 <= u64::from(size) {
             self.brk = address;
         }
         self.brk

@@ -1,4 +1,5 @@
--- The text of instructions and of words: assembly language as the RISC-V unprivileged manual writes it.
+-- The text of instructions and of words, in the assembly language of the RISC-V unprivileged manual; where a branch
+-- or a jump leads is written as an address.
 use Rattle.rv32_decode.specs.Table.{imm_bits, instruction_of, word_of}
 use Rattle.rv32_decode.specs.declared.Inst.{Inst}
 use Rattle.rv32_decode.specs.declared.Op.{Op}
