@@ -34,7 +34,7 @@ def peak(path):
         "print(resource.getrusage(resource.RUSAGE_CHILDREN).ru_maxrss)"
     )
     answer = subprocess.run(
-        [sys.executable, "-c", code, CHIP, "run", path, "--flat"], check=True, capture_output=True, text=True
+        [sys.executable, "-c", code, CHIP, "run", path, "--flat", "--levels", "1"], check=True, capture_output=True, text=True
     )
     return 1024 * int(answer.stdout)
 
@@ -42,7 +42,7 @@ def peak(path):
 def seconds(path):
     begun = time.perf_counter()
     for _ in range(ROUNDS):
-        run = subprocess.run([CHIP, "run", path, "--flat"], capture_output=True, text=True)
+        run = subprocess.run([CHIP, "run", path, "--flat", "--levels", "1"], capture_output=True, text=True)
         if run.returncode != 0 or run.stderr.splitlines()[:2] != ["halted 0", f"retired {WORDS}"]:
             sys.exit(f"a run went wrong: status {run.returncode}, {run.stderr!r}")
     return (time.perf_counter() - begun) / ROUNDS
@@ -56,7 +56,7 @@ def main():
             path = os.path.join(folder, name + ".bin")
             with open(path, "wb") as file:
                 file.write(program(word))
-            subprocess.run([CHIP, "run", path, "--flat"], capture_output=True)
+            subprocess.run([CHIP, "run", path, "--flat", "--levels", "1"], capture_output=True)
             costs[name] = (seconds(path), peak(path))
             print(f"{name}: {WORDS} instructions, {costs[name][0]:.4f} s a run, peak {costs[name][1]} bytes")
     more_seconds = costs["stores"][0] - costs["nothing"][0]
