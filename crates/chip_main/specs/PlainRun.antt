@@ -1,10 +1,12 @@
 -- A run of a flat program on the plain machine.
-use Rattle.std.specs.Prelude.{◌≡◌, ◌≢◌, ◌<◌, ◌↔◌, List, ℕ, None}
+use Rattle.std.specs.Prelude.{◌≡◌, ◌≢◌, ◌<◌, ◌↔◌, ◌⊎◌, List, ℕ, length, None}
 use Rattle.sec_base.specs.Count.{Rose}
 use Rattle.sec_base.specs.Writing.{SinkState, Gains}
 use Rattle.sec_base.specs.declared.layout.Place.{Place}
 use Rattle.sec_base.specs.declared.answers.Ending.TheVariants.{OutOfSteps, Tampered, Spent, WriteFault, NoMemory}
+use Rattle.rv32_core.specs.Effect.{next}
 use Rattle.rv32_core.specs.Machine.{plain}
+use Rattle.rv32_core.specs.Outcome.{prints_of}
 use Rattle.rv32_core.specs.Follows.{Follows, IsWhole}
 use Rattle.plain_machine.specs.declared.PlainRecord.{PlainRecord}
 use Rattle.rv32_run.specs.Session.{IsMemoryEnding, IsStop}
@@ -24,7 +26,12 @@ pub record RunsPlain (levels steps : ℕ) (program input : List ℕ) (old new : 
       ↔ ((run.retired ≡ steps) × ((plain (flat_opening levels program input) steps).exit ≡ None)))
   -- the sink and want of memory end it only where the budget allows one more instruction, or none at all
   pub early : IsStop run.ending → 0 < steps → run.retired < steps
+  -- a write fails only at an instruction that prints, and memory is wanted only there or before the first instruction
   pub write_fault : run.ending ≡ WriteFault → Rose old.faults new.faults
+  pub prints : run.ending ≡ WriteFault →
+      0 < length (prints_of (next (plain (flat_opening levels program input) run.retired).state))
+  pub no_memory : run.ending ≡ NoMemory → (run.retired ≡ 0)
+      ⊎ (0 < length (prints_of (next (plain (flat_opening levels program input) run.retired).state)))
   -- no memory outside is there to be false or to be used up
   pub untampered : (place : Place) → run.ending ≢ Tampered place
   pub unspent : (page : ℕ) → run.ending ≢ Spent page
