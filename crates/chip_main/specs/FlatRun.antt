@@ -12,7 +12,7 @@ use Rattle.rv32_core.specs.Machine.{plain}
 use Rattle.rv32_core.specs.Follows.{Follows, IsWhole}
 use Rattle.chip_run.specs.declared.RunRecord.{RunRecord}
 use Rattle.chip_run.specs.Account.{HonestOrCaught, IsOfFirstLie}
-use Rattle.chip_run.specs.Contents.{AreNumbered, HoldsLast, HoldsSealed, IsSpent, IsWrittenOut, line_writes}
+use Rattle.chip_run.specs.Contents.{AreConsecutive, AreNumbered, HoldsLast, HoldsSealed, IsSpent, IsWrittenOut, line_writes}
 use Rattle.rv32_run.specs.Session.{IsMemoryEnding, IsStop}
 use Rattle.chip_main.specs.Flat.{device_enc_key, device_tag, flat_opening, page_limit}
 
@@ -28,11 +28,12 @@ pub record RunsFlat (levels steps : ℕ) (program input : List ℕ) (old new : S
   -- evidence is what it says, and is of the first false answer
   pub genuine : IfSome run.evidence (IsEvidence (device_tag levels) run.made)
   pub first_lie : IfSome run.evidence (IsOfFirstLie run.made told)
-  -- No line was enciphered twice under one counter. A line's counters are (n, 0) with rising n from 1 on, and each
-  -- line of the memory was tagged under the same, in the same order.
+  -- No line was enciphered twice under one counter. A line's counters are (n, 0) with n from 1 on, one more each time
+  -- that it was enciphered, and each line of the memory was tagged under the same, in the same order.
   pub no_repeat : run.evidence ≡ None → NoRepeat run.used
   pub rising : run.evidence ≡ None → AreRising run.used
   pub numbered : run.evidence ≡ None → AreNumbered (line_count levels) run.used
+  pub counted : run.evidence ≡ None → AreConsecutive run.used
   pub paired : run.evidence ≡ None → data_pairs run.made ≡ of_lines (line_count levels) run.used
   -- each line's place that isn't zeros holds what was enciphered and tagged for it
   pub sealed : HoldsSealed (device_tag levels) (line_count levels) run.made run.used told.written

@@ -30,9 +30,9 @@ use Rattle.tag_engine.proofs.Forgeries.{known, still_genuine}
 use Rattle.pad_stream.specs.Used.{AreRising}
 use Rattle.sec_base.specs.Places.{zeros_of}
 use Rattle.pad_stream.proofs.RisingCounters.{rising_nothing, rising_more}
-use Rattle.chip_run.proofs.Pairs.{data_pairs-append}
+use Rattle.chip_run.proofs.Pairs.{consecutive_nothing, consecutive_more, data_pairs-append}
 use Rattle.pad_stream.specs.Stream.{Stream, new_stream, after_encrypt, with_room as pads_with_room}
-use Rattle.chip_run.specs.Contents.{line_writes, sealed_line, IsSpent, IsSealed, HoldsSealed, HoldsLast}
+use Rattle.chip_run.specs.Contents.{AreConsecutive, line_writes, sealed_line, IsSpent, IsSealed, HoldsSealed, HoldsLast}
 use Rattle.chip_run.specs.Account.{HonestOrCaught, IsOfFirstLie}
 use Rattle.chip_run.specs.Protected.{IsKept, AreCounted, Passed, IsCheckedRead, lasting_stop, after_line, writes_of, times_tagged}
 use Rattle.chip_run.proofs.LineMessages.{some_same, last_data-same, last_data-other, last_made, last_pair-some, counted_new, counted_more, writes_same, behind}
@@ -206,6 +206,7 @@ ended_kept d n told bus bus' engine pads counters limit stopped stop kept going 
   levels = kept.levels;
   paired = kept.paired;
   rising = kept.rising;
+  consecutive = kept.consecutive;
   sealed = kept.sealed;
   counted = kept.counted;
   stored = λ quiet goes_on. kept.stored quiet (goes goes_on);
@@ -252,6 +253,7 @@ roomed_kept {B} {T} d n told bus bus' engine pads counters limit stopped engine'
       levels = ended.levels;
       paired = ended.paired;
       rising = ended.rising;
+      consecutive = ended.consecutive;
       sealed = ended.sealed;
       counted = ended.counted;
       stored = ended.stored;
@@ -338,6 +340,7 @@ module _ {B T : Type 0} (d n : T → List ℕ → List ℕ) (told : Told) (bus b
     levels = read_levels (line_place line) bytes told ∙ kept.levels;
     paired = kept.paired;
     rising = kept.rising;
+    consecutive = kept.consecutive;
     sealed = subst (λ (written : Place → List ℕ). HoldsSealed (tags_of d n engine) (line_count engine.levels) engine.made pads.used written) (sym (read_written (line_place line) bytes told)) kept.sealed;
     counted = kept.counted;
     stored = λ none goes_on.
@@ -496,6 +499,7 @@ kept_new {B} {T} d n told bus tagger key levels limit engine pads counters new n
       levels = same;
       paired = refl;
       rising = rising_nothing;
+      consecutive = consecutive_nothing;
       sealed = record { holds = λ line inside. inl (empty.zeros (line_place line) (subst (λ (l : ℕ). line < line_count l) (sym same) inside)) };
       counted = subst (λ (xs : List ℕ). AreCounted (line_count levels) limit [] xs) (sym zeros) (counted_new (line_count levels) limit);
       stored = λ quiet goes_on. record { holds = λ line counter cipher inside last. absurd (cc) };
@@ -559,6 +563,9 @@ module _ {B T : Type 0} (d n : T → List ℕ → List ℕ) (told : Told) (bus b
   write_rising = rising_more pads.used line (record { page = writes + 1; line = 0 }) kept.rising
       (behind (line_count engine.levels) limit engine.made pads.used counters line writes kept.counted kept.paired count)
 
+  write_consecutive : AreConsecutive used_after
+  write_consecutive = consecutive_more pads.used line writes kept.consecutive (count ∙ sym (writes_same engine.made pads.used line kept.paired))
+
   -- a line whose counters are used up is not this one
   spent_stays : (page : ℕ) → IsSpent (line_count engine.levels) limit pads.used page → IsSpent (line_count engine.levels) limit used_after page
   spent_stays page spent =
@@ -588,6 +595,7 @@ module _ {B T : Type 0} (d n : T → List ℕ → List ℕ) (told : Told) (bus b
     levels = levels ∙ kept.levels;
     paired = write_paired;
     rising = write_rising;
+    consecutive = write_consecutive;
     sealed = sealed;
     counted = write_counted;
     stored = λ quiet goes_on. stored goes_on quiet;

@@ -1,13 +1,18 @@
 -- Lines and counters, and the messages that they are of.
-use Rattle.std.proofs.Common.{◌≡◌, ℕ, zero, suc, Bool, true, cond, nat_lt, List, [], ◌∷◌, ◌++◌, Contains, refl, ap, sym, ◌∙◌, subst, arith}
+use Rattle.std.proofs.Common.{◌≡◌, ◌≢◌, ℕ, zero, suc, ◌+◌, inl, inr, Bool, true, false, cond, nat_eq, nat_lt, List, [], ◌∷◌, ◌++◌, length, Option, Some, None, Contains, refl, ap, sym, ◌∙◌, subst, arith}
 use Rattle.std.specs.List.{filter}
 use Rattle.sec_base.specs.declared.sealing.Counter.{Counter}
 use Rattle.sec_base.specs.declared.account.Message.{Message}
 use Rattle.sec_base.specs.declared.account.Message.TheVariants.{Line, Node}
-use Rattle.sec_base.specs.Last.{data_pairs}
-use Rattle.std.proofs.lemmas.Bool.{lt-ltb}
+use Rattle.sec_base.specs.Last.{counter_part, last_at, last_pair, data_pairs}
+use Rattle.sec_base.proofs.LastMessages.{last_of_same, last_of_other}
+use Rattle.sec_base.proofs.SamePlaces.{false_from}
+use Rattle.std.proofs.lemmas.Bool.{cases_eq, lt-ltb}
+use Rattle.std.proofs.lemmas.Bool.Decides.{Decides-eqb}
+use Rattle.std.proofs.lemmas.List.{length-append}
+use Rattle.std.proofs.lemmas.List.Elements.{filter-append}
 use Rattle.pad_stream.specs.Used.{of_lines}
-use Rattle.chip_run.specs.Contents.{AreNumbered}
+use Rattle.chip_run.specs.Contents.{AreNumbered, AreConsecutive, entries_of, line_writes, writes_by}
 use Rattle.chip_run.specs.Protected.{AreCounted}
 
 Contains-skip : {A : Type 0} (first : A) (rest : List A) (item : A) → Contains rest item → Contains (first ∷ rest) item
@@ -58,3 +63,63 @@ kept_all passes (first ∷ items) all =
 
 pub all_of_lines : (lines : ℕ) (used : List (ℕ × Counter)) → AreNumbered lines used → of_lines lines used ≡ used
 all_of_lines lines used own = kept_all (λ (entry : ℕ × Counter). nat_lt entry.0 lines) used (λ entry listed. lt-ltb entry.0 lines (own.numbered entry.0 entry.1 listed).0)
+
+-- An entry more
+
+-- of the line itself
+last_pair-same : (used : List (ℕ × Counter)) (line : ℕ) (counter : Counter) → last_pair line (used ++ (line, counter) ∷ []) ≡ Some counter
+last_pair-same used line counter =
+    let same : nat_eq line line ≡ true = (Decides-eqb line line).1 refl in
+    last_of_same (counter_part line) used (line, counter) counter (ap (λ (b : Bool). cond b (Some counter) None) same)
+
+entries_of-same : (used : List (ℕ × Counter)) (line : ℕ) (counter : Counter) → entries_of (used ++ (line, counter) ∷ []) line ≡ entries_of used line + 1
+entries_of-same used line counter =
+    let names : ℕ × Counter → Bool = λ entry. nat_eq entry.0 line in
+    let entry : ℕ × Counter = (line, counter) in
+    let same : nat_eq line line ≡ true = (Decides-eqb line line).1 refl in
+    ap (λ (xs : List (ℕ × Counter)). length xs) (filter-append names used (entry ∷ []))
+    ∙ length-append (filter names used) (filter names (entry ∷ []))
+    ∙ ap (λ (b : Bool). length (filter names used) + length (cond b (entry ∷ []) [])) same
+
+-- and of another one
+last_pair-other : (used : List (ℕ × Counter)) (line other : ℕ) (counter : Counter) → other ≢ line → last_pair other (used ++ (line, counter) ∷ []) ≡ last_pair other used
+last_pair-other used line other counter differs =
+    let not_same : nat_eq line other ≡ false = false_from (nat_eq line other) (Decides-eqb line other) (λ (e : line ≡ other). differs (sym e)) in
+    last_of_other (counter_part other) used (line, counter) (ap (λ (b : Bool). cond b (Some counter) None) not_same)
+
+entries_of-other : (used : List (ℕ × Counter)) (line other : ℕ) (counter : Counter) → other ≢ line → entries_of (used ++ (line, counter) ∷ []) other ≡ entries_of used other
+entries_of-other used line other counter differs =
+    let names : ℕ × Counter → Bool = λ entry. nat_eq entry.0 other in
+    let entry : ℕ × Counter = (line, counter) in
+    let not_same : nat_eq line other ≡ false = false_from (nat_eq line other) (Decides-eqb line other) (λ (e : line ≡ other). differs (sym e)) in
+    let more : length (filter names (used ++ entry ∷ [])) ≡ length (filter names used) + 0 =
+    ap (λ (xs : List (ℕ × Counter)). length xs) (filter-append names used (entry ∷ []))
+    ∙ length-append (filter names used) (filter names (entry ∷ []))
+    ∙ ap (λ (b : Bool). length (filter names used) + length (cond b (entry ∷ []) [])) not_same in
+    omega (arith, more)
+
+-- a line's counter is how often it was enciphered, also when that was once more
+pub consecutive_more : (used : List (ℕ × Counter)) (line writes : ℕ) → AreConsecutive used → writes ≡ line_writes used line →
+    AreConsecutive (used ++ (line, record { page = writes + 1; line = 0 }) ∷ [])
+consecutive_more used line writes was count =
+    let counter : Counter = record { page = writes + 1; line = 0 } in
+    record {
+      counted = λ other.
+          elim (cases_eq other line) [
+            | inl same ↦
+                let here : line_writes (used ++ (line, counter) ∷ []) line ≡ entries_of (used ++ (line, counter) ∷ []) line =
+                ap writes_by (last_pair-same used line counter)
+                ∙ ap (λ (n : ℕ). n + 1) (count ∙ was.counted line)
+                ∙ sym (entries_of-same used line counter) in
+                subst (λ (l : ℕ). line_writes (used ++ (line, counter) ∷ []) l ≡ entries_of (used ++ (line, counter) ∷ []) l) (sym same) here
+            | inr differs ↦
+                ap writes_by (last_pair-other used line other counter differs)
+                ∙ was.counted other
+                ∙ sym (entries_of-other used line other counter differs)
+          ];
+    }
+
+-- and where nothing was
+pub consecutive_nothing : AreConsecutive []
+unfolding last_at
+consecutive_nothing = record { counted = λ line. refl }

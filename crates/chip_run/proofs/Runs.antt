@@ -20,9 +20,10 @@ use Rattle.rv32_core.specs.Machine.{Machine}
 use Rattle.rv32_core.specs.Follows.{Follows, IsWhole}
 use Rattle.rv32_core.proofs.Plain.{whole_run}
 use Rattle.chip_run.specs.Account.{HonestOrCaught, IsOfFirstLie}
-use Rattle.chip_run.specs.Contents.{AreNumbered, line_bytes, line_writes, contents_of, HoldsSealed, IsWrittenOut}
+use Rattle.chip_run.specs.Contents.{AreConsecutive, AreNumbered, line_bytes, line_writes, contents_of, HoldsSealed, IsWrittenOut}
 use Rattle.chip_run.specs.LineLengths.{length-line_bytes}
 use Rattle.chip_run.specs.Protected.{Protected, new_protected, IsMoved}
+use Rattle.chip_run.proofs.Pairs.{consecutive_nothing}
 
 -- A memory of which no line was written has zeros
 
@@ -87,6 +88,9 @@ nothing_paired lines made used none_made none_used = ap data_pairs none_made ∙
 pub nothing_numbered : (lines : ℕ) (used : List (ℕ × Counter)) → used ≡ [] → AreNumbered lines used
 nothing_numbered lines used none = subst (λ (xs : List (ℕ × Counter)). AreNumbered lines xs) (sym none)
     (record { numbered = λ line counter listed. absurd (omega (arith, listed.1)) })
+
+pub nothing_consecutive : (used : List (ℕ × Counter)) → used ≡ [] → AreConsecutive used
+nothing_consecutive used none = subst (λ (xs : List (ℕ × Counter)). AreConsecutive xs) (sym none) consecutive_nothing
 
 pub nothing_sealed : (tag_of : Message → List ℕ) (levels : ℕ) (made : List Message) (used : List (ℕ × Counter)) (told : Told) → told.levels ≡ levels → NothingWritten told → HoldsSealed tag_of (line_count levels) made used told.written
 nothing_sealed tag_of levels made used told same empty = record {

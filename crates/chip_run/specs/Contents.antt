@@ -1,5 +1,6 @@
 -- What a memory of lines holds, by the messages that were tagged and the key that lines are enciphered with.
-use Rattle.std.specs.Prelude.{◌≡◌, ◌⊎◌, ℕ, ◌/◌, ◌<◌, ◌≤◌, List, length, replicate, Option, Some, None, Contains}
+use Rattle.std.specs.Prelude.{◌==◌, ◌≡◌, ◌⊎◌, ℕ, ◌/◌, ◌<◌, ◌≤◌, List, length, replicate, Option, Some, None, Contains}
+use Rattle.std.specs.List.{filter}
 use Rattle.sec_base.specs.declared.layout.Place.{Place}
 use Rattle.sec_base.specs.declared.layout.Place.TheVariants.{Line as line_place}
 use Rattle.sec_base.specs.declared.sealing.Counter.{Counter}
@@ -35,6 +36,14 @@ line_writes used line = writes_by (last_pair line used)
 pub record AreNumbered (lines : ℕ) (used : List (ℕ × Counter)) : Type 0 where
   pub numbered : (line : ℕ) (counter : Counter) → Contains used (line, counter) →
       (line < lines) × (1 ≤ counter.page) × (counter.line ≡ 0)
+
+-- how many entries name the line
+abbrev pub entries_of : List (ℕ × Counter) → ℕ → ℕ
+entries_of used line = length (filter (λ entry. entry.0 == line) used)
+
+-- A line's counter is how often it was enciphered.
+pub record AreConsecutive (used : List (ℕ × Counter)) : Type 0 where
+  pub counted : (line : ℕ) → line_writes used line ≡ entries_of used line
 
 -- some line of the page was written as often as the limit allows
 pub record IsSpent (lines limit : ℕ) (used : List (ℕ × Counter)) (page : ℕ) : Type 0 where

@@ -15,7 +15,7 @@ ghost use Rattle.tag_engine.specs.Tag.{engine_tag};
 ghost use Rattle.rv32_core.specs.Machine.{opening, plain};
 ghost use Rattle.rv32_core.specs.Follows.{Follows, IsWhole};
 ghost use Rattle.chip_run.specs.Account.{HonestOrCaught, IsOfFirstLie};
-ghost use Rattle.chip_run.specs.Contents.{AreNumbered, HoldsLast, HoldsSealed, IsSpent, IsWrittenOut, line_writes};
+ghost use Rattle.chip_run.specs.Contents.{AreConsecutive, AreNumbered, HoldsLast, HoldsSealed, IsSpent, IsWrittenOut, line_writes};
 ghost use Rattle.rv32_run.specs.Session.{IsMemoryEnding, IsStop};
 
 mod account;
@@ -67,11 +67,12 @@ pub fn run<B: Bus, T: Tagger, S: Sink>(
         (IsEvidence (engine_tag (T.data_tag_of tagger) (T.node_tag_of tagger) setup.now.geometry) result.0.made) }
     ensures first_lie { IfSome result.0.evidence (IsOfFirstLie result.0.made (B.told result.1)) }
 
-    // No line was enciphered twice under one counter. A line's counters are (n, 0) with rising n from 1 on, and each
-    // line of the memory was tagged under the same, in the same order.
+    // No line was enciphered twice under one counter. A line's counters are (n, 0) with n from 1 on, one more each time
+    // that it was enciphered, and each line of the memory was tagged under the same, in the same order.
     ensures no_repeat { result.0.evidence ≡ None → NoRepeat result.0.used }
     ensures rising { result.0.evidence ≡ None → AreRising result.0.used }
     ensures numbered { result.0.evidence ≡ None → AreNumbered (line_count setup.now.geometry) result.0.used }
+    ensures counted { result.0.evidence ≡ None → AreConsecutive result.0.used }
     ensures paired { result.0.evidence ≡ None →
         data_pairs result.0.made ≡ of_lines (line_count setup.now.geometry) result.0.used }
 

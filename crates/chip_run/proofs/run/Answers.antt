@@ -9,7 +9,7 @@ use Rattle.chip_run.specs.Contents.{contents_of}
 use Rattle.chip_run.specs.Protected.{new_protected}
 use Rattle.rv32_run.specs.Session.{IsStop, FollowsWith}
 use Rattle.rv32_run.proofs.Runs.{opening_follows, nothing_follows, budget_ends}
-use Rattle.chip_run.proofs.Runs.{opening_zeros, levels_stay, key_stays, no_repeat, nothing_rising, nothing_paired, nothing_numbered, limit_stays, limit_stored, limited_by, never_limited, reads_stay, reads_stored, written_out, honest_run}
+use Rattle.chip_run.proofs.Runs.{opening_zeros, levels_stay, key_stays, no_repeat, nothing_rising, nothing_paired, nothing_numbered, nothing_consecutive, limit_stays, limit_stored, limited_by, never_limited, reads_stay, reads_stored, written_out, honest_run}
 use Rattle.chip_run.proofs.run.Given.{Over}
 use Rattle.chip_run.proofs.run.Goals as goal
 
@@ -141,3 +141,6 @@ returns-clause-no_repeat g c = λ quiet. no_repeat c.close-2.result.0.used (rw c
 
 pub returns-in-Err-clause-numbered : goal.returns-in-Err-clause-numbered
 returns-in-Err-clause-numbered g c = λ quiet. nothing_numbered (line_count c.args.setup.now.geometry) c.no_run.result.used c.no_run.ensures.used
+
+pub returns-in-Err-clause-counted : goal.returns-in-Err-clause-counted
+returns-in-Err-clause-counted g c = λ quiet. nothing_consecutive c.no_run.result.used c.no_run.ensures.used

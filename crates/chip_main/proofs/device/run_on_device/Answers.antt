@@ -18,6 +18,7 @@ returns-clause-ran g c = λ program flat.
       no_repeat = c.run-done.ensures.no_repeat;
       rising = c.run-done.ensures.rising;
       numbered = c.run-done.ensures.numbered;
+      counted = c.run-done.ensures.counted;
       paired = c.run-done.ensures.paired;
       sealed = rw tags at c.run-done.ensures.sealed;
       written_out = rw (opens, enc) at c.run-done.ensures.written_out;

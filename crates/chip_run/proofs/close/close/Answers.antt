@@ -29,6 +29,10 @@ pub returns-clause-rising : goal.returns-clause-rising
 returns-clause-rising g c =
     (ended_kept (tags_of g.T.Tagger.data_tag_of g.T.Tagger.node_tag_of) g.B.Bus.told c.into_lines.result c.args.memory.lines c.into_lines.ensures c.finish-account.ensures.kept).rising
 
+pub returns-clause-counted : goal.returns-clause-counted
+returns-clause-counted g c =
+    (ended_kept (tags_of g.T.Tagger.data_tag_of g.T.Tagger.node_tag_of) g.B.Bus.told c.into_lines.result c.args.memory.lines c.into_lines.ensures c.finish-account.ensures.kept).consecutive
+
 pub returns-clause-sealed : goal.returns-clause-sealed
 returns-clause-sealed g c =
     (ended_kept (tags_of g.T.Tagger.data_tag_of g.T.Tagger.node_tag_of) g.B.Bus.told c.into_lines.result c.args.memory.lines c.into_lines.ensures c.finish-account.ensures.kept).sealed
