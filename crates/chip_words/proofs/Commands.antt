@@ -1,15 +1,15 @@
 -- A command without a fault has the values that it can't do without.
-use Rattle.std.proofs.Common.{◌≡◌, ◌⊎◌, ◌<◌, ◌≤◌, ◌^◌, ◌&&◌, ap, subst, ℕ, Bool, List, [], ◌∷◌, ◌++◌, Option, Some, None, true, false, not, refl, sym, inl, inr, is_some, unwrap_or, arith}
-use Rattle.std.specs.Prelude.{codes, find, fold, ◌-◌}
+use Rattle.std.proofs.Common.{◌≡◌, ◌⊎◌, ◌<◌, ◌≤◌, ◌^◌, ◌&&◌, ap, subst, ℕ, Bool, List, [], ◌∷◌, Option, Some, None, true, false, not, refl, sym, inl, inr, is_some, unwrap_or}
+use Rattle.std.specs.Prelude.{codes, find, ◌-◌}
 use Rattle.std.specs.List.{list_any, slice_index_or}
 use Rattle.std.specs.Option.{option_map_or}
 use Rattle.std.specs.Str.{bytes_eq}
 use Rattle.std.specs.Str.Parse.{IsNumeral, without_leading_plus}
 use Rattle.clap.specs.Facts.{explicit_source, parser_of_value}
-use Rattle.clap.specs.Kinds.{Kinds, check_kinds, or_else}
+use Rattle.clap.specs.Kinds.{check_kinds, or_else}
 use Rattle.clap.specs.Takes.{is_given}
 use Rattle.clap.specs.ValueTests.{accepts}
-use Rattle.clap.specs.Walk.{Held, Row, Rule, Text, arg_by_id, finished, first_of, nothing_held, rows_after, settled, takes_values, walk, walk_from}
+use Rattle.clap.specs.Walk.{Row, Rule, Text, arg_by_id, finished, first_of, nothing_held, rows_after, settled, takes_values, walk, walk_from}
 use Rattle.clap.specs.Simple.{Shape, built, entered, filled, help_shape, with_index}
 use Rattle.clap.specs.Faults.{check_fault, defaults_fault, entered_fault, level_fault, settle_fault, walk_fault}
 use Rattle.clap.specs.declared.builder.value_parser.ValueParser.TheVariants.{Unsigned}

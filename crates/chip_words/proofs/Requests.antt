@@ -1,28 +1,24 @@
 -- What follows from a request.
-use Rattle.std.proofs.Common.{◌≡◌, ◌≤◌, ◌⊎◌, ◌∙◌, ap, subst, ℕ, Bool, List, [], ◌∷◌, Option, Some, None, Ok, true, false, not, refl, sym, inl, inr, is_some, if◌then◌else◌, arith, unwrap_or}
+use Rattle.std.proofs.Common.{◌≡◌, ◌≤◌, ◌<◌, ◌^◌, ◌∙◌, ap, subst, Bool, List, [], Option, Some, None, Ok, true, false, refl, sym, inl, inr, is_some, if◌then◌else◌, arith, unwrap_or}
 use Rattle.std.specs.Prelude.{◌↔◌, codes, IsSome}
-use Rattle.std.specs.Option.{option_map_or}
 use Rattle.std.specs.Str.{bytes_eq}
 use Rattle.std.proofs.lemmas.Slice.Eq.{bytes_eq-Decides}
 use Rattle.clap.specs.Values.{kind_of}
-use Rattle.clap.specs.ValueTests.{is_unsigned_in}
 use Rattle.clap.specs.Kinds.{FailsBy, HasKind, Kinds, check_kinds, or_else}
-use Rattle.clap.specs.Walk.{Held, Names, Row, Text, Walk, finished, first_of, is_empty, nothing_held, settled, stop_after, walk, walk_from}
+use Rattle.clap.specs.Walk.{Held, Names, Row, Text, finished, is_empty, nothing_held, settled, stop_after, walk, walk_from}
 use Rattle.clap.specs.Simple.{App, HasMatchesOf, Shape, argument_words, built, entered, is_simple, names_of, subcommand_of, subcommand_rows_of}
 use Rattle.clap.specs.Faults.{check_fault, defaults_fault, entered_fault, fault_of, is_simple_and_free, level_fault, settle_fault, walk_fault}
 use Rattle.clap.specs.declared.error.Error.{Error}
 use Rattle.clap.specs.declared.error.kind.ErrorKind.TheVariants.{OutOfMemory}
 use Rattle.clap.specs.declared.parser.matches.ArgMatches.{ArgMatches}
-use Rattle.clap.specs.declared.builder.value_parser.ValueParser.TheVariants.{Unsigned}
 use Rattle.clap.proofs.OnLiterals.{clap_on_literals}
 use Rattle.clap.proofs.SimpleLemmas.{is_nil}
-use Rattle.clap.proofs.ValueTestLemmas.{accepts-Accepts}
 use Rattle.chip_words.specs.App.{chip_app}
-use Rattle.chip_words.specs.Request.{Asked, asked_in, execution_of, levels_asked, levels_of, listing_of, request_of, to_list, to_run, to_run_plain}
+use Rattle.chip_words.specs.Request.{Asked, asked_in, execution_of, levels_asked, listing_of, request_of, steps_asked, to_list, to_run, to_run_plain}
 use Rattle.chip_words.specs.Words.{IfUsage}
 use Rattle.chip_words.specs.declared.request.WordsError.{WordsError}
 use Rattle.chip_words.specs.declared.request.WordsError.TheVariants.{Usage, NoMemory}
-use Rattle.chip_words.specs.Commands.{IfCommand}
+use Rattle.chip_words.specs.Commands.{HasExecution, HasListing, IfCommand}
 use Rattle.chip_words.proofs.Commands.{command_has}
 use Rattle.chip_words.proofs.Walks.{IsNoHelp, both_empty, walk_keeps}
 
@@ -131,32 +127,42 @@ refusal_asks a words e is fails kept =
     none_chosen (fault_of chip_app words) (asked_in (subcommand_of chip_app words)) (λ none.
     elim (subst (λ (kinds : Kinds). HasKind kinds e) none kind) [ inl memory ↦ kept memory | inr among ↦ among ])
 
--- ---- levels
+-- ---- the numbers of a request
 
-abbrev HasLevels : ℕ → Type 0
-HasLevels n = (1 ≤ n) × (n ≤ 6)
-
--- a command asks for 1 to 6 levels
-pub levels_asked-bounds : (o : Option (Text × List Row)) (r : Asked) → IfCommand o → asked_in o ≡ Some r → (1 ≤ levels_asked r) × (levels_asked r ≤ 6)
-levels_asked-bounds None r has e = absurd cc
-levels_asked-bounds (Some p) r has e =
+-- what holds of each command's values holds of what it asks for
+asked_keeps : (P : Asked → Type 0) (o : Option (Text × List Row)) (r : Asked)
+    → ((values : List Row) → HasExecution values → P (to_run (execution_of values)) × P (to_run_plain (execution_of values)))
+    → ((values : List Row) → HasListing values → P (to_list (listing_of values)))
+    → IfCommand o → asked_in o ≡ Some r → P r
+asked_keeps P None r executes lists has e = absurd cc
+asked_keeps P (Some p) r executes lists has e =
     go (bytes_eq p.0 (codes "run")) refl (bytes_eq p.0 (codes "plain")) refl (bytes_eq p.0 (codes "dis")) refl
   where
-    at : (x : Asked) → HasLevels (levels_asked x) → Some x ≡ Some r → HasLevels (levels_asked r)
-    at x h is = subst (λ (o : Option Asked). HasLevels (levels_asked (unwrap_or o x))) is h
+    at : (x : Asked) → P x → Some x ≡ Some r → P r
+    at x h is = subst (λ (o : Option Asked). P (unwrap_or o x)) is h
 
     go : (a : Bool) → bytes_eq p.0 (codes "run") ≡ a → (b : Bool) → bytes_eq p.0 (codes "plain") ≡ b
-        → (c : Bool) → bytes_eq p.0 (codes "dis") ≡ c → HasLevels (levels_asked r)
-    go true x b y c z = at (to_run (execution_of p.1)) has.listing.bounds (rw x at e)
-    go false x true y c z = at (to_run_plain (execution_of p.1)) has.listing.bounds (rw (x, y) at e)
-    go false x false y true z = at (to_list (listing_of p.1)) has.listing.bounds (rw (x, y, z) at e)
+        → (c : Bool) → bytes_eq p.0 (codes "dis") ≡ c → P r
+    go true x b y c z = at (to_run (execution_of p.1)) (executes p.1 (has.run x)).0 (rw x at e)
+    go false x true y c z = at (to_run_plain (execution_of p.1)) (executes p.1 (has.plain y)).1 (rw (x, y) at e)
+    go false x false y true z = at (to_list (listing_of p.1)) (lists p.1 has.listing) (rw (x, y, z) at e)
     go false x false y false z = absurd (let bad : None ≡ Some r = rw (x, y, z) at e in cc)
 
--- and so does a request
-pub request_of-levels : (words : List Text) (r : Asked) → request_of words ≡ Some r → (1 ≤ levels_asked r) × (levels_asked r ≤ 6)
-request_of-levels words r e =
+request_keeps : (P : Asked → Type 0) (words : List Text) (r : Asked)
+    → ((values : List Row) → HasExecution values → P (to_run (execution_of values)) × P (to_run_plain (execution_of values)))
+    → ((values : List Row) → HasListing values → P (to_list (listing_of values)))
+    → request_of words ≡ Some r → P r
+request_keeps P words r executes lists e =
     let none = (request_is_there words).0 (ap is_some e) in
-    levels_asked-bounds (subcommand_of chip_app words) r (asks words none).1 (sym (request_of-taken words none) ∙ e)
+    asked_keeps P (subcommand_of chip_app words) r executes lists (asks words none).1 (sym (request_of-taken words none) ∙ e)
+
+pub request_of-levels : (words : List Text) (r : Asked) → request_of words ≡ Some r → (1 ≤ levels_asked r) × (levels_asked r ≤ 6)
+request_of-levels words r e = request_keeps (λ x. (1 ≤ levels_asked x) × (levels_asked x ≤ 6)) words r
+    (λ values has. (has.listing.bounds, has.listing.bounds)) (λ values has. has.bounds) e
+
+pub request_of-steps : (words : List Text) (r : Asked) → request_of words ≡ Some r → steps_asked r < 2 ^ 64
+request_of-steps words r e = request_keeps (λ x. steps_asked x < 2 ^ 64) words r
+    (λ values has. (has.steps.1.1, has.steps.1.1)) (λ values has. omega arith) e
 
 -- ---- errors
 

@@ -1,5 +1,5 @@
 -- What a list of words asks for: what `clap`'s definition of the command line gives for them.
-use Rattle.std.specs.Prelude.{ℕ, Bool, List, [], ◌∷◌, Option, Some, None, option_and_then, unwrap_or, codes, if◌then◌else◌}
+use Rattle.std.specs.Prelude.{ℕ, Bool, List, [], Option, Some, None, option_and_then, unwrap_or, codes, if◌then◌else◌}
 use Rattle.std.specs.Str.{bytes_eq}
 use Rattle.std.specs.Str.Parse.{digits_value, without_leading_plus}
 use Rattle.clap.specs.Walk.{Row, Text, first_of, is_empty}
@@ -81,9 +81,15 @@ abbrev pub request_of : List Text → Option Asked
 request_of words =
     if is_empty (fault_of chip_app words) then asked_in (subcommand_of chip_app words) else None
 
--- ---- what every request keeps to
+-- ---- the numbers of a request
 
 abbrev pub levels_asked : Asked → ℕ
 levels_asked (to_run execution) = execution.levels
 levels_asked (to_run_plain execution) = execution.levels
 levels_asked (to_list listing) = listing.levels
+
+-- no step is asked for where nothing is run
+abbrev pub steps_asked : Asked → ℕ
+steps_asked (to_run execution) = execution.steps
+steps_asked (to_run_plain execution) = execution.steps
+steps_asked (to_list listing) = 0

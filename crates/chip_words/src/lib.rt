@@ -20,15 +20,16 @@ use clap::error::ErrorKind;
 pub use request::{Execution, Listing, Request, WordsError};
 use std::alloc::Global;
 
-/// What the words of the process ask for, the program's name first. A question for help is refused with its answer.
+/// What the words of the process ask for, the program's name first. A question for help is refused too, and its answer is
+/// the text.
 #[tactic(auto, using(crate::proofs::Requests::request_is_there))]
 pub fn read_words<'a>(alloc: Global, words: &'a [&'a str]) -> Result<Request<'a>, WordsError>
     ensures taken { IfOk result (λ request. request_of (texts words.now) ≡ Some (asked request)) }
     ensures refused { IfErr result (λ error. IfUsage error (request_of (texts words.now) ≡ None)) }
+    ensures levels { IfOk result (λ request. (1 ≤ levels_asked (asked request)) × (levels_asked (asked request) ≤ 6)) }
 
     // Words ask for something just where clap has no fault to find in them.
     ensures faultless { IsSome (request_of (texts words.now)) ↔ (fault_of chip_app (texts words.now) ≡ []) }
-    ensures levels { IfOk result (λ request. (1 ≤ levels_asked (asked request)) × (levels_asked (asked request) ≤ 6)) }
 {
     let app = match app::app(alloc) {
         Ok(app) => app,

@@ -41,7 +41,7 @@ pub struct Listing<'a> {
 /// Why words ask for nothing that can be done.
 #[derive(Debug, Drop, Error)]
 pub enum WordsError {
-    /// They are no request, or a question for help: a text that says so.
+    /// They are no request, or a question for help: clap's text for the user.
     #[error("{0}")]
     Usage(String),
     /// Memory for reading them was not to be had.

@@ -2,10 +2,9 @@
 ghost use Rattle.std.specs.Prelude.{◌≡◌, IsSome, Some, option_map};
 ghost use Rattle.clap.specs.Walk.{first_of, rows_of};
 ghost use Rattle.clap.specs.Words.{found_of, subcommand_rows_of};
-ghost use Rattle.chip_words.specs.Request.{asked_in, execution_of, file_of, flat_of, input_of};
-ghost use Rattle.chip_words.specs.Request.{levels_of, listing_of, number_of, steps_of, value_of};
-ghost use Rattle.chip_words.specs.Commands.{HasExecution, HasListing, HasNumber, HasValue};
-ghost use Rattle.chip_words.specs.Commands.{IfCommand};
+ghost use Rattle.chip_words.specs.Request.{asked_in, execution_of, flat_of, levels_of, listing_of};
+ghost use Rattle.chip_words.specs.Request.{number_of, value_of};
+ghost use Rattle.chip_words.specs.Commands.{HasExecution, HasListing, HasNumber, HasValue, IfCommand};
 ghost use Rattle.chip_words.specs.Words.{asked, execution, listing};
 
 use crate::request::{Execution, Listing, Request};

@@ -1,5 +1,5 @@
-use Rattle.std.proofs.Common.{rules, ◌≡◌, ◌∙◌, ap, ap₂, List, [], true, codes}
-use Rattle.clap.specs.Simple.{App, app_of, app_of_fields, new_app, new_shape, on_top, with_subcommand}
+use Rattle.std.proofs.Common.{rules, ◌≡◌, ◌∙◌, ap, ap₂, true, codes}
+use Rattle.clap.specs.Simple.{app_of, app_of_fields, new_app, on_top, with_subcommand}
 use Rattle.chip_words.proofs.app.app.Goals as goal
 
 pub returns : goal.returns
