@@ -46,248 +46,6 @@ const LOAD_OUTSIDE: Words = [0x0000_42b7, 0x0002_a503, 0, 0, 0, 0, 0, 0, 0, 0];
 // Goes on into a word that is no instruction.
 const NO_INSTRUCTION: Words = [0x0070_0513, 0, 0, 0, 0, 0, 0, 0, 0, 0];
 
-// Prints 70 bytes from 0x7e on.
-const PRINT_70: Words = [
-    0x07e0_0593,
-    0x0460_0613,
-    0x0010_0513,
-    0x0400_0893,
-    0x0000_0073,
-    0x05d0_0893,
-    0x0000_0073,
-    0,
-    0,
-    0,
-];
-
-// Programs that ask for a service and exit with what it answers or stores; the input is `AB`.
-const SERVICES: [(Words, u32); 14] = [
-    // write of three bytes from the last but one on
-    (
-        [
-            0x0000_45b7,
-            0xffe5_8593,
-            0x0030_0613,
-            0x0010_0513,
-            0x0400_0893,
-            0x0000_0073,
-            0x05d0_0893,
-            0x0000_0073,
-            0,
-            0,
-        ],
-        0xffff_fff2,
-    ),
-    // write of no bytes from ffffffff on
-    (
-        [
-            0xfff0_0593,
-            0x0000_0613,
-            0x0020_0513,
-            0x0400_0893,
-            0x0000_0073,
-            0x05d0_0893,
-            0x0000_0073,
-            0,
-            0,
-            0,
-        ],
-        0,
-    ),
-    // write to descriptor 3
-    (
-        [
-            0x0010_0613,
-            0x0030_0513,
-            0x0400_0893,
-            0x0000_0073,
-            0x05d0_0893,
-            0x0000_0073,
-            0,
-            0,
-            0,
-            0,
-        ],
-        0xffff_fff7,
-    ),
-    // service 57
-    (
-        [
-            0x0390_0893,
-            0x0000_0073,
-            0x05d0_0893,
-            0x0000_0073,
-            0,
-            0,
-            0,
-            0,
-            0,
-            0,
-        ],
-        0xffff_ffda,
-    ),
-    // read of four bytes where two are left
-    (
-        [
-            0x0000_15b7,
-            0x0040_0613,
-            0x03f0_0893,
-            0x0000_0073,
-            0x05d0_0893,
-            0x0000_0073,
-            0,
-            0,
-            0,
-            0,
-        ],
-        0x0000_0002,
-    ),
-    // the same again
-    (
-        [
-            0x0000_15b7,
-            0x0040_0613,
-            0x03f0_0893,
-            0x0000_0073,
-            0x0000_0513,
-            0x0000_0073,
-            0x05d0_0893,
-            0x0000_0073,
-            0,
-            0,
-        ],
-        0,
-    ),
-    // what was read
-    (
-        [
-            0x0000_15b7,
-            0x0040_0613,
-            0x03f0_0893,
-            0x0000_0073,
-            0x0005_a503,
-            0x05d0_0893,
-            0x0000_0073,
-            0,
-            0,
-            0,
-        ],
-        0x0000_4241,
-    ),
-    // read from descriptor 1
-    (
-        [
-            0x0010_0513,
-            0x0040_0613,
-            0x03f0_0893,
-            0x0000_0073,
-            0x05d0_0893,
-            0x0000_0073,
-            0,
-            0,
-            0,
-            0,
-        ],
-        0xffff_fff7,
-    ),
-    // read of three bytes to the last but one
-    (
-        [
-            0x0000_45b7,
-            0xffe5_8593,
-            0x0030_0613,
-            0x03f0_0893,
-            0x0000_0073,
-            0x05d0_0893,
-            0x0000_0073,
-            0,
-            0,
-            0,
-        ],
-        0xffff_fff2,
-    ),
-    // read of one byte, and of one more
-    (
-        [
-            0x0000_15b7,
-            0x0010_0613,
-            0x03f0_0893,
-            0x0000_0073,
-            0x0000_0513,
-            0x0000_0073,
-            0x0005_a503,
-            0x05d0_0893,
-            0x0000_0073,
-            0,
-        ],
-        0x0000_0042,
-    ),
-    // brk of 0 is the first break
-    (
-        [
-            0x0d60_0893,
-            0x0000_0073,
-            0x05d0_0893,
-            0x0000_0073,
-            0,
-            0,
-            0,
-            0,
-            0,
-            0,
-        ],
-        0x0000_0030,
-    ),
-    // brk of a page below the end
-    (
-        [
-            0x0000_3537,
-            0x0d60_0893,
-            0x0000_0073,
-            0x05d0_0893,
-            0x0000_0073,
-            0,
-            0,
-            0,
-            0,
-            0,
-        ],
-        0x0000_3000,
-    ),
-    // brk one above
-    (
-        [
-            0x0000_3537,
-            0x0015_0513,
-            0x0d60_0893,
-            0x0000_0073,
-            0x05d0_0893,
-            0x0000_0073,
-            0,
-            0,
-            0,
-            0,
-        ],
-        0x0000_0030,
-    ),
-    // brk, and then brk of 0
-    (
-        [
-            0x0000_2537,
-            0x0d60_0893,
-            0x0000_0073,
-            0x0000_0513,
-            0x0000_0073,
-            0x05d0_0893,
-            0x0000_0073,
-            0,
-            0,
-            0,
-        ],
-        0x0000_2000,
-    ),
-];
-
 fn code(alloc: Global, words: &Words) -> Result<Vec<u8>, AllocError>
     ensures { IfOk result (λ bytes. length bytes.items ≡ 40) }
 {
@@ -314,7 +72,6 @@ fn segments(alloc: Global, words: &Words) -> Result<Segments, AllocError>
 fn ran(
     alloc: Global,
     words: &Words,
-    input: &[u8],
     budget: u64,
     out: &mut MemorySink,
 ) -> Result<PlainRecord, AllocError> {
@@ -323,7 +80,7 @@ fn ran(
         size: 16384,
         segments: segments(alloc, words)?,
     };
-    Ok(run(alloc, &image, input, budget, out))
+    Ok(run(alloc, &image, &[], budget, out))
 }
 
 #[test]
@@ -362,7 +119,7 @@ fn a_run_ends_as_its_program_does(rt: HostRuntime) -> Result<(), Fail> {
     ];
     for (words, budget, retired, ending) in rows {
         let mut out = MemorySink::new(rt.alloc(), &[])?;
-        let done = ran(rt.alloc(), words, &[], budget, &mut out)?;
+        let done = ran(rt.alloc(), words, budget, &mut out)?;
         assert_eq!(rt; done.retired, retired, "budget {budget}");
         assert_eq!(rt; done.ending, ending, "budget {budget}");
     }
@@ -377,37 +134,9 @@ fn what_a_program_prints_is_written(rt: HostRuntime) -> Result<(), Fail> {
     ];
     for (fails, printed, retired, ending) in rows {
         let mut out = MemorySink::new(rt.alloc(), fails)?;
-        let done = ran(rt.alloc(), &PRINT_A, &[], 99, &mut out)?;
+        let done = ran(rt.alloc(), &PRINT_A, 99, &mut out)?;
         assert_eq!(rt; out.bytes(), printed);
         assert_eq!(rt; done.retired, retired);
-        assert_eq!(rt; done.ending, ending);
-    }
-    Ok(())
-}
-
-#[test]
-fn services_answer(rt: HostRuntime) -> Result<(), Fail> {
-    for (words, answer) in &SERVICES {
-        let mut out = MemorySink::new(rt.alloc(), &[])?;
-        let done = ran(rt.alloc(), words, b"AB", 99, &mut out)?;
-        assert_eq!(rt; done.ending, Ending::Halted(*answer));
-        assert!(rt; out.bytes().is_empty());
-    }
-    Ok(())
-}
-
-// Pieces end at 0x80 and at 0xc0, so the first write takes 2 bytes, and the second 64.
-#[test]
-fn output_is_cut_at_multiples_of_64(rt: HostRuntime) -> Result<(), Fail> {
-    let rows: [(&[u64], usize, Ending); 3] = [
-        (&[], 70, Ending::Halted(70)),
-        (&[2], 2, Ending::WriteFault),
-        (&[3], 66, Ending::WriteFault),
-    ];
-    for (fails, printed, ending) in rows {
-        let mut out = MemorySink::new(rt.alloc(), fails)?;
-        let done = ran(rt.alloc(), &PRINT_70, &[], 99, &mut out)?;
-        assert_eq!(rt; out.bytes().len(), printed);
         assert_eq!(rt; done.ending, ending);
     }
     Ok(())
