@@ -5,42 +5,53 @@ use Rattle.byteorder.specs.Endian.{little_bytes}
 use Rattle.sec_base.specs.declared.program.Segment.{Segment}
 use Rattle.sec_base.specs.declared.program.Image.{Image}
 
--- numbers of two and of four bytes
-abbrev pub u16_bytes : ℕ → List ℕ
+-- a number in two bytes and in four, the lowest first
+unfoldable pub u16_bytes : ℕ → List ℕ
 u16_bytes n = little_bytes 2 n
 
-abbrev pub u32_bytes : ℕ → List ℕ
+unfoldable pub u32_bytes : ℕ → List ℕ
 u32_bytes n = little_bytes 4 n
 
+-- 7f and the letters ELF, 32 bits, lowest byte first, version 1, and nine zeros
+abbrev pub ident : List ℕ
+ident = 0x7f ∷ 0x45 ∷ 0x4c ∷ 0x46 ∷ 1 ∷ 1 ∷ 1 ∷ [] ++ replicate 9 0
+
 -- the file header of a program with so many segments
-abbrev pub spelled_header : ℕ → ℕ → List ℕ
+unfoldable pub spelled_header : ℕ → ℕ → List ℕ
 spelled_header entry count =
-    0x7f ∷ 0x45 ∷ 0x4c ∷ 0x46 ∷ 1 ∷ 1 ∷ 1 ∷ [] ++ replicate 9 0  -- e_ident
-    ++ u16_bytes 2  -- e_type
-    ++ u16_bytes 243  -- e_machine
-    ++ u32_bytes 1  -- e_version
-    ++ u32_bytes entry  -- e_entry
-    ++ u32_bytes 52  -- e_phoff
-    ++ u32_bytes 0  -- e_shoff
-    ++ u32_bytes 0  -- e_flags
-    ++ u16_bytes 52  -- e_ehsize
-    ++ u16_bytes 32  -- e_phentsize
-    ++ u16_bytes count  -- e_phnum
-    ++ u16_bytes 0  -- e_shentsize
-    ++ u16_bytes 0  -- e_shnum
-    ++ u16_bytes 0  -- e_shstrndx
+    ident
+    ++ flat_map u16_bytes (
+    2 ∷  -- e_type
+    243 ∷  -- e_machine
+    [])
+    ++ flat_map u32_bytes (
+    1 ∷  -- e_version
+    entry ∷  -- e_entry
+    52 ∷  -- e_phoff
+    0 ∷  -- e_shoff
+    0 ∷  -- e_flags
+    [])
+    ++ flat_map u16_bytes (
+    52 ∷  -- e_ehsize
+    32 ∷  -- e_phentsize
+    count ∷  -- e_phnum
+    0 ∷  -- e_shentsize
+    0 ∷  -- e_shnum
+    0 ∷  -- e_shstrndx
+    [])
 
 -- the program header of a segment whose bytes begin at an offset
-abbrev pub spelled_segment : ℕ → Segment → List ℕ
-spelled_segment offset segment =
-    u32_bytes 1  -- p_type
-    ++ u32_bytes offset  -- p_offset
-    ++ u32_bytes segment.addr  -- p_vaddr
-    ++ u32_bytes segment.addr  -- p_paddr
-    ++ u32_bytes (length segment.bytes)  -- p_filesz
-    ++ u32_bytes segment.length  -- p_memsz
-    ++ u32_bytes 7  -- p_flags
-    ++ u32_bytes 1  -- p_align
+unfoldable pub spelled_segment : ℕ → Segment → List ℕ
+spelled_segment offset segment = flat_map u32_bytes (
+    1 ∷  -- p_type
+    offset ∷  -- p_offset
+    segment.addr ∷  -- p_vaddr
+    segment.addr ∷  -- p_paddr
+    length segment.bytes ∷  -- p_filesz
+    segment.length ∷  -- p_memsz
+    7 ∷  -- p_flags
+    1 ∷  -- p_align
+    [])
 
 -- the table of segments whose bytes stand one after another from an offset on
 unfoldable pub spelled_table : ℕ → List Segment → List ℕ

@@ -24,6 +24,7 @@ pub(crate) fn u32_at(bytes: &[u8], at: usize) -> u32
 }
 
 /// The two bytes of a number.
+#[tactic(auto, unfolding(crate::specs::Spelling::u16_bytes))]
 pub(crate) fn u16_bytes(n: u16) -> [u8; 2]
     ensures { result ≡ u16_bytes n }
 {
@@ -33,6 +34,7 @@ pub(crate) fn u16_bytes(n: u16) -> [u8; 2]
 }
 
 /// The four bytes of a number.
+#[tactic(auto, unfolding(crate::specs::Spelling::u32_bytes))]
 pub(crate) fn u32_bytes(n: u32) -> [u8; 4]
     ensures { result ≡ u32_bytes n }
 {

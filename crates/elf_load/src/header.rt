@@ -1,7 +1,7 @@
-ghost use Rattle.std.specs.Prelude.{◌≡◌, ◌≤◌, length, IfOk};
+ghost use Rattle.std.specs.Prelude.{◌≡◌, ◌+◌, ◌*◌, ◌≤◌, length, IfOk};
 ghost use Rattle.std.specs.Result.{result_err};
 ghost use Rattle.elf_load.specs.Format.{file_header};
-ghost use Rattle.elf_load.specs.Refusals.{first_holding, header_refusals, has_bad_table};
+ghost use Rattle.elf_load.specs.Refusals.{first_holding, header_refusals, has_bad_entry, has_bad_table};
 
 use crate::fault::ElfFault;
 use crate::fields::{u16_at, u32_at};
@@ -24,6 +24,9 @@ pub(crate) const RISCV: u16 = 243;
 
 /// EF_RISCV_RVC.
 const COMPRESSED: u32 = 1;
+
+/// The bytes of an entry's word.
+const WORD_LEN: u32 = 4;
 
 /// The most program headers that are taken.
 const MOST_HEADERS: u16 = 64;
@@ -74,9 +77,18 @@ impl FileHeader {
                 && (usize::from(self.header_size) != PROGRAM_HEADER_LEN || end > file_len as u64))
     }
 
+    /// Whether the entry is no multiple of 4, or its word ends past a memory of `size`.
+    pub(crate) fn has_bad_entry(&self, size: u32) -> bool
+        ensures { result ≡ has_bad_entry size self.now }
+    {
+        self.entry % WORD_LEN != 0 || u64::from(self.entry) + u64::from(WORD_LEN) > u64::from(size)
+    }
+
     /// The header of a file, or the first refusal that it shows.
     pub(crate) fn read(file: &[u8]) -> Result<FileHeader, ElfFault>
         ensures header { IfOk result (λ header. header ≡ file_header file.now) }
+        ensures few { IfOk result (λ header. header.count ≤ 64) }
+        ensures inside { IfOk result (λ header. 1 ≤ header.count → header.table + 32 * header.count ≤ length file.now) }
         ensures first { first_holding (header_refusals file.now) ≡ result_err result }
     {
         if file.len() < FILE_HEADER_LEN {

@@ -1,43 +1,38 @@
 ghost use Rattle.std.specs.Prelude.{◌≡◌, ◌+◌, ◌≤◌, ◌<◌, ◌^◌, length, take, drop, filter, map, None, Some, Err, IfOk, OnOk};
 ghost use Rattle.sec_base.specs.Layout.{IsMemorySize};
-ghost use Rattle.elf_load.specs.Loading.{segment_of, segments_of, entry_of, flat_segments};
+ghost use Rattle.elf_load.specs.Loading.{IsProgramOf, segment_of, flat_segments};
 ghost use Rattle.elf_load.specs.Refusals.{first_holding, program_refusals, first_fault, flat_fault, is_load, is_misfit};
 ghost use Rattle.elf_load.specs.declared.fault.ElfFault.{ElfFault};
 ghost use Rattle.elf_load.specs.declared.fault.ElfError.TheVariants.{Fault};
 ghost use Rattle.std.specs.List.{list_any};
+ghost use Rattle.std.specs.Result.{result_err};
 ghost use Rattle.std.specs.Prelude.{false};
 
 use crate::fault::{ElfError, ElfFault};
 use crate::header::FileHeader;
-use crate::table::{ProgramHeader, program_headers};
+use crate::table::{ProgramHeader, any_interp, any_misfit, program_headers};
 use sec_base::{Bytes, Image, NoMemory, Segment, Segments};
 use std::alloc::Global;
 
-/// The bytes of an entry's word.
-const WORD_LEN: u64 = 4;
-
-/// The first refusal that the program headers show, or the entry.
-fn program_fault(
+/// Whether the program headers and the entry are taken, or else the first refusal that they show.
+fn check_program(
     header: &FileHeader,
     headers: &[ProgramHeader],
     file_len: usize,
     size: u32,
-) -> Option<ElfFault>
-    ensures { result ≡ first_holding (program_refusals file_len size header.now headers.now) }
+) -> Result<(), ElfFault>
+    ensures { first_holding (program_refusals file_len size header.now headers.now) ≡ result_err result }
 {
-    if headers.iter().any(|header| header.is_interp()) {
-        return Some(ElfFault::Interp);
+    if any_interp(headers) {
+        return Err(ElfFault::Interp);
     }
-    if headers
-        .iter()
-        .any(|header| header.is_misfit(file_len, size))
-    {
-        return Some(ElfFault::Segment);
+    if any_misfit(headers, file_len, size) {
+        return Err(ElfFault::Segment);
     }
-    if header.entry % 4 != 0 || u64::from(header.entry) + WORD_LEN > u64::from(size) {
-        return Some(ElfFault::Entry);
+    if header.has_bad_entry(size) {
+        return Err(ElfFault::Entry);
     }
-    None
+    Ok(())
 }
 
 /// A segment, whose bytes are copied out of the file.
@@ -81,22 +76,12 @@ fn segments_of(
 /// order of `ElfFault`; `NoMemory` may come at any file.
 pub fn parse(alloc: Global, file: &[u8], size: u32) -> Result<Image, ElfError>
     requires { IsMemorySize size }
-    ensures accepted { OnOk result (first_fault file.now size ≡ None) }
-    ensures entry { IfOk result (λ image. image.entry ≡ entry_of file.now) }
-    ensures size { IfOk result (λ image. image.size ≡ size) }
-    ensures segments { IfOk result (λ image. image.segments ≡ segments_of file.now) }
+    ensures program { IfOk result (IsProgramOf file.now size) }
     ensures refused { (fault : ElfFault) → result ≡ Err (Fault fault) → first_fault file.now size ≡ Some fault }
 {
     let header = FileHeader::read(file)?;
-    let headers = program_headers(
-        alloc,
-        file,
-        header.table as usize,
-        usize::from(header.count),
-    )?;
-    if let Some(fault) = program_fault(&header, &headers, file.len(), size) {
-        return Err(ElfError::Fault(fault));
-    }
+    let headers = program_headers(alloc, file, &header)?;
+    check_program(&header, &headers, file.len(), size)?;
     let segments = segments_of(alloc, file, &headers, size)?;
     Ok(Image {
         entry: header.entry,

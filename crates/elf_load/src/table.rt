@@ -1,8 +1,10 @@
 ghost use Rattle.std.specs.Prelude.{◌≡◌, ◌+◌, ◌*◌, ◌≤◌, length, IfOk};
+ghost use Rattle.std.specs.List.{list_any};
 ghost use Rattle.elf_load.specs.Format.{program_header, headers_from};
 ghost use Rattle.elf_load.specs.Refusals.{is_load, is_interp, is_misfit};
 
 use crate::fields::u32_at;
+use crate::header::FileHeader;
 use sec_base::NoMemory;
 use std::alloc::Global;
 
@@ -73,19 +75,35 @@ impl ProgramHeader {
     }
 }
 
-/// So many program headers, one after another from a place of a file on.
+/// Whether one of them asks for an interpreter.
+pub(crate) fn any_interp(headers: &[ProgramHeader]) -> bool
+    ensures { result ≡ list_any is_interp headers.now }
+{
+    headers.iter().any(|header| header.is_interp())
+}
+
+/// Whether one of them is a misfit.
+pub(crate) fn any_misfit(headers: &[ProgramHeader], file_len: usize, size: u32) -> bool
+    ensures { result ≡ list_any (is_misfit file_len size) headers.now }
+{
+    headers
+        .iter()
+        .any(|header| header.is_misfit(file_len, size))
+}
+
+/// The program headers of a file, in the order of its table.
 pub(crate) fn program_headers(
     alloc: Global,
     file: &[u8],
-    table: usize,
-    count: usize,
+    header: &FileHeader,
 ) -> Result<Vec<ProgramHeader>, NoMemory>
-    requires { 1 ≤ count → table + 32 * count ≤ length file.now }
-    ensures { IfOk result (λ headers. headers.items ≡ headers_from file.now table count) }
+    requires { 1 ≤ header.now.count → header.now.table + 32 * header.now.count ≤ length file.now }
+    ensures { IfOk result (λ headers. headers.items ≡ headers_from file.now header.now.table header.now.count) }
 {
     let mut headers = Vec::new(alloc);
-    'headers: for index in 0..count {
-        headers.push(ProgramHeader::new(file, table + PROGRAM_HEADER_LEN * index))?;
+    'headers: for index in 0..usize::from(header.count) {
+        let at = header.table as usize + PROGRAM_HEADER_LEN * index;
+        headers.push(ProgramHeader::new(file, at))?;
     }
     Ok(headers)
 }

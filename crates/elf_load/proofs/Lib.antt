@@ -1,0 +1,4 @@
+pub mod Tables
+pub mod Refusing
+pub mod Fitting
+pub mod ReadingBack
