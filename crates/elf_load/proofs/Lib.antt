@@ -1,4 +1,5 @@
 pub mod Tables
 pub mod Refusing
 pub mod Fitting
+pub mod SpelledTables
 pub mod ReadingBack
