@@ -1,5 +1,5 @@
 -- A file that isn't refused is a program that fits its memory.
-use Rattle.std.proofs.Common.{◌≡◌, ℕ, zero, suc, ◌+◌, ◌≤◌, List, [], ◌∷◌, ◌++◌, length, take, drop, map, filter, cond, Bool, not, nat_lt, ◌==◌, ◌%◌, true, false, ◌&&◌, ◌||◌, Option, Some, None, refl, sym, ◌∙◌, ap, arith, rules}
+use Rattle.std.proofs.Common.{◌≡◌, ℕ, zero, suc, ◌+◌, ◌≤◌, List, [], ◌∷◌, length, drop, map, filter, cond, Bool, not, nat_lt, ◌==◌, ◌%◌, true, false, ◌&&◌, ◌||◌, Some, None, refl, ◌∙◌, ap, arith}
 use Rattle.std.specs.Bool.{if◌then◌else◌}
 use Rattle.std.specs.List.{All, list_any}
 use Rattle.std.proofs.lemmas.Bool.{ltb-false, eqb-true}
@@ -14,7 +14,7 @@ use Rattle.elf_load.specs.declared.fault.ElfFault.{ElfFault}
 use Rattle.elf_load.specs.declared.fault.ElfFault.TheVariants.{Interp, Segment, Entry}
 use Rattle.elf_load.specs.declared.header.FileHeader.{FileHeader}
 use Rattle.elf_load.specs.declared.table.ProgramHeader.{ProgramHeader}
-use Rattle.elf_load.specs.Format.{file_header, headers_from, program_header, program_headers}
+use Rattle.elf_load.specs.Format.{file_header, headers_from, program_headers}
 use Rattle.elf_load.specs.Loading.{segment_of, segments_of}
 use Rattle.elf_load.specs.Refusals.{first_holding, program_refusals, is_interp, is_load, is_misfit, has_bad_entry}
 

@@ -3,3 +3,5 @@ pub mod Refusing
 pub mod Fitting
 pub mod SpelledTables
 pub mod ReadingBack
+pub mod Accepting
+pub mod RoundTrip

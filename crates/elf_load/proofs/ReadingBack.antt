@@ -1,7 +1,7 @@
 -- A program's spelling is read back as the program.
-use Rattle.std.proofs.Common.{◌≡◌, ℕ, zero, suc, ◌+◌, ◌*◌, ◌^◌, ◌<◌, ◌≤◌, List, [], ◌∷◌, ◌++◌, length, take, drop, map, filter, refl, sym, ◌∙◌, ap, arith, length-append, append_assoc}
+use Rattle.std.proofs.Common.{◌≡◌, ℕ, ◌+◌, ◌*◌, ◌^◌, ◌<◌, List, [], ◌∷◌, ◌++◌, length, take, drop, map, filter, refl, sym, ◌∙◌, ap, arith, length-append, append_assoc}
 use Rattle.std.specs.List.{All}
-use Rattle.std.proofs.lemmas.List.{drop_at}
+use Rattle.std.proofs.lemmas.List.{drop_at, take_at}
 use Rattle.std.proofs.lemmas.List.Elements.{All-head, All-tail}
 use Rattle.std.proofs.Math.Seq.{drop-append-add}
 use Rattle.byteorder.specs.Endian.{little_number}
@@ -11,6 +11,7 @@ use Rattle.sec_base.specs.declared.program.Segment.{Segment}
 use Rattle.elf_load.specs.declared.header.FileHeader.{FileHeader}
 use Rattle.elf_load.specs.declared.table.ProgramHeader.{ProgramHeader}
 use Rattle.elf_load.specs.Format.{u16_at, u32_at, file_header, program_header, headers_from}
+use Rattle.elf_load.specs.Loading.{segment_of}
 use Rattle.elf_load.specs.Refusals.{is_load}
 use Rattle.elf_load.specs.Spelling.{spelled_header, spelled_segment, spelled_table, joined_bytes, u16_bytes, u32_bytes}
 
@@ -87,7 +88,7 @@ same_header k k' o o' a a' f f' m m' kinds offsets addresses file_lengths memory
 -- a program header behind a front part is the one that is spelled
 header_at : (front rest : List ℕ) (offset size : ℕ) (segment : Segment) → size < 2 ^ 32 → offset < 2 ^ 32 → IsSegment size segment
     → program_header (front ++ (spelled_segment offset segment ++ rest)) (length front)
-      ≡ record { kind = 1; offset = offset; address = segment.addr; file_length = length segment.bytes; memory_length = segment.length }
+    ≡ record { kind = 1; offset = offset; address = segment.addr; file_length = length segment.bytes; memory_length = segment.length }
 header_at front rest offset size segment small fits inside =
     let bytes = inside.bytes in
     let end = inside.inside in
@@ -118,4 +119,43 @@ table_at front rest file at offset size (segment ∷ segments) small fits each f
     ap (λ h. h ∷ headers_from file (at + 32) (length segments)) first
     ∙ ap (λ hs. record { kind = 1; offset = offset; address = segment.addr; file_length = length segment.bytes; memory_length = segment.length } ∷ hs)
     (table_at (front ++ here) rest file (at + 32) (offset + length segment.bytes) size segments small (omega (arith, more))
-      (All-tail (IsSegment size) segment segments each) others_are next)
+    (All-tail (IsSegment size) segment segments each) others_are next)
+
+-- each of them is loaded
+pub all_load : (offset : ℕ) (segments : List Segment) → filter is_load (headers_back offset segments) ≡ headers_back offset segments
+all_load offset [] = refl
+all_load offset (segment ∷ segments) =
+    ap (λ headers. record { kind = 1; offset = offset; address = segment.addr; file_length = length segment.bytes; memory_length = segment.length } ∷ headers)
+    (all_load (offset + length segment.bytes) segments)
+
+bytes_at : (front bytes rest file : List ℕ) (offset : ℕ) → file ≡ front ++ (bytes ++ rest) → offset ≡ length front → take (length bytes) (drop offset file) ≡ bytes
+bytes_at front bytes rest file offset file_is offset_is =
+    rw (file_is, offset_is, drop_at front (bytes ++ rest) (length front) refl) (take_at bytes rest (length bytes) refl)
+
+-- and has its segment's bytes
+pub segments_at : (front rest file : List ℕ) (offset : ℕ) (segments : List Segment) → file ≡ front ++ (joined_bytes segments ++ rest) → offset ≡ length front
+    → map (segment_of file) (headers_back offset segments) ≡ segments
+segments_at front rest file offset [] file_is offset_is = refl
+segments_at front rest file offset (segment ∷ segments) file_is offset_is =
+    let others : List ℕ = joined_bytes segments in
+    let first_is : file ≡ front ++ (segment.bytes ++ (others ++ rest)) = file_is ∙ ap (λ t. front ++ t) (append_assoc segment.bytes others rest) in
+    let others_are : file ≡ (front ++ segment.bytes) ++ (others ++ rest) = first_is ∙ sym (append_assoc front segment.bytes (others ++ rest)) in
+    let next : offset + length segment.bytes ≡ length (front ++ segment.bytes) = omega (arith, offset_is, length-append front segment.bytes) in
+    ap (λ bytes. record { addr = segment.addr; length = segment.length; bytes = bytes } ∷ map (segment_of file) (headers_back (offset + length segment.bytes) segments))
+    (bytes_at front segment.bytes (others ++ rest) file offset first_is offset_is)
+    ∙ ap (λ rest_of. segment ∷ rest_of) (segments_at (front ++ segment.bytes) rest file (offset + length segment.bytes) segments others_are next)
+
+pub length-spelled_header : (entry count : ℕ) → length (spelled_header entry count) ≡ 52
+unfolding spelled_header u16_bytes u32_bytes
+length-spelled_header entry count = refl
+
+pub length-spelled_table : (offset : ℕ) (segments : List Segment) → length (spelled_table offset segments) ≡ 32 * length segments
+unfolding spelled_table
+length-spelled_table offset [] = refl
+length-spelled_table offset (segment ∷ segments) =
+    omega (
+      arith,
+      length-append (spelled_segment offset segment) (spelled_table (offset + length segment.bytes) segments),
+      length-spelled_segment offset segment,
+      length-spelled_table (offset + length segment.bytes) segments,
+    )

@@ -1,7 +1,7 @@
 -- The table of program headers, a segment at a time, and that its offsets fit their fields.
-use Rattle.std.proofs.Common.{◌≡◌, ℕ, zero, suc, ◌+◌, ◌*◌, ◌^◌, ◌<◌, ◌≤◌, List, [], ◌∷◌, ◌++◌, length, take, drop, get_or, refl, sym, ◌∙◌, ap, arith, length-append, append_assoc, drop-cons, add-one}
+use Rattle.std.proofs.Common.{◌≡◌, ℕ, ◌+◌, ◌*◌, ◌^◌, ◌<◌, ◌≤◌, List, [], ◌∷◌, ◌++◌, length, drop, get_or, refl, sym, ◌∙◌, arith, length-append, append_assoc, drop-cons, add-one}
 use Rattle.std.specs.List.{All}
-use Rattle.std.proofs.Math.Nat.{mul-le-mul_left, mul-le-mul_right}
+use Rattle.std.proofs.Math.Nat.{mul-le-mul_right}
 use Rattle.std.proofs.lemmas.List.{append-nil, drop_all}
 use Rattle.std.proofs.lemmas.List.Elements.{All-head, All-tail}
 use Rattle.std.proofs.lemmas.Bool.Decides.{nat_tests}
@@ -35,7 +35,7 @@ pub bytes_step : (offset : ℕ) (segments : List Segment) (i : ℕ) (segment : S
 bytes_step offset segments i segment inside here =
     rw (rest_of segments i segment inside here) (omega (arith, length-append segment.bytes (joined_bytes (drop (i + 1) segments))))
 
-memory_below : (size : ℕ) → IsMemorySize size → size ≤ 2 ^ 24
+pub memory_below : (size : ℕ) → IsMemorySize size → size ≤ 2 ^ 24
 memory_below size memory = grind (arith, nat_tests)
 
 length-joined_bytes : (size : ℕ) (segments : List Segment) → All (IsSegment size) segments → length (joined_bytes segments) ≤ length segments * size

@@ -1,4 +1,4 @@
-use Rattle.std.proofs.Common.{rules, ◌≡◌, sym, ◌∙◌}
+use Rattle.std.proofs.Common.{sym, ◌∙◌}
 use Rattle.elf_load.proofs.loading.check_program.Goals as goal
 
 pub returns-then-has_bad_entry : goal.returns-then-has_bad_entry

@@ -1,4 +1,4 @@
-use Rattle.std.proofs.Common.{sym, ◌∙◌, ap, ◌++◌, ◌∷◌, [], arith}
+use Rattle.std.proofs.Common.{sym}
 use Rattle.elf_load.proofs.Tables.{headers_from-more}
 use Rattle.elf_load.proofs.table.program_headers.Goals as goal
 
