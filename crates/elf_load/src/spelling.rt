@@ -4,13 +4,13 @@ ghost use Rattle.elf_load.specs.Loading.{IsProgramOf};
 ghost use Rattle.elf_load.specs.Spelling.{spelled, spelled_header, spelled_segment, spelled_table, joined_bytes, u16_bytes, u32_bytes};
 
 use crate::fields::{u16_bytes, u32_bytes};
-use crate::header::{EXECUTABLE, FILE_HEADER_LEN, RISCV};
+use crate::header::{CLASS, EXECUTABLE, FILE_HEADER_LEN, MAGIC, RISCV};
 use crate::table::{LOAD, PROGRAM_HEADER_LEN};
 use sec_base::{Bytes, Image, NoMemory, Segment};
 use std::alloc::Global;
 
-/// The first bytes of a file: how an ELF file begins, of 32 bits, lowest byte first, version 1.
-const IDENT: [u8; 16] = [0x7f, b'E', b'L', b'F', 1, 1, 1, 0, 0, 0, 0, 0, 0, 0, 0, 0];
+/// The bytes of e_ident behind the class, which are zeros.
+const IDENT_REST: [u8; 9] = [0; 9];
 
 /// EV_CURRENT.
 const VERSION: u32 = 1;
@@ -48,7 +48,9 @@ fn put_header(file: &mut Vec<u8>, entry: u32, count: u16) -> Result<(), NoMemory
 {
     let file_header_len = FILE_HEADER_LEN as u16;
     let program_header_len = PROGRAM_HEADER_LEN as u16;
-    file.extend_from_slice(&IDENT)?;
+    file.extend_from_slice(&MAGIC)?;
+    file.extend_from_slice(&CLASS)?;
+    file.extend_from_slice(&IDENT_REST)?;
     put_halves(file, &[EXECUTABLE, RISCV])?;
     put_words(file, &[VERSION, entry, u32::from(file_header_len), 0, 0])?;
     put_halves(file, &[file_header_len, program_header_len, count, 0, 0, 0])?;
