@@ -93,105 +93,102 @@ fn segments_with(rt: &HostRuntime, length: usize, edits: &[(u8, u32)]) -> Result
     Ok(image.segments.len())
 }
 
+// Case, length, edits, and the number of segments or the refusal.
+const ROWS: [(&str, usize, &[(u8, u32)], Result<u64, ElfFault>); 27] = [
+    ("whole", 96, &[], Ok(1)),
+    ("51 bytes", 51, &[], Err(ElfFault::Short)),
+    ("letters ELG", 96, &[(0, 0x474c_457f)], Err(ElfFault::Magic)),
+    ("64 bits", 96, &[(4, 0x0001_0102)], Err(ElfFault::Class)),
+    (
+        "highest byte first",
+        96,
+        &[(4, 0x0001_0201)],
+        Err(ElfFault::Class),
+    ),
+    ("another byte 7", 96, &[(4, 0xff01_0101)], Ok(1)),
+    (
+        "shared object",
+        96,
+        &[(16, 0x00f3_0003)],
+        Err(ElfFault::Kind),
+    ),
+    (
+        "machine 62",
+        96,
+        &[(16, 0x003e_0002)],
+        Err(ElfFault::Machine),
+    ),
+    ("flags 1", 96, &[(36, 1)], Err(ElfFault::Compressed)),
+    ("flags 2", 96, &[(36, 2)], Ok(1)),
+    ("number 65", 96, &[(44, 65)], Err(ElfFault::Table)),
+    (
+        "header size 40",
+        96,
+        &[(42, 0x0001_0028)],
+        Err(ElfFault::Table),
+    ),
+    (
+        "table at ffffffff",
+        96,
+        &[(28, 0xffff_ffff)],
+        Err(ElfFault::Table),
+    ),
+    (
+        "table that ends past the file",
+        83,
+        &[],
+        Err(ElfFault::Table),
+    ),
+    ("number 0", 96, &[(28, 0xffff_ffff), (42, 0)], Ok(0)),
+    ("interpreter", 96, &[(52, 3)], Err(ElfFault::Interp)),
+    ("another kind", 96, &[(52, 0x6474_e551), (68, 99)], Ok(0)),
+    (
+        "bytes longer than memory",
+        96,
+        &[(72, 11)],
+        Err(ElfFault::Segment),
+    ),
+    ("bytes past the file", 95, &[], Err(ElfFault::Segment)),
+    (
+        "offset ffffffff",
+        96,
+        &[(56, 0xffff_ffff)],
+        Err(ElfFault::Segment),
+    ),
+    (
+        "no bytes, offset ffffffff",
+        96,
+        &[(56, 0xffff_ffff), (68, 0)],
+        Ok(1),
+    ),
+    (
+        "one byte at ffffffff",
+        96,
+        &[(60, 0xffff_ffff), (68, 0), (72, 1)],
+        Err(ElfFault::Segment),
+    ),
+    (
+        "nothing at the size",
+        96,
+        &[(60, SIZE), (68, 0), (72, 0)],
+        Ok(1),
+    ),
+    ("entry 2", 96, &[(24, 2)], Err(ElfFault::Entry)),
+    ("entry the size", 96, &[(24, SIZE)], Err(ElfFault::Entry)),
+    ("entry the size - 4", 96, &[(24, SIZE - 4)], Ok(1)),
+    (
+        "entry 2 and a misfit",
+        96,
+        &[(24, 2), (72, 11)],
+        Err(ElfFault::Segment),
+    ),
+];
+
 #[test]
 fn refusals(rt: HostRuntime) {
-    let fault = |fault| Err(ElfError::Fault(fault));
-    let rows: [(&str, usize, &[(u8, u32)], Result<u64, ElfError>); 27] = [
-        ("whole", 96, &[], Ok(1)),
-        ("51 bytes", 51, &[], fault(ElfFault::Short)),
-        (
-            "letters ELG",
-            96,
-            &[(0, 0x474c_457f)],
-            fault(ElfFault::Magic),
-        ),
-        ("64 bits", 96, &[(4, 0x0001_0102)], fault(ElfFault::Class)),
-        (
-            "highest byte first",
-            96,
-            &[(4, 0x0001_0201)],
-            fault(ElfFault::Class),
-        ),
-        ("another byte 7", 96, &[(4, 0xff01_0101)], Ok(1)),
-        (
-            "shared object",
-            96,
-            &[(16, 0x00f3_0003)],
-            fault(ElfFault::Kind),
-        ),
-        (
-            "machine 62",
-            96,
-            &[(16, 0x003e_0002)],
-            fault(ElfFault::Machine),
-        ),
-        ("flags 1", 96, &[(36, 1)], fault(ElfFault::Compressed)),
-        ("flags 2", 96, &[(36, 2)], Ok(1)),
-        ("number 65", 96, &[(44, 65)], fault(ElfFault::Table)),
-        (
-            "header size 40",
-            96,
-            &[(42, 0x0001_0028)],
-            fault(ElfFault::Table),
-        ),
-        (
-            "table at ffffffff",
-            96,
-            &[(28, 0xffff_ffff)],
-            fault(ElfFault::Table),
-        ),
-        (
-            "table that ends past the file",
-            83,
-            &[],
-            fault(ElfFault::Table),
-        ),
-        ("number 0", 96, &[(28, 0xffff_ffff), (42, 0)], Ok(0)),
-        ("interpreter", 96, &[(52, 3)], fault(ElfFault::Interp)),
-        ("another kind", 96, &[(52, 0x6474_e551), (68, 99)], Ok(0)),
-        (
-            "bytes longer than memory",
-            96,
-            &[(72, 11)],
-            fault(ElfFault::Segment),
-        ),
-        ("bytes past the file", 95, &[], fault(ElfFault::Segment)),
-        (
-            "offset ffffffff",
-            96,
-            &[(56, 0xffff_ffff)],
-            fault(ElfFault::Segment),
-        ),
-        (
-            "no bytes, offset ffffffff",
-            96,
-            &[(56, 0xffff_ffff), (68, 0)],
-            Ok(1),
-        ),
-        (
-            "one byte at ffffffff",
-            96,
-            &[(60, 0xffff_ffff), (68, 0), (72, 1)],
-            fault(ElfFault::Segment),
-        ),
-        (
-            "nothing at the size",
-            96,
-            &[(60, SIZE), (68, 0), (72, 0)],
-            Ok(1),
-        ),
-        ("entry 2", 96, &[(24, 2)], fault(ElfFault::Entry)),
-        ("entry the size", 96, &[(24, SIZE)], fault(ElfFault::Entry)),
-        ("entry the size - 4", 96, &[(24, SIZE - 4)], Ok(1)),
-        (
-            "entry 2 and a misfit",
-            96,
-            &[(24, 2), (72, 11)],
-            fault(ElfFault::Segment),
-        ),
-    ];
-    for (case, length, edits, expected) in rows {
-        assert_eq!(rt; segments_with(&rt, length, edits), expected, "{case}");
+    for (case, length, edits, expected) in &ROWS {
+        let expected = expected.map_err(ElfError::Fault);
+        assert_eq!(rt; segments_with(&rt, *length, edits), expected, "{case}");
     }
 }
 
