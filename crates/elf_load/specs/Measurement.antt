@@ -1,4 +1,4 @@
--- The measurement of a program, which is the same only for the same program (as far as SHA-256 tells).
+-- The measurement of a program: the SHA-256 of its record.
 use Rattle.std.specs.Prelude.{ℕ, List, ◌++◌, length}
 use Rattle.std.specs.List.{flat_map}
 use Rattle.sha2.specs.Sha256.{sha256}

@@ -20,38 +20,31 @@ ident = 0x7f ∷ 0x45 ∷ 0x4c ∷ 0x46 ∷ 1 ∷ 1 ∷ 1 ∷ [] ++ replicate 9 
 unfoldable pub spelled_header : ℕ → ℕ → List ℕ
 spelled_header entry count =
     ident
-    ++ flat_map u16_bytes (
-    2 ∷  -- e_type
-    243 ∷  -- e_machine
-    [])
-    ++ flat_map u32_bytes (
-    1 ∷  -- e_version
-    entry ∷  -- e_entry
-    52 ∷  -- e_phoff
-    0 ∷  -- e_shoff
-    0 ∷  -- e_flags
-    [])
-    ++ flat_map u16_bytes (
-    52 ∷  -- e_ehsize
-    32 ∷  -- e_phentsize
-    count ∷  -- e_phnum
-    0 ∷  -- e_shentsize
-    0 ∷  -- e_shnum
-    0 ∷  -- e_shstrndx
-    [])
+    ++ u16_bytes 2  -- e_type
+    ++ u16_bytes 243  -- e_machine
+    ++ u32_bytes 1  -- e_version
+    ++ u32_bytes entry  -- e_entry
+    ++ u32_bytes 52  -- e_phoff
+    ++ u32_bytes 0  -- e_shoff
+    ++ u32_bytes 0  -- e_flags
+    ++ u16_bytes 52  -- e_ehsize
+    ++ u16_bytes 32  -- e_phentsize
+    ++ u16_bytes count  -- e_phnum
+    ++ u16_bytes 0  -- e_shentsize
+    ++ u16_bytes 0  -- e_shnum
+    ++ u16_bytes 0  -- e_shstrndx
 
 -- the program header of a segment whose bytes begin at an offset
 unfoldable pub spelled_segment : ℕ → Segment → List ℕ
-spelled_segment offset segment = flat_map u32_bytes (
-    1 ∷  -- p_type
-    offset ∷  -- p_offset
-    segment.addr ∷  -- p_vaddr
-    segment.addr ∷  -- p_paddr
-    length segment.bytes ∷  -- p_filesz
-    segment.length ∷  -- p_memsz
-    7 ∷  -- p_flags
-    1 ∷  -- p_align
-    [])
+spelled_segment offset segment =
+    u32_bytes 1  -- p_type
+    ++ u32_bytes offset  -- p_offset
+    ++ u32_bytes segment.addr  -- p_vaddr
+    ++ u32_bytes segment.addr  -- p_paddr
+    ++ u32_bytes (length segment.bytes)  -- p_filesz
+    ++ u32_bytes segment.length  -- p_memsz
+    ++ u32_bytes 7  -- p_flags
+    ++ u32_bytes 1  -- p_align
 
 -- the table of segments whose bytes stand one after another from an offset on
 unfoldable pub spelled_table : ℕ → List Segment → List ℕ

@@ -42,23 +42,29 @@ fn put_words(file: &mut Vec<u8>, words: &[u32]) -> Result<(), NoMemory>
 }
 
 /// Appends the file header.
-#[tactic(auto, unfolding(crate::specs::Spelling::spelled_header))]
 fn put_header(file: &mut Vec<u8>, entry: u32, count: u16) -> Result<(), NoMemory>
     ensures { OnOk result (file.new.items ≡ file.old.items ++ spelled_header entry count) }
 {
-    let file_header_len = FILE_HEADER_LEN as u16;
-    let program_header_len = PROGRAM_HEADER_LEN as u16;
     file.extend_from_slice(&MAGIC)?;
     file.extend_from_slice(&CLASS)?;
     file.extend_from_slice(&IDENT_REST)?;
     put_halves(file, &[EXECUTABLE, RISCV])?;
-    put_words(file, &[VERSION, entry, u32::from(file_header_len), 0, 0])?;
-    put_halves(file, &[file_header_len, program_header_len, count, 0, 0, 0])?;
+    put_words(file, &[VERSION, entry, FILE_HEADER_LEN as u32, 0, 0])?;
+    put_halves(
+        file,
+        &[
+            FILE_HEADER_LEN as u16,
+            PROGRAM_HEADER_LEN as u16,
+            count,
+            0,
+            0,
+            0,
+        ],
+    )?;
     Ok(())
 }
 
 /// Appends the program header of a segment whose bytes begin at `offset`.
-#[tactic(auto, unfolding(crate::specs::Spelling::spelled_segment))]
 fn put_segment(file: &mut Vec<u8>, offset: u32, segment: &Segment) -> Result<(), NoMemory>
     requires { length segment.now.bytes < 2 ^ 32 }
     ensures { OnOk result (file.new.items ≡ file.old.items ++ spelled_segment offset segment.now) }

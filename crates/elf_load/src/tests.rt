@@ -94,18 +94,10 @@ fn segments_with(rt: &HostRuntime, length: usize, edits: &[(u8, u32)]) -> Result
 }
 
 // Case, length, edits, and the number of segments or the refusal.
-const ROWS: [(&str, usize, &[(u8, u32)], Result<u64, ElfFault>); 27] = [
-    ("whole", 96, &[], Ok(1)),
+const ROWS: [(&str, usize, &[(u8, u32)], Result<u64, ElfFault>); 19] = [
     ("51 bytes", 51, &[], Err(ElfFault::Short)),
     ("letters ELG", 96, &[(0, 0x474c_457f)], Err(ElfFault::Magic)),
     ("64 bits", 96, &[(4, 0x0001_0102)], Err(ElfFault::Class)),
-    (
-        "highest byte first",
-        96,
-        &[(4, 0x0001_0201)],
-        Err(ElfFault::Class),
-    ),
-    ("another byte 7", 96, &[(4, 0xff01_0101)], Ok(1)),
     (
         "shared object",
         96,
@@ -122,50 +114,35 @@ const ROWS: [(&str, usize, &[(u8, u32)], Result<u64, ElfFault>); 27] = [
     ("flags 2", 96, &[(36, 2)], Ok(1)),
     ("number 65", 96, &[(44, 65)], Err(ElfFault::Table)),
     (
-        "header size 40",
-        96,
-        &[(42, 0x0001_0028)],
-        Err(ElfFault::Table),
-    ),
-    (
         "table at ffffffff",
         96,
         &[(28, 0xffff_ffff)],
         Err(ElfFault::Table),
     ),
     (
-        "table that ends past the file",
-        83,
-        &[],
-        Err(ElfFault::Table),
+        "the same, number 0",
+        96,
+        &[(28, 0xffff_ffff), (42, 0)],
+        Ok(0),
     ),
-    ("number 0", 96, &[(28, 0xffff_ffff), (42, 0)], Ok(0)),
     ("interpreter", 96, &[(52, 3)], Err(ElfFault::Interp)),
-    ("another kind", 96, &[(52, 0x6474_e551), (68, 99)], Ok(0)),
     (
         "bytes longer than memory",
         96,
         &[(72, 11)],
         Err(ElfFault::Segment),
     ),
-    ("bytes past the file", 95, &[], Err(ElfFault::Segment)),
-    (
-        "offset ffffffff",
-        96,
-        &[(56, 0xffff_ffff)],
-        Err(ElfFault::Segment),
-    ),
-    (
-        "no bytes, offset ffffffff",
-        96,
-        &[(56, 0xffff_ffff), (68, 0)],
-        Ok(1),
-    ),
     (
         "one byte at ffffffff",
         96,
         &[(60, 0xffff_ffff), (68, 0), (72, 1)],
         Err(ElfFault::Segment),
+    ),
+    (
+        "no bytes, past the file",
+        96,
+        &[(56, 0xffff_ffff), (68, 0)],
+        Ok(1),
     ),
     (
         "nothing at the size",
