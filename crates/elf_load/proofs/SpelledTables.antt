@@ -1,0 +1,55 @@
+-- The table of program headers, a segment at a time, and that its offsets fit their fields.
+use Rattle.std.proofs.Common.{◌≡◌, ℕ, ◌+◌, ◌*◌, ◌^◌, ◌<◌, ◌≤◌, List, [], ◌∷◌, ◌++◌, length, drop, get_or, refl, sym, ◌∙◌, arith, length-append, append_assoc, drop-cons, add-one}
+use Rattle.std.specs.List.{All}
+use Rattle.std.proofs.Math.Nat.{mul-le-mul_right}
+use Rattle.std.proofs.lemmas.List.{append-nil, drop_all}
+use Rattle.std.proofs.lemmas.List.Elements.{All-head, All-tail}
+use Rattle.std.proofs.lemmas.Bool.Decides.{nat_tests}
+use Rattle.sec_base.specs.Layout.{IsMemorySize}
+use Rattle.sec_base.specs.Program.{IsImage, IsSegment}
+use Rattle.sec_base.specs.declared.program.Segment.{Segment}
+use Rattle.elf_load.specs.Spelling.{spelled_segment, spelled_table, joined_bytes}
+
+rest_of : (segments : List Segment) (i : ℕ) (segment : Segment) → i < length segments → segment ≡ get_or segments i segment
+    → drop i segments ≡ segment ∷ drop (i + 1) segments
+rest_of segments i segment inside here = drop-cons segments i segment inside ∙ rw (add-one, sym here) refl
+
+-- a segment more was put
+pub table_step : (file more : List ℕ) (offset : ℕ) (segments : List Segment) (i : ℕ) (segment : Segment)
+    → i < length segments → segment ≡ get_or segments i segment → more ≡ file ++ spelled_segment offset segment
+    → more ++ spelled_table (offset + length segment.bytes) (drop (i + 1) segments) ≡ file ++ spelled_table offset (drop i segments)
+unfolding spelled_table
+table_step file more offset segments i segment inside here put =
+    rw (rest_of segments i segment inside here, put) (append_assoc file (spelled_segment offset segment) (spelled_table (offset + length segment.bytes) (drop (i + 1) segments)))
+
+-- none is left
+pub table_end : (file : List ℕ) (offset : ℕ) (segments : List Segment) (i : ℕ)
+    → length segments ≤ i → file ++ spelled_table offset (drop i segments) ≡ file
+unfolding spelled_table
+table_end file offset segments i done = rw (drop_all i segments done) (append-nil file)
+
+-- the bytes of a segment more
+pub bytes_step : (offset : ℕ) (segments : List Segment) (i : ℕ) (segment : Segment)
+    → i < length segments → segment ≡ get_or segments i segment
+    → offset + length segment.bytes + length (joined_bytes (drop (i + 1) segments)) ≡ offset + length (joined_bytes (drop i segments))
+bytes_step offset segments i segment inside here =
+    rw (rest_of segments i segment inside here) (omega (arith, length-append segment.bytes (joined_bytes (drop (i + 1) segments))))
+
+pub memory_below : (size : ℕ) → IsMemorySize size → size ≤ 2 ^ 24
+memory_below size memory = grind (arith, nat_tests)
+
+length-joined_bytes : (size : ℕ) (segments : List Segment) → All (IsSegment size) segments → length (joined_bytes segments) ≤ length segments * size
+length-joined_bytes size [] each = omega arith
+length-joined_bytes size (segment ∷ segments) each =
+    let here : IsSegment size segment = All-head (IsSegment size) segment segments each in
+    let rest = length-joined_bytes size segments (All-tail (IsSegment size) segment segments each) in
+    omega (arith, rest, here.bytes, here.inside, length-append segment.bytes (joined_bytes segments))
+
+-- the bytes of a program end below 2 ^ 32 in its file
+pub bytes_fit : (entry size : ℕ) (segments : List Segment) → IsImage entry size segments
+    → 52 + 32 * length segments + length (joined_bytes segments) < 2 ^ 32
+bytes_fit entry size segments image =
+    let below = memory_below size image.memory in
+    let more = length-joined_bytes size segments image.each in
+    let few : length segments * size ≤ 64 * size = mul-le-mul_right size image.few in
+    omega (arith, below, more, few, image.few)

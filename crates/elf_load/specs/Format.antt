@@ -1,0 +1,45 @@
+-- The fields of an ELF file of 32 bits (Executable and Linking Format 1.2, "ELF Header" and "Program Header") that a
+-- program is loaded by; all others are ignored. Of a number the lowest byte stands first.
+use Rattle.std.specs.Prelude.{ℕ, ◌+◌, zero, suc, List, [], ◌∷◌, drop}
+use Rattle.byteorder.specs.Endian.{little_number}
+use Rattle.elf_load.specs.declared.header.FileHeader.{FileHeader}
+use Rattle.elf_load.specs.declared.table.ProgramHeader.{ProgramHeader}
+
+-- the number in the two bytes at a place
+unfoldable pub u16_at : List ℕ → ℕ → ℕ
+u16_at file at = little_number 2 (drop at file)
+
+-- the number in the four bytes at a place
+unfoldable pub u32_at : List ℕ → ℕ → ℕ
+u32_at file at = little_number 4 (drop at file)
+
+-- the file header, which has 52 bytes
+abbrev pub file_header : List ℕ → FileHeader
+file_header file = record {
+  kind = u16_at file 16;  -- e_type
+  machine = u16_at file 18;  -- e_machine
+  entry = u32_at file 24;  -- e_entry
+  table = u32_at file 28;  -- e_phoff
+  flags = u32_at file 36;  -- e_flags
+  header_size = u16_at file 42;  -- e_phentsize
+  count = u16_at file 44;  -- e_phnum
+}
+
+-- a program header, which has 32 bytes from a place on
+abbrev pub program_header : List ℕ → ℕ → ProgramHeader
+program_header file at = record {
+  kind = u32_at file at;  -- p_type
+  offset = u32_at file (at + 4);  -- p_offset
+  address = u32_at file (at + 8);  -- p_vaddr
+  file_length = u32_at file (at + 16);  -- p_filesz
+  memory_length = u32_at file (at + 20);  -- p_memsz
+}
+
+-- so many program headers, one after another from a place on
+abbrev pub headers_from : List ℕ → ℕ → ℕ → List ProgramHeader
+headers_from file at zero = []
+headers_from file at (suc count) = program_header file at ∷ headers_from file (at + 32) count
+
+-- the program headers of a file, in the order of its table
+unfoldable pub program_headers : List ℕ → List ProgramHeader
+program_headers file = headers_from file (file_header file).table (file_header file).count

@@ -1,0 +1,18 @@
+//! Programs from files, ELF files of 32 bits for RISC-V and flat ones, ELF files from programs, and the
+//! measurement of a program.
+#![tactic(auto)]
+
+mod fault;
+mod fields;
+mod header;
+mod loading;
+mod measurement;
+mod spelling;
+mod table;
+#[cfg(test)]
+mod tests;
+
+pub use fault::{ElfError, ElfFault};
+pub use loading::{flat, parse};
+pub use measurement::measure;
+pub use spelling::write;
