@@ -6,6 +6,7 @@ use bus_model::{Bus, HonestBus};
 use chip_run::RunRecord;
 use sec_base::{Ending, Geometry, MemoryFiles, MemorySink, NoMemory, Sealed, Sink, SinkStop};
 use std::alloc::Global;
+use std::process::Abort;
 use std::test::Fail;
 
 const RUN: [&str; 4] = ["chip", "run", "f", "--flat"];
@@ -15,6 +16,10 @@ const RUN_SMALL: [&str; 6] = ["chip", "run", "f", "--flat", "--levels", "1"];
 const PLAIN: [&str; 4] = ["chip", "plain", "f", "--flat"];
 
 const DIS: [&str; 4] = ["chip", "dis", "f", "--flat"];
+
+const RUN_ON_INPUT: [&str; 6] = ["chip", "run", "f", "--flat", "--input", "i"];
+
+const PLAIN_ON_INPUT: [&str; 6] = ["chip", "plain", "f", "--flat", "--input", "i"];
 
 // addi a0, zero, 7; addi a7, zero, 93; ecall
 const EXIT_7: [u32; 3] = [0x00700513, 0x05d00893, 0x00000073];
@@ -100,12 +105,6 @@ fn make_call(
     Ok(Call { done, out, note })
 }
 
-// A call on a file of these bytes.
-fn call_bytes(alloc: Global, words: &[&str], bytes: &[u8]) -> Result<Call, NoMemory> {
-    let mut files = file(alloc, bytes, &[])?;
-    make_call(alloc, words, &mut files, &[], &[])
-}
-
 // A call on a program of these words, whose writes with these numbers fail.
 fn call_program(
     alloc: Global,
@@ -119,11 +118,6 @@ fn call_program(
     make_call(alloc, words, &mut files, out_fails, note_fails)
 }
 
-// A command with `f --flat` and two more words, or none.
-fn with_option<'a>(command: &'a str, name: &'a str, value: &'a str) -> [&'a str; 6] {
-    ["chip", command, "f", "--flat", name, value]
-}
-
 fn ending(done: &Done) -> Option<Ending> {
     match &done.run {
         Some(RunRecord { ending, .. }) => Some(*ending),
@@ -131,185 +125,185 @@ fn ending(done: &Done) -> Option<Ending> {
     }
 }
 
-#[test]
-fn programs_run(rt: HostRuntime) -> Result<(), Fail> {
-    // A program, an option and its value, what is printed and told, and the status. From the ninth on they trap: nothing
-    // at all; a jump to 2; a load of the last word of 1 MiB and one past it; one past 16 KiB; one at address 1; a
-    // breakpoint; three instructions and then no more.
-    let rows: [(&[u32], &str, &str, &[u8], &[u8], u8); 15] = [
-        (&EXIT_7, "--levels", "4", b"", b"halted 7\nretired 3\n", 0),
-        (&EXIT_7, "--steps", "3", b"", b"halted 7\nretired 3\n", 0),
-        (
-            &EXIT_7,
-            "--steps",
-            "2",
-            b"",
-            b"out of steps\nretired 2\n",
-            4,
-        ),
-        (
-            &EXIT_7,
-            "--steps",
-            "0",
-            b"",
-            b"out of steps\nretired 0\n",
-            4,
-        ),
-        (&EXIT_65, "--levels", "1", b"", b"halted 65\nretired 6\n", 0),
-        (
-            &PRINT_A,
-            "--levels",
-            "1",
-            b"A",
-            b"halted 1\nretired 10\n",
-            0,
-        ),
-        (
-            &EXIT_STACK,
-            "--levels",
-            "1",
-            b"",
-            b"halted 16320\nretired 3\n",
-            0,
-        ),
-        (
-            &EXIT_STACK,
-            "--steps",
-            "9",
-            b"",
-            b"halted 1048512\nretired 3\n",
-            0,
-        ),
-        (
-            &[],
-            "--levels",
-            "4",
-            b"",
-            b"trapped illegal pc 00000000\nretired 0\n",
-            1,
-        ),
-        (
-            &[0x00200093, 0x00008167],
-            "--levels",
-            "4",
-            b"",
-            b"trapped misaligned target pc 00000004\nretired 1\n",
-            1,
-        ),
-        (
-            &[0x001002b7, 0xffc2a303, 0x0002a303],
-            "--levels",
-            "4",
-            b"",
-            b"trapped outside memory pc 00000008\nretired 2\n",
-            1,
-        ),
-        (
-            &[0x000042b7, 0x0002a503],
-            "--levels",
-            "1",
-            b"",
-            b"trapped outside memory pc 00000004\nretired 1\n",
-            1,
-        ),
-        (
-            &[0x00102503],
-            "--levels",
-            "1",
-            b"",
-            b"trapped misaligned data pc 00000000\nretired 0\n",
-            1,
-        ),
-        (
-            &[0x00100073],
-            "--levels",
-            "1",
-            b"",
-            b"trapped breakpoint pc 00000000\nretired 0\n",
-            1,
-        ),
-        (
-            &[NOTHING, NOTHING, NOTHING],
-            "--levels",
-            "1",
-            b"",
-            b"trapped illegal pc 0000000c\nretired 3\n",
-            1,
-        ),
-    ];
-    for (code, option, value, printed, told, status) in rows {
-        let call = call_program(
-            rt.alloc(),
-            &with_option("run", option, value),
-            code,
-            &[],
-            &[],
-        )?;
-        let mut text = told.to_vec(rt.alloc())?;
-        text.extend_from_slice(b"lies 0\n")?;
-        assert_eq!(rt; call.note.bytes(), text.as_slice());
-        assert_eq!(rt; call.out.bytes(), printed);
-        assert_eq!(rt; call.done.status, status);
-        assert!(rt; call.done.bus.is_some());
+// What a call printed, told and answered.
+fn check(rt: &impl Abort, call: &Call, printed: &[u8], told: &[u8], status: u8) {
+    assert_eq!(rt; call.out.bytes(), printed);
+    assert_eq!(rt; call.note.bytes(), told);
+    assert_eq!(rt; call.done.status, status);
+}
 
-        let call = call_program(
-            rt.alloc(),
-            &with_option("plain", option, value),
-            code,
-            &[],
-            &[],
-        )?;
-        assert_eq!(rt; call.note.bytes(), told);
-        assert_eq!(rt; call.out.bytes(), printed);
-        assert_eq!(rt; call.done.status, status);
-        assert!(rt; call.done.bus.is_none());
-    }
+// What a program prints and tells with an option, on the plain machine and on protected memory.
+fn check_program(
+    rt: &impl Abort,
+    alloc: Global,
+    option: [&str; 2],
+    code: &[u32],
+    printed: &[u8],
+    told: &[u8],
+    status: u8,
+) -> Result<(), Fail> {
+    let [name, value] = option;
+    let words = ["chip", "plain", "f", "--flat", name, value];
+    let call = call_program(alloc, &words, code, &[], &[])?;
+    check(rt, &call, printed, told, status);
+    assert!(rt; call.done.bus.is_none());
+
+    let mut text = told.to_vec(alloc)?;
+    text.extend_from_slice(b"lies 0\n")?;
+    let words = ["chip", "run", "f", "--flat", name, value];
+    let call = call_program(alloc, &words, code, &[], &[])?;
+    check(rt, &call, printed, text.as_slice(), status);
+    assert!(rt; call.done.bus.is_some());
+    Ok(())
+}
+
+#[test]
+fn programs_end(rt: HostRuntime) -> Result<(), Fail> {
+    let alloc = rt.alloc();
+    check_program(
+        &rt,
+        alloc,
+        ["--levels", "4"],
+        &EXIT_7,
+        b"",
+        b"halted 7\nretired 3\n",
+        0,
+    )?;
+    check_program(
+        &rt,
+        alloc,
+        ["--steps", "3"],
+        &EXIT_7,
+        b"",
+        b"halted 7\nretired 3\n",
+        0,
+    )?;
+    check_program(
+        &rt,
+        alloc,
+        ["--steps", "2"],
+        &EXIT_7,
+        b"",
+        b"out of steps\nretired 2\n",
+        4,
+    )?;
+    check_program(
+        &rt,
+        alloc,
+        ["--steps", "0"],
+        &EXIT_7,
+        b"",
+        b"out of steps\nretired 0\n",
+        4,
+    )?;
+    check_program(
+        &rt,
+        alloc,
+        ["--levels", "1"],
+        &EXIT_65,
+        b"",
+        b"halted 65\nretired 6\n",
+        0,
+    )?;
+    check_program(
+        &rt,
+        alloc,
+        ["--levels", "1"],
+        &PRINT_A,
+        b"A",
+        b"halted 1\nretired 10\n",
+        0,
+    )?;
+    Ok(())
+}
+
+#[test]
+fn the_memory_has_its_levels(rt: HostRuntime) -> Result<(), Fail> {
+    // The stack begins 64 bytes below the end; and a load of the last word of 1 MiB, and one past it.
+    let alloc = rt.alloc();
+    check_program(
+        &rt,
+        alloc,
+        ["--levels", "1"],
+        &EXIT_STACK,
+        b"",
+        b"halted 16320\nretired 3\n",
+        0,
+    )?;
+    check_program(
+        &rt,
+        alloc,
+        ["--steps", "9"],
+        &EXIT_STACK,
+        b"",
+        b"halted 1048512\nretired 3\n",
+        0,
+    )?;
+    let code = [0x001002b7, 0xffc2a303, 0x0002a303];
+    let told = b"trapped outside memory pc 00000008\nretired 2\n";
+    check_program(&rt, alloc, ["--levels", "4"], &code, b"", told, 1)?;
+    Ok(())
+}
+
+#[test]
+fn programs_trap(rt: HostRuntime) -> Result<(), Fail> {
+    // Nothing at all; three instructions and then no more; a jump to 2; a load at address 1; a breakpoint.
+    let alloc = rt.alloc();
+    let told = b"trapped illegal pc 00000000\nretired 0\n";
+    check_program(&rt, alloc, ["--levels", "4"], &[], b"", told, 1)?;
+    let told = b"trapped illegal pc 0000000c\nretired 3\n";
+    check_program(&rt, alloc, ["--levels", "1"], &[NOTHING; 3], b"", told, 1)?;
+    let told = b"trapped misaligned target pc 00000004\nretired 1\n";
+    check_program(
+        &rt,
+        alloc,
+        ["--levels", "1"],
+        &[0x00200093, 0x00008167],
+        b"",
+        told,
+        1,
+    )?;
+    let told = b"trapped misaligned data pc 00000000\nretired 0\n";
+    check_program(&rt, alloc, ["--levels", "1"], &[0x00102503], b"", told, 1)?;
+    let told = b"trapped breakpoint pc 00000000\nretired 0\n";
+    check_program(&rt, alloc, ["--levels", "1"], &[0x00100073], b"", told, 1)?;
     Ok(())
 }
 
 #[test]
 fn a_run_is_handed_back(rt: HostRuntime) -> Result<(), Fail> {
     let call = call_program(rt.alloc(), &RUN, &EXIT_7, &[], &[])?;
-    assert_eq!(rt;
-        call.note.bytes(),
-        b"halted 7\nretired 3\nlies 0\n".as_slice()
-    );
-    assert_eq!(rt; call.done.status, 0);
+    check(&rt, &call, b"", b"halted 7\nretired 3\nlies 0\n", 0);
     assert_eq!(rt; ending(&call.done), Some(Ending::Halted(7)));
     assert_eq!(rt; call.done.lies, 0);
     Ok(())
 }
 
+// What the program that copies its input prints and tells.
+fn check_input(
+    rt: &impl Abort,
+    alloc: Global,
+    input: &[u8],
+    printed: &[u8],
+    told: &[u8],
+) -> Result<(), Fail> {
+    let code = program(alloc, &COPY_4)?;
+    let mut files = file(alloc, code.as_slice(), &[])?;
+    files.add("i", input)?;
+    let call = make_call(alloc, &PLAIN_ON_INPUT, &mut files, &[], &[])?;
+    check(rt, &call, printed, told, 0);
+    let call = make_call(alloc, &RUN_ON_INPUT, &mut files, &[], &[])?;
+    assert_eq!(rt; call.out.bytes(), printed);
+    assert_eq!(rt; call.done.status, 0);
+    Ok(())
+}
+
 #[test]
 fn programs_read_their_input(rt: HostRuntime) -> Result<(), Fail> {
-    let rows: [(&[u8], &[u8], &[u8]); 3] = [
-        (b"", b"", b"halted 0\nretired 11\n"),
-        (b"hi\n", b"hi\n", b"halted 3\nretired 11\n"),
-        (b"abcde", b"abcd", b"halted 4\nretired 11\n"),
-    ];
-    for (input, printed, told) in rows {
-        let code = program(rt.alloc(), &COPY_4)?;
-        let mut files = file(rt.alloc(), code.as_slice(), &[])?;
-        files.add("i", input)?;
-        let call = make_call(
-            rt.alloc(),
-            &with_option("plain", "--input", "i"),
-            &mut files,
-            &[],
-            &[],
-        )?;
-        assert_eq!(rt; call.note.bytes(), told);
-        assert_eq!(rt; call.out.bytes(), printed);
-        let call = make_call(
-            rt.alloc(),
-            &with_option("run", "--input", "i"),
-            &mut files,
-            &[],
-            &[],
-        )?;
-        assert_eq!(rt; call.out.bytes(), printed);
-        assert_eq!(rt; call.done.status, 0);
-    }
+    let alloc = rt.alloc();
+    check_input(&rt, alloc, b"", b"", b"halted 0\nretired 11\n")?;
+    check_input(&rt, alloc, b"hi\n", b"hi\n", b"halted 3\nretired 11\n")?;
+    check_input(&rt, alloc, b"abcde", b"abcd", b"halted 4\nretired 11\n")?;
     Ok(())
 }
 
@@ -319,92 +313,94 @@ fn programs_are_listed(rt: HostRuntime) -> Result<(), Fail> {
     let mut text = first.to_vec(rt.alloc())?;
     text.extend_from_slice(b"00000004 05d00893 addi a7, zero, 93\n00000008 00000073 ecall\n")?;
     let call = call_program(rt.alloc(), &DIS, &EXIT_7, &[], &[])?;
-    assert_eq!(rt; call.out.bytes(), text.as_slice());
-    assert_eq!(rt; call.note.bytes(), b"".as_slice());
-    assert_eq!(rt; call.done.status, 0);
-    assert!(rt; call.done.run.is_none());
-
+    check(&rt, &call, text.as_slice(), b"", 0);
     let call = call_program(rt.alloc(), &DIS, &EXIT_7, &[2], &[])?;
-    assert_eq!(rt; call.out.bytes(), first);
-    assert_eq!(rt; call.note.bytes(), b"".as_slice());
-    assert_eq!(rt; call.done.status, 9);
+    check(&rt, &call, first, b"", 9);
     Ok(())
 }
 
 #[test]
 fn a_program_fills_the_memory(rt: HostRuntime) -> Result<(), Fail> {
-    let words = vec![in rt.alloc(); NOTHING; 4096]?;
-    let call = call_program(rt.alloc(), &RUN_SMALL, words.as_slice(), &[], &[])?;
-    assert_eq!(rt;
-        call.note.bytes(),
-        b"trapped outside memory pc 00004000\nretired 4096\nlies 0\n".as_slice()
-    );
-    assert_eq!(rt; call.done.status, 1);
+    let code = vec![in rt.alloc(); NOTHING; 4096]?;
+    let call = call_program(rt.alloc(), &RUN_SMALL, code.as_slice(), &[], &[])?;
+    let told = b"trapped outside memory pc 00004000\nretired 4096\nlies 0\n";
+    check(&rt, &call, b"", told, 1);
+    Ok(())
+}
+
+// What comes of a file of so many zeros.
+fn check_length(
+    rt: &impl Abort,
+    alloc: Global,
+    words: &[&str],
+    length: usize,
+    told: &[u8],
+    status: u8,
+) -> Result<(), Fail> {
+    let bytes = vec![in alloc; 0u8; length]?;
+    let mut files = file(alloc, bytes.as_slice(), &[])?;
+    let call = make_call(alloc, words, &mut files, &[], &[])?;
+    check(rt, &call, b"", told, status);
+    assert!(rt; call.done.run.is_none());
     Ok(())
 }
 
 #[test]
 fn files_are_refused(rt: HostRuntime) -> Result<(), Fail> {
-    let rows: [(&str, &str, usize, &[u8], u8); 6] = [
-        ("run", "1", 16385, b"refused elf 9 Segment\n", 3),
-        ("plain", "1", 1048576, b"refused elf 9 Segment\n", 3),
-        ("dis", "2", 65537, b"refused elf 9 Segment\n", 3),
-        ("run", "1", 1048577, b"refused long\n", 3),
-        ("dis", "6", 1048577, b"refused long\n", 3),
-        (
-            "plain",
-            "4",
-            1048576,
-            b"trapped illegal pc 00000000\nretired 0\n",
-            1,
-        ),
-    ];
-    for (command, levels, length, text, status) in rows {
-        let bytes = vec![in rt.alloc(); 0u8; length]?;
-        let call = call_bytes(
-            rt.alloc(),
-            &with_option(command, "--levels", levels),
-            bytes.as_slice(),
-        )?;
-        assert_eq!(rt; call.note.bytes(), text);
-        assert_eq!(rt; call.out.bytes(), b"".as_slice());
-        assert_eq!(rt; call.done.status, status);
-        assert!(rt; call.done.run.is_none());
-        assert!(rt; call.done.bus.is_none());
-    }
+    let alloc = rt.alloc();
+    check_length(&rt, alloc, &RUN_SMALL, 16385, b"refused elf 9 Segment\n", 3)?;
+    check_length(
+        &rt,
+        alloc,
+        &RUN_SMALL,
+        1048576,
+        b"refused elf 9 Segment\n",
+        3,
+    )?;
+    check_length(&rt, alloc, &RUN_SMALL, 1048577, b"refused long\n", 3)?;
+    check_length(&rt, alloc, &DIS, 1048577, b"refused long\n", 3)?;
+    check_length(&rt, alloc, &PLAIN, 1048577, b"refused long\n", 3)?;
+    let told = b"trapped illegal pc 00000000\nretired 0\n";
+    check_length(&rt, alloc, &PLAIN, 1048576, told, 1)?;
+    Ok(())
+}
+
+// The words are no request.
+fn check_usage(rt: &impl Abort, alloc: Global, words: &[&str]) -> Result<(), Fail> {
+    let mut files = MemoryFiles::new(alloc, &[])?;
+    let call = make_call(alloc, words, &mut files, &[], &[])?;
+    assert!(rt; call.note.bytes().starts_with(b"usage\n"));
+    assert_eq!(rt; call.out.bytes(), b"".as_slice());
+    assert_eq!(rt; call.done.status, 2);
     Ok(())
 }
 
 #[test]
 fn other_words_are_usage(rt: HostRuntime) -> Result<(), Fail> {
-    let rows: [&[&str]; 12] = [
+    let rows: [&[&str]; 9] = [
         &[],
         &["chip"],
         &["chip", "run"],
         &["chip", "run", "f", "--flat", "x"],
-        &["chip", "run", "f", "--raw"],
         &["chip", "run", "f", "--flat", "--levels", "7"],
-        &["chip", "plain", "f", "--flat", "--steps", "x"],
-        &["chip", "dis", "f", "--flat", "--input", "i"],
+        &["chip", "dis", "f", "--flat", "--steps", "3"],
         &["run", "f", "--flat"],
-        &["chip", "asm", "f"],
         &["chip", "--help"],
         &["chip", "help", "run"],
     ];
     for words in rows {
-        let mut files = MemoryFiles::new(rt.alloc(), &[])?;
-        let call = make_call(rt.alloc(), words, &mut files, &[], &[])?;
-        assert!(rt; call.note.bytes().starts_with(b"usage\n"));
-        assert_eq!(rt; call.out.bytes(), b"".as_slice());
-        assert_eq!(rt; call.done.status, 2);
-        assert_eq!(rt; ending(&call.done), None);
+        check_usage(&rt, rt.alloc(), words)?;
     }
+    Ok(())
+}
+
+#[test]
+fn programs_have_to_be_flat(rt: HostRuntime) -> Result<(), Fail> {
     for command in ["run", "plain", "dis"] {
         let mut files = MemoryFiles::new(rt.alloc(), &[])?;
-        let call = make_call(rt.alloc(), &["chip", command, "f"], &mut files, &[], &[])?;
-        assert_eq!(rt; call.note.bytes(), b"usage flat\n".as_slice());
-        assert_eq!(rt; call.out.bytes(), b"".as_slice());
-        assert_eq!(rt; call.done.status, 2);
+        let words = ["chip", command, "f"];
+        let call = make_call(rt.alloc(), &words, &mut files, &[], &[])?;
+        check(&rt, &call, b"", b"usage flat\n", 2);
     }
     Ok(())
 }
@@ -412,49 +408,40 @@ fn other_words_are_usage(rt: HostRuntime) -> Result<(), Fail> {
 #[test]
 fn files_are_not_read(rt: HostRuntime) -> Result<(), Fail> {
     // No such file, and a read that fails.
-    let absent = MemoryFiles::new(rt.alloc(), &[])?;
-    let failing = file(rt.alloc(), b"", &[1])?;
-    for mut files in [absent, failing] {
-        let call = make_call(rt.alloc(), &RUN, &mut files, &[], &[])?;
-        assert_eq!(rt; call.note.bytes(), b"read fault\n".as_slice());
-        assert_eq!(rt; call.out.bytes(), b"".as_slice());
-        assert_eq!(rt; call.done.status, 8);
-        assert_eq!(rt; ending(&call.done), None);
-    }
+    let mut absent = MemoryFiles::new(rt.alloc(), &[])?;
+    let call = make_call(rt.alloc(), &RUN, &mut absent, &[], &[])?;
+    check(&rt, &call, b"", b"read fault\n", 8);
+    let mut failing = file(rt.alloc(), b"", &[1])?;
+    let call = make_call(rt.alloc(), &RUN, &mut failing, &[], &[])?;
+    check(&rt, &call, b"", b"read fault\n", 8);
+    Ok(())
+}
+
+// What comes of a program and an input of so many zeros, where the second read may fail.
+fn check_order(
+    rt: &impl Abort,
+    alloc: Global,
+    lengths: [usize; 2],
+    fails: &[u64],
+    told: &[u8],
+    status: u8,
+) -> Result<(), Fail> {
+    let [program, input] = lengths;
+    let bytes = vec![in alloc; 0u8; program]?;
+    let mut files = file(alloc, bytes.as_slice(), fails)?;
+    let bytes = vec![in alloc; 0u8; input]?;
+    files.add("i", bytes.as_slice())?;
+    let call = make_call(alloc, &PLAIN_ON_INPUT, &mut files, &[], &[])?;
+    check(rt, &call, b"", told, status);
     Ok(())
 }
 
 #[test]
 fn the_input_is_read_after_the_program(rt: HostRuntime) -> Result<(), Fail> {
-    // The file's length, the input's, the reads that fail, and what comes of it.
-    let rows: [(usize, usize, &[u64], &[u8], u8); 4] = [
-        (0, 0, &[2], b"read fault\n", 8),
-        (0, 1048577, &[], b"refused long\n", 3),
-        (1048577, 0, &[2], b"refused long\n", 3),
-        (
-            0,
-            1048576,
-            &[],
-            b"trapped illegal pc 00000000\nretired 0\n",
-            1,
-        ),
-    ];
-    for (length, input, fails, text, status) in rows {
-        let bytes = vec![in rt.alloc(); 0u8; length]?;
-        let mut files = file(rt.alloc(), bytes.as_slice(), fails)?;
-        let bytes = vec![in rt.alloc(); 0u8; input]?;
-        files.add("i", bytes.as_slice())?;
-        let call = make_call(
-            rt.alloc(),
-            &with_option("plain", "--input", "i"),
-            &mut files,
-            &[],
-            &[],
-        )?;
-        assert_eq!(rt; call.note.bytes(), text);
-        assert_eq!(rt; call.out.bytes(), b"".as_slice());
-        assert_eq!(rt; call.done.status, status);
-    }
+    let alloc = rt.alloc();
+    check_order(&rt, alloc, [0, 0], &[2], b"read fault\n", 8)?;
+    check_order(&rt, alloc, [0, 1048577], &[], b"refused long\n", 3)?;
+    check_order(&rt, alloc, [1048577, 0], &[2], b"refused long\n", 3)?;
     Ok(())
 }
 
@@ -462,15 +449,13 @@ fn the_input_is_read_after_the_program(rt: HostRuntime) -> Result<(), Fail> {
 fn a_fault_of_note_keeps_the_run(rt: HostRuntime) -> Result<(), Fail> {
     // The number of the write that fails, and what was told before.
     let rows: [(u64, &[u8]); 3] = [(1, b""), (2, b"halted 7\n"), (3, b"halted 7\nretired 3\n")];
-    for (fails, text) in rows {
+    for (fails, told) in rows {
         let call = call_program(rt.alloc(), &RUN, &EXIT_7, &[], &[fails])?;
-        assert_eq!(rt; call.note.bytes(), text);
-        assert_eq!(rt; call.done.status, 9);
+        check(&rt, &call, b"", told, 9);
         assert_eq!(rt; ending(&call.done), Some(Ending::Halted(7)));
     }
     let call = call_program(rt.alloc(), &PLAIN, &EXIT_7, &[], &[2])?;
-    assert_eq!(rt; call.note.bytes(), b"halted 7\n".as_slice());
-    assert_eq!(rt; call.done.status, 9);
+    check(&rt, &call, b"", b"halted 7\n", 9);
     Ok(())
 }
 
@@ -480,8 +465,7 @@ fn a_fault_of_note_keeps_a_refusal(rt: HostRuntime) -> Result<(), Fail> {
     for (words, status) in rows {
         let mut files = MemoryFiles::new(rt.alloc(), &[])?;
         let call = make_call(rt.alloc(), words, &mut files, &[], &[1])?;
-        assert_eq!(rt; call.note.bytes(), b"".as_slice());
-        assert_eq!(rt; call.done.status, status);
+        check(&rt, &call, b"", b"", status);
     }
     Ok(())
 }
@@ -489,17 +473,10 @@ fn a_fault_of_note_keeps_a_refusal(rt: HostRuntime) -> Result<(), Fail> {
 #[test]
 fn a_fault_of_out_ends_the_run(rt: HostRuntime) -> Result<(), Fail> {
     let call = call_program(rt.alloc(), &RUN_SMALL, &PRINT_A, &[1], &[])?;
-    assert_eq!(rt;
-        call.note.bytes(),
-        b"write fault\nretired 7\nlies 0\n".as_slice()
-    );
-    assert_eq!(rt; call.out.bytes(), b"".as_slice());
-    assert_eq!(rt; call.done.status, 9);
+    check(&rt, &call, b"", b"write fault\nretired 7\nlies 0\n", 9);
     assert_eq!(rt; ending(&call.done), Some(Ending::WriteFault));
-
     let call = call_program(rt.alloc(), &PLAIN, &PRINT_A, &[1], &[])?;
-    assert_eq!(rt; call.note.bytes(), b"write fault\nretired 7\n".as_slice());
-    assert_eq!(rt; call.done.status, 9);
+    check(&rt, &call, b"", b"write fault\nretired 7\n", 9);
     Ok(())
 }
 
