@@ -1,0 +1,16 @@
+pub mod Faults
+pub mod Characters
+pub mod Lines
+pub mod Registers
+pub mod Numbers
+pub mod Expressions
+pub mod Statements
+pub mod Keywords
+pub mod Reading
+pub mod Layout
+pub mod Values
+pub mod Encoding
+pub mod Labels
+pub mod Passes
+pub mod Assembly
+pub mod Law

@@ -1,0 +1,150 @@
+-- The statement of a line: its word, and the operands behind it.
+use Rattle.std.specs.Prelude.{ℕ, ℤ, pos, neg_ℤ, ◌-◌, List, [], ◌∷◌, ◌++◌, Bool, ◌==◌, Option, Some, None, option_map, option_and_then, Result, Ok, Err, ok_or, length, map, take, drop, take_while, nat_eq, codes, if◌then◌else◌}
+use Rattle.std.specs.List.{prefix_len, slice_split, ends_with, before_first, after_first}
+use Rattle.sec_base.specs.declared.memory.Width.{Width}
+use Rattle.rv32_decode.specs.declared.Op.TheVariants.{Lui, Addi}
+use Rattle.rv32_asm.specs.declared.fault.AsmFault.{AsmFault}
+use Rattle.rv32_asm.specs.declared.fault.AsmFault.TheVariants.{Unknown, Operand}
+use Rattle.rv32_asm.specs.Characters.{quotation_mark, left_parenthesis, right_parenthesis, comma, backslash, is_in_words, is_name, skip_blanks, is_empty, trimmed}
+use Rattle.rv32_asm.specs.Lines.{Outside, has_foreign, statement_text, without_comment}
+use Rattle.rv32_asm.specs.Registers.{register_of}
+use Rattle.rv32_asm.specs.Numbers.{number_of, is_between}
+use Rattle.rv32_asm.specs.Expressions.{Expression, expression_of, number_alone}
+use Rattle.rv32_asm.specs.Statements.{Instruction, instruction, Whole, Upper, Lower, Statement, Instructions, Data, Text, Zeros, Aligned, Nothing}
+use Rattle.rv32_asm.specs.Keywords.{Slot, Rd, Rs1, Rs2, Value, Place, Keyword, InstructionWord, LiWord, LaWord, DataWord, AsciiWord, AscizWord, SpaceWord, AlignWord, TextWord, GloblWord, keyword_of}
+
+-- ---- operands
+
+-- operands are parted by commas
+unfoldable pub operands_of : List ℕ → List (List ℕ)
+operands_of [] = []
+operands_of (byte ∷ bytes) = map trimmed (slice_split (λ each. each == comma) (byte ∷ bytes))
+
+-- what stands before the parentheses of a place, where nothing is 0
+abbrev pub offset_of : List ℕ → Option Expression
+offset_of [] = Some (number_alone (pos 0))
+offset_of (byte ∷ bytes) = expression_of (byte ∷ bytes)
+
+-- the register whose name the right parenthesis ends
+abbrev pub enclosed_register : List ℕ → Option ℕ
+enclosed_register text =
+    if ends_with nat_eq text (right_parenthesis ∷ []) then register_of (trimmed (take (length text - 1) text)) else None
+
+-- a place in memory: an offset, and a register in parentheses
+abbrev pub place_of : List ℕ → Option (Expression × ℕ)
+place_of text =
+    option_and_then
+    (λ offset. option_map
+        (λ base. (offset, base))
+        (enclosed_register (after_first (λ byte. byte == left_parenthesis) text)))
+    (offset_of (trimmed (before_first (λ byte. byte == left_parenthesis) text)))
+
+-- an instruction with the field that an operand gives
+abbrev pub with_operand : Slot → List ℕ → Instruction → Option Instruction
+with_operand Rd text i = option_map (λ number. record i { rd = number }) (register_of text)
+with_operand Rs1 text i = option_map (λ number. record i { rs1 = number }) (register_of text)
+with_operand Rs2 text i = option_map (λ number. record i { rs2 = number }) (register_of text)
+with_operand Value text i = option_map (λ value. record i { immediate = Whole value }) (expression_of text)
+with_operand Place text i =
+    option_map (λ place. record i { immediate = Whole place.0; rs1 = place.1 }) (place_of text)
+
+-- an instruction with the fields that its operands give, of which there are as many as it takes
+abbrev pub with_operands : List Slot → List (List ℕ) → Instruction → Option Instruction
+with_operands [] [] i = Some i
+with_operands [] (text ∷ texts) i = None
+with_operands (slot ∷ slots) [] i = None
+with_operands (slot ∷ slots) (text ∷ texts) i = option_and_then (with_operands slots texts) (with_operand slot text i)
+
+-- each text is an expression
+abbrev pub expressions_of : List (List ℕ) → Option (List Expression)
+expressions_of [] = Some []
+expressions_of (text ∷ texts) =
+    option_and_then (λ value. option_map (λ values. value ∷ values) (expressions_of texts)) (expression_of text)
+
+-- ---- strings
+
+-- what a character stands for behind a backslash
+abbrev pub escape_of : ℕ → Option ℕ
+escape_of byte =
+    if byte == 110 then Some 10  -- n
+    else (if byte == 116 then Some 9  -- t
+    else (if byte == 48 then Some 0  -- 0
+    else (if (byte == backslash) then Some backslash
+    else (if byte == quotation_mark then Some quotation_mark else None))))
+
+-- the bytes of a string whose quotation mark was opened, and which ends the text
+abbrev pub string_after : List ℕ → Option (List ℕ)
+string_after [] = None
+string_after (byte ∷ []) = if byte == quotation_mark then Some [] else None
+string_after (byte ∷ next ∷ bytes) =
+    if byte == quotation_mark then None
+    else (if byte == backslash
+    then option_and_then (λ meant. option_map (λ rest. meant ∷ rest) (string_after bytes)) (escape_of next)
+    else option_map (λ rest. byte ∷ rest) (string_after (next ∷ bytes)))
+
+-- the bytes of a string in quotation marks
+unfoldable pub string_of : List ℕ → Option (List ℕ)
+string_of [] = None
+string_of (byte ∷ bytes) = if byte == quotation_mark then string_after bytes else None
+
+-- ---- statements
+
+-- the value put into a register by its upper and its lower part
+abbrev pub pair : ℕ → Expression → List Instruction
+pair rd value =
+    record (instruction Lui rd 0 0 (pos 0)) { immediate = Upper value }
+    ∷ record (instruction Addi rd rd 0 (pos 0)) { immediate = Lower value }
+    ∷ []
+
+-- a number put into a register, by one instruction where ADDI can
+abbrev pub loaded : ℕ → ℤ → List Instruction
+loaded rd number =
+    if is_between (neg_ℤ (pos 2048)) (pos 2047) number then instruction Addi rd 0 0 number ∷ []
+    else pair rd (number_alone number)
+
+abbrev pub li_of : List (List ℕ) → Option Statement
+li_of (register ∷ number ∷ []) =
+    option_and_then (λ rd. option_map (λ n. Instructions (loaded rd n)) (number_of number)) (register_of register)
+li_of _ = None
+
+abbrev pub la_of : List (List ℕ) → Option Statement
+la_of (register ∷ value ∷ []) =
+    option_and_then (λ rd. option_map (λ e. Instructions (pair rd e)) (expression_of value)) (register_of register)
+la_of _ = None
+
+-- one or more values
+abbrev pub data_of : Width → List (List ℕ) → Option Statement
+data_of width [] = None
+data_of width (text ∷ texts) = option_map (Data width) (expressions_of (text ∷ texts))
+
+abbrev pub globl_of : List ℕ → Option Statement
+globl_of text = if is_name text then Some Nothing else None
+
+-- the statement of a word with the text behind it, where that has its form
+unfoldable pub statement_with : Keyword → List ℕ → Option Statement
+statement_with (InstructionWord slots i) text =
+    option_map (λ each. Instructions (each ∷ [])) (with_operands slots (operands_of text) i)
+statement_with LiWord text = li_of (operands_of text)
+statement_with LaWord text = la_of (operands_of text)
+statement_with (DataWord width) text = data_of width (operands_of text)
+statement_with AsciiWord text = option_map Text (string_of text)
+statement_with AscizWord text = option_map (λ bytes. Text (bytes ++ 0 ∷ [])) (string_of text)
+statement_with SpaceWord text = option_map Zeros (number_of text)
+statement_with AlignWord text = option_map Aligned (number_of text)
+statement_with TextWord text = if is_empty text then Some Nothing else None
+statement_with GloblWord text = globl_of text
+
+-- the statement that a text is, which begins with its word
+abbrev pub statement_in : List ℕ → Result Statement AsmFault
+statement_in [] = Ok Nothing
+statement_in (byte ∷ bytes) = let text = byte ∷ bytes in
+    elim (keyword_of (take_while is_in_words text)) [
+        None ↦ Err Unknown
+        | Some keyword ↦ ok_or (statement_with keyword (skip_blanks (drop (prefix_len is_in_words text) text))) Operand
+    ]
+
+-- the statement of a line, or what is wrong with it: a byte above 7f outside strings and comments, or a word that
+-- begins no statement, and then operands of another number or form
+unfoldable pub statement_of : List ℕ → Result Statement AsmFault
+statement_of line =
+    if has_foreign Outside (without_comment line) then Err Unknown else statement_in (statement_text line)
