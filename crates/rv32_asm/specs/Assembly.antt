@@ -5,7 +5,7 @@ use Rattle.sec_base.specs.declared.program.Image.{Image}
 use Rattle.rv32_asm.specs.declared.fault.AsmFault.TheVariants.{Range}
 use Rattle.rv32_asm.specs.Lines.{lines_of}
 use Rattle.rv32_asm.specs.Labels.{Label, label_named}
-use Rattle.rv32_asm.specs.Passes.{Refusal, start, first_pass, second_pass, and_then}
+use Rattle.rv32_asm.specs.Passes.{LineFault, start, first_pass, second_pass, ◌>>=◌}
 
 pub record Program : Type 0 where
   pub entry : ℕ
@@ -16,24 +16,19 @@ abbrev pub is_no_entry : ℕ → ℕ → Bool
 is_no_entry size address = not (address % 4 == 0) || nat_lt size (address + 4)
 
 -- where the program begins: at the label `_start`, and else at 0
-abbrev pub entry_of : ℕ → Option Label → Result ℕ Refusal
+abbrev pub entry_of : ℕ → Option Label → Result ℕ LineFault
 entry_of size None = Ok 0
 entry_of size (Some label) =
     if is_no_entry size label.address then Err (record { line = label.line; code = Range }) else Ok label.address
 
--- the bytes of the lines, and where they begin
-abbrev pub linked : ℕ → List (List ℕ) → List Label → Result Program Refusal
-linked size lines labels =
-    and_then
-    (λ bytes. and_then
-        (λ entry. Ok (record { entry = entry; bytes = bytes }))
-        (entry_of size (label_named labels (codes "_start"))))
-    (second_pass labels 1 0 lines)
-
 -- the program of a text for a memory of a size, or the first fault: of the first pass, of the second, of the entry
-unfoldable pub program_of : List ℕ → ℕ → Result Program Refusal
-program_of text size = let lines = lines_of text in
-    and_then (λ progress. linked size lines progress.labels) (first_pass size 1 start lines)
+unfoldable pub program_of : List ℕ → ℕ → Result Program LineFault
+program_of text size = do
+  let lines = lines_of text
+  progress ← first_pass size 1 start lines
+  bytes ← second_pass progress.labels 1 [] lines
+  entry ← entry_of size (label_named progress.labels (codes "_start"))
+  Ok (record { entry = entry; bytes = bytes })
 
 -- one segment from 0 on, of all that was emitted
 abbrev pub one_segment : List ℕ → List Segment

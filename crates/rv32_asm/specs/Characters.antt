@@ -39,6 +39,9 @@ minus = 45
 abbrev pub full_stop : ℕ
 full_stop = 46
 
+abbrev pub digit_0 : ℕ
+digit_0 = 48
+
 abbrev pub colon : ℕ
 colon = 58
 
@@ -47,6 +50,12 @@ backslash = 92
 
 abbrev pub underscore : ℕ
 underscore = 95
+
+abbrev pub letter_n : ℕ
+letter_n = 110
+
+abbrev pub letter_t : ℕ
+letter_t = 116
 
 abbrev pub is_blank : ℕ → Bool
 is_blank byte = (byte == space) || (byte == tab)

@@ -13,7 +13,7 @@ use Rattle.rv32_asm.specs.Numbers.{is_between}
 use Rattle.rv32_asm.specs.Expressions.{Expression}
 use Rattle.rv32_asm.specs.Labels.{Label}
 use Rattle.rv32_asm.specs.Layout.{size_at}
-use Rattle.rv32_asm.specs.Statements.{Instruction, Statement, Instructions, Data, Text, Zeros, Aligned, Nothing}
+use Rattle.rv32_asm.specs.Statements.{Instruction, Statement, Instructions, Data, Bytes, Zeros, Aligned, Nothing}
 use Rattle.rv32_asm.specs.Values.{expression_in, immediate_value, is_missing, modulo, value_of}
 
 -- ---- instructions
@@ -108,7 +108,7 @@ is_in_range labels address _ = true
 unfoldable pub bytes_at : List Label → ℕ → Statement → List ℕ
 bytes_at labels address (Instructions instructions) = code_from labels address instructions
 bytes_at labels address (Data width values) = flat_map (λ value. number_bytes width (value_of labels value)) values
-bytes_at labels address (Text bytes) = bytes
+bytes_at labels address (Bytes bytes) = bytes
 bytes_at labels address (Zeros number) = replicate (size_at address (Zeros number)) 0
 bytes_at labels address (Aligned number) = replicate (size_at address (Aligned number)) 0
 bytes_at labels address Nothing = []

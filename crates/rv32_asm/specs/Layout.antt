@@ -2,7 +2,7 @@
 use Rattle.std.specs.Prelude.{ℕ, ◌+◌, ◌-◌, ◌*◌, ◌%◌, ◌^◌, ℤ, pos, negsuc, List, Bool, false, not, ◌==◌, ◌||◌, length, nat_le, nat_lt, unsigned_abs}
 use Rattle.std.specs.List.{list_any, range_with_len}
 use Rattle.sec_base.specs.Width.{width_bytes}
-use Rattle.rv32_asm.specs.Statements.{Statement, Instructions, Data, Text, Zeros, Aligned, Nothing}
+use Rattle.rv32_asm.specs.Statements.{Statement, Instructions, Data, Bytes, Zeros, Aligned, Nothing}
 
 -- a number of zeros that can be asked for
 abbrev pub is_space : ℤ → Bool
@@ -29,7 +29,7 @@ padding address alignment = (alignment - address % alignment) % alignment
 unfoldable pub size_at : ℕ → Statement → ℕ
 size_at address (Instructions instructions) = 4 * length instructions
 size_at address (Data width values) = width_bytes width * length values
-size_at address (Text bytes) = length bytes
+size_at address (Bytes bytes) = length bytes
 size_at address (Zeros number) = unsigned_abs number
 size_at address (Aligned number) = padding address (unsigned_abs number)
 size_at address Nothing = 0

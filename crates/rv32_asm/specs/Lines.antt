@@ -8,8 +8,8 @@ unfoldable pub lines_of : List ℕ → List (List ℕ)
 lines_of [] = [] ∷ []
 lines_of (byte ∷ bytes) =
     if byte == line_feed then [] ∷ lines_of bytes
-    else (if (byte == carriage_return) && starts_with nat_eq bytes (line_feed ∷ []) then lines_of bytes
-    else onto_first byte (lines_of bytes))
+    else if (byte == carriage_return) && starts_with nat_eq bytes (line_feed ∷ []) then lines_of bytes
+    else onto_first byte (lines_of bytes)
 
 -- where a byte of a line stands: outside the strings, in one, or behind a backslash in one
 pub data Standing : Type 0 where
@@ -21,7 +21,7 @@ pub data Standing : Type 0 where
 abbrev pub standing_after : Standing → ℕ → Standing
 standing_after Outside byte = if byte == quotation_mark then Inside else Outside
 standing_after Inside byte =
-    if byte == quotation_mark then Outside else (if byte == backslash then Escaped else Inside)
+    if byte == quotation_mark then Outside else if byte == backslash then Escaped else Inside
 standing_after Escaped byte = Inside
 
 abbrev pub is_outside : Standing → Bool

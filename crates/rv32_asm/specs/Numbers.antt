@@ -22,8 +22,8 @@ in_range number = if is_between (neg_ℤ (pos (2 ^ 31))) (pos (2 ^ 32 - 1)) numb
 abbrev pub spelled_number : List ℕ → Option ℤ
 spelled_number text =
     if starts_with nat_eq text (codes "0x") then option_map pos (natural_of 16 (drop 2 text))
-    else (if starts_with nat_eq text (minus ∷ []) then option_map (λ n. neg_ℤ (pos n)) (natural_of 10 (drop 1 text))
-    else option_map pos (natural_of 10 text))
+    else if starts_with nat_eq text (minus ∷ []) then option_map (λ n. neg_ℤ (pos n)) (natural_of 10 (drop 1 text))
+    else option_map pos (natural_of 10 text)
 
 unfoldable pub number_of : List ℕ → Option ℤ
 number_of text = option_and_then in_range (spelled_number text)

@@ -5,24 +5,25 @@ use Rattle.rv32_asm.specs.declared.fault.AsmFault.TheVariants.{Range, Twice, Mis
 use Rattle.rv32_asm.specs.Lines.{labels_of}
 use Rattle.rv32_asm.specs.Statements.{Statement}
 use Rattle.rv32_asm.specs.Reading.{statement_of}
-use Rattle.rv32_asm.specs.Labels.{Label, with_names, has_twice}
+use Rattle.rv32_asm.specs.Labels.{Label, is_there}
 use Rattle.rv32_asm.specs.Layout.{is_misplaced, size_at}
 use Rattle.rv32_asm.specs.Encoding.{misses_label, is_in_range, bytes_at}
 
 -- the fault of a line, lines counted from 1
-pub record Refusal : Type 0 where
+pub record LineFault : Type 0 where
   pub line : ℕ
   pub code : AsmFault
 
 -- a line's answer, whose fault is told with the line's number
-abbrev pub in_line : {X : Type 0} → ℕ → Result X AsmFault → Result X Refusal
+abbrev pub in_line : {X : Type 0} → ℕ → Result X AsmFault → Result X LineFault
 in_line number (Ok x) = Ok x
 in_line number (Err fault) = Err (record { line = number; code = fault })
 
--- the next step, where there was no fault
-abbrev pub and_then : {X Y E : Type 0} → (X → Result Y E) → Result X E → Result Y E
-and_then next (Ok x) = next x
-and_then next (Err fault) = Err fault
+-- one step after another, as long as there is no fault
+infixl 10 ◌>>=◌
+abbrev pub ◌>>=◌ : {X Y E : Type 0} → Result X E → (X → Result Y E) → Result Y E
+Ok x >>= next = next x
+Err fault >>= next = Err fault
 
 -- ---- the first pass
 
@@ -34,48 +35,51 @@ pub record Progress : Type 0 where
 abbrev pub start : Progress
 start = record { address = 0; labels = [] }
 
+-- labels with those of a line, of which none is there already
+abbrev pub with_names : ℕ → ℕ → List (List ℕ) → List Label → Result (List Label) AsmFault
+with_names address line [] labels = Ok labels
+with_names address line (name ∷ names) labels =
+    if is_there labels name then Err Twice
+    else with_names address line names (record { name = name; address = address; line = line } ∷ labels)
+
 -- the address behind a statement in a memory of a size
 abbrev pub address_after : ℕ → ℕ → Statement → Result ℕ AsmFault
 address_after size address statement =
     if is_misplaced address statement then Err Range
-    else (if nat_lt size (address + size_at address statement) then Err Large
-    else Ok (address + size_at address statement))
+    else if nat_lt size (address + size_at address statement) then Err Large
+    else Ok (address + size_at address statement)
 
 -- what the line of a number leaves, or its first fault
 unfoldable pub after_line : ℕ → ℕ → Progress → List ℕ → Result Progress AsmFault
-after_line size number progress line =
-    if has_twice progress.labels (labels_of line) then Err Twice
-    else and_then
-    (λ statement. and_then
-        (λ address. Ok (record { address = address; labels = with_names progress.address number (labels_of line) progress.labels }))
-        (address_after size progress.address statement))
-    (statement_of line)
+after_line size number progress line = do
+  labels ← with_names progress.address number (labels_of line) progress.labels
+  statement ← statement_of line
+  address ← address_after size progress.address statement
+  Ok (record { address = address; labels = labels })
 
 -- what the lines from a number on leave, or the first fault
-unfoldable pub first_pass : ℕ → ℕ → Progress → List (List ℕ) → Result Progress Refusal
+unfoldable pub first_pass : ℕ → ℕ → Progress → List (List ℕ) → Result Progress LineFault
 first_pass size number progress [] = Ok progress
-first_pass size number progress (line ∷ lines) =
-    and_then
-    (λ after. first_pass size (number + 1) after lines)
-    (in_line number (after_line size number progress line))
+first_pass size number progress (line ∷ lines) = do
+  after ← in_line number (after_line size number progress line)
+  first_pass size (number + 1) after lines
 
 -- ---- the second pass
 
+-- the bytes of a statement at an address, or what is wrong with its values there
 abbrev pub emitted : List Label → ℕ → Statement → Result (List ℕ) AsmFault
 emitted labels address statement =
     if misses_label labels statement then Err Missing
-    else (if not (is_in_range labels address statement) then Err Range else Ok (bytes_at labels address statement))
+    else if not (is_in_range labels address statement) then Err Range
+    else Ok (bytes_at labels address statement)
 
 -- the bytes of a line at an address, or its first fault
 unfoldable pub line_bytes : List Label → ℕ → List ℕ → Result (List ℕ) AsmFault
-line_bytes labels address line = and_then (emitted labels address) (statement_of line)
+line_bytes labels address line = statement_of line >>= emitted labels address
 
--- the bytes of the lines from a number and an address on, or the first fault
-unfoldable pub second_pass : List Label → ℕ → ℕ → List (List ℕ) → Result (List ℕ) Refusal
-second_pass labels number address [] = Ok []
-second_pass labels number address (line ∷ lines) =
-    and_then
-    (λ bytes. and_then
-        (λ more. Ok (bytes ++ more))
-        (second_pass labels (number + 1) (address + length bytes) lines))
-    (in_line number (line_bytes labels address line))
+-- the bytes so far with those of the lines from a number on, or the first fault
+unfoldable pub second_pass : List Label → ℕ → List ℕ → List (List ℕ) → Result (List ℕ) LineFault
+second_pass labels number bytes [] = Ok bytes
+second_pass labels number bytes (line ∷ lines) = do
+  more ← in_line number (line_bytes labels (length bytes) line)
+  second_pass labels (number + 1) (bytes ++ more) lines

@@ -1,17 +1,22 @@
 -- The statement of a line: its word, and the operands behind it.
-use Rattle.std.specs.Prelude.{ℕ, ℤ, pos, neg_ℤ, ◌-◌, List, [], ◌∷◌, ◌++◌, Bool, ◌==◌, Option, Some, None, option_map, option_and_then, Result, Ok, Err, ok_or, length, map, take, drop, take_while, nat_eq, codes, if◌then◌else◌}
+use Rattle.std.specs.Prelude.{ℕ, ℤ, pos, neg_ℤ, ◌-◌, List, [], ◌∷◌, ◌++◌, Bool, ◌==◌, Option, Some, None, option_map, option_and_then, find, Result, Ok, Err, ok_or, length, map, take, drop, take_while, nat_eq, codes, if◌then◌else◌}
 use Rattle.std.specs.List.{prefix_len, slice_split, ends_with, before_first, after_first}
 use Rattle.sec_base.specs.declared.memory.Width.{Width}
 use Rattle.rv32_decode.specs.declared.Op.TheVariants.{Lui, Addi}
 use Rattle.rv32_asm.specs.declared.fault.AsmFault.{AsmFault}
 use Rattle.rv32_asm.specs.declared.fault.AsmFault.TheVariants.{Unknown, Operand}
-use Rattle.rv32_asm.specs.Characters.{quotation_mark, left_parenthesis, right_parenthesis, comma, backslash, is_in_words, is_name, skip_blanks, is_empty, trimmed}
+use Rattle.rv32_asm.specs.Characters.{tab, line_feed, digit_0, letter_n, letter_t, quotation_mark, left_parenthesis, right_parenthesis, comma, backslash, is_in_words, is_name, skip_blanks, is_empty, trimmed}
 use Rattle.rv32_asm.specs.Lines.{Outside, has_foreign, statement_text, without_comment}
 use Rattle.rv32_asm.specs.Registers.{register_of}
 use Rattle.rv32_asm.specs.Numbers.{number_of, is_between}
 use Rattle.rv32_asm.specs.Expressions.{Expression, expression_of, number_alone}
-use Rattle.rv32_asm.specs.Statements.{Instruction, instruction, Whole, Upper, Lower, Statement, Instructions, Data, Text, Zeros, Aligned, Nothing}
+use Rattle.rv32_asm.specs.Statements.{Instruction, instruction, Whole, Upper, Lower, Statement, Instructions, Data, Bytes, Zeros, Aligned, Nothing}
 use Rattle.rv32_asm.specs.Keywords.{Slot, Rd, Rs1, Rs2, Value, Place, Keyword, InstructionWord, LiWord, LaWord, DataWord, AsciiWord, AscizWord, SpaceWord, AlignWord, TextWord, GloblWord, keyword_of}
+
+-- one step after another, where each may find another form than its own
+infixl 10 ◌>>=◌
+abbrev pub ◌>>=◌ : {A B : Type 0} → Option A → (A → Option B) → Option B
+o >>= f = option_and_then f o
 
 -- ---- operands
 
@@ -32,12 +37,10 @@ enclosed_register text =
 
 -- a place in memory: an offset, and a register in parentheses
 abbrev pub place_of : List ℕ → Option (Expression × ℕ)
-place_of text =
-    option_and_then
-    (λ offset. option_map
-        (λ base. (offset, base))
-        (enclosed_register (after_first (λ byte. byte == left_parenthesis) text)))
-    (offset_of (trimmed (before_first (λ byte. byte == left_parenthesis) text)))
+place_of text = do
+  offset ← offset_of (trimmed (before_first (λ byte. byte == left_parenthesis) text))
+  base ← enclosed_register (after_first (λ byte. byte == left_parenthesis) text)
+  Some (offset, base)
 
 -- an instruction with the field that an operand gives
 abbrev pub with_operand : Slot → List ℕ → Instruction → Option Instruction
@@ -53,24 +56,30 @@ abbrev pub with_operands : List Slot → List (List ℕ) → Instruction → Opt
 with_operands [] [] i = Some i
 with_operands [] (text ∷ texts) i = None
 with_operands (slot ∷ slots) [] i = None
-with_operands (slot ∷ slots) (text ∷ texts) i = option_and_then (with_operands slots texts) (with_operand slot text i)
+with_operands (slot ∷ slots) (text ∷ texts) i = with_operand slot text i >>= with_operands slots texts
 
 -- each text is an expression
 abbrev pub expressions_of : List (List ℕ) → Option (List Expression)
 expressions_of [] = Some []
-expressions_of (text ∷ texts) =
-    option_and_then (λ value. option_map (λ values. value ∷ values) (expressions_of texts)) (expression_of text)
+expressions_of (text ∷ texts) = do
+  value ← expression_of text
+  values ← expressions_of texts
+  Some (value ∷ values)
 
 -- ---- strings
 
--- what a character stands for behind a backslash
+-- the characters that stand behind a backslash, each with the byte that they mean together
+abbrev pub escapes : List (ℕ × ℕ)
+escapes =
+    (letter_n, line_feed)
+    ∷ (letter_t, tab)
+    ∷ (digit_0, 0)
+    ∷ (backslash, backslash)
+    ∷ (quotation_mark, quotation_mark)
+    ∷ []
+
 abbrev pub escape_of : ℕ → Option ℕ
-escape_of byte =
-    if byte == 110 then Some 10  -- n
-    else (if byte == 116 then Some 9  -- t
-    else (if byte == 48 then Some 0  -- 0
-    else (if (byte == backslash) then Some backslash
-    else (if byte == quotation_mark then Some quotation_mark else None))))
+escape_of byte = option_map (λ escape. escape.1) (find (λ escape. escape.0 == byte) escapes)
 
 -- the bytes of a string whose quotation mark was opened, and which ends the text
 abbrev pub string_after : List ℕ → Option (List ℕ)
@@ -78,9 +87,11 @@ string_after [] = None
 string_after (byte ∷ []) = if byte == quotation_mark then Some [] else None
 string_after (byte ∷ next ∷ bytes) =
     if byte == quotation_mark then None
-    else (if byte == backslash
-    then option_and_then (λ meant. option_map (λ rest. meant ∷ rest) (string_after bytes)) (escape_of next)
-    else option_map (λ rest. byte ∷ rest) (string_after (next ∷ bytes)))
+    else if byte == backslash then (do
+      meant ← escape_of next
+      rest ← string_after bytes
+      Some (meant ∷ rest))
+    else option_map (λ rest. byte ∷ rest) (string_after (next ∷ bytes))
 
 -- the bytes of a string in quotation marks
 unfoldable pub string_of : List ℕ → Option (List ℕ)
@@ -103,19 +114,23 @@ loaded rd number =
     else pair rd (number_alone number)
 
 abbrev pub li_of : List (List ℕ) → Option Statement
-li_of (register ∷ number ∷ []) =
-    option_and_then (λ rd. option_map (λ n. Instructions (loaded rd n)) (number_of number)) (register_of register)
+li_of (register ∷ number ∷ []) = do
+  rd ← register_of register
+  n ← number_of number
+  Some (Instructions (loaded rd n))
 li_of _ = None
 
 abbrev pub la_of : List (List ℕ) → Option Statement
-la_of (register ∷ value ∷ []) =
-    option_and_then (λ rd. option_map (λ e. Instructions (pair rd e)) (expression_of value)) (register_of register)
+la_of (register ∷ value ∷ []) = do
+  rd ← register_of register
+  e ← expression_of value
+  Some (Instructions (pair rd e))
 la_of _ = None
 
 -- one or more values
 abbrev pub data_of : Width → List (List ℕ) → Option Statement
 data_of width [] = None
-data_of width (text ∷ texts) = option_map (Data width) (expressions_of (text ∷ texts))
+data_of width texts = option_map (Data width) (expressions_of texts)
 
 abbrev pub globl_of : List ℕ → Option Statement
 globl_of text = if is_name text then Some Nothing else None
@@ -127,21 +142,25 @@ statement_with (InstructionWord slots i) text =
 statement_with LiWord text = li_of (operands_of text)
 statement_with LaWord text = la_of (operands_of text)
 statement_with (DataWord width) text = data_of width (operands_of text)
-statement_with AsciiWord text = option_map Text (string_of text)
-statement_with AscizWord text = option_map (λ bytes. Text (bytes ++ 0 ∷ [])) (string_of text)
+statement_with AsciiWord text = option_map Bytes (string_of text)
+statement_with AscizWord text = option_map (λ bytes. Bytes (bytes ++ 0 ∷ [])) (string_of text)
 statement_with SpaceWord text = option_map Zeros (number_of text)
 statement_with AlignWord text = option_map Aligned (number_of text)
 statement_with TextWord text = if is_empty text then Some Nothing else None
 statement_with GloblWord text = globl_of text
 
+-- the statement of a word, if it is one, with the text behind it
+abbrev pub statement_from : Option Keyword → List ℕ → Result Statement AsmFault
+statement_from None text = Err Unknown
+statement_from (Some keyword) text = ok_or (statement_with keyword text) Operand
+
 -- the statement that a text is, which begins with its word
 abbrev pub statement_in : List ℕ → Result Statement AsmFault
 statement_in [] = Ok Nothing
 statement_in (byte ∷ bytes) = let text = byte ∷ bytes in
-    elim (keyword_of (take_while is_in_words text)) [
-        None ↦ Err Unknown
-        | Some keyword ↦ ok_or (statement_with keyword (skip_blanks (drop (prefix_len is_in_words text) text))) Operand
-    ]
+    statement_from
+    (keyword_of (take_while is_in_words text))
+    (skip_blanks (drop (prefix_len is_in_words text) text))
 
 -- the statement of a line, or what is wrong with it: a byte above 7f outside strings and comments, or a word that
 -- begins no statement, and then operands of another number or form

@@ -29,7 +29,7 @@ pub data Statement : Type 0 where
   -- a number of this width for each value
   Data : Width → List Expression → Statement
   -- these bytes
-  Text : List ℕ → Statement
+  Bytes : List ℕ → Statement
   -- so many zeros
   Zeros : ℤ → Statement
   -- zeros up to a multiple of so many bytes

@@ -10,7 +10,6 @@ ghost use Rattle.rv32_asm.specs.declared.fault.AsmError.TheVariants.{Fault};
 mod fault;
 
 pub use fault::{AsmError, AsmFault};
-
 use sec_base::Image;
 use std::alloc::Global;
 
