@@ -20,7 +20,8 @@ abbrev pub with_sum : List ℕ → List ℕ → Option Expression
 with_sum name [] = Some (from_label name (pos 0))
 with_sum name (sign ∷ rest) =
     if sign == plus then option_map (from_label name) (number_of (skip_blanks rest))
-    else if sign == minus then option_map (λ n. from_label name (neg_ℤ n)) (number_of (skip_blanks rest)) else None
+    else if sign == minus then option_map (λ n. from_label name (neg_ℤ n)) (number_of (skip_blanks rest))
+    else None
 
 -- the expression that a text without blanks at its ends is
 unfoldable pub expression_of : List ℕ → Option Expression

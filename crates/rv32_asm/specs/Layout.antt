@@ -1,5 +1,5 @@
 -- Where statements may stand, and how many bytes they take there.
-use Rattle.std.specs.Prelude.{ℕ, ◌+◌, ◌-◌, ◌*◌, ◌%◌, ◌^◌, ℤ, pos, negsuc, List, Bool, false, not, ◌==◌, ◌||◌, length, nat_le, nat_lt, unsigned_abs}
+use Rattle.std.specs.Prelude.{ℕ, ◌-◌, ◌*◌, ◌%◌, ◌^◌, ℤ, pos, negsuc, Bool, false, not, ◌==◌, length, nat_le, unsigned_abs}
 use Rattle.std.specs.List.{list_any, range_with_len}
 use Rattle.sec_base.specs.Width.{width_bytes}
 use Rattle.rv32_asm.specs.Statements.{Statement, Instructions, Data, Bytes, Zeros, Aligned, Nothing}

@@ -1,5 +1,5 @@
 -- An assembly text cut into lines, and a line into its labels and its statement.
-use Rattle.std.specs.Prelude.{ℕ, List, [], ◌∷◌, ◌++◌, Bool, true, false, not, ◌&&◌, ◌||◌, ◌==◌, nat_lt, nat_eq, drop, if◌then◌else◌}
+use Rattle.std.specs.Prelude.{ℕ, List, [], ◌∷◌, Bool, true, false, ◌&&◌, ◌||◌, ◌==◌, nat_lt, nat_eq, if◌then◌else◌}
 use Rattle.std.specs.List.{onto_first, slice_split, starts_with, join_with_byte}
 use Rattle.rv32_asm.specs.Characters.{line_feed, carriage_return, quotation_mark, hash, colon, backslash, is_name, skip_blanks, trimmed}
 

@@ -1,5 +1,5 @@
 -- The values of expressions, and of the immediates that stand for them.
-use Rattle.std.specs.Prelude.{ℕ, ◌+◌, ◌-◌, ◌/◌, ◌%◌, ◌^◌, ℤ, pos, ◌+ℤ◌, List, Bool, false, not, Option, None, Some, option_map, unwrap_or, unsigned_abs}
+use Rattle.std.specs.Prelude.{ℕ, ◌+◌, ◌%◌, ◌^◌, ℤ, pos, ◌+ℤ◌, List, Bool, false, not, Option, None, Some, option_map, unwrap_or, unsigned_abs}
 use Rattle.std.specs.Int.{int_rem_euclid}
 use Rattle.rv32_decode.specs.Table.{field, signed}
 use Rattle.rv32_asm.specs.Expressions.{Expression}
@@ -26,7 +26,8 @@ value_of labels value = pos (address_of labels value.label) +ℤ value.number
 abbrev pub modulo : ℕ → ℤ → ℕ
 modulo count value = unsigned_abs (int_rem_euclid value (pos (2 ^ count)))
 
--- the parts of a word: the upper twenty bits, rounded to the nearest, and the lower twelve, which can be negative
+-- The two parts that make a word, modulo 2^32: a multiple of 4096, here its upper twenty bits, and the lower twelve bits
+-- as a number with a sign.
 abbrev pub upper_part : ℕ → ℕ
 upper_part word = field (word + 2048) 12 20
 
