@@ -4,6 +4,7 @@
 ghost use Rattle.std.specs.Prelude.{ℕ, IfOk, Err, length, ◌≡◌, ◌<◌, ◌^◌};
 ghost use Rattle.sec_base.specs.Layout.{IsMemorySize};
 ghost use Rattle.rv32_asm.specs.Assembly.{IsAssembled, program_of};
+ghost use Rattle.rv32_asm.specs.Law.{TextsAreWords};
 ghost use Rattle.rv32_asm.specs.declared.fault.AsmFault.{AsmFault};
 ghost use Rattle.rv32_asm.specs.declared.fault.AsmError.TheVariants.{Fault};
 
@@ -26,3 +27,9 @@ pub fn assemble(alloc: Global, text: &[u8], size: u32) -> Result<Image, AsmError
 {
     Err(AsmError::NoMemory)
 }
+
+/// Where a line is the text of a word at the line's own address, the word is read back. It does nothing: its contract
+/// is a theorem over all words and the places where they can stand.
+pub fn texts_are_words()
+    ensures { (size : ℕ) → TextsAreWords size }
+{}

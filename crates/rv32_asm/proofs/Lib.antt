@@ -1,0 +1,4 @@
+pub mod Keywords
+pub mod Lines
+pub mod Operands
+pub mod Registers

@@ -1,0 +1,8 @@
+use Rattle.rv32_asm.proofs.texts_are_words.Goals as goal
+use Rattle.rv32_asm.proofs.Keywords.{keyword_read}
+use Rattle.rv32_asm.proofs.Registers.{register_read}
+use Rattle.rv32_asm.proofs.Operands.{operands_read}
+use Rattle.rv32_asm.proofs.Lines.{plain_labels}
+
+pub returns : goal.returns
+returns c = ?
