@@ -50,7 +50,7 @@ end_solid (byte ∷ bytes) all =
     let parts = and_parts (is_solid byte) (list_all is_solid bytes) all in
     rw ((solid_parts byte parts.0).blank, end_solid bytes parts.1) refl
 
-append_full : (front back : List ℕ) → is_empty back ≡ false → is_empty (front ++ back) ≡ false
+pub append_full : (front back : List ℕ) → is_empty back ≡ false → is_empty (front ++ back) ≡ false
 append_full [] back full = full
 append_full (byte ∷ bytes) back full = refl
 
@@ -67,7 +67,7 @@ operand_full : (text : List ℕ) → is_operand text ≡ true → is_empty text 
 operand_full [] operand = cc
 operand_full (byte ∷ bytes) operand = refl
 
-operand_solid : (text : List ℕ) → is_operand text ≡ true → list_all is_solid text ≡ true
+pub operand_solid : (text : List ℕ) → is_operand text ≡ true → list_all is_solid text ≡ true
 operand_solid [] operand = cc
 operand_solid (byte ∷ bytes) operand = operand
 
@@ -89,7 +89,7 @@ further_end first (other ∷ others) operand all =
     let behind = end_behind (44 ∷ 32 ∷ []) (other ++ further others) full rest in
     end_behind first (further (other ∷ others)) refl behind
 
-trimmed_solid : (text : List ℕ) → is_operand text ≡ true → trimmed text ≡ text
+pub trimmed_solid : (text : List ℕ) → is_operand text ≡ true → trimmed text ≡ text
 unfolding trimmed
 trimmed_solid text operand =
     let skipped : skip_blanks text ≡ text = simp append-nil at (skip_solid text [] operand) in
