@@ -1,5 +1,5 @@
 -- The words of the table's rows are read back.
-use Rattle.std.proofs.Common.{◌≡◌, ℕ, ◌&&◌, Bool, true, false, not, Some, List, refl}
+use Rattle.std.proofs.Common.{◌≡◌, ℕ, ◌&&◌, Bool, true, false, not, Some, List, [], ◌∷◌, refl}
 use Rattle.std.specs.List.{list_all}
 use Rattle.rv32_decode.specs.Table.{number_of, row_for, rows}
 use Rattle.rv32_decode.specs.declared.Op.{Op}
@@ -65,9 +65,12 @@ keyword_read FenceI = refl
 keyword_read Ecall = refl
 keyword_read Ebreak = refl
 
--- a word of the table is not empty, and has no byte that ends it
+abbrev pub begins_solid : List ℕ → Bool
+begins_solid [] = false
+begins_solid (byte ∷ bytes) = not (is_blank byte)
+
 abbrev pub is_word : List ℕ → Bool
-is_word name = not (is_empty name) && (list_all is_in_words name && list_all is_plain name)
+is_word name = begins_solid name && (list_all is_in_words name && list_all is_plain name)
 
 pub name_is_word : (op : Op) → is_word (mnemonic_of op).name ≡ true
 unfolding mnemonic_of

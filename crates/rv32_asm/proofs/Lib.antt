@@ -1,4 +1,7 @@
 pub mod Keywords
 pub mod Lines
+pub mod Numbers
 pub mod Operands
 pub mod Registers
+pub mod Statements
+pub mod Styles

@@ -1,4 +1,7 @@
 use Rattle.rv32_asm.proofs.texts_are_words.Goals as goal
+use Rattle.rv32_asm.proofs.Numbers.{signed_read}
+use Rattle.rv32_asm.proofs.Statements.{statement_read}
+use Rattle.rv32_asm.proofs.Styles.{registers_read}
 use Rattle.rv32_asm.proofs.Keywords.{keyword_read}
 use Rattle.rv32_asm.proofs.Registers.{register_read}
 use Rattle.rv32_asm.proofs.Operands.{operands_read}
