@@ -1,7 +1,9 @@
+pub mod Immediates
 pub mod Keywords
 pub mod Lines
 pub mod Numbers
 pub mod Operands
+pub mod Readings
 pub mod Registers
 pub mod Statements
 pub mod Styles
