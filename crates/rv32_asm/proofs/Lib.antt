@@ -6,4 +6,5 @@ pub mod Operands
 pub mod Readings
 pub mod Registers
 pub mod Statements
+pub mod Styled
 pub mod Styles

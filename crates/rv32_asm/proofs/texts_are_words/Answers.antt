@@ -3,6 +3,7 @@ use Rattle.rv32_asm.proofs.Numbers.{signed_read}
 use Rattle.rv32_asm.proofs.Statements.{statement_read}
 use Rattle.rv32_asm.proofs.Immediates.{value_alone}
 use Rattle.rv32_asm.proofs.Readings.{data_plain}
+use Rattle.rv32_asm.proofs.Styled.{styled}
 use Rattle.rv32_asm.proofs.Styles.{registers_read}
 use Rattle.rv32_asm.proofs.Keywords.{keyword_read}
 use Rattle.rv32_asm.proofs.Registers.{register_read}
