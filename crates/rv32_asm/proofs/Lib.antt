@@ -1,5 +1,7 @@
+pub mod Alone
 pub mod Immediates
 pub mod Keywords
+pub mod Law
 pub mod Lines
 pub mod Numbers
 pub mod Operands

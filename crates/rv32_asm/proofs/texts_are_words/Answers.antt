@@ -1,14 +1,5 @@
+use Rattle.rv32_asm.proofs.Law.{word_back}
 use Rattle.rv32_asm.proofs.texts_are_words.Goals as goal
-use Rattle.rv32_asm.proofs.Numbers.{signed_read}
-use Rattle.rv32_asm.proofs.Statements.{statement_read}
-use Rattle.rv32_asm.proofs.Immediates.{value_alone}
-use Rattle.rv32_asm.proofs.Readings.{data_plain}
-use Rattle.rv32_asm.proofs.Styled.{styled}
-use Rattle.rv32_asm.proofs.Styles.{registers_read}
-use Rattle.rv32_asm.proofs.Keywords.{keyword_read}
-use Rattle.rv32_asm.proofs.Registers.{register_read}
-use Rattle.rv32_asm.proofs.Operands.{operands_read}
-use Rattle.rv32_asm.proofs.Lines.{plain_labels}
 
 pub returns : goal.returns
-returns c = ?
+returns c = λ size short word address below aligned inside. word_back size word address below aligned inside short
