@@ -1,5 +1,5 @@
 -- The four words whose texts are a name alone.
-use Rattle.std.proofs.Common.{◌≡◌, ℕ, ◌+◌, ◌%◌, ◌≤◌, ◌==◌, ◌||◌, pos, Bool, true, false, not, List, [], ◌∷◌, Ok, codes, refl}
+use Rattle.std.proofs.Common.{◌≡◌, ℕ, ◌+◌, ◌%◌, ◌≤◌, ◌==◌, ◌||◌, pos, Bool, true, false, not, [], ◌∷◌, Ok, codes, refl}
 use Rattle.rv32_decode.specs.Table.{instruction_of, number_of, placed, read, row_for, row_of, rows, word_of}
 use Rattle.rv32_decode.specs.declared.Op.{Op}
 use Rattle.rv32_decode.specs.declared.Op.TheVariants.{Lui, Auipc, Jal, Jalr, Beq, Bne, Blt, Bge, Bltu, Bgeu, Lb, Lh, Lw, Lbu, Lhu, Sb, Sh, Sw, Addi, Slti, Sltiu, Xori, Ori, Andi, Slli, Srli, Srai, Add, Sub, Sll, Slt, Sltu, Xor, Srl, Sra, Or, And, Mul, Mulh, Mulhsu, Mulhu, Div, Divu, Rem, Remu, Fence, FenceI, Ecall, Ebreak}
@@ -133,4 +133,3 @@ module _ (size address : ℕ) (aligned : address % 4 ≡ 0) (inside : address + 
       read_back size 0x00100073 address (codes "ebreak") (Instructions (instruction Ebreak 0 0 0 (pos 0) ∷ [])) ebreak_text
       (plain_labels (codes "ebreak") refl) ebreak_means inside
       (instruction_is 0x00100073 address Ebreak 0 0 0 (pos 0) aligned refl refl)
-

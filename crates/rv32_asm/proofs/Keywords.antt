@@ -9,7 +9,7 @@ use Rattle.rv32_decode.specs.declared.table.Format.TheVariants.{R, I, S, B, U, J
 use Rattle.rv32_text.specs.Text.{mnemonic_of}
 use Rattle.rv32_text.specs.declared.names.Style.{Style}
 use Rattle.rv32_text.specs.declared.names.Style.TheVariants.{Registers, Immediate, Offset, Store, Upper, Branch, Jump, Fence as FenceStyle, Bare}
-use Rattle.rv32_asm.specs.Characters.{is_in_words, is_empty, is_blank}
+use Rattle.rv32_asm.specs.Characters.{is_in_words, is_blank}
 use Rattle.rv32_asm.specs.Keywords.{keyword_of, keywords, other_words, row_keyword, row_words, shorthands}
 use Rattle.rv32_asm.proofs.Lines.{is_plain}
 

@@ -1,9 +1,8 @@
 -- Each text of a word is read back as the word.
-use Rattle.std.proofs.Common.{◌≡◌, ℕ, ◌+◌, ◌%◌, ◌^◌, ◌<◌, ◌≤◌, ◌==◌, ◌||◌, Bool, true, false, not, List, [], ◌∷◌, Option, Some, None, if◌then◌else◌, refl, ap, sym, subst, ◌∙◌, inl, inr, ◌⊎◌, arith}
+use Rattle.std.proofs.Common.{◌≡◌, ℕ, ◌+◌, ◌%◌, ◌^◌, ◌<◌, ◌≤◌, ◌==◌, ◌||◌, Bool, true, false, List, [], ◌∷◌, Option, Some, None, if◌then◌else◌, refl, ap, sym, subst, ◌∙◌, inl, inr, ◌⊎◌, arith}
 use Rattle.std.proofs.lemmas.Bool.{cases_Bool, cases_eq, eqb-true, ne_eqb, or_cases}
-use Rattle.std.specs.List.{list_all}
 use Rattle.rv32_decode.proofs.Both.{instruction_fields, instruction_word}
-use Rattle.rv32_decode.specs.Table.{FitsFormat, IsInst, instruction_of, placed, row_for, word_of}
+use Rattle.rv32_decode.specs.Table.{instruction_of, placed, row_for, word_of}
 use Rattle.rv32_decode.specs.declared.Inst.{Inst}
 use Rattle.rv32_decode.specs.declared.table.Format.{Format}
 use Rattle.rv32_decode.specs.declared.table.Format.TheVariants.{N}
@@ -11,7 +10,6 @@ use Rattle.rv32_text.specs.Text.{data_text, is_unnamed_fence, mnemonic_of, opera
 use Rattle.rv32_text.specs.declared.names.Style.{Style}
 use Rattle.rv32_text.specs.declared.names.Style.TheVariants.{Registers, Immediate, Offset, Store, Upper, Branch, Jump, Fence, Bare}
 use Rattle.sec_base.specs.declared.memory.Width.TheVariants.{Four}
-use Rattle.rv32_asm.specs.Encoding.{immediate_of}
 use Rattle.rv32_asm.specs.Expressions.{number_alone}
 use Rattle.rv32_asm.specs.Keywords.{immediate_without_operands}
 use Rattle.rv32_asm.specs.Law.{IsReadBack}
@@ -20,7 +18,7 @@ use Rattle.std.proofs.Common.{pos}
 use Rattle.rv32_asm.proofs.Alone.{bare_pattern, ebreak_back, ecall_back, fence_back, fence_i_back, is_bare}
 use Rattle.rv32_asm.proofs.Keywords.{has_format, keyword_read, name_is_word, style_format}
 use Rattle.rv32_asm.proofs.Lines.{plain_labels}
-use Rattle.rv32_asm.proofs.Readings.{data_is, data_line, data_plain, instruction_is, made, read_back}
+use Rattle.rv32_asm.proofs.Readings.{data_is, data_line, data_plain, instruction_is, read_back}
 use Rattle.rv32_asm.proofs.Styled.{is_spoken, styled}
 
 abbrev is_fence : Style → Bool
@@ -75,7 +73,7 @@ module _ (size word address : ℕ) (below : word < 2 ^ 32) (aligned : address % 
         = text_found ∙ spoken_text s (word_of i) (data_text (word_of i)) text spoken in
         let high : address ≤ 2 ^ 32 = omega arith in
         let read = styled i address name (name_is_word i.op) (immediate_without_operands i.op) fields.rd fields.rs1 fields.rs2 high
-            s (row_for i.op).format spoken (style_format i.op) fields.format (keyword_read i.op) in
+        s (row_for i.op).format spoken (style_format i.op) fields.format (keyword_read i.op) in
         read_back size word address text (Instructions (instruction i.op read.rd read.rs1 read.rs2 read.value ∷ [])) same
         (plain_labels text read.plain) read.means inside
         (instruction_is word address i.op read.rd read.rs1 read.rs2 read.value aligned read.fits

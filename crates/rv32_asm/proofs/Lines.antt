@@ -1,5 +1,5 @@
 -- A line without labels, comments and strings is its statement's text.
-use Rattle.std.proofs.Common.{◌≡◌, ℕ, ◌≤◌, ◌&&◌, ◌==◌, Bool, true, false, not, List, [], ◌∷◌, refl, ap, ◌∙◌, arith, nat_lt}
+use Rattle.std.proofs.Common.{◌≡◌, ℕ, ◌&&◌, ◌==◌, Bool, true, false, not, List, [], ◌∷◌, refl, arith, nat_lt}
 use Rattle.std.proofs.lemmas.Bool.{and_parts, le-ltb, ltb-true, not-true}
 use Rattle.std.specs.List.{list_all, slice_split}
 use Rattle.rv32_asm.specs.Characters.{trimmed}

@@ -1,5 +1,5 @@
 -- What a text's statement says of its line in the two passes.
-use Rattle.std.proofs.Common.{◌≡◌, ℕ, ◌+◌, ◌*◌, ◌%◌, ◌^◌, ◌<◌, ◌≤◌, ◌==◌, ◌&&◌, ℤ, pos, neg_ℤ, Bool, true, false, not, List, [], ◌∷◌, ◌++◌, Some, Ok, codes, refl, ap, sym, ◌∙◌, arith}
+use Rattle.std.proofs.Common.{◌≡◌, ℕ, ◌+◌, ◌%◌, ◌^◌, ◌<◌, ◌≤◌, ◌&&◌, ℤ, pos, true, false, List, [], ◌∷◌, ◌++◌, Some, Ok, codes, refl, ap, ◌∙◌, arith}
 use Rattle.std.proofs.lemmas.Bool.{and_from, eq-eqb, le-leb, le-ltb}
 use Rattle.std.proofs.lemmas.List.{append-nil}
 use Rattle.std.specs.Int.{to_le_bytes, w32}
@@ -19,12 +19,12 @@ use Rattle.rv32_asm.specs.Lines.{labels_of}
 use Rattle.rv32_asm.specs.Passes.{Progress, after_line, line_bytes}
 use Rattle.rv32_asm.specs.Reading.{statement_of, statement_with, with_operands}
 use Rattle.rv32_asm.specs.Statements.{Data, Instruction, Instructions, Statement, instruction}
-use Rattle.rv32_asm.specs.Values.{immediate_value, modulo, value_of}
+use Rattle.rv32_asm.specs.Values.{immediate_value, modulo}
 use Rattle.rv32_decode.specs.Table.{rows}
 use Rattle.rv32_text.specs.Text.{mnemonic_of}
 use Rattle.rv32_asm.proofs.Immediates.{value_alone}
 use Rattle.rv32_asm.proofs.Keywords.{is_word}
-use Rattle.rv32_asm.proofs.Lines.{is_plain, plain_labels}
+use Rattle.rv32_asm.proofs.Lines.{is_plain}
 use Rattle.rv32_asm.proofs.Numbers.{hex8_operand, hex8_read}
 use Rattle.rv32_asm.proofs.Operands.{is_operand, operands_read}
 use Rattle.rv32_asm.proofs.Statements.{line_plain, statement_read}

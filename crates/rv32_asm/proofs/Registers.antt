@@ -1,6 +1,6 @@
 -- The names of registers are read back, alone and in parentheses.
-use Rattle.std.proofs.Common.{◌≡◌, ℕ, ◌<◌, ◌&&◌, ◌==◌, ◌++◌, Bool, true, false, Option, Some, None, List, refl, ap, cond}
-use Rattle.std.proofs.lemmas.Bool.{agree_below_at, and_parts, eqb-true}
+use Rattle.std.proofs.Common.{◌≡◌, ℕ, ◌<◌, ◌==◌, ◌++◌, Bool, true, false, Option, Some, None, refl, ap}
+use Rattle.std.proofs.lemmas.Bool.{agree_below_at, eqb-true}
 use Rattle.std.specs.Prelude.{codes}
 use Rattle.rv32_text.specs.Text.{register_name, register_names}
 use Rattle.rv32_asm.specs.Registers.{register_of}

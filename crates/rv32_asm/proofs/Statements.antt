@@ -1,17 +1,15 @@
 -- The statement of a line that is a word of the table with its operands.
-use Rattle.std.proofs.Common.{◌≡◌, ℕ, ◌+◌, ◌==◌, ◌&&◌, Bool, true, false, not, List, [], ◌∷◌, ◌++◌, Option, Some, Result, Ok, Err, if◌then◌else◌, length, take, drop, ok_or, take_while, refl, ap, ◌∙◌, arith}
+use Rattle.std.proofs.Common.{◌≡◌, ℕ, ◌&&◌, Bool, true, false, List, [], ◌∷◌, ◌++◌, Some, Err, if◌then◌else◌, length, drop, ok_or, take_while, refl, ap, ◌∙◌, arith}
 use Rattle.std.proofs.Math.Seq.{take-append_seam, drop-append_seam}
 use Rattle.std.proofs.lemmas.Bool.{and_from, and_parts, not-true}
 use Rattle.std.proofs.lemmas.List.Folds.{list_all-append}
 use Rattle.std.specs.List.{list_all, prefix_len}
 use Rattle.rv32_text.specs.Text.{further, statement}
-use Rattle.rv32_asm.specs.declared.fault.AsmFault.{AsmFault}
 use Rattle.rv32_asm.specs.declared.fault.AsmFault.TheVariants.{Operand, Unknown}
 use Rattle.rv32_asm.specs.Characters.{drop_end_blanks, is_blank, is_empty, is_in_words, skip_blanks, trimmed}
 use Rattle.rv32_asm.specs.Lines.{Outside, has_foreign, statement_text, without_comment}
 use Rattle.rv32_asm.specs.Keywords.{Keyword, keyword_of}
 use Rattle.rv32_asm.specs.Reading.{statement_from, statement_in, statement_of, statement_with}
-use Rattle.rv32_asm.specs.Statements.{Statement}
 use Rattle.rv32_asm.proofs.Keywords.{begins_solid, is_word}
 use Rattle.rv32_asm.proofs.Lines.{is_plain, plain_foreign, plain_statement}
 use Rattle.rv32_asm.proofs.Operands.{append_full, end_behind, further_end, further_full, is_operand, operand_solid, skip_solid, solid_plain}
@@ -54,7 +52,7 @@ further_plain first (other ∷ others) operand all =
     let rest = further_plain other others parts.0 parts.1 in
     list_all-append is_plain first (further (other ∷ others))
     ∙ and_from (list_all is_plain first) (list_all is_plain (other ++ further others))
-      (solid_plain first (operand_solid first operand)) rest
+    (solid_plain first (operand_solid first operand)) rest
 
 -- ---- blanks at the ends
 
@@ -87,7 +85,7 @@ module _ (name first : List ℕ) (others : List (List ℕ)) (keyword : Keyword) 
   line_plain =
       list_all-append is_plain name (32 ∷ (first ++ further others))
       ∙ and_from (list_all is_plain name) (list_all is_plain (32 ∷ (first ++ further others)))
-        ((word_parts name word).plain) (further_plain first others operand all)
+      ((word_parts name word).plain) (further_plain first others operand all)
 
   line_trimmed : trimmed (statement name (first ∷ others)) ≡ statement name (first ∷ others)
   unfolding trimmed
@@ -106,7 +104,7 @@ module _ (name first : List ℕ) (others : List (List ℕ)) (keyword : Keyword) 
       let words = (word_parts name word).words in
       full_statement line (append_full name (32 ∷ text) refl)
       ∙ from_parts keyword name text (take_while is_in_words line) (drop (prefix_len is_in_words line) line)
-        (word_taken name text words) found (word_dropped name text words) (skip_solid first (further others) operand)
+      (word_taken name text words) found (word_dropped name text words) (skip_solid first (further others) operand)
 
   pub statement_read : statement_of (statement name (first ∷ others))
       ≡ ok_or (statement_with keyword (first ++ further others)) Operand

@@ -1,15 +1,13 @@
 -- The texts of instructions are read back, by the style of their operands.
-use Rattle.std.proofs.Common.{◌≡◌, ℕ, ◌+◌, ◌*◌, ◌/◌, ◌%◌, ◌^◌, ◌<◌, ◌≤◌, ◌==◌, ◌&&◌, ℤ, pos, negsuc, neg_ℤ, ◌≤ℤ◌, Bool, true, false, List, [], ◌∷◌, ◌++◌, Some, Ok, codes, refl, ap, ◌∙◌, sym, arith}
+use Rattle.std.proofs.Common.{◌≡◌, ℕ, ◌*◌, ◌^◌, ◌<◌, ◌≤◌, ◌&&◌, ℤ, pos, negsuc, ◌≤ℤ◌, Bool, true, false, List, [], ◌∷◌, ◌++◌, Some, Ok, codes, refl, sym, arith}
 use Rattle.std.proofs.lemmas.Bool.{and_from}
 use Rattle.std.proofs.lemmas.Int.{ints}
 use Rattle.std.specs.Fmt.{digits, signed_decimal}
-use Rattle.std.specs.Int.{cast_unsigned, w32}
 use Rattle.std.specs.List.{list_all}
 use Rattle.rv32_decode.specs.Table.{FitsFormat, imm_bits, signed}
 use Rattle.rv32_decode.specs.declared.Inst.{Inst}
-use Rattle.rv32_decode.specs.declared.Op.{Op}
 use Rattle.rv32_decode.specs.declared.table.Format.{Format}
-use Rattle.rv32_decode.specs.declared.table.Format.TheVariants.{R, I, S, B, U, J, H, N}
+use Rattle.rv32_decode.specs.declared.table.Format.TheVariants.{R, I, S, B, U, J, H}
 use Rattle.rv32_text.specs.Text.{hex8, operands_of, register_name, place_text, statement, target_of, target_text, upper_text}
 use Rattle.rv32_text.specs.declared.names.Style.{Style}
 use Rattle.rv32_text.specs.declared.names.Style.TheVariants.{Registers, Immediate, Offset, Store, Upper, Branch, Jump, Fence, Bare}
@@ -18,7 +16,7 @@ use Rattle.rv32_asm.specs.Keywords.{InstructionWord, Slot, keyword_of, slots_of}
 use Rattle.rv32_asm.specs.Numbers.{is_between}
 use Rattle.rv32_asm.specs.Reading.{statement_of, with_operands}
 use Rattle.rv32_asm.specs.Statements.{Instructions, instruction}
-use Rattle.rv32_asm.proofs.Immediates.{between_true, distance_target, even_true, signed_word, upper_word, word_below}
+use Rattle.rv32_asm.proofs.Immediates.{between_true, distance_target, even_true, upper_word}
 use Rattle.rv32_asm.proofs.Keywords.{has_format, is_word}
 use Rattle.rv32_asm.proofs.Lines.{is_plain}
 use Rattle.rv32_asm.proofs.Numbers.{digits_operand, hex8_operand, signed_operand}

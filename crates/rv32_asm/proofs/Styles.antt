@@ -1,20 +1,20 @@
 -- The operands of each style are read back.
-use Rattle.std.proofs.Common.{◌≡◌, ℕ, ◌+◌, ◌<◌, ◌^◌, ◌==◌, ◌&&◌, ℤ, pos, negsuc, ◌≤ℤ◌, Bool, true, false, not, List, [], ◌∷◌, ◌++◌, Option, Some, length, take, drop, codes, option_and_then, refl, ap, ◌∙◌, arith}
+use Rattle.std.proofs.Common.{◌≡◌, ℕ, ◌<◌, ◌^◌, ◌==◌, ℤ, pos, negsuc, ◌≤ℤ◌, true, false, not, List, [], ◌∷◌, ◌++◌, Option, Some, length, codes, option_and_then, refl, ap, ◌∙◌, arith}
 use Rattle.std.proofs.Math.Seq.{take-append_seam, drop-append-add}
-use Rattle.std.proofs.lemmas.Bool.{and_from, and_parts, not-true}
+use Rattle.std.proofs.lemmas.Bool.{and_from, and_parts}
 use Rattle.std.proofs.lemmas.List.Folds.{list_all-append}
 use Rattle.std.specs.Fmt.{digits, signed_decimal}
 use Rattle.std.specs.List.{after_first, before_first, list_all, position_or_len}
 use Rattle.rv32_decode.specs.declared.Op.{Op}
 use Rattle.rv32_text.specs.Text.{hex8, register_name}
 use Rattle.rv32_text.specs.declared.names.Style.TheVariants.{Registers, Immediate, Offset, Store, Upper, Branch, Jump}
-use Rattle.rv32_asm.specs.Characters.{is_empty, trimmed}
+use Rattle.rv32_asm.specs.Characters.{trimmed}
 use Rattle.rv32_asm.specs.Expressions.{Expression, expression_of, number_alone}
 use Rattle.rv32_asm.specs.Keywords.{slots_of}
 use Rattle.rv32_asm.specs.Reading.{enclosed_register, offset_of, place_of, with_operands}
-use Rattle.rv32_asm.specs.Statements.{Instruction, instruction}
+use Rattle.rv32_asm.specs.Statements.{instruction}
 use Rattle.rv32_asm.proofs.Numbers.{digits_read, hex8_read, is_figure, signed_figures, signed_operand, signed_read}
-use Rattle.rv32_asm.proofs.Operands.{is_operand, is_solid, trimmed_solid, operand_solid}
+use Rattle.rv32_asm.proofs.Operands.{is_operand, is_solid, trimmed_solid}
 use Rattle.rv32_asm.proofs.Registers.{base_operand, base_read, register_read}
 
 -- ---- places in memory
@@ -54,7 +54,7 @@ place_parts front back offset base all operand e f =
     let text = front ++ 40 ∷ back in
     let before : offset_of (trimmed (before_first (λ byte. byte == 40) text)) ≡ Some offset
     = ap (λ t. offset_of (trimmed t)) (before_open front back all)
-      ∙ (ap offset_of (trimmed_solid front operand) ∙ (offset_full front operand ∙ e)) in
+    ∙ (ap offset_of (trimmed_solid front operand) ∙ (offset_full front operand ∙ e)) in
     let after : enclosed_register (after_first (λ byte. byte == 40) text) ≡ Some base
     = ap enclosed_register (after_open front back all) ∙ f in
     joined_is (offset_of (trimmed (before_first (λ byte. byte == 40) text)))

@@ -29,7 +29,7 @@ pub fn assemble(alloc: Global, text: &[u8], size: u32) -> Result<Image, AsmError
 }
 
 /// Where a line is the text of a word at the line's own address, the word is read back. It does nothing: its contract
-/// is a theorem over all words and the places where they can stand.
+/// is a theorem over all words and the places where they can stand in a memory that 32 bits address.
 pub fn texts_are_words()
     ensures { (size : ℕ) → size ≤ 2 ^ 32 → TextsAreWords size }
 {}
