@@ -1,6 +1,8 @@
 -- An assembly text cut into lines, and a line into its labels and its statement.
 use Rattle.std.specs.Prelude.{ℕ, List, [], ◌∷◌, Bool, true, false, ◌&&◌, ◌||◌, ◌==◌, nat_lt, nat_eq, if◌then◌else◌}
 use Rattle.std.specs.List.{onto_first, slice_split, starts_with, join_with_byte}
+use Rattle.rv32_asm.specs.declared.lines.Standing.{Standing}
+use Rattle.rv32_asm.specs.declared.lines.Standing.TheVariants.{Outside, Inside, Escaped}
 use Rattle.rv32_asm.specs.Characters.{line_feed, carriage_return, quotation_mark, hash, colon, backslash, is_name, skip_blanks, trimmed}
 
 -- the lines of a text: each ends with a line feed, and a carriage return just before that is no part of it
@@ -11,13 +13,7 @@ lines_of (byte ∷ bytes) =
     else if (byte == carriage_return) && starts_with nat_eq bytes (line_feed ∷ []) then lines_of bytes
     else onto_first byte (lines_of bytes)
 
--- where a byte of a line stands: outside the strings, in one, or behind a backslash in one
-pub data Standing : Type 0 where
-  Outside : Standing
-  Inside : Standing
-  Escaped : Standing
-
--- where the byte after it stands
+-- where the byte after one stands: outside the strings, in one, or behind a backslash in one
 abbrev pub standing_after : Standing → ℕ → Standing
 standing_after Outside byte = if byte == quotation_mark then Inside else Outside
 standing_after Inside byte =

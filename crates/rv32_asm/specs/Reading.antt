@@ -6,7 +6,8 @@ use Rattle.rv32_decode.specs.declared.Op.TheVariants.{Lui, Addi}
 use Rattle.rv32_asm.specs.declared.fault.AsmFault.{AsmFault}
 use Rattle.rv32_asm.specs.declared.fault.AsmFault.TheVariants.{Unknown, Operand}
 use Rattle.rv32_asm.specs.Characters.{tab, line_feed, digit_0, letter_n, letter_t, quotation_mark, left_parenthesis, right_parenthesis, comma, backslash, is_in_words, is_name, skip_blanks, is_empty, trimmed}
-use Rattle.rv32_asm.specs.Lines.{Outside, has_foreign, statement_text, without_comment}
+use Rattle.rv32_asm.specs.declared.lines.Standing.TheVariants.{Outside}
+use Rattle.rv32_asm.specs.Lines.{has_foreign, statement_text, without_comment}
 use Rattle.rv32_asm.specs.Registers.{register_of}
 use Rattle.rv32_asm.specs.Numbers.{number_of, is_between}
 use Rattle.rv32_asm.specs.Expressions.{Expression, expression_of, number_alone}

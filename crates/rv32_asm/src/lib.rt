@@ -7,7 +7,9 @@ ghost use Rattle.rv32_asm.specs.Assembly.{IsAssembled, program_of};
 ghost use Rattle.rv32_asm.specs.declared.fault.AsmFault.{AsmFault};
 ghost use Rattle.rv32_asm.specs.declared.fault.AsmError.TheVariants.{Fault};
 
+mod characters;
 mod fault;
+mod lines;
 
 pub use fault::{AsmError, AsmFault};
 use sec_base::Image;
