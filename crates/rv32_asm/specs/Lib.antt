@@ -13,4 +13,5 @@ pub mod Encoding
 pub mod Labels
 pub mod Passes
 pub mod Assembly
+pub mod Parts
 pub mod Law

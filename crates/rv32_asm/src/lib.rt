@@ -10,6 +10,7 @@ ghost use Rattle.rv32_asm.specs.declared.fault.AsmError.TheVariants.{Fault};
 mod characters;
 mod fault;
 mod lines;
+mod numbers;
 
 pub use fault::{AsmError, AsmFault};
 use sec_base::Image;
