@@ -93,3 +93,20 @@ upright_none o e = rw (upright o, sym e) refl
 pub below_range : (n : ℕ) → 2 ^ 31 < n → in_range (neg_ℤ (pos n)) ≡ None
 below_range zero large = elim large [ ]
 below_range (suc n) large = grind arith
+
+large_negated : (b : Bool) (n : ℕ) → nat_lt n (2 ^ 32) ≡ b → in_range (neg_ℤ (pos n)) ≡ option_and_then (λ each. in_range (neg_ℤ (pos each))) (as_word n)
+large_negated true n e = rw e refl
+large_negated false n e = rw (e, below_range n (omega (arith, ltb-false n (2 ^ 32) e))) refl
+
+negated_as_word : (o : Option ℕ) → option_and_then in_range (option_map (λ n. neg_ℤ (pos n)) o) ≡ option_and_then (λ each. in_range (neg_ℤ (pos each))) (option_and_then as_word o)
+negated_as_word None = refl
+negated_as_word (Some n) = large_negated (nat_lt n (2 ^ 32)) n refl
+
+pub negated_some : (o : Option ℕ) (number : ℕ) → Some number ≡ option_and_then as_word o → number ≤ 2 ^ 31 → Some (neg_ℤ (pos number)) ≡ option_and_then in_range (option_map (λ n. neg_ℤ (pos n)) o)
+negated_some o number e small = rw (negated_as_word o, sym e) (sym (negated number small))
+
+pub negated_none : (o : Option ℕ) → None ≡ option_and_then as_word o → None ≡ option_and_then in_range (option_map (λ n. neg_ℤ (pos n)) o)
+negated_none o e = rw (negated_as_word o, sym e) refl
+
+pub negated_large : (o : Option ℕ) (number : ℕ) → Some number ≡ option_and_then as_word o → 2 ^ 31 < number → None ≡ option_and_then in_range (option_map (λ n. neg_ℤ (pos n)) o)
+negated_large o number e large = rw (negated_as_word o, sym e) (sym (below_range number large))
