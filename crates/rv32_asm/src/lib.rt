@@ -11,6 +11,7 @@ mod characters;
 mod fault;
 mod lines;
 mod numbers;
+mod strings;
 
 pub use fault::{AsmError, AsmFault};
 use sec_base::Image;
