@@ -33,7 +33,7 @@ pub no_end_blank_stays : (xs : List ℕ) (b : ℕ) → is_blank b ≡ false → 
 no_end_blank_stays [] b e = rw e refl
 no_end_blank_stays (x ∷ xs) b e = rw (no_end_blank_stays xs b e, last_stays xs b) (never (is_blank x) [] _)
 
-last_of : (xs : List ℕ) (n d : ℕ) → 0 < n → n ≤ length xs → take n xs ≡ take (n - 1) xs ++ get_or xs (n - 1) d ∷ []
+pub last_of : (xs : List ℕ) (n d : ℕ) → 0 < n → n ≤ length xs → take n xs ≡ take (n - 1) xs ++ get_or xs (n - 1) d ∷ []
 last_of xs n d some within =
     let one : n - 1 + 1 ≡ n = omega arith in
     let more : take (n - 1 + 1) xs ≡ take (n - 1) xs ++ get_or xs (n - 1) d ∷ [] = take_more xs (n - 1) d (omega arith) in

@@ -1,8 +1,11 @@
 //! An assembly text cut into lines, and a line without its comment.
 
 ghost use Rattle.rv32_asm.specs.Lines as spec;
+ghost use Rattle.rv32_asm.specs.Parts as parts;
+ghost use Rattle.rv32_asm.specs.Parts.{lines_left};
 ghost use Rattle.rv32_asm.specs.declared.lines.Standing.TheVariants.{Outside};
-ghost use Rattle.std.specs.Prelude.{◌≡◌};
+ghost use Rattle.std.specs.List.{position_or_len};
+ghost use Rattle.std.specs.Prelude.{◌∷◌, ◌≡◌, ◌==◌};
 
 /// Where a byte of a line stands: outside the strings, in one, or behind a backslash in one.
 #[derive(Clone, Copy)]
@@ -71,4 +74,43 @@ pub fn has_foreign(line: &[u8]) -> bool
         standing = standing.after(*byte);
     }
     false
+}
+
+// How many bytes stand before the first line feed.
+fn line_len(text: &[u8]) -> usize
+    ensures { result ≡ position_or_len (λ byte. byte == 10) text.now }
+{
+    let mut len = 0;
+    while len < text.len() && text[len] != b'\n' {
+        len += 1;
+    }
+    len
+}
+
+// The line without the carriage return that it may end with.
+#[tactic(auto, using(crate::proofs::Cuts::return_off, crate::proofs::Cuts::none_off, crate::proofs::Cuts::nothing_off))]
+fn without_return(line: &[u8]) -> &[u8]
+    ensures { result.now ≡ parts.without_return line.now }
+{
+    if line.is_empty() {
+        return line;
+    }
+    let front = line.len() - 1;
+    if line[front] == b'\r' {
+        return &line[..front];
+    }
+    line
+}
+
+/// The first line of a text, and what is left of it behind the line feed that ends the line.
+#[tactic(auto, using(crate::proofs::Cuts::first_cut, crate::proofs::Cuts::last_line))]
+pub fn first_line(text: &[u8]) -> (&[u8], Option<&[u8]>)
+    ensures { spec.lines_of text.now ≡ result.0.now ∷ lines_left result.1 }
+{
+    let len = line_len(text);
+    if len < text.len() {
+        (without_return(&text[..len]), Some(&text[len + 1..]))
+    } else {
+        (text, None)
+    }
 }
