@@ -1,5 +1,5 @@
 -- A line is read up to its comment.
-use Rattle.std.proofs.Common.{◌≡◌, ℕ, ◌+◌, ◌<◌, ◌≤◌, Bool, true, false, ◌&&◌, List, [], ◌∷◌, ◌++◌, length, get_or, take, drop, refl, arith, eqb, append_assoc}
+use Rattle.std.proofs.Common.{◌≡◌, ℕ, ◌+◌, ◌<◌, ◌≤◌, true, false, ◌&&◌, List, ◌++◌, length, get_or, take, drop, refl, eqb, append_assoc}
 use Rattle.std.proofs.lemmas.List.{at_drop_more, at_drop_all, take_more, append-nil}
 use Rattle.rv32_asm.specs.declared.lines.Standing.{Standing}
 use Rattle.rv32_asm.specs.Lines.{before_comment, standing_after, is_outside}

@@ -1,5 +1,5 @@
 -- Digits are read from the front on.
-use Rattle.std.proofs.Common.{◌≡◌, ℕ, ◌+◌, ◌*◌, ◌^◌, ◌<◌, ◌≤◌, Bool, true, false, ◌&&◌, List, [], ◌∷◌, length, get_or, drop, refl, arith, ℤ, pos, zero, suc, nat_lt, sym, lt-ltb, le-ltb, le_trans, mul-le-mul_left, mul-one, le-mul_of_pos_right}
+use Rattle.std.proofs.Common.{◌≡◌, ℕ, ◌+◌, ◌*◌, ◌^◌, ◌<◌, ◌≤◌, Bool, true, false, ◌&&◌, List, [], ◌∷◌, length, get_or, drop, refl, arith, pos, zero, suc, nat_lt, sym, lt-ltb, le-ltb, le_trans}
 use Rattle.std.specs.Prelude.{Option, Some, None, option_map, option_and_then, neg_ℤ, if◌then◌else◌}
 use Rattle.std.specs.List.{list_all}
 use Rattle.std.specs.Char.{is_digit, digit_value}

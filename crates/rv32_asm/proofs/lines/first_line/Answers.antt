@@ -1,4 +1,3 @@
-use Rattle.std.proofs.Common.{rules}
 use Rattle.std.proofs.lemmas.List.{take_rest}
 use Rattle.rv32_asm.proofs.Cuts.{first_is}
 use Rattle.rv32_asm.proofs.lines.first_line.Goals as goal

@@ -1,4 +1,4 @@
-use Rattle.std.proofs.Common.{rules, arith}
+use Rattle.std.proofs.Common.{arith}
 use Rattle.rv32_asm.proofs.Cuts.{none_off}
 use Rattle.rv32_asm.proofs.lines.without_return.Goals as goal
 

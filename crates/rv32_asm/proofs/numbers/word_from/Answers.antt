@@ -1,4 +1,4 @@
-use Rattle.std.proofs.Common.{◌≡◌, ◌<◌, length, get_or, arith, rules}
+use Rattle.std.proofs.Common.{get_or, arith, rules}
 use Rattle.rv32_asm.proofs.Digits.{goes_on, missed, all_read, is_word}
 use Rattle.rv32_asm.proofs.numbers.word_from.Goals as goal
 
