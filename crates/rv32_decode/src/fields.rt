@@ -8,6 +8,7 @@ use crate::table::Format;
 use crate::{Inst, Op};
 
 // The `count` bits of a word from bit `low` on.
+#[inline(always)]
 pub fn bits(word: u32, low: u32, count: u32) -> u32
     requires low { low < 32 }
     requires count { count < 32 }
@@ -17,6 +18,7 @@ pub fn bits(word: u32, low: u32, count: u32) -> u32
 }
 
 // A number of `count` bits, read in two's complement.
+#[inline(always)]
 fn extend(number: u32, count: u32) -> i32
     requires count { (1 ≤ count) × (count ≤ 30) }
     requires number { number < 2 ^ count }
@@ -30,6 +32,7 @@ fn extend(number: u32, count: u32) -> i32
     }
 }
 
+#[inline(always)]
 fn register(word: u32, low: u32) -> u8
     requires { low < 32 }
     ensures { result ≡ field word low 5 }
@@ -39,18 +42,21 @@ fn register(word: u32, low: u32) -> u8
 
 // The immediates (RISC-V unprivileged manual, section 2.3).
 
+#[inline(always)]
 fn imm_i(word: u32) -> i32
     ensures { result ≡ spec.imm_i word }
 {
     extend(bits(word, 20, 12), 12)
 }
 
+#[inline(always)]
 fn imm_s(word: u32) -> i32
     ensures { result ≡ spec.imm_s word }
 {
     extend(bits(word, 25, 7) * 0x20 + bits(word, 7, 5), 12)
 }
 
+#[inline(always)]
 fn imm_b(word: u32) -> i32
     ensures { result ≡ spec.imm_b word }
 {
@@ -58,12 +64,14 @@ fn imm_b(word: u32) -> i32
     extend(high + bits(word, 25, 6) * 0x20 + bits(word, 8, 4) * 2, 13)
 }
 
+#[inline(always)]
 fn imm_u(word: u32) -> i32
     ensures { result ≡ spec.imm_u word }
 {
     (bits(word, 12, 20) * 0x1000).cast_signed()
 }
 
+#[inline(always)]
 fn imm_j(word: u32) -> i32
     ensures { result ≡ spec.imm_j word }
 {
@@ -74,12 +82,14 @@ fn imm_j(word: u32) -> i32
     )
 }
 
+#[inline(always)]
 fn shift(word: u32) -> i32
     ensures { result ≡ spec.shift_of word }
 {
     bits(word, 20, 5) as i32
 }
 
+#[inline(always)]
 fn inst(op: Op, rd: u8, rs1: u8, rs2: u8, imm: i32) -> Inst
     ensures { result ≡ record { op = op; rd = rd; rs1 = rs1; rs2 = rs2; imm = imm } }
 {
@@ -93,6 +103,7 @@ fn inst(op: Op, rd: u8, rs1: u8, rs2: u8, imm: i32) -> Inst
 }
 
 // A word's fields in a format.
+#[inline(always)]
 #[tactic(auto, unfolding(crate::specs::Table::read))]
 pub fn read(format: Format, op: Op, word: u32) -> Inst
     ensures { result ≡ spec.read format op word }

@@ -81,6 +81,7 @@ pub struct Inst {
 
 /// The instruction of a word, or None where no row of the table matches it
 /// (RISC-V unprivileged manual, section 2.2, and its instruction set listings).
+#[inline(always)]
 pub fn decode(word: u32) -> Option<Inst>
     ensures row { result ≡ instruction_of word }
     ensures fields { IfSome result IsInst }
@@ -90,8 +91,8 @@ pub fn decode(word: u32) -> Option<Inst>
     ensures none { IsNone result ↔ All (λ row. bit_and word row.mask ≢ row.pattern) rows }
     ensures one_row { length (filter (is_word_of word) rows) ≤ 1 }
 {
-    match table::op_of(word) {
-        Some(op) => Some(fields::read(table::format_of(op), op, word)),
+    match table::row_of(word) {
+        Some(row) => Some(fields::read(row.format, row.op, word)),
         None => None,
     }
 }

@@ -1,8 +1,10 @@
 //! The rows of the instruction table: which word is of which row.
 
 ghost use Rattle.rv32_decode.specs.Fixed.{op_at};
-ghost use Rattle.rv32_decode.specs.Table.{row_for, row_of};
-ghost use Rattle.std.specs.Prelude.{option_map, ◌≡◌};
+ghost use Rattle.rv32_decode.specs.Table.{row_for};
+ghost use Rattle.rv32_decode.specs.Table as spec;
+ghost use Rattle.rv32_decode.specs.declared.table.Format.TheVariants.{R, I, S, B, H, N};
+ghost use Rattle.std.specs.Prelude.{option_map, IfSome, ◌≡◌, ◌≢◌, ◌⊎◌};
 
 use crate::Op;
 use crate::fields::bits;
@@ -20,36 +22,65 @@ pub enum Format {
     N,
 }
 
-// The name of the row that a word matches.
-pub fn op_of(word: u32) -> Option<Op>
-    ensures { result ≡ option_map (λ r. r.op) (row_of word) }
-{
-    op_with(word % 128, bits(word, 12, 3), bits(word, 25, 7), word)
+// A row: the layout of its words, and its name.
+#[derive(Clone, Copy, Debug, PartialEq, Eq)]
+pub struct Row {
+    pub format: Format,
+    pub op: Op,
 }
 
-#[tactic(auto, unfolding(crate::specs::Table::rows, crate::specs::Fixed::row_at, crate::specs::Fixed::op_at))]
-fn op_with(opcode: u32, funct3: u32, funct7: u32, word: u32) -> Option<Op>
-    ensures { result ≡ op_at opcode funct3 funct7 word }
+// The row that a word matches.
+#[inline(always)]
+pub fn row_of(word: u32) -> Option<Row>
+    ensures op { option_map (λ r. r.op) result ≡ option_map (λ r. r.op) (spec.row_of word) }
+    ensures format { IfSome result (λ r. r.format ≡ (row_for r.op).format) }
+{
+    row_with(word % 128, bits(word, 12, 3), bits(word, 25, 7), word)
+}
+
+#[inline(always)]
+#[tactic(auto, unfolding(crate::specs::Table::rows, crate::specs::Table::row_for, crate::specs::Table::number_of, crate::specs::Fixed::row_at, crate::specs::Fixed::op_at))]
+fn row_with(opcode: u32, funct3: u32, funct7: u32, word: u32) -> Option<Row>
+    ensures op { option_map (λ r. r.op) result ≡ op_at opcode funct3 funct7 word }
+    ensures format { IfSome result (λ r. r.format ≡ (row_for r.op).format) }
 {
     match opcode {
-        0x37 => Some(Op::Lui),
-        0x17 => Some(Op::Auipc),
-        0x6f => Some(Op::Jal),
-        0x67 => jump(funct3),
-        0x63 => branch(funct3),
-        0x03 => load(funct3),
-        0x23 => store(funct3),
-        0x13 => immediate(funct3, funct7),
-        0x33 => register(funct3, funct7),
-        0x0f => fence(funct3),
-        0x73 => system(word),
+        0x37 => in_format(Format::U, Some(Op::Lui)),
+        0x17 => in_format(Format::U, Some(Op::Auipc)),
+        0x6f => in_format(Format::J, Some(Op::Jal)),
+        0x67 => in_format(Format::I, jump(funct3)),
+        0x63 => in_format(Format::B, branch(funct3)),
+        0x03 => in_format(Format::I, load(funct3)),
+        0x23 => in_format(Format::S, store(funct3)),
+        0x13 => match funct3 {
+            1 | 5 => in_format(Format::H, shift(funct3, funct7)),
+            _ => in_format(Format::I, immediate(funct3, funct7)),
+        },
+        0x33 => in_format(Format::R, register(funct3, funct7)),
+        0x0f => in_format(Format::I, fence(funct3)),
+        0x73 => in_format(Format::N, system(word)),
         _ => None,
     }
 }
 
-#[tactic(auto, unfolding(crate::specs::Table::rows, crate::specs::Fixed::row_at, crate::specs::Fixed::op_at))]
+// The row of this name, whose words have this format.
+#[inline(always)]
+fn in_format(format: Format, op: Option<Op>) -> Option<Row>
+    requires { IfSome op (λ op. (row_for op).format ≡ format) }
+    ensures op { option_map (λ r. r.op) result ≡ op }
+    ensures format { IfSome result (λ r. r.format ≡ (row_for r.op).format) }
+{
+    match op {
+        Some(op) => Some(Row { format, op }),
+        None => None,
+    }
+}
+
+#[inline(always)]
+#[tactic(auto, unfolding(crate::specs::Table::rows, crate::specs::Table::row_for, crate::specs::Table::number_of, crate::specs::Fixed::row_at, crate::specs::Fixed::op_at))]
 fn jump(funct3: u32) -> Option<Op>
-    ensures { result ≡ op_at 0x67 funct3 0 0 }
+    ensures op { result ≡ op_at 0x67 funct3 0 0 }
+    ensures format { IfSome result (λ op. (row_for op).format ≡ I) }
 {
     match funct3 {
         0 => Some(Op::Jalr),
@@ -57,9 +88,11 @@ fn jump(funct3: u32) -> Option<Op>
     }
 }
 
-#[tactic(auto, unfolding(crate::specs::Table::rows, crate::specs::Fixed::row_at, crate::specs::Fixed::op_at))]
+#[inline(always)]
+#[tactic(auto, unfolding(crate::specs::Table::rows, crate::specs::Table::row_for, crate::specs::Table::number_of, crate::specs::Fixed::row_at, crate::specs::Fixed::op_at))]
 fn branch(funct3: u32) -> Option<Op>
-    ensures { result ≡ op_at 0x63 funct3 0 0 }
+    ensures op { result ≡ op_at 0x63 funct3 0 0 }
+    ensures format { IfSome result (λ op. (row_for op).format ≡ B) }
 {
     match funct3 {
         0 => Some(Op::Beq),
@@ -72,9 +105,11 @@ fn branch(funct3: u32) -> Option<Op>
     }
 }
 
-#[tactic(auto, unfolding(crate::specs::Table::rows, crate::specs::Fixed::row_at, crate::specs::Fixed::op_at))]
+#[inline(always)]
+#[tactic(auto, unfolding(crate::specs::Table::rows, crate::specs::Table::row_for, crate::specs::Table::number_of, crate::specs::Fixed::row_at, crate::specs::Fixed::op_at))]
 fn load(funct3: u32) -> Option<Op>
-    ensures { result ≡ op_at 0x03 funct3 0 0 }
+    ensures op { result ≡ op_at 0x03 funct3 0 0 }
+    ensures format { IfSome result (λ op. (row_for op).format ≡ I) }
 {
     match funct3 {
         0 => Some(Op::Lb),
@@ -86,9 +121,11 @@ fn load(funct3: u32) -> Option<Op>
     }
 }
 
-#[tactic(auto, unfolding(crate::specs::Table::rows, crate::specs::Fixed::row_at, crate::specs::Fixed::op_at))]
+#[inline(always)]
+#[tactic(auto, unfolding(crate::specs::Table::rows, crate::specs::Table::row_for, crate::specs::Table::number_of, crate::specs::Fixed::row_at, crate::specs::Fixed::op_at))]
 fn store(funct3: u32) -> Option<Op>
-    ensures { result ≡ op_at 0x23 funct3 0 0 }
+    ensures op { result ≡ op_at 0x23 funct3 0 0 }
+    ensures format { IfSome result (λ op. (row_for op).format ≡ S) }
 {
     match funct3 {
         0 => Some(Op::Sb),
@@ -98,17 +135,32 @@ fn store(funct3: u32) -> Option<Op>
     }
 }
 
-#[tactic(auto, unfolding(crate::specs::Table::rows, crate::specs::Fixed::row_at, crate::specs::Fixed::op_at))]
+#[inline(always)]
+#[tactic(auto, unfolding(crate::specs::Table::rows, crate::specs::Table::row_for, crate::specs::Table::number_of, crate::specs::Fixed::row_at, crate::specs::Fixed::op_at))]
 fn immediate(funct3: u32, funct7: u32) -> Option<Op>
-    ensures { result ≡ op_at 0x13 funct3 funct7 0 }
+    requires { (funct3 ≢ 1) × (funct3 ≢ 5) }
+    ensures op { result ≡ op_at 0x13 funct3 funct7 0 }
+    ensures format { IfSome result (λ op. (row_for op).format ≡ I) }
+{
+    match funct3 {
+        0 => Some(Op::Addi),
+        2 => Some(Op::Slti),
+        3 => Some(Op::Sltiu),
+        4 => Some(Op::Xori),
+        6 => Some(Op::Ori),
+        7 => Some(Op::Andi),
+        _ => None,
+    }
+}
+
+#[inline(always)]
+#[tactic(auto, unfolding(crate::specs::Table::rows, crate::specs::Table::row_for, crate::specs::Table::number_of, crate::specs::Fixed::row_at, crate::specs::Fixed::op_at))]
+fn shift(funct3: u32, funct7: u32) -> Option<Op>
+    requires { (funct3 ≡ 1) ⊎ (funct3 ≡ 5) }
+    ensures op { result ≡ op_at 0x13 funct3 funct7 0 }
+    ensures format { IfSome result (λ op. (row_for op).format ≡ H) }
 {
     match (funct3, funct7) {
-        (0, _) => Some(Op::Addi),
-        (2, _) => Some(Op::Slti),
-        (3, _) => Some(Op::Sltiu),
-        (4, _) => Some(Op::Xori),
-        (6, _) => Some(Op::Ori),
-        (7, _) => Some(Op::Andi),
         (1, 0x00) => Some(Op::Slli),
         (5, 0x00) => Some(Op::Srli),
         (5, 0x20) => Some(Op::Srai),
@@ -116,9 +168,11 @@ fn immediate(funct3: u32, funct7: u32) -> Option<Op>
     }
 }
 
-#[tactic(auto, unfolding(crate::specs::Table::rows, crate::specs::Fixed::row_at, crate::specs::Fixed::op_at))]
+#[inline(always)]
+#[tactic(auto, unfolding(crate::specs::Table::rows, crate::specs::Table::row_for, crate::specs::Table::number_of, crate::specs::Fixed::row_at, crate::specs::Fixed::op_at))]
 fn register(funct3: u32, funct7: u32) -> Option<Op>
-    ensures { result ≡ op_at 0x33 funct3 funct7 0 }
+    ensures op { result ≡ op_at 0x33 funct3 funct7 0 }
+    ensures format { IfSome result (λ op. (row_for op).format ≡ R) }
 {
     match funct7 {
         0x00 => plain(funct3),
@@ -128,9 +182,11 @@ fn register(funct3: u32, funct7: u32) -> Option<Op>
     }
 }
 
-#[tactic(auto, unfolding(crate::specs::Table::rows, crate::specs::Fixed::row_at, crate::specs::Fixed::op_at))]
+#[inline(always)]
+#[tactic(auto, unfolding(crate::specs::Table::rows, crate::specs::Table::row_for, crate::specs::Table::number_of, crate::specs::Fixed::row_at, crate::specs::Fixed::op_at))]
 fn plain(funct3: u32) -> Option<Op>
-    ensures { result ≡ op_at 0x33 funct3 0x00 0 }
+    ensures op { result ≡ op_at 0x33 funct3 0x00 0 }
+    ensures format { IfSome result (λ op. (row_for op).format ≡ R) }
 {
     match funct3 {
         0 => Some(Op::Add),
@@ -145,9 +201,11 @@ fn plain(funct3: u32) -> Option<Op>
     }
 }
 
-#[tactic(auto, unfolding(crate::specs::Table::rows, crate::specs::Fixed::row_at, crate::specs::Fixed::op_at))]
+#[inline(always)]
+#[tactic(auto, unfolding(crate::specs::Table::rows, crate::specs::Table::row_for, crate::specs::Table::number_of, crate::specs::Fixed::row_at, crate::specs::Fixed::op_at))]
 fn inverse(funct3: u32) -> Option<Op>
-    ensures { result ≡ op_at 0x33 funct3 0x20 0 }
+    ensures op { result ≡ op_at 0x33 funct3 0x20 0 }
+    ensures format { IfSome result (λ op. (row_for op).format ≡ R) }
 {
     match funct3 {
         0 => Some(Op::Sub),
@@ -156,9 +214,11 @@ fn inverse(funct3: u32) -> Option<Op>
     }
 }
 
-#[tactic(auto, unfolding(crate::specs::Table::rows, crate::specs::Fixed::row_at, crate::specs::Fixed::op_at))]
+#[inline(always)]
+#[tactic(auto, unfolding(crate::specs::Table::rows, crate::specs::Table::row_for, crate::specs::Table::number_of, crate::specs::Fixed::row_at, crate::specs::Fixed::op_at))]
 fn multiply(funct3: u32) -> Option<Op>
-    ensures { result ≡ op_at 0x33 funct3 0x01 0 }
+    ensures op { result ≡ op_at 0x33 funct3 0x01 0 }
+    ensures format { IfSome result (λ op. (row_for op).format ≡ R) }
 {
     match funct3 {
         0 => Some(Op::Mul),
@@ -173,9 +233,11 @@ fn multiply(funct3: u32) -> Option<Op>
     }
 }
 
-#[tactic(auto, unfolding(crate::specs::Table::rows, crate::specs::Fixed::row_at, crate::specs::Fixed::op_at))]
+#[inline(always)]
+#[tactic(auto, unfolding(crate::specs::Table::rows, crate::specs::Table::row_for, crate::specs::Table::number_of, crate::specs::Fixed::row_at, crate::specs::Fixed::op_at))]
 fn fence(funct3: u32) -> Option<Op>
-    ensures { result ≡ op_at 0x0f funct3 0 0 }
+    ensures op { result ≡ op_at 0x0f funct3 0 0 }
+    ensures format { IfSome result (λ op. (row_for op).format ≡ I) }
 {
     match funct3 {
         0 => Some(Op::Fence),
@@ -184,9 +246,11 @@ fn fence(funct3: u32) -> Option<Op>
     }
 }
 
-#[tactic(auto, unfolding(crate::specs::Table::rows, crate::specs::Fixed::row_at, crate::specs::Fixed::op_at))]
+#[inline(always)]
+#[tactic(auto, unfolding(crate::specs::Table::rows, crate::specs::Table::row_for, crate::specs::Table::number_of, crate::specs::Fixed::row_at, crate::specs::Fixed::op_at))]
 fn system(word: u32) -> Option<Op>
-    ensures { result ≡ op_at 0x73 0 0 word }
+    ensures op { result ≡ op_at 0x73 0 0 word }
+    ensures format { IfSome result (λ op. (row_for op).format ≡ N) }
 {
     match word {
         0x0000_0073 => Some(Op::Ecall),

@@ -7,9 +7,10 @@ use Rattle.rv32_decode.proofs.decode.Goals as goal
 pub returns-in-Some : goal.returns-in-Some
 returns-in-Some c =
     let w = c.args.word in
-    let fields : c.read.result ≡ read c.format_of.result c.in-Some.op w = c.read.ensures in
+    let r = c.in-Some.row in
+    let fields : c.read.result ≡ read r.format r.op w = c.read.ensures in
     let e : Some c.read.result ≡ instruction_of w
-    = ap Some (fields ∙ ap (λ f. read f c.in-Some.op w) c.format_of.ensures) ∙ instruction_at w c.in-Some.op (sym c.in-Some.is ∙ c.op_of.ensures) in
+    = ap Some (fields ∙ ap (λ f. read f r.op w) c.in-Some.ensures.format) ∙ instruction_at w r.op c.in-Some.ensures.op in
     record {
       row = e;
       fields = answer_fields w (Some c.read.result) e;
@@ -21,7 +22,7 @@ returns-in-Some c =
 pub returns-in-None : goal.returns-in-None
 returns-in-None c =
     let w = c.args.word in
-    let e : None ≡ instruction_of w = no_instruction w (sym c.in-None.is ∙ c.op_of.ensures) in
+    let e : None ≡ instruction_of w = no_instruction w c.in-None.ensures.op in
     record {
       row = e;
       fields = answer_fields w None e;
