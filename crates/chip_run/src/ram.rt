@@ -1,6 +1,5 @@
 // The memory that the processor sees: numbers in the protected lines.
-ghost use Rattle.std.specs.Prelude.{◌≡◌, ◌+◌, ◌*◌, ◌^◌, ◌<◌, ◌≤◌, None, length};
-ghost use Rattle.sec_base.specs.Width.{width_bytes, number_at, with_number};
+ghost use Rattle.std.specs.Prelude.{◌≡◌, None};
 
 use crate::lines::LineMemory;
 use bus_model::Bus;
@@ -54,7 +53,7 @@ impl<B: Bus, T: Tagger> Ram for LineRam<B, T> {
             return Err(stop);
         }
         match self.lines.read_line(addr / 64) {
-            Ok(line) => Ok(number_in(&line, (addr % 64) as usize, width)),
+            Ok(line) => Ok(width.read(&line, (addr % 64) as usize)),
             Err(stop) => Err(stop),
         }
     }
@@ -67,7 +66,7 @@ impl<B: Bus, T: Tagger> Ram for LineRam<B, T> {
             Ok(line) => line,
             Err(stop) => return Err(stop),
         };
-        put_number(&mut line, (addr % 64) as usize, width, value);
+        width.write(&mut line, (addr % 64) as usize, value);
         match self.lines.write_line(addr / 64, &line) {
             Ok(()) => Ok(()),
             Err(stop) => Err(stop),
@@ -79,37 +78,4 @@ impl<B: Bus, T: Tagger> Ram for LineRam<B, T> {
     ghost unmoved = { λ memory. unmoved B.told memory.lines };
 
     ghost moved_on = { λ first second third before after a b. moved_on B.told first.lines second.lines third.lines before after a b };
-}
-
-// The little-endian number at a place of a line.
-fn number_in(line: &[u8; 64], at: usize, width: Width) -> u32
-    requires { at + width_bytes width ≤ 64 }
-    ensures value { result ≡ number_at line.now at width }
-    ensures fits { result < 2 ^ (8 * width_bytes width) }
-{
-    match width {
-        Width::One => u32::from(line[at]),
-        Width::Two => u32::from(line[at]) + (u32::from(line[at + 1]) << 8),
-        Width::Four => u32::from_le_bytes([line[at], line[at + 1], line[at + 2], line[at + 3]]),
-    }
-}
-
-// Puts the lowest bytes of a number at a place of a line, the lowest first.
-fn put_number(line: &mut [u8; 64], at: usize, width: Width, value: u32)
-    requires { at + width_bytes width ≤ 64 }
-    ensures { line.new ≡ with_number line.old at width value }
-{
-    match width {
-        Width::One => line[at] = (value & 0xff) as u8,
-        Width::Two => {
-            line[at] = (value & 0xff) as u8;
-            line[at + 1] = (value >> 8 & 0xff) as u8;
-        }
-        Width::Four => {
-            line[at] = (value & 0xff) as u8;
-            line[at + 1] = (value >> 8 & 0xff) as u8;
-            line[at + 2] = (value >> 16 & 0xff) as u8;
-            line[at + 3] = (value >> 24 & 0xff) as u8;
-        }
-    }
 }

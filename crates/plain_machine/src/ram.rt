@@ -58,7 +58,7 @@ impl Ram for FlatRam {
         ensures fits { number_at self.old addr width < 2 ^ (8 * width_bytes width) }
         ensures contents { self.new ≡ self.old }
     {
-        Ok(number_in(self.bytes.as_slice(), addr as usize, width))
+        Ok(width.read(self.bytes.as_slice(), addr as usize))
     }
 
     /// Puts the lowest bytes of a number at an address, the lowest first. It is always `Ok`.
@@ -69,7 +69,7 @@ impl Ram for FlatRam {
         ensures stored { self.new ≡ with_number self.old addr width value }
         ensures extent { length self.new ≡ length self.old }
     {
-        put_number(self.bytes.as_mut_slice(), addr as usize, width, value);
+        width.write(self.bytes.as_mut_slice(), addr as usize, value);
         Ok(())
     }
 
@@ -78,41 +78,4 @@ impl Ram for FlatRam {
     ghost unmoved = { λ _. tt };
 
     ghost moved_on = { λ _ _ _ _ _ _ _. tt };
-}
-
-// The little-endian number at a place.
-#[inline]
-fn number_in(bytes: &[u8], at: usize, width: Width) -> u32
-    requires { at + width_bytes width ≤ length bytes.now }
-    ensures value { result ≡ number_at bytes.now at width }
-    ensures fits { result < 2 ^ (8 * width_bytes width) }
-{
-    match width {
-        Width::One => u32::from(bytes[at]),
-        Width::Two => u32::from(bytes[at]) + (u32::from(bytes[at + 1]) << 8),
-        Width::Four => {
-            u32::from_le_bytes([bytes[at], bytes[at + 1], bytes[at + 2], bytes[at + 3]])
-        }
-    }
-}
-
-// Puts the lowest bytes of a number at a place, the lowest first.
-#[inline]
-fn put_number(bytes: &mut [u8], at: usize, width: Width, value: u32)
-    requires { at + width_bytes width ≤ length bytes.old }
-    ensures { bytes.new ≡ with_number bytes.old at width value }
-{
-    match width {
-        Width::One => bytes[at] = (value & 0xff) as u8,
-        Width::Two => {
-            bytes[at] = (value & 0xff) as u8;
-            bytes[at + 1] = (value >> 8 & 0xff) as u8;
-        }
-        Width::Four => {
-            bytes[at] = (value & 0xff) as u8;
-            bytes[at + 1] = (value >> 8 & 0xff) as u8;
-            bytes[at + 2] = (value >> 16 & 0xff) as u8;
-            bytes[at + 3] = (value >> 24 & 0xff) as u8;
-        }
-    }
 }

@@ -144,25 +144,12 @@ fn extended(number: u32, width: Width, extension: Extension) -> u32
 fn fault_at(address: u32, width: Width, size: u32) -> Option<Cause>
     ensures { result ≡ data_fault address width size }
 {
-    let bytes = bytes_of(width);
+    let bytes = width.bytes();
     if address % bytes != 0 {
         Some(Cause::MisalignedData)
     } else if u64::from(address) + u64::from(bytes) > u64::from(size) {
         Some(Cause::OutsideMemory)
     } else {
         None
-    }
-}
-
-// How many bytes a width has.
-#[inline]
-fn bytes_of(width: Width) -> u32
-    ensures bytes { result ≡ width_bytes width }
-    ensures some { 0 < result }
-{
-    match width {
-        Width::One => 1,
-        Width::Two => 2,
-        Width::Four => 4,
     }
 }

@@ -10,8 +10,8 @@ pub returns-in-Ok-clause-value : goal.returns-in-Ok-clause-value
 returns-in-Ok-clause-value g c = λ going sound.
     number_read
     (contents_of c.args.self.now.lines.pads.key (line_count c.args.self.now.lines.engine.levels) c.args.self.now.lines.engine.made)
-    c.in-Ok.line c.args.addr c.number_in.result c.args.width
-    c.requires.aligned (c.in-Ok.ensures.value going sound) c.number_in.ensures.value
+    c.in-Ok.line c.args.addr c.read.result c.args.width
+    c.requires.aligned (c.in-Ok.ensures.value going sound) c.read.ensures.value
 
 pub returns-in-Some-clause-moved : goal.returns-in-Some-clause-moved
 returns-in-Some-clause-moved g c =
