@@ -22,6 +22,7 @@ use sec_base::{Cause, Ram, Sink, Width};
 
 impl Core {
     // Does a decoded instruction.
+    #[inline(always)]
     pub(crate) fn execute<M: Ram, S: Sink>(
         &mut self,
         inst: &Inst,

@@ -72,6 +72,7 @@ impl Core {
     }
 
     /// The program counter.
+    #[inline(always)]
     pub fn pc(&self) -> u32
         ensures { result ≡ self.now.pc }
     {
@@ -79,6 +80,7 @@ impl Core {
     }
 
     /// What a register has.
+    #[inline(always)]
     pub fn reg(&self, number: u8) -> u32
         requires { number < 32 }
         ensures { result ≡ register self.now number }
@@ -87,6 +89,7 @@ impl Core {
     }
 
     /// Fetches, decodes and does one instruction.
+    #[inline(always)]
     #[tactic(auto, unfolding(crate::specs::Effect::next, crate::specs::Touch::touches))]
     pub fn step<M: Ram, S: Sink>(
         &mut self,

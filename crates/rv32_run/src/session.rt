@@ -76,6 +76,7 @@ impl<'a, M: Ram> Session<'a, M> {
     }
 
     /// Does one instruction, where the budget allows one more, and answers how the run ended, if it did.
+    #[inline(always)]
     pub fn turn<S: Sink>(&mut self, out: &mut S) -> Option<Ending>
         requires within { self.old.retired ≤ self.old.budget }
         requires going { M.stopped self.old.memory ≡ None }
