@@ -1,0 +1,7 @@
+# Ends with 7.
+#
+# Prints nothing: `halted 7`, `retired 3`.
+
+        li   a0, 7
+        li   a7, 93             # exit
+        ecall
