@@ -16,7 +16,7 @@ returns-in-Ok-write_line-clause-stored g c = λ going sound.
     number_written (contents_of key lines made)
     (contents_of c.read_line.new.self.pads.key (line_count c.read_line.new.self.engine.levels) c.read_line.new.self.engine.made)
     (contents_of c.write_line.new.self.pads.key (line_count c.write_line.new.self.engine.levels) c.write_line.new.self.engine.made)
-    c.in-Ok.line c.write.new.line c.args.addr c.args.value lines c.args.width
+    c.in-Ok.line c.write.new.bytes c.args.addr c.args.value lines c.args.width
     (length-contents_of key lines made) c.requires.inside c.requires.aligned
     (c.in-Ok.ensures.value going was_sound) (c.in-Ok.ensures.contents going was_sound) c.write.ensures
     (c.in-Ok-write_line.ensures.stored (c.in-Ok.ensures.goes_on ∙ going) sound)
@@ -30,7 +30,7 @@ returns-in-Err-write_line-clause-refused g c = λ going sound.
     number_refused (contents_of key lines made)
     (contents_of c.read_line.new.self.pads.key (line_count c.read_line.new.self.engine.levels) c.read_line.new.self.engine.made)
     (contents_of c.write_line.new.self.pads.key (line_count c.write_line.new.self.engine.levels) c.write_line.new.self.engine.made)
-    c.in-Ok.line c.write.new.line c.args.addr c.args.value lines c.args.width
+    c.in-Ok.line c.write.new.bytes c.args.addr c.args.value lines c.args.width
     (length-contents_of key lines made) c.requires.inside c.requires.aligned
     (c.in-Ok.ensures.value going was_sound) (c.in-Ok.ensures.contents going was_sound) c.write.ensures
     (c.in-Err-write_line.ensures.refused (c.in-Ok.ensures.goes_on ∙ going) sound)
