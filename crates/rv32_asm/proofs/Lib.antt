@@ -1,0 +1,16 @@
+pub mod Alone
+pub mod Comments
+pub mod Cuts
+pub mod Digits
+pub mod Fronts
+pub mod Law
+pub mod Readings
+pub mod Styled
+pub mod Styles
+pub mod TextImmediates
+pub mod TextKeywords
+pub mod TextLines
+pub mod TextNumbers
+pub mod TextOperands
+pub mod TextRegisters
+pub mod TextStatements
