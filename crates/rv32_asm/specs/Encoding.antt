@@ -1,5 +1,5 @@
 -- The bytes of statements.
-use Rattle.std.specs.Prelude.{ℕ, ◌+◌, ◌-◌, ◌*◌, ◌%◌, ◌^◌, ◌==◌, ℤ, pos, neg_ℤ, List, [], ◌∷◌, ◌++◌, Bool, true, ◌&&◌, map, replicate, unsigned_abs}
+use Rattle.std.specs.Prelude.{ℕ, ◌+◌, ◌-◌, ◌*◌, ◌%◌, ◌^◌, ◌==◌, ℤ, pos, neg_ℤ, ◌-ℤ◌, List, [], ◌∷◌, ◌++◌, Bool, true, ◌&&◌, map, replicate, unsigned_abs}
 use Rattle.std.specs.List.{list_any, list_all, flat_map}
 use Rattle.std.specs.Int.{w8, w16, w32, to_le_bytes}
 use Rattle.sec_base.specs.Width.{width_bytes}
@@ -18,9 +18,9 @@ use Rattle.rv32_asm.specs.Values.{expression_in, immediate_value, is_missing, mo
 
 -- ---- instructions
 
--- how far it is from an address to a target, modulo 2^32
+-- how far it is from an address to a target, modulo 2^32, from -2^31 on
 abbrev pub distance : ℕ → ℤ → ℤ
-distance address target = signed 32 ((modulo 32 target + (2 ^ 32 - address)) % 2 ^ 32)
+distance address target = signed 32 (modulo 32 (target -ℤ pos address))
 
 abbrev pub is_even : ℤ → Bool
 is_even value = modulo 1 value == 0

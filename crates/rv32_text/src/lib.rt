@@ -14,6 +14,8 @@ mod styles;
 #[cfg(test)]
 mod tests;
 
+pub use names::{Style, name_of, register_name, style_of};
+
 /// The text of an instruction that stands at `pc`, such as `addi a0, zero, 7`. Branches and jumps are
 /// written with the address that they lead to; FENCE and FENCE.I with other fields than those of `fence`
 /// and `fence.i` are written as data, `.word 0x` with eight digits.

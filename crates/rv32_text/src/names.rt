@@ -6,7 +6,7 @@ ghost use Rattle.std.specs.Prelude.{◌<◌, ◌≡◌};
 
 use rv32_decode::Op;
 
-// How an instruction's operands are written.
+/// How an instruction's operands are written.
 #[derive(Clone, Copy, Debug, PartialEq, Eq)]
 pub enum Style {
     Registers,
@@ -20,6 +20,7 @@ pub enum Style {
     Bare,
 }
 
+/// The name of a register, by its number.
 #[tactic(auto, unfolding(crate::specs::Text::register_name, crate::specs::Text::register_names))]
 pub fn register_name(number: u8) -> &'static str
     requires { number < 32 }
@@ -61,6 +62,7 @@ pub fn register_name(number: u8) -> &'static str
     }
 }
 
+/// The name of a row of the instruction table.
 #[tactic(auto, unfolding(crate::specs::Text::mnemonic_of))]
 pub fn name_of(op: Op) -> &'static str
     ensures { result.now ≡ (mnemonic_of op).name }
@@ -118,6 +120,7 @@ pub fn name_of(op: Op) -> &'static str
     }
 }
 
+/// How the operands of a row's instructions are written.
 #[tactic(auto, unfolding(crate::specs::Text::mnemonic_of))]
 pub fn style_of(op: Op) -> Style
     ensures { result ≡ (mnemonic_of op).style }
