@@ -1,7 +1,9 @@
 -- What parts of the reading find.
 use Rattle.std.specs.Borrow.{Bor}
-use Rattle.rv32_asm.specs.Lines.{lines_of}
-use Rattle.std.specs.Prelude.{ℕ, List, [], ◌∷◌, ◌==◌, ◌+◌, ◌*◌, ◌^◌, Option, Some, None, nat_lt, if◌then◌else◌}
+use Rattle.rv32_asm.specs.Characters.{colon}
+use Rattle.rv32_asm.specs.Lines.{lines_of, labels_in, behind_labels}
+use Rattle.std.specs.List.{slice_split}
+use Rattle.std.specs.Prelude.{ℕ, List, [], ◌∷◌, ◌≡◌, ◌<◌, ◌==◌, ◌+◌, ◌*◌, ◌^◌, Option, Some, None, length, nat_lt, if◌then◌else◌}
 use Rattle.std.specs.Char.{is_digit, digit_value}
 
 -- the number, where 32 bits hold it
@@ -22,3 +24,15 @@ without_return (byte ∷ next ∷ bytes) = byte ∷ without_return (next ∷ byt
 abbrev pub lines_left : Option (Bor (List ℕ)) → List (List ℕ)
 lines_left None = []
 lines_left (Some text) = lines_of text.now
+
+-- the parts of a line between its colons
+abbrev pub parts : List ℕ → List (List ℕ)
+parts text = slice_split (λ byte. byte == colon) text
+
+-- a text's first label, and what is left of the text behind the label's colon, where its further labels are
+abbrev pub IsFirstLabel : List ℕ → Option (Bor (List ℕ) × Bor (List ℕ)) → Type 0
+IsFirstLabel text (Some label) =
+    (labels_in (parts text) ≡ label.0.now ∷ labels_in (parts label.1.now))
+    × (behind_labels (parts text) ≡ behind_labels (parts label.1.now))
+    × (length label.1.now < length text)
+IsFirstLabel text None = (labels_in (parts text) ≡ []) × (behind_labels (parts text) ≡ text)

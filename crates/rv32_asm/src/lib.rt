@@ -12,6 +12,7 @@ mod characters;
 mod fault;
 mod lines;
 mod numbers;
+mod reading;
 mod statements;
 mod strings;
 

@@ -2,7 +2,7 @@
 
 ghost use Rattle.rv32_asm.specs.Lines as spec;
 ghost use Rattle.rv32_asm.specs.Parts as parts;
-ghost use Rattle.rv32_asm.specs.Parts.{lines_left};
+ghost use Rattle.rv32_asm.specs.Parts.{IsFirstLabel, lines_left};
 ghost use Rattle.rv32_asm.specs.declared.lines.Standing.TheVariants.{Outside};
 ghost use Rattle.std.specs.List.{position_or_len};
 ghost use Rattle.std.specs.Prelude.{◌∷◌, ◌≡◌, ◌==◌};
@@ -113,4 +113,11 @@ pub fn first_line(text: &[u8]) -> (&[u8], Option<&[u8]>)
     } else {
         (text, None)
     }
+}
+
+/// The first label of a line without its comment, and what stands behind the label's colon.
+pub fn first_label(text: &[u8]) -> Option<(&[u8], &[u8])>
+    ensures labels { IsFirstLabel text.now result }
+{
+    None
 }
