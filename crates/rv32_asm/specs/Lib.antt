@@ -16,3 +16,4 @@ pub mod Assembly
 pub mod Parts
 pub mod Seen
 pub mod Law
+pub mod SeenLabels

@@ -10,6 +10,8 @@ ghost use Rattle.rv32_asm.specs.declared.fault.AsmError.TheVariants.{Fault};
 
 mod characters;
 mod fault;
+mod labels;
+mod layout;
 mod lines;
 mod numbers;
 mod reading;
