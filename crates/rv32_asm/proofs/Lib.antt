@@ -2,10 +2,12 @@ pub mod Alone
 pub mod Comments
 pub mod Cuts
 pub mod Digits
+pub mod Formats
 pub mod Found
 pub mod Fronts
 pub mod Law
 pub mod Readings
+pub mod Sizes
 pub mod Styled
 pub mod Styles
 pub mod TextImmediates

@@ -17,3 +17,4 @@ pub mod Parts
 pub mod Seen
 pub mod Law
 pub mod SeenLabels
+pub mod Fields

@@ -4,7 +4,8 @@ ghost use Rattle.rv32_asm.specs.Layout as spec;
 ghost use Rattle.rv32_asm.specs.Passes as passes;
 ghost use Rattle.rv32_asm.specs.Seen as seen;
 ghost use Rattle.sec_base.specs.Width as width_spec;
-ghost use Rattle.std.specs.Prelude.{false, ◌<◌, ◌≡◌};
+ghost use Rattle.rv32_asm.specs.Parts.{as_word};
+ghost use Rattle.std.specs.Prelude.{false, ◌*◌, ◌<◌, ◌≡◌};
 
 use crate::fault::AsmFault;
 use crate::statements::Statement;
@@ -42,7 +43,7 @@ pub fn is_misplaced(address: u32, statement: &Statement) -> bool
 }
 
 // How many bytes a number of this width has.
-fn width_bytes(width: Width) -> u64
+fn width_bytes(width: Width) -> u32
     ensures { result ≡ width_spec.width_bytes width }
 {
     match width {
@@ -52,27 +53,44 @@ fn width_bytes(width: Width) -> u64
     }
 }
 
-// How far it is to the next multiple of so many bytes.
-fn padding(address: u32, alignment: u64) -> u64
+// How many bytes so many parts have, where 32 bits hold it.
+#[tactic(auto, using(crate::proofs::Sizes::too_many, crate::proofs::Sizes::told))]
+fn bytes_of(part_bytes: u32, count: usize) -> Option<u32>
+    requires { 0 < part_bytes }
+    ensures { result ≡ as_word (part_bytes * count) }
+{
+    let count = u32::try_from(count).ok()?;
+    part_bytes.checked_mul(count)
+}
+
+// A number of bytes, where 32 bits hold it.
+fn word_of(number: u64) -> Option<u32>
+    ensures { result ≡ as_word number }
+{
+    u32::try_from(number).ok()
+}
+
+/// How far it is to the next multiple of so many bytes.
+pub fn padding(address: u32, alignment: u64) -> u64
     requires { 0 < alignment }
     ensures { result ≡ spec.padding address alignment }
 {
     (alignment - u64::from(address) % alignment) % alignment
 }
 
-/// How many bytes a statement takes at an address where it may stand.
+// How many bytes a statement takes at an address where it may stand, where 32 bits hold it.
 #[tactic(auto, unfolding(crate::specs::Layout::is_misplaced, crate::specs::Layout::size_at))]
-pub fn size_at(address: u32, statement: &Statement) -> u64
+fn size_at(address: u32, statement: &Statement) -> Option<u32>
     requires { spec.is_misplaced address (seen.statement statement.now) ≡ false }
-    ensures { result ≡ spec.size_at address (seen.statement statement.now) }
+    ensures { result ≡ as_word (spec.size_at address (seen.statement statement.now)) }
 {
     match statement {
-        Statement::Instructions(instructions) => 4 * instructions.len() as u64,
-        Statement::Data(width, values) => width_bytes(*width) * values.len() as u64,
-        Statement::Bytes(bytes) => bytes.len() as u64,
-        Statement::Zeros(number) => number.unsigned_abs(),
-        Statement::Aligned(number) => padding(address, number.unsigned_abs()),
-        Statement::Nothing => 0,
+        Statement::Instructions(instructions) => bytes_of(4, instructions.len()),
+        Statement::Data(width, values) => bytes_of(width_bytes(*width), values.len()),
+        Statement::Bytes(bytes) => bytes_of(1, bytes.len()),
+        Statement::Zeros(number) => word_of(number.unsigned_abs()),
+        Statement::Aligned(number) => word_of(padding(address, number.unsigned_abs())),
+        Statement::Nothing => Some(0),
     }
 }
 
@@ -83,7 +101,10 @@ pub fn address_after(size: u32, address: u32, statement: &Statement) -> Result<u
     if is_misplaced(address, statement) {
         return Err(AsmFault::Range);
     }
-    let after = u64::from(address) + size_at(address, statement);
+    let Some(statement_size) = size_at(address, statement) else {
+        return Err(AsmFault::Large);
+    };
+    let after = u64::from(address) + u64::from(statement_size);
     if after > u64::from(size) {
         return Err(AsmFault::Large);
     }

@@ -9,6 +9,7 @@ ghost use Rattle.rv32_asm.specs.declared.fault.AsmFault.{AsmFault};
 ghost use Rattle.rv32_asm.specs.declared.fault.AsmError.TheVariants.{Fault};
 
 mod characters;
+mod encoding;
 mod fault;
 mod labels;
 mod layout;
@@ -17,6 +18,7 @@ mod numbers;
 mod reading;
 mod statements;
 mod strings;
+mod values;
 
 pub use fault::{AsmError, AsmFault};
 use sec_base::Image;
