@@ -4,7 +4,8 @@ use Rattle.rv32_decode.specs.Table.{row_for, rows, number_of}
 use Rattle.rv32_decode.specs.declared.Op.{Op}
 use Rattle.rv32_decode.specs.declared.Op.TheVariants.{Lui, Auipc, Jal, Jalr, Beq, Bne, Blt, Bge, Bltu, Bgeu, Lb, Lh, Lw, Lbu, Lhu, Sb, Sh, Sw, Addi, Slti, Sltiu, Xori, Ori, Andi, Slli, Srli, Srai, Add, Sub, Sll, Slt, Sltu, Xor, Srl, Sra, Or, And, Mul, Mulh, Mulhsu, Mulhu, Div, Divu, Rem, Remu, Fence, FenceI, Ecall, Ebreak}
 use Rattle.rv32_text.specs.Text.{mnemonic_of}
-use Rattle.rv32_asm.specs.Fields.{format_in, is_shift}
+use Rattle.rv32_text.specs.declared.names.Style.{Style}
+use Rattle.rv32_asm.specs.Fields.{format_in, immediate_in, is_shift}
 
 pub formats : (op : Op) → (row_for op).format ≡ format_in (is_shift op) (mnemonic_of op).style
 unfolding row_for rows number_of mnemonic_of
@@ -57,3 +58,9 @@ formats Fence = refl
 formats FenceI = refl
 formats Ecall = refl
 formats Ebreak = refl
+
+-- the immediate by the style is the immediate by the row
+pub by_style : (op : Op) (shift : Bool) (style : Style) (address : ℕ) (value : ℤ) (result : Option ℤ) →
+    shift ≡ is_shift op → style ≡ (mnemonic_of op).style → result ≡ immediate_in (format_in shift style) address value →
+    result ≡ immediate_in (row_for op).format address value
+by_style op shift style address value result a b e = let f = rw (a, b) at e in rw (formats op) f

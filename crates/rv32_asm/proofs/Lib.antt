@@ -5,6 +5,7 @@ pub mod Digits
 pub mod Formats
 pub mod Found
 pub mod Fronts
+pub mod Kept
 pub mod Law
 pub mod Readings
 pub mod Sizes

@@ -7,7 +7,7 @@ ghost use Rattle.rv32_asm.specs.Numbers as numbers;
 ghost use Rattle.rv32_asm.specs.Seen as seen;
 ghost use Rattle.rv32_decode.specs.Table.{row_for, word_of};
 ghost use Rattle.rv32_text.specs.Text.{mnemonic_of};
-ghost use Rattle.std.specs.Prelude.{None, Some, if◌then◌else◌, neg_ℤ, pos, ◌&&◌, ◌-ℤ◌, ◌^◌, ◌≡◌, ◌≤ℤ◌};
+ghost use Rattle.std.specs.Prelude.{None, Some, true, if◌then◌else◌, neg_ℤ, pos, ◌&&◌, ◌^◌, ◌≡◌, ◌≤ℤ◌};
 
 use crate::labels::Labels;
 use crate::statements::Instruction;
@@ -35,17 +35,22 @@ fn number_between(low: i32, high: i32, number: i64) -> Option<i32>
     }
 }
 
-// The distance to a target, where it is even and no longer than a reach, which it is short of ahead.
-fn near(address: u32, target: i64, reach: i32) -> Option<i32>
+fn is_even(number: i32) -> bool
+    ensures { result ≡ spec.is_even number }
+{
+    number.rem_euclid(2) == 0
+}
+
+// The distance to a target, where it is even and in a range.
+fn near(address: u32, target: i64, low: i32, high: i32) -> Option<i32>
     requires least { neg_ℤ (pos (2 ^ 33)) ≤ℤ target }
     requires most { target ≤ℤ pos (2 ^ 33) }
-    requires reach_least { pos 2 ≤ℤ reach }
     ensures { let far = spec.distance address target in
-        result ≡ if spec.is_even far && numbers.is_between (neg_ℤ reach) (reach -ℤ pos 2) far then Some far else None }
+        result ≡ if spec.is_even far && numbers.is_between low high far then Some far else None }
 {
     let far = distance(address, target);
-    if far.rem_euclid(2) == 0 && -reach <= far && far <= reach - 2 {
-        Some(far)
+    if is_even(far) {
+        number_between(low, high, i64::from(far))
     } else {
         None
     }
@@ -81,13 +86,12 @@ fn styled_immediate(style: Style, is_shift: bool, address: u32, value: i64) -> O
             number_between(-2048, 2047, value)
         }
         Style::Upper => upper(value),
-        Style::Branch => near(address, value, 4096),
-        Style::Jump => near(address, value, 0x10_0000),
+        Style::Branch => near(address, value, -4096, 4094),
+        Style::Jump => near(address, value, -0x10_0000, 0xf_fffe),
     }
 }
 
 // The immediate of a value at an address, where it is in its range.
-#[tactic(auto, using(crate::proofs::Formats::formats))]
 fn immediate_of(op: Op, address: u32, value: i64) -> Option<i32>
     requires least { neg_ℤ (pos (2 ^ 33)) ≤ℤ value }
     requires most { value ≤ℤ pos (2 ^ 33) }
