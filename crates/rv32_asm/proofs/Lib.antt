@@ -2,6 +2,7 @@ pub mod Alone
 pub mod Comments
 pub mod Cuts
 pub mod Digits
+pub mod Emitting
 pub mod Formats
 pub mod Found
 pub mod Fronts

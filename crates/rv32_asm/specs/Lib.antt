@@ -18,3 +18,4 @@ pub mod Seen
 pub mod Law
 pub mod SeenLabels
 pub mod Fields
+pub mod Emission

@@ -9,6 +9,7 @@ ghost use Rattle.rv32_asm.specs.declared.fault.AsmFault.{AsmFault};
 ghost use Rattle.rv32_asm.specs.declared.fault.AsmError.TheVariants.{Fault};
 
 mod characters;
+mod emission;
 mod encoding;
 mod fault;
 mod labels;

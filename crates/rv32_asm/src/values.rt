@@ -77,3 +77,12 @@ pub fn immediate_value(labels: &Labels, immediate: &Immediate) -> i64
         Immediate::Lower(value) => lower_part(word_of(value_of(labels, value))),
     }
 }
+
+/// The expression whose value, or a part of it, is an immediate.
+pub fn expression_in<'a>(immediate: &Immediate<'a>) -> Expression<'a>
+    ensures { seen.expression result ≡ spec.expression_in (seen.immediate immediate.now) }
+{
+    match *immediate {
+        Immediate::Whole(value) | Immediate::Upper(value) | Immediate::Lower(value) => value,
+    }
+}
