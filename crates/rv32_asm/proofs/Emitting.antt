@@ -1,5 +1,5 @@
 -- The steps of the loops that make a statement's bytes.
-use Rattle.std.proofs.Common.{◌≡◌, ℕ, ◌+◌, ◌<◌, ◌≤◌, ℤ, Bool, true, false, ◌&&◌, List, [], ◌∷◌, ◌++◌, Option, Some, None, Result, Ok, Err, length, get_or, drop, map, refl, sym, ap, ◌∙◌, append_assoc, length-append, arith, if◌then◌else◌}
+use Rattle.std.proofs.Common.{◌≡◌, ℕ, ◌+◌, ◌<◌, ◌≤◌, ℤ, Bool, true, false, not, ◌&&◌, List, [], ◌∷◌, ◌++◌, Option, Some, None, Result, Ok, Err, length, get_or, drop, map, refl, sym, ap, ◌∙◌, append_assoc, length-append, arith, if◌then◌else◌}
 use Rattle.std.proofs.lemmas.List.{at_drop_more, append-nil, drop_all}
 use Rattle.std.specs.Int.{to_le_bytes, w32}
 use Rattle.std.specs.List.{list_any, list_all, flat_map}
@@ -9,8 +9,9 @@ use Rattle.rv32_asm.specs.declared.fault.AsmFault.{AsmFault}
 use Rattle.rv32_asm.specs.declared.fault.AsmFault.TheVariants.{Range}
 use Rattle.rv32_asm.specs.declared.statements.Expression.{Expression}
 use Rattle.rv32_asm.specs.declared.statements.Instruction.{Instruction}
-use Rattle.rv32_asm.specs.Emission.{code_at, data_of, with_more}
-use Rattle.rv32_asm.specs.Encoding.{code_from, encoded_at, expressions_in, fit_from, fits_at, fits_width, number_bytes}
+use Rattle.rv32_asm.specs.Emission.{code_at, data_of, statement_bytes, with_more}
+use Rattle.rv32_asm.specs.Passes.{emitted}
+use Rattle.rv32_asm.specs.Encoding.{code_from, encoded_at, expressions_in, fit_from, fits_at, fits_width, is_in_range, misses_label, number_bytes}
 use Rattle.rv32_asm.specs.Labels.{Label}
 use Rattle.rv32_asm.specs.Seen as seen
 use Rattle.rv32_asm.specs.Statements as meant
@@ -142,3 +143,14 @@ module _ (labels : List Label) (width : Width) (bytes : List ℕ) where
           let g = rw valued at f in
           let all = rw valued at put in
           rw (front es n e inside here, all) (data_added e (drop (n + 1) es) g)
+
+-- ---- statements
+
+chosen : {X : Type 0} (b : Bool) (x y : X) → (if not b then x else y) ≡ (if b then y else x)
+chosen true x y = refl
+chosen false x y = refl
+
+pub emitted_is : (labels : List Label) (address : ℕ) (statement : meant.Statement) → misses_label labels statement ≡ false →
+    emitted labels address statement ≡ statement_bytes labels address statement
+unfolding statement_bytes
+emitted_is labels address statement e = rw e (chosen (is_in_range labels address statement) (Err Range) _)

@@ -1,5 +1,6 @@
 pub mod Alone
 pub mod Comments
+pub mod Courses
 pub mod Cuts
 pub mod Digits
 pub mod Emitting
@@ -9,6 +10,7 @@ pub mod Fronts
 pub mod Kept
 pub mod Law
 pub mod Readings
+pub mod SecondSteps
 pub mod Sizes
 pub mod Styled
 pub mod Styles

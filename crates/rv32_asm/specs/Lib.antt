@@ -19,3 +19,4 @@ pub mod Law
 pub mod SeenLabels
 pub mod Fields
 pub mod Emission
+pub mod Course

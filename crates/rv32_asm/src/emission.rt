@@ -138,6 +138,14 @@ fn put_data(
     Ok(())
 }
 
+// Adds bytes.
+fn put_bytes(bytes: &mut Vec<u8>, more: &[u8]) -> Result<(), NoMemory>
+    ensures { OnOk result (bytes.new.items ≡ bytes.old.items ++ more.now) }
+{
+    bytes.extend_from_slice(more)?;
+    Ok(())
+}
+
 // Adds so many zeros.
 fn put_zeros(bytes: &mut Vec<u8>, count: usize) -> Result<(), NoMemory>
     requires { length bytes.old.items + count < 2 ^ 32 }
@@ -145,4 +153,54 @@ fn put_zeros(bytes: &mut Vec<u8>, count: usize) -> Result<(), NoMemory>
 {
     bytes.resize(bytes.len() + count, 0)?;
     Ok(())
+}
+
+// Adds the bytes of a statement whose labels are there, as long as its values are in their ranges.
+#[tactic(auto, unfolding(crate::specs::Emission::statement_bytes, crate::specs::Emission::code_at, crate::specs::Emission::data_of, crate::specs::Encoding::is_in_range, crate::specs::Encoding::bytes_at, crate::specs::Layout::size_at, crate::specs::Layout::is_misplaced))]
+fn put_statement(
+    bytes: &mut Vec<u8>,
+    labels: &Labels,
+    statement: &Statement,
+) -> Result<(), LineError>
+    requires placed { layout_spec.is_misplaced (length bytes.old.items) (seen.statement statement.now) ≡ false }
+    requires room { length bytes.old.items + layout_spec.size_at (length bytes.old.items) (seen.statement statement.now) < 2 ^ 32 }
+    ensures ok { OnOk result (with_more bytes.old.items
+        (parts.statement_bytes labels.now (length bytes.old.items) (seen.statement statement.now))
+        ≡ Ok bytes.new.items) }
+    ensures refused { (fault : AsmFault) → result ≡ Err (Fault fault) →
+        parts.statement_bytes labels.now (length bytes.old.items) (seen.statement statement.now) ≡ Err fault }
+{
+    match statement {
+        Statement::Instructions(instructions) => put_code(bytes, labels, instructions)?,
+        Statement::Data(width, values) => put_data(bytes, labels, *width, values)?,
+        Statement::Bytes(more) => put_bytes(bytes, more)?,
+        Statement::Zeros(number) => put_zeros(bytes, number.unsigned_abs() as usize)?,
+        Statement::Aligned(number) => {
+            let address = bytes.len() as u32;
+            let count = layout::padding(address, number.unsigned_abs());
+            put_zeros(bytes, count as usize)?
+        }
+        Statement::Nothing => {}
+    }
+    Ok(())
+}
+
+/// Adds the bytes of a statement that may stand where the bytes end.
+pub fn emit(
+    bytes: &mut Vec<u8>,
+    labels: &Labels,
+    statement: &Statement,
+) -> Result<(), LineError>
+    requires placed { layout_spec.is_misplaced (length bytes.old.items) (seen.statement statement.now) ≡ false }
+    requires room { length bytes.old.items + layout_spec.size_at (length bytes.old.items) (seen.statement statement.now) < 2 ^ 32 }
+    ensures ok { OnOk result (with_more bytes.old.items
+        (passes.emitted labels.now (length bytes.old.items) (seen.statement statement.now))
+        ≡ Ok bytes.new.items) }
+    ensures refused { (fault : AsmFault) → result ≡ Err (Fault fault) →
+        passes.emitted labels.now (length bytes.old.items) (seen.statement statement.now) ≡ Err fault }
+{
+    if misses_label(labels, statement) {
+        return Err(LineError::Fault(AsmFault::Missing));
+    }
+    put_statement(bytes, labels, statement)
 }

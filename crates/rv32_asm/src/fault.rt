@@ -2,6 +2,7 @@ ghost use Rattle.std.specs.Prelude.{◌≡◌};
 ghost use Rattle.rv32_asm.specs.Faults.{code_of, name_of};
 
 use sec_base::NoMemory;
+use std::alloc::AllocError;
 use std::fmt;
 use thiserror::Error;
 
@@ -74,6 +75,17 @@ impl From<NoMemory> for AsmError {
     ghost from_gives = { λ _ error. error ≡ NoMemory };
 
     fn from(_: NoMemory) -> Self {
+        AsmError::NoMemory
+    }
+}
+
+impl From<AllocError> for AsmError {
+    ghost use Rattle.std.specs.Prelude.{◌≡◌};
+    ghost use Rattle.rv32_asm.specs.declared.fault.AsmError.TheVariants.{NoMemory};
+
+    ghost from_gives = { λ _ error. error ≡ NoMemory };
+
+    fn from(_: AllocError) -> Self {
         AsmError::NoMemory
     }
 }

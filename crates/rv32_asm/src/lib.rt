@@ -16,6 +16,7 @@ mod labels;
 mod layout;
 mod lines;
 mod numbers;
+mod passes;
 mod reading;
 mod statements;
 mod strings;

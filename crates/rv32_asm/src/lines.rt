@@ -5,7 +5,7 @@ ghost use Rattle.rv32_asm.specs.Parts as parts;
 ghost use Rattle.rv32_asm.specs.Parts.{IsFirstLabel, lines_left};
 ghost use Rattle.rv32_asm.specs.declared.lines.Standing.TheVariants.{Outside};
 ghost use Rattle.std.specs.List.{position_or_len};
-ghost use Rattle.std.specs.Prelude.{◌∷◌, ◌≡◌, ◌==◌};
+ghost use Rattle.std.specs.Prelude.{IfSome, length, ◌∷◌, ◌<◌, ◌≡◌, ◌==◌};
 
 /// Where a byte of a line stands: outside the strings, in one, or behind a backslash in one.
 #[derive(Clone, Copy)]
@@ -105,7 +105,8 @@ fn without_return(line: &[u8]) -> &[u8]
 /// The first line of a text, and what is left of it behind the line feed that ends the line.
 #[tactic(auto, using(crate::proofs::Cuts::first_cut, crate::proofs::Cuts::last_line))]
 pub fn first_line(text: &[u8]) -> (&[u8], Option<&[u8]>)
-    ensures { spec.lines_of text.now ≡ result.0.now ∷ lines_left result.1 }
+    ensures lines { spec.lines_of text.now ≡ result.0.now ∷ lines_left result.1 }
+    ensures shorter { IfSome result.1 (λ rest. length rest.now < length text.now) }
 {
     let len = line_len(text);
     if len < text.len() {
