@@ -4,6 +4,7 @@ pub mod Courses
 pub mod Cuts
 pub mod Digits
 pub mod Emitting
+pub mod FirstSteps
 pub mod Formats
 pub mod Found
 pub mod Fronts

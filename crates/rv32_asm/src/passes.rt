@@ -40,6 +40,94 @@ fn in_line(number: u32, error: LineError) -> AsmError
     }
 }
 
+/// How far the first pass came: the address that it reached, and the labels on the way.
+#[derive(Drop)]
+pub struct Progress<'a> {
+    pub address: u32,
+    pub labels: Labels<'a>,
+}
+
+// Adds the labels of a line without its comment.
+fn add_labels<'a>(
+    labels: &mut Labels<'a>,
+    text: &'a [u8],
+    label: Label,
+) -> Result<(), LineError>
+    ensures added { OnOk result (Gives
+        (spec.with_names label.address label.line (labels_in (parts text.now)) labels.old)
+        labels.new) }
+    ensures refused { (fault : AsmFault) → result ≡ Err (Fault fault) →
+        spec.with_names label.address label.line (labels_in (parts text.now)) labels.old ≡ Err fault }
+{
+    let mut rest = text;
+    while let Some((name, behind)) = lines::first_label(rest) {
+        labels.add(name, label)?;
+        rest = behind;
+    }
+    Ok(())
+}
+
+// What a line leaves.
+fn after_line<'a>(
+    alloc: Global,
+    size: u32,
+    number: u32,
+    progress: Progress<'a>,
+    line: &'a [u8],
+) -> Result<Progress<'a>, LineError>
+    ensures after { IfOk result (λ after. Reaches
+        (spec.after_line size number (record { address = progress.entry.address; labels = progress.entry.labels }) line.now)
+        after.address
+        after.labels) }
+    ensures inside { IfOk result (λ after. after.address ≤ size) }
+    ensures refused { (fault : AsmFault) → result ≡ Err (Fault fault) →
+        spec.after_line size number (record { address = progress.entry.address; labels = progress.entry.labels }) line.now ≡ Err fault }
+{
+    let Progress {
+        address,
+        mut labels,
+    } = progress;
+    let label = Label {
+        address,
+        line: number,
+    };
+    add_labels(&mut labels, lines::without_comment(line), label)?;
+    let statement = reading::statement_of(alloc, line)?;
+    match layout::address_after(size, address, &statement) {
+        Ok(address) => Ok(Progress { address, labels }),
+        Err(fault) => Err(LineError::Fault(fault)),
+    }
+}
+
+/// Where the labels of a text stand, and the address where its bytes end, or its first fault.
+pub fn lay_out<'a>(alloc: Global, text: &'a [u8], size: u32) -> Result<Progress<'a>, AsmError>
+    requires short { length text.now < 2 ^ 32 }
+    ensures reached { IfOk result (λ progress. Reaches
+        (spec.first_pass size 1 spec.start (lines_of text.now))
+        progress.address
+        progress.labels) }
+    ensures inside { IfOk result (λ progress. progress.address ≤ size) }
+    ensures refused { (line : ℕ) (code : AsmFault) → result ≡ Err (error.Fault line code) →
+        spec.first_pass size 1 spec.start (lines_of text.now) ≡ Err (record { line = line; code = code }) }
+{
+    let mut progress = Progress {
+        address: 0,
+        labels: Labels::new(alloc),
+    };
+    let mut rest = text;
+    let mut number = 0;
+    while !rest.is_empty() {
+        number += 1;
+        let (line, behind) = next_line(rest);
+        match after_line(alloc, size, number, progress, line) {
+            Ok(after) => progress = after,
+            Err(error) => return Err(in_line(number, error)),
+        }
+        rest = behind;
+    }
+    Ok(progress)
+}
+
 // Adds the bytes of a line that ends inside the memory.
 fn put_line(
     alloc: Global,
