@@ -14,3 +14,4 @@ pub mod TextNumbers
 pub mod TextOperands
 pub mod TextRegisters
 pub mod TextStatements
+pub mod FirstLabel

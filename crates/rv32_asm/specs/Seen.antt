@@ -7,7 +7,10 @@ use Rattle.rv32_asm.specs.declared.statements.Immediate.TheVariants.{Whole, Uppe
 use Rattle.rv32_asm.specs.declared.statements.Instruction.{Instruction}
 use Rattle.rv32_asm.specs.declared.statements.Statement.{Statement}
 use Rattle.rv32_asm.specs.declared.statements.Statement.TheVariants.{Instructions, Data, Bytes, Zeros, Aligned, Nothing}
+use Rattle.rv32_asm.specs.declared.keywords.Keyword.{Keyword}
+use Rattle.rv32_asm.specs.declared.keywords.Keyword.TheVariants as word
 use Rattle.rv32_asm.specs.Expressions as spec
+use Rattle.rv32_asm.specs.Keywords as words
 use Rattle.rv32_asm.specs.Statements as meant
 
 -- the name, where there is one
@@ -38,3 +41,15 @@ statement (Bytes bytes) = meant.Bytes bytes.items
 statement (Zeros number) = meant.Zeros number
 statement (Aligned number) = meant.Aligned number
 statement Nothing = meant.Nothing
+
+abbrev pub keyword : Keyword → words.Keyword
+keyword (word.Instruction slots i) = words.InstructionWord slots.now (instruction i)
+keyword word.Li = words.LiWord
+keyword word.La = words.LaWord
+keyword (word.Data width) = words.DataWord width
+keyword word.Ascii = words.AsciiWord
+keyword word.Asciz = words.AscizWord
+keyword word.Space = words.SpaceWord
+keyword word.Align = words.AlignWord
+keyword word.Text = words.TextWord
+keyword word.Globl = words.GloblWord

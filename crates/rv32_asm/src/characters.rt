@@ -1,8 +1,8 @@
 //! The characters of an assembly text: blanks, names and words.
 
 ghost use Rattle.rv32_asm.specs.Characters as spec;
-ghost use Rattle.std.specs.List.{prefix_len};
-ghost use Rattle.std.specs.Prelude.{◌≡◌};
+ghost use Rattle.std.specs.List.{position_or_len, prefix_len};
+ghost use Rattle.std.specs.Prelude.{◌==◌, ◌≡◌};
 
 /// Whether a byte is a space or a tab.
 pub fn is_blank(byte: u8) -> bool
@@ -59,6 +59,17 @@ pub fn word_len(text: &[u8]) -> usize
 {
     let mut len = 0;
     while len < text.len() && is_in_words(text[len]) {
+        len += 1;
+    }
+    len
+}
+
+/// How many bytes stand before the first one of this value.
+pub fn len_before(wanted: u8, text: &[u8]) -> usize
+    ensures { result ≡ position_or_len (λ byte. byte == wanted) text.now }
+{
+    let mut len = 0;
+    while len < text.len() && text[len] != wanted {
         len += 1;
     }
     len

@@ -9,10 +9,13 @@ ghost use Rattle.rv32_asm.specs.declared.fault.AsmFault.{AsmFault};
 ghost use Rattle.rv32_asm.specs.declared.fault.AsmError.TheVariants.{Fault};
 
 mod characters;
+mod expressions;
 mod fault;
+mod keywords;
 mod lines;
 mod numbers;
 mod reading;
+mod registers;
 mod statements;
 mod strings;
 
