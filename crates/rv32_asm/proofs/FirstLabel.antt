@@ -35,7 +35,7 @@ nameless_behind part [] e = refl
 nameless_behind part (p ∷ ps) e = rw e refl
 
 join_of : (text part : List ℕ) (ps : List (List ℕ)) → parts text ≡ part ∷ ps → join_with_byte 58 (part ∷ ps) ≡ text
-join_of text part ps e = rw (sym e) (join_with_byte-slice_split 58 text)
+join_of text part ps e = let j = rw e at (join_with_byte-slice_split 58 text) in j
 
 pub name_found : (text part rest : List ℕ) → parts text ≡ part ∷ parts rest → is_name (skip_blanks part) ≡ true → labels_in (parts text) ≡ skip_blanks part ∷ labels_in (parts rest)
 name_found text part rest e n = rw e (named part (parts rest) (some_parts rest) n)

@@ -15,3 +15,4 @@ pub mod TextOperands
 pub mod TextRegisters
 pub mod TextStatements
 pub mod FirstLabel
+pub mod Words

@@ -27,7 +27,7 @@ fn with_sum<'a>(name: &'a [u8], rest: &[u8]) -> Option<Expression<'a>>
 }
 
 /// The expression that a text without blanks at its ends is.
-#[tactic(auto, unfolding(crate::specs::Expressions::expression_of))]
+#[tactic(auto, using(crate::proofs::Words::front_taken), unfolding(crate::specs::Expressions::expression_of))]
 pub fn expression_of(text: &[u8]) -> Option<Expression<'_>>
     ensures { option_map expression result ≡ spec.expression_of text.now }
 {

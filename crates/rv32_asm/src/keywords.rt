@@ -1,7 +1,8 @@
 //! The words that a statement begins with, and which operands stand behind them.
 
 ghost use Rattle.rv32_asm.specs.Keywords as spec;
-ghost use Rattle.rv32_asm.specs.Seen.{keyword};
+ghost use Rattle.rv32_asm.specs.Seen.{keyword, other};
+ghost use Rattle.rv32_asm.specs.Parts.{shorthand};
 ghost use Rattle.rv32_decode.specs.Table.{rows};
 ghost use Rattle.rv32_text.specs.Text.{mnemonic_of};
 ghost use Rattle.std.specs.Prelude.{find, map, option_map, ◌≡◌};
@@ -23,11 +24,9 @@ pub enum Slot {
     Place,
 }
 
-/// What a word at the front of a statement stands for.
+/// A shorthand for one instruction or two, or a directive.
 #[derive(Clone, Copy)]
-pub enum Keyword {
-    /// An instruction, or a shorthand for one: its operands, and the fields that they leave as they are.
-    Instruction(&'static [Slot], Instruction<'static>),
+pub enum Other {
     Li,
     La,
     Data(Width),
@@ -37,6 +36,15 @@ pub enum Keyword {
     Align,
     Text,
     Globl,
+}
+
+/// What a word at the front of a statement stands for.
+#[derive(Clone, Copy)]
+pub enum Keyword {
+    /// An instruction, or a shorthand for one: its operands, and the fields that they leave as they are.
+    Instruction(&'static [Slot], Instruction<'static>),
+    /// Another word.
+    Other(Other),
 }
 
 // The operands of the table's rows.
@@ -68,21 +76,107 @@ fn row_keyword(op: Op) -> Keyword
     )
 }
 
-fn other_word(word: &[u8]) -> Option<Keyword>
-    ensures { option_map keyword result ≡ option_map (λ entry. entry.1) (find (λ entry. bytes_eq entry.0 word.now) spec.other_words) }
+// The table's rows, in its order.
+static OPS: [Op; 49] = [
+    Op::Lui,
+    Op::Auipc,
+    Op::Jal,
+    Op::Jalr,
+    Op::Beq,
+    Op::Bne,
+    Op::Blt,
+    Op::Bge,
+    Op::Bltu,
+    Op::Bgeu,
+    Op::Lb,
+    Op::Lh,
+    Op::Lw,
+    Op::Lbu,
+    Op::Lhu,
+    Op::Sb,
+    Op::Sh,
+    Op::Sw,
+    Op::Addi,
+    Op::Slti,
+    Op::Sltiu,
+    Op::Xori,
+    Op::Ori,
+    Op::Andi,
+    Op::Slli,
+    Op::Srli,
+    Op::Srai,
+    Op::Add,
+    Op::Sub,
+    Op::Sll,
+    Op::Slt,
+    Op::Sltu,
+    Op::Xor,
+    Op::Srl,
+    Op::Sra,
+    Op::Or,
+    Op::And,
+    Op::Mul,
+    Op::Mulh,
+    Op::Mulhsu,
+    Op::Mulhu,
+    Op::Div,
+    Op::Divu,
+    Op::Rem,
+    Op::Remu,
+    Op::Fence,
+    Op::FenceI,
+    Op::Ecall,
+    Op::Ebreak,
+];
+
+// Shorthands for one instruction: the word, its operands, and the row with rd, rs1 and the immediate.
+static SHORTHANDS: [(&str, &[Slot], Op, u8, u8, i64); 12] = [
+    ("nop", &[], Op::Addi, 0, 0, 0),
+    ("mv", &[Slot::Rd, Slot::Rs1], Op::Addi, 0, 0, 0),
+    ("j", &[Slot::Value], Op::Jal, 0, 0, 0),
+    ("call", &[Slot::Value], Op::Jal, 1, 0, 0),
+    ("jr", &[Slot::Rs1], Op::Jalr, 0, 0, 0),
+    ("ret", &[], Op::Jalr, 0, 1, 0),
+    ("beqz", &[Slot::Rs1, Slot::Value], Op::Beq, 0, 0, 0),
+    ("bnez", &[Slot::Rs1, Slot::Value], Op::Bne, 0, 0, 0),
+    ("not", &[Slot::Rd, Slot::Rs1], Op::Xori, 0, 0, -1),
+    ("neg", &[Slot::Rd, Slot::Rs2], Op::Sub, 0, 0, 0),
+    ("seqz", &[Slot::Rd, Slot::Rs1], Op::Sltiu, 0, 0, 1),
+    ("snez", &[Slot::Rd, Slot::Rs2], Op::Sltu, 0, 0, 0),
+];
+
+// Shorthands for one instruction or two, and directives.
+static OTHER_WORDS: [(&str, Other); 11] = [
+    ("li", Other::Li),
+    ("la", Other::La),
+    (".word", Other::Data(Width::Four)),
+    (".half", Other::Data(Width::Two)),
+    (".byte", Other::Data(Width::One)),
+    (".ascii", Other::Ascii),
+    (".asciz", Other::Asciz),
+    (".space", Other::Space),
+    (".align", Other::Align),
+    (".text", Other::Text),
+    (".globl", Other::Globl),
+];
+
+#[tactic(auto, unfolding(rv32_decode::specs::Table::rows))]
+fn ops() -> &'static [Op]
+    ensures { result.now ≡ map (λ row. row.op) rows }
 {
-    match word {
-        b"li" => Some(Keyword::Li),
-        b"la" => Some(Keyword::La),
-        b".word" => Some(Keyword::Data(Width::Four)),
-        b".half" => Some(Keyword::Data(Width::Two)),
-        b".byte" => Some(Keyword::Data(Width::One)),
-        b".ascii" => Some(Keyword::Ascii),
-        b".asciz" => Some(Keyword::Asciz),
-        b".space" => Some(Keyword::Space),
-        b".align" => Some(Keyword::Align),
-        b".text" => Some(Keyword::Text),
-        b".globl" => Some(Keyword::Globl),
-        _ => None,
-    }
+    &OPS
+}
+
+#[tactic(auto, unfolding(crate::specs::Keywords::other_words))]
+fn other_words() -> &'static [(&'static str, Other)]
+    ensures { map (λ entry. (entry.0.now, other entry.1)) result.now ≡ spec.other_words }
+{
+    &OTHER_WORDS
+}
+
+#[tactic(auto, unfolding(crate::specs::Keywords::shorthands))]
+fn shorthands() -> &'static [(&'static str, &'static [Slot], Op, u8, u8, i64)]
+    ensures { map shorthand result.now ≡ spec.shorthands }
+{
+    &SHORTHANDS
 }

@@ -4,4 +4,4 @@ use Rattle.rv32_asm.proofs.lines.first_line.Goals as goal
 
 pub returns-then-len-text : goal.returns-then-len-text
 returns-then-len-text c =
-    rw take_rest (first_is c.args.text.now c.without_return.result.now c.len_before-len.result c.len_before-len.ensures c.if-len-text.true c.without_return.ensures)
+    rw take_rest (first_is c.args.text.now c.without_return.result.now c.len_before-len.result c.len_before-len.ensures.counted c.if-len-text.true c.without_return.ensures)
