@@ -16,3 +16,5 @@ pub mod TextRegisters
 pub mod TextStatements
 pub mod FirstLabel
 pub mod Words
+pub mod Numbered
+pub mod Tables

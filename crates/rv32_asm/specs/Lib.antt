@@ -15,4 +15,5 @@ pub mod Passes
 pub mod Assembly
 pub mod Parts
 pub mod Seen
+pub mod Tables
 pub mod Law

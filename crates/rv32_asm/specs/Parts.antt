@@ -1,14 +1,9 @@
 -- What parts of the reading find.
 use Rattle.std.specs.Borrow.{Bor}
-use Rattle.sec_base.specs.declared.memory.Width.{Width}
-use Rattle.rv32_decode.specs.declared.Op.{Op}
-use Rattle.rv32_asm.specs.declared.keywords.Slot.{Slot}
-use Rattle.rv32_asm.specs.Keywords.{Keyword, InstructionWord}
-use Rattle.rv32_asm.specs.Statements.{instruction}
 use Rattle.rv32_asm.specs.Characters.{colon}
 use Rattle.rv32_asm.specs.Lines.{lines_of, labels_in, behind_labels}
 use Rattle.std.specs.List.{slice_split}
-use Rattle.std.specs.Prelude.{ℕ, ℤ, List, [], ◌∷◌, ◌≡◌, ◌<◌, ◌==◌, ◌+◌, ◌*◌, ◌^◌, Option, Some, None, length, nat_lt, if◌then◌else◌}
+use Rattle.std.specs.Prelude.{ℕ, List, [], ◌∷◌, ◌≡◌, ◌<◌, ◌==◌, ◌+◌, ◌*◌, ◌^◌, Option, Some, None, length, nat_lt, if◌then◌else◌}
 use Rattle.std.specs.Char.{is_digit, digit_value}
 
 -- the number, where 32 bits hold it
@@ -41,7 +36,3 @@ IsFirstLabel text (Some label) =
     × (behind_labels (parts text) ≡ behind_labels (parts label.1.now))
     × (length label.1.now < length text)
 IsFirstLabel text None = (labels_in (parts text) ≡ []) × (behind_labels (parts text) ≡ text)
-
--- a word, its operands, and the row with rd, rs1 and the immediate
-abbrev pub shorthand : Bor (List ℕ) × Bor (List Slot) × Op × ℕ × ℕ × ℤ → List ℕ × Keyword
-shorthand row = (row.0.now, InstructionWord row.1.now (instruction row.2 row.3 row.4 0 row.5))

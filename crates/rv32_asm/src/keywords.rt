@@ -1,12 +1,10 @@
 //! The words that a statement begins with, and which operands stand behind them.
 
 ghost use Rattle.rv32_asm.specs.Keywords as spec;
-ghost use Rattle.rv32_asm.specs.Seen.{keyword, other};
-ghost use Rattle.rv32_asm.specs.Parts.{shorthand};
-ghost use Rattle.rv32_decode.specs.Table.{rows};
-ghost use Rattle.rv32_text.specs.Text.{mnemonic_of};
-ghost use Rattle.std.specs.Prelude.{find, map, option_map, ◌≡◌};
-ghost use Rattle.std.specs.Str.{bytes_eq};
+ghost use Rattle.rv32_asm.specs.Seen.{keyword};
+ghost use Rattle.rv32_asm.specs.Tables.{has_registers, named, other_entry, row_entry, shorthand_entry};
+ghost use Rattle.std.specs.List.{list_all};
+ghost use Rattle.std.specs.Prelude.{map, option_map, true, ◌≡◌};
 
 use crate::statements::Instruction;
 use rv32_decode::Op;
@@ -160,23 +158,74 @@ static OTHER_WORDS: [(&str, Other); 11] = [
     (".globl", Other::Globl),
 ];
 
-#[tactic(auto, unfolding(rv32_decode::specs::Table::rows))]
+#[tactic(auto, unfolding(crate::specs::Keywords::row_words, rv32_decode::specs::Table::rows, rv32_text::specs::Text::mnemonic_of))]
 fn ops() -> &'static [Op]
-    ensures { result.now ≡ map (λ row. row.op) rows }
+    ensures { map row_entry result.now ≡ spec.row_words }
 {
     &OPS
 }
 
+#[tactic(auto, unfolding(crate::specs::Keywords::shorthands))]
+fn shorthands() -> &'static [(&'static str, &'static [Slot], Op, u8, u8, i64)]
+    ensures same { map shorthand_entry result.now ≡ spec.shorthands }
+    ensures registers { list_all has_registers result.now ≡ true }
+{
+    &SHORTHANDS
+}
+
 #[tactic(auto, unfolding(crate::specs::Keywords::other_words))]
 fn other_words() -> &'static [(&'static str, Other)]
-    ensures { map (λ entry. (entry.0.now, other entry.1)) result.now ≡ spec.other_words }
+    ensures { map other_entry result.now ≡ spec.other_words }
 {
     &OTHER_WORDS
 }
 
-#[tactic(auto, unfolding(crate::specs::Keywords::shorthands))]
-fn shorthands() -> &'static [(&'static str, &'static [Slot], Op, u8, u8, i64)]
-    ensures { map shorthand result.now ≡ spec.shorthands }
+fn row_word(word: &[u8]) -> Option<Keyword>
+    ensures { option_map keyword result ≡ named spec.row_words word.now }
 {
-    &SHORTHANDS
+    for op in ops() {
+        if name_of(*op).as_bytes() == word {
+            return Some(row_keyword(*op));
+        }
+    }
+    None
+}
+
+fn shorthand(word: &[u8]) -> Option<Keyword>
+    ensures { option_map keyword result ≡ named spec.shorthands word.now }
+{
+    for &(name, slots, op, rd, rs1, number) in shorthands() {
+        if name.as_bytes() == word {
+            return Some(Keyword::Instruction(
+                slots,
+                Instruction::with_number(op, rd, rs1, 0, number),
+            ));
+        }
+    }
+    None
+}
+
+fn other_word(word: &[u8]) -> Option<Keyword>
+    ensures { option_map keyword result ≡ named spec.other_words word.now }
+{
+    for &(name, other) in other_words() {
+        if name.as_bytes() == word {
+            return Some(Keyword::Other(other));
+        }
+    }
+    None
+}
+
+/// What a word stands for.
+#[tactic(auto, using(crate::proofs::Tables::found_first, crate::proofs::Tables::found_later), unfolding(crate::specs::Keywords::keyword_of, crate::specs::Keywords::keywords))]
+pub fn keyword_of(word: &[u8]) -> Option<Keyword>
+    ensures { option_map keyword result ≡ spec.keyword_of word.now }
+{
+    if let Some(keyword) = row_word(word) {
+        return Some(keyword);
+    }
+    if let Some(keyword) = shorthand(word) {
+        return Some(keyword);
+    }
+    other_word(word)
 }

@@ -9,16 +9,15 @@ ghost use Rattle.std.specs.Str.{bytes_eq};
 use rv32_text::register_name;
 
 // Whether a name is an `x` and the number.
+#[tactic(auto, using(crate::proofs::Numbered::one_digit, crate::proofs::Numbered::two_digits))]
 fn is_numbered(number: u8, name: &[u8]) -> bool
     requires { number < 32 }
     ensures { result ≡ bytes_eq name.now (codes "x" ++ decimal number) }
 {
-    match name {
-        [b'x', ones] => number < 10 && *ones == b'0' + number,
-        [b'x', tens, ones] => number >= 10
-            && *tens == b'0' + number / 10
-            && *ones == b'0' + number % 10,
-        _ => false,
+    if number < 10 {
+        name == [b'x', b'0' + number].as_slice()
+    } else {
+        name == [b'x', b'0' + number / 10, b'0' + number % 10].as_slice()
     }
 }
 
@@ -33,7 +32,7 @@ fn is_named(number: u8, name: &[u8]) -> bool
 }
 
 /// The number of the register of this name.
-#[tactic(auto, unfolding(crate::specs::Registers::register_of))]
+#[tactic(auto, using(crate::proofs::Numbered::found, crate::proofs::Numbered::goes_on, crate::proofs::Numbered::none_left), unfolding(crate::specs::Registers::register_of))]
 pub fn register_of(name: &[u8]) -> Option<u8>
     ensures value { result ≡ spec.register_of name.now }
     ensures register { IfSome result (λ number. number < 32) }
