@@ -1,5 +1,5 @@
 -- The first label of a line.
-use Rattle.std.proofs.Common.{◌≡◌, ℕ, ◌+◌, ◌<◌, ◌≤◌, Bool, true, false, List, [], ◌∷◌, length, take, drop, refl, sym, arith, eqb}
+use Rattle.std.proofs.Common.{◌≡◌, ℕ, ◌+◌, ◌<◌, ◌≤◌, Bool, true, false, List, [], ◌∷◌, length, take, drop, length-drop, refl, sym, arith, eqb}
 use Rattle.std.specs.List.{slice_split, position_or_len, join_with_byte, count_by}
 use Rattle.std.proofs.lemmas.List.Splits.{slice_split_first, length-slice_split, join_with_byte-slice_split}
 use Rattle.rv32_asm.specs.Characters.{is_name, skip_blanks}
@@ -63,11 +63,11 @@ one_part [] none = refl
 one_part (x ∷ xs) none = single false x (slice_split at_colon xs) xs refl (one_part xs (left_none x xs none)) refl (passes_none x xs none)
 
 -- a colon behind a name
-pub is_first : (text name : List ℕ) (len : ℕ) → len ≡ len_of text → len < length text → name ≡ skip_blanks (take len text) → is_name name ≡ true → (labels_in (parts text) ≡ name ∷ labels_in (parts (drop (len + 1) text))) × (behind_labels (parts text) ≡ behind_labels (parts (drop (len + 1) text)))
+pub is_first : (text name : List ℕ) (len : ℕ) → len ≡ len_of text → len < length text → name ≡ skip_blanks (take len text) → is_name name ≡ true → (labels_in (parts text) ≡ name ∷ labels_in (parts (drop (len + 1) text))) × (behind_labels (parts text) ≡ behind_labels (parts (drop (len + 1) text))) × (length (drop (len + 1) text) < length text)
 is_first text name len e below f n =
     let cut : parts text ≡ take len text ∷ parts (drop (len + 1) text) = rw e (cut_at text (omega (arith, e))) in
     let g : is_name (skip_blanks (take len text)) ≡ true = rw (sym f) n in
-    rw f (name_found text (take len text) (drop (len + 1) text) cut g, behind_found text (take len text) (drop (len + 1) text) cut g)
+    rw f (name_found text (take len text) (drop (len + 1) text) cut g, behind_found text (take len text) (drop (len + 1) text) cut g, omega (arith, length-drop (len + 1) text))
 
 -- a colon behind something else
 pub no_name : (text name : List ℕ) (len : ℕ) → len ≡ len_of text → len < length text → name ≡ skip_blanks (take len text) → is_name name ≡ false → (labels_in (parts text) ≡ []) × (behind_labels (parts text) ≡ text)
@@ -77,5 +77,5 @@ no_name text name len e below f n =
     (none_found text (take len text) (parts (drop (len + 1) text)) cut g, none_behind text (take len text) (parts (drop (len + 1) text)) cut g)
 
 -- no colon
-pub no_colon : (text : List ℕ) → length text ≤ len_of text → (labels_in (parts text) ≡ []) × (behind_labels (parts text) ≡ text)
-no_colon text none = rw (one_part text none) (refl, refl)
+pub no_colon : (text : List ℕ) (len : ℕ) → len ≡ len_of text → len ≡ length text → (labels_in (parts text) ≡ []) × (behind_labels (parts text) ≡ text)
+no_colon text len e f = rw (one_part text (omega (arith, e))) (refl, refl)

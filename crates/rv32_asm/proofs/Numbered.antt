@@ -1,6 +1,7 @@
 -- The names of registers are searched by number.
 use Rattle.std.proofs.Common.{◌≡◌, ℕ, ◌+◌, ◌-◌, ◌*◌, ◌/◌, ◌%◌, ◌<◌, ◌≤◌, ◌++◌, Bool, true, false, List, [], ◌∷◌, refl, sym, arith, eqb, nat_lt, zero, suc}
 use Rattle.std.specs.Prelude.{codes, decimal, find, Option, Some, None, if◌then◌else◌}
+use Rattle.std.specs.Fmt.{digits}
 use Rattle.std.specs.List.{range_with_len}
 use Rattle.std.specs.Str.{bytes_eq}
 use Rattle.std.proofs.lemmas.Bool.{agree_below_at}
@@ -11,6 +12,7 @@ abbrev short : ℕ → List ℕ
 short n = if nat_lt n 10 then 120 ∷ (48 + n) ∷ [] else 120 ∷ (48 + n / 10) ∷ (48 + n % 10) ∷ []
 
 spelled : (n : ℕ) → n < 32 → codes "x" ++ decimal n ≡ short n
+unfolding digits
 spelled n below =
     (bytes_eq-Decides (codes "x" ++ decimal n) (short n)).0
     (agree_below_at (λ each. bytes_eq (codes "x" ++ decimal each) (short each)) (λ each. true) 32 n refl below)

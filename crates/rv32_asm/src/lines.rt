@@ -105,7 +105,6 @@ pub fn first_line(text: &[u8]) -> (&[u8], Option<&[u8]>)
     }
 }
 
-#[tactic(auto, using(crate::proofs::FirstLabel::is_first, crate::proofs::FirstLabel::no_name, crate::proofs::FirstLabel::no_colon))]
 /// The first label of a line without its comment, and what stands behind the label's colon.
 pub fn first_label(text: &[u8]) -> Option<(&[u8], &[u8])>
     ensures labels { IsFirstLabel text.now result }
