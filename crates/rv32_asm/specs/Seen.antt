@@ -25,6 +25,9 @@ expression e = record { label = name e.label; number = e.number }
 abbrev pub expressions : List Expression → List spec.Expression
 expressions es = map expression es
 
+abbrev pub place : Expression × ℕ → spec.Expression × ℕ
+place p = (expression p.0, p.1)
+
 abbrev pub immediate : Immediate → meant.Immediate
 immediate (Whole e) = meant.Whole (expression e)
 immediate (Upper e) = meant.Upper (expression e)

@@ -14,6 +14,7 @@ mod fault;
 mod keywords;
 mod lines;
 mod numbers;
+mod operands;
 mod reading;
 mod registers;
 mod statements;

@@ -6,7 +6,7 @@ ghost use Rattle.rv32_asm.specs.Parts.{IsFirstLabel, lines_left};
 ghost use Rattle.rv32_asm.specs.declared.lines.Standing.TheVariants.{Outside};
 ghost use Rattle.std.specs.Prelude.{◌∷◌, ◌≡◌};
 
-use crate::characters::{is_name, len_before, skip_blanks};
+use crate::characters::{is_name, len_before, skip_blanks, trimmed};
 
 /// Where a byte of a line stands: outside the strings, in one, or behind a backslash in one.
 #[derive(Clone, Copy)]
@@ -119,4 +119,16 @@ pub fn first_label(text: &[u8]) -> Option<(&[u8], &[u8])>
     } else {
         None
     }
+}
+
+/// The text of a line's statement: what stands behind its labels, without its comment and the blanks at its ends.
+#[tactic(auto, unfolding(crate::specs::Lines::statement_text))]
+pub fn statement_text(line: &[u8]) -> &[u8]
+    ensures { result.now ≡ spec.statement_text line.now }
+{
+    let mut left = without_comment(line);
+    while let Some((_, rest)) = first_label(left) {
+        left = rest;
+    }
+    trimmed(left)
 }

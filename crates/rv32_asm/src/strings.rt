@@ -1,7 +1,11 @@
 //! Strings in quotation marks.
 
 ghost use Rattle.rv32_asm.specs.Reading as spec;
-ghost use Rattle.std.specs.Prelude.{◌≡◌};
+ghost use Rattle.rv32_asm.specs.Parts.{string_from};
+ghost use Rattle.std.specs.Prelude.{IfOk, IfSome, [], length, option_map, ◌∷◌, ◌<◌, ◌≡◌, ◌≢◌};
+
+use sec_base::NoMemory;
+use std::alloc::Global;
 
 /// The byte that a character behind a backslash means.
 pub fn escape_of(byte: u8) -> Option<u8>
@@ -15,4 +19,39 @@ pub fn escape_of(byte: u8) -> Option<u8>
         b'"' => Some(b'"'),
         _ => None,
     }
+}
+
+// The byte that the first character of a string means, and what stands behind the character.
+fn first_character(text: &[u8]) -> Option<(u8, &[u8])>
+    ensures character { text.now ≢ 34 ∷ [] → spec.string_after text.now ≡ string_from result }
+    ensures shorter { IfSome result (λ c. length c.1.now < length text.now) }
+{
+    match text {
+        [b'\\', escaped, rest @ ..] => {
+            let meant = escape_of(*escaped)?;
+            Some((meant, rest))
+        }
+        [b'"', ..] => None,
+        [byte, rest @ ..] => Some((*byte, rest)),
+        [] => None,
+    }
+}
+
+/// The bytes of a string in quotation marks, or `None` where a text is none.
+pub fn string_of(alloc: Global, text: &[u8]) -> Result<Option<Vec<u8>>, NoMemory>
+    ensures { IfOk result (λ string. option_map (λ bytes. bytes.items) string ≡ spec.string_of text.now) }
+{
+    let [b'"', inside @ ..] = text else {
+        return Ok(None);
+    };
+    let mut left = inside;
+    let mut bytes = Vec::new(alloc);
+    while left != b"\"".as_slice() {
+        let Some((byte, rest)) = first_character(left) else {
+            return Ok(None);
+        };
+        bytes.push(byte)?;
+        left = rest;
+    }
+    Ok(Some(bytes))
 }
