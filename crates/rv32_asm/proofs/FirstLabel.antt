@@ -1,19 +1,17 @@
 -- The first label of a line.
 use Rattle.std.proofs.Common.{◌≡◌, ℕ, ◌+◌, ◌<◌, ◌≤◌, Bool, true, false, List, [], ◌∷◌, length, take, drop, length-drop, refl, sym, arith, eqb}
-use Rattle.std.specs.List.{slice_split, position_or_len, join_with_byte, count_by}
-use Rattle.std.proofs.lemmas.List.Splits.{slice_split_first, length-slice_split, join_with_byte-slice_split}
+use Rattle.std.specs.List.{slice_split, position_or_len, join_with_byte}
+use Rattle.std.proofs.lemmas.List.Splits.{slice_split_first, join_with_byte-slice_split}
 use Rattle.rv32_asm.specs.Characters.{is_name, skip_blanks}
 use Rattle.rv32_asm.specs.Lines.{labels_in, behind_labels}
 use Rattle.rv32_asm.specs.Parts.{parts}
+use Rattle.rv32_asm.proofs.Splits.{one_part, some_parts}
 
 abbrev pub at_colon : ℕ → Bool
 at_colon byte = eqb byte 58
 
 abbrev pub len_of : List ℕ → ℕ
 len_of text = position_or_len at_colon text
-
-pub some_parts : (text : List ℕ) → 0 < length (parts text)
-some_parts text = let e = length-slice_split at_colon text in omega arith
 
 pub cut_at : (text : List ℕ) → len_of text < length text → parts text ≡ take (len_of text) text ∷ parts (drop (len_of text + 1) text)
 cut_at text below = slice_split_first at_colon text 0 below
@@ -38,29 +36,16 @@ join_of : (text part : List ℕ) (ps : List (List ℕ)) → parts text ≡ part 
 join_of text part ps e = let j = rw e at (join_with_byte-slice_split 58 text) in j
 
 pub name_found : (text part rest : List ℕ) → parts text ≡ part ∷ parts rest → is_name (skip_blanks part) ≡ true → labels_in (parts text) ≡ skip_blanks part ∷ labels_in (parts rest)
-name_found text part rest e n = rw e (named part (parts rest) (some_parts rest) n)
+name_found text part rest e n = rw e (named part (parts rest) (some_parts at_colon rest) n)
 
 pub behind_found : (text part rest : List ℕ) → parts text ≡ part ∷ parts rest → is_name (skip_blanks part) ≡ true → behind_labels (parts text) ≡ behind_labels (parts rest)
-behind_found text part rest e n = rw e (named_behind part (parts rest) (some_parts rest) n)
+behind_found text part rest e n = rw e (named_behind part (parts rest) (some_parts at_colon rest) n)
 
 pub none_found : (text part : List ℕ) (ps : List (List ℕ)) → parts text ≡ part ∷ ps → is_name (skip_blanks part) ≡ false → labels_in (parts text) ≡ []
 none_found text part ps e n = rw e (nameless part ps n)
 
 pub none_behind : (text part : List ℕ) (ps : List (List ℕ)) → parts text ≡ part ∷ ps → is_name (skip_blanks part) ≡ false → behind_labels (parts text) ≡ text
 none_behind text part ps e n = let j = join_of text part ps e in rw e (rw (nameless_behind part ps n) j)
-
-single : (c : Bool) (x : ℕ) (rest : List (List ℕ)) (xs : List ℕ) → c ≡ false → rest ≡ xs ∷ [] → slice_split at_colon xs ≡ rest → eqb x 58 ≡ c → slice_split at_colon (x ∷ xs) ≡ (x ∷ xs) ∷ []
-single c x rest xs e f g h = rw (h, e, g, f) refl
-
-passes_none : (x : ℕ) (xs : List ℕ) → length (x ∷ xs) ≤ len_of (x ∷ xs) → eqb x 58 ≡ false
-passes_none x xs none = grind arith
-
-left_none : (x : ℕ) (xs : List ℕ) → length (x ∷ xs) ≤ len_of (x ∷ xs) → length xs ≤ len_of xs
-left_none x xs none = let f = rw (passes_none x xs none) at none in omega (arith, f)
-
-pub one_part : (text : List ℕ) → length text ≤ len_of text → parts text ≡ text ∷ []
-one_part [] none = refl
-one_part (x ∷ xs) none = single false x (slice_split at_colon xs) xs refl (one_part xs (left_none x xs none)) refl (passes_none x xs none)
 
 -- a colon behind a name
 pub is_first : (text name : List ℕ) (len : ℕ) → len ≡ len_of text → len < length text → name ≡ skip_blanks (take len text) → is_name name ≡ true → (labels_in (parts text) ≡ name ∷ labels_in (parts (drop (len + 1) text))) × (behind_labels (parts text) ≡ behind_labels (parts (drop (len + 1) text))) × (length (drop (len + 1) text) < length text)
@@ -78,4 +63,4 @@ no_name text name len e below f n =
 
 -- no colon
 pub no_colon : (text : List ℕ) (len : ℕ) → len ≡ len_of text → len ≡ length text → (labels_in (parts text) ≡ []) × (behind_labels (parts text) ≡ text)
-no_colon text len e f = rw (one_part text (omega (arith, e))) (refl, refl)
+no_colon text len e f = rw (one_part at_colon text (omega (arith, e))) (refl, refl)

@@ -18,3 +18,6 @@ pub mod FirstLabel
 pub mod Words
 pub mod Numbered
 pub mod Tables
+pub mod Splits
+pub mod Commas
+pub mod Quotes

@@ -14,6 +14,7 @@ use sec_base::NoMemory;
 use std::alloc::Global;
 
 /// The first operand of a text, and what is left of it behind the comma that ends the operand.
+#[tactic(auto, using(crate::proofs::Commas::cut, crate::proofs::Commas::last))]
 pub fn first_operand(text: &[u8]) -> (&[u8], Option<&[u8]>)
     ensures { operand_texts text.now ≡ result.0.now ∷ operands_left result.1 }
 {
@@ -26,6 +27,7 @@ pub fn first_operand(text: &[u8]) -> (&[u8], Option<&[u8]>)
 }
 
 /// The text of the operands, where there are some.
+#[tactic(auto, using(crate::proofs::Commas::none_there, crate::proofs::Commas::some_there))]
 pub fn operands_of(text: &[u8]) -> Option<&[u8]>
     ensures { operands_left result ≡ spec.operands_of text.now }
 {
@@ -33,6 +35,7 @@ pub fn operands_of(text: &[u8]) -> Option<&[u8]>
 }
 
 /// The two operands that a text has.
+#[tactic(auto, using(crate::proofs::Commas::too_many))]
 pub fn two_operands(text: &[u8]) -> Option<(&[u8], &[u8])>
     ensures { option_map (λ both. (both.0.now, both.1.now)) result ≡ two (spec.operands_of text.now) }
 {
@@ -104,6 +107,7 @@ fn with_operand<'a>(
 }
 
 /// An instruction with the fields that its operands give, of which there are as many as it takes.
+#[tactic(auto, using(crate::proofs::Commas::too_few_given, crate::proofs::Commas::too_many_given))]
 pub fn with_operands<'a>(
     slots: &[Slot],
     operands: Option<&'a [u8]>,

@@ -1,12 +1,13 @@
 //! The statement of a line: its word, and the operands behind it.
 
-ghost use Rattle.rv32_asm.specs.Keywords.{AscizWord, InstructionWord};
+ghost use Rattle.rv32_asm.specs.Keywords.{AlignWord, AsciiWord, AscizWord, InstructionWord, SpaceWord};
 ghost use Rattle.rv32_asm.specs.Reading as spec;
 ghost use Rattle.rv32_asm.specs.Seen as seen;
 ghost use Rattle.rv32_asm.specs.Seen.{statement};
 ghost use Rattle.rv32_asm.specs.declared.fault.AsmFault.{AsmFault};
 ghost use Rattle.rv32_asm.specs.declared.fault.LineError.TheVariants.{Fault};
-ghost use Rattle.std.specs.Prelude.{IfOk, Ok, Err, neg_ℤ, option_map, pos, ◌<◌, ◌^◌, ◌≡◌, ◌≤ℤ◌};
+ghost use Rattle.std.specs.Prelude.{IfOk, Ok, Err, Some, None, neg_ℤ, option_map, pos, if◌then◌else◌, ◌<◌, ◌^◌, ◌≡◌, ◌≤ℤ◌};
+ghost use Rattle.rv32_asm.specs.Statements.{Nothing};
 
 use crate::characters::{is_name, skip_blanks, word_len};
 use crate::expressions::expression_of;
@@ -23,6 +24,7 @@ use sec_base::{NoMemory, Width};
 use std::alloc::Global;
 
 // An instruction alone, with the fields that its operands give.
+#[tactic(auto, unfolding(crate::specs::Reading::statement_with))]
 fn one_instruction<'a>(
     alloc: Global,
     slots: &[Slot],
@@ -73,6 +75,7 @@ fn loaded(alloc: Global, rd: u8, number: i64) -> Result<Vec<Instruction<'static>
     pair(alloc, rd, Expression::number_alone(number))
 }
 
+#[tactic(auto, using(crate::proofs::Commas::li_two, crate::proofs::Commas::li_other))]
 fn li_of<'a>(alloc: Global, text: &'a [u8]) -> Result<Option<Statement<'a>>, NoMemory>
     ensures { IfOk result (λ s. option_map statement s ≡ spec.li_of (spec.operands_of text.now)) }
 {
@@ -88,6 +91,7 @@ fn li_of<'a>(alloc: Global, text: &'a [u8]) -> Result<Option<Statement<'a>>, NoM
     Ok(Some(Statement::Instructions(loaded(alloc, rd, number)?)))
 }
 
+#[tactic(auto, using(crate::proofs::Commas::la_two, crate::proofs::Commas::la_other))]
 fn la_of<'a>(alloc: Global, text: &'a [u8]) -> Result<Option<Statement<'a>>, NoMemory>
     ensures { IfOk result (λ s. option_map statement s ≡ spec.la_of (spec.operands_of text.now)) }
 {
@@ -104,6 +108,7 @@ fn la_of<'a>(alloc: Global, text: &'a [u8]) -> Result<Option<Statement<'a>>, NoM
 }
 
 // One or more values.
+#[tactic(auto, using(crate::proofs::Commas::no_data, crate::proofs::Commas::some_data))]
 fn data_of<'a>(
     alloc: Global,
     width: Width,
@@ -121,6 +126,7 @@ fn data_of<'a>(
 }
 
 // A string and a zero byte.
+#[tactic(auto, unfolding(crate::specs::Reading::statement_with))]
 fn asciz_of<'a>(alloc: Global, text: &'a [u8]) -> Result<Option<Statement<'a>>, NoMemory>
     ensures { IfOk result (λ s. option_map statement s ≡ spec.statement_with AscizWord text.now) }
 {
@@ -131,7 +137,49 @@ fn asciz_of<'a>(alloc: Global, text: &'a [u8]) -> Result<Option<Statement<'a>>, 
     Ok(Some(Statement::Bytes(bytes)))
 }
 
+#[tactic(auto, unfolding(crate::specs::Reading::statement_with))]
+fn ascii_of<'a>(alloc: Global, text: &'a [u8]) -> Result<Option<Statement<'a>>, NoMemory>
+    ensures { IfOk result (λ s. option_map statement s ≡ spec.statement_with AsciiWord text.now) }
+{
+    match string_of(alloc, text)? {
+        Some(bytes) => Ok(Some(Statement::Bytes(bytes))),
+        None => Ok(None),
+    }
+}
+
+#[tactic(auto, unfolding(crate::specs::Reading::statement_with))]
+fn zeros_of<'a>(text: &[u8]) -> Option<Statement<'a>>
+    ensures { option_map statement result ≡ spec.statement_with SpaceWord text.now }
+{
+    match number_of(text) {
+        Some(number) => Some(Statement::Zeros(number)),
+        None => None,
+    }
+}
+
+#[tactic(auto, unfolding(crate::specs::Reading::statement_with))]
+fn aligned_of<'a>(text: &[u8]) -> Option<Statement<'a>>
+    ensures { option_map statement result ≡ spec.statement_with AlignWord text.now }
+{
+    match number_of(text) {
+        Some(number) => Some(Statement::Aligned(number)),
+        None => None,
+    }
+}
+
+// No bytes, where the text behind the word has its form.
+fn nothing_where<'a>(formed: bool) -> Option<Statement<'a>>
+    ensures { option_map statement result ≡ (if formed then Some Nothing else None) }
+{
+    if formed {
+        Some(Statement::Nothing)
+    } else {
+        None
+    }
+}
+
 // The statement of a word that is no instruction.
+#[tactic(auto, using(crate::proofs::Commas::empty_test), unfolding(crate::specs::Reading::statement_with))]
 fn other_with<'a>(
     alloc: Global,
     word: Other,
@@ -143,22 +191,23 @@ fn other_with<'a>(
         Other::Li => li_of(alloc, text),
         Other::La => la_of(alloc, text),
         Other::Data(width) => data_of(alloc, width, text),
-        Other::Ascii => Ok(string_of(alloc, text)?.map(Statement::Bytes)),
+        Other::Ascii => ascii_of(alloc, text),
         Other::Asciz => asciz_of(alloc, text),
-        Other::Space => Ok(number_of(text).map(Statement::Zeros)),
-        Other::Align => Ok(number_of(text).map(Statement::Aligned)),
-        Other::Text => Ok(text.is_empty().then_some(Statement::Nothing)),
-        Other::Globl => Ok(is_name(text).then_some(Statement::Nothing)),
+        Other::Space => Ok(zeros_of(text)),
+        Other::Align => Ok(aligned_of(text)),
+        Other::Text => Ok(nothing_where(text.is_empty())),
+        Other::Globl => Ok(nothing_where(is_name(text))),
     }
 }
 
 // The statement of a word with the text behind it, where that has its form.
+#[tactic(auto, unfolding(crate::specs::Reading::statement_with))]
 fn statement_with<'a>(
     alloc: Global,
     keyword: Keyword,
     text: &'a [u8],
 ) -> Result<Option<Statement<'a>>, NoMemory>
-    ensures { IfOk result (λ s. option_map statement s ≡ spec.statement_with (seen.keyword keyword.entry) text.now) }
+    ensures { IfOk result (λ s. option_map statement s ≡ spec.statement_with (seen.keyword keyword) text.now) }
 {
     match keyword {
         Keyword::Instruction(slots, instruction) => one_instruction(

@@ -21,30 +21,49 @@ pub fn escape_of(byte: u8) -> Option<u8>
     }
 }
 
+// The byte that a character behind a backslash means, and what stands behind the character.
+#[tactic(auto, using(crate::proofs::Quotes::escaped, crate::proofs::Quotes::none_escaped, crate::proofs::Quotes::unknown))]
+fn escaped_character(text: &[u8]) -> Option<(u8, &[u8])>
+    ensures character { spec.string_after (92 ∷ text.now) ≡ string_from result }
+    ensures shorter { IfSome result (λ c. length c.1.now < length text.now) }
+{
+    if text.is_empty() {
+        return None;
+    }
+    match escape_of(text[0]) {
+        Some(meant) => Some((meant, &text[1..])),
+        None => None,
+    }
+}
+
 // The byte that the first character of a string means, and what stands behind the character.
+#[tactic(auto, using(crate::proofs::Quotes::plain, crate::proofs::Quotes::behind, crate::proofs::Quotes::quoted, crate::proofs::Quotes::nothing))]
 fn first_character(text: &[u8]) -> Option<(u8, &[u8])>
     ensures character { text.now ≢ 34 ∷ [] → spec.string_after text.now ≡ string_from result }
     ensures shorter { IfSome result (λ c. length c.1.now < length text.now) }
 {
-    match text {
-        [b'\\', escaped, rest @ ..] => {
-            let meant = escape_of(*escaped)?;
-            Some((meant, rest))
-        }
-        [b'"', ..] => None,
-        [byte, rest @ ..] => Some((*byte, rest)),
-        [] => None,
+    if text.is_empty() {
+        return None;
     }
+    let byte = text[0];
+    if byte == b'"' {
+        return None;
+    }
+    if byte == b'\\' {
+        return escaped_character(&text[1..]);
+    }
+    Some((byte, &text[1..]))
 }
 
 /// The bytes of a string in quotation marks, or `None` where a text is none.
+#[tactic(auto, using(crate::proofs::Quotes::begins, crate::proofs::Quotes::goes_on, crate::proofs::Quotes::no_string), unfolding(crate::specs::Reading::string_of))]
 pub fn string_of(alloc: Global, text: &[u8]) -> Result<Option<Vec<u8>>, NoMemory>
     ensures { IfOk result (λ string. option_map (λ bytes. bytes.items) string ≡ spec.string_of text.now) }
 {
-    let [b'"', inside @ ..] = text else {
+    if text.is_empty() || text[0] != b'"' {
         return Ok(None);
-    };
-    let mut left = inside;
+    }
+    let mut left = &text[1..];
     let mut bytes = Vec::new(alloc);
     while left != b"\"".as_slice() {
         let Some((byte, rest)) = first_character(left) else {
