@@ -51,17 +51,11 @@ never_given (x ∷ xs) i some = refl
 pub too_many_given : (slots : List Slot) (n : ℕ) (text : List ℕ) (i : Instruction) → length slots ≤ n → with_operands (drop n slots) (operand_texts text) i ≡ None
 too_many_given slots n text i past = rw (at_drop_all (λ each. with_operands each (operand_texts text) i) slots n past) (never_given (slice_split at_comma text) i (some_parts at_comma text))
 
-pub li_two : (texts : List (List ℕ)) (a b : List ℕ) → two texts ≡ Some (a, b) → li_of texts ≡ option_and_then (λ rd. option_map (λ n. Instructions (loaded rd n)) (number_of b)) (register_of a)
-li_two texts a b e = ?
-
 pub li_other : (texts : List (List ℕ)) → two texts ≡ None → li_of texts ≡ None
 li_other [] e = refl
 li_other (a ∷ []) e = refl
 li_other (a ∷ b ∷ []) e = cc
 li_other (a ∷ b ∷ c ∷ cs) e = refl
-
-pub la_two : (texts : List (List ℕ)) (a b : List ℕ) → two texts ≡ Some (a, b) → la_of texts ≡ option_and_then (λ rd. option_map (λ value. Instructions (pair rd value)) (expression_of b)) (register_of a)
-la_two texts a b e = ?
 
 pub la_other : (texts : List (List ℕ)) → two texts ≡ None → la_of texts ≡ None
 la_other [] e = refl

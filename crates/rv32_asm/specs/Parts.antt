@@ -1,6 +1,7 @@
 -- What parts of the reading find.
 use Rattle.std.specs.Borrow.{Bor}
 use Rattle.rv32_asm.specs.Characters.{colon, comma, trimmed}
+use Rattle.rv32_asm.specs.declared.strings.Character.{Character}
 use Rattle.rv32_asm.specs.Reading.{string_after}
 use Rattle.rv32_asm.specs.Lines.{lines_of, labels_in, behind_labels}
 use Rattle.std.specs.List.{slice_split}
@@ -52,6 +53,6 @@ abbrev pub two : List (List ℕ) → Option (List ℕ × List ℕ)
 two (first ∷ second ∷ []) = Some (first, second)
 two _ = None
 
--- the bytes of a string from its first character on, as the rest of its characters give them
-abbrev pub string_from : Option (ℕ × Bor (List ℕ)) → Option (List ℕ)
-string_from character = option_and_then (λ c. option_map (λ bytes. c.0 ∷ bytes) (string_after c.1.now)) character
+-- the bytes of a string from its first character on
+abbrev pub string_from : Option Character → Option (List ℕ)
+string_from character = option_and_then (λ c. option_map (λ bytes. c.meaning ∷ bytes) (string_after c.rest.now)) character

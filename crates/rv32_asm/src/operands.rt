@@ -14,7 +14,7 @@ use sec_base::NoMemory;
 use std::alloc::Global;
 
 /// The first operand of a text, and what is left of it behind the comma that ends the operand.
-#[tactic(auto, using(crate::proofs::Commas::cut, crate::proofs::Commas::last))]
+#[tactic(auto, using(std::proofs::lemmas::List::take_rest, crate::proofs::Commas::cut, crate::proofs::Commas::last))]
 pub fn first_operand(text: &[u8]) -> (&[u8], Option<&[u8]>)
     ensures { operand_texts text.now ≡ result.0.now ∷ operands_left result.1 }
 {

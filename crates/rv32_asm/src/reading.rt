@@ -75,7 +75,7 @@ fn loaded(alloc: Global, rd: u8, number: i64) -> Result<Vec<Instruction<'static>
     pair(alloc, rd, Expression::number_alone(number))
 }
 
-#[tactic(auto, using(crate::proofs::Commas::li_two, crate::proofs::Commas::li_other))]
+#[tactic(auto, using(crate::proofs::Commas::li_other))]
 fn li_of<'a>(alloc: Global, text: &'a [u8]) -> Result<Option<Statement<'a>>, NoMemory>
     ensures { IfOk result (λ s. option_map statement s ≡ spec.li_of (spec.operands_of text.now)) }
 {
@@ -91,7 +91,7 @@ fn li_of<'a>(alloc: Global, text: &'a [u8]) -> Result<Option<Statement<'a>>, NoM
     Ok(Some(Statement::Instructions(loaded(alloc, rd, number)?)))
 }
 
-#[tactic(auto, using(crate::proofs::Commas::la_two, crate::proofs::Commas::la_other))]
+#[tactic(auto, using(crate::proofs::Commas::la_other))]
 fn la_of<'a>(alloc: Global, text: &'a [u8]) -> Result<Option<Statement<'a>>, NoMemory>
     ensures { IfOk result (λ s. option_map statement s ≡ spec.la_of (spec.operands_of text.now)) }
 {

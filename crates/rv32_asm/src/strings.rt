@@ -21,26 +21,36 @@ pub fn escape_of(byte: u8) -> Option<u8>
     }
 }
 
+// The byte that a character of a string means, and what stands behind the character.
+#[derive(Clone, Copy)]
+struct Character<'a> {
+    meaning: u8,
+    rest: &'a [u8],
+}
+
 // The byte that a character behind a backslash means, and what stands behind the character.
-#[tactic(auto, using(crate::proofs::Quotes::escaped, crate::proofs::Quotes::none_escaped, crate::proofs::Quotes::unknown))]
-fn escaped_character(text: &[u8]) -> Option<(u8, &[u8])>
+#[tactic(auto, using(std::proofs::lemmas::List::take_rest, crate::proofs::Quotes::escaped, crate::proofs::Quotes::none_escaped, crate::proofs::Quotes::unknown))]
+fn escaped_character(text: &[u8]) -> Option<Character<'_>>
     ensures character { spec.string_after (92 ∷ text.now) ≡ string_from result }
-    ensures shorter { IfSome result (λ c. length c.1.now < length text.now) }
+    ensures shorter { IfSome result (λ c. length c.rest.now < length text.now) }
 {
     if text.is_empty() {
         return None;
     }
     match escape_of(text[0]) {
-        Some(meant) => Some((meant, &text[1..])),
+        Some(meaning) => Some(Character {
+            meaning,
+            rest: &text[1..],
+        }),
         None => None,
     }
 }
 
 // The byte that the first character of a string means, and what stands behind the character.
-#[tactic(auto, using(crate::proofs::Quotes::plain, crate::proofs::Quotes::behind, crate::proofs::Quotes::quoted, crate::proofs::Quotes::nothing))]
-fn first_character(text: &[u8]) -> Option<(u8, &[u8])>
+#[tactic(auto, using(std::proofs::lemmas::List::take_rest, crate::proofs::Quotes::plain, crate::proofs::Quotes::behind, crate::proofs::Quotes::quoted, crate::proofs::Quotes::nothing))]
+fn first_character(text: &[u8]) -> Option<Character<'_>>
     ensures character { text.now ≢ 34 ∷ [] → spec.string_after text.now ≡ string_from result }
-    ensures shorter { IfSome result (λ c. length c.1.now < length text.now) }
+    ensures shorter { IfSome result (λ c. length c.rest.now < length text.now) }
 {
     if text.is_empty() {
         return None;
@@ -52,11 +62,14 @@ fn first_character(text: &[u8]) -> Option<(u8, &[u8])>
     if byte == b'\\' {
         return escaped_character(&text[1..]);
     }
-    Some((byte, &text[1..]))
+    Some(Character {
+        meaning: byte,
+        rest: &text[1..],
+    })
 }
 
 /// The bytes of a string in quotation marks, or `None` where a text is none.
-#[tactic(auto, using(crate::proofs::Quotes::begins, crate::proofs::Quotes::goes_on, crate::proofs::Quotes::no_string), unfolding(crate::specs::Reading::string_of))]
+#[tactic(auto, using(crate::proofs::Quotes::no_string), unfolding(crate::specs::Reading::string_of))]
 pub fn string_of(alloc: Global, text: &[u8]) -> Result<Option<Vec<u8>>, NoMemory>
     ensures { IfOk result (λ string. option_map (λ bytes. bytes.items) string ≡ spec.string_of text.now) }
 {
@@ -66,11 +79,11 @@ pub fn string_of(alloc: Global, text: &[u8]) -> Result<Option<Vec<u8>>, NoMemory
     let mut left = &text[1..];
     let mut bytes = Vec::new(alloc);
     while left != b"\"".as_slice() {
-        let Some((byte, rest)) = first_character(left) else {
+        let Some(character) = first_character(left) else {
             return Ok(None);
         };
-        bytes.push(byte)?;
-        left = rest;
+        bytes.push(character.meaning)?;
+        left = character.rest;
     }
     Ok(Some(bytes))
 }
