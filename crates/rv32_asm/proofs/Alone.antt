@@ -12,7 +12,6 @@ use Rattle.rv32_asm.specs.Law.{IsReadBack}
 use Rattle.rv32_asm.specs.Lines.{statement_text, without_comment}
 use Rattle.rv32_asm.specs.Reading.{operands_of, statement_of, statement_with}
 use Rattle.rv32_asm.specs.Statements.{Instructions, instruction}
-use Rattle.rv32_asm.proofs.TextLines.{plain_labels}
 use Rattle.rv32_asm.proofs.Readings.{instruction_is, read_back}
 
 abbrev pub is_bare : Style → Bool
@@ -86,7 +85,7 @@ module _ (size address : ℕ) (aligned : address % 4 ≡ 0) (inside : address + 
   unfolding word_of row_for rows number_of placed
   fence_back =
       read_back size 0x0ff0000f address (codes "fence") (Instructions (instruction Fence 0 0 0 (pos 0xff) ∷ [])) fence_text
-      (plain_labels (codes "fence") refl) fence_means inside
+      refl fence_means inside
       (instruction_is 0x0ff0000f address Fence 0 0 0 (pos 0xff) aligned refl refl)
 
   fence_i_text : text_of_word 0x0000100f address ≡ codes "fence.i"
@@ -101,7 +100,7 @@ module _ (size address : ℕ) (aligned : address % 4 ≡ 0) (inside : address + 
   unfolding word_of row_for rows number_of placed
   fence_i_back =
       read_back size 0x0000100f address (codes "fence.i") (Instructions (instruction FenceI 0 0 0 (pos 0) ∷ [])) fence_i_text
-      (plain_labels (codes "fence.i") refl) fence_i_means inside
+      refl fence_i_means inside
       (instruction_is 0x0000100f address FenceI 0 0 0 (pos 0) aligned refl refl)
 
   ecall_text : text_of_word 0x00000073 address ≡ codes "ecall"
@@ -116,7 +115,7 @@ module _ (size address : ℕ) (aligned : address % 4 ≡ 0) (inside : address + 
   unfolding word_of row_for rows number_of placed
   ecall_back =
       read_back size 0x00000073 address (codes "ecall") (Instructions (instruction Ecall 0 0 0 (pos 0) ∷ [])) ecall_text
-      (plain_labels (codes "ecall") refl) ecall_means inside
+      refl ecall_means inside
       (instruction_is 0x00000073 address Ecall 0 0 0 (pos 0) aligned refl refl)
 
   ebreak_text : text_of_word 0x00100073 address ≡ codes "ebreak"
@@ -131,5 +130,5 @@ module _ (size address : ℕ) (aligned : address % 4 ≡ 0) (inside : address + 
   unfolding word_of row_for rows number_of placed
   ebreak_back =
       read_back size 0x00100073 address (codes "ebreak") (Instructions (instruction Ebreak 0 0 0 (pos 0) ∷ [])) ebreak_text
-      (plain_labels (codes "ebreak") refl) ebreak_means inside
+      refl ebreak_means inside
       (instruction_is 0x00100073 address Ebreak 0 0 0 (pos 0) aligned refl refl)

@@ -17,7 +17,6 @@ use Rattle.rv32_asm.specs.Statements.{Data, Instructions, instruction}
 use Rattle.std.proofs.Common.{pos}
 use Rattle.rv32_asm.proofs.Alone.{bare_pattern, ebreak_back, ecall_back, fence_back, fence_i_back, is_bare}
 use Rattle.rv32_asm.proofs.TextKeywords.{has_format, keyword_read, name_is_word, style_format}
-use Rattle.rv32_asm.proofs.TextLines.{plain_labels}
 use Rattle.rv32_asm.proofs.Readings.{data_is, data_line, data_plain, instruction_is, read_back}
 use Rattle.rv32_asm.proofs.Styled.{is_spoken, styled}
 
@@ -50,12 +49,11 @@ unfolding placed
 placed_bare Bare N i bare ok = refl
 placed_bare _ _ i bare ok = cc
 
-module _ (size word address : ℕ) (below : word < 2 ^ 32) (aligned : address % 4 ≡ 0) (inside : address + 4 ≤ size)
-    (short : size ≤ 2 ^ 32) where
+module _ (size word address : ℕ) (below : word < 2 ^ 32) (aligned : address % 4 ≡ 0) (inside : address + 4 ≤ size) where
   data_back : text_of_word word address ≡ data_text word → IsReadBack size word address
   data_back e =
       read_back size word address (data_text word) (Data Four (number_alone (pos word) ∷ [])) e
-      (plain_labels (data_text word) (data_plain word below)) (data_line word below) inside (data_is word address below)
+      (data_plain word below) (data_line word below) inside (data_is word address below)
 
   module _ (i : Inst) (found : instruction_of word ≡ Some i) where
     text_found : text_of_word word address ≡ text_of i address
@@ -71,11 +69,10 @@ module _ (size word address : ℕ) (below : word < 2 ^ 32) (aligned : address % 
         let text = statement name (operands_of s i address) in
         let same : text_of_word word address ≡ text
         = text_found ∙ spoken_text s (word_of i) (data_text (word_of i)) text spoken in
-        let high : address ≤ 2 ^ 32 = omega arith in
-        let read = styled i address name (name_is_word i.op) (immediate_without_operands i.op) fields.rd fields.rs1 fields.rs2 high
+        let read = styled i address name (name_is_word i.op) (immediate_without_operands i.op) fields.rd fields.rs1 fields.rs2
         s (row_for i.op).format spoken (style_format i.op) fields.format (keyword_read i.op) in
         read_back size word address text (Instructions (instruction i.op read.rd read.rs1 read.rs2 read.value ∷ [])) same
-        (plain_labels text read.plain) read.means inside
+        read.plain read.means inside
         (instruction_is word address i.op read.rd read.rs1 read.rs2 read.value aligned read.fits
         (ap word_of read.same ∙ instruction_word word i below found))
 

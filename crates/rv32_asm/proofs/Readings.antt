@@ -25,7 +25,7 @@ use Rattle.rv32_decode.specs.Table.{rows}
 use Rattle.rv32_text.specs.Text.{mnemonic_of}
 use Rattle.rv32_asm.proofs.TextImmediates.{value_alone}
 use Rattle.rv32_asm.proofs.TextKeywords.{is_word}
-use Rattle.rv32_asm.proofs.TextLines.{is_plain}
+use Rattle.rv32_asm.proofs.TextLines.{is_plain, plain_labels, plain_line}
 use Rattle.rv32_asm.proofs.TextNumbers.{hex8_operand, hex8_read}
 use Rattle.rv32_asm.proofs.TextOperands.{is_operand, operands_read}
 use Rattle.rv32_asm.proofs.TextStatements.{line_plain, statement_read}
@@ -53,11 +53,12 @@ unfolding line_bytes
 emitted_text labels address text bytes meaning means known fits e = rw (means, known, fits, e) refl
 
 pub read_back : (size word address : ℕ) (text : List ℕ) (meaning : Statement) → text_of_word word address ≡ text →
-    labels_of text ≡ [] → statement_of text ≡ Ok meaning → address + 4 ≤ size → IsStatementOf word address meaning →
-    IsReadBack size word address
-read_back size word address text meaning e none means inside is = record {
+    list_all is_plain text ≡ true → statement_of text ≡ Ok meaning → address + 4 ≤ size →
+    IsStatementOf word address meaning → IsReadBack size word address
+read_back size word address text meaning e plain means inside is = record {
+  one_line = rw e (plain_line text plain);
   passed = λ number progress here. ap (after_line size number progress) e
-      ∙ passed_text size address number text meaning progress none means is.placed is.size inside here;
+      ∙ passed_text size address number text meaning progress (plain_labels text plain) means is.placed is.size inside here;
   emitted = λ labels. ap (line_bytes labels address) e
       ∙ emitted_text labels address text (to_le_bytes w32 word) meaning means (is.known labels) (is.fits labels) (is.bytes labels);
 }

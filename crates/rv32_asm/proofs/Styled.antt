@@ -92,7 +92,7 @@ one : (first : List ℕ) → is_operand first ≡ true → list_all is_operand (
 one first a = rw a refl
 
 module _ (i : Inst) (address : ℕ) (name : List ℕ) (word : is_word name ≡ true) (initial : ℤ)
-    (a : i.rd < 32) (b : i.rs1 < 32) (c : i.rs2 < 32) (inside : address ≤ 2 ^ 32) where
+    (a : i.rd < 32) (b : i.rs1 < 32) (c : i.rs2 < 32) where
   pub styled : (s : Style) (f : Format) → is_spoken s ≡ true → has_format s f ≡ true → FitsFormat f i →
       keyword_of name ≡ Some (InstructionWord (slots_of s) (instruction i.op 0 0 0 initial)) →
       IsRead f address i (statement name (operands_of s i address))
@@ -150,7 +150,7 @@ module _ (i : Inst) (address : ℕ) (name : List ℕ) (word : is_word name ≡ t
       let range = wide i.imm 4095 4094 fields.1 fields.2 (omega arith) (omega arith) in
       let n = target_of i address in
       let less = below_target i address in
-      let back = distance_target address i.imm inside range.0 range.1 in
+      let back = distance_target address i.imm range.0 range.1 in
       read_line B address i name (register_name i.rs1) (register_name i.rs2 ∷ (codes "0x" ++ hex8 n) ∷ []) (slots_of Branch)
       initial 0 i.rs1 i.rs2 (pos n) word found (register_operand i.rs1 b)
       (two (register_name i.rs2) (codes "0x" ++ hex8 n) (register_operand i.rs2 c) (hex8_operand n less))
@@ -161,7 +161,7 @@ module _ (i : Inst) (address : ℕ) (name : List ℕ) (word : is_word name ≡ t
       let range = wide i.imm 1048575 1048574 fields.2 fields.3 (omega arith) (omega arith) in
       let n = target_of i address in
       let less = below_target i address in
-      let back = distance_target address i.imm inside range.0 range.1 in
+      let back = distance_target address i.imm range.0 range.1 in
       read_line J address i name (register_name i.rd) ((codes "0x" ++ hex8 n) ∷ []) (slots_of Jump)
       initial i.rd 0 0 (pos n) word found (register_operand i.rd a)
       (one (codes "0x" ++ hex8 n) (hex8_operand n less))

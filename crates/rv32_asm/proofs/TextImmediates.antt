@@ -1,8 +1,8 @@
 -- The immediates that the texts of instructions stand for.
-use Rattle.std.proofs.Common.{◌≡◌, ℕ, ◌+◌, ◌-◌, ◌*◌, ◌/◌, ◌%◌, ◌^◌, ◌<◌, ◌≤◌, ℤ, pos, negsuc, ◌≤ℤ◌, true, List, refl, ap, ◌∙◌, arith, int_le}
+use Rattle.std.proofs.Common.{◌≡◌, ℕ, ◌+◌, ◌-◌, ◌*◌, ◌/◌, ◌%◌, ◌^◌, ◌<◌, ◌≤◌, ℤ, pos, negsuc, ◌≤ℤ◌, ◌+ℤ◌, ◌-ℤ◌, unsigned_abs, true, List, refl, ap, ◌∙◌, arith, int_le}
 use Rattle.std.proofs.Math.IntN.{+ℤ_idl}
 use Rattle.std.proofs.lemmas.Bool.{and_from, eq-eqb, le-leb}
-use Rattle.std.proofs.lemmas.Int.{ints}
+use Rattle.std.proofs.lemmas.Int.{ints, int_rem_euclid_is}
 use Rattle.std.specs.Int.{cast_unsigned, w32}
 use Rattle.rv32_decode.proofs.Signed.{Spells, complement_spelled}
 use Rattle.rv32_decode.specs.Table.{field, signed}
@@ -10,7 +10,7 @@ use Rattle.rv32_asm.specs.Encoding.{distance, is_even}
 use Rattle.rv32_asm.specs.Expressions.{number_alone}
 use Rattle.rv32_asm.specs.Labels.{Label}
 use Rattle.rv32_asm.specs.Numbers.{is_between}
-use Rattle.rv32_asm.specs.Values.{value_of}
+use Rattle.rv32_asm.specs.Values.{modulo, value_of}
 
 pub value_alone : (labels : List Label) (z : ℤ) → value_of labels (number_alone z) ≡ z
 unfolding value_of
@@ -39,15 +39,24 @@ pub word_below : (z : ℤ) → negsuc 2147483647 ≤ℤ z → z ≤ℤ pos 21474
 word_below (pos a) low high = let below : a ≤ 2147483647 = omega (arith, ints) in omega arith
 word_below (negsuc a) low high = let below : a ≤ 2147483647 = omega (arith, ints) in omega arith
 
-back_modulo : (pc u : ℕ) → pc ≤ 2 ^ 32 → u < 2 ^ 32 →
-    ((pc + u) % 2 ^ 32 % 2 ^ 32 + (2 ^ 32 - pc)) % 2 ^ 32 ≡ u
-back_modulo pc u inside below = omega arith
+back_modulo : (pc u : ℕ) → u < 2 ^ 32 → ((pc + u) % 2 ^ 32 + pc * 4294967295) % 2 ^ 32 ≡ u
+back_modulo pc u below = omega arith
+
+far_sum : (pc t : ℕ) → (pos t -ℤ pos pc) +ℤ pos (pc * 4294967296) ≡ pos (t + pc * 4294967295)
+far_sum pc t = omega (arith, ints)
+
+-- the distance modulo 2^32, without a difference
+far_word : (pc t : ℕ) → modulo 32 (pos t -ℤ pos pc) ≡ (t + pc * 4294967295) % 2 ^ 32
+far_word pc t =
+    ap unsigned_abs
+    (int_rem_euclid_is (pos t -ℤ pos pc) (pos 4294967296) 4294967296 pc (t + pc * 4294967295) (omega arith) refl (far_sum pc t))
 
 -- the distance to a target is the immediate that led there
-pub distance_target : (pc : ℕ) (z : ℤ) → pc ≤ 2 ^ 32 → negsuc 2147483647 ≤ℤ z → z ≤ℤ pos 2147483647 →
+pub distance_target : (pc : ℕ) (z : ℤ) → negsuc 2147483647 ≤ℤ z → z ≤ℤ pos 2147483647 →
     distance pc (pos ((pc + cast_unsigned w32 z) % 2 ^ 32)) ≡ z
-distance_target pc z inside low high =
-    ap (signed 32) (back_modulo pc (cast_unsigned w32 z) inside (word_below z low high)) ∙ signed_word z low high
+distance_target pc z low high =
+    let u = cast_unsigned w32 z in
+    ap (signed 32) (far_word pc ((pc + u) % 2 ^ 32) ∙ back_modulo pc u (word_below z low high)) ∙ signed_word z low high
 
 pub even_true : (z : ℤ) → field (cast_unsigned w32 z) 0 1 ≡ 0 → negsuc 2147483647 ≤ℤ z → is_even z ≡ true
 even_true (pos a) e low = eq-eqb (a % 2) 0 (omega arith)

@@ -1,5 +1,5 @@
 -- The bytes of statements.
-use Rattle.std.specs.Prelude.{ℕ, ◌+◌, ◌-◌, ◌*◌, ◌%◌, ◌^◌, ◌==◌, ℤ, pos, neg_ℤ, ◌-ℤ◌, List, [], ◌∷◌, ◌++◌, Bool, true, ◌&&◌, map, replicate, unsigned_abs}
+use Rattle.std.specs.Prelude.{ℕ, ◌+◌, ◌-◌, ◌*◌, ◌^◌, ◌==◌, ℤ, pos, neg_ℤ, ◌-ℤ◌, List, [], ◌∷◌, ◌++◌, Bool, true, ◌&&◌, map, replicate, unsigned_abs}
 use Rattle.std.specs.List.{list_any, list_all, flat_map}
 use Rattle.std.specs.Int.{w8, w16, w32, to_le_bytes}
 use Rattle.sec_base.specs.Width.{width_bytes}

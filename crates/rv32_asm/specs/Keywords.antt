@@ -38,7 +38,7 @@ slots_of Jump = Rd ∷ Value ∷ []
 slots_of Fence = []
 slots_of Bare = []
 
--- `fence` is a fence of all that comes before it and all that comes after it, section 2.7
+-- `fence` is a fence of all that comes before it and all that comes after it (RISC-V unprivileged manual, section 2.7)
 abbrev pub immediate_without_operands : Op → ℤ
 immediate_without_operands Fence = pos 0x0ff
 immediate_without_operands _ = pos 0

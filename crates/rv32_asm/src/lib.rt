@@ -1,7 +1,7 @@
 //! Programs from assembly texts, in the assembly language of the RISC-V unprivileged manual.
 #![tactic(auto)]
 
-ghost use Rattle.std.specs.Prelude.{ℕ, IfOk, Err, length, ◌≡◌, ◌<◌, ◌≤◌, ◌^◌};
+ghost use Rattle.std.specs.Prelude.{ℕ, IfOk, Err, length, ◌≡◌, ◌<◌, ◌^◌};
 ghost use Rattle.sec_base.specs.Layout.{IsMemorySize};
 ghost use Rattle.rv32_asm.specs.Assembly.{IsAssembled, program_of};
 ghost use Rattle.rv32_asm.specs.Law.{TextsAreWords};
@@ -39,7 +39,7 @@ pub fn assemble(alloc: Global, text: &[u8], size: u32) -> Result<Image, AsmError
 }
 
 /// Where a line is the text of a word at the line's own address, the word is read back. It does nothing: its contract
-/// is a theorem over all words and the places where they can stand in a memory that 32 bits address.
+/// is a theorem over all words, and all memories and places where they can stand.
 pub fn texts_are_words()
-    ensures { (size : ℕ) → size ≤ 2 ^ 32 → TextsAreWords size }
+    ensures { (size : ℕ) → TextsAreWords size }
 {}
