@@ -1,17 +1,14 @@
 -- The operands of a text are found one after another.
-use Rattle.std.proofs.Common.{◌≡◌, ℕ, ℤ, ◌<◌, ◌≤◌, ◌+◌, Bool, true, false, List, [], ◌∷◌, map, length, get_or, take, drop, refl, sym, arith, eqb}
-use Rattle.std.specs.Prelude.{Option, Some, None, option_map, option_and_then}
+use Rattle.std.proofs.Common.{◌≡◌, ℕ, ◌<◌, ◌≤◌, ◌+◌, Bool, List, [], ◌∷◌, map, length, take, drop, refl, sym, arith, eqb}
+use Rattle.std.specs.Prelude.{None, option_map}
 use Rattle.std.specs.List.{slice_split, position_or_len}
 use Rattle.std.proofs.lemmas.List.{at_drop_more, at_drop_all}
 use Rattle.std.proofs.lemmas.List.Splits.{slice_split_first}
 use Rattle.sec_base.specs.declared.memory.Width.{Width}
 use Rattle.rv32_asm.specs.declared.keywords.Slot.{Slot}
 use Rattle.rv32_asm.specs.Characters.{trimmed, is_empty}
-use Rattle.rv32_asm.specs.Numbers.{number_of}
-use Rattle.rv32_asm.specs.Expressions.{Expression, expression_of}
-use Rattle.rv32_asm.specs.Registers.{register_of}
-use Rattle.rv32_asm.specs.Statements.{Instruction, Statement, Instructions, Data}
-use Rattle.rv32_asm.specs.Reading.{operands_of, with_operands, expressions_of, li_of, la_of, data_of, loaded, pair}
+use Rattle.rv32_asm.specs.Statements.{Instruction, Data}
+use Rattle.rv32_asm.specs.Reading.{operands_of, with_operands, expressions_of, li_of, la_of, data_of}
 use Rattle.rv32_asm.specs.Parts.{operand_texts, two}
 use Rattle.rv32_asm.proofs.Splits.{one_part, some_parts}
 

@@ -1,6 +1,6 @@
 -- The first label of a line.
-use Rattle.std.proofs.Common.{◌≡◌, ℕ, ◌+◌, ◌<◌, ◌≤◌, Bool, true, false, List, [], ◌∷◌, length, take, drop, length-drop, refl, sym, arith, eqb}
-use Rattle.std.specs.List.{slice_split, position_or_len, join_with_byte}
+use Rattle.std.proofs.Common.{◌≡◌, ℕ, ◌+◌, ◌<◌, Bool, true, false, List, [], ◌∷◌, length, take, drop, length-drop, refl, sym, arith, eqb}
+use Rattle.std.specs.List.{position_or_len, join_with_byte}
 use Rattle.std.proofs.lemmas.List.Splits.{slice_split_first, join_with_byte-slice_split}
 use Rattle.rv32_asm.specs.Characters.{is_name, skip_blanks}
 use Rattle.rv32_asm.specs.Lines.{labels_in, behind_labels}

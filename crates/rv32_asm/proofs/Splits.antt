@@ -1,7 +1,7 @@
 -- A text that is cut where a byte stands.
-use Rattle.std.proofs.Common.{◌≡◌, ℕ, ◌<◌, ◌≤◌, ◌+◌, Bool, true, false, not, List, [], ◌∷◌, length, take, drop, refl, arith}
-use Rattle.std.specs.List.{slice_split, onto_first, position_or_len, count_by}
-use Rattle.std.proofs.lemmas.List.Splits.{slice_split_first, length-slice_split}
+use Rattle.std.proofs.Common.{◌≡◌, ℕ, ◌<◌, ◌≤◌, Bool, true, false, List, [], ◌∷◌, length, refl, arith}
+use Rattle.std.specs.List.{slice_split, position_or_len}
+use Rattle.std.proofs.lemmas.List.Splits.{length-slice_split}
 
 single : (p : ℕ → Bool) (c : Bool) (x : ℕ) (rest : List (List ℕ)) (xs : List ℕ) → p x ≡ c → c ≡ false → rest ≡ xs ∷ [] → slice_split p xs ≡ rest → slice_split p (x ∷ xs) ≡ (x ∷ xs) ∷ []
 single p c x rest xs h e f g = rw (h, e, g, f) refl

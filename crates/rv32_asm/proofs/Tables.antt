@@ -1,12 +1,10 @@
 -- Words are searched in tables.
-use Rattle.std.proofs.Common.{◌≡◌, ℕ, ◌+◌, ◌<◌, ◌≤◌, ◌++◌, Bool, true, false, ◌&&◌, cond, List, [], ◌∷◌, map, length, get_or, drop, refl, sym, arith, pos, neg_ℤ, ◌≤ℤ◌, ◌^◌}
-use Rattle.std.specs.Prelude.{Option, Some, None, find, option_map}
-use Rattle.std.specs.List.{list_all}
+use Rattle.std.proofs.Common.{◌≡◌, ℕ, ◌+◌, ◌<◌, ◌≤◌, ◌++◌, Bool, true, false, List, [], ◌∷◌, map, length, get_or, drop, refl}
+use Rattle.std.specs.Prelude.{Option, Some, None}
 use Rattle.std.specs.Str.{bytes_eq}
 use Rattle.std.proofs.lemmas.List.{at_drop_more, at_drop_all}
-use Rattle.std.proofs.lemmas.List.Folds.{list_all_at}
 use Rattle.rv32_asm.specs.Keywords.{Keyword}
-use Rattle.rv32_asm.specs.Tables.{named, Shorthand, has_registers}
+use Rattle.rv32_asm.specs.Tables.{named}
 
 -- what the code's search answers
 chosen : {X : Type 0} (entry : X → List ℕ × Keyword) (word : List ℕ) → List X → Option Keyword

@@ -1,4 +1,4 @@
-use Rattle.std.proofs.Common.{◌<◌, ◌+◌, ◌-◌, length, take, drop, arith, rules}
+use Rattle.std.proofs.Common.{arith, rules}
 use Rattle.std.proofs.lemmas.List.{take_rest}
 use Rattle.rv32_asm.proofs.FirstLabel.{is_first, no_name, no_colon}
 use Rattle.rv32_asm.proofs.lines.first_label.Goals as goal

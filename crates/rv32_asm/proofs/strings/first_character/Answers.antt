@@ -1,4 +1,4 @@
-use Rattle.std.proofs.Common.{arith, rules}
+use Rattle.std.proofs.Common.{rules}
 use Rattle.std.proofs.lemmas.List.{take_rest}
 use Rattle.rv32_asm.proofs.Quotes.{plain}
 use Rattle.rv32_asm.proofs.strings.first_character.Goals as goal

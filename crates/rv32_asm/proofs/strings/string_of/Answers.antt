@@ -1,4 +1,4 @@
-use Rattle.std.proofs.Common.{◌≡◌, ◌++◌, arith, rules}
+use Rattle.std.proofs.Common.{rules}
 use Rattle.std.proofs.lemmas.List.{take_rest}
 use Rattle.rv32_asm.proofs.Quotes.{begins, goes_on, other_than}
 use Rattle.rv32_asm.proofs.strings.string_of.Goals as goal
