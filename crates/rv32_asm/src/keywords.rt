@@ -127,8 +127,10 @@ static OPS: [Op; 49] = [
     Op::Ebreak,
 ];
 
-// Shorthands for one instruction: the word, its operands, and the row with rd, rs1 and the immediate.
-static SHORTHANDS: [(&str, &[Slot], Op, u8, u8, i64); 12] = [
+// A shorthand for one instruction: the word, its operands, and the row with rd, rs1 and the immediate.
+type Shorthand = (&'static str, &'static [Slot], Op, u8, u8, i64);
+
+static SHORTHANDS: [Shorthand; 12] = [
     ("nop", &[], Op::Addi, 0, 0, 0),
     ("mv", &[Slot::Rd, Slot::Rs1], Op::Addi, 0, 0, 0),
     ("j", &[Slot::Value], Op::Jal, 0, 0, 0),
@@ -166,7 +168,7 @@ fn ops() -> &'static [Op]
 }
 
 #[tactic(auto, unfolding(crate::specs::Keywords::shorthands))]
-fn shorthands() -> &'static [(&'static str, &'static [Slot], Op, u8, u8, i64)]
+fn shorthands() -> &'static [Shorthand]
     ensures same { map shorthand_entry result.now ≡ spec.shorthands }
     ensures registers { list_all has_registers result.now ≡ true }
 {

@@ -4,10 +4,10 @@ ghost use Rattle.rv32_asm.specs.Keywords.{AlignWord, AsciiWord, AscizWord, Instr
 ghost use Rattle.rv32_asm.specs.Reading as spec;
 ghost use Rattle.rv32_asm.specs.Seen as seen;
 ghost use Rattle.rv32_asm.specs.Seen.{statement};
+ghost use Rattle.rv32_asm.specs.Statements.{Nothing};
 ghost use Rattle.rv32_asm.specs.declared.fault.AsmFault.{AsmFault};
 ghost use Rattle.rv32_asm.specs.declared.fault.LineError.TheVariants.{Fault};
 ghost use Rattle.std.specs.Prelude.{IfOk, Ok, Err, Some, None, neg_ℤ, option_map, pos, if◌then◌else◌, ◌<◌, ◌^◌, ◌≡◌, ◌≤ℤ◌};
-ghost use Rattle.rv32_asm.specs.Statements.{Nothing};
 
 use crate::characters::{is_name, skip_blanks, word_len};
 use crate::expressions::expression_of;
@@ -69,12 +69,13 @@ fn loaded(alloc: Global, rd: u8, number: i64) -> Result<Vec<Instruction<'static>
     requires most { number ≤ℤ pos (2 ^ 32) }
     ensures { IfOk result (λ is. seen.instructions is.items ≡ spec.loaded rd number) }
 {
-    if -2048 <= number && number <= 2047 {
+    if (-2048..=2047).contains(&number) {
         return Ok(vec![in alloc; Instruction::with_number(Op::Addi, rd, 0, 0, number)]?);
     }
     pair(alloc, rd, Expression::number_alone(number))
 }
 
+// A register and a number.
 #[tactic(auto, using(crate::proofs::Commas::li_other))]
 fn li_of<'a>(alloc: Global, text: &'a [u8]) -> Result<Option<Statement<'a>>, NoMemory>
     ensures { IfOk result (λ s. option_map statement s ≡ spec.li_of (spec.operands_of text.now)) }
@@ -82,15 +83,13 @@ fn li_of<'a>(alloc: Global, text: &'a [u8]) -> Result<Option<Statement<'a>>, NoM
     let Some((register, number)) = two_operands(text) else {
         return Ok(None);
     };
-    let Some(rd) = register_of(register) else {
-        return Ok(None);
-    };
-    let Some(number) = number_of(number) else {
-        return Ok(None);
-    };
-    Ok(Some(Statement::Instructions(loaded(alloc, rd, number)?)))
+    match (register_of(register), number_of(number)) {
+        (Some(rd), Some(number)) => Ok(Some(Statement::Instructions(loaded(alloc, rd, number)?))),
+        _ => Ok(None),
+    }
 }
 
+// A register and an expression.
 #[tactic(auto, using(crate::proofs::Commas::la_other))]
 fn la_of<'a>(alloc: Global, text: &'a [u8]) -> Result<Option<Statement<'a>>, NoMemory>
     ensures { IfOk result (λ s. option_map statement s ≡ spec.la_of (spec.operands_of text.now)) }
@@ -98,13 +97,10 @@ fn la_of<'a>(alloc: Global, text: &'a [u8]) -> Result<Option<Statement<'a>>, NoM
     let Some((register, value)) = two_operands(text) else {
         return Ok(None);
     };
-    let Some(rd) = register_of(register) else {
-        return Ok(None);
-    };
-    let Some(value) = expression_of(value) else {
-        return Ok(None);
-    };
-    Ok(Some(Statement::Instructions(pair(alloc, rd, value)?)))
+    match (register_of(register), expression_of(value)) {
+        (Some(rd), Some(value)) => Ok(Some(Statement::Instructions(pair(alloc, rd, value)?))),
+        _ => Ok(None),
+    }
 }
 
 // One or more values.
@@ -125,6 +121,17 @@ fn data_of<'a>(
     }
 }
 
+// A string.
+#[tactic(auto, unfolding(crate::specs::Reading::statement_with))]
+fn ascii_of<'a>(alloc: Global, text: &'a [u8]) -> Result<Option<Statement<'a>>, NoMemory>
+    ensures { IfOk result (λ s. option_map statement s ≡ spec.statement_with AsciiWord text.now) }
+{
+    match string_of(alloc, text)? {
+        Some(bytes) => Ok(Some(Statement::Bytes(bytes))),
+        None => Ok(None),
+    }
+}
+
 // A string and a zero byte.
 #[tactic(auto, unfolding(crate::specs::Reading::statement_with))]
 fn asciz_of<'a>(alloc: Global, text: &'a [u8]) -> Result<Option<Statement<'a>>, NoMemory>
@@ -138,33 +145,17 @@ fn asciz_of<'a>(alloc: Global, text: &'a [u8]) -> Result<Option<Statement<'a>>, 
 }
 
 #[tactic(auto, unfolding(crate::specs::Reading::statement_with))]
-fn ascii_of<'a>(alloc: Global, text: &'a [u8]) -> Result<Option<Statement<'a>>, NoMemory>
-    ensures { IfOk result (λ s. option_map statement s ≡ spec.statement_with AsciiWord text.now) }
-{
-    match string_of(alloc, text)? {
-        Some(bytes) => Ok(Some(Statement::Bytes(bytes))),
-        None => Ok(None),
-    }
-}
-
-#[tactic(auto, unfolding(crate::specs::Reading::statement_with))]
 fn zeros_of<'a>(text: &[u8]) -> Option<Statement<'a>>
     ensures { option_map statement result ≡ spec.statement_with SpaceWord text.now }
 {
-    match number_of(text) {
-        Some(number) => Some(Statement::Zeros(number)),
-        None => None,
-    }
+    Some(Statement::Zeros(number_of(text)?))
 }
 
 #[tactic(auto, unfolding(crate::specs::Reading::statement_with))]
 fn aligned_of<'a>(text: &[u8]) -> Option<Statement<'a>>
     ensures { option_map statement result ≡ spec.statement_with AlignWord text.now }
 {
-    match number_of(text) {
-        Some(number) => Some(Statement::Aligned(number)),
-        None => None,
-    }
+    Some(Statement::Aligned(number_of(text)?))
 }
 
 // No bytes, where the text behind the word has its form.
