@@ -9,6 +9,9 @@ ghost use Rattle.rv32_asm.specs.declared.fault.AsmFault.{AsmFault};
 ghost use Rattle.rv32_asm.specs.declared.fault.LineError.TheVariants.{Fault};
 ghost use Rattle.std.specs.Prelude.{IfOk, Ok, Err, Some, None, neg_ℤ, option_map, pos, if◌then◌else◌, ◌<◌, ◌^◌, ◌≡◌, ◌≤ℤ◌};
 
+#[cfg(test)]
+mod tests;
+
 use crate::characters::{is_name, skip_blanks, word_len};
 use crate::expressions::expression_of;
 use crate::fault::{AsmFault, LineError};
