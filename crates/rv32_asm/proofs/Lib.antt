@@ -22,3 +22,10 @@ pub mod TextNumbers
 pub mod TextOperands
 pub mod TextRegisters
 pub mod TextStatements
+pub mod FirstLabel
+pub mod Words
+pub mod Numbered
+pub mod Tables
+pub mod Splits
+pub mod Commas
+pub mod Quotes

@@ -11,7 +11,8 @@ use Rattle.rv32_decode.specs.declared.Op.{Op}
 use Rattle.rv32_text.specs.Text.{data_text, hex8, statement, text_of_word}
 use Rattle.rv32_asm.specs.Encoding.{bytes_at, encoded_at, fits_at, fits_format, fits_width, immediate_of, is_in_range, misses_label}
 use Rattle.rv32_asm.specs.Expressions.{number_alone}
-use Rattle.rv32_asm.specs.Keywords.{DataWord, InstructionWord, Slot, keyword_of, keywords, other_words, row_words, shorthands}
+use Rattle.rv32_asm.specs.declared.keywords.Slot.{Slot}
+use Rattle.rv32_asm.specs.Keywords.{DataWord, InstructionWord, keyword_of, keywords, other_words, row_words, shorthands}
 use Rattle.rv32_asm.specs.Labels.{Label}
 use Rattle.rv32_asm.specs.Law.{IsReadBack}
 use Rattle.rv32_asm.specs.Layout.{is_misplaced, size_at}

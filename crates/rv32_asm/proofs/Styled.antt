@@ -12,7 +12,8 @@ use Rattle.rv32_text.specs.Text.{hex8, operands_of, register_name, place_text, s
 use Rattle.rv32_text.specs.declared.names.Style.{Style}
 use Rattle.rv32_text.specs.declared.names.Style.TheVariants.{Registers, Immediate, Offset, Store, Upper, Branch, Jump, Fence, Bare}
 use Rattle.rv32_asm.specs.Encoding.{distance, fits_format, immediate_of, is_even}
-use Rattle.rv32_asm.specs.Keywords.{InstructionWord, Slot, keyword_of, slots_of}
+use Rattle.rv32_asm.specs.declared.keywords.Slot.{Slot}
+use Rattle.rv32_asm.specs.Keywords.{InstructionWord, keyword_of, slots_of}
 use Rattle.rv32_asm.specs.Numbers.{is_between}
 use Rattle.rv32_asm.specs.Reading.{statement_of, with_operands}
 use Rattle.rv32_asm.specs.Statements.{Instructions, instruction}

@@ -9,16 +9,9 @@ use Rattle.rv32_decode.specs.declared.Op.TheVariants.{Jal, Jalr, Beq, Bne, Addi,
 use Rattle.rv32_text.specs.Text.{mnemonic_of}
 use Rattle.rv32_text.specs.declared.names.Style.{Style}
 use Rattle.rv32_text.specs.declared.names.Style.TheVariants.{Registers, Immediate, Offset, Store, Upper, Branch, Jump, Fence, Bare}
+use Rattle.rv32_asm.specs.declared.keywords.Slot.{Slot}
+use Rattle.rv32_asm.specs.declared.keywords.Slot.TheVariants.{Rd, Rs1, Rs2, Value, Place}
 use Rattle.rv32_asm.specs.Statements.{Instruction, instruction}
-
--- what an operand is: a register for a field of the instruction, an expression for its immediate, or a place in
--- memory for its immediate and its first register, as `4(sp)`
-pub data Slot : Type 0 where
-  Rd : Slot
-  Rs1 : Slot
-  Rs2 : Slot
-  Value : Slot
-  Place : Slot
 
 pub data Keyword : Type 0 where
   -- an instruction, or a shorthand for one: its operands, and the fields that they leave as they are

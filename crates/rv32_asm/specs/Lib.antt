@@ -15,6 +15,7 @@ pub mod Passes
 pub mod Assembly
 pub mod Parts
 pub mod Seen
+pub mod Tables
 pub mod Law
 pub mod SeenLabels
 pub mod Fields

@@ -12,7 +12,9 @@ use Rattle.rv32_asm.specs.Registers.{register_of}
 use Rattle.rv32_asm.specs.Numbers.{number_of, is_between}
 use Rattle.rv32_asm.specs.Expressions.{Expression, expression_of, number_alone}
 use Rattle.rv32_asm.specs.Statements.{Instruction, instruction, Whole, Upper, Lower, Statement, Instructions, Data, Bytes, Zeros, Aligned, Nothing}
-use Rattle.rv32_asm.specs.Keywords.{Slot, Rd, Rs1, Rs2, Value, Place, Keyword, InstructionWord, LiWord, LaWord, DataWord, AsciiWord, AscizWord, SpaceWord, AlignWord, TextWord, GloblWord, keyword_of}
+use Rattle.rv32_asm.specs.declared.keywords.Slot.{Slot}
+use Rattle.rv32_asm.specs.declared.keywords.Slot.TheVariants.{Rd, Rs1, Rs2, Value, Place}
+use Rattle.rv32_asm.specs.Keywords.{Keyword, InstructionWord, LiWord, LaWord, DataWord, AsciiWord, AscizWord, SpaceWord, AlignWord, TextWord, GloblWord, keyword_of}
 
 -- one step after another, where each may find another form than its own
 infixl 10 ◌>>=◌

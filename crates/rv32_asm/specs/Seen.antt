@@ -7,7 +7,12 @@ use Rattle.rv32_asm.specs.declared.statements.Immediate.TheVariants.{Whole, Uppe
 use Rattle.rv32_asm.specs.declared.statements.Instruction.{Instruction}
 use Rattle.rv32_asm.specs.declared.statements.Statement.{Statement}
 use Rattle.rv32_asm.specs.declared.statements.Statement.TheVariants.{Instructions, Data, Bytes, Zeros, Aligned, Nothing}
+use Rattle.rv32_asm.specs.declared.keywords.Keyword.{Keyword}
+use Rattle.rv32_asm.specs.declared.keywords.Keyword.TheVariants.{Instruction as InstructionWord, Other as OtherWord}
+use Rattle.rv32_asm.specs.declared.keywords.Other.{Other}
+use Rattle.rv32_asm.specs.declared.keywords.Other.TheVariants.{Li, La, Data as DataWord, Ascii, Asciz, Space, Align, Text, Globl}
 use Rattle.rv32_asm.specs.Expressions as spec
+use Rattle.rv32_asm.specs.Keywords as words
 use Rattle.rv32_asm.specs.Statements as meant
 
 -- the name, where there is one
@@ -19,6 +24,9 @@ expression e = record { label = name e.label; number = e.number }
 
 abbrev pub expressions : List Expression → List spec.Expression
 expressions es = map expression es
+
+abbrev pub place : Expression × ℕ → spec.Expression × ℕ
+place p = (expression p.0, p.1)
 
 abbrev pub immediate : Immediate → meant.Immediate
 immediate (Whole e) = meant.Whole (expression e)
@@ -38,3 +46,18 @@ statement (Bytes bytes) = meant.Bytes bytes.items
 statement (Zeros number) = meant.Zeros number
 statement (Aligned number) = meant.Aligned number
 statement Nothing = meant.Nothing
+
+abbrev pub other : Other → words.Keyword
+other Li = words.LiWord
+other La = words.LaWord
+other (DataWord width) = words.DataWord width
+other Ascii = words.AsciiWord
+other Asciz = words.AscizWord
+other Space = words.SpaceWord
+other Align = words.AlignWord
+other Text = words.TextWord
+other Globl = words.GloblWord
+
+abbrev pub keyword : Keyword → words.Keyword
+keyword (InstructionWord slots i) = words.InstructionWord slots.now (instruction i)
+keyword (OtherWord word) = other word

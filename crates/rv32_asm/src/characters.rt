@@ -1,8 +1,8 @@
 //! The characters of an assembly text: blanks, names and words.
 
 ghost use Rattle.rv32_asm.specs.Characters as spec;
-ghost use Rattle.std.specs.List.{prefix_len};
-ghost use Rattle.std.specs.Prelude.{◌≡◌};
+ghost use Rattle.std.specs.List.{position_or_len, prefix_len};
+ghost use Rattle.std.specs.Prelude.{length, ◌==◌, ◌≡◌, ◌≤◌};
 
 /// Whether a byte is a space or a tab.
 pub fn is_blank(byte: u8) -> bool
@@ -44,7 +44,8 @@ pub fn begins_as_name(text: &[u8]) -> bool
 
 /// How many bytes at the front a name may have.
 pub fn name_len(text: &[u8]) -> usize
-    ensures { result ≡ prefix_len spec.is_in_names text.now }
+    ensures counted { result ≡ prefix_len spec.is_in_names text.now }
+    ensures within { result ≤ length text.now }
 {
     let mut len = 0;
     while len < text.len() && is_in_names(text[len]) {
@@ -55,10 +56,23 @@ pub fn name_len(text: &[u8]) -> usize
 
 /// How many bytes at the front the word of a statement may have.
 pub fn word_len(text: &[u8]) -> usize
-    ensures { result ≡ prefix_len spec.is_in_words text.now }
+    ensures counted { result ≡ prefix_len spec.is_in_words text.now }
+    ensures within { result ≤ length text.now }
 {
     let mut len = 0;
     while len < text.len() && is_in_words(text[len]) {
+        len += 1;
+    }
+    len
+}
+
+/// How many bytes stand before the first one of this value.
+pub fn len_before(wanted: u8, text: &[u8]) -> usize
+    ensures counted { result ≡ position_or_len (λ byte. byte == wanted) text.now }
+    ensures within { result ≤ length text.now }
+{
+    let mut len = 0;
+    while len < text.len() && text[len] != wanted {
         len += 1;
     }
     len

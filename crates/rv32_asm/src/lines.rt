@@ -4,8 +4,9 @@ ghost use Rattle.rv32_asm.specs.Lines as spec;
 ghost use Rattle.rv32_asm.specs.Parts as parts;
 ghost use Rattle.rv32_asm.specs.Parts.{IsFirstLabel, lines_left};
 ghost use Rattle.rv32_asm.specs.declared.lines.Standing.TheVariants.{Outside};
-ghost use Rattle.std.specs.List.{position_or_len};
-ghost use Rattle.std.specs.Prelude.{IfSome, length, ◌∷◌, ◌<◌, ◌≡◌, ◌==◌};
+ghost use Rattle.std.specs.Prelude.{IfSome, length, ◌∷◌, ◌<◌, ◌≡◌};
+
+use crate::characters::{is_name, len_before, skip_blanks, trimmed};
 
 /// Where a byte of a line stands: outside the strings, in one, or behind a backslash in one.
 #[derive(Clone, Copy)]
@@ -76,17 +77,6 @@ pub fn has_foreign(line: &[u8]) -> bool
     false
 }
 
-// How many bytes stand before the first line feed.
-fn line_len(text: &[u8]) -> usize
-    ensures { result ≡ position_or_len (λ byte. byte == 10) text.now }
-{
-    let mut len = 0;
-    while len < text.len() && text[len] != b'\n' {
-        len += 1;
-    }
-    len
-}
-
 // The line without the carriage return that it may end with.
 #[tactic(auto, using(crate::proofs::Cuts::return_off, crate::proofs::Cuts::none_off, crate::proofs::Cuts::nothing_off))]
 fn without_return(line: &[u8]) -> &[u8]
@@ -108,7 +98,7 @@ pub fn first_line(text: &[u8]) -> (&[u8], Option<&[u8]>)
     ensures lines { spec.lines_of text.now ≡ result.0.now ∷ lines_left result.1 }
     ensures shorter { IfSome result.1 (λ rest. length rest.now < length text.now) }
 {
-    let len = line_len(text);
+    let len = len_before(b'\n', text);
     if len < text.len() {
         (without_return(&text[..len]), Some(&text[len + 1..]))
     } else {
@@ -120,5 +110,26 @@ pub fn first_line(text: &[u8]) -> (&[u8], Option<&[u8]>)
 pub fn first_label(text: &[u8]) -> Option<(&[u8], &[u8])>
     ensures labels { IsFirstLabel text.now result }
 {
-    None
+    let len = len_before(b':', text);
+    if len == text.len() {
+        return None;
+    }
+    let name = skip_blanks(&text[..len]);
+    if is_name(name) {
+        Some((name, &text[len + 1..]))
+    } else {
+        None
+    }
+}
+
+/// The text of a line's statement: what stands behind its labels, without its comment and the blanks at its ends.
+#[tactic(auto, unfolding(crate::specs::Lines::statement_text))]
+pub fn statement_text(line: &[u8]) -> &[u8]
+    ensures { result.now ≡ spec.statement_text line.now }
+{
+    let mut left = without_comment(line);
+    while let Some((_, rest)) = first_label(left) {
+        left = rest;
+    }
+    trimmed(left)
 }

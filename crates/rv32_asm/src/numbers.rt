@@ -4,7 +4,7 @@ ghost use Rattle.rv32_asm.specs.Numbers as spec;
 ghost use Rattle.rv32_asm.specs.Numbers.{in_range};
 ghost use Rattle.rv32_asm.specs.Parts as parts;
 ghost use Rattle.rv32_asm.specs.Parts.{as_word};
-ghost use Rattle.std.specs.Prelude.{◌≤◌, ◌≡◌, option_and_then, option_map, pos, neg_ℤ};
+ghost use Rattle.std.specs.Prelude.{IfSome, ◌-◌, ◌^◌, ◌≤◌, ◌≡◌, ◌≤ℤ◌, option_and_then, option_map, pos, neg_ℤ};
 
 // The number that one more digit makes, where 32 bits hold it.
 fn with_digit(base: u32, number: u32, digit: u8) -> Option<u32>
@@ -67,7 +67,9 @@ fn negated(digits: &[u8]) -> Option<i64>
 /// The number that a text is.
 #[tactic(auto, unfolding(crate::specs::Numbers::number_of))]
 pub fn number_of(text: &[u8]) -> Option<i64>
-    ensures { result ≡ spec.number_of text.now }
+    ensures value { result ≡ spec.number_of text.now }
+    ensures least { IfSome result (λ number. neg_ℤ (pos (2 ^ 31)) ≤ℤ number) }
+    ensures most { IfSome result (λ number. number ≤ℤ pos (2 ^ 32 - 1)) }
 {
     if text.starts_with(b"0x") {
         upright(16, &text[2..])
