@@ -2,14 +2,14 @@
 use Rattle.std.proofs.Common.{◌≡◌, ℕ, ◌+◌, ◌<◌, ◌≤◌, Bool, true, false, List, [], ◌∷◌, Option, Some, None, Result, Ok, Err, length, option_map, refl, sym, ap, subst, ◌∙◌, inl, inr, arith, if◌then◌else◌}
 use Rattle.std.specs.Prelude.{is_some, nat_lt}
 use Rattle.std.specs.Str.{bytes_eq}
-use Rattle.std.proofs.lemmas.Bool.{ltb-false}
 use Rattle.rv32_asm.specs.declared.fault.AsmFault.{AsmFault}
 use Rattle.rv32_asm.specs.declared.fault.AsmFault.TheVariants.{Range, Large, Twice}
 use Rattle.rv32_asm.specs.Characters.{trimmed}
 use Rattle.rv32_asm.specs.Course.{Gives, IsNextLine, Reaches, behind, behind_line, end_of}
 use Rattle.rv32_asm.specs.Labels.{Label, is_there, label_named}
 use Rattle.rv32_asm.specs.Layout.{is_misplaced, size_at}
-use Rattle.rv32_asm.specs.Lines.{labels_of, lines_of, without_comment}
+use Rattle.rv32_asm.specs.Parts.{parts}
+use Rattle.rv32_asm.specs.Lines.{labels_in, labels_of, lines_of, without_comment}
 use Rattle.rv32_asm.specs.Passes.{LineFault, Progress, address_after, after_line, first_pass, in_line, start, with_names, ◌>>=◌}
 use Rattle.rv32_asm.specs.Reading.{statement_of}
 use Rattle.rv32_asm.specs.SeenLabels.{AreAlike, unnamed}
@@ -101,6 +101,10 @@ all_named (Err e) labels alike = absurd alike
 
 -- ---- a line
 
+pub labels_are : (line text : List ℕ) → text ≡ without_comment line → labels_in (parts text) ≡ labels_of line
+unfolding labels_of
+labels_are line text e = rw e refl
+
 -- what is left of a line's work once its labels are known
 abbrev after_labels : Result (List Label) AsmFault → Result Statement AsmFault → (Statement → Result ℕ AsmFault) → Result Progress AsmFault
 after_labels named read there =
@@ -150,17 +154,64 @@ module _ (size number : ℕ) (progress : Progress) (line : List ℕ) where
   place_refused labels statement fault gives e f =
       unplaced names (statement_of line) (address_after size progress.address) labels statement fault gives e f
 
--- ---- the size
+-- ---- from line to line
 
-within : (misplaced large : Bool) (next address : ℕ) → (if misplaced then Err Range else if large then Err Large else Ok next) ≡ Ok address →
-    (large ≡ false) × (next ≡ address)
-within true large next address e = cc
-within false true next address e = cc
-within false false next address e = (refl, cc)
+-- the same fault, or the same address and labels that are alike
+abbrev pub Agree : {E : Type 0} → Result Progress E → Result Progress E → Type 0
+Agree (Ok p) (Ok q) = (p.address ≡ q.address) × AreAlike p.labels q.labels
+Agree (Ok p) (Err f) = ⊥
+Agree (Err e) (Ok q) = ⊥
+Agree (Err e) (Err f) = e ≡ f
 
-pub inside_size : (size from : ℕ) (statement : Statement) (address : ℕ) → address_after size from statement ≡ Ok address → address ≤ size
-inside_size size from statement address e =
-    let next = from + size_at from statement in
-    let w = within (is_misplaced from statement) (nat_lt size next) next address e in
-    let top = ltb-false size next w.0 in
-    omega (arith, w.1)
+agree_on : {E : Type 0} (x y z : Result Progress E) → Agree x y → Agree y z → Agree x z
+agree_on (Ok p) (Ok q) (Ok r) first second = (first.0 ∙ second.0, alike_on p.labels q.labels r.labels first.1 second.1)
+agree_on (Ok p) (Ok q) (Err g) first second = second
+agree_on (Ok p) (Err f) z first second = absurd first
+agree_on (Err e) (Ok q) z first second = absurd first
+agree_on (Err e) (Err f) (Ok r) first second = second
+agree_on (Err e) (Err f) (Err g) first second = first ∙ second
+
+pub agree_fault : {E : Type 0} (x : Result Progress E) (fault : E) → Agree x (Err fault) → x ≡ Err fault
+agree_fault (Ok p) fault agree = absurd agree
+agree_fault (Err e) fault agree = ap Err agree
+
+pub agree_reaches : {E : Type 0} (x : Result Progress E) (progress : Progress) → Agree x (Ok progress) →
+    Reaches x progress.address progress.labels
+agree_reaches (Ok p) progress agree = agree
+agree_reaches (Err e) progress agree = absurd agree
+
+abbrev pub at : ℕ → List Label → Progress
+at address labels = record { address = address; labels = labels }
+
+work_agrees : (x y : Result (List Label) AsmFault) (read : Result Statement AsmFault) (there : Statement → Result ℕ AsmFault) →
+    ListsAlike x y → Agree (after_labels x read there) (after_labels y read there)
+work_agrees (Ok a) (Ok b) (Ok statement) there alike = placed_agrees (there statement)
+  where
+    placed_agrees : (next : Result ℕ AsmFault) → Agree (next >>= λ n. Ok (at n a)) (next >>= λ n. Ok (at n b))
+    placed_agrees (Ok n) = (refl, alike)
+    placed_agrees (Err f) = refl
+work_agrees (Ok a) (Ok b) (Err f) there alike = refl
+work_agrees (Ok a) (Err f) read there alike = absurd alike
+work_agrees (Err e) (Ok b) read there alike = absurd alike
+work_agrees (Err e) (Err f) read there alike = alike
+
+module _ (size : ℕ) where
+  line_agrees : (number address : ℕ) (line : List ℕ) (a b : List Label) → AreAlike a b →
+      Agree (after_line size number (at address a) line) (after_line size number (at address b) line)
+  unfolding after_line
+  line_agrees number address line a b alike =
+      work_agrees (with_names address number (labels_of line) a) (with_names address number (labels_of line) b)
+      (statement_of line) (address_after size address) (names_alike address number (labels_of line) a b alike)
+
+  abbrev next_lines : ℕ → List (List ℕ) → Result Progress AsmFault → Result Progress LineFault
+  next_lines number lines after = in_line number after >>= λ progress. first_pass size (number + 1) progress lines
+
+  lines_agree : (lines : List (List ℕ)) (number address : ℕ) (a b : List Label) → AreAlike a b →
+      Agree (first_pass size number (at address a) lines) (first_pass size number (at address b) lines)
+  unfolding first_pass
+  lines_agree [] number address a b alike = (refl, alike)
+  lines_agree (line ∷ lines) number address a b alike =
+      then_agree number lines
+      (λ n p q. lines_agree lines n p q)
+      (after_line size number (at address a) line) (after_line size number (at address b) line)
+      (line_agrees number address line a b alike)

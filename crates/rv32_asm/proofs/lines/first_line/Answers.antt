@@ -2,12 +2,6 @@ use Rattle.std.proofs.lemmas.List.{take_rest}
 use Rattle.rv32_asm.proofs.Cuts.{first_is}
 use Rattle.rv32_asm.proofs.lines.first_line.Goals as goal
 
-<<<<<<< HEAD
 pub returns-then-len-text-clause-lines : goal.returns-then-len-text-clause-lines
 returns-then-len-text-clause-lines c =
-    rw take_rest (first_is c.args.text.now c.without_return.result.now c.line_len-len.result c.line_len-len.ensures c.if-len-text.true c.without_return.ensures)
-=======
-pub returns-then-len-text : goal.returns-then-len-text
-returns-then-len-text c =
     rw take_rest (first_is c.args.text.now c.without_return.result.now c.len_before-len.result c.len_before-len.ensures.counted c.if-len-text.true c.without_return.ensures)
->>>>>>> 8413dbbced52ff9aa093d303cdf78cc772d90a72
