@@ -2,6 +2,7 @@
 use Rattle.std.proofs.Common.{◌≡◌, ℕ, ◌+◌, ◌<◌, ◌≤◌, Bool, true, false, List, [], ◌∷◌, Option, Some, None, Result, Ok, Err, length, option_map, refl, sym, ap, subst, ◌∙◌, inl, inr, arith, if◌then◌else◌}
 use Rattle.std.specs.Prelude.{is_some, nat_lt}
 use Rattle.std.specs.Str.{bytes_eq}
+use Rattle.std.proofs.lemmas.Bool.{le-ltb}
 use Rattle.rv32_asm.specs.declared.fault.AsmFault.{AsmFault}
 use Rattle.rv32_asm.specs.declared.fault.AsmFault.TheVariants.{Range, Large, Twice}
 use Rattle.rv32_asm.specs.Characters.{trimmed}
@@ -206,12 +207,122 @@ module _ (size : ℕ) where
   abbrev next_lines : ℕ → List (List ℕ) → Result Progress AsmFault → Result Progress LineFault
   next_lines number lines after = in_line number after >>= λ progress. first_pass size (number + 1) progress lines
 
-  lines_agree : (lines : List (List ℕ)) (number address : ℕ) (a b : List Label) → AreAlike a b →
+  -- what lines alike_too to labels, they do to labels that are alike
+  abbrev DoAlike : List (List ℕ) → Type 0
+  DoAlike lines = (number address : ℕ) (a b : List Label) → AreAlike a b →
       Agree (first_pass size number (at address a) lines) (first_pass size number (at address b) lines)
+
+  at_one_address : (lines : List (List ℕ)) → DoAlike lines → (number : ℕ) (p q : Progress) → p.address ≡ q.address →
+      AreAlike p.labels q.labels → Agree (first_pass size number p lines) (first_pass size number q lines)
+  at_one_address lines alike_too number p q e alike =
+      let P : ℕ → Type 0 = λ address. Agree (first_pass size number p lines) (first_pass size number (at address q.labels) lines) in
+      subst P e (alike_too number p.address p.labels q.labels alike)
+
+  then_agree : (number : ℕ) (lines : List (List ℕ)) → DoAlike lines → (x y : Result Progress AsmFault) → Agree x y →
+      Agree (next_lines number lines x) (next_lines number lines y)
+  then_agree number lines alike_too (Ok p) (Ok q) agree = at_one_address lines alike_too (number + 1) p q agree.0 agree.1
+  then_agree number lines alike_too (Ok p) (Err f) agree = absurd agree
+  then_agree number lines alike_too (Err e) (Ok q) agree = absurd agree
+  then_agree number lines alike_too (Err e) (Err f) agree = ap (λ code. record { line = number; code = code }) agree
+
+  lines_agree : (lines : List (List ℕ)) → DoAlike lines
   unfolding first_pass
   lines_agree [] number address a b alike = (refl, alike)
   lines_agree (line ∷ lines) number address a b alike =
       then_agree number lines
-      (λ n p q. lines_agree lines n p q)
+      (λ n address' p q alike'. lines_agree lines n address' p q alike')
       (after_line size number (at address a) line) (after_line size number (at address b) line)
       (line_agrees number address line a b alike)
+
+  -- ---- one line
+
+  then_reach : (number : ℕ) (lines : List (List ℕ)) (x : Result Progress AsmFault) (address : ℕ) (labels : List Label) →
+      Reaches x address labels → Agree (next_lines number lines x) (first_pass size (number + 1) (at address labels) lines)
+  then_reach number lines (Ok p) address labels reach =
+      at_one_address lines (lines_agree lines) (number + 1) p (at address labels) reach.0 reach.1
+  then_reach number lines (Err f) address labels reach = absurd reach
+
+  nothing_left : (number : ℕ) (p : Progress) → p.address ≤ size → after_line size number p [] ≡ Ok p
+  unfolding after_line labels_of without_comment is_misplaced size_at
+  nothing_left number p inside =
+      let still : p.address + 0 ≡ p.address = omega arith in
+      rw (nothing_said, still, le-ltb size p.address inside) refl
+
+  last_pass : (number : ℕ) (p : Progress) → p.address ≤ size → first_pass size number p (lines_of []) ≡ Ok p
+  unfolding lines_of first_pass
+  last_pass number p inside = rw (nothing_left number p inside) refl
+
+  pub pass_done : (number : ℕ) (p : Progress) (rest : List ℕ) → p.address ≤ size → length rest ≡ 0 →
+      first_pass size number p (lines_of rest) ≡ Ok p
+  pass_done number p [] inside none = last_pass number p inside
+  pass_done number p (byte ∷ rest) inside none = absurd (omega arith)
+
+  pub pass_reaches : (number : ℕ) (p : Progress) (rest : List ℕ) (all : Result Progress LineFault) → p.address ≤ size → length rest ≡ 0 →
+      Agree all (first_pass size number p (lines_of rest)) → Reaches all p.address p.labels
+  pass_reaches number p rest all inside none agree =
+      let ended = rw (pass_done number p rest inside none) at agree in
+      agree_reaches all p ended
+
+  module _ (text line rest : List ℕ) (next : IsNextLine text line rest) (number : ℕ) (p : Progress) where
+    goes_along : (address : ℕ) (labels : List Label) → Reaches (after_line size number p line) address labels → address ≤ size →
+        Agree (first_pass size number p (lines_of text)) (first_pass size (number + 1) (at address labels) (lines_of rest))
+    unfolding first_pass
+    goes_along address labels reach inside = elim next [
+      | inl e ↦ rw e (then_reach number (lines_of rest) (after_line size number p line) address labels reach)
+      | inr e ↦ rw (e.0, e.1, last_pass (number + 1) (at address labels) inside)
+        (then_reach number [] (after_line size number p line) address labels reach)
+    ]
+
+    pub pass_on : (all : Result Progress LineFault) (address : ℕ) (labels : List Label) →
+        Reaches (after_line size number p line) address labels → address ≤ size → Agree all (first_pass size number p (lines_of text)) →
+        Agree all (first_pass size (number + 1) (at address labels) (lines_of rest))
+    pass_on all address labels reach inside agree =
+        agree_on all (first_pass size number p (lines_of text)) _ agree (goes_along address labels reach inside)
+
+    stops : (fault : AsmFault) → after_line size number p line ≡ Err fault →
+        first_pass size number p (lines_of text) ≡ Err (record { line = number; code = fault })
+    unfolding first_pass
+    stops fault f = elim next [
+      | inl e ↦ rw (e, f) refl
+      | inr e ↦ rw (e.0, f) refl
+    ]
+
+    pub pass_stop : (all : Result Progress LineFault) (fault : AsmFault) → after_line size number p line ≡ Err fault →
+        Agree all (first_pass size number p (lines_of text)) → all ≡ Err (record { line = number; code = fault })
+    pass_stop all fault f agree = agree_fault all _ (rw (stops fault f) at agree)
+
+  -- ---- the address that is reached
+
+  next_ends : (misplaced large : Bool) (next : ℕ) (labels : List Label) (r : Progress) →
+      ((if misplaced then Err Range else if large then Err Large else Ok next) >>= λ address. Ok (at address labels)) ≡ Ok r →
+      (if misplaced then Err Range else Ok next) ≡ Ok r.address
+  next_ends true large next labels r e = cc
+  next_ends false true next labels r e = cc
+  next_ends false false next labels r e = let same : at next labels ≡ r = cc in ap (λ p. Ok p.address) same
+
+  work_ends : (named : Result (List Label) AsmFault) (read : Result Statement AsmFault) (address : ℕ) (r : Progress) →
+      after_labels named read (address_after size address) ≡ Ok r → (read >>= behind address) ≡ Ok r.address
+  work_ends (Ok labels) (Ok statement) address r e =
+      next_ends (is_misplaced address statement) (nat_lt size (address + size_at address statement)) (address + size_at address statement) labels r e
+  work_ends (Ok labels) (Err f) address r e = cc
+  work_ends (Err f) read address r e = cc
+
+  line_ends : (number : ℕ) (p : Progress) (line : List ℕ) (r : Progress) → after_line size number p line ≡ Ok r →
+      behind_line p.address line ≡ Ok r.address
+  unfolding after_line behind_line
+  line_ends number p line r e = work_ends (names size number p line) (statement_of line) p.address r e
+
+  ending : (number : ℕ) (lines : List (List ℕ)) (q : Progress) (x : Result Progress AsmFault) (there : Result ℕ AsmFault) →
+      ((r : Progress) → x ≡ Ok r → there ≡ Ok r.address) →
+      ((r : Progress) → first_pass size (number + 1) r lines ≡ Ok q → end_of r.address lines ≡ Ok q.address) →
+      next_lines number lines x ≡ Ok q → (there >>= λ after. end_of after lines) ≡ Ok q.address
+  ending number lines q (Ok r) there first later e = rw (first r refl) (later r e)
+  ending number lines q (Err f) there first later e = cc
+
+  pass_ends : (lines : List (List ℕ)) (number : ℕ) (p q : Progress) → first_pass size number p lines ≡ Ok q →
+      end_of p.address lines ≡ Ok q.address
+  unfolding first_pass end_of
+  pass_ends [] number p q e = let same : p ≡ q = cc in ap (λ r. Ok r.address) same
+  pass_ends (line ∷ lines) number p q e =
+      ending number lines q (after_line size number p line) (behind_line p.address line)
+      (λ r. line_ends number p line r) (λ r. pass_ends lines (number + 1) r q) e

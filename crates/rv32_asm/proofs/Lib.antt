@@ -11,6 +11,7 @@ pub mod Fronts
 pub mod Kept
 pub mod Law
 pub mod Readings
+pub mod SameLabels
 pub mod SecondSteps
 pub mod Sizes
 pub mod Styled
