@@ -25,7 +25,7 @@ some_alike None (Some q) e = cc
 some_alike (Some p) None e = cc
 some_alike (Some p) (Some q) e = refl
 
-there_alike : (a b : List Label) → AreAlike a b → (name : List ℕ) → is_there a name ≡ is_there b name
+pub there_alike : (a b : List Label) → AreAlike a b → (name : List ℕ) → is_there a name ≡ is_there b name
 there_alike a b alike name = some_alike (label_named a name) (label_named b name) (alike.each name)
 
 either_alike : (c : Bool) (label : Label) (o p : Option Label) → option_map unnamed o ≡ option_map unnamed p →
@@ -319,7 +319,7 @@ module _ (size : ℕ) where
   ending number lines q (Ok r) there first later e = rw (first r refl) (later r e)
   ending number lines q (Err f) there first later e = cc
 
-  pass_ends : (lines : List (List ℕ)) (number : ℕ) (p q : Progress) → first_pass size number p lines ≡ Ok q →
+  pub pass_ends : (lines : List (List ℕ)) (number : ℕ) (p q : Progress) → first_pass size number p lines ≡ Ok q →
       end_of p.address lines ≡ Ok q.address
   unfolding first_pass end_of
   pass_ends [] number p q e = let same : p ≡ q = cc in ap (λ r. Ok r.address) same

@@ -1,4 +1,5 @@
 pub mod Alone
+pub mod Assembling
 pub mod Comments
 pub mod Courses
 pub mod Cuts

@@ -3,6 +3,7 @@ use Rattle.std.proofs.Common.{◌≡◌, ℕ, ◌+◌, ℤ, pos, ◌+ℤ◌, Boo
 use Rattle.std.specs.List.{list_any, list_all, flat_map}
 use Rattle.rv32_asm.specs.declared.fault.AsmFault.{AsmFault}
 use Rattle.rv32_asm.specs.Assembly.{entry_of}
+use Rattle.rv32_asm.specs.Course.{entry_at}
 use Rattle.rv32_asm.specs.Encoding.{bytes_at, code_from, encoded_at, expressions_in, fit_from, fits_at, fits_width, is_in_range, misses_label, number_bytes}
 use Rattle.rv32_asm.specs.Expressions.{Expression}
 use Rattle.rv32_asm.specs.Labels.{Label, is_there, label_named}
@@ -32,11 +33,9 @@ address_in None (Some q) e = cc
 address_in (Some p) None e = cc
 address_in (Some p) (Some q) e = let same : unnamed p ≡ unnamed q = cc in ap (λ label. label.address) same
 
-pub entry_same : (size : ℕ) (o p : Option Label) → option_map unnamed o ≡ option_map unnamed p → entry_of size o ≡ entry_of size p
-entry_same size None None e = refl
-entry_same size None (Some q) e = cc
-entry_same size (Some p) None e = cc
-entry_same size (Some p) (Some q) e = ?
+pub entry_is : (size : ℕ) (o : Option Label) → entry_of size o ≡ entry_at size (option_map unnamed o)
+entry_is size None = refl
+entry_is size (Some label) = refl
 
 module _ (a b : List Label) (alike : AreAlike a b) where
   address_same : (name : Option (List ℕ)) → address_of a name ≡ address_of b name

@@ -1,5 +1,5 @@
 -- The addresses that lines lead to, and what the passes reach.
-use Rattle.std.specs.Prelude.{◌≡◌, ℕ, ◌+◌, List, [], ◌∷◌, Result, Ok, Err, if◌then◌else◌, ◌⊎◌}
+use Rattle.std.specs.Prelude.{◌≡◌, ℕ, ◌+◌, List, [], ◌∷◌, Option, None, Some, Result, Ok, Err, if◌then◌else◌, ◌⊎◌}
 use Rattle.rv32_asm.specs.declared.fault.AsmFault.{AsmFault}
 use Rattle.rv32_asm.specs.declared.fault.AsmFault.TheVariants.{Range}
 use Rattle.rv32_asm.specs.declared.fault.AsmError.{AsmError}
@@ -9,7 +9,9 @@ use Rattle.rv32_asm.specs.declared.fault.LineError.TheVariants.{Fault, NoMemory}
 use Rattle.rv32_asm.specs.Labels.{Label}
 use Rattle.rv32_asm.specs.Layout.{is_misplaced, size_at}
 use Rattle.rv32_asm.specs.Lines.{lines_of}
-use Rattle.rv32_asm.specs.Passes.{Progress, ◌>>=◌}
+use Rattle.rv32_asm.specs.Passes.{LineFault, Progress, ◌>>=◌}
+use Rattle.rv32_asm.specs.declared.labels.Label as place
+use Rattle.rv32_asm.specs.Assembly.{is_no_entry}
 use Rattle.rv32_asm.specs.Reading.{statement_of}
 use Rattle.rv32_asm.specs.SeenLabels.{AreAlike}
 use Rattle.rv32_asm.specs.Statements.{Statement}
@@ -43,6 +45,14 @@ end_of address [] = Ok address
 end_of address (line ∷ lines) = do
   next ← behind_line address line
   end_of next lines
+
+-- ---- entries
+
+-- where a program begins: where its label is, and else at 0
+abbrev pub entry_at : ℕ → Option place.Label → Result ℕ LineFault
+entry_at size None = Ok 0
+entry_at size (Some label) =
+    if is_no_entry size label.address then Err (record { line = label.line; code = Range }) else Ok label.address
 
 -- ---- outcomes
 

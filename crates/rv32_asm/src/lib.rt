@@ -20,6 +20,7 @@ mod lines;
 mod numbers;
 mod operands;
 mod passes;
+mod program;
 mod reading;
 mod registers;
 mod statements;
@@ -41,7 +42,15 @@ pub fn assemble(alloc: Global, text: &[u8], size: u32) -> Result<Image, AsmError
     ensures refused { (line : ℕ) (code : AsmFault) → result ≡ Err (Fault line code) →
         program_of text.now size ≡ Err (record { line = line; code = code }) }
 {
-    Err(AsmError::NoMemory)
+    let layout = passes::lay_out(alloc, text, size)?;
+    let bytes = passes::bytes_of(alloc, text, &layout.labels, layout.address)?;
+    let entry = program::entry_of(size, layout.labels.get(b"_start"))?;
+    let segments = program::one_segment(alloc, bytes)?;
+    Ok(Image {
+        entry,
+        size,
+        segments,
+    })
 }
 
 /// Where a line is the text of a word at the line's own address, the word is read back. It does nothing: its contract
