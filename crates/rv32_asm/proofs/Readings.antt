@@ -1,0 +1,147 @@
+-- What a text's statement says of its line in the two passes.
+use Rattle.std.proofs.Common.{◌≡◌, ℕ, ◌+◌, ◌%◌, ◌^◌, ◌<◌, ◌≤◌, ◌&&◌, ℤ, pos, true, false, List, [], ◌∷◌, ◌++◌, Some, Ok, codes, refl, ap, ◌∙◌, arith}
+use Rattle.std.proofs.lemmas.Bool.{and_from, eq-eqb, le-leb, le-ltb}
+use Rattle.std.proofs.lemmas.List.{append-nil}
+use Rattle.std.specs.Int.{to_le_bytes, w32}
+use Rattle.std.specs.List.{list_all}
+use Rattle.sec_base.specs.declared.memory.Width.TheVariants.{Four}
+use Rattle.rv32_decode.specs.Table.{row_for, word_of}
+use Rattle.rv32_decode.specs.declared.Inst.{Inst}
+use Rattle.rv32_decode.specs.declared.Op.{Op}
+use Rattle.rv32_text.specs.Text.{data_text, hex8, statement, text_of_word}
+use Rattle.rv32_asm.specs.Encoding.{bytes_at, encoded_at, fits_at, fits_format, fits_width, immediate_of, is_in_range, misses_label}
+use Rattle.rv32_asm.specs.Expressions.{number_alone}
+use Rattle.rv32_asm.specs.declared.keywords.Slot.{Slot}
+use Rattle.rv32_asm.specs.Keywords.{DataWord, InstructionWord, keyword_of, keywords, other_words, row_words, shorthands}
+use Rattle.rv32_asm.specs.Labels.{Label}
+use Rattle.rv32_asm.specs.Law.{IsReadBack}
+use Rattle.rv32_asm.specs.Layout.{is_misplaced, size_at}
+use Rattle.rv32_asm.specs.Lines.{labels_of}
+use Rattle.rv32_asm.specs.Passes.{Progress, after_line, line_bytes}
+use Rattle.rv32_asm.specs.Reading.{statement_of, statement_with, with_operands}
+use Rattle.rv32_asm.specs.Statements.{Data, Instruction, Instructions, Statement, instruction}
+use Rattle.rv32_asm.specs.Values.{immediate_value, modulo}
+use Rattle.rv32_decode.specs.Table.{rows}
+use Rattle.rv32_text.specs.Text.{mnemonic_of}
+use Rattle.rv32_asm.proofs.TextImmediates.{value_alone}
+use Rattle.rv32_asm.proofs.TextKeywords.{is_word}
+use Rattle.rv32_asm.proofs.TextLines.{is_plain, plain_labels, plain_line}
+use Rattle.rv32_asm.proofs.TextNumbers.{hex8_operand, hex8_read}
+use Rattle.rv32_asm.proofs.TextOperands.{is_operand, operands_read}
+use Rattle.rv32_asm.proofs.TextStatements.{line_plain, statement_read}
+
+-- what a statement has to be at an address
+pub record IsStatementOf (word address : ℕ) (meaning : Statement) : Type 0 where
+  pub placed : is_misplaced address meaning ≡ false
+  pub size : size_at address meaning ≡ 4
+  pub known : (labels : List Label) → misses_label labels meaning ≡ false
+  pub fits : (labels : List Label) → is_in_range labels address meaning ≡ true
+  pub bytes : (labels : List Label) → bytes_at labels address meaning ≡ to_le_bytes w32 word
+
+passed_text : (size address number : ℕ) (text : List ℕ) (meaning : Statement) (progress : Progress) →
+    labels_of text ≡ [] → statement_of text ≡ Ok meaning → is_misplaced address meaning ≡ false →
+    size_at address meaning ≡ 4 → address + 4 ≤ size → progress.address ≡ address →
+    after_line size number progress text ≡ Ok (record progress { address = address + 4 })
+unfolding after_line
+passed_text size address number text meaning progress none means placed four inside here =
+    rw (none, means, here, placed, four, le-ltb size (address + 4) inside) refl
+
+emitted_text : (labels : List Label) (address : ℕ) (text bytes : List ℕ) (meaning : Statement) →
+    statement_of text ≡ Ok meaning → misses_label labels meaning ≡ false → is_in_range labels address meaning ≡ true →
+    bytes_at labels address meaning ≡ bytes → line_bytes labels address text ≡ Ok bytes
+unfolding line_bytes
+emitted_text labels address text bytes meaning means known fits e = rw (means, known, fits, e) refl
+
+pub read_back : (size word address : ℕ) (text : List ℕ) (meaning : Statement) → text_of_word word address ≡ text →
+    list_all is_plain text ≡ true → statement_of text ≡ Ok meaning → address + 4 ≤ size →
+    IsStatementOf word address meaning → IsReadBack size word address
+read_back size word address text meaning e plain means inside is = record {
+  one_line = rw e (plain_line text plain);
+  passed = λ number progress here. ap (after_line size number progress) e
+      ∙ passed_text size address number text meaning progress (plain_labels text plain) means is.placed is.size inside here;
+  emitted = λ labels. ap (line_bytes labels address) e
+      ∙ emitted_text labels address text (to_le_bytes w32 word) meaning means (is.known labels) (is.fits labels) (is.bytes labels);
+}
+
+-- ---- instructions
+
+abbrev pub made : Op → ℕ → ℕ → ℕ → ℤ → Inst
+made op rd rs1 rs2 imm = record { op = op; rd = rd; rs1 = rs1; rs2 = rs2; imm = imm }
+
+fits_alone : (labels : List Label) (address : ℕ) (op : Op) (rd rs1 rs2 : ℕ) (value : ℤ) →
+    fits_at labels address (instruction op rd rs1 rs2 value) ≡ fits_format (row_for op).format address value
+unfolding fits_at immediate_value
+fits_alone labels address op rd rs1 rs2 value = ap (fits_format (row_for op).format address) (value_alone labels value)
+
+encoded_alone : (labels : List Label) (address : ℕ) (op : Op) (rd rs1 rs2 : ℕ) (value : ℤ) →
+    encoded_at labels address (instruction op rd rs1 rs2 value)
+    ≡ made op rd rs1 rs2 (immediate_of (row_for op).format address value)
+unfolding encoded_at immediate_value
+encoded_alone labels address op rd rs1 rs2 value =
+    ap (λ v. made op rd rs1 rs2 (immediate_of (row_for op).format address v)) (value_alone labels value)
+
+-- an instruction at an address that is a multiple of 4
+pub instruction_is : (word address : ℕ) (op : Op) (rd rs1 rs2 : ℕ) (value : ℤ) → address % 4 ≡ 0 →
+    fits_format (row_for op).format address value ≡ true →
+    word_of (made op rd rs1 rs2 (immediate_of (row_for op).format address value)) ≡ word →
+    IsStatementOf word address (Instructions (instruction op rd rs1 rs2 value ∷ []))
+unfolding is_misplaced size_at misses_label is_in_range bytes_at
+instruction_is word address op rd rs1 rs2 value aligned fits e = record {
+  placed = rw (eq-eqb (address % 4) 0 aligned) refl;
+  size = refl;
+  known = λ labels. refl;
+  fits = λ labels. and_from (fits_at labels address (instruction op rd rs1 rs2 value)) true
+      (fits_alone labels address op rd rs1 rs2 value ∙ fits) refl;
+  bytes = λ labels. ap (λ i. to_le_bytes w32 (word_of i) ++ []) (encoded_alone labels address op rd rs1 rs2 value)
+      ∙ ap (λ w. to_le_bytes w32 w ++ []) e;
+}
+
+pub instruction_line : (name first : List ℕ) (others : List (List ℕ)) (slots : List Slot) (before after : Instruction) →
+    is_word name ≡ true → keyword_of name ≡ Some (InstructionWord slots before) → is_operand first ≡ true →
+    list_all is_operand others ≡ true → with_operands slots (first ∷ others) before ≡ Some after →
+    statement_of (statement name (first ∷ others)) ≡ Ok (Instructions (after ∷ []))
+unfolding statement_with
+instruction_line name first others slots before after word found operand all read =
+    statement_read name first others (InstructionWord slots before) word found operand all
+    ∙ rw (operands_read first others operand all, read) refl
+
+-- ---- words as data
+
+word_modulo : (word : ℕ) → word < 2 ^ 32 → word % 2 ^ 32 ≡ word
+word_modulo word below = omega arith
+
+pub data_is : (word address : ℕ) → word < 2 ^ 32 →
+    IsStatementOf word address (Data Four (number_alone (pos word) ∷ []))
+unfolding is_misplaced size_at misses_label is_in_range bytes_at
+data_is word address below = record {
+  placed = refl;
+  size = refl;
+  known = λ labels. refl;
+  fits = λ labels. ap (λ v. fits_width Four v && true) (value_alone labels (pos word))
+      ∙ rw (le-leb word 4294967295 (omega arith)) refl;
+  bytes = λ labels. ap (λ v. to_le_bytes w32 (modulo 32 v) ++ []) (value_alone labels (pos word))
+      ∙ ap (λ w. to_le_bytes w32 w ++ []) (word_modulo word below);
+}
+
+data_keyword : keyword_of (codes ".word") ≡ Some (DataWord Four)
+unfolding keyword_of keywords row_words shorthands other_words rows mnemonic_of
+data_keyword = refl
+
+abbrev number_text : ℕ → List ℕ
+number_text word = codes "0x" ++ hex8 word
+
+data_statement : (word : ℕ) → data_text word ≡ statement (codes ".word") (number_text word ∷ [])
+unfolding data_text
+data_statement word = rw append-nil refl
+
+pub data_line : (word : ℕ) → word < 2 ^ 32 → statement_of (data_text word) ≡ Ok (Data Four (number_alone (pos word) ∷ []))
+unfolding statement_with
+data_line word below =
+    ap statement_of (data_statement word)
+    ∙ (statement_read (codes ".word") (number_text word) [] (DataWord Four) refl data_keyword (hex8_operand word below) refl
+    ∙ rw (operands_read (number_text word) [] (hex8_operand word below) refl, hex8_read word below) refl)
+
+pub data_plain : (word : ℕ) → word < 2 ^ 32 → list_all is_plain (data_text word) ≡ true
+data_plain word below =
+    ap (list_all is_plain) (data_statement word)
+    ∙ line_plain (codes ".word") (number_text word) [] (DataWord Four) refl data_keyword (hex8_operand word below) refl

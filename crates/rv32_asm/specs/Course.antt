@@ -1,0 +1,67 @@
+-- The addresses that lines lead to, and what the passes reach.
+use Rattle.std.specs.Prelude.{◌≡◌, ℕ, ◌+◌, List, [], ◌∷◌, Option, None, Some, Result, Ok, Err, if◌then◌else◌, ◌⊎◌}
+use Rattle.rv32_asm.specs.declared.fault.AsmFault.{AsmFault}
+use Rattle.rv32_asm.specs.declared.fault.AsmFault.TheVariants.{Range}
+use Rattle.rv32_asm.specs.declared.fault.AsmError.{AsmError}
+use Rattle.rv32_asm.specs.declared.fault.AsmError.TheVariants as error
+use Rattle.rv32_asm.specs.declared.fault.LineError.{LineError}
+use Rattle.rv32_asm.specs.declared.fault.LineError.TheVariants.{Fault, NoMemory}
+use Rattle.rv32_asm.specs.Labels.{Label}
+use Rattle.rv32_asm.specs.Layout.{is_misplaced, size_at}
+use Rattle.rv32_asm.specs.Lines.{lines_of}
+use Rattle.rv32_asm.specs.Passes.{LineFault, Progress, ◌>>=◌}
+use Rattle.rv32_asm.specs.declared.labels.Label as place
+use Rattle.rv32_asm.specs.Assembly.{is_no_entry}
+use Rattle.rv32_asm.specs.Reading.{statement_of}
+use Rattle.rv32_asm.specs.SeenLabels.{AreAlike}
+use Rattle.rv32_asm.specs.Statements.{Statement}
+
+-- ---- lines
+
+-- the first line of a text, and the text behind it, empty behind the last line
+abbrev pub IsNextLine : List ℕ → List ℕ → List ℕ → Type 0
+IsNextLine text line rest =
+    (lines_of text ≡ line ∷ lines_of rest) ⊎ ((lines_of text ≡ line ∷ []) × (rest ≡ []))
+
+-- an error in the line of a number
+abbrev pub in_line : ℕ → LineError → AsmError
+in_line number (Fault code) = error.Fault number code
+in_line number NoMemory = error.NoMemory
+
+-- ---- addresses
+
+-- the address behind a statement, if it may stand there
+abbrev pub behind : ℕ → Statement → Result ℕ AsmFault
+behind address statement =
+    if is_misplaced address statement then Err Range else Ok (address + size_at address statement)
+
+-- the address behind a line
+unfoldable pub behind_line : ℕ → List ℕ → Result ℕ AsmFault
+behind_line address line = statement_of line >>= behind address
+
+-- the address behind lines
+unfoldable pub end_of : ℕ → List (List ℕ) → Result ℕ AsmFault
+end_of address [] = Ok address
+end_of address (line ∷ lines) = do
+  next ← behind_line address line
+  end_of next lines
+
+-- ---- entries
+
+-- where a program begins: where its label is, and else at 0
+abbrev pub entry_at : ℕ → Option place.Label → Result ℕ LineFault
+entry_at size None = Ok 0
+entry_at size (Some label) =
+    if is_no_entry size label.address then Err (record { line = label.line; code = Range }) else Ok label.address
+
+-- ---- outcomes
+
+-- these labels, in whatever order
+abbrev pub Gives : Result (List Label) AsmFault → List Label → Type 0
+Gives (Ok given) labels = AreAlike given labels
+Gives (Err fault) labels = ⊥
+
+-- this address, and these labels in whatever order
+abbrev pub Reaches : {E : Type 0} → Result Progress E → ℕ → List Label → Type 0
+Reaches (Ok progress) address labels = (progress.address ≡ address) × AreAlike progress.labels labels
+Reaches (Err fault) address labels = ⊥

@@ -1,0 +1,140 @@
+//! The words of instructions.
+
+ghost use Rattle.rv32_asm.specs.Encoding as spec;
+ghost use Rattle.rv32_asm.specs.Fields.{format_in, immediate_in, kept};
+ghost use Rattle.rv32_asm.specs.Fields as fields;
+ghost use Rattle.rv32_asm.specs.Numbers as numbers;
+ghost use Rattle.rv32_asm.specs.Seen as seen;
+ghost use Rattle.rv32_decode.specs.Table.{row_for, word_of};
+ghost use Rattle.rv32_text.specs.Text.{mnemonic_of};
+ghost use Rattle.std.specs.Prelude.{None, Some, true, if◌then◌else◌, neg_ℤ, pos, ◌&&◌, ◌^◌, ◌≡◌, ◌≤ℤ◌};
+
+use crate::labels::Labels;
+use crate::statements::Instruction;
+use crate::values;
+use rv32_decode::{Inst, Op, encode};
+use rv32_text::{Style, style_of};
+
+// How far it is from an address to a target, modulo 2^32, from -2^31 on.
+fn distance(address: u32, target: i64) -> i32
+    requires least { neg_ℤ (pos (2 ^ 33)) ≤ℤ target }
+    requires most { target ≤ℤ pos (2 ^ 33) }
+    ensures { result ≡ spec.distance address target }
+{
+    values::word_of(target - i64::from(address)).cast_signed()
+}
+
+// A number, where it is in a range.
+fn number_between(low: i32, high: i32, number: i64) -> Option<i32>
+    ensures { result ≡ if numbers.is_between low high number then Some number else None }
+{
+    if i64::from(low) <= number && number <= i64::from(high) {
+        Some(number as i32)
+    } else {
+        None
+    }
+}
+
+fn is_even(number: i32) -> bool
+    ensures { result ≡ spec.is_even number }
+{
+    number.rem_euclid(2) == 0
+}
+
+// The distance to a target, where it is even and in a range.
+fn near(address: u32, target: i64, low: i32, high: i32) -> Option<i32>
+    requires least { neg_ℤ (pos (2 ^ 33)) ≤ℤ target }
+    requires most { target ≤ℤ pos (2 ^ 33) }
+    ensures { let far = spec.distance address target in
+        result ≡ if spec.is_even far && numbers.is_between low high far then Some far else None }
+{
+    let far = distance(address, target);
+    if is_even(far) {
+        number_between(low, high, i64::from(far))
+    } else {
+        None
+    }
+}
+
+// The number with these upper twenty bits, where they are no more.
+fn upper(value: i64) -> Option<i32>
+    ensures { result ≡ immediate_in (format_in true Style.Upper) 0 value }
+{
+    if 0 <= value && value <= 0xf_ffff {
+        Some(((value as u32) << 12).cast_signed())
+    } else {
+        None
+    }
+}
+
+fn is_shift(op: Op) -> bool
+    ensures { result ≡ fields.is_shift op }
+{
+    matches!(op, Op::Slli | Op::Srli | Op::Srai)
+}
+
+// The immediate of a value at an address, for rows whose operands are written so.
+fn styled_immediate(style: Style, is_shift: bool, address: u32, value: i64) -> Option<i32>
+    requires least { neg_ℤ (pos (2 ^ 33)) ≤ℤ value }
+    requires most { value ≤ℤ pos (2 ^ 33) }
+    ensures { result ≡ immediate_in (format_in is_shift style) address value }
+{
+    match style {
+        Style::Registers | Style::Bare => Some(0),
+        Style::Immediate if is_shift => number_between(0, 31, value),
+        Style::Immediate | Style::Offset | Style::Store | Style::Fence => {
+            number_between(-2048, 2047, value)
+        }
+        Style::Upper => upper(value),
+        Style::Branch => near(address, value, -4096, 4094),
+        Style::Jump => near(address, value, -0x10_0000, 0xf_fffe),
+    }
+}
+
+// The immediate of a value at an address, where it is in its range.
+fn immediate_of(op: Op, address: u32, value: i64) -> Option<i32>
+    requires least { neg_ℤ (pos (2 ^ 33)) ≤ℤ value }
+    requires most { value ≤ℤ pos (2 ^ 33) }
+    ensures { result ≡ immediate_in (row_for op).format address value }
+{
+    styled_immediate(style_of(op), is_shift(op), address, value)
+}
+
+// An instruction with an immediate, and of the registers those that its row has.
+fn with_immediate(instruction: &Instruction, imm: i32) -> Inst
+    ensures { result ≡ kept (mnemonic_of instruction.now.op).style (record {
+        op = instruction.now.op;
+        rd = instruction.now.rd;
+        rs1 = instruction.now.rs1;
+        rs2 = instruction.now.rs2;
+        imm = imm;
+    }) }
+{
+    let Instruction {
+        op, rd, rs1, rs2, ..
+    } = *instruction;
+    let (rd, rs1, rs2) = match style_of(op) {
+        Style::Registers => (rd, rs1, rs2),
+        Style::Immediate | Style::Offset | Style::Fence => (rd, rs1, 0),
+        Style::Store | Style::Branch => (0, rs1, rs2),
+        Style::Upper | Style::Jump => (rd, 0, 0),
+        Style::Bare => (0, 0, 0),
+    };
+    Inst {
+        op,
+        rd,
+        rs1,
+        rs2,
+        imm,
+    }
+}
+
+/// The word of an instruction at an address, where its value is in its range.
+pub fn word_at(labels: &Labels, address: u32, instruction: &Instruction) -> Option<u32>
+    ensures { let i = seen.instruction instruction.now in
+        result ≡ if spec.fits_at labels.now address i then Some (word_of (spec.encoded_at labels.now address i)) else None }
+{
+    let value = values::immediate_value(labels, &instruction.immediate);
+    let imm = immediate_of(instruction.op, address, value)?;
+    Some(encode(&with_immediate(instruction, imm)))
+}

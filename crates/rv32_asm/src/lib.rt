@@ -1,0 +1,60 @@
+//! Programs from assembly texts, in the assembly language of the RISC-V unprivileged manual.
+#![tactic(auto)]
+
+ghost use Rattle.std.specs.Prelude.{ℕ, IfOk, Err, length, ◌≡◌, ◌<◌, ◌^◌};
+ghost use Rattle.sec_base.specs.Layout.{IsMemorySize};
+ghost use Rattle.rv32_asm.specs.Assembly.{IsAssembled, program_of};
+ghost use Rattle.rv32_asm.specs.Law.{TextsAreWords};
+ghost use Rattle.rv32_asm.specs.declared.fault.AsmFault.{AsmFault};
+ghost use Rattle.rv32_asm.specs.declared.fault.AsmError.TheVariants.{Fault};
+
+mod characters;
+mod emission;
+mod encoding;
+mod expressions;
+mod fault;
+mod keywords;
+mod labels;
+mod layout;
+mod lines;
+mod numbers;
+mod operands;
+mod passes;
+mod program;
+mod reading;
+mod registers;
+mod statements;
+mod strings;
+mod values;
+
+pub use fault::{AsmError, AsmFault};
+use sec_base::Image;
+use std::alloc::Global;
+
+/// The program of an assembly text, for a memory of `size` bytes: one segment at 0 of all that was emitted, and the
+/// label `_start` as its entry, or else 0. An error tells the first fault: first those of a pass over the lines that
+/// finds the labels, then those of a pass that makes the bytes, then that of the entry. `NoMemory` may come at any
+/// text.
+pub fn assemble(alloc: Global, text: &[u8], size: u32) -> Result<Image, AsmError>
+    requires memory { IsMemorySize size }
+    requires short { length text.now < 2 ^ 32 }
+    ensures program { IfOk result (IsAssembled text.now size) }
+    ensures refused { (line : ℕ) (code : AsmFault) → result ≡ Err (Fault line code) →
+        program_of text.now size ≡ Err (record { line = line; code = code }) }
+{
+    let layout = passes::lay_out(alloc, text, size)?;
+    let bytes = passes::bytes_of(alloc, text, &layout.labels, layout.address)?;
+    let entry = program::entry_of(size, layout.labels.get(b"_start"))?;
+    let segments = program::one_segment(alloc, bytes)?;
+    Ok(Image {
+        entry,
+        size,
+        segments,
+    })
+}
+
+/// Where a line is the text of a word at the line's own address, the word is read back. It does nothing: its contract
+/// is a theorem over all words, and all memories and places where they can stand.
+pub fn texts_are_words()
+    ensures { (size : ℕ) → TextsAreWords size }
+{}

@@ -1,0 +1,175 @@
+//! The two passes over the lines of a text: the first finds where the labels stand, the second makes the bytes.
+
+ghost use Rattle.rv32_asm.specs.Course.{Gives, IsNextLine, Reaches, behind_line, end_of};
+ghost use Rattle.rv32_asm.specs.Course as course;
+ghost use Rattle.rv32_asm.specs.Emission.{with_more};
+ghost use Rattle.rv32_asm.specs.Lines.{labels_in, lines_of};
+ghost use Rattle.rv32_asm.specs.Parts.{parts};
+ghost use Rattle.rv32_asm.specs.Passes as spec;
+ghost use Rattle.rv32_asm.specs.declared.fault.AsmFault.{AsmFault};
+ghost use Rattle.rv32_asm.specs.declared.fault.AsmError.TheVariants as error;
+ghost use Rattle.rv32_asm.specs.declared.fault.LineError.TheVariants.{Fault};
+ghost use Rattle.std.specs.Prelude.{Err, IfOk, IsOkAnd, Ok, OnOk, [], length, ℕ, ◌+◌, ◌<◌, ◌^◌, ◌≡◌, ◌≤◌};
+
+use crate::emission;
+use crate::fault::{AsmError, LineError};
+use crate::labels::{Label, Labels};
+use crate::layout;
+use crate::lines;
+use crate::reading;
+use std::alloc::Global;
+
+// The first line of a text, and the text behind it, empty behind the last line.
+fn next_line(text: &[u8]) -> (&[u8], &[u8])
+    ensures lines { IsNextLine text.now result.0.now result.1.now }
+    ensures shorter { 0 < length text.now → length result.1.now < length text.now }
+{
+    match lines::first_line(text) {
+        (line, Some(rest)) => (line, rest),
+        (line, None) => (line, &[]),
+    }
+}
+
+// An error in the line of a number.
+fn in_line(number: u32, error: LineError) -> AsmError
+    ensures { result ≡ course.in_line number error }
+{
+    match error {
+        LineError::Fault(code) => AsmError::Fault { line: number, code },
+        LineError::NoMemory => AsmError::NoMemory,
+    }
+}
+
+/// How far the first pass came: the address that it reached, and the labels on the way.
+#[derive(Drop)]
+pub struct Progress<'a> {
+    pub address: u32,
+    pub labels: Labels<'a>,
+}
+
+// Adds the labels of a line without its comment.
+fn add_labels<'a>(
+    labels: &mut Labels<'a>,
+    text: &'a [u8],
+    label: Label,
+) -> Result<(), LineError>
+    ensures added { OnOk result (Gives
+        (spec.with_names label.address label.line (labels_in (parts text.now)) labels.old)
+        labels.new) }
+    ensures refused { (fault : AsmFault) → result ≡ Err (Fault fault) →
+        spec.with_names label.address label.line (labels_in (parts text.now)) labels.old ≡ Err fault }
+{
+    let mut rest = text;
+    while let Some((name, behind)) = lines::first_label(rest) {
+        labels.add(name, label)?;
+        rest = behind;
+    }
+    Ok(())
+}
+
+// What a line leaves.
+fn after_line<'a>(
+    alloc: Global,
+    size: u32,
+    number: u32,
+    progress: Progress<'a>,
+    line: &'a [u8],
+) -> Result<Progress<'a>, LineError>
+    ensures after { IfOk result (λ after. Reaches
+        (spec.after_line size number (record { address = progress.entry.address; labels = progress.entry.labels }) line.now)
+        after.address
+        after.labels) }
+    ensures inside { IfOk result (λ after. after.address ≤ size) }
+    ensures refused { (fault : AsmFault) → result ≡ Err (Fault fault) →
+        spec.after_line size number (record { address = progress.entry.address; labels = progress.entry.labels }) line.now ≡ Err fault }
+{
+    let Progress {
+        address,
+        mut labels,
+    } = progress;
+    let label = Label {
+        address,
+        line: number,
+    };
+    add_labels(&mut labels, lines::without_comment(line), label)?;
+    let statement = reading::statement_of(alloc, line)?;
+    match layout::address_after(size, address, &statement) {
+        Ok(address) => Ok(Progress { address, labels }),
+        Err(fault) => Err(LineError::Fault(fault)),
+    }
+}
+
+/// Where the labels of a text stand, and the address where its bytes end, or its first fault.
+pub fn lay_out<'a>(alloc: Global, text: &'a [u8], size: u32) -> Result<Progress<'a>, AsmError>
+    requires short { length text.now < 2 ^ 32 }
+    ensures reached { IfOk result (λ progress. Reaches
+        (spec.first_pass size 1 spec.start (lines_of text.now))
+        progress.address
+        progress.labels) }
+    ensures inside { IfOk result (λ progress. progress.address ≤ size) }
+    ensures refused { (line : ℕ) (code : AsmFault) → result ≡ Err (error.Fault line code) →
+        spec.first_pass size 1 spec.start (lines_of text.now) ≡ Err (record { line = line; code = code }) }
+{
+    let mut progress = Progress {
+        address: 0,
+        labels: Labels::new(alloc),
+    };
+    let mut rest = text;
+    let mut number = 0;
+    while !rest.is_empty() {
+        number += 1;
+        let (line, behind) = next_line(rest);
+        match after_line(alloc, size, number, progress, line) {
+            Ok(after) => progress = after,
+            Err(error) => return Err(in_line(number, error)),
+        }
+        rest = behind;
+    }
+    Ok(progress)
+}
+
+// Adds the bytes of a line that ends inside the memory.
+fn put_line(
+    alloc: Global,
+    bytes: &mut Vec<u8>,
+    labels: &Labels,
+    line: &[u8],
+) -> Result<(), LineError>
+    requires { IsOkAnd (behind_line (length bytes.old.items) line.now) (λ next. next < 2 ^ 32) }
+    ensures ok { OnOk result (with_more bytes.old.items (spec.line_bytes labels.now (length bytes.old.items) line.now)
+        ≡ Ok bytes.new.items) }
+    ensures length { OnOk result (behind_line (length bytes.old.items) line.now ≡ Ok (length bytes.new.items)) }
+    ensures refused { (fault : AsmFault) → result ≡ Err (Fault fault) →
+        spec.line_bytes labels.now (length bytes.old.items) line.now ≡ Err fault }
+{
+    let statement = reading::statement_of(alloc, line)?;
+    emission::emit(bytes, labels, &statement)
+}
+
+/// The bytes of a text whose labels are known, and which ends at an address, or its first fault.
+pub fn bytes_of(
+    alloc: Global,
+    text: &[u8],
+    labels: &Labels,
+    end: u32,
+) -> Result<Vec<u8>, AsmError>
+    requires short { length text.now < 2 ^ 32 }
+    requires end { end_of 0 (lines_of text.now) ≡ Ok end }
+    ensures bytes { IfOk result (λ bytes. spec.second_pass labels.now 1 [] (lines_of text.now) ≡ Ok bytes.items) }
+    ensures length { IfOk result (λ bytes. length bytes.items ≡ end) }
+    ensures refused { (line : ℕ) (code : AsmFault) → result ≡ Err (error.Fault line code) →
+        spec.second_pass labels.now 1 [] (lines_of text.now) ≡ Err (record { line = line; code = code }) }
+{
+    let mut bytes = Vec::with_capacity(alloc, end as usize)?;
+    let mut rest = text;
+    let mut number = 0;
+    while !rest.is_empty() {
+        number += 1;
+        let (line, behind) = next_line(rest);
+        if let Err(error) = put_line(alloc, &mut bytes, labels, line) {
+            return Err(in_line(number, error));
+        }
+        rest = behind;
+    }
+    Ok(bytes)
+}

@@ -1,0 +1,48 @@
+//! A program's entry and its segment.
+
+ghost use Rattle.rv32_asm.specs.Assembly as spec;
+ghost use Rattle.rv32_asm.specs.Course.{entry_at};
+ghost use Rattle.rv32_asm.specs.declared.fault.AsmError.TheVariants as error;
+ghost use Rattle.rv32_asm.specs.declared.fault.AsmFault.{AsmFault};
+ghost use Rattle.sec_base.specs.Layout.{IsMemorySize};
+ghost use Rattle.std.specs.Prelude.{Err, IfOk, Ok, length, ℕ, ◌%◌, ◌+◌, ◌<◌, ◌^◌, ◌≡◌, ◌≤◌};
+
+use crate::fault::{AsmError, AsmFault};
+use crate::labels::Label;
+use sec_base::{Bytes, NoMemory, Segment, Segments};
+use std::alloc::Global;
+
+/// Where a program begins: where its label is, and else at 0.
+pub fn entry_of(size: u32, start: Option<Label>) -> Result<u32, AsmError>
+    requires { IsMemorySize size }
+    ensures entry { IfOk result (λ entry. entry_at size start ≡ Ok entry) }
+    ensures aligned { IfOk result (λ entry. entry % 4 ≡ 0) }
+    ensures inside { IfOk result (λ entry. entry + 4 ≤ size) }
+    ensures refused { (line : ℕ) (code : AsmFault) → result ≡ Err (error.Fault line code) →
+        entry_at size start ≡ Err (record { line = line; code = code }) }
+{
+    let Some(label) = start else {
+        return Ok(0);
+    };
+    if label.address % 4 != 0 || u64::from(label.address) + 4 > u64::from(size) {
+        return Err(AsmError::Fault {
+            line: label.line,
+            code: AsmFault::Range,
+        });
+    }
+    Ok(label.address)
+}
+
+/// One segment from address 0 on, of all the bytes.
+pub fn one_segment(alloc: Global, bytes: Vec<u8>) -> Result<Segments, NoMemory>
+    requires { length bytes.items < 2 ^ 32 }
+    ensures { IfOk result (λ segments. segments ≡ spec.one_segment bytes.items) }
+{
+    let mut segments = Vec::new(alloc);
+    segments.push(Segment {
+        addr: 0,
+        length: bytes.len() as u32,
+        bytes: Bytes::from_vec(bytes),
+    })?;
+    Ok(Segments::from_vec(segments))
+}
