@@ -1,14 +1,14 @@
-pub mod Flat
+pub mod Program
 pub mod Needs
 pub mod Causes
 pub mod Taken
-pub mod FlatRun
+pub mod Device
+pub mod ProtectedRun
 pub mod PlainRun
 pub mod Buses
 pub mod Endings
 pub mod Texts
 pub mod Statuses
-pub mod Told
 pub mod Requests
 pub mod Answer
 pub mod Course
