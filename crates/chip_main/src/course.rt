@@ -59,7 +59,8 @@ impl Course {
     {
         match self {
             Course::Ran(run, bus) => Some((run, bus)),
-            Course::Refused(_) | Course::NoMemory | Course::RanPlain(_) | Course::Written(_) => None,
+            Course::Refused(_) | Course::NoMemory | Course::RanPlain(_) | Course::Written(_) =>
+                None,
         }
     }
 }

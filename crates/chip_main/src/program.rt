@@ -48,12 +48,7 @@ impl ProgramForm {
 }
 
 /// The program that the bytes of a file tell, for a memory of `size` bytes.
-pub fn program_in(
-    alloc: Global,
-    form: ProgramForm,
-    bytes: &[u8],
-    size: u32,
-) -> Result<Image, Stop>
+pub fn program_in(alloc: Global, form: ProgramForm, bytes: &[u8], size: u32) -> Result<Image, Stop>
     requires memory { IsMemorySize size }
     requires short { length bytes.now < 2 ^ 32 }
     ensures told { IfOk result (IsImageIn form size bytes.now) }

@@ -138,7 +138,7 @@ refusal_asks a words e is fails kept =
 asked_keeps : (P : Asked → Type 0) (o : Option (Text × List Row)) (r : Asked)
     → ((values : List Row) → HasExecution values → P (to_run (execution_of values)) × P (to_run_plain (execution_of values)))
     → ((values : List Row) → HasProgram values
-        → P (to_assemble (assembly_of values)) × P (to_list (inspection_of values)) × P (to_measure (inspection_of values)))
+    → P (to_assemble (assembly_of values)) × P (to_list (inspection_of values)) × P (to_measure (inspection_of values)))
     → IfCommand o → asked_in o ≡ Some r → P r
 asked_keeps P None r executes writes has e = absurd cc
 asked_keeps P (Some p) r executes writes has e =
@@ -161,7 +161,7 @@ asked_keeps P (Some p) r executes writes has e =
 request_keeps : (P : Asked → Type 0) (words : List Text) (r : Asked)
     → ((values : List Row) → HasExecution values → P (to_run (execution_of values)) × P (to_run_plain (execution_of values)))
     → ((values : List Row) → HasProgram values
-        → P (to_assemble (assembly_of values)) × P (to_list (inspection_of values)) × P (to_measure (inspection_of values)))
+    → P (to_assemble (assembly_of values)) × P (to_list (inspection_of values)) × P (to_measure (inspection_of values)))
     → request_of words ≡ Some r → P r
 request_keeps P words r executes writes e =
     let none = (request_is_there words).0 (ap is_some e) in
