@@ -1,16 +1,22 @@
 -- How a call comes to its course.
 use Rattle.std.proofs.Common.{◌≡◌, ℕ, List, [], ◌∷◌, ◌++◌, Option, Some, None, Ok, Err, refl, sym, ◌∙◌, arith, append-nil, subst}
+use Rattle.sec_base.specs.Layout.{memory_size}
 use Rattle.sec_base.specs.Reading.{FilesState}
 use Rattle.sec_base.specs.Writing.{SinkState, Silent}
+use Rattle.sec_base.specs.declared.program.Image.{Image}
+use Rattle.rv32_listing.specs.Listed.{IsListed as IsTold}
 use Rattle.chip_words.specs.Request.{Asked, ExecutionAsked, to_run}
+use Rattle.chip_main.specs.declared.program.ProgramForm.{ProgramForm}
 use Rattle.chip_main.specs.declared.refusal.Refusal.{Refusal}
 use Rattle.chip_main.specs.declared.refusal.Refusal.TheVariants.{Usage, Unread, TooLong, Elf, Asm}
 use Rattle.chip_main.specs.declared.taking.Stop.{Stop}
 use Rattle.chip_main.specs.declared.taking.Stop.TheVariants.{Refused, NoMemory}
-use Rattle.chip_main.specs.Program.{Program, ProgramFile}
+use Rattle.chip_main.specs.Program.{IsImageOf, Program, ProgramFile, program_file}
 use Rattle.chip_main.specs.Needs.{Need, AreAccepted, IsAccepted, asked_needs, execution_file, execution_needs, input_needs, needs_of, program_need}
 use Rattle.chip_main.specs.Causes.{Asks, AsksNothing, IsRefused, RunsOut, Stops, StopsAs}
 use Rattle.chip_main.specs.Taken.{IsInput, IsProgram, Takes}
+use Rattle.chip_main.specs.Requests.{Writes}
+use Rattle.chip_main.specs.Statuses.{Telling}
 use Rattle.chip_main.specs.Course.{CameAbout, stopped_course}
 
 refused : (refusal : Refusal) (request : Option Asked) (old new : FilesState) → Stops refusal (needs_of request) old new → IsRefused refusal request old new
@@ -63,4 +69,21 @@ came_unread request files = record {
   accepted = tt;
   one = omega arith;
   asked = sym (append-nil files.asked);
+}
+
+-- a text of the program that was taken was written
+pub writes_of : (file : ProgramFile) (form : ProgramForm) (levels : ℕ) (text : Image → List ℕ) (program : Program) (image : Image) (files files' : FilesState) (out out' : SinkState) (telling : Telling) → file.form ≡ form → file.levels ≡ levels →
+    IsImageOf (memory_size levels) program image → IsProgram files (program_file file.name form levels) program → Asks (program_need (program_file file.name form levels) ∷ []) files files' → IsTold (text image) out out' telling →
+    Writes file text files files' out out' telling
+writes_of file form levels text program image files files' out out' telling same_form same_levels is_image is_program asked told = record {
+  program = program;
+  takes = record {
+    program_is = subst (λ (l : ℕ). IsProgram files (program_file file.name file.form l) program) (sym same_levels)
+        (subst (λ (f : ProgramForm). IsProgram files (program_file file.name f levels) program) (sym same_form) is_program);
+    asked = subst (λ (l : ℕ). Asks (program_need (program_file file.name file.form l) ∷ []) files files') (sym same_levels)
+        (subst (λ (f : ProgramForm). Asks (program_need (program_file file.name f levels) ∷ []) files files') (sym same_form) asked);
+  };
+  image = image;
+  is_image = subst (λ (l : ℕ). IsImageOf (memory_size l) program image) (sym same_levels) is_image;
+  written = told;
 }

@@ -4,9 +4,11 @@ use Rattle.std.specs.Result.{result_err}
 use Rattle.sec_base.specs.Count.{Rose, RoseBy, more_by}
 use Rattle.sec_base.specs.Layout.{memory_size}
 use Rattle.sec_base.specs.Reading.{FilesState, HasBytes, HasOver}
+use Rattle.sec_base.specs.declared.program.Image.{Image}
+use Rattle.elf_load.specs.Loading.{IsProgramOf, entry_of, flat_segments, segments_of}
 use Rattle.elf_load.specs.Refusals.{first_fault, flat_fault}
 use Rattle.elf_load.specs.declared.fault.ElfFault.{ElfFault}
-use Rattle.rv32_asm.specs.Assembly.{program_of}
+use Rattle.rv32_asm.specs.Assembly.{IsAssembled, one_segment, program_of}
 use Rattle.rv32_asm.specs.Assembly.{Program as Assembled}
 use Rattle.rv32_asm.specs.Passes.{LineFault}
 use Rattle.chip_words.specs.Request.{ExecutionAsked}
@@ -16,7 +18,7 @@ use Rattle.chip_main.specs.declared.refusal.Refusal.{Refusal}
 use Rattle.chip_main.specs.declared.refusal.Refusal.TheVariants.{Usage, Unread, TooLong, Elf, Asm}
 use Rattle.chip_main.specs.declared.taking.Stop.{Stop}
 use Rattle.chip_main.specs.declared.taking.Stop.TheVariants.{Refused, NoMemory}
-use Rattle.chip_main.specs.Program.{Program, ProgramFile, assembled, faultless, limit_of, program_in, told_program}
+use Rattle.chip_main.specs.Program.{IsImageIn, Program, ProgramFile, assembled, faultless, limit_of, program_in, told_program}
 use Rattle.chip_main.specs.Needs.{Need, AreAccepted, IsAccepted, execution_file, execution_needs, input_needs, names, program_need}
 use Rattle.chip_main.specs.Causes.{Asks, IsCause, IsMisformed, RunsOut, Stops, StopsAs}
 use Rattle.chip_main.specs.Taken.{IsInput, IsProgram, Takes}
@@ -62,7 +64,7 @@ IsOfBytes TooLong = ⊥
 IsOfBytes (Elf fault) = Unit {0}
 IsOfBytes (Asm line fault) = Unit {0}
 
-as_refused : (refusal other : Refusal) → IsOfBytes refusal → Err refusal ≡ Err other → IsOfBytes other
+as_refused : (refusal other : Refusal) → IsOfBytes refusal → ◌≡◌ {A = Result Program Refusal} (Err refusal) (Err other) → IsOfBytes other
 as_refused refusal other is same =
     let both : Some refusal ≡ Some other = ap result_err same in subst (λ (o : Option Refusal). IfSome o IsOfBytes) both is
 
@@ -94,6 +96,28 @@ untold (Refused refusal) file bytes old new told within asked refused =
     stops_here refusal (program_need file) old new asked
     (is_cause refusal (program_need file) old new (file_refused file.form (memory_size file.levels) bytes refusal is) (misformed old file bytes refusal told within is))
 untold NoMemory file bytes old new told within asked refused = runs_out_here (program_need file) old new (inr asked)
+
+-- the image that was made of a file
+pub elf_image : (size : ℕ) (file : List ℕ) (image : Image) → IsProgramOf file size image → IsImageIn ElfFile size file image
+elf_image size file image is = record {
+  program = record { entry = entry_of file; segments = segments_of file };
+  told = rw is.accepted refl;
+  is_image = record { entry = is.entry; memory = is.memory; segments = is.segments };
+}
+
+pub flat_image : (size : ℕ) (file : List ℕ) (image : Image) → flat_fault file size ≡ None → image.entry ≡ 0 → image.size ≡ size → image.segments ≡ flat_segments file → IsImageIn FlatFile size file image
+flat_image size file image accepted entry memory segments = record {
+  program = record { entry = 0; segments = flat_segments file };
+  told = rw accepted refl;
+  is_image = record { entry = entry; memory = memory; segments = segments };
+}
+
+pub text_image : (size : ℕ) (text : List ℕ) (image : Image) → IsAssembled text size image → IsImageIn AssemblyText size text image
+text_image size text image is = record {
+  program = record { entry = is.program.entry; segments = one_segment is.program.bytes };
+  told = rw is.assembled refl;
+  is_image = record { entry = is.entry; memory = is.memory; segments = is.segments };
+}
 
 -- ---- one file and then others
 

@@ -1,4 +1,4 @@
-ghost use Rattle.std.specs.Prelude.{◌≡◌, ◌<◌, ◌^◌, length, Err, IfOk};
+ghost use Rattle.std.specs.Prelude.{◌≡◌, ◌<◌, ◌≤◌, ◌^◌, length, Err, IfOk};
 ghost use Rattle.sec_base.specs.Layout.{IsMemorySize};
 ghost use Rattle.chip_main.specs.declared.refusal.Refusal.{Refusal};
 ghost use Rattle.chip_main.specs.declared.taking.Stop.TheVariants.{Refused};
@@ -38,7 +38,8 @@ impl ProgramForm {
 
     /// How many bytes of such a file are read at most.
     pub fn limit(self) -> u64
-        ensures { result ≡ limit_of self }
+        ensures limit { result ≡ limit_of self }
+        ensures most { result ≤ 8388608 }
     {
         match self {
             ProgramForm::ElfFile => 8_388_608,
