@@ -13,11 +13,12 @@ use Rattle.chip_main.specs.declared.taking.Stop.{Stop}
 use Rattle.chip_main.specs.declared.taking.Stop.TheVariants.{Refused, NoMemory}
 use Rattle.chip_main.specs.Program.{IsImageOf, Program, ProgramFile, program_file}
 use Rattle.chip_main.specs.Needs.{Need, AreAccepted, IsAccepted, asked_needs, execution_file, execution_needs, input_needs, needs_of, program_need}
-use Rattle.chip_main.specs.Causes.{Asks, AsksNothing, IsRefused, RunsOut, Stops, StopsAs}
+use Rattle.chip_main.specs.Causes.{Asks, AsksNothing, IsRefused, RunsOut, Stops}
+use Rattle.chip_main.specs.Stopping.{StopsAs, stopped_course}
 use Rattle.chip_main.specs.Taken.{IsInput, IsProgram, Takes}
 use Rattle.chip_main.specs.Requests.{Writes}
 use Rattle.chip_main.specs.Statuses.{Telling}
-use Rattle.chip_main.specs.Course.{CameAbout, stopped_course}
+use Rattle.chip_main.specs.Course.{CameAbout}
 
 refused : (refusal : Refusal) (request : Option Asked) (old new : FilesState) → Stops refusal (needs_of request) old new → IsRefused refusal request old new
 refused (Usage text) request old new stops = absurd stops.cause
@@ -32,7 +33,7 @@ pub came_stopped : (stop : Stop) (asked : Asked) (files files' : FilesState) (ou
 came_stopped (Refused refusal) asked files files' out out' stops silent = (refused refusal (Some asked) files files' stops, silent)
 came_stopped NoMemory asked files files' out out' stops silent = (stops, silent)
 
-input_accepted : (file : Option (List ℕ)) (input : List ℕ) (files : FilesState) → IsInput files file input → AreAccepted files (input_needs file)
+pub input_accepted : (file : Option (List ℕ)) (input : List ℕ) (files : FilesState) → IsInput files file input → AreAccepted files (input_needs file)
 input_accepted None input files is = tt
 input_accepted (Some file) input files is = ((input, is), tt)
 

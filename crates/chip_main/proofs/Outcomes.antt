@@ -8,8 +8,6 @@ use Rattle.sec_base.specs.declared.answers.Ending.{Ending}
 use Rattle.sec_base.specs.declared.answers.Ending.TheVariants.{Halted, Trapped, OutOfSteps, Tampered, Spent, WriteFault, NoMemory as memory_ended}
 use Rattle.sec_base.specs.declared.writing.SinkStop.TheVariants.{Failed, NoMemory as no_memory}
 use Rattle.rv32_listing.specs.Listed.{GainsFront}
-use Rattle.elf_load.specs.declared.fault.ElfFault.{ElfFault}
-use Rattle.rv32_asm.specs.declared.fault.AsmFault.{AsmFault}
 use Rattle.plain_machine.specs.declared.PlainRecord.{PlainRecord}
 use Rattle.chip_words.specs.Request.{Asked}
 use Rattle.chip_main.specs.declared.refusal.Refusal.{Refusal}
@@ -190,23 +188,22 @@ pub usage : {request : Option Asked} {files files' : FilesState} {out out' note 
 usage {request} {files} {files'} o is =
     let found = refused_as o 2 (omega arith, omega arith, inl (omega arith)) is in usage_cause found.0 request files files' found.1 found.2
 
--- why a file is refused with status 3
+-- one of the files was refused, with status 3
 abbrev pub IsFileRefused : Option Asked → FilesState → FilesState → Type 0
-IsFileRefused request files files' = Stops TooLong (needs_of request) files files'
-    ⊎ ((fault : ElfFault) × Stops (Elf fault) (needs_of request) files files')
-    ⊎ ((line : ℕ) × (fault : AsmFault) × Stops (Asm line fault) (needs_of request) files files')
+IsFileRefused request files files' =
+    (refusal : Refusal) × (refusal_status refusal ≡ 3) × Stops refusal (needs_of request) files files'
 
-file_cause : (refusal : Refusal) (request : Option Asked) (files files' : FilesState) → IsRefused refusal request files files' → refusal_status refusal ≡ 3 → IsFileRefused request files files'
+file_cause : (refusal : Refusal) (request : Option Asked) (files files' : FilesState) → IsRefused refusal request files files' → refusal_status refusal ≡ 3 → Stops refusal (needs_of request) files files'
 file_cause (Usage text) request files files' cause is = absurd (omega arith)
 file_cause Unread request files files' cause is = absurd (omega arith)
-file_cause TooLong request files files' cause is = inl cause
-file_cause (Elf fault) request files files' cause is = inr (inl (fault, cause))
-file_cause (Asm line fault) request files files' cause is = inr (inr (line, fault, cause))
+file_cause TooLong request files files' cause is = cause
+file_cause (Elf fault) request files files' cause is = cause
+file_cause (Asm line fault) request files files' cause is = cause
 
 pub refused : {request : Option Asked} {files files' : FilesState} {out out' note note' : SinkState} {done : Done} → Outcome request files files' out out' note note' done → done.status ≡ 3 →
     IsFileRefused request files files'
 refused {request} {files} {files'} o is =
-    let found = refused_as o 3 (omega arith, omega arith, inl (omega arith)) is in file_cause found.0 request files files' found.1 found.2
+    let found = refused_as o 3 (omega arith, omega arith, inl (omega arith)) is in (found.0, found.2, file_cause found.0 request files files' found.1 found.2)
 
 unread_cause : (refusal : Refusal) (request : Option Asked) (files files' : FilesState) → IsRefused refusal request files files' → refusal_status refusal ≡ 8 → Stops Unread (needs_of request) files files'
 unread_cause (Usage text) request files files' cause is = absurd (omega arith)

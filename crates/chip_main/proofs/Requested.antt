@@ -1,16 +1,13 @@
 -- What was asked of the files, and what each request came to.
 use Rattle.std.proofs.Common.{◌≡◌, ◌≢◌, ◌<◌, ◌≤◌, ◌⊎◌, inl, inr, List, [], ◌∷◌, ◌++◌, ℕ, length, Option, Some, None, Ok, Err, Contains, IfNone, IfSome, refl, sym, ap, ◌∙◌, subst, arith, append-nil, append_assoc}
 use Rattle.sec_base.specs.Reading.{FilesState, HasBytes}
-use Rattle.sec_base.specs.Count.{Rose}
-use Rattle.sec_base.specs.Writing.{SinkState, Gains}
+use Rattle.sec_base.specs.Writing.{SinkState}
 use Rattle.sec_base.specs.declared.program.Image.{Image}
 use Rattle.sec_base.specs.declared.writing.SinkStop.TheVariants.{Failed, NoMemory as no_memory}
 use Rattle.bus_model.specs.Told.{Told}
-use Rattle.rv32_listing.specs.Listed.{GainsFront}
-use Rattle.rv32_listing.specs.Listed.{IsListed as IsTold}
 use Rattle.plain_machine.specs.declared.PlainRecord.{PlainRecord}
 use Rattle.chip_run.specs.declared.RunRecord.{RunRecord}
-use Rattle.chip_words.specs.Request.{Asked, AssemblyAsked, ExecutionAsked, InspectionAsked, to_assemble, to_list, to_measure, to_run, to_run_plain}
+use Rattle.chip_words.specs.Request.{Asked, AssemblyAsked, ExecutionAsked, InspectionAsked, to_assemble, to_disassemble, to_measure, to_run, to_run_plain}
 use Rattle.chip_main.specs.declared.refusal.Refusal.{Refusal}
 use Rattle.chip_main.specs.declared.refusal.Refusal.TheVariants.{Usage, Unread, TooLong, Elf, Asm}
 use Rattle.chip_main.specs.declared.course.Course.{Course}
@@ -21,7 +18,7 @@ use Rattle.chip_main.specs.Texts.{elf_file, listing, measurement_line}
 use Rattle.chip_main.specs.Needs.{Need, AreAccepted, HasTold, IsAccepted, IsUnfit, asked_needs, assembly_file, inspection_file, names, needs_of, program_need}
 use Rattle.chip_main.specs.Causes.{Asks, AsksFront, AsksNothing, IsRefused, RunsOut, Stops}
 use Rattle.chip_main.specs.Requests.{PlainlyRunsRequest, RunsRequest, Writes, WritesRequest}
-use Rattle.chip_main.specs.Statuses.{Telling, text_status}
+use Rattle.chip_main.specs.Statuses.{Telling}
 use Rattle.chip_main.specs.Answer.{Delivers, PlainlyRan, Undone}
 use Rattle.chip_main.specs.Course.{CameAbout, Outcome, TellsCourse, course_run, status_of}
 use Rattle.chip_main.proofs.Courses.{execution_accepted, program_accepted}
@@ -38,7 +35,7 @@ some_needs : (asked : Asked) → asked_needs asked ≢ []
 some_needs (to_run execution) none = cc
 some_needs (to_run_plain execution) none = cc
 some_needs (to_assemble assembly) none = cc
-some_needs (to_list inspection) none = cc
+some_needs (to_disassemble inspection) none = cc
 some_needs (to_measure inspection) none = cc
 
 all_taken : (asked : Asked) (files files' : FilesState) → Asks (asked_needs asked) files files' → AreAccepted files (asked_needs asked) → AllTaken (Some asked) files files'
@@ -50,7 +47,7 @@ ran_taken (Some (to_run execution)) files files' out out' run told came =
     all_taken (to_run execution) files files' came.2.asked (execution_accepted execution files files' came.0 came.1 came.2)
 ran_taken (Some (to_run_plain execution)) files files' out out' run told came = absurd came
 ran_taken (Some (to_assemble assembly)) files files' out out' run told came = absurd came
-ran_taken (Some (to_list inspection)) files files' out out' run told came = absurd came
+ran_taken (Some (to_disassemble inspection)) files files' out out' run told came = absurd came
 ran_taken (Some (to_measure inspection)) files files' out out' run told came = absurd came
 
 plainly_ran_taken : (request : Option Asked) (files files' : FilesState) (out out' : SinkState) (run : PlainRecord) → PlainlyRunsRequest request files files' out out' run → AllTaken request files files'
@@ -59,7 +56,7 @@ plainly_ran_taken (Some (to_run execution)) files files' out out' run came = abs
 plainly_ran_taken (Some (to_run_plain execution)) files files' out out' run came =
     all_taken (to_run_plain execution) files files' came.2.asked (execution_accepted execution files files' came.0 came.1 came.2)
 plainly_ran_taken (Some (to_assemble assembly)) files files' out out' run came = absurd came
-plainly_ran_taken (Some (to_list inspection)) files files' out out' run came = absurd came
+plainly_ran_taken (Some (to_disassemble inspection)) files files' out out' run came = absurd came
 plainly_ran_taken (Some (to_measure inspection)) files files' out out' run came = absurd came
 
 -- the one file of a request for a text
@@ -74,7 +71,7 @@ written_taken None files files' out out' telling came = absurd came
 written_taken (Some (to_run execution)) files files' out out' telling came = absurd came
 written_taken (Some (to_run_plain execution)) files files' out out' telling came = absurd came
 written_taken (Some (to_assemble assembly)) files files' out out' telling came = text_taken (to_assemble assembly) (assembly_file assembly) elf_file files files' out out' telling refl came
-written_taken (Some (to_list inspection)) files files' out out' telling came = text_taken (to_list inspection) (inspection_file inspection) listing files files' out out' telling refl came
+written_taken (Some (to_disassemble inspection)) files files' out out' telling came = text_taken (to_disassemble inspection) (inspection_file inspection) listing files files' out out' telling refl came
 written_taken (Some (to_measure inspection)) files files' out out' telling came = text_taken (to_measure inspection) (inspection_file inspection) measurement_line files files' out out' telling refl came
 
 -- ---- what was asked for
@@ -244,13 +241,7 @@ plain {request} {files} {files'} {out} {out'} {note} {note'} {done} o execution 
 delivered : (file : ProgramFile) (text : Image → List ℕ) (written telling : Telling) (files files' : FilesState) (out out' note note' : SinkState) → Writes file text files files' out out' written → TellsCourse (Written written) note note' telling →
     Delivers (status_of (Written written) telling) file text files files' out out' note note'
 delivered file text written telling files files' out out' note note' writes tells =
-    rw tells.1 (record { program = writes.program; takes = writes.takes; image = writes.image; is_image = writes.is_image; written = how written writes.written; silent = tells.0 })
-  where
-    how : (t : Telling) → IsTold (text writes.image) out out' t → (Gains out (text writes.image) out' × (text_status t ≡ 0))
-        ⊎ (GainsFront out (text writes.image) out' × (((text_status t ≡ 9) × Rose out.faults out'.faults) ⊎ (text_status t ≡ 10)))
-    how (Ok _) told = inl (told, refl)
-    how (Err Failed) told = inr (told.0, inl (refl, told.1))
-    how (Err no_memory) told = inr (told, inr refl)
+    rw tells.1 (record { telling = written; writes = writes; status_is = refl; silent = tells.0 })
 
 -- what came about where the request is for this text
 abbrev pub WritesOr : Course → ProgramFile → (Image → List ℕ) → FilesState → FilesState → SinkState → SinkState → Type 0
@@ -282,7 +273,7 @@ asm_came (Ran run bus) assembly files files' out out' came = came
 asm_came (RanPlain run) assembly files files' out out' came = came
 asm_came (Written telling) assembly files files' out out' came = came
 
-pub dis_came : (course : Course) (inspection : InspectionAsked) (files files' : FilesState) (out out' : SinkState) → CameAbout course (Some (to_list inspection)) files files' out out' → WritesOr course (inspection_file inspection) listing files files' out out'
+pub dis_came : (course : Course) (inspection : InspectionAsked) (files files' : FilesState) (out out' : SinkState) → CameAbout course (Some (to_disassemble inspection)) files files' out out' → WritesOr course (inspection_file inspection) listing files files' out out'
 dis_came (Refused refusal) inspection files files' out out' came = tt
 dis_came NoMemory inspection files files' out out' came = tt
 dis_came (Ran run bus) inspection files files' out out' came = came
@@ -302,7 +293,7 @@ asm {files = files} {files' = files'} {out = out} {out' = out'} o assembly asks 
     delivers o (assembly_file assembly) elf_file
     (asm_came o.course assembly files files' out out' (subst (λ (r : Option Asked). CameAbout o.course r files files' out out') asks o.came))
 
-pub dis : {request : Option Asked} {files files' : FilesState} {out out' note note' : SinkState} {done : Done} → Outcome request files files' out out' note note' done → (inspection : InspectionAsked) → request ≡ Some (to_list inspection) →
+pub dis : {request : Option Asked} {files files' : FilesState} {out out' note note' : SinkState} {done : Done} → Outcome request files files' out out' note note' done → (inspection : InspectionAsked) → request ≡ Some (to_disassemble inspection) →
     Delivers done.status (inspection_file inspection) listing files files' out out' note note' ⊎ Undone done.status request files files' out out' note note'
 dis {files = files} {files' = files'} {out = out} {out' = out'} o inspection asks =
     delivers o (inspection_file inspection) listing
@@ -324,7 +315,7 @@ pub same_bytes : (held : Option (List ℕ → Option (List ℕ))) (name bytes ot
 same_bytes None name bytes other told has = absurd told
 same_bytes (Some held) name bytes other told has = let e : Some other ≡ Some bytes = sym has ∙ told in cc
 
-accepted_at : (before : List Need) (need : Need) (after : List Need) (files : FilesState) → AreAccepted files (before ++ need ∷ after) → (bytes : List ℕ) × IsAccepted files need bytes
+pub accepted_at : (before : List Need) (need : Need) (after : List Need) (files : FilesState) → AreAccepted files (before ++ need ∷ after) → (bytes : List ℕ) × IsAccepted files need bytes
 accepted_at [] need after files accepted = accepted.0
 accepted_at (first ∷ before) need after files accepted = accepted_at before need after files accepted.1
 

@@ -12,7 +12,7 @@ use Rattle.bus_model.specs.Told.{Told}
 use Rattle.plain_machine.specs.declared.PlainRecord.{PlainRecord}
 use Rattle.rv32_listing.specs.Listed.{IsListed as IsTold}
 use Rattle.chip_run.specs.declared.RunRecord.{RunRecord}
-use Rattle.chip_words.specs.Request.{Asked, ExecutionAsked, to_assemble, to_list, to_measure, to_run, to_run_plain}
+use Rattle.chip_words.specs.Request.{Asked, ExecutionAsked, to_assemble, to_disassemble, to_measure, to_run, to_run_plain}
 use Rattle.chip_main.specs.declared.refusal.Refusal.{Refusal}
 use Rattle.chip_main.specs.declared.refusal.Refusal.TheVariants.{Usage, Unread, TooLong, Elf, Asm}
 use Rattle.chip_main.specs.declared.run_bus.RunBus.{RunBus}
@@ -81,7 +81,7 @@ said_of_run None run told status Run Plain Text files files' out out' says came 
 said_of_run (Some (to_run execution)) run told status Run Plain Text files files' out out' says came is = says.of_run execution run told came is
 said_of_run (Some (to_run_plain execution)) run told status Run Plain Text files files' out out' says came is = absurd came
 said_of_run (Some (to_assemble assembly)) run told status Run Plain Text files files' out out' says came is = absurd came
-said_of_run (Some (to_list inspection)) run told status Run Plain Text files files' out out' says came is = absurd came
+said_of_run (Some (to_disassemble inspection)) run told status Run Plain Text files files' out out' says came is = absurd came
 said_of_run (Some (to_measure inspection)) run told status Run Plain Text files files' out out' says came is = absurd came
 
 said_of_plain : (request : Option Asked) (run : PlainRecord) (status : ℕ) (Run : RunRecord → Told → Type 0) (Plain : ExecutionAsked → Type 0) (Text : ProgramFile → (Image → List ℕ) → Type 0) (files files' : FilesState) (out out' : SinkState) →
@@ -90,7 +90,7 @@ said_of_plain None run status Run Plain Text files files' out out' says came is 
 said_of_plain (Some (to_run execution)) run status Run Plain Text files files' out out' says came is = absurd came
 said_of_plain (Some (to_run_plain execution)) run status Run Plain Text files files' out out' says came is = says.of_plain execution run came is
 said_of_plain (Some (to_assemble assembly)) run status Run Plain Text files files' out out' says came is = absurd came
-said_of_plain (Some (to_list inspection)) run status Run Plain Text files files' out out' says came is = absurd came
+said_of_plain (Some (to_disassemble inspection)) run status Run Plain Text files files' out out' says came is = absurd came
 said_of_plain (Some (to_measure inspection)) run status Run Plain Text files files' out out' says came is = absurd came
 
 said_of_text : (request : Option Asked) (telling : Telling) (status : ℕ) (Run : RunRecord → Told → Type 0) (Plain : ExecutionAsked → Type 0) (Text : ProgramFile → (Image → List ℕ) → Type 0) (files files' : FilesState) (out out' : SinkState) →
@@ -99,7 +99,7 @@ said_of_text None telling status Run Plain Text files files' out out' says came 
 said_of_text (Some (to_run execution)) telling status Run Plain Text files files' out out' says came is = absurd came
 said_of_text (Some (to_run_plain execution)) telling status Run Plain Text files files' out out' says came is = absurd came
 said_of_text (Some (to_assemble assembly)) telling status Run Plain Text files files' out out' says came is = says.of_text (assembly_file assembly) elf_file telling came is
-said_of_text (Some (to_list inspection)) telling status Run Plain Text files files' out out' says came is = says.of_text (inspection_file inspection) listing telling came is
+said_of_text (Some (to_disassemble inspection)) telling status Run Plain Text files files' out out' says came is = says.of_text (inspection_file inspection) listing telling came is
 said_of_text (Some (to_measure inspection)) telling status Run Plain Text files files' out out' says came is = says.of_text (inspection_file inspection) measurement_line telling came is
 
 said : (course : Course) (request : Option Asked) (status : ℕ) (Run : RunRecord → Told → Type 0) (Plain : ExecutionAsked → Type 0) (Text : ProgramFile → (Image → List ℕ) → Type 0) (files files' : FilesState) (out out' : SinkState) →
@@ -213,7 +213,7 @@ of_command None P holds = absurd holds
 of_command (Some (to_run execution)) P holds = holds
 of_command (Some (to_run_plain execution)) P holds = absurd holds
 of_command (Some (to_assemble assembly)) P holds = absurd holds
-of_command (Some (to_list inspection)) P holds = absurd holds
+of_command (Some (to_disassemble inspection)) P holds = absurd holds
 of_command (Some (to_measure inspection)) P holds = absurd holds
 
 pub tampered_once : {request : Option Asked} {files files' : FilesState} {out out' note note' : SinkState} {done : Done} → Outcome request files files' out out' note note' done → done.status ≡ 5 → done.lies ≡ 1
@@ -258,7 +258,7 @@ text_written None files files' out out' telling came = absurd came
 text_written (Some (to_run execution)) files files' out out' telling came = absurd came
 text_written (Some (to_run_plain execution)) files files' out out' telling came = absurd came
 text_written (Some (to_assemble assembly)) files files' out out' telling came = (assembly_file assembly, elf_file, came)
-text_written (Some (to_list inspection)) files files' out out' telling came = (inspection_file inspection, listing, came)
+text_written (Some (to_disassemble inspection)) files files' out out' telling came = (inspection_file inspection, listing, came)
 text_written (Some (to_measure inspection)) files files' out out' telling came = (inspection_file inspection, measurement_line, came)
 
 text_failed : (text : List ℕ) (old new : SinkState) (telling : Telling) → IsTold text old new telling → text_status telling ≡ 9 → Rose old.faults new.faults
@@ -274,13 +274,13 @@ out_failed (Ran run bus) None files files' out out' came is = absurd came
 out_failed (Ran run bus) (Some (to_run execution)) files files' out out' came is = came.3.write_fault (run_fault_of run.evidence run.ending is)
 out_failed (Ran run bus) (Some (to_run_plain execution)) files files' out out' came is = absurd came
 out_failed (Ran run bus) (Some (to_assemble assembly)) files files' out out' came is = absurd came
-out_failed (Ran run bus) (Some (to_list inspection)) files files' out out' came is = absurd came
+out_failed (Ran run bus) (Some (to_disassemble inspection)) files files' out out' came is = absurd came
 out_failed (Ran run bus) (Some (to_measure inspection)) files files' out out' came is = absurd came
 out_failed (RanPlain run) None files files' out out' came is = absurd came
 out_failed (RanPlain run) (Some (to_run execution)) files files' out out' came is = absurd came
 out_failed (RanPlain run) (Some (to_run_plain execution)) files files' out out' came is = came.3.write_fault (fault_of run.ending is)
 out_failed (RanPlain run) (Some (to_assemble assembly)) files files' out out' came is = absurd came
-out_failed (RanPlain run) (Some (to_list inspection)) files files' out out' came is = absurd came
+out_failed (RanPlain run) (Some (to_disassemble inspection)) files files' out out' came is = absurd came
 out_failed (RanPlain run) (Some (to_measure inspection)) files files' out out' came is = absurd came
 out_failed (Written telling) request files files' out out' came is =
     let written = text_written request files files' out out' telling came in

@@ -18,9 +18,10 @@ use Rattle.chip_main.specs.declared.refusal.Refusal.{Refusal}
 use Rattle.chip_main.specs.declared.refusal.Refusal.TheVariants.{Usage, Unread, TooLong, Elf, Asm}
 use Rattle.chip_main.specs.declared.taking.Stop.{Stop}
 use Rattle.chip_main.specs.declared.taking.Stop.TheVariants.{Refused, NoMemory}
-use Rattle.chip_main.specs.Program.{IsImageIn, Program, ProgramFile, assembled, faultless, limit_of, program_in, told_program}
+use Rattle.chip_main.specs.Program.{IsImageIn, Program, ProgramFile, assembled, unless_faulty, limit_of, program_in, program_of_file}
 use Rattle.chip_main.specs.Needs.{Need, AreAccepted, IsAccepted, execution_file, execution_needs, input_needs, names, program_need}
-use Rattle.chip_main.specs.Causes.{Asks, IsCause, IsMisformed, RunsOut, Stops, StopsAs}
+use Rattle.chip_main.specs.Causes.{Asks, IsCause, IsMisformed, RunsOut, Stops}
+use Rattle.chip_main.specs.Stopping.{StopsAs}
 use Rattle.chip_main.specs.Taken.{IsInput, IsProgram, Takes}
 
 -- ---- one file
@@ -44,14 +45,14 @@ runs_out_here need old new (inr asked) =
 
 -- ---- a program
 
--- its file was read, and tells it
-pub tells_program : (files : FilesState) (file : ProgramFile) (bytes : List ℕ) (program : Program) → HasBytes files.held file.name bytes → length bytes ≤ limit_of file.form → told_program file bytes ≡ Ok program →
+-- its file was read, and is one
+pub tells_program : (files : FilesState) (file : ProgramFile) (bytes : List ℕ) (program : Program) → HasBytes files.held file.name bytes → length bytes ≤ limit_of file.form → program_of_file file bytes ≡ Ok program →
     IsProgram files file program
 tells_program files file bytes program told within is =
-    record { bytes = bytes; accepted = record { told = told; within = within; formed = ap result_err is }; told = is }
+    record { bytes = bytes; accepted = record { told = told; within = within; formed = ap result_err is }; is = is }
 
 -- its file was read, and is refused
-misformed : (files : FilesState) (file : ProgramFile) (bytes : List ℕ) (refusal : Refusal) → HasBytes files.held file.name bytes → length bytes ≤ limit_of file.form → told_program file bytes ≡ Err refusal →
+misformed : (files : FilesState) (file : ProgramFile) (bytes : List ℕ) (refusal : Refusal) → HasBytes files.held file.name bytes → length bytes ≤ limit_of file.form → program_of_file file bytes ≡ Err refusal →
     IsMisformed refusal (program_need file) files
 misformed files file bytes refusal told within is =
     record { bytes = bytes; told = told; within = within; fault = ap result_err is }
@@ -68,7 +69,7 @@ as_refused : (refusal other : Refusal) → IsOfBytes refusal → ◌≡◌ {A = 
 as_refused refusal other is same =
     let both : Some refusal ≡ Some other = ap result_err same in subst (λ (o : Option Refusal). IfSome o IsOfBytes) both is
 
-elf_refused : (fault : Option ElfFault) (program : Program) (refusal : Refusal) → faultless fault program ≡ Err refusal → IsOfBytes refusal
+elf_refused : (fault : Option ElfFault) (program : Program) (refusal : Refusal) → unless_faulty fault program ≡ Err refusal → IsOfBytes refusal
 elf_refused None program refusal is = absurd cc
 elf_refused (Some fault) program refusal is = as_refused (Elf fault) refusal tt is
 
@@ -90,7 +91,7 @@ is_cause (Asm line fault) need old new of_bytes bad = bad
 
 -- its file was read, and is no program
 pub untold : (stop : Stop) (file : ProgramFile) (bytes : List ℕ) (old new : FilesState) → HasBytes old.held file.name bytes → length bytes ≤ limit_of file.form → Asks (program_need file ∷ []) old new →
-    ((refusal : Refusal) → stop ≡ Refused refusal → told_program file bytes ≡ Err refusal) → StopsAs stop (program_need file ∷ []) old new
+    ((refusal : Refusal) → stop ≡ Refused refusal → program_of_file file bytes ≡ Err refusal) → StopsAs stop (program_need file ∷ []) old new
 untold (Refused refusal) file bytes old new told within asked refused =
     let is = refused refusal refl in
     stops_here refusal (program_need file) old new asked
@@ -101,21 +102,21 @@ untold NoMemory file bytes old new told within asked refused = runs_out_here (pr
 pub elf_image : (size : ℕ) (file : List ℕ) (image : Image) → IsProgramOf file size image → IsImageIn ElfFile size file image
 elf_image size file image is = record {
   program = record { entry = entry_of file; segments = segments_of file };
-  told = rw is.accepted refl;
+  is = rw is.accepted refl;
   is_image = record { entry = is.entry; memory = is.memory; segments = is.segments };
 }
 
 pub flat_image : (size : ℕ) (file : List ℕ) (image : Image) → flat_fault file size ≡ None → image.entry ≡ 0 → image.size ≡ size → image.segments ≡ flat_segments file → IsImageIn FlatFile size file image
 flat_image size file image accepted entry memory segments = record {
   program = record { entry = 0; segments = flat_segments file };
-  told = rw accepted refl;
+  is = rw accepted refl;
   is_image = record { entry = entry; memory = memory; segments = segments };
 }
 
 pub text_image : (size : ℕ) (text : List ℕ) (image : Image) → IsAssembled text size image → IsImageIn AssemblyText size text image
 text_image size text image is = record {
   program = record { entry = is.program.entry; segments = one_segment is.program.bytes };
-  told = rw is.assembled refl;
+  is = rw is.assembled refl;
   is_image = record { entry = is.entry; memory = is.memory; segments = is.segments };
 }
 

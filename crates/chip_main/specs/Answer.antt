@@ -2,7 +2,6 @@
 use Rattle.std.specs.Prelude.{◌≡◌, ◌≢◌, ◌⊎◌, List, ℕ, Option, Ok}
 use Rattle.sec_base.specs.Count.{Rose}
 use Rattle.sec_base.specs.Reading.{FilesState}
-use Rattle.sec_base.specs.Layout.{memory_size}
 use Rattle.sec_base.specs.Writing.{SinkState, Gains, Silent}
 use Rattle.sec_base.specs.declared.answers.Cause.{Cause}
 use Rattle.sec_base.specs.declared.answers.Ending.{Ending}
@@ -15,12 +14,11 @@ use Rattle.plain_machine.specs.declared.PlainRecord.{PlainRecord}
 use Rattle.chip_run.specs.declared.RunRecord.{RunRecord}
 use Rattle.chip_words.specs.Request.{Asked, ExecutionAsked}
 use Rattle.chip_main.specs.declared.refusal.Refusal.{Refusal}
-use Rattle.chip_main.specs.Program.{IsImageOf, Program, ProgramFile, opening}
+use Rattle.chip_main.specs.Program.{Program, ProgramFile, opening}
 use Rattle.chip_main.specs.Needs.{needs_of}
 use Rattle.chip_main.specs.Causes.{IsRefused, RunsOut}
 use Rattle.chip_main.specs.Requests.{PlainlyRuns, Writes}
-use Rattle.chip_main.specs.Statuses.{ending_status, refusal_status, run_status}
-use Rattle.chip_main.specs.Taken.{TakesProgram}
+use Rattle.chip_main.specs.Statuses.{Telling, ending_status, refusal_status, run_status, text_status}
 use Rattle.chip_main.specs.Texts.{plain_text, record_text, refusal_text}
 
 -- the sink gained a text; or a front part of it, where a write failed or the status is 10
@@ -66,15 +64,11 @@ pub record PlainlyRan (status : ℕ) (execution : ExecutionAsked) (files files' 
   pub runs : PlainlyRuns execution files files' out out' run
   pub told : TellsPlain status run note note'
 
--- A text of the file's program was written: whole, with 0; or a front part of it, with 9 where a write failed, or with
--- 10 where memory was not to be had. Nothing is told of that.
+-- a text of the file's program was written as far as the status says, and nothing is told of that
 pub record Delivers (status : ℕ) (file : ProgramFile) (text : Image → List ℕ) (files files' : FilesState) (out out' note note' : SinkState) : Type 0 where
-  pub program : Program
-  pub takes : TakesProgram file files files' program
-  pub image : Image
-  pub is_image : IsImageOf (memory_size file.levels) program image
-  pub written : (Gains out (text image) out' × (status ≡ 0))
-      ⊎ (GainsFront out (text image) out' × (((status ≡ 9) × Rose out.faults out'.faults) ⊎ (status ≡ 10)))
+  pub telling : Telling
+  pub writes : Writes file text files files' out out' telling
+  pub status_is : status ≡ text_status telling
   pub silent : Silent note note'
 
 -- ---- causes of statuses

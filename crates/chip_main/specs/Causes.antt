@@ -3,15 +3,9 @@ use Rattle.std.specs.Prelude.{◌≡◌, ◌≤◌, ◌+◌, List, [], ◌∷◌
 use Rattle.sec_base.specs.Count.{Rose, RoseBy}
 use Rattle.sec_base.specs.Lists.{IsPrefix}
 use Rattle.sec_base.specs.Reading.{FilesState, HasBytes, HasOver}
-use Rattle.elf_load.specs.declared.fault.ElfError.{ElfError}
-use Rattle.elf_load.specs.declared.fault.ElfError.TheVariants.{Fault as ElfFaulty, NoMemory as elf_no_memory}
-use Rattle.rv32_asm.specs.declared.fault.AsmError.{AsmError}
-use Rattle.rv32_asm.specs.declared.fault.AsmError.TheVariants.{Fault as AsmFaulty, NoMemory as assembly_no_memory}
 use Rattle.chip_words.specs.Request.{Asked}
 use Rattle.chip_main.specs.declared.refusal.Refusal.{Refusal}
 use Rattle.chip_main.specs.declared.refusal.Refusal.TheVariants.{Usage, Unread, TooLong, Elf, Asm}
-use Rattle.chip_main.specs.declared.taking.Stop.{Stop}
-use Rattle.chip_main.specs.declared.taking.Stop.TheVariants.{Refused, NoMemory}
 use Rattle.chip_main.specs.Needs.{Need, AreAccepted, names, needs_of}
 
 -- just these files were asked for, in order, each once
@@ -52,7 +46,7 @@ pub record Stops (refusal : Refusal) (needs : List Need) (old new : FilesState) 
   pub asked : Asks (before ++ here ∷ []) old new
   pub cause : IsCause refusal here old new
 
--- Memory was not to be had: those files that were read were accepted, and at most the next was asked for.
+-- Memory was not to be had: the first files were accepted, and at most one more was asked for, of which nothing is said.
 pub record RunsOut (needs : List Need) (old new : FilesState) : Type 0 where
   pub before : List Need
   pub tried : List Need
@@ -69,17 +63,3 @@ IsRefused Unread request old new = Stops Unread (needs_of request) old new
 IsRefused TooLong request old new = Stops TooLong (needs_of request) old new
 IsRefused (Elf fault) request old new = Stops (Elf fault) (needs_of request) old new
 IsRefused (Asm line fault) request old new = Stops (Asm line fault) (needs_of request) old new
-
--- a stop for an error of the library that makes a program of a file
-abbrev pub elf_stop_of : ElfError → Stop
-elf_stop_of (ElfFaulty fault) = Refused (Elf fault)
-elf_stop_of elf_no_memory = NoMemory
-
-abbrev pub assembly_stop_of : AsmError → Stop
-assembly_stop_of (AsmFaulty line fault) = Refused (Asm line fault)
-assembly_stop_of assembly_no_memory = NoMemory
-
--- why files were not taken
-abbrev pub StopsAs : Stop → List Need → FilesState → FilesState → Type 0
-StopsAs (Refused refusal) needs old new = Stops refusal needs old new
-StopsAs NoMemory needs old new = RunsOut needs old new

@@ -10,8 +10,6 @@ use Rattle.chip_main.specs.declared.Done.{Done}
 use Rattle.chip_main.specs.declared.run_bus.RunBus.{RunBus}
 use Rattle.chip_main.specs.declared.course.Course.{Course}
 use Rattle.chip_main.specs.declared.course.Course.TheVariants.{Refused, NoMemory, Ran, RanPlain, Written}
-use Rattle.chip_main.specs.declared.taking.Stop.{Stop}
-use Rattle.chip_main.specs.declared.taking.Stop.TheVariants.{Refused as stop_refused, NoMemory as stop_no_memory}
 use Rattle.chip_main.specs.Needs.{needs_of}
 use Rattle.chip_main.specs.Causes.{IsRefused, RunsOut}
 use Rattle.chip_main.specs.Requests.{RunsRequest, PlainlyRunsRequest, WritesRequest}
@@ -26,11 +24,6 @@ CameAbout NoMemory request files files' out out' = RunsOut (needs_of request) fi
 CameAbout (Ran run bus) request files files' out out' = RunsRequest request files files' out out' run (run_told bus)
 CameAbout (RanPlain run) request files files' out out' = PlainlyRunsRequest request files files' out out' run
 CameAbout (Written telling) request files files' out out' = WritesRequest request files files' out out' telling
-
--- what a call comes to where the files were not taken
-abbrev pub stopped_course : Stop → Course
-stopped_course (stop_refused refusal) = Refused refusal
-stopped_course stop_no_memory = NoMemory
 
 -- there is nothing to tell
 abbrev pub TellsNothing : SinkState → SinkState → Telling → Type 0

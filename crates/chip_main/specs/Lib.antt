@@ -2,6 +2,7 @@ pub mod Program
 pub mod Needs
 pub mod Causes
 pub mod Taken
+pub mod Stopping
 pub mod Device
 pub mod ProtectedRun
 pub mod PlainRun

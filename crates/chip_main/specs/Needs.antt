@@ -1,7 +1,7 @@
 -- The files that a request needs, in order.
 use Rattle.std.specs.Prelude.{◌≡◌, ◌<◌, ◌≤◌, ◌≢◌, ◌⊎◌, Bool, true, false, List, [], ◌∷◌, ℕ, length, map, Option, Some, None}
 use Rattle.sec_base.specs.Reading.{FilesState, HasBytes}
-use Rattle.chip_words.specs.Request.{Asked, AssemblyAsked, ExecutionAsked, InspectionAsked, to_assemble, to_list, to_measure, to_run, to_run_plain}
+use Rattle.chip_words.specs.Request.{Asked, AssemblyAsked, ExecutionAsked, InspectionAsked, to_assemble, to_disassemble, to_measure, to_run, to_run_plain}
 use Rattle.chip_main.specs.declared.program.ProgramForm.{ProgramForm}
 use Rattle.chip_main.specs.declared.program.ProgramForm.TheVariants.{ElfFile, FlatFile, AssemblyText}
 use Rattle.chip_main.specs.declared.refusal.Refusal.{Refusal}
@@ -55,7 +55,7 @@ abbrev pub asked_needs : Asked → List Need
 asked_needs (to_run execution) = execution_needs execution
 asked_needs (to_run_plain execution) = execution_needs execution
 asked_needs (to_assemble assembly) = program_need (assembly_file assembly) ∷ []
-asked_needs (to_list inspection) = program_need (inspection_file inspection) ∷ []
+asked_needs (to_disassemble inspection) = program_need (inspection_file inspection) ∷ []
 asked_needs (to_measure inspection) = program_need (inspection_file inspection) ∷ []
 
 -- words that are no request need nothing
@@ -82,12 +82,6 @@ AreAccepted files (need ∷ needs) = ((bytes : List ℕ) × IsAccepted files nee
 abbrev pub HasTold : Option (List ℕ → Option (List ℕ)) → List ℕ → List ℕ → Type 0
 HasTold None name bytes = ⊥
 HasTold (Some held) name bytes = held name ≡ Some bytes
-
--- the files tell these bytes, and they can be accepted
-pub record IsOffered (files : FilesState) (need : Need) (bytes : List ℕ) : Type 0 where
-  pub told : HasTold files.held need.name bytes
-  pub within : length bytes ≤ need.limit
-  pub formed : need.fault bytes ≡ None
 
 -- the bytes are more than the limit, or don't have their form
 abbrev pub IsUnfit : Need → List ℕ → Type 0

@@ -1,4 +1,5 @@
--- The program that a file tells: each file tells just one, or is refused for just one reason.
+-- The program that a file is: in one form and for one size of memory each file is just one program, or is refused for
+-- just one reason.
 use Rattle.std.specs.Prelude.{◌≡◌, ℕ, List, Option, Some, None, Result, Ok, Err}
 use Rattle.std.specs.Result.{result_err}
 use Rattle.sec_base.specs.Layout.{memory_size}
@@ -22,21 +23,21 @@ pub record Program : Type 0 where
   pub segments : List Segment
 
 -- the program, where there is no fault
-abbrev pub faultless : Option ElfFault → Program → Result Program Refusal
-faultless None program = Ok program
-faultless (Some fault) program = Err (Elf fault)
+abbrev pub unless_faulty : Option ElfFault → Program → Result Program Refusal
+unless_faulty None program = Ok program
+unless_faulty (Some fault) program = Err (Elf fault)
 
 -- the program that was assembled, or the refusal that tells the line of the fault
 abbrev pub assembled : Result Assembled LineFault → Result Program Refusal
 assembled (Ok program) = Ok (record { entry = program.entry; segments = one_segment program.bytes })
 assembled (Err fault) = Err (Asm fault.line fault.code)
 
--- the program that a file of this form tells for a memory of this size, or why the file is refused
+-- the program that a file of this form is for a memory of this size, or why the file is refused
 abbrev pub program_in : ProgramForm → ℕ → List ℕ → Result Program Refusal
 program_in ElfFile size file =
-    faultless (first_fault file size) (record { entry = entry_of file; segments = segments_of file })
+    unless_faulty (first_fault file size) (record { entry = entry_of file; segments = segments_of file })
 program_in FlatFile size file =
-    faultless (flat_fault file size) (record { entry = 0; segments = flat_segments file })
+    unless_faulty (flat_fault file size) (record { entry = 0; segments = flat_segments file })
 program_in AssemblyText size file = assembled (program_of file size)
 
 -- how many bytes of a file of this form are read at most
@@ -45,7 +46,7 @@ limit_of ElfFile = 8388608
 limit_of FlatFile = 1048576
 limit_of AssemblyText = 1048576
 
--- a file that tells a program: its name, its form, and the levels of the tree whose memory the program is for
+-- a program's file: its name, its form, and the levels of the tree whose memory the program is for
 pub record ProgramFile : Type 0 where
   pub name : List ℕ
   pub form : ProgramForm
@@ -54,13 +55,13 @@ pub record ProgramFile : Type 0 where
 abbrev pub program_file : List ℕ → ProgramForm → ℕ → ProgramFile
 program_file name form levels = record { name = name; form = form; levels = levels }
 
--- what these bytes tell, where they are the file's
-abbrev pub told_program : ProgramFile → List ℕ → Result Program Refusal
-told_program file bytes = program_in file.form (memory_size file.levels) bytes
+-- the program that these bytes are, where they are the file's
+abbrev pub program_of_file : ProgramFile → List ℕ → Result Program Refusal
+program_of_file file bytes = program_in file.form (memory_size file.levels) bytes
 
 -- what is wrong with these bytes, where they are the file's
 abbrev pub fault_in : ProgramFile → List ℕ → Option Refusal
-fault_in file bytes = result_err (told_program file bytes)
+fault_in file bytes = result_err (program_of_file file bytes)
 
 -- the image is this program, for a memory of this size
 pub record IsImageOf (size : ℕ) (program : Program) (image : Image) : Type 0 where
@@ -68,10 +69,10 @@ pub record IsImageOf (size : ℕ) (program : Program) (image : Image) : Type 0 w
   pub memory : image.size ≡ size
   pub segments : image.segments ≡ program.segments
 
--- the image is the program that a file of this form tells for a memory of this size
+-- the image is the program that a file of this form is for a memory of this size
 pub record IsImageIn (form : ProgramForm) (size : ℕ) (file : List ℕ) (image : Image) : Type 0 where
   pub program : Program
-  pub told : program_in form size file ≡ Ok program
+  pub is : program_in form size file ≡ Ok program
   pub is_image : IsImageOf size program image
 
 -- the plain machine as the program begins on an input, in the memory of a tree of so many levels

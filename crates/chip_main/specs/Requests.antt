@@ -8,7 +8,7 @@ use Rattle.bus_model.specs.Told.{Told}
 use Rattle.rv32_listing.specs.Listed.{IsListed as IsTold}
 use Rattle.plain_machine.specs.declared.PlainRecord.{PlainRecord}
 use Rattle.chip_run.specs.declared.RunRecord.{RunRecord}
-use Rattle.chip_words.specs.Request.{Asked, ExecutionAsked, to_assemble, to_list, to_measure, to_run, to_run_plain}
+use Rattle.chip_words.specs.Request.{Asked, ExecutionAsked, to_assemble, to_disassemble, to_measure, to_run, to_run_plain}
 use Rattle.chip_main.specs.Program.{IsImageOf, Program, ProgramFile}
 use Rattle.chip_main.specs.Needs.{assembly_file, inspection_file}
 use Rattle.chip_main.specs.ProtectedRun.{RunsProtected}
@@ -18,13 +18,13 @@ use Rattle.chip_main.specs.Taken.{Takes, TakesProgram}
 use Rattle.chip_main.specs.Texts.{elf_file, listing, measurement_line}
 
 -- One statement for each kind of request: for a run on protected memory, for one on the plain machine, and for a text
--- of a file's program. None holds where the words are no request.
+-- of a file's program. No statement holds where the words are no request.
 abbrev pub ByCommand : Option Asked → (ExecutionAsked → Type 0) → (ExecutionAsked → Type 0) → (ProgramFile → (Image → List ℕ) → Type 0) → Type 0
 ByCommand None run plain writes = ⊥
 ByCommand (Some (to_run execution)) run plain writes = run execution
 ByCommand (Some (to_run_plain execution)) run plain writes = plain execution
 ByCommand (Some (to_assemble assembly)) run plain writes = writes (assembly_file assembly) elf_file
-ByCommand (Some (to_list inspection)) run plain writes = writes (inspection_file inspection) listing
+ByCommand (Some (to_disassemble inspection)) run plain writes = writes (inspection_file inspection) listing
 ByCommand (Some (to_measure inspection)) run plain writes = writes (inspection_file inspection) measurement_line
 
 -- the run's program and input are those that the request names

@@ -1,23 +1,25 @@
--- What was read for a request.
-use Rattle.std.specs.Prelude.{◌≡◌, List, [], ◌∷◌, ℕ, Option, Some, None, option_map, Ok}
+-- The programs and inputs that files are, and what was read for a request.
+use Rattle.std.specs.Prelude.{◌≡◌, List, [], ◌∷◌, ℕ, Option, Some, None, IsSome, option_map, Ok}
 use Rattle.std.specs.Borrow.{Bor}
 use Rattle.sec_base.specs.Reading.{FilesState}
 use Rattle.chip_words.specs.Request.{ExecutionAsked}
-use Rattle.chip_main.specs.Program.{Program, ProgramFile, told_program}
-use Rattle.chip_main.specs.Needs.{IsAccepted, IsOffered, execution_file, execution_needs, input_need, program_need}
+use Rattle.chip_main.specs.Program.{Program, ProgramFile, program_of_file}
+use Rattle.chip_main.specs.Needs.{IsAccepted, execution_file, execution_needs, input_need, program_need}
 use Rattle.chip_main.specs.Causes.{Asks}
 
--- ---- what was taken
+-- the files tell their bytes
+abbrev pub Tell : FilesState → Type 0
+Tell files = IsSome files.held
 
 -- the name of a file, where there is one
 abbrev pub named : Option (Bor (List ℕ)) → Option (List ℕ)
 named file = option_map (λ name. name.now) file
 
--- the file was accepted, and its bytes tell this program
+-- the file can be accepted, and its bytes are this program
 pub record IsProgram (files : FilesState) (file : ProgramFile) (program : Program) : Type 0 where
   pub bytes : List ℕ
   pub accepted : IsAccepted files (program_need file) bytes
-  pub told : told_program file bytes ≡ Ok program
+  pub is : program_of_file file bytes ≡ Ok program
 
 -- the input is the named file's bytes, and nothing where none is named
 abbrev pub IsInput : FilesState → Option (List ℕ) → List ℕ → Type 0
@@ -34,21 +36,3 @@ pub record Takes (execution : ExecutionAsked) (old new : FilesState) (program : 
 pub record TakesProgram (file : ProgramFile) (old new : FilesState) (program : Program) : Type 0 where
   pub program_is : IsProgram old file program
   pub asked : Asks (program_need file ∷ []) old new
-
--- ---- what the files tell
-
--- the files tell the file's bytes, which can be accepted and tell this program
-pub record IsProgramOffered (files : FilesState) (file : ProgramFile) (program : Program) : Type 0 where
-  pub bytes : List ℕ
-  pub offered : IsOffered files (program_need file) bytes
-  pub told : told_program file bytes ≡ Ok program
-
--- the input is the bytes that the files tell of the named file, and nothing where none is named
-abbrev pub IsInputOffered : FilesState → Option (List ℕ) → List ℕ → Type 0
-IsInputOffered files None input = input ≡ []
-IsInputOffered files (Some name) input = IsOffered files (input_need name) input
-
--- the files tell a program and its input, which can be accepted
-pub record Offers (execution : ExecutionAsked) (files : FilesState) (program : Program) (input : List ℕ) : Type 0 where
-  pub program_is : IsProgramOffered files (execution_file execution) program
-  pub input_is : IsInputOffered files execution.input input

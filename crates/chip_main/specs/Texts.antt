@@ -82,7 +82,7 @@ refusal_text TooLong = codes "refused long\n"
 refusal_text (Elf fault) = elf_line fault
 refusal_text (Asm line fault) = asm_line line fault
 
--- what a command writes of a program: its listing, its ELF file, or its measurement as 64 digits
+-- what a command writes of a program: its listing, its ELF file, or its measurement as 64 digits and a line feed
 abbrev pub listing : Image → List ℕ
 listing image = listing_of image.segments
 

@@ -4,23 +4,22 @@
 ghost use Rattle.std.specs.Prelude.{◌≡◌, ◌≤◌, ◌↔◌, ◌⊎◌, ℕ, List, [], ◌∷◌, ◌++◌, Some, None, Contains, IsSome, IfSome, IfNone};
 ghost use Rattle.sec_base.specs.Count.{Rose};
 ghost use Rattle.sec_base.specs.Writing.{Silent};
-ghost use Rattle.elf_load.specs.declared.fault.ElfFault.{ElfFault};
-ghost use Rattle.rv32_asm.specs.declared.fault.AsmFault.{AsmFault};
 ghost use Rattle.rv32_core.specs.Follows.{IsWhole};
-ghost use Rattle.chip_words.specs.Request.{AssemblyAsked, ExecutionAsked, InspectionAsked, request_of, to_assemble, to_list, to_measure, to_run, to_run_plain};
+ghost use Rattle.chip_words.specs.Request.{AssemblyAsked, ExecutionAsked, InspectionAsked, request_of, to_assemble, to_disassemble, to_measure, to_run, to_run_plain};
 ghost use Rattle.chip_words.specs.Words.{texts};
 ghost use Rattle.chip_main.specs.Program.{Program, opening};
-ghost use Rattle.chip_main.specs.Needs.{Need, HasTold, IsUnfit, assembly_file, inspection_file, needs_of};
+ghost use Rattle.chip_main.specs.Needs.{Need, HasTold, IsUnfit, assembly_file, execution_file, inspection_file, needs_of};
 ghost use Rattle.chip_main.specs.Causes.{Asks, AsksFront, AsksNothing, Stops};
-ghost use Rattle.chip_main.specs.Taken.{IsProgramOffered, Offers};
+ghost use Rattle.chip_main.specs.Taken.{IsInput, IsProgram, Tell};
 ghost use Rattle.chip_main.specs.Buses.{lies_of, IfRun, IsRunAnd};
 ghost use Rattle.chip_main.specs.Endings.{EndedHalted, EndedTrapped, EndedOutOfSteps, EndedTampered, EndedSpent, EndedWithEvidence};
-ghost use Rattle.chip_main.specs.Statuses.{ending_status};
+ghost use Rattle.chip_main.specs.Statuses.{ending_status, refusal_status};
 ghost use Rattle.chip_main.specs.Texts.{elf_file, listing, measurement_line};
 ghost use Rattle.chip_main.specs.Requests.{ByCommand, RunsRequest};
 ghost use Rattle.chip_main.specs.Answer.{Delivers, IsHalted, IsTrapped, IsOutOfSteps, PlainlyEnded, PlainlyRan, TellsRun, Undone, WritesWhole, plain_status};
 ghost use Rattle.chip_main.specs.Course.{course_run, course_bus, status_of, Outcome};
-ghost use Rattle.chip_main.specs.declared.refusal.Refusal.TheVariants.{Unread, TooLong, Elf, Asm};
+ghost use Rattle.chip_main.specs.declared.refusal.Refusal.{Refusal};
+ghost use Rattle.chip_main.specs.declared.refusal.Refusal.TheVariants.{Unread};
 
 mod course;
 mod device;
@@ -67,7 +66,7 @@ pub fn run_words<F: Files, O: Sink, N: Sink>(
     out: &mut O,
     note: &mut N,
 ) -> Done
-    // The statuses, and what each one says. Those that name no command come of all five.
+    // The statuses, and what each one says. 3, 8 and 9 come of all five commands, and 2 of words that are no request.
     ensures statuses { Contains (0 ∷ 1 ∷ 2 ∷ 3 ∷ 4 ∷ 5 ∷ 6 ∷ 7 ∷ 8 ∷ 9 ∷ 10 ∷ []) result.status }
     ensures done { result.status ≡ 0 → ByCommand (request_of (texts words.now)) (λ _. IsRunAnd result EndedHalted)
         (λ execution. PlainlyEnded IsHalted execution (F.state files.old) (F.state files.new) (O.state out.old) (O.state out.new))
@@ -77,9 +76,8 @@ pub fn run_words<F: Files, O: Sink, N: Sink>(
         (λ _ _. ⊥) }
     ensures usage { result.status ≡ 2 → request_of (texts words.now) ≡ None }
     ensures refused { result.status ≡ 3 →
-        Stops TooLong (needs_of (request_of (texts words.now))) (F.state files.old) (F.state files.new)
-        ⊎ ((fault : ElfFault) × Stops (Elf fault) (needs_of (request_of (texts words.now))) (F.state files.old) (F.state files.new))
-        ⊎ ((line : ℕ) × (fault : AsmFault) × Stops (Asm line fault) (needs_of (request_of (texts words.now))) (F.state files.old) (F.state files.new)) }
+        (refusal : Refusal) × (refusal_status refusal ≡ 3)
+        × Stops refusal (needs_of (request_of (texts words.now))) (F.state files.old) (F.state files.new) }
     ensures out_of_steps { result.status ≡ 4 → ByCommand (request_of (texts words.now)) (λ _. IsRunAnd result EndedOutOfSteps)
         (λ execution. PlainlyEnded IsOutOfSteps execution (F.state files.old) (F.state files.new) (O.state out.old) (O.state out.new))
         (λ _ _. ⊥) }
@@ -118,7 +116,7 @@ pub fn run_words<F: Files, O: Sink, N: Sink>(
         × Undone result.status (request_of (texts words.now))
         (F.state files.old) (F.state files.new) (O.state out.old) (O.state out.new) (N.state note.old) (N.state note.new)) }
 
-    // A run on the plain machine follows it; what is made is made of the request's program, and written; or nothing was
+    // A run on the plain machine follows it; or the request's ELF file, listing or measurement is written; or nothing was
     // done.
     ensures plain { (execution : ExecutionAsked) → request_of (texts words.now) ≡ Some (to_run_plain execution) →
         PlainlyRan result.status execution
@@ -130,7 +128,7 @@ pub fn run_words<F: Files, O: Sink, N: Sink>(
         (F.state files.old) (F.state files.new) (O.state out.old) (O.state out.new) (N.state note.old) (N.state note.new)
         ⊎ Undone result.status (request_of (texts words.now))
         (F.state files.old) (F.state files.new) (O.state out.old) (O.state out.new) (N.state note.old) (N.state note.new) }
-    ensures dis { (inspection : InspectionAsked) → request_of (texts words.now) ≡ Some (to_list inspection) →
+    ensures dis { (inspection : InspectionAsked) → request_of (texts words.now) ≡ Some (to_disassemble inspection) →
         Delivers result.status (inspection_file inspection) listing
         (F.state files.old) (F.state files.new) (O.state out.old) (O.state out.new) (N.state note.old) (N.state note.new)
         ⊎ Undone result.status (request_of (texts words.now))
@@ -150,7 +148,8 @@ pub fn run_words<F: Files, O: Sink, N: Sink>(
     // whole; or a page was used up, or memory was not to be had.
     ensures whole { (execution : ExecutionAsked) (program : Program) (input : List ℕ) →
         request_of (texts words.now) ≡ Some (to_run execution) →
-        Offers execution (F.state files.old) program input → result.lies ≡ 0 →
+        Tell (F.state files.old) → IsProgram (F.state files.old) (execution_file execution) program →
+        IsInput (F.state files.old) execution.input input → result.lies ≡ 0 →
         ¬ (Rose (F.state files.old).faults (F.state files.new).faults) →
         ¬ (Rose (O.state out.old).faults (O.state out.new).faults) →
         ¬ (Rose (N.state note.old).faults (N.state note.new).faults) →
@@ -159,26 +158,27 @@ pub fn run_words<F: Files, O: Sink, N: Sink>(
         × (result.status ≡ ending_status run.ending)) }
     ensures whole_plain { (execution : ExecutionAsked) (program : Program) (input : List ℕ) →
         request_of (texts words.now) ≡ Some (to_run_plain execution) →
-        Offers execution (F.state files.old) program input →
+        Tell (F.state files.old) → IsProgram (F.state files.old) (execution_file execution) program →
+        IsInput (F.state files.old) execution.input input →
         ¬ (Rose (F.state files.old).faults (F.state files.new).faults) →
         ¬ (Rose (O.state out.old).faults (O.state out.new).faults) →
         ¬ (Rose (N.state note.old).faults (N.state note.new).faults) →
         Contains (plain_status execution program input ∷ 10 ∷ []) result.status }
     ensures whole_asm { (assembly : AssemblyAsked) (program : Program) →
         request_of (texts words.now) ≡ Some (to_assemble assembly) →
-        IsProgramOffered (F.state files.old) (assembly_file assembly) program →
+        Tell (F.state files.old) → IsProgram (F.state files.old) (assembly_file assembly) program →
         ¬ (Rose (F.state files.old).faults (F.state files.new).faults) →
         ¬ (Rose (O.state out.old).faults (O.state out.new).faults) →
         Contains (0 ∷ 10 ∷ []) result.status }
     ensures whole_dis { (inspection : InspectionAsked) (program : Program) →
-        request_of (texts words.now) ≡ Some (to_list inspection) →
-        IsProgramOffered (F.state files.old) (inspection_file inspection) program →
+        request_of (texts words.now) ≡ Some (to_disassemble inspection) →
+        Tell (F.state files.old) → IsProgram (F.state files.old) (inspection_file inspection) program →
         ¬ (Rose (F.state files.old).faults (F.state files.new).faults) →
         ¬ (Rose (O.state out.old).faults (O.state out.new).faults) →
         Contains (0 ∷ 10 ∷ []) result.status }
     ensures whole_measure { (inspection : InspectionAsked) (program : Program) →
         request_of (texts words.now) ≡ Some (to_measure inspection) →
-        IsProgramOffered (F.state files.old) (inspection_file inspection) program →
+        Tell (F.state files.old) → IsProgram (F.state files.old) (inspection_file inspection) program →
         ¬ (Rose (F.state files.old).faults (F.state files.new).faults) →
         ¬ (Rose (O.state out.old).faults (O.state out.new).faults) →
         Contains (0 ∷ 10 ∷ []) result.status }

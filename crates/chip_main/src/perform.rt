@@ -1,7 +1,8 @@
 ghost use Rattle.std.specs.Prelude.{◌≡◌, ◌≤◌, Some};
-ghost use Rattle.chip_words.specs.Request.{request_of, levels_asked, to_assemble, to_list, to_measure, to_run, to_run_plain};
+ghost use Rattle.chip_words.specs.Request.{request_of, levels_asked, to_assemble, to_disassemble, to_measure, to_run, to_run_plain};
 ghost use Rattle.chip_words.specs.Words.{asked, texts, assembly as assembly_asked, execution as execution_asked, inspection as inspection_asked};
-ghost use Rattle.chip_main.specs.Course.{CameAbout, stopped_course};
+ghost use Rattle.chip_main.specs.Course.{CameAbout};
+ghost use Rattle.chip_main.specs.Stopping.{stopped_course};
 
 use crate::course::Course;
 use crate::device::run_on_device;
@@ -142,7 +143,7 @@ fn perform_dis<F: Files, O: Sink>(
 ) -> Course
     requires least { 1 ≤ inspection.now.levels }
     requires most { inspection.now.levels ≤ 6 }
-    ensures came { CameAbout result (Some (to_list (inspection_asked inspection.now))) (F.state files.old) (F.state files.new) (O.state out.old) (O.state out.new) }
+    ensures came { CameAbout result (Some (to_disassemble (inspection_asked inspection.now))) (F.state files.old) (F.state files.new) (O.state out.old) (O.state out.new) }
     ensures held { (F.state files.new).held ≡ (F.state files.old).held }
     ensures files_faults { (F.state files.old).faults ≤ (F.state files.new).faults }
     ensures out_faults { (O.state out.old).faults ≤ (O.state out.new).faults }

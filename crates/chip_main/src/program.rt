@@ -3,7 +3,7 @@ ghost use Rattle.sec_base.specs.Layout.{IsMemorySize};
 ghost use Rattle.chip_main.specs.declared.refusal.Refusal.{Refusal};
 ghost use Rattle.chip_main.specs.declared.taking.Stop.TheVariants.{Refused};
 ghost use Rattle.chip_main.specs.Needs.{form_of};
-ghost use Rattle.chip_main.specs.Causes.{assembly_stop_of, elf_stop_of};
+ghost use Rattle.chip_main.specs.Stopping.{assembly_stop_of, elf_stop_of};
 ghost use Rattle.chip_main.specs.Program.{IsImageIn, limit_of, program_in as program_of};
 
 use crate::refusal::Refusal;
@@ -13,14 +13,14 @@ use rv32_asm::{AsmError, assemble};
 use sec_base::Image;
 use std::alloc::Global;
 
-/// How a file tells a program.
+/// What a program's file is read as.
 #[derive(Clone, Copy, Debug, PartialEq, Eq)]
 pub enum ProgramForm {
-    /// As an ELF file.
+    /// An ELF file.
     ElfFile,
-    /// By the program's bytes and nothing else.
+    /// The program's bytes and nothing else.
     FlatFile,
-    /// As an assembly text.
+    /// An assembly text.
     AssemblyText,
 }
 
@@ -48,11 +48,11 @@ impl ProgramForm {
     }
 }
 
-/// The program that the bytes of a file tell, for a memory of `size` bytes.
+/// The program that a file of this form is, for a memory of `size` bytes.
 pub fn program_in(alloc: Global, form: ProgramForm, bytes: &[u8], size: u32) -> Result<Image, Stop>
     requires memory { IsMemorySize size }
     requires short { length bytes.now < 2 ^ 32 }
-    ensures told { IfOk result (IsImageIn form size bytes.now) }
+    ensures program { IfOk result (IsImageIn form size bytes.now) }
     ensures refused { (refusal : Refusal) → result ≡ Err (Refused refusal) → program_of form size bytes.now ≡ Err refusal }
 {
     match form {

@@ -5,7 +5,8 @@ ghost use Rattle.chip_words.specs.Words.{execution as execution_asked};
 ghost use Rattle.chip_main.specs.declared.refusal.Refusal.{Refusal};
 ghost use Rattle.chip_main.specs.Program.{IsImageOf, Program, program_file};
 ghost use Rattle.chip_main.specs.Needs.{execution_needs, input_needs, program_need};
-ghost use Rattle.chip_main.specs.Causes.{Asks, StopsAs};
+ghost use Rattle.chip_main.specs.Causes.{Asks};
+ghost use Rattle.chip_main.specs.Stopping.{StopsAs};
 ghost use Rattle.chip_main.specs.Taken.{IsInput, IsProgram, Takes, named};
 
 use crate::program::{ProgramForm, program_in};

@@ -30,7 +30,7 @@ pub data Asked : Type 0 where
   to_run : ExecutionAsked → Asked
   to_run_plain : ExecutionAsked → Asked
   to_assemble : AssemblyAsked → Asked
-  to_list : InspectionAsked → Asked
+  to_disassemble : InspectionAsked → Asked
   to_measure : InspectionAsked → Asked
 
 -- ---- the values of a command
@@ -80,7 +80,7 @@ abbrev pub asked_by : Text → List Row → Option Asked
 asked_by name values = if bytes_eq name (codes "run") then Some (to_run (execution_of values))
     else (if bytes_eq name (codes "plain") then Some (to_run_plain (execution_of values))
     else (if bytes_eq name (codes "asm") then Some (to_assemble (assembly_of values))
-    else (if bytes_eq name (codes "dis") then Some (to_list (inspection_of values))
+    else (if bytes_eq name (codes "dis") then Some (to_disassemble (inspection_of values))
     else (if bytes_eq name (codes "measure") then Some (to_measure (inspection_of values)) else None))))
 
 -- what a command asks for, where there is one
@@ -99,7 +99,7 @@ abbrev pub levels_asked : Asked → ℕ
 levels_asked (to_run execution) = execution.levels
 levels_asked (to_run_plain execution) = execution.levels
 levels_asked (to_assemble assembly) = assembly.levels
-levels_asked (to_list inspection) = inspection.levels
+levels_asked (to_disassemble inspection) = inspection.levels
 levels_asked (to_measure inspection) = inspection.levels
 
 -- no step is asked for where nothing is run
@@ -107,5 +107,5 @@ abbrev pub steps_asked : Asked → ℕ
 steps_asked (to_run execution) = execution.steps
 steps_asked (to_run_plain execution) = execution.steps
 steps_asked (to_assemble assembly) = 0
-steps_asked (to_list inspection) = 0
+steps_asked (to_disassemble inspection) = 0
 steps_asked (to_measure inspection) = 0

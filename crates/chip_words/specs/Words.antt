@@ -2,7 +2,7 @@
 use Rattle.std.specs.Prelude.{List, map, option_map, ⊤}
 use Rattle.std.specs.Borrow.{Bor}
 use Rattle.clap.specs.Walk.{Text}
-use Rattle.chip_words.specs.Request.{Asked, AssemblyAsked, ExecutionAsked, InspectionAsked, to_assemble, to_list, to_measure, to_run, to_run_plain}
+use Rattle.chip_words.specs.Request.{Asked, AssemblyAsked, ExecutionAsked, InspectionAsked, to_assemble, to_disassemble, to_measure, to_run, to_run_plain}
 use Rattle.chip_words.specs.declared.request.Assembly.{Assembly}
 use Rattle.chip_words.specs.declared.request.Execution.{Execution}
 use Rattle.chip_words.specs.declared.request.Inspection.{Inspection}
@@ -35,7 +35,7 @@ abbrev pub asked : Request → Asked
 asked (Run e) = to_run (execution e)
 asked (Plain e) = to_run_plain (execution e)
 asked (Asm a) = to_assemble (assembly a)
-asked (Dis i) = to_list (inspection i)
+asked (Dis i) = to_disassemble (inspection i)
 asked (Measure i) = to_measure (inspection i)
 
 -- where the error is of the words, and not of memory

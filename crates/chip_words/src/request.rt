@@ -6,13 +6,13 @@ use thiserror::Error;
 pub enum Request<'a> {
     /// To run a program on protected memory.
     Run(Execution<'a>),
-    /// To run it on the plain machine.
+    /// To run a program on the plain machine.
     Plain(Execution<'a>),
-    /// To make its ELF file of an assembly text.
+    /// To make the ELF file of an assembly text.
     Asm(Assembly<'a>),
-    /// To list its instructions.
+    /// To list a program's instructions.
     Dis(Inspection<'a>),
-    /// To tell its measurement.
+    /// To tell a program's measurement.
     Measure(Inspection<'a>),
 }
 
@@ -21,7 +21,7 @@ pub enum Request<'a> {
 pub struct Execution<'a> {
     /// The program's file.
     pub file: &'a str,
-    /// The file has the program's bytes and nothing else, and is no ELF file.
+    /// The file is read as the program's bytes and nothing else, and not as an ELF file.
     pub flat: bool,
     /// The file of the program's input, where it has one.
     pub input: Option<&'a str>,
@@ -45,7 +45,7 @@ pub struct Assembly<'a> {
 pub struct Inspection<'a> {
     /// The program's file.
     pub file: &'a str,
-    /// The file has the program's bytes and nothing else, and is no ELF file.
+    /// The file is read as the program's bytes and nothing else, and not as an ELF file.
     pub flat: bool,
     /// The levels of the memory's tree, 1 to 6.
     pub levels: u8,

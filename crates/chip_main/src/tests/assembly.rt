@@ -131,9 +131,35 @@ fn texts_fit_the_memory(rt: HostRuntime) -> Result<(), Fail> {
 }
 
 #[test]
-fn a_fault_of_out_cuts_the_file(rt: HostRuntime) -> Result<(), Fail> {
-    let mut files = file(rt.alloc(), b"nop\n", &[])?;
-    let call = make_call(rt.alloc(), &ASM, &mut files, &[1], &[])?;
-    check(&rt, &call, b"", b"", 9);
+fn a_text_fills_its_limit(rt: HostRuntime) -> Result<(), Fail> {
+    // Three instructions, and then blanks.
+    let mut text = Vec::from_slice(rt.alloc(), b"li a0, 7\nli a7, 93\necall\n")?;
+    text.resize(1048576, b' ')?;
+    let call = call_text(rt.alloc(), &ASM, text.as_slice())?;
+    check(&rt, &call, &EXIT_7_ELF, b"", 0);
+    Ok(())
+}
+
+#[test]
+fn a_file_is_one_piece(rt: HostRuntime) -> Result<(), Fail> {
+    // The write that fails, and what stands then.
+    let rows: [(u64, &[u8], u8); 2] = [(1, b"", 9), (2, &EXIT_7_ELF, 0)];
+    for (fails, printed, status) in rows {
+        let text = b"li a0, 7\nli a7, 93\necall\n";
+        let mut files = file(rt.alloc(), text, &[])?;
+        let call = make_call(rt.alloc(), &ASM, &mut files, &[fails], &[])?;
+        check(&rt, &call, printed, b"", status);
+    }
+    Ok(())
+}
+
+#[test]
+fn a_fault_of_note_keeps_a_refused_text(rt: HostRuntime) -> Result<(), Fail> {
+    let rows: [(u64, &[u8]); 2] = [(1, b""), (2, b"refused asm 1 1 Unknown\n")];
+    for (fails, told) in rows {
+        let mut files = file(rt.alloc(), b"frob\n", &[])?;
+        let call = make_call(rt.alloc(), &ASM, &mut files, &[], &[fails])?;
+        check(&rt, &call, b"", told, 3);
+    }
     Ok(())
 }

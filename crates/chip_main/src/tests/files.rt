@@ -175,6 +175,48 @@ fn longer_elf_files_are_read(rt: HostRuntime) -> Result<(), Fail> {
     Ok(())
 }
 
+// The file, and then zeros that no header speaks of.
+fn padded(alloc: Global, length: usize) -> Result<Vec<u8>, NoMemory> {
+    let mut bytes = Vec::from_slice(alloc, &EXIT_7_ELF)?;
+    bytes.resize(length, 0)?;
+    Ok(bytes)
+}
+
+#[test]
+fn long_elf_files_are_programs(rt: HostRuntime) -> Result<(), Fail> {
+    for length in [1048577, 8388608] {
+        let bytes = padded(rt.alloc(), length)?;
+        let told = b"halted 7\nretired 3\n";
+        check_file(&rt, rt.alloc(), &PLAIN_ELF, bytes.as_slice(), b"", told, 0)?;
+    }
+    Ok(())
+}
+
+// What comes of an ELF file's program and an input of so many zeros.
+fn check_input_length(
+    rt: &impl Abort,
+    alloc: Global,
+    length: usize,
+    told: &[u8],
+    status: u8,
+) -> Result<(), Fail> {
+    let mut files = file(alloc, &EXIT_7_ELF, &[])?;
+    let bytes = vec![in alloc; 0u8; length]?;
+    files.add("i", bytes.as_slice())?;
+    let words = ["chip", "plain", "f", "--input", "i"];
+    let call = make_call(alloc, &words, &mut files, &[], &[])?;
+    check(rt, &call, b"", told, status);
+    Ok(())
+}
+
+#[test]
+fn long_inputs_are_refused(rt: HostRuntime) -> Result<(), Fail> {
+    let told = b"halted 7\nretired 3\n";
+    check_input_length(&rt, rt.alloc(), 1048576, told, 0)?;
+    check_input_length(&rt, rt.alloc(), 1048577, b"refused long\n", 3)?;
+    Ok(())
+}
+
 #[test]
 fn a_program_has_its_form_before_its_input_is_read(rt: HostRuntime) -> Result<(), Fail> {
     // No input is there, and no second read would succeed.
@@ -199,6 +241,19 @@ fn programs_are_measured(rt: HostRuntime) -> Result<(), Fail> {
     check_file(&rt, alloc, &MEASURE_ELF, &EXIT_7_ELF, DIGEST, b"", 0)?;
     let call = call_program(alloc, &MEASURE, &EXIT_7, &[1], &[])?;
     check(&rt, &call, b"", b"", 9);
+    Ok(())
+}
+
+#[test]
+fn a_line_is_one_piece(rt: HostRuntime) -> Result<(), Fail> {
+    // The second write would fail, and there is none.
+    let alloc = rt.alloc();
+    let call = call_program(alloc, &MEASURE, &EXIT_7, &[2], &[])?;
+    check(&rt, &call, DIGEST, b"", 0);
+    let call = call_program(alloc, &MEASURE_ELF, &EXIT_7, &[], &[2])?;
+    check(&rt, &call, b"", b"refused elf 1 Short\n", 3);
+    let call = call_program(alloc, &MEASURE_ELF, &EXIT_7, &[], &[1])?;
+    check(&rt, &call, b"", b"", 3);
     Ok(())
 }
 
