@@ -1,42 +1,48 @@
 -- How a call comes to its course.
-use Rattle.std.proofs.Common.{◌≡◌, ℕ, List, [], ◌∷◌, ◌++◌, Option, Some, None, true, Ok, Err, refl, sym, ◌∙◌, arith, append-nil, subst}
+use Rattle.std.proofs.Common.{◌≡◌, ℕ, List, [], ◌∷◌, ◌++◌, Option, Some, None, Ok, Err, refl, sym, ◌∙◌, arith, append-nil, subst}
+use Rattle.sec_base.specs.Layout.{memory_size}
 use Rattle.sec_base.specs.Reading.{FilesState}
 use Rattle.sec_base.specs.Writing.{SinkState, Silent}
-use Rattle.chip_words.specs.Request.{Asked, ExecutionAsked, ListingAsked, to_run, to_run_plain, to_list}
+use Rattle.sec_base.specs.declared.program.Image.{Image}
+use Rattle.rv32_listing.specs.Listed.{IsListed as IsTold}
+use Rattle.chip_words.specs.Request.{Asked, ExecutionAsked, to_run}
+use Rattle.chip_main.specs.declared.program.ProgramForm.{ProgramForm}
 use Rattle.chip_main.specs.declared.refusal.Refusal.{Refusal}
-use Rattle.chip_main.specs.declared.refusal.Refusal.TheVariants.{Usage, NotFlat, Unread, TooLong, TooLarge}
+use Rattle.chip_main.specs.declared.refusal.Refusal.TheVariants.{Usage, Unread, TooLong, Elf, Asm}
 use Rattle.chip_main.specs.declared.taking.Stop.{Stop}
 use Rattle.chip_main.specs.declared.taking.Stop.TheVariants.{Refused, NoMemory}
-use Rattle.chip_main.specs.Needs.{Need, AreAccepted, asked_needs, execution_needs, input_needs, is_flat, needs_of}
-use Rattle.chip_main.specs.Causes.{Asks, AsksNothing, IsRefused, RunsOut, Stops, StopsAs}
-use Rattle.chip_main.specs.Taken.{IsInput, Takes}
-use Rattle.chip_main.specs.Course.{CameAbout, stopped_course}
-
-pub needs_of_flat : (asked : Asked) → is_flat asked ≡ true → needs_of (Some asked) ≡ asked_needs asked
-needs_of_flat asked flat = rw flat refl
+use Rattle.chip_main.specs.Program.{IsImageOf, Program, ProgramFile, program_file}
+use Rattle.chip_main.specs.Needs.{Need, AreAccepted, IsAccepted, asked_needs, execution_file, execution_needs, input_needs, needs_of, program_need}
+use Rattle.chip_main.specs.Causes.{Asks, AsksNothing, IsRefused, RunsOut, Stops}
+use Rattle.chip_main.specs.Stopping.{StopsAs, stopped_course}
+use Rattle.chip_main.specs.Taken.{IsInput, IsProgram, Takes}
+use Rattle.chip_main.specs.Requests.{Writes}
+use Rattle.chip_main.specs.Statuses.{Telling}
+use Rattle.chip_main.specs.Course.{CameAbout}
 
 refused : (refusal : Refusal) (request : Option Asked) (old new : FilesState) → Stops refusal (needs_of request) old new → IsRefused refusal request old new
 refused (Usage text) request old new stops = absurd stops.cause
-refused NotFlat request old new stops = absurd stops.cause
 refused Unread request old new stops = stops
 refused TooLong request old new stops = stops
-refused TooLarge request old new stops = stops
+refused (Elf fault) request old new stops = stops
+refused (Asm line fault) request old new stops = stops
 
 -- the files were not taken
-pub came_stopped : (stop : Stop) (asked : Asked) (files files' : FilesState) (out out' : SinkState) → is_flat asked ≡ true → StopsAs stop (asked_needs asked) files files' → Silent out out' →
+pub came_stopped : (stop : Stop) (asked : Asked) (files files' : FilesState) (out out' : SinkState) → StopsAs stop (asked_needs asked) files files' → Silent out out' →
     CameAbout (stopped_course stop) (Some asked) files files' out out'
-came_stopped (Refused refusal) asked files files' out out' flat stops silent =
-    (refused refusal (Some asked) files files' (subst (λ (needs : List Need). Stops refusal needs files files') (sym (needs_of_flat asked flat)) stops), silent)
-came_stopped NoMemory asked files files' out out' flat stops silent =
-    (subst (λ (needs : List Need). RunsOut needs files files') (sym (needs_of_flat asked flat)) stops, silent)
+came_stopped (Refused refusal) asked files files' out out' stops silent = (refused refusal (Some asked) files files' stops, silent)
+came_stopped NoMemory asked files files' out out' stops silent = (stops, silent)
 
-input_accepted : (file : Option (List ℕ)) (input : List ℕ) (files : FilesState) → IsInput files file input → AreAccepted files (input_needs file)
+pub input_accepted : (file : Option (List ℕ)) (input : List ℕ) (files : FilesState) → IsInput files file input → AreAccepted files (input_needs file)
 input_accepted None input files is = tt
 input_accepted (Some file) input files is = ((input, is), tt)
 
-pub execution_accepted : (execution : ExecutionAsked) (files files' : FilesState) (program input : List ℕ) → Takes execution files files' program input → AreAccepted files (execution_needs execution)
+pub program_accepted : (file : ProgramFile) (program : Program) (files : FilesState) → IsProgram files file program → (bytes : List ℕ) × IsAccepted files (program_need file) bytes
+program_accepted file program files is = (is.bytes, is.accepted)
+
+pub execution_accepted : (execution : ExecutionAsked) (files files' : FilesState) (program : Program) (input : List ℕ) → Takes execution files files' program input → AreAccepted files (execution_needs execution)
 execution_accepted execution files files' program input takes =
-    ((program, takes.program_is), input_accepted execution.input input files takes.input_is)
+    (program_accepted (execution_file execution) program files takes.program_is, input_accepted execution.input input files takes.input_is)
 
 -- all files were taken, and then memory was not to be had
 ran_out : (needs : List Need) (files files' : FilesState) → AreAccepted files needs → Asks needs files files' → RunsOut needs files files'
@@ -50,10 +56,9 @@ ran_out needs files files' accepted asked = record {
   asked = subst (λ (n : List Need). Asks n files files') (sym (append-nil needs)) asked;
 }
 
-pub came_without_memory : (execution : ExecutionAsked) (files files' : FilesState) (program input : List ℕ) → Takes execution files files' program input → RunsOut (needs_of (Some (to_run execution))) files files'
+pub came_without_memory : (execution : ExecutionAsked) (files files' : FilesState) (program : Program) (input : List ℕ) → Takes execution files files' program input → RunsOut (needs_of (Some (to_run execution))) files files'
 came_without_memory execution files files' program input takes =
-    subst (λ (needs : List Need). RunsOut needs files files') (sym (needs_of_flat (to_run execution) takes.flat))
-    (ran_out (execution_needs execution) files files' (execution_accepted execution files files' program input takes) takes.asked)
+    ran_out (execution_needs execution) files files' (execution_accepted execution files files' program input takes) takes.asked
 
 -- nothing was read yet
 pub came_unread : (request : Option Asked) (files : FilesState) → RunsOut (needs_of request) files files
@@ -65,4 +70,21 @@ came_unread request files = record {
   accepted = tt;
   one = omega arith;
   asked = sym (append-nil files.asked);
+}
+
+-- a text of the program that was taken was written
+pub writes_of : (file : ProgramFile) (form : ProgramForm) (levels : ℕ) (text : Image → List ℕ) (program : Program) (image : Image) (files files' : FilesState) (out out' : SinkState) (telling : Telling) → file.form ≡ form → file.levels ≡ levels →
+    IsImageOf (memory_size levels) program image → IsProgram files (program_file file.name form levels) program → Asks (program_need (program_file file.name form levels) ∷ []) files files' → IsTold (text image) out out' telling →
+    Writes file text files files' out out' telling
+writes_of file form levels text program image files files' out out' telling same_form same_levels is_image is_program asked told = record {
+  program = program;
+  takes = record {
+    program_is = subst (λ (l : ℕ). IsProgram files (program_file file.name file.form l) program) (sym same_levels)
+        (subst (λ (f : ProgramForm). IsProgram files (program_file file.name f levels) program) (sym same_form) is_program);
+    asked = subst (λ (l : ℕ). Asks (program_need (program_file file.name file.form l) ∷ []) files files') (sym same_levels)
+        (subst (λ (f : ProgramForm). Asks (program_need (program_file file.name f levels) ∷ []) files files') (sym same_form) asked);
+  };
+  image = image;
+  is_image = subst (λ (l : ℕ). IsImageOf (memory_size l) program image) (sym same_levels) is_image;
+  written = told;
 }

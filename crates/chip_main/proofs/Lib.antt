@@ -1,7 +1,7 @@
 pub mod Hex
 pub mod HonestBuses
 pub mod Lines
-pub mod FlatRuns
+pub mod DeviceRuns
 pub mod Takings
 pub mod Courses
 pub mod RunStatuses

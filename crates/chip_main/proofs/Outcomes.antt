@@ -7,21 +7,21 @@ use Rattle.sec_base.specs.declared.account.Evidence.{Evidence}
 use Rattle.sec_base.specs.declared.answers.Ending.{Ending}
 use Rattle.sec_base.specs.declared.answers.Ending.TheVariants.{Halted, Trapped, OutOfSteps, Tampered, Spent, WriteFault, NoMemory as memory_ended}
 use Rattle.sec_base.specs.declared.writing.SinkStop.TheVariants.{Failed, NoMemory as no_memory}
+use Rattle.rv32_listing.specs.Listed.{GainsFront}
 use Rattle.plain_machine.specs.declared.PlainRecord.{PlainRecord}
 use Rattle.chip_words.specs.Request.{Asked}
 use Rattle.chip_main.specs.declared.refusal.Refusal.{Refusal}
-use Rattle.chip_main.specs.declared.refusal.Refusal.TheVariants.{Usage, NotFlat, Unread, TooLong, TooLarge}
+use Rattle.chip_main.specs.declared.refusal.Refusal.TheVariants.{Usage, Unread, TooLong, Elf, Asm}
 use Rattle.chip_main.specs.declared.course.Course.{Course}
-use Rattle.chip_main.specs.declared.course.Course.TheVariants.{Refused, NoMemory, Ran, RanPlain, Listed}
+use Rattle.chip_main.specs.declared.course.Course.TheVariants.{Refused, NoMemory, Ran, RanPlain, Written}
 use Rattle.chip_main.specs.declared.Done.{Done}
-use Rattle.chip_main.specs.Needs.{IsNotFlat, needs_of}
+use Rattle.chip_main.specs.Needs.{needs_of}
 use Rattle.chip_main.specs.Causes.{IsRefused, RunsOut, Stops}
-use Rattle.chip_main.specs.Statuses.{Telling, ending_status, evidence_status, listing_status, refusal_status, run_status, status_with, untold_ending_status}
+use Rattle.chip_main.specs.Statuses.{Telling, ending_status, evidence_status, refusal_status, run_status, status_with, text_status, untold_ending_status}
 use Rattle.chip_main.specs.Buses.{lies_of, run_told}
-use Rattle.chip_main.specs.Requests.{Lists, PlainlyRunsRequest, RunsRequest}
+use Rattle.chip_main.specs.Requests.{PlainlyRunsRequest, RunsRequest}
 use Rattle.chip_main.specs.Answer.{LacksMemory, TellsEnding, TellsPlain, TellsRefusal, TellsRun, Undone}
 use Rattle.chip_main.specs.Texts.{plain_text, record_text, refusal_text}
-use Rattle.chip_main.specs.Told.{GainsFront, IsTold}
 use Rattle.chip_main.specs.Course.{CameAbout, Outcome, TellsCourse, course_bus, course_run, course_status, status_of, untold_status}
 
 -- ---- the statuses
@@ -60,31 +60,31 @@ untold_ending_listed (Spent page) = (9, omega arith, refl)
 untold_ending_listed WriteFault = (9, omega arith, refl)
 untold_ending_listed memory_ended = (10, omega arith, refl)
 
-listing_listed : (telling : Telling) → Contains all_statuses (listing_status telling)
-listing_listed (Ok _) = (0, omega arith, refl)
-listing_listed (Err Failed) = (9, omega arith, refl)
-listing_listed (Err no_memory) = (10, omega arith, refl)
+text_listed : (telling : Telling) → Contains all_statuses (text_status telling)
+text_listed (Ok _) = (0, omega arith, refl)
+text_listed (Err Failed) = (9, omega arith, refl)
+text_listed (Err no_memory) = (10, omega arith, refl)
 
 refusal_listed : (refusal : Refusal) → Contains all_statuses (refusal_status refusal)
 refusal_listed (Usage text) = (2, omega arith, refl)
-refusal_listed NotFlat = (2, omega arith, refl)
 refusal_listed Unread = (8, omega arith, refl)
 refusal_listed TooLong = (3, omega arith, refl)
-refusal_listed TooLarge = (3, omega arith, refl)
+refusal_listed (Elf fault) = (3, omega arith, refl)
+refusal_listed (Asm line fault) = (3, omega arith, refl)
 
 course_listed : (course : Course) → Contains all_statuses (course_status course)
 course_listed (Refused refusal) = refusal_listed refusal
 course_listed NoMemory = (10, omega arith, refl)
 course_listed (Ran run bus) = run_listed run.evidence run.ending
 course_listed (RanPlain run) = ending_listed run.ending
-course_listed (Listed telling) = listing_listed telling
+course_listed (Written telling) = text_listed telling
 
 untold_listed : (course : Course) → Contains all_statuses (untold_status course)
 untold_listed (Refused refusal) = refusal_listed refusal
 untold_listed NoMemory = (10, omega arith, refl)
 untold_listed (Ran run bus) = untold_ending_listed run.ending
 untold_listed (RanPlain run) = untold_ending_listed run.ending
-untold_listed (Listed telling) = listing_listed telling
+untold_listed (Written telling) = text_listed telling
 
 status_listed : (course : Course) (telling : Telling) → Contains all_statuses (status_of course telling)
 status_listed course (Ok _) = course_listed course
@@ -113,7 +113,7 @@ course_is (Refused refusal) (Err Failed) status low is = is
 course_is NoMemory (Err Failed) status low is = is
 course_is (Ran run bus) (Err Failed) status low is = absurd (omega (arith, untold_high run.ending))
 course_is (RanPlain run) (Err Failed) status low is = absurd (omega (arith, untold_high run.ending))
-course_is (Listed telling) (Err Failed) status low is = is
+course_is (Written telling) (Err Failed) status low is = is
 
 pub own_status : {request : Option Asked} {files files' : FilesState} {out out' note note' : SinkState} {done : Done} → (o : Outcome request files files' out out' note note' done) → (status : ℕ) → status < 9 → done.status ≡ status →
     course_status o.course ≡ status
@@ -156,10 +156,10 @@ run_result : (evidence : Option Evidence) (ending : Ending) → IsOfResult (stat
 run_result None ending = ending_result ending
 run_result (Some evidence) ending = evidence_result ending
 
-listing_result : (telling : Telling) → IsOfResult (listing_status telling)
-listing_result (Ok _) = inl (omega arith)
-listing_result (Err Failed) = inr (inr (omega arith))
-listing_result (Err no_memory) = inr (inr (omega arith))
+text_result : (telling : Telling) → IsOfResult (text_status telling)
+text_result (Ok _) = inl (omega arith)
+text_result (Err Failed) = inr (inr (omega arith))
+text_result (Err no_memory) = inr (inr (omega arith))
 
 -- there was a refusal with this status
 refusal_is : (course : Course) (status : ℕ) → IsOfRefusal status → course_status course ≡ status → (refusal : Refusal) × (course ≡ Refused refusal) × (refusal_status refusal ≡ status)
@@ -167,7 +167,7 @@ refusal_is (Refused refusal) status refusing is = (refusal, refl, is)
 refusal_is NoMemory status refusing is = absurd (let fewer = refusing.1 in omega arith)
 refusal_is (Ran run bus) status refusing is = absurd (apart (run_status run) status (run_result run.evidence run.ending) refusing is)
 refusal_is (RanPlain run) status refusing is = absurd (apart (ending_status run.ending) status (ending_result run.ending) refusing is)
-refusal_is (Listed telling) status refusing is = absurd (apart (listing_status telling) status (listing_result telling) refusing is)
+refusal_is (Written telling) status refusing is = absurd (apart (text_status telling) status (text_result telling) refusing is)
 
 -- so it has its cause
 refused_as : {request : Option Asked} {files files' : FilesState} {out out' note note' : SinkState} {done : Done} → Outcome request files files' out out' note note' done → (status : ℕ) → IsOfRefusal status → done.status ≡ status →
@@ -177,36 +177,40 @@ refused_as {request} {files} {files'} {out} {out'} o status refusing is =
     let came = subst (λ (course : Course). CameAbout course request files files' out out') found.1 o.came in
     (found.0, came.0, found.2)
 
-usage_cause : (refusal : Refusal) (request : Option Asked) (files files' : FilesState) → IsRefused refusal request files files' → refusal_status refusal ≡ 2 → (request ≡ None) ⊎ IsNotFlat request
-usage_cause (Usage text) request files files' cause is = inl cause.0
-usage_cause NotFlat request files files' cause is = inr cause.0
+usage_cause : (refusal : Refusal) (request : Option Asked) (files files' : FilesState) → IsRefused refusal request files files' → refusal_status refusal ≡ 2 → request ≡ None
+usage_cause (Usage text) request files files' cause is = cause.0
 usage_cause Unread request files files' cause is = absurd (omega arith)
 usage_cause TooLong request files files' cause is = absurd (omega arith)
-usage_cause TooLarge request files files' cause is = absurd (omega arith)
+usage_cause (Elf fault) request files files' cause is = absurd (omega arith)
+usage_cause (Asm line fault) request files files' cause is = absurd (omega arith)
 
-pub usage : {request : Option Asked} {files files' : FilesState} {out out' note note' : SinkState} {done : Done} → Outcome request files files' out out' note note' done → done.status ≡ 2 → (request ≡ None) ⊎ IsNotFlat request
+pub usage : {request : Option Asked} {files files' : FilesState} {out out' note note' : SinkState} {done : Done} → Outcome request files files' out out' note note' done → done.status ≡ 2 → request ≡ None
 usage {request} {files} {files'} o is =
     let found = refused_as o 2 (omega arith, omega arith, inl (omega arith)) is in usage_cause found.0 request files files' found.1 found.2
 
-long_cause : (refusal : Refusal) (request : Option Asked) (files files' : FilesState) → IsRefused refusal request files files' → refusal_status refusal ≡ 3 →
-    Stops TooLong (needs_of request) files files' ⊎ Stops TooLarge (needs_of request) files files'
-long_cause (Usage text) request files files' cause is = absurd (omega arith)
-long_cause NotFlat request files files' cause is = absurd (omega arith)
-long_cause Unread request files files' cause is = absurd (omega arith)
-long_cause TooLong request files files' cause is = inl cause
-long_cause TooLarge request files files' cause is = inr cause
+-- one of the files was refused, with status 3
+abbrev pub IsFileRefused : Option Asked → FilesState → FilesState → Type 0
+IsFileRefused request files files' =
+    (refusal : Refusal) × (refusal_status refusal ≡ 3) × Stops refusal (needs_of request) files files'
+
+file_cause : (refusal : Refusal) (request : Option Asked) (files files' : FilesState) → IsRefused refusal request files files' → refusal_status refusal ≡ 3 → Stops refusal (needs_of request) files files'
+file_cause (Usage text) request files files' cause is = absurd (omega arith)
+file_cause Unread request files files' cause is = absurd (omega arith)
+file_cause TooLong request files files' cause is = cause
+file_cause (Elf fault) request files files' cause is = cause
+file_cause (Asm line fault) request files files' cause is = cause
 
 pub refused : {request : Option Asked} {files files' : FilesState} {out out' note note' : SinkState} {done : Done} → Outcome request files files' out out' note note' done → done.status ≡ 3 →
-    Stops TooLong (needs_of request) files files' ⊎ Stops TooLarge (needs_of request) files files'
+    IsFileRefused request files files'
 refused {request} {files} {files'} o is =
-    let found = refused_as o 3 (omega arith, omega arith, inl (omega arith)) is in long_cause found.0 request files files' found.1 found.2
+    let found = refused_as o 3 (omega arith, omega arith, inl (omega arith)) is in (found.0, found.2, file_cause found.0 request files files' found.1 found.2)
 
 unread_cause : (refusal : Refusal) (request : Option Asked) (files files' : FilesState) → IsRefused refusal request files files' → refusal_status refusal ≡ 8 → Stops Unread (needs_of request) files files'
 unread_cause (Usage text) request files files' cause is = absurd (omega arith)
-unread_cause NotFlat request files files' cause is = absurd (omega arith)
 unread_cause Unread request files files' cause is = cause
 unread_cause TooLong request files files' cause is = absurd (omega arith)
-unread_cause TooLarge request files files' cause is = absurd (omega arith)
+unread_cause (Elf fault) request files files' cause is = absurd (omega arith)
+unread_cause (Asm line fault) request files files' cause is = absurd (omega arith)
 
 pub read_fault : {request : Option Asked} {files files' : FilesState} {out out' note note' : SinkState} {done : Done} → Outcome request files files' out out' note note' done → done.status ≡ 8 → Stops Unread (needs_of request) files files'
 read_fault {request} {files} {files'} o is =
@@ -220,7 +224,7 @@ IfUndone (Refused refusal) P = P
 IfUndone NoMemory P = P
 IfUndone (Ran run bus) P = Unit {0}
 IfUndone (RanPlain run) P = Unit {0}
-IfUndone (Listed telling) P = Unit {0}
+IfUndone (Written telling) P = Unit {0}
 
 pub undone_of : (course : Course) (telling : Telling) (request : Option Asked) (files files' : FilesState) (out out' note note' : SinkState) → CameAbout course request files files' out out' → TellsCourse course note note' telling →
     IfUndone course (Undone (status_of course telling) request files files' out out' note note')
@@ -237,7 +241,7 @@ undone_of NoMemory telling request files files' out out' note note' came tells =
     ten telling whole = rw whole refl
 undone_of (Ran run bus) telling request files files' out out' note note' came tells = tt
 undone_of (RanPlain run) telling request files files' out out' note note' came tells = tt
-undone_of (Listed listed) telling request files files' out out' note note' came tells = tt
+undone_of (Written written) telling request files files' out out' note note' came tells = tt
 
 untold_cases : (ending : Ending) → ((untold_ending_status ending ≡ 9) × (ending ≢ memory_ended)) ⊎ (untold_ending_status ending ≡ 10)
 untold_cases (Halted code) = inl (refl, λ e. cc)
@@ -257,7 +261,7 @@ told_run : (course : Course) (telling : Telling) (note note' : SinkState) → Te
 told_run (Refused refusal) telling note note' tells = tt
 told_run NoMemory telling note note' tells = tt
 told_run (RanPlain run) telling note note' tells = tt
-told_run (Listed listed) telling note note' tells = tt
+told_run (Written written) telling note note' tells = tt
 told_run (Ran run bus) (Ok _) note note' tells = inl (tells, refl)
 told_run (Ran run bus) (Err Failed) note note' tells =
     untold_ending (record_text run (run_told bus).lies) (run_status run) run.ending note note' tells.0 tells.1

@@ -1,25 +1,27 @@
 -- What was asked of the files, and what each request came to.
-use Rattle.std.proofs.Common.{◌≡◌, ◌≢◌, ◌<◌, ◌≤◌, ◌⊎◌, inl, inr, List, [], ◌∷◌, ◌++◌, ℕ, length, Option, Some, None, true, false, Ok, Err, Contains, IfNone, IfSome, refl, sym, ap, ◌∙◌, subst, arith, append-nil, append_assoc}
+use Rattle.std.proofs.Common.{◌≡◌, ◌≢◌, ◌<◌, ◌≤◌, ◌⊎◌, inl, inr, List, [], ◌∷◌, ◌++◌, ℕ, length, Option, Some, None, Ok, Err, Contains, IfNone, IfSome, refl, sym, ap, ◌∙◌, subst, arith, append-nil, append_assoc}
 use Rattle.sec_base.specs.Reading.{FilesState, HasBytes}
 use Rattle.sec_base.specs.Writing.{SinkState}
+use Rattle.sec_base.specs.declared.program.Image.{Image}
 use Rattle.sec_base.specs.declared.writing.SinkStop.TheVariants.{Failed, NoMemory as no_memory}
 use Rattle.bus_model.specs.Told.{Told}
 use Rattle.plain_machine.specs.declared.PlainRecord.{PlainRecord}
 use Rattle.chip_run.specs.declared.RunRecord.{RunRecord}
-use Rattle.chip_words.specs.Request.{Asked, ExecutionAsked, ListingAsked, to_run, to_run_plain, to_list}
+use Rattle.chip_words.specs.Request.{Asked, AssemblyAsked, ExecutionAsked, InspectionAsked, to_assemble, to_disassemble, to_measure, to_run, to_run_plain}
 use Rattle.chip_main.specs.declared.refusal.Refusal.{Refusal}
-use Rattle.chip_main.specs.declared.refusal.Refusal.TheVariants.{Usage, NotFlat, Unread, TooLong, TooLarge}
+use Rattle.chip_main.specs.declared.refusal.Refusal.TheVariants.{Usage, Unread, TooLong, Elf, Asm}
 use Rattle.chip_main.specs.declared.course.Course.{Course}
-use Rattle.chip_main.specs.declared.course.Course.TheVariants.{Refused, NoMemory, Ran, RanPlain, Listed}
+use Rattle.chip_main.specs.declared.course.Course.TheVariants.{Refused, NoMemory, Ran, RanPlain, Written}
 use Rattle.chip_main.specs.declared.Done.{Done}
-use Rattle.chip_main.specs.Needs.{Need, AreAccepted, HasTold, IsAccepted, IsNotFlat, IsUnfit, asked_needs, is_flat, listing_needs, names, needs_of}
+use Rattle.chip_main.specs.Program.{ProgramFile}
+use Rattle.chip_main.specs.Texts.{elf_file, listing, measurement_line}
+use Rattle.chip_main.specs.Needs.{Need, AreAccepted, HasTold, IsAccepted, IsUnfit, asked_needs, assembly_file, inspection_file, names, needs_of, program_need}
 use Rattle.chip_main.specs.Causes.{Asks, AsksFront, AsksNothing, IsRefused, RunsOut, Stops}
-use Rattle.chip_main.specs.Requests.{Lists, ListsRequest, PlainlyRunsRequest, RunsRequest}
+use Rattle.chip_main.specs.Requests.{PlainlyRunsRequest, RunsRequest, Writes, WritesRequest}
 use Rattle.chip_main.specs.Statuses.{Telling}
-use Rattle.chip_main.specs.Taken.{TakesProgram}
-use Rattle.chip_main.specs.Answer.{Listed as ListedAnswer, PlainlyRan, Undone}
+use Rattle.chip_main.specs.Answer.{Delivers, PlainlyRan, Undone}
 use Rattle.chip_main.specs.Course.{CameAbout, Outcome, TellsCourse, course_run, status_of}
-use Rattle.chip_main.proofs.Courses.{execution_accepted, needs_of_flat}
+use Rattle.chip_main.proofs.Courses.{execution_accepted, program_accepted}
 use Rattle.chip_main.proofs.Outcomes.{IfUndone, told_plain, undone_of}
 
 -- ---- where something was done, all files were taken
@@ -32,35 +34,45 @@ pub record AllTaken (request : Option Asked) (files files' : FilesState) : Type 
 some_needs : (asked : Asked) → asked_needs asked ≢ []
 some_needs (to_run execution) none = cc
 some_needs (to_run_plain execution) none = cc
-some_needs (to_list listing) none = cc
+some_needs (to_assemble assembly) none = cc
+some_needs (to_disassemble inspection) none = cc
+some_needs (to_measure inspection) none = cc
 
-all_taken : (asked : Asked) (files files' : FilesState) → is_flat asked ≡ true → Asks (asked_needs asked) files files' → AreAccepted files (asked_needs asked) → AllTaken (Some asked) files files'
-all_taken asked files files' flat asks accepted = record {
-  some = λ none. some_needs asked (sym (needs_of_flat asked flat) ∙ none);
-  asked = subst (λ (needs : List Need). Asks needs files files') (sym (needs_of_flat asked flat)) asks;
-  accepted = subst (λ (needs : List Need). AreAccepted files needs) (sym (needs_of_flat asked flat)) accepted;
-}
+all_taken : (asked : Asked) (files files' : FilesState) → Asks (asked_needs asked) files files' → AreAccepted files (asked_needs asked) → AllTaken (Some asked) files files'
+all_taken asked files files' asks accepted = record { some = some_needs asked; asked = asks; accepted = accepted }
 
 ran_taken : (request : Option Asked) (files files' : FilesState) (out out' : SinkState) (run : RunRecord) (told : Told) → RunsRequest request files files' out out' run told → AllTaken request files files'
 ran_taken None files files' out out' run told came = absurd came
 ran_taken (Some (to_run execution)) files files' out out' run told came =
-    all_taken (to_run execution) files files' came.2.flat came.2.asked (execution_accepted execution files files' came.0 came.1 came.2)
+    all_taken (to_run execution) files files' came.2.asked (execution_accepted execution files files' came.0 came.1 came.2)
 ran_taken (Some (to_run_plain execution)) files files' out out' run told came = absurd came
-ran_taken (Some (to_list listing)) files files' out out' run told came = absurd came
+ran_taken (Some (to_assemble assembly)) files files' out out' run told came = absurd came
+ran_taken (Some (to_disassemble inspection)) files files' out out' run told came = absurd came
+ran_taken (Some (to_measure inspection)) files files' out out' run told came = absurd came
 
 plainly_ran_taken : (request : Option Asked) (files files' : FilesState) (out out' : SinkState) (run : PlainRecord) → PlainlyRunsRequest request files files' out out' run → AllTaken request files files'
 plainly_ran_taken None files files' out out' run came = absurd came
 plainly_ran_taken (Some (to_run execution)) files files' out out' run came = absurd came
 plainly_ran_taken (Some (to_run_plain execution)) files files' out out' run came =
-    all_taken (to_run_plain execution) files files' came.2.flat came.2.asked (execution_accepted execution files files' came.0 came.1 came.2)
-plainly_ran_taken (Some (to_list listing)) files files' out out' run came = absurd came
+    all_taken (to_run_plain execution) files files' came.2.asked (execution_accepted execution files files' came.0 came.1 came.2)
+plainly_ran_taken (Some (to_assemble assembly)) files files' out out' run came = absurd came
+plainly_ran_taken (Some (to_disassemble inspection)) files files' out out' run came = absurd came
+plainly_ran_taken (Some (to_measure inspection)) files files' out out' run came = absurd came
 
-listed_taken : (request : Option Asked) (files files' : FilesState) (out out' : SinkState) (telling : Telling) → ListsRequest request files files' out out' telling → AllTaken request files files'
-listed_taken None files files' out out' telling came = absurd came
-listed_taken (Some (to_run execution)) files files' out out' telling came = absurd came
-listed_taken (Some (to_run_plain execution)) files files' out out' telling came = absurd came
-listed_taken (Some (to_list listing)) files files' out out' telling came =
-    all_taken (to_list listing) files files' came.1.flat came.1.asked ((came.0, came.1.program_is), tt)
+-- the one file of a request for a text
+text_taken : (asked : Asked) (file : ProgramFile) (text : Image → List ℕ) (files files' : FilesState) (out out' : SinkState) (telling : Telling) → asked_needs asked ≡ program_need file ∷ [] → Writes file text files files' out out' telling →
+    AllTaken (Some asked) files files'
+text_taken asked file text files files' out out' telling needs writes = all_taken asked files files'
+    (subst (λ (n : List Need). Asks n files files') (sym needs) writes.takes.asked)
+    (subst (λ (n : List Need). AreAccepted files n) (sym needs) (program_accepted file writes.program files writes.takes.program_is, tt))
+
+written_taken : (request : Option Asked) (files files' : FilesState) (out out' : SinkState) (telling : Telling) → WritesRequest request files files' out out' telling → AllTaken request files files'
+written_taken None files files' out out' telling came = absurd came
+written_taken (Some (to_run execution)) files files' out out' telling came = absurd came
+written_taken (Some (to_run_plain execution)) files files' out out' telling came = absurd came
+written_taken (Some (to_assemble assembly)) files files' out out' telling came = text_taken (to_assemble assembly) (assembly_file assembly) elf_file files files' out out' telling refl came
+written_taken (Some (to_disassemble inspection)) files files' out out' telling came = text_taken (to_disassemble inspection) (inspection_file inspection) listing files files' out out' telling refl came
+written_taken (Some (to_measure inspection)) files files' out out' telling came = text_taken (to_measure inspection) (inspection_file inspection) measurement_line files files' out out' telling refl came
 
 -- ---- what was asked for
 
@@ -76,15 +88,15 @@ front_none needs files files' same = ([], (needs, refl), same ∙ sym (append-ni
 
 front : (course : Course) (request : Option Asked) (files files' : FilesState) (out out' : SinkState) → CameAbout course request files files' out out' → AsksFront (needs_of request) files files'
 front (Refused (Usage text)) request files files' out out' came = front_none (needs_of request) files files' came.0.1
-front (Refused NotFlat) request files files' out out' came = front_none (needs_of request) files files' came.0.1
 front (Refused Unread) request files files' out out' came = front_stops Unread (needs_of request) files files' came.0
 front (Refused TooLong) request files files' out out' came = front_stops TooLong (needs_of request) files files' came.0
-front (Refused TooLarge) request files files' out out' came = front_stops TooLarge (needs_of request) files files' came.0
+front (Refused (Elf fault)) request files files' out out' came = front_stops (Elf fault) (needs_of request) files files' came.0
+front (Refused (Asm line fault)) request files files' out out' came = front_stops (Asm line fault) (needs_of request) files files' came.0
 front NoMemory request files files' out out' came =
     (came.0.before ++ came.0.tried, (came.0.after, came.0.order), came.0.asked)
 front (Ran run bus) request files files' out out' came = front_all (needs_of request) files files' (ran_taken request files files' out out' run _ came).asked
 front (RanPlain run) request files files' out out' came = front_all (needs_of request) files files' (plainly_ran_taken request files files' out out' run came).asked
-front (Listed telling) request files files' out out' came = front_all (needs_of request) files files' (listed_taken request files files' out out' telling came).asked
+front (Written telling) request files files' out out' came = front_all (needs_of request) files files' (written_taken request files files' out out' telling came).asked
 
 pub asks_front : {request : Option Asked} {files files' : FilesState} {out out' note note' : SinkState} {done : Done} → Outcome request files files' out out' note note' done → AsksFront (needs_of request) files files'
 asks_front {request} {files} {files'} {out} {out'} o = front o.course request files files' out out' o.came
@@ -94,7 +106,7 @@ asked_of_run (Refused refusal) request files files' out out' came = tt
 asked_of_run NoMemory request files files' out out' came = tt
 asked_of_run (Ran run bus) request files files' out out' came = (ran_taken request files files' out out' run _ came).asked
 asked_of_run (RanPlain run) request files files' out out' came = tt
-asked_of_run (Listed telling) request files files' out out' came = tt
+asked_of_run (Written telling) request files files' out out' came = tt
 
 pub run_asked : {request : Option Asked} {files files' : FilesState} {out out' note note' : SinkState} {done : Done} → Outcome request files files' out out' note note' done → IfSome done.run (λ _. Asks (needs_of request) files files')
 run_asked {request} {files} {files'} {out} {out'} o = rw o.run (asked_of_run o.course request files files' out out' o.came)
@@ -131,11 +143,6 @@ idle_usage text (Ok _) = (0, omega arith, refl)
 idle_usage text (Err Failed) = (0, omega arith, refl)
 idle_usage text (Err no_memory) = (1, omega arith, refl)
 
-idle_not_flat : (telling : Telling) → Contains refused_statuses (status_of (Refused NotFlat) telling)
-idle_not_flat (Ok _) = (0, omega arith, refl)
-idle_not_flat (Err Failed) = (0, omega arith, refl)
-idle_not_flat (Err no_memory) = (1, omega arith, refl)
-
 idle_no_memory : (telling : Telling) → Contains refused_statuses (status_of NoMemory telling)
 idle_no_memory (Ok _) = (1, omega arith, refl)
 idle_no_memory (Err Failed) = (1, omega arith, refl)
@@ -144,32 +151,24 @@ idle_no_memory (Err no_memory) = (1, omega arith, refl)
 idle : (course : Course) (telling : Telling) (request : Option Asked) (files files' : FilesState) (out out' : SinkState) → needs_of request ≡ [] → CameAbout course request files files' out out' →
     Idle (status_of course telling) (course_run course) files files'
 idle (Refused (Usage text)) telling request files files' out out' none came = record { status_is = idle_usage text telling; no_run = refl; unasked = came.0.1 }
-idle (Refused NotFlat) telling request files files' out out' none came = record { status_is = idle_not_flat telling; no_run = refl; unasked = came.0.1 }
 idle (Refused Unread) telling request files files' out out' none came = absurd (nothing_stops Unread (needs_of request) files files' none came.0)
 idle (Refused TooLong) telling request files files' out out' none came = absurd (nothing_stops TooLong (needs_of request) files files' none came.0)
-idle (Refused TooLarge) telling request files files' out out' none came = absurd (nothing_stops TooLarge (needs_of request) files files' none came.0)
+idle (Refused (Elf fault)) telling request files files' out out' none came = absurd (nothing_stops (Elf fault) (needs_of request) files files' none came.0)
+idle (Refused (Asm line fault)) telling request files files' out out' none came = absurd (nothing_stops (Asm line fault) (needs_of request) files files' none came.0)
 idle NoMemory telling request files files' out out' none came =
     record { status_is = idle_no_memory telling; no_run = refl; unasked = asks_none (needs_of request) files files' none came.0 }
 idle (Ran run bus) telling request files files' out out' none came = absurd ((ran_taken request files files' out out' run _ came).some none)
 idle (RanPlain run) telling request files files' out out' none came = absurd ((plainly_ran_taken request files files' out out' run came).some none)
-idle (Listed listed) telling request files files' out out' none came = absurd ((listed_taken request files files' out out' listed came).some none)
+idle (Written written) telling request files files' out out' none came = absurd ((written_taken request files files' out out' written came).some none)
 
 pub is_idle : {request : Option Asked} {files files' : FilesState} {out out' note note' : SinkState} {done : Done} → Outcome request files files' out out' note note' done → needs_of request ≡ [] → Idle done.status done.run files files'
 is_idle {request} {files} {files'} {out} {out'} o none = rw (o.run, o.status) (idle o.course o.told request files files' out out' none o.came)
 
-pub no_needs : (request : Option Asked) → IsNotFlat request → needs_of request ≡ []
-no_needs None is = refl
-no_needs (Some asked) is = rw is refl
-
 pub others : {request : Option Asked} {files files' : FilesState} {out out' note note' : SinkState} {done : Done} → Outcome request files files' out out' note note' done → request ≡ None → Contains refused_statuses done.status × (done.run ≡ None)
 others o none = let still = is_idle o (ap needs_of none) in (still.status_is, still.no_run)
 
-pub not_flat : {request : Option Asked} {files files' : FilesState} {out out' note note' : SinkState} {done : Done} → Outcome request files files' out out' note note' done → IsNotFlat request → Contains refused_statuses done.status × (done.run ≡ None)
-not_flat {request} o is = let still = is_idle o (no_needs request is) in (still.status_is, still.no_run)
-
-pub unasked : {request : Option Asked} {files files' : FilesState} {out out' note note' : SinkState} {done : Done} → Outcome request files files' out out' note note' done → (request ≡ None) ⊎ IsNotFlat request → AsksNothing files files'
-unasked o (inl none) = (is_idle o (ap needs_of none)).unasked
-unasked {request} o (inr is) = (is_idle o (no_needs request is)).unasked
+pub unasked : {request : Option Asked} {files files' : FilesState} {out out' note note' : SinkState} {done : Done} → Outcome request files files' out out' note note' done → request ≡ None → AsksNothing files files'
+unasked o none = (is_idle o (ap needs_of none)).unasked
 
 -- ---- what was done
 
@@ -179,7 +178,7 @@ undone_without (Refused refusal) P request files files' out out' none came holds
 undone_without NoMemory P request files files' out out' none came holds = holds
 undone_without (Ran run bus) P request files files' out out' none came holds = absurd ((ran_taken request files files' out out' run _ came).some (ap needs_of none))
 undone_without (RanPlain run) P request files files' out out' none came holds = absurd ((plainly_ran_taken request files files' out out' run came).some (ap needs_of none))
-undone_without (Listed telling) P request files files' out out' none came holds = absurd ((listed_taken request files files' out out' telling came).some (ap needs_of none))
+undone_without (Written telling) P request files files' out out' none came holds = absurd ((written_taken request files files' out out' telling came).some (ap needs_of none))
 
 undone : {request : Option Asked} {files files' : FilesState} {out out' note note' : SinkState} {done : Done} → (o : Outcome request files files' out out' note note' done) → IfUndone o.course (Undone done.status request files files' out out' note note')
 undone {request} {files} {files'} {out} {out'} {note} {note'} o = rw o.status (undone_of o.course o.told request files files' out out' note note' o.came o.tells)
@@ -189,33 +188,32 @@ others_undone {request} {files} {files'} {out} {out'} {note} {note'} {done} o no
     undone_without o.course (Undone done.status request files files' out out' note note') request files files' out out' none o.came (undone o)
 
 abbrev pub unrun_statuses : List ℕ
-unrun_statuses = 2 ∷ 3 ∷ 8 ∷ 10 ∷ []
+unrun_statuses = 3 ∷ 8 ∷ 10 ∷ []
 
-refusal_unrun : (refusal : Refusal) (telling : Telling) → Contains unrun_statuses (status_of (Refused refusal) telling)
-refusal_unrun refusal (Err no_memory) = (3, omega arith, refl)
-refusal_unrun (Usage text) (Ok _) = (0, omega arith, refl)
-refusal_unrun NotFlat (Ok _) = (0, omega arith, refl)
-refusal_unrun Unread (Ok _) = (2, omega arith, refl)
-refusal_unrun TooLong (Ok _) = (1, omega arith, refl)
-refusal_unrun TooLarge (Ok _) = (1, omega arith, refl)
-refusal_unrun (Usage text) (Err Failed) = (0, omega arith, refl)
-refusal_unrun NotFlat (Err Failed) = (0, omega arith, refl)
-refusal_unrun Unread (Err Failed) = (2, omega arith, refl)
-refusal_unrun TooLong (Err Failed) = (1, omega arith, refl)
-refusal_unrun TooLarge (Err Failed) = (1, omega arith, refl)
+refusal_unrun : (refusal : Refusal) (telling : Telling) (asked : Asked) (files files' : FilesState) → IsRefused refusal (Some asked) files files' → Contains unrun_statuses (status_of (Refused refusal) telling)
+refusal_unrun refusal (Err no_memory) asked files files' cause = (2, omega arith, refl)
+refusal_unrun (Usage text) telling asked files files' cause = let e : Some asked ≡ None = cause.0 in absurd cc
+refusal_unrun Unread (Ok _) asked files files' cause = (1, omega arith, refl)
+refusal_unrun TooLong (Ok _) asked files files' cause = (0, omega arith, refl)
+refusal_unrun (Elf fault) (Ok _) asked files files' cause = (0, omega arith, refl)
+refusal_unrun (Asm line fault) (Ok _) asked files files' cause = (0, omega arith, refl)
+refusal_unrun Unread (Err Failed) asked files files' cause = (1, omega arith, refl)
+refusal_unrun TooLong (Err Failed) asked files files' cause = (0, omega arith, refl)
+refusal_unrun (Elf fault) (Err Failed) asked files files' cause = (0, omega arith, refl)
+refusal_unrun (Asm line fault) (Err Failed) asked files files' cause = (0, omega arith, refl)
 
 no_memory_unrun : (telling : Telling) → Contains unrun_statuses (status_of NoMemory telling)
-no_memory_unrun (Ok _) = (3, omega arith, refl)
-no_memory_unrun (Err Failed) = (3, omega arith, refl)
-no_memory_unrun (Err no_memory) = (3, omega arith, refl)
+no_memory_unrun (Ok _) = (2, omega arith, refl)
+no_memory_unrun (Err Failed) = (2, omega arith, refl)
+no_memory_unrun (Err no_memory) = (2, omega arith, refl)
 
 unrun : (course : Course) (telling : Telling) (P : Type 0) (execution : ExecutionAsked) (files files' : FilesState) (out out' : SinkState) → CameAbout course (Some (to_run execution)) files files' out out' → IfUndone course P →
     IfNone (course_run course) (Contains unrun_statuses (status_of course telling) × P)
-unrun (Refused refusal) telling P execution files files' out out' came holds = (refusal_unrun refusal telling, holds)
+unrun (Refused refusal) telling P execution files files' out out' came holds = (refusal_unrun refusal telling (to_run execution) files files' came.0, holds)
 unrun NoMemory telling P execution files files' out out' came holds = (no_memory_unrun telling, holds)
 unrun (Ran run bus) telling P execution files files' out out' came holds = tt
 unrun (RanPlain run) telling P execution files files' out out' came holds = absurd came
-unrun (Listed listed) telling P execution files files' out out' came holds = absurd came
+unrun (Written written) telling P execution files files' out out' came holds = absurd came
 
 pub no_run : {request : Option Asked} {files files' : FilesState} {out out' note note' : SinkState} {done : Done} → Outcome request files files' out out' note note' done → (execution : ExecutionAsked) → request ≡ Some (to_run execution) →
     IfNone done.run (Contains unrun_statuses done.status × Undone done.status request files files' out out' note note')
@@ -231,7 +229,7 @@ plainly_ran NoMemory telling P execution files files' out out' note note' came t
 plainly_ran (Ran run bus) telling P execution files files' out out' note note' came tells holds = absurd came
 plainly_ran (RanPlain run) telling P execution files files' out out' note note' came tells holds =
     inl (record { run = run; runs = came; told = told_plain run telling note note' tells })
-plainly_ran (Listed listed) telling P execution files files' out out' note note' came tells holds = absurd came
+plainly_ran (Written written) telling P execution files files' out out' note note' came tells holds = absurd came
 
 pub plain : {request : Option Asked} {files files' : FilesState} {out out' note note' : SinkState} {done : Done} → Outcome request files files' out out' note note' done → (execution : ExecutionAsked) → request ≡ Some (to_run_plain execution) →
     PlainlyRan done.status execution files files' out out' note note' ⊎ Undone done.status request files files' out out' note note'
@@ -240,27 +238,72 @@ plain {request} {files} {files'} {out} {out'} {note} {note'} {done} o execution 
     let at = plainly_ran o.course o.told (Undone done.status request files files' out out' note note') execution files files' out out' note note' came o.tells (undone o) in
     subst (λ (n : ℕ). PlainlyRan n execution files files' out out' note note' ⊎ Undone done.status request files files' out out' note note') (sym o.status) at
 
-listed_as : (listed telling : Telling) (listing : ListingAsked) (files files' : FilesState) (out out' note note' : SinkState) → Lists listing files files' out out' listed → TellsCourse (Listed listed) note note' telling →
-    ListedAnswer (status_of (Listed listed) telling) listing files files' out out' note note'
-listed_as (Ok _) telling listing files files' out out' note note' lists tells = rw tells.1 (record { program = lists.0; takes = lists.1; listed = inl (lists.2, refl); silent = tells.0 })
-listed_as (Err Failed) telling listing files files' out out' note note' lists tells = rw tells.1 (record { program = lists.0; takes = lists.1; listed = inr (lists.2.0, inl (refl, lists.2.1)); silent = tells.0 })
-listed_as (Err no_memory) telling listing files files' out out' note note' lists tells = rw tells.1 (record { program = lists.0; takes = lists.1; listed = inr (lists.2, inr refl); silent = tells.0 })
+delivered : (file : ProgramFile) (text : Image → List ℕ) (written telling : Telling) (files files' : FilesState) (out out' note note' : SinkState) → Writes file text files files' out out' written → TellsCourse (Written written) note note' telling →
+    Delivers (status_of (Written written) telling) file text files files' out out' note note'
+delivered file text written telling files files' out out' note note' writes tells =
+    rw tells.1 (record { telling = written; writes = writes; status_is = refl; silent = tells.0 })
 
-was_listed : (course : Course) (telling : Telling) (P : Type 0) (listing : ListingAsked) (files files' : FilesState) (out out' note note' : SinkState) → CameAbout course (Some (to_list listing)) files files' out out' →
-    TellsCourse course note note' telling → IfUndone course P → ListedAnswer (status_of course telling) listing files files' out out' note note' ⊎ P
-was_listed (Refused refusal) telling P listing files files' out out' note note' came tells holds = inr holds
-was_listed NoMemory telling P listing files files' out out' note note' came tells holds = inr holds
-was_listed (Ran run bus) telling P listing files files' out out' note note' came tells holds = absurd came
-was_listed (RanPlain run) telling P listing files files' out out' note note' came tells holds = absurd came
-was_listed (Listed listed) telling P listing files files' out out' note note' came tells holds =
-    inl (listed_as listed telling listing files files' out out' note note' came tells)
+-- what came about where the request is for this text
+abbrev pub WritesOr : Course → ProgramFile → (Image → List ℕ) → FilesState → FilesState → SinkState → SinkState → Type 0
+WritesOr (Refused refusal) file text files files' out out' = Unit {0}
+WritesOr NoMemory file text files files' out out' = Unit {0}
+WritesOr (Ran run bus) file text files files' out out' = ⊥
+WritesOr (RanPlain run) file text files files' out out' = ⊥
+WritesOr (Written telling) file text files files' out out' = Writes file text files files' out out' telling
 
-pub dis : {request : Option Asked} {files files' : FilesState} {out out' note note' : SinkState} {done : Done} → Outcome request files files' out out' note note' done → (listing : ListingAsked) → request ≡ Some (to_list listing) →
-    ListedAnswer done.status listing files files' out out' note note' ⊎ Undone done.status request files files' out out' note note'
-dis {request} {files} {files'} {out} {out'} {note} {note'} {done} o listing asks =
-    let came = subst (λ (r : Option Asked). CameAbout o.course r files files' out out') asks o.came in
-    let at = was_listed o.course o.told (Undone done.status request files files' out out' note note') listing files files' out out' note note' came o.tells (undone o) in
-    subst (λ (n : ℕ). ListedAnswer n listing files files' out out' note note' ⊎ Undone done.status request files files' out out' note note') (sym o.status) at
+delivered_or : (course : Course) (telling : Telling) (P : Type 0) (file : ProgramFile) (text : Image → List ℕ) (files files' : FilesState) (out out' note note' : SinkState) → WritesOr course file text files files' out out' →
+    TellsCourse course note note' telling → IfUndone course P → Delivers (status_of course telling) file text files files' out out' note note' ⊎ P
+delivered_or (Refused refusal) telling P file text files files' out out' note note' came tells holds = inr holds
+delivered_or NoMemory telling P file text files files' out out' note note' came tells holds = inr holds
+delivered_or (Ran run bus) telling P file text files files' out out' note note' came tells holds = absurd came
+delivered_or (RanPlain run) telling P file text files files' out out' note note' came tells holds = absurd came
+delivered_or (Written written) telling P file text files files' out out' note note' came tells holds = inl (delivered file text written telling files files' out out' note note' came tells)
+
+delivers : {request : Option Asked} {files files' : FilesState} {out out' note note' : SinkState} {done : Done} → (o : Outcome request files files' out out' note note' done) → (file : ProgramFile) (text : Image → List ℕ) →
+    WritesOr o.course file text files files' out out' → Delivers done.status file text files files' out out' note note' ⊎ Undone done.status request files files' out out' note note'
+delivers {request} {files} {files'} {out} {out'} {note} {note'} {done} o file text came =
+    let at = delivered_or o.course o.told (Undone done.status request files files' out out' note note') file text files files' out out' note note' came o.tells (undone o) in
+    subst (λ (n : ℕ). Delivers n file text files files' out out' note note' ⊎ Undone done.status request files files' out out' note note') (sym o.status) at
+
+-- the request is for one of the texts
+pub asm_came : (course : Course) (assembly : AssemblyAsked) (files files' : FilesState) (out out' : SinkState) → CameAbout course (Some (to_assemble assembly)) files files' out out' → WritesOr course (assembly_file assembly) elf_file files files' out out'
+asm_came (Refused refusal) assembly files files' out out' came = tt
+asm_came NoMemory assembly files files' out out' came = tt
+asm_came (Ran run bus) assembly files files' out out' came = came
+asm_came (RanPlain run) assembly files files' out out' came = came
+asm_came (Written telling) assembly files files' out out' came = came
+
+pub dis_came : (course : Course) (inspection : InspectionAsked) (files files' : FilesState) (out out' : SinkState) → CameAbout course (Some (to_disassemble inspection)) files files' out out' → WritesOr course (inspection_file inspection) listing files files' out out'
+dis_came (Refused refusal) inspection files files' out out' came = tt
+dis_came NoMemory inspection files files' out out' came = tt
+dis_came (Ran run bus) inspection files files' out out' came = came
+dis_came (RanPlain run) inspection files files' out out' came = came
+dis_came (Written telling) inspection files files' out out' came = came
+
+pub measure_came : (course : Course) (inspection : InspectionAsked) (files files' : FilesState) (out out' : SinkState) → CameAbout course (Some (to_measure inspection)) files files' out out' → WritesOr course (inspection_file inspection) measurement_line files files' out out'
+measure_came (Refused refusal) inspection files files' out out' came = tt
+measure_came NoMemory inspection files files' out out' came = tt
+measure_came (Ran run bus) inspection files files' out out' came = came
+measure_came (RanPlain run) inspection files files' out out' came = came
+measure_came (Written telling) inspection files files' out out' came = came
+
+pub asm : {request : Option Asked} {files files' : FilesState} {out out' note note' : SinkState} {done : Done} → Outcome request files files' out out' note note' done → (assembly : AssemblyAsked) → request ≡ Some (to_assemble assembly) →
+    Delivers done.status (assembly_file assembly) elf_file files files' out out' note note' ⊎ Undone done.status request files files' out out' note note'
+asm {files = files} {files' = files'} {out = out} {out' = out'} o assembly asks =
+    delivers o (assembly_file assembly) elf_file
+    (asm_came o.course assembly files files' out out' (subst (λ (r : Option Asked). CameAbout o.course r files files' out out') asks o.came))
+
+pub dis : {request : Option Asked} {files files' : FilesState} {out out' note note' : SinkState} {done : Done} → Outcome request files files' out out' note note' done → (inspection : InspectionAsked) → request ≡ Some (to_disassemble inspection) →
+    Delivers done.status (inspection_file inspection) listing files files' out out' note note' ⊎ Undone done.status request files files' out out' note note'
+dis {files = files} {files' = files'} {out = out} {out' = out'} o inspection asks =
+    delivers o (inspection_file inspection) listing
+    (dis_came o.course inspection files files' out out' (subst (λ (r : Option Asked). CameAbout o.course r files files' out out') asks o.came))
+
+pub measure : {request : Option Asked} {files files' : FilesState} {out out' note note' : SinkState} {done : Done} → Outcome request files files' out out' note note' done → (inspection : InspectionAsked) → request ≡ Some (to_measure inspection) →
+    Delivers done.status (inspection_file inspection) measurement_line files files' out out' note note' ⊎ Undone done.status request files files' out out' note note'
+measure {files = files} {files' = files'} {out = out} {out' = out'} o inspection asks =
+    delivers o (inspection_file inspection) measurement_line
+    (measure_came o.course inspection files files' out out' (subst (λ (r : Option Asked). CameAbout o.course r files files' out out') asks o.came))
 
 -- ---- files that are to be refused
 
@@ -272,7 +315,7 @@ pub same_bytes : (held : Option (List ℕ → Option (List ℕ))) (name bytes ot
 same_bytes None name bytes other told has = absurd told
 same_bytes (Some held) name bytes other told has = let e : Some other ≡ Some bytes = sym has ∙ told in cc
 
-accepted_at : (before : List Need) (need : Need) (after : List Need) (files : FilesState) → AreAccepted files (before ++ need ∷ after) → (bytes : List ℕ) × IsAccepted files need bytes
+pub accepted_at : (before : List Need) (need : Need) (after : List Need) (files : FilesState) → AreAccepted files (before ++ need ∷ after) → (bytes : List ℕ) × IsAccepted files need bytes
 accepted_at [] need after files accepted = accepted.0
 accepted_at (first ∷ before) need after files accepted = accepted_at before need after files accepted.1
 
@@ -294,15 +337,15 @@ refusal_unfit : (refusal : Refusal) (telling : Telling) (before : List Need) (ne
     Contains unfit_statuses (status_of (Refused refusal) telling)
 refusal_unfit refusal (Err no_memory) before need after request files files' order cause = (2, omega arith, refl)
 refusal_unfit (Usage text) (Ok _) before need after request files files' order cause = absurd (no_place before need after (sym (ap needs_of cause.0) ∙ order))
-refusal_unfit NotFlat (Ok _) before need after request files files' order cause = absurd (no_place before need after (sym (no_needs request cause.0) ∙ order))
 refusal_unfit Unread (Ok _) before need after request files files' order cause = (1, omega arith, refl)
 refusal_unfit TooLong (Ok _) before need after request files files' order cause = (0, omega arith, refl)
-refusal_unfit TooLarge (Ok _) before need after request files files' order cause = (0, omega arith, refl)
+refusal_unfit (Elf fault) (Ok _) before need after request files files' order cause = (0, omega arith, refl)
+refusal_unfit (Asm line fault) (Ok _) before need after request files files' order cause = (0, omega arith, refl)
 refusal_unfit (Usage text) (Err Failed) before need after request files files' order cause = absurd (no_place before need after (sym (ap needs_of cause.0) ∙ order))
-refusal_unfit NotFlat (Err Failed) before need after request files files' order cause = absurd (no_place before need after (sym (no_needs request cause.0) ∙ order))
 refusal_unfit Unread (Err Failed) before need after request files files' order cause = (1, omega arith, refl)
 refusal_unfit TooLong (Err Failed) before need after request files files' order cause = (0, omega arith, refl)
-refusal_unfit TooLarge (Err Failed) before need after request files files' order cause = (0, omega arith, refl)
+refusal_unfit (Elf fault) (Err Failed) before need after request files files' order cause = (0, omega arith, refl)
+refusal_unfit (Asm line fault) (Err Failed) before need after request files files' order cause = (0, omega arith, refl)
 
 no_memory_unfit : (telling : Telling) → Contains unfit_statuses (status_of NoMemory telling)
 no_memory_unfit (Ok _) = (2, omega arith, refl)
@@ -317,8 +360,8 @@ unfit_listed (Ran run bus) telling before need after bytes request files files' 
     absurd (untaken before need after bytes request files files' order content unfit (ran_taken request files files' out out' run _ came))
 unfit_listed (RanPlain run) telling before need after bytes request files files' out out' order content unfit came =
     absurd (untaken before need after bytes request files files' order content unfit (plainly_ran_taken request files files' out out' run came))
-unfit_listed (Listed listed) telling before need after bytes request files files' out out' order content unfit came =
-    absurd (untaken before need after bytes request files files' order content unfit (listed_taken request files files' out out' listed came))
+unfit_listed (Written written) telling before need after bytes request files files' out out' order content unfit came =
+    absurd (untaken before need after bytes request files files' order content unfit (written_taken request files files' out out' written came))
 
 pub unfit : {request : Option Asked} {files files' : FilesState} {out out' note note' : SinkState} {done : Done} → Outcome request files files' out out' note note' done → (before after : List Need) (need : Need) (bytes : List ℕ) →
     needs_of request ≡ before ++ need ∷ after → HasTold files.held need.name bytes → IsUnfit need bytes → Contains unfit_statuses done.status

@@ -6,24 +6,28 @@ use Rattle.sec_base.specs.Writing.{SinkState}
 use Rattle.sec_base.specs.declared.account.Evidence.{Evidence}
 use Rattle.sec_base.specs.declared.answers.Ending.{Ending}
 use Rattle.sec_base.specs.declared.answers.Ending.TheVariants.{Halted, Trapped, OutOfSteps, Tampered, Spent, WriteFault, NoMemory as memory_ended}
+use Rattle.sec_base.specs.declared.program.Image.{Image}
 use Rattle.sec_base.specs.declared.writing.SinkStop.TheVariants.{Failed, NoMemory as no_memory}
 use Rattle.bus_model.specs.Told.{Told}
 use Rattle.plain_machine.specs.declared.PlainRecord.{PlainRecord}
+use Rattle.rv32_listing.specs.Listed.{IsListed as IsTold}
 use Rattle.chip_run.specs.declared.RunRecord.{RunRecord}
-use Rattle.chip_words.specs.Request.{Asked, ExecutionAsked, ListingAsked, to_run, to_run_plain, to_list}
+use Rattle.chip_words.specs.Request.{Asked, ExecutionAsked, to_assemble, to_disassemble, to_measure, to_run, to_run_plain}
 use Rattle.chip_main.specs.declared.refusal.Refusal.{Refusal}
-use Rattle.chip_main.specs.declared.refusal.Refusal.TheVariants.{Usage, NotFlat, Unread, TooLong, TooLarge}
+use Rattle.chip_main.specs.declared.refusal.Refusal.TheVariants.{Usage, Unread, TooLong, Elf, Asm}
 use Rattle.chip_main.specs.declared.run_bus.RunBus.{RunBus}
 use Rattle.chip_main.specs.declared.run_bus.RunBus.TheVariants.{Honest}
 use Rattle.chip_main.specs.declared.course.Course.{Course}
-use Rattle.chip_main.specs.declared.course.Course.TheVariants.{Refused, NoMemory, Ran, RanPlain, Listed}
+use Rattle.chip_main.specs.declared.course.Course.TheVariants.{Refused, NoMemory, Ran, RanPlain, Written}
 use Rattle.chip_main.specs.declared.Done.{Done}
-use Rattle.chip_main.specs.FlatRun.{RunsFlat}
-use Rattle.chip_main.specs.Statuses.{Telling, ending_status, evidence_status, listing_status, refusal_status, run_status, status_with}
+use Rattle.chip_main.specs.Program.{ProgramFile}
+use Rattle.chip_main.specs.Needs.{assembly_file, inspection_file}
+use Rattle.chip_main.specs.Texts.{elf_file, listing, measurement_line}
+use Rattle.chip_main.specs.Statuses.{Telling, ending_status, evidence_status, refusal_status, run_status, status_with, text_status}
 use Rattle.chip_main.specs.Buses.{AreBothAnd, IfBoth, IfRun, IsRunAnd, lies_of, run_told}
 use Rattle.chip_main.specs.Endings.{EndedHalted, EndedTrapped, EndedOutOfSteps, EndedTampered, EndedSpent, EndedWithEvidence}
-use Rattle.chip_main.specs.Requests.{ByCommand, Lists, ListsRequest, PlainlyRuns, PlainlyRunsRequest, RunsExecution, RunsRequest}
-use Rattle.chip_main.specs.Answer.{IsHalted, IsTrapped, IsOutOfSteps, ListsWhole, PlainlyEnded}
+use Rattle.chip_main.specs.Requests.{ByCommand, PlainlyRuns, PlainlyRunsRequest, RunsExecution, RunsRequest, Writes, WritesRequest}
+use Rattle.chip_main.specs.Answer.{IsHalted, IsTrapped, IsOutOfSteps, PlainlyEnded, WritesWhole}
 use Rattle.chip_main.specs.Course.{CameAbout, Outcome, TellsCourse, course_bus, course_run, course_status, status_of}
 use Rattle.chip_main.proofs.Outcomes.{own_status}
 use Rattle.chip_main.proofs.RunStatuses.{evidence_cause, halted_cause, halted_of, no_seven, out_of_steps_cause, out_of_steps_of, spent_cause, spent_of, tampered_cause, tampered_of, trapped_cause, trapped_of}
@@ -34,7 +38,7 @@ together (Refused refusal) = (λ is. is, λ is. is)
 together NoMemory = (λ is. is, λ is. is)
 together (Ran run bus) = (λ is. is, λ is. is)
 together (RanPlain run) = (λ is. is, λ is. is)
-together (Listed telling) = (λ is. is, λ is. is)
+together (Written telling) = (λ is. is, λ is. is)
 
 pub bus_together : {request : Option Asked} {files files' : FilesState} {out out' note note' : SinkState} {done : Done} → Outcome request files files' out out' note note' done → IsSome done.run ↔ IsSome done.bus
 bus_together o = rw (o.run, o.bus) (together o.course)
@@ -45,7 +49,7 @@ none_false (Refused refusal) = refl
 none_false NoMemory = refl
 none_false (Ran run (Honest kept)) = refl
 none_false (RanPlain run) = refl
-none_false (Listed telling) = refl
+none_false (Written telling) = refl
 
 pub honest : {request : Option Asked} {files files' : FilesState} {out out' note note' : SinkState} {done : Done} → Outcome request files files' out out' note note' done → done.lies ≡ 0
 honest o = o.lies ∙ none_false o.course
@@ -56,139 +60,146 @@ runs (Refused refusal) request files files' out out' came = tt
 runs NoMemory request files files' out out' came = tt
 runs (Ran run bus) request files files' out out' came = came
 runs (RanPlain run) request files files' out out' came = tt
-runs (Listed telling) request files files' out out' came = tt
+runs (Written telling) request files files' out out' came = tt
 
 pub runs_request : {request : Option Asked} {files files' : FilesState} {out out' note note' : SinkState} {done : Done} → Outcome request files files' out out' note note' done → IfRun done (RunsRequest request files files' out out')
 runs_request {request} {files} {files'} {out} {out'} o = rw (o.run, o.bus) (runs o.course request files files' out out' o.came)
 
 -- ---- what a status says of what was done, by the command
 
--- what a status says of a run on protected memory, of one on the plain machine, and of a listing
-pub record Says (status : ℕ) (Run : RunRecord → Told → Type 0) (Plain : ExecutionAsked → Type 0) (Dis : ListingAsked → Type 0) (files files' : FilesState) (out out' : SinkState) : Type 0 where
+-- what a status says of a run on protected memory, of one on the plain machine, and of a text
+pub record Says (status : ℕ) (Run : RunRecord → Told → Type 0) (Plain : ExecutionAsked → Type 0) (Text : ProgramFile → (Image → List ℕ) → Type 0) (files files' : FilesState) (out out' : SinkState) : Type 0 where
   pub refuses : (refusal : Refusal) → refusal_status refusal ≢ status
   pub low : status < 9
   pub of_run : (execution : ExecutionAsked) (run : RunRecord) (told : Told) → RunsExecution execution files files' out out' run told → run_status run ≡ status → Run run told
   pub of_plain : (execution : ExecutionAsked) (run : PlainRecord) → PlainlyRuns execution files files' out out' run → ending_status run.ending ≡ status → Plain execution
-  pub of_listing : (listing : ListingAsked) (telling : Telling) → Lists listing files files' out out' telling → listing_status telling ≡ status → Dis listing
+  pub of_text : (file : ProgramFile) (text : Image → List ℕ) (telling : Telling) → Writes file text files files' out out' telling → text_status telling ≡ status → Text file text
 
-said_of_run : (request : Option Asked) (run : RunRecord) (told : Told) (status : ℕ) (Run : RunRecord → Told → Type 0) (Plain : ExecutionAsked → Type 0) (Dis : ListingAsked → Type 0) (files files' : FilesState) (out out' : SinkState) →
-    Says status Run Plain Dis files files' out out' → RunsRequest request files files' out out' run told → run_status run ≡ status → ByCommand request (λ _. Run run told) Plain Dis
-said_of_run None run told status Run Plain Dis files files' out out' says came is = absurd came
-said_of_run (Some (to_run execution)) run told status Run Plain Dis files files' out out' says came is = says.of_run execution run told came is
-said_of_run (Some (to_run_plain execution)) run told status Run Plain Dis files files' out out' says came is = absurd came
-said_of_run (Some (to_list listing)) run told status Run Plain Dis files files' out out' says came is = absurd came
+said_of_run : (request : Option Asked) (run : RunRecord) (told : Told) (status : ℕ) (Run : RunRecord → Told → Type 0) (Plain : ExecutionAsked → Type 0) (Text : ProgramFile → (Image → List ℕ) → Type 0) (files files' : FilesState) (out out' : SinkState) →
+    Says status Run Plain Text files files' out out' → RunsRequest request files files' out out' run told → run_status run ≡ status → ByCommand request (λ _. Run run told) Plain Text
+said_of_run None run told status Run Plain Text files files' out out' says came is = absurd came
+said_of_run (Some (to_run execution)) run told status Run Plain Text files files' out out' says came is = says.of_run execution run told came is
+said_of_run (Some (to_run_plain execution)) run told status Run Plain Text files files' out out' says came is = absurd came
+said_of_run (Some (to_assemble assembly)) run told status Run Plain Text files files' out out' says came is = absurd came
+said_of_run (Some (to_disassemble inspection)) run told status Run Plain Text files files' out out' says came is = absurd came
+said_of_run (Some (to_measure inspection)) run told status Run Plain Text files files' out out' says came is = absurd came
 
-said_of_plain : (request : Option Asked) (run : PlainRecord) (status : ℕ) (Run : RunRecord → Told → Type 0) (Plain : ExecutionAsked → Type 0) (Dis : ListingAsked → Type 0) (files files' : FilesState) (out out' : SinkState) →
-    Says status Run Plain Dis files files' out out' → PlainlyRunsRequest request files files' out out' run → ending_status run.ending ≡ status → ByCommand request (λ _. ⊥) Plain Dis
-said_of_plain None run status Run Plain Dis files files' out out' says came is = absurd came
-said_of_plain (Some (to_run execution)) run status Run Plain Dis files files' out out' says came is = absurd came
-said_of_plain (Some (to_run_plain execution)) run status Run Plain Dis files files' out out' says came is = says.of_plain execution run came is
-said_of_plain (Some (to_list listing)) run status Run Plain Dis files files' out out' says came is = absurd came
+said_of_plain : (request : Option Asked) (run : PlainRecord) (status : ℕ) (Run : RunRecord → Told → Type 0) (Plain : ExecutionAsked → Type 0) (Text : ProgramFile → (Image → List ℕ) → Type 0) (files files' : FilesState) (out out' : SinkState) →
+    Says status Run Plain Text files files' out out' → PlainlyRunsRequest request files files' out out' run → ending_status run.ending ≡ status → ByCommand request (λ _. ⊥) Plain Text
+said_of_plain None run status Run Plain Text files files' out out' says came is = absurd came
+said_of_plain (Some (to_run execution)) run status Run Plain Text files files' out out' says came is = absurd came
+said_of_plain (Some (to_run_plain execution)) run status Run Plain Text files files' out out' says came is = says.of_plain execution run came is
+said_of_plain (Some (to_assemble assembly)) run status Run Plain Text files files' out out' says came is = absurd came
+said_of_plain (Some (to_disassemble inspection)) run status Run Plain Text files files' out out' says came is = absurd came
+said_of_plain (Some (to_measure inspection)) run status Run Plain Text files files' out out' says came is = absurd came
 
-said_of_listing : (request : Option Asked) (telling : Telling) (status : ℕ) (Run : RunRecord → Told → Type 0) (Plain : ExecutionAsked → Type 0) (Dis : ListingAsked → Type 0) (files files' : FilesState) (out out' : SinkState) →
-    Says status Run Plain Dis files files' out out' → ListsRequest request files files' out out' telling → listing_status telling ≡ status → ByCommand request (λ _. ⊥) Plain Dis
-said_of_listing None telling status Run Plain Dis files files' out out' says came is = absurd came
-said_of_listing (Some (to_run execution)) telling status Run Plain Dis files files' out out' says came is = absurd came
-said_of_listing (Some (to_run_plain execution)) telling status Run Plain Dis files files' out out' says came is = absurd came
-said_of_listing (Some (to_list listing)) telling status Run Plain Dis files files' out out' says came is = says.of_listing listing telling came is
+said_of_text : (request : Option Asked) (telling : Telling) (status : ℕ) (Run : RunRecord → Told → Type 0) (Plain : ExecutionAsked → Type 0) (Text : ProgramFile → (Image → List ℕ) → Type 0) (files files' : FilesState) (out out' : SinkState) →
+    Says status Run Plain Text files files' out out' → WritesRequest request files files' out out' telling → text_status telling ≡ status → ByCommand request (λ _. ⊥) Plain Text
+said_of_text None telling status Run Plain Text files files' out out' says came is = absurd came
+said_of_text (Some (to_run execution)) telling status Run Plain Text files files' out out' says came is = absurd came
+said_of_text (Some (to_run_plain execution)) telling status Run Plain Text files files' out out' says came is = absurd came
+said_of_text (Some (to_assemble assembly)) telling status Run Plain Text files files' out out' says came is = says.of_text (assembly_file assembly) elf_file telling came is
+said_of_text (Some (to_disassemble inspection)) telling status Run Plain Text files files' out out' says came is = says.of_text (inspection_file inspection) listing telling came is
+said_of_text (Some (to_measure inspection)) telling status Run Plain Text files files' out out' says came is = says.of_text (inspection_file inspection) measurement_line telling came is
 
-said : (course : Course) (request : Option Asked) (status : ℕ) (Run : RunRecord → Told → Type 0) (Plain : ExecutionAsked → Type 0) (Dis : ListingAsked → Type 0) (files files' : FilesState) (out out' : SinkState) →
-    Says status Run Plain Dis files files' out out' → CameAbout course request files files' out out' → course_status course ≡ status →
-    ByCommand request (λ _. AreBothAnd (course_run course) (course_bus course) Run) Plain Dis
-said (Refused refusal) request status Run Plain Dis files files' out out' says came is = absurd (says.refuses refusal is)
-said NoMemory request status Run Plain Dis files files' out out' says came is = absurd (omega (arith, says.low))
-said (Ran run bus) request status Run Plain Dis files files' out out' says came is =
-    said_of_run request run (run_told bus) status Run Plain Dis files files' out out' says came is
-said (RanPlain run) request status Run Plain Dis files files' out out' says came is =
-    said_of_plain request run status Run Plain Dis files files' out out' says came is
-said (Listed telling) request status Run Plain Dis files files' out out' says came is =
-    said_of_listing request telling status Run Plain Dis files files' out out' says came is
+said : (course : Course) (request : Option Asked) (status : ℕ) (Run : RunRecord → Told → Type 0) (Plain : ExecutionAsked → Type 0) (Text : ProgramFile → (Image → List ℕ) → Type 0) (files files' : FilesState) (out out' : SinkState) →
+    Says status Run Plain Text files files' out out' → CameAbout course request files files' out out' → course_status course ≡ status →
+    ByCommand request (λ _. AreBothAnd (course_run course) (course_bus course) Run) Plain Text
+said (Refused refusal) request status Run Plain Text files files' out out' says came is = absurd (says.refuses refusal is)
+said NoMemory request status Run Plain Text files files' out out' says came is = absurd (omega (arith, says.low))
+said (Ran run bus) request status Run Plain Text files files' out out' says came is =
+    said_of_run request run (run_told bus) status Run Plain Text files files' out out' says came is
+said (RanPlain run) request status Run Plain Text files files' out out' says came is =
+    said_of_plain request run status Run Plain Text files files' out out' says came is
+said (Written telling) request status Run Plain Text files files' out out' says came is =
+    said_of_text request telling status Run Plain Text files files' out out' says came is
 
-by_command : (status : ℕ) (Run : RunRecord → Told → Type 0) (Plain : ExecutionAsked → Type 0) (Dis : ListingAsked → Type 0) {request : Option Asked} {files files' : FilesState} {out out' note note' : SinkState} {done : Done} →
-    Says status Run Plain Dis files files' out out' → Outcome request files files' out out' note note' done → done.status ≡ status → ByCommand request (λ _. IsRunAnd done Run) Plain Dis
-by_command status Run Plain Dis {request} {files} {files'} {out} {out'} says o is =
-    rw (o.run, o.bus) (said o.course request status Run Plain Dis files files' out out' says o.came (own_status o status says.low is))
+by_command : (status : ℕ) (Run : RunRecord → Told → Type 0) (Plain : ExecutionAsked → Type 0) (Text : ProgramFile → (Image → List ℕ) → Type 0) {request : Option Asked} {files files' : FilesState} {out out' note note' : SinkState} {done : Done} →
+    Says status Run Plain Text files files' out out' → Outcome request files files' out out' note note' done → done.status ≡ status → ByCommand request (λ _. IsRunAnd done Run) Plain Text
+by_command status Run Plain Text {request} {files} {files'} {out} {out'} says o is =
+    rw (o.run, o.bus) (said o.course request status Run Plain Text files files' out out' says o.came (own_status o status says.low is))
 
 -- no refusal has one of these statuses
 unrefused : (status : ℕ) → status ≢ 2 → status ≢ 3 → status ≢ 8 → (refusal : Refusal) → refusal_status refusal ≢ status
 unrefused status two three eight (Usage text) is = two (sym is)
-unrefused status two three eight NotFlat is = two (sym is)
 unrefused status two three eight Unread is = eight (sym is)
 unrefused status two three eight TooLong is = three (sym is)
-unrefused status two three eight TooLarge is = three (sym is)
+unrefused status two three eight (Elf fault) is = three (sym is)
+unrefused status two three eight (Asm line fault) is = three (sym is)
 
--- a listing has no status from 1 to 8
-unlisted : (status : ℕ) → 0 < status → status < 9 → (telling : Telling) → listing_status telling ≢ status
-unlisted status some low (Ok _) is = omega arith
-unlisted status some low (Err Failed) is = omega arith
-unlisted status some low (Err no_memory) is = omega arith
+-- a text has no status from 1 to 8
+unwritten : (status : ℕ) → 0 < status → status < 9 → (telling : Telling) → text_status telling ≢ status
+unwritten status some low (Ok _) is = omega arith
+unwritten status some low (Err Failed) is = omega arith
+unwritten status some low (Err no_memory) is = omega arith
 
-listed_whole : (listing : ListingAsked) (telling : Telling) (files files' : FilesState) (out out' : SinkState) → Lists listing files files' out out' telling → listing_status telling ≡ 0 → ListsWhole listing files files' out out'
-listed_whole listing (Ok _) files files' out out' lists is = (lists.0, lists.1, lists.2)
-listed_whole listing (Err Failed) files files' out out' lists is = absurd (omega arith)
-listed_whole listing (Err no_memory) files files' out out' lists is = absurd (omega arith)
+written_whole : (file : ProgramFile) (text : Image → List ℕ) (telling : Telling) (files files' : FilesState) (out out' : SinkState) → Writes file text files files' out out' telling → text_status telling ≡ 0 →
+    WritesWhole file text files files' out out'
+written_whole file text (Ok _) files files' out out' writes is = writes
+written_whole file text (Err Failed) files files' out out' writes is = absurd (omega arith)
+written_whole file text (Err no_memory) files files' out out' writes is = absurd (omega arith)
 
 pub halted : {request : Option Asked} {files files' : FilesState} {out out' note note' : SinkState} {done : Done} → Outcome request files files' out out' note note' done → done.status ≡ 0 →
-    ByCommand request (λ _. IsRunAnd done EndedHalted) (λ execution. PlainlyEnded IsHalted execution files files' out out') (λ listing. ListsWhole listing files files' out out')
+    ByCommand request (λ _. IsRunAnd done EndedHalted) (λ execution. PlainlyEnded IsHalted execution files files' out out') (λ file text. WritesWhole file text files files' out out')
 halted {files = files} {files' = files'} {out = out} {out' = out'} o is =
-    by_command 0 EndedHalted (λ execution. PlainlyEnded IsHalted execution files files' out out') (λ listing. ListsWhole listing files files' out out') (record {
+    by_command 0 EndedHalted (λ execution. PlainlyEnded IsHalted execution files files' out out') (λ file text. WritesWhole file text files files' out out') (record {
       refuses = unrefused 0 (omega arith) (omega arith) (omega arith);
       low = omega arith;
       of_run = λ execution run told runs is. halted_cause runs.3 is;
       of_plain = λ execution run runs is. (run, runs, halted_of run.ending is);
-      of_listing = λ listing telling lists is. listed_whole listing telling files files' out out' lists is;
+      of_text = λ file text telling writes is. written_whole file text telling files files' out out' writes is;
     }) o is
 
 pub trapped : {request : Option Asked} {files files' : FilesState} {out out' note note' : SinkState} {done : Done} → Outcome request files files' out out' note note' done → done.status ≡ 1 →
-    ByCommand request (λ _. IsRunAnd done EndedTrapped) (λ execution. PlainlyEnded IsTrapped execution files files' out out') (λ _. ⊥)
+    ByCommand request (λ _. IsRunAnd done EndedTrapped) (λ execution. PlainlyEnded IsTrapped execution files files' out out') (λ _ _. ⊥)
 trapped {files = files} {files' = files'} {out = out} {out' = out'} o is =
-    by_command 1 EndedTrapped (λ execution. PlainlyEnded IsTrapped execution files files' out out') (λ _. ⊥) (record {
+    by_command 1 EndedTrapped (λ execution. PlainlyEnded IsTrapped execution files files' out out') (λ _ _. ⊥) (record {
       refuses = unrefused 1 (omega arith) (omega arith) (omega arith);
       low = omega arith;
       of_run = λ execution run told runs is. trapped_cause runs.3 is;
       of_plain = λ execution run runs is. (run, runs, trapped_of run.ending is);
-      of_listing = λ listing telling lists is. unlisted 1 (omega arith) (omega arith) telling is;
+      of_text = λ file text telling writes is. unwritten 1 (omega arith) (omega arith) telling is;
     }) o is
 
 pub out_of_steps : {request : Option Asked} {files files' : FilesState} {out out' note note' : SinkState} {done : Done} → Outcome request files files' out out' note note' done → done.status ≡ 4 →
-    ByCommand request (λ _. IsRunAnd done EndedOutOfSteps) (λ execution. PlainlyEnded IsOutOfSteps execution files files' out out') (λ _. ⊥)
+    ByCommand request (λ _. IsRunAnd done EndedOutOfSteps) (λ execution. PlainlyEnded IsOutOfSteps execution files files' out out') (λ _ _. ⊥)
 out_of_steps {files = files} {files' = files'} {out = out} {out' = out'} o is =
-    by_command 4 EndedOutOfSteps (λ execution. PlainlyEnded IsOutOfSteps execution files files' out out') (λ _. ⊥) (record {
+    by_command 4 EndedOutOfSteps (λ execution. PlainlyEnded IsOutOfSteps execution files files' out out') (λ _ _. ⊥) (record {
       refuses = unrefused 4 (omega arith) (omega arith) (omega arith);
       low = omega arith;
       of_run = λ execution run told runs is. out_of_steps_cause runs.3 is;
       of_plain = λ execution run runs is. (run, runs, out_of_steps_of run.ending is);
-      of_listing = λ listing telling lists is. unlisted 4 (omega arith) (omega arith) telling is;
+      of_text = λ file text telling writes is. unwritten 4 (omega arith) (omega arith) telling is;
     }) o is
 
 pub tampered : {request : Option Asked} {files files' : FilesState} {out out' note note' : SinkState} {done : Done} → Outcome request files files' out out' note note' done → done.status ≡ 5 →
-    ByCommand request (λ _. IsRunAnd done EndedTampered) (λ _. ⊥) (λ _. ⊥)
-tampered o is = by_command 5 EndedTampered (λ _. ⊥) (λ _. ⊥) (record {
+    ByCommand request (λ _. IsRunAnd done EndedTampered) (λ _. ⊥) (λ _ _. ⊥)
+tampered o is = by_command 5 EndedTampered (λ _. ⊥) (λ _ _. ⊥) (record {
   refuses = unrefused 5 (omega arith) (omega arith) (omega arith);
   low = omega arith;
   of_run = λ execution run told runs is. tampered_cause runs.3 is;
   of_plain = λ execution run runs is. let place = tampered_of run.ending is in runs.3.untampered place.0 place.1;
-  of_listing = λ listing telling lists is. unlisted 5 (omega arith) (omega arith) telling is;
+  of_text = λ file text telling writes is. unwritten 5 (omega arith) (omega arith) telling is;
 }) o is
 
 pub spent : {request : Option Asked} {files files' : FilesState} {out out' note note' : SinkState} {done : Done} → Outcome request files files' out out' note note' done → done.status ≡ 6 →
-    ByCommand request (λ _. IsRunAnd done EndedSpent) (λ _. ⊥) (λ _. ⊥)
-spent o is = by_command 6 EndedSpent (λ _. ⊥) (λ _. ⊥) (record {
+    ByCommand request (λ _. IsRunAnd done EndedSpent) (λ _. ⊥) (λ _ _. ⊥)
+spent o is = by_command 6 EndedSpent (λ _. ⊥) (λ _ _. ⊥) (record {
   refuses = unrefused 6 (omega arith) (omega arith) (omega arith);
   low = omega arith;
   of_run = λ execution run told runs is. spent_cause runs.3 is;
   of_plain = λ execution run runs is. let page = spent_of run.ending is in runs.3.unspent page.0 page.1;
-  of_listing = λ listing telling lists is. unlisted 6 (omega arith) (omega arith) telling is;
+  of_text = λ file text telling writes is. unwritten 6 (omega arith) (omega arith) telling is;
 }) o is
 
 pub with_evidence : {request : Option Asked} {files files' : FilesState} {out out' note note' : SinkState} {done : Done} → Outcome request files files' out out' note note' done → done.status ≡ 7 →
-    ByCommand request (λ _. IsRunAnd done EndedWithEvidence) (λ _. ⊥) (λ _. ⊥)
-with_evidence o is = by_command 7 EndedWithEvidence (λ _. ⊥) (λ _. ⊥) (record {
+    ByCommand request (λ _. IsRunAnd done EndedWithEvidence) (λ _. ⊥) (λ _ _. ⊥)
+with_evidence o is = by_command 7 EndedWithEvidence (λ _. ⊥) (λ _ _. ⊥) (record {
   refuses = unrefused 7 (omega arith) (omega arith) (omega arith);
   low = omega arith;
   of_run = λ execution run told runs is. evidence_cause runs.3 is;
   of_plain = λ execution run runs is. no_seven run.ending is;
-  of_listing = λ listing telling lists is. unlisted 7 (omega arith) (omega arith) telling is;
+  of_text = λ file text telling writes is. unwritten 7 (omega arith) (omega arith) telling is;
 }) o is
 
 -- the one false answer of a bus that was caught
@@ -197,11 +208,13 @@ caught_once None bus ended = absurd ended
 caught_once (Some run) None ended = absurd ended
 caught_once (Some run) (Some bus) ended = ended.caught.lies
 
-of_command : (request : Option Asked) (P : Type 0) → ByCommand request (λ _. P) (λ _. ⊥) (λ _. ⊥) → P
+of_command : (request : Option Asked) (P : Type 0) → ByCommand request (λ _. P) (λ _. ⊥) (λ _ _. ⊥) → P
 of_command None P holds = absurd holds
 of_command (Some (to_run execution)) P holds = holds
 of_command (Some (to_run_plain execution)) P holds = absurd holds
-of_command (Some (to_list listing)) P holds = absurd holds
+of_command (Some (to_assemble assembly)) P holds = absurd holds
+of_command (Some (to_disassemble inspection)) P holds = absurd holds
+of_command (Some (to_measure inspection)) P holds = absurd holds
 
 pub tampered_once : {request : Option Asked} {files files' : FilesState} {out out' note note' : SinkState} {done : Done} → Outcome request files files' out out' note note' done → done.status ≡ 5 → done.lies ≡ 1
 tampered_once {request = request} {done = done} o is =
@@ -233,10 +246,25 @@ run_fault_of (Some evidence) ending is = evidence_fault_of ending is
 
 refusal_no_fault : (refusal : Refusal) → refusal_status refusal ≢ 9
 refusal_no_fault (Usage text) is = omega arith
-refusal_no_fault NotFlat is = omega arith
 refusal_no_fault Unread is = omega arith
 refusal_no_fault TooLong is = omega arith
-refusal_no_fault TooLarge is = omega arith
+refusal_no_fault (Elf fault) is = omega arith
+refusal_no_fault (Asm line fault) is = omega arith
+
+-- the request is for a text
+pub text_written : (request : Option Asked) (files files' : FilesState) (out out' : SinkState) (telling : Telling) → WritesRequest request files files' out out' telling →
+    (file : ProgramFile) × (text : Image → List ℕ) × Writes file text files files' out out' telling
+text_written None files files' out out' telling came = absurd came
+text_written (Some (to_run execution)) files files' out out' telling came = absurd came
+text_written (Some (to_run_plain execution)) files files' out out' telling came = absurd came
+text_written (Some (to_assemble assembly)) files files' out out' telling came = (assembly_file assembly, elf_file, came)
+text_written (Some (to_disassemble inspection)) files files' out out' telling came = (inspection_file inspection, listing, came)
+text_written (Some (to_measure inspection)) files files' out out' telling came = (inspection_file inspection, measurement_line, came)
+
+text_failed : (text : List ℕ) (old new : SinkState) (telling : Telling) → IsTold text old new telling → text_status telling ≡ 9 → Rose old.faults new.faults
+text_failed text old new (Ok _) told is = absurd (omega arith)
+text_failed text old new (Err Failed) told is = told.1
+text_failed text old new (Err no_memory) told is = absurd (omega arith)
 
 -- a failed write of the sink for what is printed
 out_failed : (course : Course) (request : Option Asked) (files files' : FilesState) (out out' : SinkState) → CameAbout course request files files' out out' → course_status course ≡ 9 → Rose out.faults out'.faults
@@ -245,17 +273,18 @@ out_failed NoMemory request files files' out out' came is = absurd (omega arith)
 out_failed (Ran run bus) None files files' out out' came is = absurd came
 out_failed (Ran run bus) (Some (to_run execution)) files files' out out' came is = came.3.write_fault (run_fault_of run.evidence run.ending is)
 out_failed (Ran run bus) (Some (to_run_plain execution)) files files' out out' came is = absurd came
-out_failed (Ran run bus) (Some (to_list listing)) files files' out out' came is = absurd came
+out_failed (Ran run bus) (Some (to_assemble assembly)) files files' out out' came is = absurd came
+out_failed (Ran run bus) (Some (to_disassemble inspection)) files files' out out' came is = absurd came
+out_failed (Ran run bus) (Some (to_measure inspection)) files files' out out' came is = absurd came
 out_failed (RanPlain run) None files files' out out' came is = absurd came
 out_failed (RanPlain run) (Some (to_run execution)) files files' out out' came is = absurd came
 out_failed (RanPlain run) (Some (to_run_plain execution)) files files' out out' came is = came.3.write_fault (fault_of run.ending is)
-out_failed (RanPlain run) (Some (to_list listing)) files files' out out' came is = absurd came
-out_failed (Listed telling) None files files' out out' came is = absurd came
-out_failed (Listed telling) (Some (to_run execution)) files files' out out' came is = absurd came
-out_failed (Listed telling) (Some (to_run_plain execution)) files files' out out' came is = absurd came
-out_failed (Listed (Ok _)) (Some (to_list listing)) files files' out out' came is = absurd (omega arith)
-out_failed (Listed (Err Failed)) (Some (to_list listing)) files files' out out' came is = came.2.1
-out_failed (Listed (Err no_memory)) (Some (to_list listing)) files files' out out' came is = absurd (omega arith)
+out_failed (RanPlain run) (Some (to_assemble assembly)) files files' out out' came is = absurd came
+out_failed (RanPlain run) (Some (to_disassemble inspection)) files files' out out' came is = absurd came
+out_failed (RanPlain run) (Some (to_measure inspection)) files files' out out' came is = absurd came
+out_failed (Written telling) request files files' out out' came is =
+    let written = text_written request files files' out out' telling came in
+    text_failed (written.1 written.2.image) out out' telling written.2.written is
 
 failed : (course : Course) (telling : Telling) (request : Option Asked) (files files' : FilesState) (out out' note note' : SinkState) → CameAbout course request files files' out out' → TellsCourse course note note' telling → status_of course telling ≡ 9 →
     Rose out.faults out'.faults ⊎ Rose note.faults note'.faults
@@ -265,7 +294,7 @@ failed (Refused refusal) (Err Failed) request files files' out out' note note' c
 failed NoMemory (Err Failed) request files files' out out' note note' came tells is = absurd (omega arith)
 failed (Ran run bus) (Err Failed) request files files' out out' note note' came tells is = inr tells.1
 failed (RanPlain run) (Err Failed) request files files' out out' note note' came tells is = inr tells.1
-failed (Listed listed) (Err Failed) request files files' out out' note note' came tells is = inl (out_failed (Listed listed) request files files' out out' came is)
+failed (Written written) (Err Failed) request files files' out out' note note' came tells is = inl (out_failed (Written written) request files files' out out' came is)
 
 pub write_fault : {request : Option Asked} {files files' : FilesState} {out out' note note' : SinkState} {done : Done} → Outcome request files files' out out' note note' done → done.status ≡ 9 →
     Rose out.faults out'.faults ⊎ Rose note.faults note'.faults

@@ -11,9 +11,10 @@ use Rattle.sec_base.specs.declared.layout.Place.{Place}
 use Rattle.bus_model.specs.Told.{Told}
 use Rattle.chip_run.specs.declared.RunRecord.{RunRecord}
 use Rattle.chip_run.specs.Account.{HonestOrCaught, IsCaught, IsOfFirstLie}
-use Rattle.chip_main.specs.Flat.{device_tag}
+use Rattle.chip_main.specs.Device.{device_tag}
+use Rattle.chip_main.specs.Program.{Program}
 use Rattle.chip_main.specs.Statuses.{ending_status, evidence_status, status_with, run_status}
-use Rattle.chip_main.specs.FlatRun.{RunsFlat}
+use Rattle.chip_main.specs.ProtectedRun.{RunsProtected}
 use Rattle.chip_main.specs.Endings.{EndedHalted, EndedTrapped, EndedOutOfSteps, EndedTampered, EndedSpent, EndedWithEvidence}
 
 -- with evidence the status is 7 or more
@@ -126,26 +127,26 @@ caught tag_of run told place ended (inl honest) = absurd (honest.untampered plac
 caught tag_of run told place ended (inr is) = is
 
 -- the causes of the statuses
-pub halted_cause : {levels steps : ℕ} {program input : List ℕ} {old new : SinkState} {run : RunRecord} {told : Told} → RunsFlat levels steps program input old new run told → run_status run ≡ 0 → EndedHalted run told
+pub halted_cause : {levels steps : ℕ} {program : Program} {input : List ℕ} {old new : SinkState} {run : RunRecord} {told : Told} → RunsProtected levels steps program input old new run told → run_status run ≡ 0 → EndedHalted run told
 unfolding HasNoEvidence
 halted_cause {run = run} runs is =
     let low = low_status run 0 is (omega arith) in
     let ending = halted_of run.ending low.1 in
     record { no_evidence = low.0; code = ending.0; ended = ending.1 }
 
-pub trapped_cause : {levels steps : ℕ} {program input : List ℕ} {old new : SinkState} {run : RunRecord} {told : Told} → RunsFlat levels steps program input old new run told → run_status run ≡ 1 → EndedTrapped run told
+pub trapped_cause : {levels steps : ℕ} {program : Program} {input : List ℕ} {old new : SinkState} {run : RunRecord} {told : Told} → RunsProtected levels steps program input old new run told → run_status run ≡ 1 → EndedTrapped run told
 unfolding HasNoEvidence
 trapped_cause {run = run} runs is =
     let low = low_status run 1 is (omega arith) in
     let ending = trapped_of run.ending low.1 in
     record { no_evidence = low.0; cause = ending.0; pc = ending.1; ended = ending.2 }
 
-pub out_of_steps_cause : {levels steps : ℕ} {program input : List ℕ} {old new : SinkState} {run : RunRecord} {told : Told} → RunsFlat levels steps program input old new run told → run_status run ≡ 4 → EndedOutOfSteps run told
+pub out_of_steps_cause : {levels steps : ℕ} {program : Program} {input : List ℕ} {old new : SinkState} {run : RunRecord} {told : Told} → RunsProtected levels steps program input old new run told → run_status run ≡ 4 → EndedOutOfSteps run told
 unfolding HasNoEvidence
 out_of_steps_cause {run = run} runs is =
     let low = low_status run 4 is (omega arith) in record { no_evidence = low.0; ended = out_of_steps_of run.ending low.1 }
 
-pub tampered_cause : {levels steps : ℕ} {program input : List ℕ} {old new : SinkState} {run : RunRecord} {told : Told} → RunsFlat levels steps program input old new run told → run_status run ≡ 5 → EndedTampered run told
+pub tampered_cause : {levels steps : ℕ} {program : Program} {input : List ℕ} {old new : SinkState} {run : RunRecord} {told : Told} → RunsProtected levels steps program input old new run told → run_status run ≡ 5 → EndedTampered run told
 unfolding HasNoEvidence
 tampered_cause {levels = levels} {run = run} {told = told} runs is =
     let low = low_status run 5 is (omega arith) in
@@ -156,14 +157,14 @@ tampered_cause {levels = levels} {run = run} {told = told} runs is =
           (caught (device_tag levels) run told ending.0 ending.1 (runs.answers low.0));
     }
 
-pub spent_cause : {levels steps : ℕ} {program input : List ℕ} {old new : SinkState} {run : RunRecord} {told : Told} → RunsFlat levels steps program input old new run told → run_status run ≡ 6 → EndedSpent run told
+pub spent_cause : {levels steps : ℕ} {program : Program} {input : List ℕ} {old new : SinkState} {run : RunRecord} {told : Told} → RunsProtected levels steps program input old new run told → run_status run ≡ 6 → EndedSpent run told
 unfolding HasNoEvidence
 spent_cause {run = run} runs is =
     let low = low_status run 6 is (omega arith) in
     let ending = spent_of run.ending low.1 in
     record { no_evidence = low.0; page = ending.0; ended = ending.1; used_up = rw runs.bus_levels (runs.spent ending.0 low.0 ending.1) }
 
-pub evidence_cause : {levels steps : ℕ} {program input : List ℕ} {old new : SinkState} {run : RunRecord} {told : Told} → RunsFlat levels steps program input old new run told → run_status run ≡ 7 → EndedWithEvidence run told
+pub evidence_cause : {levels steps : ℕ} {program : Program} {input : List ℕ} {old new : SinkState} {run : RunRecord} {told : Told} → RunsProtected levels steps program input old new run told → run_status run ≡ 7 → EndedWithEvidence run told
 evidence_cause {levels = levels} {run = run} {told = told} runs is =
     let found = evidence_of run.evidence run.ending is in
     record {
@@ -180,5 +181,5 @@ none_without_lie : (evidence : Option Evidence) (run : RunRecord) (told : Told) 
 none_without_lie None run told first none = refl
 none_without_lie (Some evidence) run told first none = let some : 0 < told.lies = first.lies in absurd (omega arith)
 
-pub honest_without_evidence : {levels steps : ℕ} {program input : List ℕ} {old new : SinkState} {run : RunRecord} {told : Told} → RunsFlat levels steps program input old new run told → told.lies ≡ 0 → run.evidence ≡ None
+pub honest_without_evidence : {levels steps : ℕ} {program : Program} {input : List ℕ} {old new : SinkState} {run : RunRecord} {told : Told} → RunsProtected levels steps program input old new run told → told.lies ≡ 0 → run.evidence ≡ None
 honest_without_evidence {run = run} {told = told} runs none = none_without_lie run.evidence run told runs.first_lie none

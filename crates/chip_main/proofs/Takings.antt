@@ -1,17 +1,28 @@
 -- Files that are taken one after another, as far as one stops it.
-use Rattle.std.proofs.Common.{◌≡◌, ◌≤◌, ◌<◌, ◌⊎◌, inl, inr, ℕ, List, [], ◌∷◌, ◌++◌, length, Option, Some, None, true, ◌+◌, refl, sym, ap, ◌∙◌, subst, arith, append-nil, append_assoc}
-use Rattle.std.proofs.lemmas.Bool.{le-ltb, lt-ltb}
+use Rattle.std.proofs.Common.{◌≡◌, ◌≤◌, ◌<◌, ◌⊎◌, inl, inr, ℕ, List, [], ◌∷◌, ◌++◌, length, Option, Some, None, IfSome, Result, Ok, Err, ◌+◌, refl, sym, ap, ◌∙◌, subst, arith, append-nil, append_assoc}
+use Rattle.std.specs.Result.{result_err}
 use Rattle.sec_base.specs.Count.{Rose, RoseBy, more_by}
 use Rattle.sec_base.specs.Layout.{memory_size}
 use Rattle.sec_base.specs.Reading.{FilesState, HasBytes, HasOver}
+use Rattle.sec_base.specs.declared.program.Image.{Image}
+use Rattle.elf_load.specs.Loading.{IsProgramOf, entry_of, flat_segments, segments_of}
+use Rattle.elf_load.specs.Refusals.{first_fault, flat_fault}
+use Rattle.elf_load.specs.declared.fault.ElfFault.{ElfFault}
+use Rattle.rv32_asm.specs.Assembly.{IsAssembled, one_segment, program_of}
+use Rattle.rv32_asm.specs.Assembly.{Program as Assembled}
+use Rattle.rv32_asm.specs.Passes.{LineFault}
 use Rattle.chip_words.specs.Request.{ExecutionAsked}
+use Rattle.chip_main.specs.declared.program.ProgramForm.{ProgramForm}
+use Rattle.chip_main.specs.declared.program.ProgramForm.TheVariants.{ElfFile, FlatFile, AssemblyText}
 use Rattle.chip_main.specs.declared.refusal.Refusal.{Refusal}
-use Rattle.chip_main.specs.declared.refusal.Refusal.TheVariants.{Usage, NotFlat, Unread, TooLong, TooLarge}
+use Rattle.chip_main.specs.declared.refusal.Refusal.TheVariants.{Usage, Unread, TooLong, Elf, Asm}
 use Rattle.chip_main.specs.declared.taking.Stop.{Stop}
 use Rattle.chip_main.specs.declared.taking.Stop.TheVariants.{Refused, NoMemory}
-use Rattle.chip_main.specs.Needs.{Need, AreAccepted, IsAccepted, execution_needs, file_limit, flat_fault, input_needs, names, program_need}
-use Rattle.chip_main.specs.Causes.{Asks, IsCause, RunsOut, Stops, StopsAs}
-use Rattle.chip_main.specs.Taken.{IsInput, Takes}
+use Rattle.chip_main.specs.Program.{IsImageIn, Program, ProgramFile, assembled, unless_faulty, limit_of, program_in, program_of_file}
+use Rattle.chip_main.specs.Needs.{Need, AreAccepted, IsAccepted, execution_file, execution_needs, input_needs, names, program_need}
+use Rattle.chip_main.specs.Causes.{Asks, IsCause, IsMisformed, RunsOut, Stops}
+use Rattle.chip_main.specs.Stopping.{StopsAs}
+use Rattle.chip_main.specs.Taken.{IsInput, IsProgram, Takes}
 
 -- ---- one file
 
@@ -32,12 +43,82 @@ runs_out_here need old new (inl same) = record {
 runs_out_here need old new (inr asked) =
     record { before = []; tried = need ∷ []; after = []; order = refl; accepted = tt; one = omega arith; asked = asked }
 
--- a program that fits, and one that doesn't
-pub fits : (levels : ℕ) (bytes : List ℕ) → length bytes ≤ memory_size levels → flat_fault levels bytes ≡ None
-fits levels bytes small = rw (le-ltb (memory_size levels) (length bytes) small) refl
+-- ---- a program
 
-pub too_large : (levels : ℕ) (bytes : List ℕ) → memory_size levels < length bytes → flat_fault levels bytes ≡ Some TooLarge
-too_large levels bytes large = rw (lt-ltb (memory_size levels) (length bytes) large) refl
+-- its file was read, and is one
+pub tells_program : (files : FilesState) (file : ProgramFile) (bytes : List ℕ) (program : Program) → HasBytes files.held file.name bytes → length bytes ≤ limit_of file.form → program_of_file file bytes ≡ Ok program →
+    IsProgram files file program
+tells_program files file bytes program told within is =
+    record { bytes = bytes; accepted = record { told = told; within = within; formed = ap result_err is }; is = is }
+
+-- its file was read, and is refused
+misformed : (files : FilesState) (file : ProgramFile) (bytes : List ℕ) (refusal : Refusal) → HasBytes files.held file.name bytes → length bytes ≤ limit_of file.form → program_of_file file bytes ≡ Err refusal →
+    IsMisformed refusal (program_need file) files
+misformed files file bytes refusal told within is =
+    record { bytes = bytes; told = told; within = within; fault = ap result_err is }
+
+-- a reason that a file's bytes may be refused for
+abbrev pub IsOfBytes : Refusal → Type 0
+IsOfBytes (Usage text) = ⊥
+IsOfBytes Unread = ⊥
+IsOfBytes TooLong = ⊥
+IsOfBytes (Elf fault) = Unit {0}
+IsOfBytes (Asm line fault) = Unit {0}
+
+as_refused : (refusal other : Refusal) → IsOfBytes refusal → ◌≡◌ {A = Result Program Refusal} (Err refusal) (Err other) → IsOfBytes other
+as_refused refusal other is same =
+    let both : Some refusal ≡ Some other = ap result_err same in subst (λ (o : Option Refusal). IfSome o IsOfBytes) both is
+
+elf_refused : (fault : Option ElfFault) (program : Program) (refusal : Refusal) → unless_faulty fault program ≡ Err refusal → IsOfBytes refusal
+elf_refused None program refusal is = absurd cc
+elf_refused (Some fault) program refusal is = as_refused (Elf fault) refusal tt is
+
+text_refused : (result : Result Assembled LineFault) (refusal : Refusal) → assembled result ≡ Err refusal → IsOfBytes refusal
+text_refused (Ok program) refusal is = absurd cc
+text_refused (Err fault) refusal is = as_refused (Asm fault.line fault.code) refusal tt is
+
+file_refused : (form : ProgramForm) (size : ℕ) (bytes : List ℕ) (refusal : Refusal) → program_in form size bytes ≡ Err refusal → IsOfBytes refusal
+file_refused ElfFile size bytes refusal is = elf_refused (first_fault bytes size) _ refusal is
+file_refused FlatFile size bytes refusal is = elf_refused (flat_fault bytes size) _ refusal is
+file_refused AssemblyText size bytes refusal is = text_refused (program_of bytes size) refusal is
+
+is_cause : (refusal : Refusal) (need : Need) (old new : FilesState) → IsOfBytes refusal → IsMisformed refusal need old → IsCause refusal need old new
+is_cause (Usage text) need old new of_bytes bad = absurd of_bytes
+is_cause Unread need old new of_bytes bad = absurd of_bytes
+is_cause TooLong need old new of_bytes bad = absurd of_bytes
+is_cause (Elf fault) need old new of_bytes bad = bad
+is_cause (Asm line fault) need old new of_bytes bad = bad
+
+-- its file was read, and is no program
+pub untold : (stop : Stop) (file : ProgramFile) (bytes : List ℕ) (old new : FilesState) → HasBytes old.held file.name bytes → length bytes ≤ limit_of file.form → Asks (program_need file ∷ []) old new →
+    ((refusal : Refusal) → stop ≡ Refused refusal → program_of_file file bytes ≡ Err refusal) → StopsAs stop (program_need file ∷ []) old new
+untold (Refused refusal) file bytes old new told within asked refused =
+    let is = refused refusal refl in
+    stops_here refusal (program_need file) old new asked
+    (is_cause refusal (program_need file) old new (file_refused file.form (memory_size file.levels) bytes refusal is) (misformed old file bytes refusal told within is))
+untold NoMemory file bytes old new told within asked refused = runs_out_here (program_need file) old new (inr asked)
+
+-- the image that was made of a file
+pub elf_image : (size : ℕ) (file : List ℕ) (image : Image) → IsProgramOf file size image → IsImageIn ElfFile size file image
+elf_image size file image is = record {
+  program = record { entry = entry_of file; segments = segments_of file };
+  is = rw is.accepted refl;
+  is_image = record { entry = is.entry; memory = is.memory; segments = is.segments };
+}
+
+pub flat_image : (size : ℕ) (file : List ℕ) (image : Image) → flat_fault file size ≡ None → image.entry ≡ 0 → image.size ≡ size → image.segments ≡ flat_segments file → IsImageIn FlatFile size file image
+flat_image size file image accepted entry memory segments = record {
+  program = record { entry = 0; segments = flat_segments file };
+  is = rw accepted refl;
+  is_image = record { entry = entry; memory = memory; segments = segments };
+}
+
+pub text_image : (size : ℕ) (text : List ℕ) (image : Image) → IsAssembled text size image → IsImageIn AssemblyText size text image
+text_image size text image is = record {
+  program = record { entry = is.program.entry; segments = one_segment is.program.bytes };
+  is = rw is.assembled refl;
+  is_image = record { entry = is.entry; memory = is.memory; segments = is.segments };
+}
 
 -- ---- one file and then others
 
@@ -56,16 +137,23 @@ all_before [] old mid same accepted = tt
 all_before (need ∷ needs) old mid same accepted =
     ((accepted.0.0, accepted_before need accepted.0.0 old mid same accepted.0.1), all_before needs old mid same accepted.1)
 
+misformed_before : (refusal : Refusal) (need : Need) (old mid : FilesState) → mid.held ≡ old.held → IsMisformed refusal need mid → IsMisformed refusal need old
+misformed_before refusal need old mid same bad = record {
+  bytes = bad.bytes;
+  told = subst (λ (held : Option (List ℕ → Option (List ℕ))). HasBytes held need.name bad.bytes) same bad.told;
+  within = bad.within;
+  fault = bad.fault;
+}
+
 cause_before : (refusal : Refusal) (need : Need) (old mid new : FilesState) → IsLater old mid → IsCause refusal need mid new → IsCause refusal need old new
 cause_before (Usage text) need old mid new later cause = cause
-cause_before NotFlat need old mid new later cause = cause
 cause_before Unread need old mid new later cause = let risen : Rose mid.faults new.faults = cause in let grew = later.1 in omega arith
 cause_before TooLong need old mid new later cause = (
   subst (λ (held : Option (List ℕ → Option (List ℕ))). HasOver held need.name need.limit) later.0 cause.0,
   let risen : RoseBy (need.limit + 1) mid.taken new.taken = cause.1 in let grew = later.2 in omega arith,
 )
-cause_before TooLarge need old mid new later cause =
-    (cause.0, subst (λ (held : Option (List ℕ → Option (List ℕ))). HasBytes held need.name cause.0) later.0 cause.1, cause.2, cause.3)
+cause_before (Elf fault) need old mid new later cause = misformed_before (Elf fault) need old mid later.0 cause
+cause_before (Asm line fault) need old mid new later cause = misformed_before (Asm line fault) need old mid later.0 cause
 
 asks_both : (need : Need) (needs : List Need) (old mid new : FilesState) → Asks (need ∷ []) old mid → Asks needs mid new → Asks (need ∷ needs) old new
 asks_both need needs old mid new first others =
@@ -120,12 +208,11 @@ input_before None input old mid same is = is
 input_before (Some file) input old mid same is = accepted_before _ input old mid same is
 
 -- both were taken
-pub takes_both : (execution : ExecutionAsked) (program input : List ℕ) (old mid new : FilesState) → execution.flat ≡ true → IsAccepted old (program_need execution.levels execution.file) program →
-    Asks (program_need execution.levels execution.file ∷ []) old mid → mid.held ≡ old.held → IsInput mid execution.input input → Asks (input_needs execution.input) mid new →
+pub takes_both : (execution : ExecutionAsked) (program : Program) (input : List ℕ) (old mid new : FilesState) → IsProgram old (execution_file execution) program →
+    Asks (program_need (execution_file execution) ∷ []) old mid → mid.held ≡ old.held → IsInput mid execution.input input → Asks (input_needs execution.input) mid new →
     Takes execution old new program input
-takes_both execution program input old mid new flat accepted first same is others = record {
-  flat = flat;
-  program_is = accepted;
+takes_both execution program input old mid new told first same is others = record {
+  program_is = told;
   input_is = input_before execution.input input old mid same is;
-  asked = asks_both (program_need execution.levels execution.file) (input_needs execution.input) old mid new first others;
+  asked = asks_both (program_need (execution_file execution)) (input_needs execution.input) old mid new first others;
 }

@@ -1,26 +1,25 @@
 -- What an answer says of what was done and told.
-use Rattle.std.specs.Prelude.{◌≡◌, ◌≢◌, ◌⊎◌, List, ℕ, Option}
+use Rattle.std.specs.Prelude.{◌≡◌, ◌≢◌, ◌⊎◌, List, ℕ, Option, Ok}
 use Rattle.sec_base.specs.Count.{Rose}
 use Rattle.sec_base.specs.Reading.{FilesState}
 use Rattle.sec_base.specs.Writing.{SinkState, Gains, Silent}
 use Rattle.sec_base.specs.declared.answers.Cause.{Cause}
 use Rattle.sec_base.specs.declared.answers.Ending.{Ending}
 use Rattle.sec_base.specs.declared.answers.Ending.TheVariants.{Halted, Trapped, OutOfSteps, NoMemory}
+use Rattle.sec_base.specs.declared.program.Image.{Image}
 use Rattle.rv32_core.specs.Machine.{plain}
 use Rattle.rv32_core.specs.Follows.{standing}
-use Rattle.rv32_listing.specs.Listing.{listing_of}
+use Rattle.rv32_listing.specs.Listed.{GainsFront}
 use Rattle.plain_machine.specs.declared.PlainRecord.{PlainRecord}
 use Rattle.chip_run.specs.declared.RunRecord.{RunRecord}
-use Rattle.chip_words.specs.Request.{Asked, ExecutionAsked, ListingAsked}
+use Rattle.chip_words.specs.Request.{Asked, ExecutionAsked}
 use Rattle.chip_main.specs.declared.refusal.Refusal.{Refusal}
-use Rattle.chip_main.specs.Flat.{flat_opening, flat_segments}
+use Rattle.chip_main.specs.Program.{Program, ProgramFile, opening}
 use Rattle.chip_main.specs.Needs.{needs_of}
 use Rattle.chip_main.specs.Causes.{IsRefused, RunsOut}
-use Rattle.chip_main.specs.Requests.{PlainlyRuns}
-use Rattle.chip_main.specs.Statuses.{ending_status, refusal_status, run_status}
-use Rattle.chip_main.specs.Taken.{TakesProgram}
+use Rattle.chip_main.specs.Requests.{PlainlyRuns, Writes}
+use Rattle.chip_main.specs.Statuses.{Telling, ending_status, refusal_status, run_status, text_status}
 use Rattle.chip_main.specs.Texts.{plain_text, record_text, refusal_text}
-use Rattle.chip_main.specs.Told.{GainsFront}
 
 -- the sink gained a text; or a front part of it, where a write failed or the status is 10
 abbrev pub GainsText : SinkState → List ℕ → SinkState → ℕ → Type 0
@@ -65,13 +64,11 @@ pub record PlainlyRan (status : ℕ) (execution : ExecutionAsked) (files files' 
   pub runs : PlainlyRuns execution files files' out out' run
   pub told : TellsPlain status run note note'
 
--- The request's program was listed: whole, with 0; or a front part of the listing, with 9 where a write failed, or with
--- 10 where memory was not to be had. Nothing is told of that.
-pub record Listed (status : ℕ) (listing : ListingAsked) (files files' : FilesState) (out out' note note' : SinkState) : Type 0 where
-  pub program : List ℕ
-  pub takes : TakesProgram listing files files' program
-  pub listed : (Gains out (listing_of (flat_segments program)) out' × (status ≡ 0))
-      ⊎ (GainsFront out (listing_of (flat_segments program)) out' × (((status ≡ 9) × Rose out.faults out'.faults) ⊎ (status ≡ 10)))
+-- a text of the file's program was written as far as the status says, and nothing is told of that
+pub record Delivers (status : ℕ) (file : ProgramFile) (text : Image → List ℕ) (files files' : FilesState) (out out' note note' : SinkState) : Type 0 where
+  pub telling : Telling
+  pub writes : Writes file text files files' out out' telling
+  pub status_is : status ≡ text_status telling
   pub silent : Silent note note'
 
 -- ---- causes of statuses
@@ -90,12 +87,11 @@ abbrev pub PlainlyEnded : (Ending → Type 0) → ExecutionAsked → FilesState 
 PlainlyEnded P execution files files' out out' =
     (run : PlainRecord) × PlainlyRuns execution files files' out out' run × P run.ending
 
--- the request's program was listed whole
-abbrev pub ListsWhole : ListingAsked → FilesState → FilesState → SinkState → SinkState → Type 0
-ListsWhole listing files files' out out' =
-    (program : List ℕ) × TakesProgram listing files files' program × Gains out (listing_of (flat_segments program)) out'
+-- a text of the file's program was written whole
+abbrev pub WritesWhole : ProgramFile → (Image → List ℕ) → FilesState → FilesState → SinkState → SinkState → Type 0
+WritesWhole file text files files' out out' = Writes file text files files' out out' (Ok tt)
 
 -- the status of the plain machine's run over the whole budget
-abbrev pub plain_status : ExecutionAsked → List ℕ → List ℕ → ℕ
+abbrev pub plain_status : ExecutionAsked → Program → List ℕ → ℕ
 plain_status execution program input =
-    ending_status (standing (plain (flat_opening execution.levels program input) execution.steps) execution.steps)
+    ending_status (standing (plain (opening execution.levels program input) execution.steps) execution.steps)

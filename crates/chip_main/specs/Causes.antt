@@ -5,10 +5,8 @@ use Rattle.sec_base.specs.Lists.{IsPrefix}
 use Rattle.sec_base.specs.Reading.{FilesState, HasBytes, HasOver}
 use Rattle.chip_words.specs.Request.{Asked}
 use Rattle.chip_main.specs.declared.refusal.Refusal.{Refusal}
-use Rattle.chip_main.specs.declared.refusal.Refusal.TheVariants.{Usage, NotFlat, Unread, TooLong, TooLarge}
-use Rattle.chip_main.specs.declared.taking.Stop.{Stop}
-use Rattle.chip_main.specs.declared.taking.Stop.TheVariants.{Refused, NoMemory}
-use Rattle.chip_main.specs.Needs.{Need, AreAccepted, IsNotFlat, names, needs_of}
+use Rattle.chip_main.specs.declared.refusal.Refusal.TheVariants.{Usage, Unread, TooLong, Elf, Asm}
+use Rattle.chip_main.specs.Needs.{Need, AreAccepted, names, needs_of}
 
 -- just these files were asked for, in order, each once
 abbrev pub Asks : List Need → FilesState → FilesState → Type 0
@@ -22,15 +20,21 @@ AsksNothing old new = new.asked ≡ old.asked
 abbrev pub AsksFront : List Need → FilesState → FilesState → Type 0
 AsksFront needs old new = (front : List Need) × IsPrefix front needs × Asks front old new
 
+-- the file is within its limit, and its bytes don't have their form for this reason
+pub record IsMisformed (refusal : Refusal) (need : Need) (files : FilesState) : Type 0 where
+  pub bytes : List ℕ
+  pub told : HasBytes files.held need.name bytes
+  pub within : length bytes ≤ need.limit
+  pub fault : need.fault bytes ≡ Some refusal
+
 -- why a file is refused: the read failed; or the file is longer than the limit, and more was taken than that;
 -- or its bytes don't have their form
 abbrev pub IsCause : Refusal → Need → FilesState → FilesState → Type 0
 IsCause (Usage text) need old new = ⊥
-IsCause NotFlat need old new = ⊥
 IsCause Unread need old new = Rose old.faults new.faults
 IsCause TooLong need old new = HasOver old.held need.name need.limit × RoseBy (need.limit + 1) old.taken new.taken
-IsCause TooLarge need old new =
-    (bytes : List ℕ) × HasBytes old.held need.name bytes × (length bytes ≤ need.limit) × (need.fault bytes ≡ Some TooLarge)
+IsCause (Elf fault) need old new = IsMisformed (Elf fault) need old
+IsCause (Asm line fault) need old new = IsMisformed (Asm line fault) need old
 
 -- One of the files was refused: those before it were accepted, and those behind it were not asked for.
 pub record Stops (refusal : Refusal) (needs : List Need) (old new : FilesState) : Type 0 where
@@ -42,7 +46,7 @@ pub record Stops (refusal : Refusal) (needs : List Need) (old new : FilesState) 
   pub asked : Asks (before ++ here ∷ []) old new
   pub cause : IsCause refusal here old new
 
--- Memory was not to be had: those files that were read were accepted, and at most the next was asked for.
+-- Memory was not to be had: the first files were accepted, and at most one more was asked for, of which nothing is said.
 pub record RunsOut (needs : List Need) (old new : FilesState) : Type 0 where
   pub before : List Need
   pub tried : List Need
@@ -55,12 +59,7 @@ pub record RunsOut (needs : List Need) (old new : FilesState) : Type 0 where
 -- why each refusal comes
 abbrev pub IsRefused : Refusal → Option Asked → FilesState → FilesState → Type 0
 IsRefused (Usage text) request old new = (request ≡ None) × AsksNothing old new
-IsRefused NotFlat request old new = IsNotFlat request × AsksNothing old new
 IsRefused Unread request old new = Stops Unread (needs_of request) old new
 IsRefused TooLong request old new = Stops TooLong (needs_of request) old new
-IsRefused TooLarge request old new = Stops TooLarge (needs_of request) old new
-
--- why files were not taken
-abbrev pub StopsAs : Stop → List Need → FilesState → FilesState → Type 0
-StopsAs (Refused refusal) needs old new = Stops refusal needs old new
-StopsAs NoMemory needs old new = RunsOut needs old new
+IsRefused (Elf fault) request old new = Stops (Elf fault) (needs_of request) old new
+IsRefused (Asm line fault) request old new = Stops (Asm line fault) (needs_of request) old new

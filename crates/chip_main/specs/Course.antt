@@ -3,21 +3,19 @@ use Rattle.std.specs.Prelude.{◌≡◌, List, ℕ, Option, Some, None, Ok, Err}
 use Rattle.sec_base.specs.Reading.{FilesState}
 use Rattle.sec_base.specs.Writing.{SinkState, Silent}
 use Rattle.sec_base.specs.declared.writing.SinkStop.TheVariants.{Failed, NoMemory as no_memory}
+use Rattle.rv32_listing.specs.Listed.{IsListed as IsTold}
 use Rattle.chip_run.specs.declared.RunRecord.{RunRecord}
 use Rattle.chip_words.specs.Request.{Asked}
 use Rattle.chip_main.specs.declared.Done.{Done}
 use Rattle.chip_main.specs.declared.run_bus.RunBus.{RunBus}
 use Rattle.chip_main.specs.declared.course.Course.{Course}
-use Rattle.chip_main.specs.declared.course.Course.TheVariants.{Refused, NoMemory, Ran, RanPlain, Listed}
-use Rattle.chip_main.specs.declared.taking.Stop.{Stop}
-use Rattle.chip_main.specs.declared.taking.Stop.TheVariants.{Refused as stop_refused, NoMemory as stop_no_memory}
+use Rattle.chip_main.specs.declared.course.Course.TheVariants.{Refused, NoMemory, Ran, RanPlain, Written}
 use Rattle.chip_main.specs.Needs.{needs_of}
 use Rattle.chip_main.specs.Causes.{IsRefused, RunsOut}
-use Rattle.chip_main.specs.Requests.{RunsRequest, PlainlyRunsRequest, ListsRequest}
+use Rattle.chip_main.specs.Requests.{RunsRequest, PlainlyRunsRequest, WritesRequest}
 use Rattle.chip_main.specs.Texts.{plain_text, record_text, refusal_text}
-use Rattle.chip_main.specs.Statuses.{Telling, ending_status, listing_status, refusal_status, run_status, untold_ending_status}
+use Rattle.chip_main.specs.Statuses.{Telling, ending_status, refusal_status, run_status, text_status, untold_ending_status}
 use Rattle.chip_main.specs.Buses.{run_told, lies_of}
-use Rattle.chip_main.specs.Told.{IsTold}
 
 -- how each course came about, from the request, the files and the sink for what is printed
 abbrev pub CameAbout : Course → Option Asked → FilesState → FilesState → SinkState → SinkState → Type 0
@@ -25,12 +23,7 @@ CameAbout (Refused refusal) request files files' out out' = IsRefused refusal re
 CameAbout NoMemory request files files' out out' = RunsOut (needs_of request) files files' × Silent out out'
 CameAbout (Ran run bus) request files files' out out' = RunsRequest request files files' out out' run (run_told bus)
 CameAbout (RanPlain run) request files files' out out' = PlainlyRunsRequest request files files' out out' run
-CameAbout (Listed telling) request files files' out out' = ListsRequest request files files' out out' telling
-
--- what a call comes to where the files were not taken
-abbrev pub stopped_course : Stop → Course
-stopped_course (stop_refused refusal) = Refused refusal
-stopped_course stop_no_memory = NoMemory
+CameAbout (Written telling) request files files' out out' = WritesRequest request files files' out out' telling
 
 -- there is nothing to tell
 abbrev pub TellsNothing : SinkState → SinkState → Telling → Type 0
@@ -42,7 +35,7 @@ TellsCourse (Refused refusal) old new telling = IsTold (refusal_text refusal) ol
 TellsCourse NoMemory old new telling = TellsNothing old new telling
 TellsCourse (Ran run bus) old new telling = IsTold (record_text run (run_told bus).lies) old new telling
 TellsCourse (RanPlain run) old new telling = IsTold (plain_text run) old new telling
-TellsCourse (Listed listed) old new telling = TellsNothing old new telling
+TellsCourse (Written written) old new telling = TellsNothing old new telling
 
 -- the record of a run on protected memory and its bus, where there was one
 abbrev pub course_run : Course → Option RunRecord
@@ -50,14 +43,14 @@ course_run (Refused refusal) = None
 course_run NoMemory = None
 course_run (Ran run bus) = Some run
 course_run (RanPlain run) = None
-course_run (Listed telling) = None
+course_run (Written telling) = None
 
 abbrev pub course_bus : Course → Option RunBus
 course_bus (Refused refusal) = None
 course_bus NoMemory = None
 course_bus (Ran run bus) = Some bus
 course_bus (RanPlain run) = None
-course_bus (Listed telling) = None
+course_bus (Written telling) = None
 
 -- the status, where it was told whole
 abbrev pub course_status : Course → ℕ
@@ -65,7 +58,7 @@ course_status (Refused refusal) = refusal_status refusal
 course_status NoMemory = 10
 course_status (Ran run bus) = run_status run
 course_status (RanPlain run) = ending_status run.ending
-course_status (Listed telling) = listing_status telling
+course_status (Written telling) = text_status telling
 
 -- a refusal that could not be told keeps its status
 abbrev pub untold_status : Course → ℕ
@@ -73,7 +66,7 @@ untold_status (Refused refusal) = refusal_status refusal
 untold_status NoMemory = 10
 untold_status (Ran run bus) = untold_ending_status run.ending
 untold_status (RanPlain run) = untold_ending_status run.ending
-untold_status (Listed telling) = listing_status telling
+untold_status (Written telling) = text_status telling
 
 -- the status of the process
 abbrev pub status_of : Course → Telling → ℕ

@@ -9,7 +9,7 @@ use Rattle.bus_model.specs.Told.{Told}
 use Rattle.chip_run.specs.declared.RunRecord.{RunRecord}
 use Rattle.chip_run.specs.Account.{IsCaught, IsOfFirstLie}
 use Rattle.chip_run.specs.Contents.{IsSpent}
-use Rattle.chip_main.specs.Flat.{device_tag, page_limit}
+use Rattle.chip_main.specs.Device.{device_tag, page_limit}
 
 pub record EndedHalted (run : RunRecord) (told : Told) : Type 0 where
   pub no_evidence : run.evidence ≡ None

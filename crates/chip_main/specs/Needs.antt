@@ -1,10 +1,29 @@
 -- The files that a request needs, in order.
-use Rattle.std.specs.Prelude.{◌≡◌, ◌<◌, ◌≤◌, ◌≢◌, ◌⊎◌, Bool, false, List, [], ◌∷◌, ◌++◌, ℕ, length, map, nat_lt, Option, Some, None, if◌then◌else◌}
-use Rattle.sec_base.specs.Layout.{memory_size}
+use Rattle.std.specs.Prelude.{◌≡◌, ◌<◌, ◌≤◌, ◌≢◌, ◌⊎◌, Bool, true, false, List, [], ◌∷◌, ℕ, length, map, Option, Some, None}
 use Rattle.sec_base.specs.Reading.{FilesState, HasBytes}
-use Rattle.chip_words.specs.Request.{Asked, ExecutionAsked, ListingAsked, to_run, to_run_plain, to_list}
+use Rattle.chip_words.specs.Request.{Asked, AssemblyAsked, ExecutionAsked, InspectionAsked, to_assemble, to_disassemble, to_measure, to_run, to_run_plain}
+use Rattle.chip_main.specs.declared.program.ProgramForm.{ProgramForm}
+use Rattle.chip_main.specs.declared.program.ProgramForm.TheVariants.{ElfFile, FlatFile, AssemblyText}
 use Rattle.chip_main.specs.declared.refusal.Refusal.{Refusal}
-use Rattle.chip_main.specs.declared.refusal.Refusal.TheVariants.{TooLarge}
+use Rattle.chip_main.specs.Program.{ProgramFile, fault_in, limit_of, program_file}
+
+-- ---- the program's file
+
+-- with `--flat` a flat file, and else an ELF file
+abbrev pub form_of : Bool → ProgramForm
+form_of true = FlatFile
+form_of false = ElfFile
+
+abbrev pub execution_file : ExecutionAsked → ProgramFile
+execution_file execution = program_file execution.file (form_of execution.flat) execution.levels
+
+abbrev pub assembly_file : AssemblyAsked → ProgramFile
+assembly_file assembly = program_file assembly.file AssemblyText assembly.levels
+
+abbrev pub inspection_file : InspectionAsked → ProgramFile
+inspection_file inspection = program_file inspection.file (form_of inspection.flat) inspection.levels
+
+-- ---- the files that are needed
 
 -- a file's name, how many bytes of it are read at most, and what is wrong with bytes that don't have its form
 pub record Need : Type 0 where
@@ -12,53 +31,42 @@ pub record Need : Type 0 where
   pub limit : ℕ
   pub fault : List ℕ → Option Refusal
 
--- no program or input longer than this is read
-abbrev pub file_limit : ℕ
-file_limit = 1048576
+-- a program has its form, and fits the memory
+abbrev pub program_need : ProgramFile → Need
+program_need file = record { name = file.name; limit = limit_of file.form; fault = fault_in file }
 
--- a flat program has to fit the memory
-abbrev pub flat_fault : ℕ → List ℕ → Option Refusal
-flat_fault levels bytes = if nat_lt (memory_size levels) (length bytes) then Some TooLarge else None
-
-abbrev pub program_need : ℕ → List ℕ → Need
-program_need levels file = record { name = file; limit = file_limit; fault = flat_fault levels }
+-- no longer input is read
+abbrev pub input_limit : ℕ
+input_limit = 1048576
 
 -- any bytes are an input
 abbrev pub input_need : List ℕ → Need
-input_need file = record { name = file; limit = file_limit; fault = λ bytes. None }
+input_need name = record { name = name; limit = input_limit; fault = λ bytes. None }
 
 abbrev pub input_needs : Option (List ℕ) → List Need
 input_needs None = []
-input_needs (Some file) = input_need file ∷ []
+input_needs (Some name) = input_need name ∷ []
 
 -- a program, and then its input, where one is named
 abbrev pub execution_needs : ExecutionAsked → List Need
-execution_needs execution = program_need execution.levels execution.file ∷ input_needs execution.input
-
-abbrev pub listing_needs : ListingAsked → List Need
-listing_needs listing = program_need listing.levels listing.file ∷ []
+execution_needs execution = program_need (execution_file execution) ∷ input_needs execution.input
 
 abbrev pub asked_needs : Asked → List Need
 asked_needs (to_run execution) = execution_needs execution
 asked_needs (to_run_plain execution) = execution_needs execution
-asked_needs (to_list listing) = listing_needs listing
+asked_needs (to_assemble assembly) = program_need (assembly_file assembly) ∷ []
+asked_needs (to_disassemble inspection) = program_need (inspection_file inspection) ∷ []
+asked_needs (to_measure inspection) = program_need (inspection_file inspection) ∷ []
 
-abbrev pub is_flat : Asked → Bool
-is_flat (to_run execution) = execution.flat
-is_flat (to_run_plain execution) = execution.flat
-is_flat (to_list listing) = listing.flat
-
--- Words that are no request need nothing, and nor does a request whose program isn't flat.
+-- words that are no request need nothing
 abbrev pub needs_of : Option Asked → List Need
 needs_of None = []
-needs_of (Some asked) = if is_flat asked then asked_needs asked else []
-
-abbrev pub IsNotFlat : Option Asked → Type 0
-IsNotFlat None = ⊥
-IsNotFlat (Some asked) = is_flat asked ≡ false
+needs_of (Some asked) = asked_needs asked
 
 abbrev pub names : List Need → List (List ℕ)
 names needs = map (λ need. need.name) needs
+
+-- ---- files that are accepted, and others
 
 -- these are the file's bytes, where the files tell them; they are within the limit and have their form
 pub record IsAccepted (files : FilesState) (need : Need) (bytes : List ℕ) : Type 0 where
@@ -74,12 +82,6 @@ AreAccepted files (need ∷ needs) = ((bytes : List ℕ) × IsAccepted files nee
 abbrev pub HasTold : Option (List ℕ → Option (List ℕ)) → List ℕ → List ℕ → Type 0
 HasTold None name bytes = ⊥
 HasTold (Some held) name bytes = held name ≡ Some bytes
-
--- the files tell these bytes, and they can be accepted
-pub record IsOffered (files : FilesState) (need : Need) (bytes : List ℕ) : Type 0 where
-  pub told : HasTold files.held need.name bytes
-  pub within : length bytes ≤ need.limit
-  pub formed : need.fault bytes ≡ None
 
 -- the bytes are more than the limit, or don't have their form
 abbrev pub IsUnfit : Need → List ℕ → Type 0

@@ -1,4 +1,4 @@
--- A run of a flat program on the plain machine.
+-- A run of a program on the plain machine.
 use Rattle.std.specs.Prelude.{◌≡◌, ◌≢◌, ◌<◌, ◌↔◌, ◌⊎◌, List, ℕ, length, None}
 use Rattle.sec_base.specs.Count.{Rose}
 use Rattle.sec_base.specs.Writing.{SinkState, Gains}
@@ -10,28 +10,28 @@ use Rattle.rv32_core.specs.Outcome.{prints_of}
 use Rattle.rv32_core.specs.Follows.{Follows, IsWhole}
 use Rattle.plain_machine.specs.declared.PlainRecord.{PlainRecord}
 use Rattle.rv32_run.specs.Session.{IsMemoryEnding, IsStop}
-use Rattle.chip_main.specs.Flat.{flat_opening}
+use Rattle.chip_main.specs.Program.{Program, opening}
 
--- a run of a flat program on an input, in the memory below a tree of so many levels and within a budget of steps; it
+-- a run of a program on an input, in the memory below a tree of so many levels and within a budget of steps; it
 -- prints to a sink
-pub record RunsPlain (levels steps : ℕ) (program input : List ℕ) (old new : SinkState) (run : PlainRecord) : Type 0 where
+pub record RunsPlain (levels steps : ℕ) (program : Program) (input : List ℕ) (old new : SinkState) (run : PlainRecord) : Type 0 where
   -- the sink gained what was printed, and the run follows the plain machine so far
   pub follows : (printed : List ℕ) × Gains old printed new
-      × Follows (flat_opening levels program input) steps run.retired run.ending printed
+      × Follows (opening levels program input) steps run.retired run.ending printed
   -- where the sink had no fault, it is the plain machine's run over the whole budget, or memory was not to be had
   pub whole : ¬ (Rose old.faults new.faults) → run.ending ≢ NoMemory →
-      IsWhole (flat_opening levels program input) steps run.retired run.ending
+      IsWhole (opening levels program input) steps run.retired run.ending
   -- the budget ends it exactly where it is used up by a program that goes on
   pub out_of_steps : ¬ IsMemoryEnding run.ending → ((run.ending ≡ OutOfSteps)
-      ↔ ((run.retired ≡ steps) × ((plain (flat_opening levels program input) steps).exit ≡ None)))
+      ↔ ((run.retired ≡ steps) × ((plain (opening levels program input) steps).exit ≡ None)))
   -- the sink and want of memory end it only where the budget allows one more instruction, or none at all
   pub early : IsStop run.ending → 0 < steps → run.retired < steps
   -- a write fails only at an instruction that prints, and memory is wanted only there or before the first instruction
   pub write_fault : run.ending ≡ WriteFault → Rose old.faults new.faults
   pub prints : run.ending ≡ WriteFault →
-      0 < length (prints_of (next (plain (flat_opening levels program input) run.retired).state))
+      0 < length (prints_of (next (plain (opening levels program input) run.retired).state))
   pub no_memory : run.ending ≡ NoMemory → (run.retired ≡ 0)
-      ⊎ (0 < length (prints_of (next (plain (flat_opening levels program input) run.retired).state)))
+      ⊎ (0 < length (prints_of (next (plain (opening levels program input) run.retired).state)))
   -- no memory outside is there to be false or to be used up
   pub untampered : (place : Place) → run.ending ≢ Tampered place
   pub unspent : (page : ℕ) → run.ending ≢ Spent page

@@ -1,52 +1,60 @@
 -- What was done for a request.
 use Rattle.std.specs.Prelude.{List, ℕ, Option, Some, None}
 use Rattle.sec_base.specs.Reading.{FilesState}
+use Rattle.sec_base.specs.Layout.{memory_size}
 use Rattle.sec_base.specs.Writing.{SinkState}
+use Rattle.sec_base.specs.declared.program.Image.{Image}
 use Rattle.bus_model.specs.Told.{Told}
-use Rattle.rv32_listing.specs.Listing.{listing_of}
+use Rattle.rv32_listing.specs.Listed.{IsListed as IsTold}
 use Rattle.plain_machine.specs.declared.PlainRecord.{PlainRecord}
 use Rattle.chip_run.specs.declared.RunRecord.{RunRecord}
-use Rattle.chip_words.specs.Request.{Asked, ExecutionAsked, ListingAsked, to_run, to_run_plain, to_list}
-use Rattle.chip_main.specs.Flat.{flat_segments}
-use Rattle.chip_main.specs.FlatRun.{RunsFlat}
+use Rattle.chip_words.specs.Request.{Asked, ExecutionAsked, to_assemble, to_disassemble, to_measure, to_run, to_run_plain}
+use Rattle.chip_main.specs.Program.{IsImageOf, Program, ProgramFile}
+use Rattle.chip_main.specs.Needs.{assembly_file, inspection_file}
+use Rattle.chip_main.specs.ProtectedRun.{RunsProtected}
 use Rattle.chip_main.specs.PlainRun.{RunsPlain}
 use Rattle.chip_main.specs.Statuses.{Telling}
 use Rattle.chip_main.specs.Taken.{Takes, TakesProgram}
-use Rattle.chip_main.specs.Told.{IsTold}
+use Rattle.chip_main.specs.Texts.{elf_file, listing, measurement_line}
 
--- one statement for each command; none holds where the words are no request
-abbrev pub ByCommand : Option Asked → (ExecutionAsked → Type 0) → (ExecutionAsked → Type 0) → (ListingAsked → Type 0) → Type 0
-ByCommand None run plain dis = ⊥
-ByCommand (Some (to_run execution)) run plain dis = run execution
-ByCommand (Some (to_run_plain execution)) run plain dis = plain execution
-ByCommand (Some (to_list listing)) run plain dis = dis listing
+-- One statement for each kind of request: for a run on protected memory, for one on the plain machine, and for a text
+-- of a file's program. No statement holds where the words are no request.
+abbrev pub ByCommand : Option Asked → (ExecutionAsked → Type 0) → (ExecutionAsked → Type 0) → (ProgramFile → (Image → List ℕ) → Type 0) → Type 0
+ByCommand None run plain writes = ⊥
+ByCommand (Some (to_run execution)) run plain writes = run execution
+ByCommand (Some (to_run_plain execution)) run plain writes = plain execution
+ByCommand (Some (to_assemble assembly)) run plain writes = writes (assembly_file assembly) elf_file
+ByCommand (Some (to_disassemble inspection)) run plain writes = writes (inspection_file inspection) listing
+ByCommand (Some (to_measure inspection)) run plain writes = writes (inspection_file inspection) measurement_line
 
 -- the run's program and input are those that the request names
 abbrev pub RunsExecution : ExecutionAsked → FilesState → FilesState → SinkState → SinkState → RunRecord → Told → Type 0
 RunsExecution execution files files' out out' run told =
-    (program : List ℕ) × (input : List ℕ) × Takes execution files files' program input
-    × RunsFlat execution.levels execution.steps program input out out' run told
+    (program : Program) × (input : List ℕ) × Takes execution files files' program input
+    × RunsProtected execution.levels execution.steps program input out out' run told
 
 abbrev pub PlainlyRuns : ExecutionAsked → FilesState → FilesState → SinkState → SinkState → PlainRecord → Type 0
 PlainlyRuns execution files files' out out' run =
-    (program : List ℕ) × (input : List ℕ) × Takes execution files files' program input
+    (program : Program) × (input : List ℕ) × Takes execution files files' program input
     × RunsPlain execution.levels execution.steps program input out out' run
 
--- the listing is of the program that the request names
-abbrev pub Lists : ListingAsked → FilesState → FilesState → SinkState → SinkState → Telling → Type 0
-Lists listing files files' out out' telling =
-    (program : List ℕ) × TakesProgram listing files files' program
-    × IsTold (listing_of (flat_segments program)) out out' telling
+-- a text of the file's program was written, as far as the answer says
+pub record Writes (file : ProgramFile) (text : Image → List ℕ) (files files' : FilesState) (out out' : SinkState) (telling : Telling) : Type 0 where
+  pub program : Program
+  pub takes : TakesProgram file files files' program
+  pub image : Image
+  pub is_image : IsImageOf (memory_size file.levels) program image
+  pub written : IsTold (text image) out out' telling
 
--- the request is for a run on protected memory, for one on the plain machine, or for a listing; and that was done
+-- the request is for a run on protected memory, for one on the plain machine, or for a text; and that was done
 abbrev pub RunsRequest : Option Asked → FilesState → FilesState → SinkState → SinkState → RunRecord → Told → Type 0
 RunsRequest request files files' out out' run told =
-    ByCommand request (λ execution. RunsExecution execution files files' out out' run told) (λ _. ⊥) (λ _. ⊥)
+    ByCommand request (λ execution. RunsExecution execution files files' out out' run told) (λ _. ⊥) (λ _ _. ⊥)
 
 abbrev pub PlainlyRunsRequest : Option Asked → FilesState → FilesState → SinkState → SinkState → PlainRecord → Type 0
 PlainlyRunsRequest request files files' out out' run =
-    ByCommand request (λ _. ⊥) (λ execution. PlainlyRuns execution files files' out out' run) (λ _. ⊥)
+    ByCommand request (λ _. ⊥) (λ execution. PlainlyRuns execution files files' out out' run) (λ _ _. ⊥)
 
-abbrev pub ListsRequest : Option Asked → FilesState → FilesState → SinkState → SinkState → Telling → Type 0
-ListsRequest request files files' out out' telling =
-    ByCommand request (λ _. ⊥) (λ _. ⊥) (λ listing. Lists listing files files' out out' telling)
+abbrev pub WritesRequest : Option Asked → FilesState → FilesState → SinkState → SinkState → Telling → Type 0
+WritesRequest request files files' out out' telling =
+    ByCommand request (λ _. ⊥) (λ _. ⊥) (λ file text. Writes file text files files' out out' telling)

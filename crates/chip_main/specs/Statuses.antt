@@ -7,7 +7,7 @@ use Rattle.sec_base.specs.declared.writing.SinkStop.{SinkStop}
 use Rattle.sec_base.specs.declared.writing.SinkStop.TheVariants.{Failed, NoMemory as no_memory}
 use Rattle.chip_run.specs.declared.RunRecord.{RunRecord}
 use Rattle.chip_main.specs.declared.refusal.Refusal.{Refusal}
-use Rattle.chip_main.specs.declared.refusal.Refusal.TheVariants.{Usage, NotFlat, Unread, TooLong, TooLarge}
+use Rattle.chip_main.specs.declared.refusal.Refusal.TheVariants.{Usage, Unread, TooLong, Elf, Asm}
 
 abbrev pub ending_status : Ending → ℕ
 ending_status (Halted code) = 0
@@ -42,17 +42,17 @@ untold_ending_status _ = 9
 
 abbrev pub refusal_status : Refusal → ℕ
 refusal_status (Usage text) = 2
-refusal_status NotFlat = 2
 refusal_status Unread = 8
 refusal_status TooLong = 3
-refusal_status TooLarge = 3
+refusal_status (Elf fault) = 3
+refusal_status (Asm line fault) = 3
 
 -- the answer of a call that writes a text
 abbrev pub Telling : Type 0
 Telling = Result (Unit {0}) SinkStop
 
--- a listing is all that its command is for
-abbrev pub listing_status : Telling → ℕ
-listing_status (Ok _) = 0
-listing_status (Err Failed) = 9
-listing_status (Err no_memory) = 10
+-- of a command that is only for a text on `out`
+abbrev pub text_status : Telling → ℕ
+text_status (Ok _) = 0
+text_status (Err Failed) = 9
+text_status (Err no_memory) = 10

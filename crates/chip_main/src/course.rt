@@ -1,6 +1,6 @@
 ghost use Rattle.std.specs.Prelude.{◌≡◌};
 ghost use Rattle.std.specs.Option.{option_map};
-ghost use Rattle.chip_main.specs.Statuses.{run_status as status_of_run, ending_status as status_of_ending, evidence_status as evidence_status_of_ending, untold_ending_status as untold_status_of_ending, listing_status as status_of_listing};
+ghost use Rattle.chip_main.specs.Statuses.{run_status as status_of_run, ending_status as status_of_ending, evidence_status as evidence_status_of_ending, untold_ending_status as untold_status_of_ending, text_status as status_of_text};
 
 use crate::refusal::Refusal;
 use crate::run_bus::RunBus;
@@ -19,8 +19,8 @@ pub enum Course {
     Ran(RunRecord, RunBus),
     /// A program ran on the plain machine.
     RanPlain(PlainRecord),
-    /// A program was listed, as far as this says.
-    Listed(Result<(), SinkStop>),
+    /// A text of a program was written, as far as this says.
+    Written(Result<(), SinkStop>),
 }
 
 impl Course {
@@ -35,7 +35,7 @@ impl Course {
             Course::NoMemory => 10,
             Course::Ran(run, _) => run_status(run),
             Course::RanPlain(run) => ending_status(run.ending),
-            Course::Listed(listed) => listing_status(*listed),
+            Course::Written(written) => text_status(*written),
         }
     }
 
@@ -48,7 +48,7 @@ impl Course {
             Course::NoMemory => 10,
             Course::Ran(run, _) => untold_ending_status(run.ending),
             Course::RanPlain(run) => untold_ending_status(run.ending),
-            Course::Listed(listed) => listing_status(*listed),
+            Course::Written(written) => text_status(*written),
         }
     }
 
@@ -59,7 +59,8 @@ impl Course {
     {
         match self {
             Course::Ran(run, bus) => Some((run, bus)),
-            Course::Refused(_) | Course::NoMemory | Course::RanPlain(_) | Course::Listed(_) => None,
+            Course::Refused(_) | Course::NoMemory | Course::RanPlain(_) | Course::Written(_) =>
+                None,
         }
     }
 }
@@ -111,10 +112,10 @@ fn untold_ending_status(ending: Ending) -> u8
     }
 }
 
-fn listing_status(listed: Result<(), SinkStop>) -> u8
-    ensures { result ≡ status_of_listing listed }
+fn text_status(written: Result<(), SinkStop>) -> u8
+    ensures { result ≡ status_of_text written }
 {
-    match listed {
+    match written {
         Ok(()) => 0,
         Err(SinkStop::Failed) => 9,
         Err(SinkStop::NoMemory) => 10,

@@ -1,9 +1,9 @@
-ghost use Rattle.std.specs.Prelude.{◌≡◌, ◌≤◌, List, ℕ, IfOk, OnErr};
+ghost use Rattle.std.specs.Prelude.{◌≡◌, ◌≤◌, IfOk, OnErr};
 ghost use Rattle.sec_base.specs.Layout.{memory_size};
 ghost use Rattle.sec_base.specs.Writing.{Silent};
 ghost use Rattle.chip_main.specs.Buses.{run_told};
-ghost use Rattle.chip_main.specs.Flat.{IsFlatImage};
-ghost use Rattle.chip_main.specs.FlatRun.{RunsFlat};
+ghost use Rattle.chip_main.specs.Program.{IsImageOf, Program};
+ghost use Rattle.chip_main.specs.ProtectedRun.{RunsProtected};
 
 use crate::run_bus::RunBus;
 use bus_model::HonestBus;
@@ -31,8 +31,8 @@ pub fn run_on_device<O: Sink>(
     out: &mut O,
 ) -> Result<(RunRecord, RunBus), NoMemory>
     requires size { image.now.size ≡ memory_size geometry }
-    ensures ran { (program : List ℕ) → IsFlatImage geometry program image.now → IfOk result (λ done.
-        RunsFlat geometry steps program input.now (O.state out.old) (O.state out.new) done.0 (run_told done.1)) }
+    ensures ran { (program : Program) → IsImageOf (memory_size geometry) program image.now → IfOk result (λ done.
+        RunsProtected geometry steps program input.now (O.state out.old) (O.state out.new) done.0 (run_told done.1)) }
     ensures silent { OnErr result (Silent (O.state out.old) (O.state out.new)) }
     ensures faults { (O.state out.old).faults ≤ (O.state out.new).faults }
 {

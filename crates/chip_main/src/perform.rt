@@ -1,14 +1,16 @@
-ghost use Rattle.std.specs.Prelude.{◌≡◌, ◌≤◌, Some, true};
-ghost use Rattle.chip_words.specs.Request.{request_of, levels_asked, to_run, to_run_plain, to_list};
-ghost use Rattle.chip_words.specs.Words.{asked, texts, execution as execution_asked, listing as listing_asked};
-ghost use Rattle.chip_main.specs.Needs.{is_flat as flat_asked};
-ghost use Rattle.chip_main.specs.Course.{CameAbout, stopped_course};
+ghost use Rattle.std.specs.Prelude.{◌≡◌, ◌≤◌, Some};
+ghost use Rattle.chip_words.specs.Request.{request_of, levels_asked, to_assemble, to_disassemble, to_measure, to_run, to_run_plain};
+ghost use Rattle.chip_words.specs.Words.{asked, texts, assembly as assembly_asked, execution as execution_asked, inspection as inspection_asked};
+ghost use Rattle.chip_main.specs.Course.{CameAbout};
+ghost use Rattle.chip_main.specs.Stopping.{stopped_course};
 
 use crate::course::Course;
 use crate::device::run_on_device;
+use crate::program::ProgramForm;
 use crate::refusal::Refusal;
 use crate::taking::{Stop, take_execution, take_program};
-use chip_words::{Execution, Listing, Request, WordsError, read_words};
+use crate::writing::{write_elf_file, write_measurement};
+use chip_words::{Assembly, Execution, Inspection, Request, WordsError, read_words};
 use rv32_listing::write_listing;
 use sec_base::{Files, Geometry, Sink};
 use std::alloc::Global;
@@ -48,22 +50,12 @@ fn perform_request<F: Files, O: Sink>(
     ensures files_faults { (F.state files.old).faults ≤ (F.state files.new).faults }
     ensures out_faults { (O.state out.old).faults ≤ (O.state out.new).faults }
 {
-    if !is_flat(request) {
-        return Course::Refused(Refusal::NotFlat);
-    }
     match request {
         Request::Run(execution) => perform_run(alloc, execution, files, out),
         Request::Plain(execution) => perform_plain(alloc, execution, files, out),
-        Request::Dis(listing) => perform_dis(alloc, listing, files, out),
-    }
-}
-
-fn is_flat(request: &Request<'_>) -> bool
-    ensures { result ≡ flat_asked (asked request.now) }
-{
-    match request {
-        Request::Run(execution) | Request::Plain(execution) => execution.flat,
-        Request::Dis(listing) => listing.flat,
+        Request::Asm(assembly) => perform_asm(alloc, assembly, files, out),
+        Request::Dis(inspection) => perform_dis(alloc, inspection, files, out),
+        Request::Measure(inspection) => perform_measure(alloc, inspection, files, out),
     }
 }
 
@@ -73,7 +65,6 @@ fn perform_run<F: Files, O: Sink>(
     files: &mut F,
     out: &mut O,
 ) -> Course
-    requires flat { execution.now.flat ≡ true }
     requires least { 1 ≤ execution.now.levels }
     requires most { execution.now.levels ≤ 6 }
     ensures came { CameAbout result (Some (to_run (execution_asked execution.now))) (F.state files.old) (F.state files.new) (O.state out.old) (O.state out.new) }
@@ -105,7 +96,6 @@ fn perform_plain<F: Files, O: Sink>(
     files: &mut F,
     out: &mut O,
 ) -> Course
-    requires flat { execution.now.flat ≡ true }
     requires least { 1 ≤ execution.now.levels }
     requires most { execution.now.levels ≤ 6 }
     ensures came { CameAbout result (Some (to_run_plain (execution_asked execution.now))) (F.state files.old) (F.state files.new) (O.state out.old) (O.state out.new) }
@@ -122,27 +112,73 @@ fn perform_plain<F: Files, O: Sink>(
     Course::RanPlain(run)
 }
 
-fn perform_dis<F: Files, O: Sink>(
+fn perform_asm<F: Files, O: Sink>(
     alloc: Global,
-    listing: &Listing<'_>,
+    assembly: &Assembly<'_>,
     files: &mut F,
     out: &mut O,
 ) -> Course
-    requires flat { listing.now.flat ≡ true }
-    requires least { 1 ≤ listing.now.levels }
-    requires most { listing.now.levels ≤ 6 }
-    ensures came { CameAbout result (Some (to_list (listing_asked listing.now))) (F.state files.old) (F.state files.new) (O.state out.old) (O.state out.new) }
+    requires least { 1 ≤ assembly.now.levels }
+    requires most { assembly.now.levels ≤ 6 }
+    ensures came { CameAbout result (Some (to_assemble (assembly_asked assembly.now))) (F.state files.old) (F.state files.new) (O.state out.old) (O.state out.new) }
     ensures held { (F.state files.new).held ≡ (F.state files.old).held }
     ensures files_faults { (F.state files.old).faults ≤ (F.state files.new).faults }
     ensures out_faults { (O.state out.old).faults ≤ (O.state out.new).faults }
 {
-    let geometry = Geometry::new(listing.levels).unwrap();
-    let image = match take_program(alloc, listing.file, geometry, files) {
+    let geometry = Geometry::new(assembly.levels).unwrap();
+    let form = ProgramForm::AssemblyText;
+    let image = match take_program(alloc, assembly.file, form, geometry, files) {
         Ok(image) => image,
         Err(stop) => return stopped(stop),
     };
-    let listed = write_listing(alloc, &image, out);
-    Course::Listed(listed)
+    let written = write_elf_file(alloc, &image, out);
+    Course::Written(written)
+}
+
+fn perform_dis<F: Files, O: Sink>(
+    alloc: Global,
+    inspection: &Inspection<'_>,
+    files: &mut F,
+    out: &mut O,
+) -> Course
+    requires least { 1 ≤ inspection.now.levels }
+    requires most { inspection.now.levels ≤ 6 }
+    ensures came { CameAbout result (Some (to_disassemble (inspection_asked inspection.now))) (F.state files.old) (F.state files.new) (O.state out.old) (O.state out.new) }
+    ensures held { (F.state files.new).held ≡ (F.state files.old).held }
+    ensures files_faults { (F.state files.old).faults ≤ (F.state files.new).faults }
+    ensures out_faults { (O.state out.old).faults ≤ (O.state out.new).faults }
+{
+    let geometry = Geometry::new(inspection.levels).unwrap();
+    let form = ProgramForm::of_program(inspection.flat);
+    let image = match take_program(alloc, inspection.file, form, geometry, files) {
+        Ok(image) => image,
+        Err(stop) => return stopped(stop),
+    };
+    let written = write_listing(alloc, &image, out);
+    Course::Written(written)
+}
+
+fn perform_measure<F: Files, O: Sink>(
+    alloc: Global,
+    inspection: &Inspection<'_>,
+    files: &mut F,
+    out: &mut O,
+) -> Course
+    requires least { 1 ≤ inspection.now.levels }
+    requires most { inspection.now.levels ≤ 6 }
+    ensures came { CameAbout result (Some (to_measure (inspection_asked inspection.now))) (F.state files.old) (F.state files.new) (O.state out.old) (O.state out.new) }
+    ensures held { (F.state files.new).held ≡ (F.state files.old).held }
+    ensures files_faults { (F.state files.old).faults ≤ (F.state files.new).faults }
+    ensures out_faults { (O.state out.old).faults ≤ (O.state out.new).faults }
+{
+    let geometry = Geometry::new(inspection.levels).unwrap();
+    let form = ProgramForm::of_program(inspection.flat);
+    let image = match take_program(alloc, inspection.file, form, geometry, files) {
+        Ok(image) => image,
+        Err(stop) => return stopped(stop),
+    };
+    let written = write_measurement(alloc, &image, out);
+    Course::Written(written)
 }
 
 // What it comes to where the files were not taken.

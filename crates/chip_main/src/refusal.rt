@@ -1,19 +1,27 @@
 ghost use Rattle.std.specs.Prelude.{◌≡◌};
 ghost use Rattle.chip_main.specs.Statuses.{refusal_status};
 
+use elf_load::ElfFault;
+use rv32_asm::AsmFault;
+
 /// Why nothing was done.
 #[derive(Debug, Drop)]
 pub enum Refusal {
     /// The words are no request, as this text says.
     Usage(String),
-    /// The request is for a program that isn't flat.
-    NotFlat,
     /// A file could not be read.
     Unread,
-    /// A file is longer than any that is read.
+    /// A file is longer than any of its form that is read.
     TooLong,
-    /// The program is larger than the memory.
-    TooLarge,
+    /// An ELF file or a flat file is no program for the memory.
+    Elf(ElfFault),
+    /// A line of an assembly text is at fault, lines counted from 1.
+    Asm {
+        /// The line.
+        line: u32,
+        /// What is wrong with it.
+        fault: AsmFault,
+    },
 }
 
 impl Refusal {
@@ -22,9 +30,9 @@ impl Refusal {
         ensures { result ≡ refusal_status self.now }
     {
         match self {
-            Refusal::Usage(_) | Refusal::NotFlat => 2,
+            Refusal::Usage(_) => 2,
             Refusal::Unread => 8,
-            Refusal::TooLong | Refusal::TooLarge => 3,
+            Refusal::TooLong | Refusal::Elf(_) | Refusal::Asm { .. } => 3,
         }
     }
 }

@@ -1,20 +1,22 @@
-ghost use Rattle.std.specs.Prelude.{◌≡◌, ◌≤◌, [], ◌∷◌, ◌++◌, List, ℕ, Option, length, true, IfOk, IfErr, OnOk};
+ghost use Rattle.std.specs.Prelude.{◌≡◌, ◌≤◌, [], ◌∷◌, ◌++◌, List, ℕ, Option, length, IfOk, IfErr, OnOk};
+ghost use Rattle.sec_base.specs.Layout.{memory_size};
 ghost use Rattle.sec_base.specs.Reading.{HasBytes};
 ghost use Rattle.chip_words.specs.Words.{execution as execution_asked};
 ghost use Rattle.chip_main.specs.declared.refusal.Refusal.{Refusal};
-ghost use Rattle.chip_main.specs.Flat.{IsFlatImage};
-ghost use Rattle.chip_main.specs.Needs.{IsAccepted, execution_needs, file_limit, input_needs, program_need};
-ghost use Rattle.chip_main.specs.Causes.{Asks, StopsAs};
-ghost use Rattle.chip_main.specs.Taken.{IsInput, Takes, named};
+ghost use Rattle.chip_main.specs.Program.{IsImageOf, Program, program_file};
+ghost use Rattle.chip_main.specs.Needs.{execution_needs, input_needs, program_need};
+ghost use Rattle.chip_main.specs.Causes.{Asks};
+ghost use Rattle.chip_main.specs.Stopping.{StopsAs};
+ghost use Rattle.chip_main.specs.Taken.{IsInput, IsProgram, Takes, named};
 
-use crate::flat::flat_image;
+use crate::program::{ProgramForm, program_in};
 use crate::refusal::Refusal;
 use chip_words::Execution;
 use sec_base::{Bytes, Files, Geometry, Image, ReadStop};
 use std::alloc::Global;
 
-/// No program or input longer than this is read.
-const FILE_LIMIT: u64 = 1_048_576;
+/// No input longer than this is read.
+const INPUT_LIMIT: u64 = 1_048_576;
 
 /// Why the files of a request were not taken.
 #[derive(Debug, Drop)]
@@ -32,16 +34,16 @@ pub fn take_execution<F: Files>(
     geometry: Geometry,
     files: &mut F,
 ) -> Result<(Image, Bytes), Stop>
-    requires flat { execution.now.flat ≡ true }
     requires levels { execution.now.levels ≡ geometry }
-    ensures taken { IfOk result (λ taken. (program : List ℕ) × IsFlatImage geometry program taken.0
+    ensures taken { IfOk result (λ taken. (program : Program) × IsImageOf (memory_size geometry) program taken.0
         × Takes (execution_asked execution.now) (F.state files.old) (F.state files.new) program taken.1) }
     ensures stopped { IfErr result (λ stop.
         StopsAs stop (execution_needs (execution_asked execution.now)) (F.state files.old) (F.state files.new)) }
     ensures held { (F.state files.new).held ≡ (F.state files.old).held }
     ensures faults { (F.state files.old).faults ≤ (F.state files.new).faults }
 {
-    let image = match take_program(alloc, execution.file, geometry, files) {
+    let form = ProgramForm::of_program(execution.flat);
+    let image = match take_program(alloc, execution.file, form, geometry, files) {
         Ok(image) => image,
         Err(stop) => return Err(stop),
     };
@@ -51,66 +53,64 @@ pub fn take_execution<F: Files>(
     }
 }
 
-/// The flat program of a file, which has to fit the memory.
+/// The program of a file of this form, which has to be one for the memory.
 pub fn take_program<F: Files>(
     alloc: Global,
-    file: &str,
+    name: &str,
+    form: ProgramForm,
     geometry: Geometry,
     files: &mut F,
 ) -> Result<Image, Stop>
-    ensures taken { IfOk result (λ image. (program : List ℕ) × IsFlatImage geometry program image
-        × IsAccepted (F.state files.old) (program_need geometry file.now) program) }
-    ensures asked { OnOk result (Asks (program_need geometry file.now ∷ []) (F.state files.old) (F.state files.new)) }
+    ensures taken { IfOk result (λ image. (program : Program) × IsImageOf (memory_size geometry) program image
+        × IsProgram (F.state files.old) (program_file name.now form geometry) program) }
+    ensures asked { OnOk result (Asks (program_need (program_file name.now form geometry) ∷ []) (F.state files.old) (F.state files.new)) }
     ensures stopped { IfErr result (λ stop.
-        StopsAs stop (program_need geometry file.now ∷ []) (F.state files.old) (F.state files.new)) }
+        StopsAs stop (program_need (program_file name.now form geometry) ∷ []) (F.state files.old) (F.state files.new)) }
     ensures held { (F.state files.new).held ≡ (F.state files.old).held }
     ensures faults { (F.state files.old).faults ≤ (F.state files.new).faults }
     ensures bytes_taken { (F.state files.old).taken ≤ (F.state files.new).taken }
 {
-    let bytes = match read_file(alloc, file, files) {
+    let bytes = match read_file(alloc, name, form.limit(), files) {
         Ok(bytes) => bytes,
         Err(stop) => return Err(stop),
     };
-    if bytes.len() > geometry.size() as usize {
-        return Err(Stop::Refused(Refusal::TooLarge));
-    }
-    match flat_image(alloc, bytes, geometry) {
+    match program_in(alloc, form, bytes.as_slice(), geometry.size()) {
         Ok(image) => Ok(image),
-        Err(_) => Err(Stop::NoMemory),
+        Err(stop) => Err(stop),
     }
 }
 
 // The bytes of the input's file, where one is named.
-fn take_input<F: Files>(alloc: Global, file: Option<&str>, files: &mut F) -> Result<Bytes, Stop>
-    ensures taken { IfOk result (IsInput (F.state files.old) (named file.entry)) }
-    ensures asked { OnOk result (Asks (input_needs (named file.entry)) (F.state files.old) (F.state files.new)) }
+fn take_input<F: Files>(alloc: Global, name: Option<&str>, files: &mut F) -> Result<Bytes, Stop>
+    ensures taken { IfOk result (IsInput (F.state files.old) (named name.entry)) }
+    ensures asked { OnOk result (Asks (input_needs (named name.entry)) (F.state files.old) (F.state files.new)) }
     ensures stopped { IfErr result (λ stop.
-        StopsAs stop (input_needs (named file.entry)) (F.state files.old) (F.state files.new)) }
+        StopsAs stop (input_needs (named name.entry)) (F.state files.old) (F.state files.new)) }
     ensures held { (F.state files.new).held ≡ (F.state files.old).held }
     ensures faults { (F.state files.old).faults ≤ (F.state files.new).faults }
     ensures bytes_taken { (F.state files.old).taken ≤ (F.state files.new).taken }
 {
-    let Some(file) = file else {
+    let Some(name) = name else {
         return Ok(Bytes::new(alloc));
     };
-    match read_file(alloc, file, files) {
+    match read_file(alloc, name, INPUT_LIMIT, files) {
         Ok(bytes) => Ok(bytes),
         Err(stop) => Err(stop),
     }
 }
 
 // A file's bytes, which are within the limit.
-fn read_file<F: Files>(alloc: Global, file: &str, files: &mut F) -> Result<Bytes, Stop>
-    ensures bytes { IfOk result (HasBytes (F.state files.old).held file.now) }
-    ensures within { IfOk result (λ bytes. length bytes ≤ file_limit) }
-    ensures asked { OnOk result ((F.state files.new).asked ≡ (F.state files.old).asked ++ file.now ∷ []) }
+fn read_file<F: Files>(alloc: Global, name: &str, limit: u64, files: &mut F) -> Result<Bytes, Stop>
+    ensures bytes { IfOk result (HasBytes (F.state files.old).held name.now) }
+    ensures within { IfOk result (λ bytes. length bytes ≤ limit) }
+    ensures asked { OnOk result ((F.state files.new).asked ≡ (F.state files.old).asked ++ name.now ∷ []) }
     ensures stopped { IfErr result (λ stop. (fault : List ℕ → Option Refusal) →
-        StopsAs stop (record { name = file.now; limit = file_limit; fault = fault } ∷ []) (F.state files.old) (F.state files.new)) }
+        StopsAs stop (record { name = name.now; limit = limit; fault = fault } ∷ []) (F.state files.old) (F.state files.new)) }
     ensures held { (F.state files.new).held ≡ (F.state files.old).held }
     ensures faults { (F.state files.old).faults ≤ (F.state files.new).faults }
     ensures bytes_taken { (F.state files.old).taken ≤ (F.state files.new).taken }
 {
-    match files.read(alloc, file, FILE_LIMIT) {
+    match files.read(alloc, name, limit) {
         Ok(bytes) => Ok(bytes),
         Err(ReadStop::Failed) => Err(Stop::Refused(Refusal::Unread)),
         Err(ReadStop::Long) => Err(Stop::Refused(Refusal::TooLong)),

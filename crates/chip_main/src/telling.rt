@@ -1,13 +1,15 @@
 ghost use Rattle.std.specs.Prelude.{◌≡◌, ◌≤◌, ◌++◌, codes, IfOk, string_bytes};
 ghost use Rattle.sec_base.specs.declared.answers.Ending.TheVariants.{Tampered, Trapped};
-ghost use Rattle.chip_main.specs.Texts.{cause_text, ending_line, lies_line, plain_text, record_text, refusal_text, retired_line};
-ghost use Rattle.chip_main.specs.Told.{IsTold};
+ghost use Rattle.chip_main.specs.Texts.{asm_line, cause_text, elf_line, ending_line, lies_line, plain_text, record_text, refusal_text, retired_line};
+ghost use Rattle.rv32_listing.specs.Listed.{IsListed as IsTold};
 ghost use Rattle.chip_main.specs.Course.{TellsCourse};
 
 use crate::course::Course;
 use crate::refusal::Refusal;
 use chip_run::RunRecord;
+use elf_load::ElfFault;
 use plain_machine::PlainRecord;
+use rv32_asm::AsmFault;
 use sec_base::{Cause, Ending, NoMemory, Place, Sink, SinkStop, write_all};
 use std::alloc::Global;
 
@@ -18,10 +20,10 @@ pub fn tell<N: Sink>(alloc: Global, course: &Course, note: &mut N) -> Result<(),
 {
     match course {
         Course::Refused(refusal) => {
-            tell_refusal(refusal, note)?;
+            tell_refusal(alloc, refusal, note)?;
             Ok(())
         }
-        Course::NoMemory | Course::Listed(_) => Ok(()),
+        Course::NoMemory | Course::Written(_) => Ok(()),
         Course::Ran(run, bus) => {
             tell_run(alloc, run, bus.lies(), note)?;
             Ok(())
@@ -33,16 +35,16 @@ pub fn tell<N: Sink>(alloc: Global, course: &Course, note: &mut N) -> Result<(),
     }
 }
 
-fn tell_refusal<N: Sink>(refusal: &Refusal, note: &mut N) -> Result<(), SinkStop>
+fn tell_refusal<N: Sink>(alloc: Global, refusal: &Refusal, note: &mut N) -> Result<(), SinkStop>
     ensures told { IsTold (refusal_text refusal.now) (N.state note.old) (N.state note.new) result }
     ensures faults { (N.state note.old).faults ≤ (N.state note.new).faults }
 {
     match refusal {
         Refusal::Usage(text) => tell_usage(text.as_str(), note),
-        Refusal::NotFlat => write_line(note, "usage flat\n"),
         Refusal::Unread => write_line(note, "read fault\n"),
         Refusal::TooLong => write_line(note, "refused long\n"),
-        Refusal::TooLarge => write_line(note, "refused elf 9 Segment\n"),
+        Refusal::Elf(fault) => tell_elf_fault(alloc, *fault, note),
+        Refusal::Asm { line, fault } => tell_asm_fault(alloc, *line, *fault, note),
     }
 }
 
@@ -55,6 +57,37 @@ fn tell_usage<N: Sink>(text: &str, note: &mut N) -> Result<(), SinkStop>
         Err(stop) => return Err(stop),
     }
     match write_line(note, text) {
+        Ok(()) => Ok(()),
+        Err(stop) => Err(stop),
+    }
+}
+
+fn tell_elf_fault<N: Sink>(alloc: Global, fault: ElfFault, note: &mut N) -> Result<(), SinkStop>
+    ensures told { IsTold (elf_line fault) (N.state note.old) (N.state note.new) result }
+    ensures faults { (N.state note.old).faults ≤ (N.state note.new).faults }
+{
+    let Ok(line) = elf_text(alloc, fault) else {
+        return Err(SinkStop::NoMemory);
+    };
+    match write_line(note, line.as_str()) {
+        Ok(()) => Ok(()),
+        Err(stop) => Err(stop),
+    }
+}
+
+fn tell_asm_fault<N: Sink>(
+    alloc: Global,
+    line: u32,
+    fault: AsmFault,
+    note: &mut N,
+) -> Result<(), SinkStop>
+    ensures told { IsTold (asm_line line fault) (N.state note.old) (N.state note.new) result }
+    ensures faults { (N.state note.old).faults ≤ (N.state note.new).faults }
+{
+    let Ok(line) = asm_text(alloc, line, fault) else {
+        return Err(SinkStop::NoMemory);
+    };
+    match write_line(note, line.as_str()) {
         Ok(()) => Ok(()),
         Err(stop) => Err(stop),
     }
@@ -121,6 +154,20 @@ fn write_line<N: Sink>(note: &mut N, line: &str) -> Result<(), SinkStop>
 {
     write_all(note, line.as_bytes())?;
     Ok(())
+}
+
+fn elf_text(alloc: Global, fault: ElfFault) -> Result<String, NoMemory>
+    ensures { IfOk result (λ line. string_bytes line ≡ elf_line fault) }
+{
+    let code = fault.code();
+    Ok(format!(in alloc; "refused elf {code} {fault}\n")?)
+}
+
+fn asm_text(alloc: Global, line: u32, fault: AsmFault) -> Result<String, NoMemory>
+    ensures { IfOk result (λ text. string_bytes text ≡ asm_line line fault) }
+{
+    let code = fault.code();
+    Ok(format!(in alloc; "refused asm {line} {code} {fault}\n")?)
 }
 
 fn lies_text(alloc: Global, lies: u64) -> Result<String, NoMemory>

@@ -1,6 +1,9 @@
 // Whole calls. Each expected text and status is worked out by hand from the words and the machine's rules.
 ghost use Rattle.std.specs.Prelude.{None};
 
+mod assembly;
+mod files;
+
 use super::{Done, RunBus, run_words};
 use bus_model::{Bus, HonestBus};
 use chip_run::RunRecord;
@@ -377,7 +380,10 @@ fn check_usage(rt: &impl Abort, alloc: Global, words: &[&str]) -> Result<(), Fai
 
 #[test]
 fn other_words_are_usage(rt: HostRuntime) -> Result<(), Fail> {
-    let rows: [&[&str]; 9] = [
+    let rows: [&[&str]; 12] = [
+        &["chip", "asm"],
+        &["chip", "asm", "f", "--flat"],
+        &["chip", "measure", "f", "--input", "i"],
         &[],
         &["chip"],
         &["chip", "run"],
@@ -390,17 +396,6 @@ fn other_words_are_usage(rt: HostRuntime) -> Result<(), Fail> {
     ];
     for words in rows {
         check_usage(&rt, rt.alloc(), words)?;
-    }
-    Ok(())
-}
-
-#[test]
-fn programs_have_to_be_flat(rt: HostRuntime) -> Result<(), Fail> {
-    for command in ["run", "plain", "dis"] {
-        let mut files = MemoryFiles::new(rt.alloc(), &[])?;
-        let words = ["chip", command, "f"];
-        let call = make_call(rt.alloc(), &words, &mut files, &[], &[])?;
-        check(&rt, &call, b"", b"usage flat\n", 2);
     }
     Ok(())
 }
@@ -461,9 +456,14 @@ fn a_fault_of_note_keeps_the_run(rt: HostRuntime) -> Result<(), Fail> {
 
 #[test]
 fn a_fault_of_note_keeps_a_refusal(rt: HostRuntime) -> Result<(), Fail> {
-    let rows: [(&[&str], u8); 3] = [(&RUN, 8), (&["chip", "dis", "f"], 2), (&["chip"], 2)];
+    let rows: [(&[&str], u8); 4] = [
+        (&["chip", "run", "g"], 8),
+        (&["chip", "dis", "f"], 3),
+        (&["chip", "asm", "f", "--flat"], 2),
+        (&["chip"], 2),
+    ];
     for (words, status) in rows {
-        let mut files = MemoryFiles::new(rt.alloc(), &[])?;
+        let mut files = file(rt.alloc(), b"", &[])?;
         let call = make_call(rt.alloc(), words, &mut files, &[], &[1])?;
         check(&rt, &call, b"", b"", status);
     }

@@ -17,7 +17,7 @@ use Rattle.clap.proofs.ValueTestLemmas.{accepts-Accepts}
 use Rattle.std.proofs.lemmas.Slice.Eq.{bytes_eq-Decides}
 use Rattle.chip_words.specs.App.{chip_app, file_rule, levels_rule, steps_rule}
 use Rattle.chip_words.specs.Request.{number_of, value_of}
-use Rattle.chip_words.specs.Commands.{HasExecution, HasItsValues, HasListing, HasNumber, HasValue, IfCommand}
+use Rattle.chip_words.specs.Commands.{HasExecution, HasItsValues, HasNumber, HasProgram, HasValue, IfCommand}
 use Rattle.chip_words.proofs.Walks.{IsNoHelp, both_empty}
 use Rattle.chip_words.proofs.Fits.{AllFit, HasSome, IsIn, Owns, defaults_have, finished_fits, first_passes, row_found, walk_fits}
 
@@ -111,11 +111,11 @@ levels_built = filled levels_rule
 abbrev steps_built : Rule
 steps_built = filled steps_rule
 
--- a command that has the arguments of `dis`, whatever else it has
-listing_there : (s : Shape) (words : List Text) → IsFaultless s words → s.subcommand_negates_reqs ≡ false
+-- a command that takes a file and levels, whatever else it takes
+program_there : (s : Shape) (words : List Text) → IsFaultless s words → s.subcommand_negates_reqs ≡ false
     → IsIn file_built s.rules → arg_by_id s.rules (codes "file") ≡ Some file_built
-    → IsIn levels_built s.rules → arg_by_id s.rules (codes "levels") ≡ Some levels_built → HasListing (rows_after s.rules [] words)
-listing_there s words clean negates in_file own_file in_levels own_levels =
+    → IsIn levels_built s.rules → arg_by_id s.rules (codes "levels") ≡ Some levels_built → HasProgram (rows_after s.rules [] words)
+program_there s words clean negates in_file own_file in_levels own_levels =
     let file = required_passed s words file_built clean negates in_file refl own_file refl in
     let levels = default_passed s words levels_built clean in_levels tt own_levels refl in
     let numbers = number_there 1 6 (codes "levels") levels.0 (rows_after s.rules [] words) levels.1 levels.2 in
@@ -129,8 +129,12 @@ listing_there s words clean negates in_file own_file in_levels own_levels =
 abbrev execution_built : Text → Shape
 execution_built name = record (slice_index_or (built chip_app).subs 0 help_shape) { name = name }
 
-abbrev dis_built : Shape
-dis_built = slice_index_or (built chip_app).subs 2 help_shape
+abbrev asm_built : Shape
+asm_built = slice_index_or (built chip_app).subs 2 help_shape
+
+-- `dis` and `measure`, by their names
+abbrev inspection_built : Text → Shape
+inspection_built name = record (slice_index_or (built chip_app).subs 3 help_shape) { name = name }
 
 execution_owns : (name : Text) → Owns (execution_built name).rules (execution_built name).rules
 execution_owns name = (
@@ -138,8 +142,11 @@ execution_owns name = (
   ((refl, λ takes. absurd cc), ((refl, λ takes. refl), ((refl, λ takes. refl), ((refl, λ takes. refl), ((refl, λ takes. absurd cc), tt))))),
 )
 
-listing_owns : Owns dis_built.rules dis_built.rules
-listing_owns = ((refl, λ takes. refl), ((refl, λ takes. absurd cc), ((refl, λ takes. refl), ((refl, λ takes. absurd cc), tt))))
+asm_owns : Owns asm_built.rules asm_built.rules
+asm_owns = ((refl, λ takes. refl), ((refl, λ takes. refl), ((refl, λ takes. absurd cc), tt)))
+
+inspection_owns : (name : Text) → Owns (inspection_built name).rules (inspection_built name).rules
+inspection_owns name = ((refl, λ takes. refl), ((refl, λ takes. absurd cc), ((refl, λ takes. refl), ((refl, λ takes. absurd cc), tt))))
 
 execution_has : (name : Text) (words : List Text) → level_fault (execution_built name) [] nothing_held words false [] ≡ []
     → HasExecution (rows_after (execution_built name).rules [] words)
@@ -148,36 +155,54 @@ execution_has name words e =
     let clean = faultless s words (execution_owns name) e in
     let steps = default_passed s words steps_built clean (inr (inr (inr (inr (inl refl))))) tt refl refl in
     record {
-      listing = listing_there s words clean refl (inl refl) refl (inr (inr (inl refl))) refl;
+      program = program_there s words clean refl (inl refl) refl (inr (inr (inl refl))) refl;
       steps = (number_there 0 (2 ^ 64 - 1) (codes "steps") steps.0 (rows_after s.rules [] words) steps.1 steps.2).0;
     }
 
-dis_has : (words : List Text) → level_fault dis_built [] nothing_held words false [] ≡ [] → HasListing (rows_after dis_built.rules [] words)
-dis_has words e =
-    listing_there dis_built words (faultless dis_built words listing_owns e) refl (inl refl) refl (inr (inr (inl refl))) refl
+asm_has : (words : List Text) → level_fault asm_built [] nothing_held words false [] ≡ [] → HasProgram (rows_after asm_built.rules [] words)
+asm_has words e =
+    program_there asm_built words (faultless asm_built words asm_owns e) refl (inl refl) refl (inr (inl refl)) refl
+
+inspection_has : (name : Text) (words : List Text) → level_fault (inspection_built name) [] nothing_held words false [] ≡ []
+    → HasProgram (rows_after (inspection_built name).rules [] words)
+inspection_has name words e =
+    let s = inspection_built name in
+    program_there s words (faultless s words (inspection_owns name) e) refl (inl refl) refl (inr (inr (inl refl))) refl
 
 as_execution : (name : Text) (words : List Text) → level_fault (execution_built name) [] nothing_held words false [] ≡ []
     → HasItsValues name (rows_after (execution_built name).rules [] words)
-as_execution name words e = let h = execution_has name words e in record { listing = h.listing; run = λ is. h; plain = λ is. h }
+as_execution name words e = let h = execution_has name words e in record { program = h.program; run = λ is. h; plain = λ is. h }
 
-as_listing : (words : List Text) → level_fault dis_built [] nothing_held words false [] ≡ []
-    → HasItsValues (codes "dis") (rows_after dis_built.rules [] words)
-as_listing words e = record { listing = dis_has words e; run = λ is. absurd cc; plain = λ is. absurd cc }
+as_assembly : (words : List Text) → level_fault asm_built [] nothing_held words false [] ≡ []
+    → HasItsValues (codes "asm") (rows_after asm_built.rules [] words)
+as_assembly words e = record { program = asm_has words e; run = λ is. absurd cc; plain = λ is. absurd cc }
 
--- the command that was met is one of the three, and has its values
+as_dis : (words : List Text) → level_fault (inspection_built (codes "dis")) [] nothing_held words false [] ≡ []
+    → HasItsValues (codes "dis") (rows_after (inspection_built (codes "dis")).rules [] words)
+as_dis words e = record { program = inspection_has (codes "dis") words e; run = λ is. absurd cc; plain = λ is. absurd cc }
+
+as_measure : (words : List Text) → level_fault (inspection_built (codes "measure")) [] nothing_held words false [] ≡ []
+    → HasItsValues (codes "measure") (rows_after (inspection_built (codes "measure")).rules [] words)
+as_measure words e = record { program = inspection_has (codes "measure") words e; run = λ is. absurd cc; plain = λ is. absurd cc }
+
+-- the command that was met is one of the five, and has its values
 pub command_has : (stop : Option (Text × List Text)) → IsNoHelp stop → entered_fault (built chip_app) stop ≡ [] → IfCommand (entered (built chip_app) stop)
 command_has None free e = tt
 command_has (Some p) free e =
-    go (bytes_eq (codes "run") p.0) refl (bytes_eq (codes "plain") p.0) refl (bytes_eq (codes "dis") p.0) refl (bytes_eq (codes "help") p.0) refl
+    go (bytes_eq (codes "run") p.0) refl (bytes_eq (codes "plain") p.0) refl (bytes_eq (codes "asm") p.0) refl (bytes_eq (codes "dis") p.0) refl
+    (bytes_eq (codes "measure") p.0) refl (bytes_eq (codes "help") p.0) refl
   where
     help_is : bytes_eq (codes "help") p.0 ≡ true → bytes_eq p.0 (codes "help") ≡ true
     help_is is = (bytes_eq-Decides p.0 (codes "help")).1 (sym ((bytes_eq-Decides (codes "help") p.0).0 is))
 
     go : (a : Bool) → bytes_eq (codes "run") p.0 ≡ a → (b : Bool) → bytes_eq (codes "plain") p.0 ≡ b
-        → (c : Bool) → bytes_eq (codes "dis") p.0 ≡ c → (d : Bool) → bytes_eq (codes "help") p.0 ≡ d
+        → (c : Bool) → bytes_eq (codes "asm") p.0 ≡ c → (d : Bool) → bytes_eq (codes "dis") p.0 ≡ d
+        → (m : Bool) → bytes_eq (codes "measure") p.0 ≡ m → (h : Bool) → bytes_eq (codes "help") p.0 ≡ h
         → IfCommand (entered (built chip_app) (Some p))
-    go true x b y c z d u = rw x (as_execution (codes "run") p.1 (rw x at e))
-    go false x true y c z d u = rw (x, y) (as_execution (codes "plain") p.1 (rw (x, y) at e))
-    go false x false y true z d u = rw (x, y, z) (as_listing p.1 (rw (x, y, z) at e))
-    go false x false y false z true u = absurd (let bad = rw (help_is u) at free in cc)
-    go false x false y false z false u = rw (x, y, z, u) tt
+    go true x b y c z d u m v h w = rw x (as_execution (codes "run") p.1 (rw x at e))
+    go false x true y c z d u m v h w = rw (x, y) (as_execution (codes "plain") p.1 (rw (x, y) at e))
+    go false x false y true z d u m v h w = rw (x, y, z) (as_assembly p.1 (rw (x, y, z) at e))
+    go false x false y false z true u m v h w = rw (x, y, z, u) (as_dis p.1 (rw (x, y, z, u) at e))
+    go false x false y false z false u true v h w = rw (x, y, z, u, v) (as_measure p.1 (rw (x, y, z, u, v) at e))
+    go false x false y false z false u false v true w = absurd (let bad = rw (help_is w) at free in cc)
+    go false x false y false z false u false v false w = rw (x, y, z, u, v, w) tt

@@ -14,11 +14,11 @@ use Rattle.clap.specs.declared.parser.matches.ArgMatches.{ArgMatches}
 use Rattle.clap.proofs.OnLiterals.{clap_on_literals}
 use Rattle.clap.proofs.SimpleLemmas.{is_nil}
 use Rattle.chip_words.specs.App.{chip_app}
-use Rattle.chip_words.specs.Request.{Asked, asked_in, execution_of, levels_asked, listing_of, request_of, steps_asked, to_list, to_run, to_run_plain}
+use Rattle.chip_words.specs.Request.{Asked, asked_in, assembly_of, execution_of, inspection_of, levels_asked, request_of, steps_asked, to_assemble, to_disassemble, to_measure, to_run, to_run_plain}
 use Rattle.chip_words.specs.Words.{IfUsage}
 use Rattle.chip_words.specs.declared.request.WordsError.{WordsError}
 use Rattle.chip_words.specs.declared.request.WordsError.TheVariants.{Usage, NoMemory}
-use Rattle.chip_words.specs.Commands.{HasExecution, HasListing, IfCommand}
+use Rattle.chip_words.specs.Commands.{HasExecution, HasProgram, IfCommand}
 use Rattle.chip_words.proofs.Commands.{command_has}
 use Rattle.chip_words.proofs.Walks.{IsNoHelp, both_empty, walk_keeps}
 
@@ -51,23 +51,28 @@ level_parts s names h words has below needs e =
 
 -- ---- the command that was met
 
--- one of the three
+-- one of the five
 named : (stop : Option (Text × List Text)) → IsNoHelp stop → is_some (entered (built chip_app) stop) ≡ true
     → is_some (asked_in (entered (built chip_app) stop)) ≡ true
 named None free some = some
-named (Some p) free some = go (bytes_eq (codes "run") p.0) refl (bytes_eq (codes "plain") p.0) refl (bytes_eq (codes "dis") p.0) refl (bytes_eq (codes "help") p.0) refl
+named (Some p) free some =
+    go (bytes_eq (codes "run") p.0) refl (bytes_eq (codes "plain") p.0) refl (bytes_eq (codes "asm") p.0) refl (bytes_eq (codes "dis") p.0) refl
+    (bytes_eq (codes "measure") p.0) refl (bytes_eq (codes "help") p.0) refl
   where
     help_is : bytes_eq (codes "help") p.0 ≡ true → bytes_eq p.0 (codes "help") ≡ true
     help_is e = (bytes_eq-Decides p.0 (codes "help")).1 (sym ((bytes_eq-Decides (codes "help") p.0).0 e))
 
     go : (a : Bool) → bytes_eq (codes "run") p.0 ≡ a → (b : Bool) → bytes_eq (codes "plain") p.0 ≡ b
-        → (c : Bool) → bytes_eq (codes "dis") p.0 ≡ c → (d : Bool) → bytes_eq (codes "help") p.0 ≡ d
+        → (c : Bool) → bytes_eq (codes "asm") p.0 ≡ c → (d : Bool) → bytes_eq (codes "dis") p.0 ≡ d
+        → (m : Bool) → bytes_eq (codes "measure") p.0 ≡ m → (h : Bool) → bytes_eq (codes "help") p.0 ≡ h
         → is_some (asked_in (entered (built chip_app) (Some p))) ≡ true
-    go true x b y c z d u = rw x refl
-    go false x true y c z d u = rw (x, y) refl
-    go false x false y true z d u = rw (x, y, z) refl
-    go false x false y false z true u = absurd (let bad = rw (help_is u) at free in cc)
-    go false x false y false z false u = absurd (let bad = rw (x, y, z, u) at some in cc)
+    go true x b y c z d u m v h w = rw x refl
+    go false x true y c z d u m v h w = rw (x, y) refl
+    go false x false y true z d u m v h w = rw (x, y, z) refl
+    go false x false y false z true u m v h w = rw (x, y, z, u) refl
+    go false x false y false z false u true v h w = rw (x, y, z, u, v) refl
+    go false x false y false z false u false v true w = absurd (let bad = rw (help_is w) at free in cc)
+    go false x false y false z false u false v false w = absurd (let bad = rw (x, y, z, u, v, w) at some in cc)
 
 -- words without a fault ask for something, and their command has its values
 asks : (words : List Text) → fault_of chip_app words ≡ []
@@ -132,37 +137,43 @@ refusal_asks a words e is fails kept =
 -- what holds of each command's values holds of what it asks for
 asked_keeps : (P : Asked → Type 0) (o : Option (Text × List Row)) (r : Asked)
     → ((values : List Row) → HasExecution values → P (to_run (execution_of values)) × P (to_run_plain (execution_of values)))
-    → ((values : List Row) → HasListing values → P (to_list (listing_of values)))
+    → ((values : List Row) → HasProgram values
+    → P (to_assemble (assembly_of values)) × P (to_disassemble (inspection_of values)) × P (to_measure (inspection_of values)))
     → IfCommand o → asked_in o ≡ Some r → P r
-asked_keeps P None r executes lists has e = absurd cc
-asked_keeps P (Some p) r executes lists has e =
-    go (bytes_eq p.0 (codes "run")) refl (bytes_eq p.0 (codes "plain")) refl (bytes_eq p.0 (codes "dis")) refl
+asked_keeps P None r executes writes has e = absurd cc
+asked_keeps P (Some p) r executes writes has e =
+    go (bytes_eq p.0 (codes "run")) refl (bytes_eq p.0 (codes "plain")) refl (bytes_eq p.0 (codes "asm")) refl
+    (bytes_eq p.0 (codes "dis")) refl (bytes_eq p.0 (codes "measure")) refl
   where
     at : (x : Asked) → P x → Some x ≡ Some r → P r
     at x h is = subst (λ (o : Option Asked). P (unwrap_or o x)) is h
 
     go : (a : Bool) → bytes_eq p.0 (codes "run") ≡ a → (b : Bool) → bytes_eq p.0 (codes "plain") ≡ b
-        → (c : Bool) → bytes_eq p.0 (codes "dis") ≡ c → P r
-    go true x b y c z = at (to_run (execution_of p.1)) (executes p.1 (has.run x)).0 (rw x at e)
-    go false x true y c z = at (to_run_plain (execution_of p.1)) (executes p.1 (has.plain y)).1 (rw (x, y) at e)
-    go false x false y true z = at (to_list (listing_of p.1)) (lists p.1 has.listing) (rw (x, y, z) at e)
-    go false x false y false z = absurd (let bad : None ≡ Some r = rw (x, y, z) at e in cc)
+        → (c : Bool) → bytes_eq p.0 (codes "asm") ≡ c → (d : Bool) → bytes_eq p.0 (codes "dis") ≡ d
+        → (m : Bool) → bytes_eq p.0 (codes "measure") ≡ m → P r
+    go true x b y c z d u m v = at (to_run (execution_of p.1)) (executes p.1 (has.run x)).0 (rw x at e)
+    go false x true y c z d u m v = at (to_run_plain (execution_of p.1)) (executes p.1 (has.plain y)).1 (rw (x, y) at e)
+    go false x false y true z d u m v = at (to_assemble (assembly_of p.1)) (writes p.1 has.program).0 (rw (x, y, z) at e)
+    go false x false y false z true u m v = at (to_disassemble (inspection_of p.1)) (writes p.1 has.program).1 (rw (x, y, z, u) at e)
+    go false x false y false z false u true v = at (to_measure (inspection_of p.1)) (writes p.1 has.program).2 (rw (x, y, z, u, v) at e)
+    go false x false y false z false u false v = absurd (let bad : None ≡ Some r = rw (x, y, z, u, v) at e in cc)
 
 request_keeps : (P : Asked → Type 0) (words : List Text) (r : Asked)
     → ((values : List Row) → HasExecution values → P (to_run (execution_of values)) × P (to_run_plain (execution_of values)))
-    → ((values : List Row) → HasListing values → P (to_list (listing_of values)))
+    → ((values : List Row) → HasProgram values
+    → P (to_assemble (assembly_of values)) × P (to_disassemble (inspection_of values)) × P (to_measure (inspection_of values)))
     → request_of words ≡ Some r → P r
-request_keeps P words r executes lists e =
+request_keeps P words r executes writes e =
     let none = (request_is_there words).0 (ap is_some e) in
-    asked_keeps P (subcommand_of chip_app words) r executes lists (asks words none).1 (sym (request_of-taken words none) ∙ e)
+    asked_keeps P (subcommand_of chip_app words) r executes writes (asks words none).1 (sym (request_of-taken words none) ∙ e)
 
 pub request_of-levels : (words : List Text) (r : Asked) → request_of words ≡ Some r → (1 ≤ levels_asked r) × (levels_asked r ≤ 6)
 request_of-levels words r e = request_keeps (λ x. (1 ≤ levels_asked x) × (levels_asked x ≤ 6)) words r
-    (λ values has. (has.listing.bounds, has.listing.bounds)) (λ values has. has.bounds) e
+    (λ values has. (has.program.bounds, has.program.bounds)) (λ values has. (has.bounds, has.bounds, has.bounds)) e
 
 pub request_of-steps : (words : List Text) (r : Asked) → request_of words ≡ Some r → steps_asked r < 2 ^ 64
 request_of-steps words r e = request_keeps (λ x. steps_asked x < 2 ^ 64) words r
-    (λ values has. (has.steps.1.1, has.steps.1.1)) (λ values has. omega arith) e
+    (λ values has. (has.steps.1.1, has.steps.1.1)) (λ values has. (omega arith, omega arith, omega arith)) e
 
 -- ---- errors
 

@@ -35,13 +35,17 @@ steps_rule = record (new_rule (codes "steps")) {
   defaults = codes "10000000" ∷ [];
 }
 
--- what `dis` takes
-abbrev pub listing_rules : List Rule
-listing_rules = file_rule ∷ flat_rule ∷ levels_rule ∷ []
+-- what `asm` takes
+abbrev pub assembly_rules : List Rule
+assembly_rules = file_rule ∷ levels_rule ∷ []
+
+-- what `dis` and `measure` take
+abbrev pub inspection_rules : List Rule
+inspection_rules = file_rule ∷ flat_rule ∷ levels_rule ∷ []
 
 -- what `run` and `plain` take
 abbrev pub execution_rules : List Rule
-execution_rules = listing_rules ++ input_rule ∷ steps_rule ∷ []
+execution_rules = inspection_rules ++ input_rule ∷ steps_rule ∷ []
 
 -- a command with these arguments
 abbrev pub command : Text → List Rule → Shape
@@ -57,6 +61,8 @@ chip_app = record {
   };
   subs = command (codes "run") execution_rules
       ∷ command (codes "plain") execution_rules
-      ∷ command (codes "dis") listing_rules
+      ∷ command (codes "asm") assembly_rules
+      ∷ command (codes "dis") inspection_rules
+      ∷ command (codes "measure") inspection_rules
       ∷ [];
 }

@@ -13,18 +13,19 @@ abbrev pub HasNumber : Text → List Row → Type 0
 HasNumber id values = HasValue id values
     × (IsNumeral 10 (without_leading_plus (value_of id values)) × (number_of (value_of id values) < 2 ^ 64))
 
-pub record HasListing (values : List Row) : Type 0 where
+-- which program, and for how large a memory
+pub record HasProgram (values : List Row) : Type 0 where
   pub file : HasValue (codes "file") values
   pub levels : HasNumber (codes "levels") values
   pub bounds : (1 ≤ levels_of values) × (levels_of values ≤ 6)
 
 pub record HasExecution (values : List Row) : Type 0 where
-  pub listing : HasListing values
+  pub program : HasProgram values
   pub steps : HasNumber (codes "steps") values
 
 -- a command has the values that it can't do without
 pub record HasItsValues (name : Text) (values : List Row) : Type 0 where
-  pub listing : HasListing values
+  pub program : HasProgram values
   pub run : bytes_eq name (codes "run") ≡ true → HasExecution values
   pub plain : bytes_eq name (codes "plain") ≡ true → HasExecution values
 

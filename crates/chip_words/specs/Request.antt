@@ -15,8 +15,13 @@ pub record ExecutionAsked : Type 0 where
   pub levels : ℕ
   pub steps : ℕ
 
--- what is to be listed, and how
-pub record ListingAsked : Type 0 where
+-- what is to be assembled, and for how large a memory
+pub record AssemblyAsked : Type 0 where
+  pub file : Text
+  pub levels : ℕ
+
+-- which program is to be looked at without running it
+pub record InspectionAsked : Type 0 where
   pub file : Text
   pub flat : Bool
   pub levels : ℕ
@@ -24,7 +29,9 @@ pub record ListingAsked : Type 0 where
 pub data Asked : Type 0 where
   to_run : ExecutionAsked → Asked
   to_run_plain : ExecutionAsked → Asked
-  to_list : ListingAsked → Asked
+  to_assemble : AssemblyAsked → Asked
+  to_disassemble : InspectionAsked → Asked
+  to_measure : InspectionAsked → Asked
 
 -- ---- the values of a command
 
@@ -60,8 +67,11 @@ execution_of values = record {
   steps = steps_of values;
 }
 
-abbrev pub listing_of : List Row → ListingAsked
-listing_of values = record { file = file_of values; flat = flat_of values; levels = levels_of values }
+abbrev pub assembly_of : List Row → AssemblyAsked
+assembly_of values = record { file = file_of values; levels = levels_of values }
+
+abbrev pub inspection_of : List Row → InspectionAsked
+inspection_of values = record { file = file_of values; flat = flat_of values; levels = levels_of values }
 
 -- ---- the request
 
@@ -69,7 +79,9 @@ listing_of values = record { file = file_of values; flat = flat_of values; level
 abbrev pub asked_by : Text → List Row → Option Asked
 asked_by name values = if bytes_eq name (codes "run") then Some (to_run (execution_of values))
     else (if bytes_eq name (codes "plain") then Some (to_run_plain (execution_of values))
-    else (if bytes_eq name (codes "dis") then Some (to_list (listing_of values)) else None))
+    else (if bytes_eq name (codes "asm") then Some (to_assemble (assembly_of values))
+    else (if bytes_eq name (codes "dis") then Some (to_disassemble (inspection_of values))
+    else (if bytes_eq name (codes "measure") then Some (to_measure (inspection_of values)) else None))))
 
 -- what a command asks for, where there is one
 abbrev pub asked_in : Option (Text × List Row) → Option Asked
@@ -86,10 +98,14 @@ request_of words =
 abbrev pub levels_asked : Asked → ℕ
 levels_asked (to_run execution) = execution.levels
 levels_asked (to_run_plain execution) = execution.levels
-levels_asked (to_list listing) = listing.levels
+levels_asked (to_assemble assembly) = assembly.levels
+levels_asked (to_disassemble inspection) = inspection.levels
+levels_asked (to_measure inspection) = inspection.levels
 
 -- no step is asked for where nothing is run
 abbrev pub steps_asked : Asked → ℕ
 steps_asked (to_run execution) = execution.steps
 steps_asked (to_run_plain execution) = execution.steps
-steps_asked (to_list listing) = 0
+steps_asked (to_assemble assembly) = 0
+steps_asked (to_disassemble inspection) = 0
+steps_asked (to_measure inspection) = 0

@@ -2,11 +2,12 @@
 use Rattle.std.specs.Prelude.{List, map, option_map, ⊤}
 use Rattle.std.specs.Borrow.{Bor}
 use Rattle.clap.specs.Walk.{Text}
-use Rattle.chip_words.specs.Request.{Asked, ExecutionAsked, ListingAsked, to_run, to_run_plain, to_list}
+use Rattle.chip_words.specs.Request.{Asked, AssemblyAsked, ExecutionAsked, InspectionAsked, to_assemble, to_disassemble, to_measure, to_run, to_run_plain}
+use Rattle.chip_words.specs.declared.request.Assembly.{Assembly}
 use Rattle.chip_words.specs.declared.request.Execution.{Execution}
-use Rattle.chip_words.specs.declared.request.Listing.{Listing}
+use Rattle.chip_words.specs.declared.request.Inspection.{Inspection}
 use Rattle.chip_words.specs.declared.request.Request.{Request}
-use Rattle.chip_words.specs.declared.request.Request.TheVariants.{Run, Plain, Dis}
+use Rattle.chip_words.specs.declared.request.Request.TheVariants.{Run, Plain, Asm, Dis, Measure}
 use Rattle.chip_words.specs.declared.request.WordsError.{WordsError}
 use Rattle.chip_words.specs.declared.request.WordsError.TheVariants.{Usage, NoMemory}
 
@@ -23,14 +24,19 @@ execution e = record {
   steps = e.steps;
 }
 
-abbrev pub listing : Listing → ListingAsked
-listing l = record { file = l.file.now; flat = l.flat; levels = l.levels }
+abbrev pub assembly : Assembly → AssemblyAsked
+assembly a = record { file = a.file.now; levels = a.levels }
+
+abbrev pub inspection : Inspection → InspectionAsked
+inspection i = record { file = i.file.now; flat = i.flat; levels = i.levels }
 
 -- what the request asks for
 abbrev pub asked : Request → Asked
 asked (Run e) = to_run (execution e)
 asked (Plain e) = to_run_plain (execution e)
-asked (Dis l) = to_list (listing l)
+asked (Asm a) = to_assemble (assembly a)
+asked (Dis i) = to_disassemble (inspection i)
+asked (Measure i) = to_measure (inspection i)
 
 -- where the error is of the words, and not of memory
 abbrev pub IfUsage : WordsError → Type 0 → Type 0

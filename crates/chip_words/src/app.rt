@@ -3,7 +3,7 @@ ghost use Rattle.std.specs.Prelude.{◌≡◌, [], IfOk, false};
 ghost use Rattle.clap.specs.Walk.{rule_of};
 ghost use Rattle.clap.specs.Simple.{app_of, shape_of};
 ghost use Rattle.clap.specs.declared.builder.command.Command.TheViews.{out-Command as fields_of};
-ghost use Rattle.chip_words.specs.App.{chip_app, command, execution_rules, listing_rules};
+ghost use Rattle.chip_words.specs.App.{assembly_rules, chip_app, command, execution_rules, inspection_rules};
 ghost use Rattle.chip_words.specs.App.{file_rule, flat_rule, input_rule, levels_rule, steps_rule};
 
 use clap::{Arg, ArgAction, Command, value_parser};
@@ -14,13 +14,17 @@ pub(crate) fn app<'a>(alloc: Global) -> Result<Command<'a>, AllocError>
 {
     let run = execution(alloc, "run", "Runs a program on protected memory")?;
     let plain = execution(alloc, "plain", "Runs a program on the plain machine")?;
-    let dis = listing(alloc, "dis", "Lists the instructions of a program")?;
+    let asm = assembly(alloc, "asm", "Makes the ELF file of an assembly text")?;
+    let dis = inspection(alloc, "dis", "Lists the instructions of a program")?;
+    let measure = inspection(alloc, "measure", "Tells the measurement of a program")?;
     let app = Command::new(alloc, "chip")
         .subcommand_required(true)
         .arg_required_else_help(true)
         .subcommand(run)?
         .subcommand(plain)?
-        .subcommand(dis)?;
+        .subcommand(asm)?
+        .subcommand(dis)?
+        .subcommand(measure)?;
     Ok(app)
 }
 
@@ -29,33 +33,45 @@ fn execution<'a>(alloc: Global, name: &'a str, about: &'a str) -> Result<Command
     ensures shape { IfOk result (λ c. shape_of c ≡ command name.entry.now execution_rules) }
     ensures local { IfOk result (λ c. (fields_of c).has_globals ≡ false) }
 {
-    let command = listing(alloc, name, about)?
+    let command = inspection(alloc, name, about)?
         .arg(input(alloc))?
         .arg(steps(alloc))?;
     Ok(command)
 }
 
-// A command that lists a program.
-fn listing<'a>(alloc: Global, name: &'a str, about: &'a str) -> Result<Command<'a>, AllocError>
-    ensures shape { IfOk result (λ c. shape_of c ≡ command name.entry.now listing_rules) }
+// A command that assembles a text.
+fn assembly<'a>(alloc: Global, name: &'a str, about: &'a str) -> Result<Command<'a>, AllocError>
+    ensures shape { IfOk result (λ c. shape_of c ≡ command name.entry.now assembly_rules) }
     ensures local { IfOk result (λ c. (fields_of c).has_globals ≡ false) }
 {
     let command = Command::new(alloc, name)
         .about(about)
-        .arg(file(alloc))?
+        .arg(file(alloc, "The assembly text"))?
+        .arg(levels(alloc))?;
+    Ok(command)
+}
+
+// A command that looks at a program without running it.
+fn inspection<'a>(alloc: Global, name: &'a str, about: &'a str) -> Result<Command<'a>, AllocError>
+    ensures shape { IfOk result (λ c. shape_of c ≡ command name.entry.now inspection_rules) }
+    ensures local { IfOk result (λ c. (fields_of c).has_globals ≡ false) }
+{
+    let command = Command::new(alloc, name)
+        .about(about)
+        .arg(file(alloc, "The program"))?
         .arg(flat(alloc))?
         .arg(levels(alloc))?;
     Ok(command)
 }
 
-fn file<'a>(alloc: Global) -> Arg<'a>
+fn file<'a>(alloc: Global, help: &'a str) -> Arg<'a>
     ensures rule { rule_of result ≡ file_rule }
     ensures local { result.global ≡ false }
 {
     Arg::new(alloc, "file")
         .value_name("FILE")
         .required(true)
-        .help("The program")
+        .help(help)
 }
 
 fn flat<'a>(alloc: Global) -> Arg<'a>
@@ -65,7 +81,7 @@ fn flat<'a>(alloc: Global) -> Arg<'a>
     Arg::new(alloc, "flat")
         .long("flat")
         .action(ArgAction::SetTrue)
-        .help("FILE has the program's bytes and nothing else")
+        .help("FILE has the program's bytes and nothing else; without this it is an ELF file")
 }
 
 fn input<'a>(alloc: Global) -> Arg<'a>

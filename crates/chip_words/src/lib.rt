@@ -17,7 +17,7 @@ mod values;
 
 use clap::Error;
 use clap::error::ErrorKind;
-pub use request::{Execution, Listing, Request, WordsError};
+pub use request::{Assembly, Execution, Inspection, Request, WordsError};
 use std::alloc::Global;
 
 /// What the words of the process ask for, the program's name first. A question for help is refused too, and its answer is

@@ -6,10 +6,14 @@ use thiserror::Error;
 pub enum Request<'a> {
     /// To run a program on protected memory.
     Run(Execution<'a>),
-    /// To run it on the plain machine.
+    /// To run a program on the plain machine.
     Plain(Execution<'a>),
-    /// To list its instructions.
-    Dis(Listing<'a>),
+    /// To make the ELF file of an assembly text.
+    Asm(Assembly<'a>),
+    /// To list a program's instructions.
+    Dis(Inspection<'a>),
+    /// To tell a program's measurement.
+    Measure(Inspection<'a>),
 }
 
 /// What is to be run, and how.
@@ -17,7 +21,7 @@ pub enum Request<'a> {
 pub struct Execution<'a> {
     /// The program's file.
     pub file: &'a str,
-    /// The file has the program's bytes and nothing else.
+    /// The file is read as the program's bytes and nothing else, and not as an ELF file.
     pub flat: bool,
     /// The file of the program's input, where it has one.
     pub input: Option<&'a str>,
@@ -27,12 +31,21 @@ pub struct Execution<'a> {
     pub steps: u64,
 }
 
-/// What is to be listed, and how.
+/// What is to be assembled, and for how large a memory.
 #[derive(Clone, Copy, Debug, PartialEq, Eq)]
-pub struct Listing<'a> {
+pub struct Assembly<'a> {
+    /// The assembly text's file.
+    pub file: &'a str,
+    /// The levels of the memory's tree, 1 to 6.
+    pub levels: u8,
+}
+
+/// Which program is to be looked at without running it.
+#[derive(Clone, Copy, Debug, PartialEq, Eq)]
+pub struct Inspection<'a> {
     /// The program's file.
     pub file: &'a str,
-    /// The file has the program's bytes and nothing else.
+    /// The file is read as the program's bytes and nothing else, and not as an ELF file.
     pub flat: bool,
     /// The levels of the memory's tree, 1 to 6.
     pub levels: u8,

@@ -1,7 +1,7 @@
 // Lines of words. What each asks for is worked out by hand from the commands' arguments and from clap's rules: an option
 // stands anywhere behind its command, its value stands in the next word or behind `=`, after `--` no word is an option,
 // and no option stands twice.
-use super::{Execution, Listing, Request, WordsError, read_words};
+use super::{Assembly, Execution, Inspection, Request, WordsError, read_words};
 use std::alloc::{AllocError, Global};
 use std::test::Fail;
 
@@ -13,7 +13,7 @@ const EXECUTION: Execution<'static> = Execution {
     steps: 10000000,
 };
 
-const LISTING: Listing<'static> = Listing {
+const INSPECTION: Inspection<'static> = Inspection {
     file: "p",
     flat: false,
     levels: 4,
@@ -109,13 +109,36 @@ fn requests(rt: HostRuntime) -> Result<(), Fail> {
             "chip plain --levels 2 p --input i --flat --steps 3",
             Request::Plain(all),
         ),
-        ("chip dis p", Request::Dis(LISTING)),
+        ("chip dis p", Request::Dis(INSPECTION)),
         (
             "chip dis --flat p --levels +06",
-            Request::Dis(Listing {
+            Request::Dis(Inspection {
                 file: "p",
                 flat: true,
                 levels: 6,
+            }),
+        ),
+        ("chip measure p", Request::Measure(INSPECTION)),
+        (
+            "chip measure --levels=1 --flat p",
+            Request::Measure(Inspection {
+                file: "p",
+                flat: true,
+                levels: 1,
+            }),
+        ),
+        (
+            "chip asm p",
+            Request::Asm(Assembly {
+                file: "p",
+                levels: 4,
+            }),
+        ),
+        (
+            "chip asm --levels 2 measure",
+            Request::Asm(Assembly {
+                file: "measure",
+                levels: 2,
             }),
         ),
     ];
@@ -149,6 +172,14 @@ fn refusals(rt: HostRuntime) -> Result<(), Fail> {
         "chip plain p -- --flat",
         "chip dis p --steps 3",
         "chip dis p --input i",
+        "chip asm",
+        "chip asm p --flat",
+        "chip asm p --input i",
+        "chip asm p --levels 7",
+        "chip measure",
+        "chip measure p q",
+        "chip measure p --steps 3",
+        "chip assemble p",
         "chip --flat run p",
         "chip frob",
         "chip p",

@@ -2,12 +2,12 @@
 ghost use Rattle.std.specs.Prelude.{◌≡◌, IsSome, Some, option_map};
 ghost use Rattle.clap.specs.Walk.{first_of, rows_of};
 ghost use Rattle.clap.specs.Words.{found_of, subcommand_rows_of};
-ghost use Rattle.chip_words.specs.Request.{asked_in, execution_of, flat_of, levels_of, listing_of};
+ghost use Rattle.chip_words.specs.Request.{asked_in, assembly_of, execution_of, flat_of, inspection_of, levels_of};
 ghost use Rattle.chip_words.specs.Request.{number_of, value_of};
-ghost use Rattle.chip_words.specs.Commands.{HasExecution, HasListing, HasNumber, HasValue, IfCommand};
-ghost use Rattle.chip_words.specs.Words.{asked, execution, listing};
+ghost use Rattle.chip_words.specs.Commands.{HasExecution, HasNumber, HasProgram, HasValue, IfCommand};
+ghost use Rattle.chip_words.specs.Words.{asked, assembly, execution, inspection};
 
-use crate::request::{Execution, Listing, Request};
+use crate::request::{Assembly, Execution, Inspection, Request};
 use clap::ArgMatches;
 
 // What the command that was met asks for.
@@ -20,7 +20,9 @@ pub(crate) fn requested<'a>(matches: &ArgMatches<'a>) -> Request<'a>
     match name {
         "run" => Request::Run(execution(values)),
         "plain" => Request::Plain(execution(values)),
-        _ => Request::Dis(listing(values)),
+        "asm" => Request::Asm(assembly(values)),
+        "dis" => Request::Dis(inspection(values)),
+        _ => Request::Measure(inspection(values)),
     }
 }
 
@@ -37,11 +39,21 @@ fn execution<'a>(values: &ArgMatches<'a>) -> Execution<'a>
     }
 }
 
-fn listing<'a>(values: &ArgMatches<'a>) -> Listing<'a>
-    requires { HasListing (rows_of (found_of values.now)) }
-    ensures { listing result ≡ listing_of (rows_of (found_of values.now)) }
+fn assembly<'a>(values: &ArgMatches<'a>) -> Assembly<'a>
+    requires { HasProgram (rows_of (found_of values.now)) }
+    ensures { assembly result ≡ assembly_of (rows_of (found_of values.now)) }
 {
-    Listing {
+    Assembly {
+        file: value(values, "file"),
+        levels: levels(values),
+    }
+}
+
+fn inspection<'a>(values: &ArgMatches<'a>) -> Inspection<'a>
+    requires { HasProgram (rows_of (found_of values.now)) }
+    ensures { inspection result ≡ inspection_of (rows_of (found_of values.now)) }
+{
+    Inspection {
         file: value(values, "file"),
         flat: is_flat(values),
         levels: levels(values),
@@ -58,7 +70,7 @@ fn is_flat(values: &ArgMatches<'_>) -> bool
 }
 
 fn levels(values: &ArgMatches<'_>) -> u8
-    requires { HasListing (rows_of (found_of values.now)) }
+    requires { HasProgram (rows_of (found_of values.now)) }
     ensures { result ≡ levels_of (rows_of (found_of values.now)) }
 {
     number(values, "levels") as u8

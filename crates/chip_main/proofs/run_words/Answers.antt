@@ -1,7 +1,7 @@
 use Rattle.chip_main.proofs.Outcomes.{read_fault, refused, statuses, tells_run, usage}
 use Rattle.chip_main.proofs.RunOutcomes.{bus_together, halted, honest, out_of_steps, runs_request, spent, tampered, tampered_once, trapped, with_evidence, write_fault}
-use Rattle.chip_main.proofs.Requested.{asks_front, dis, no_run, not_flat, others, others_undone, plain, run_asked, unasked, unfit}
-use Rattle.chip_main.proofs.Wholes.{whole, whole_dis, whole_plain}
+use Rattle.chip_main.proofs.Requested.{asks_front, asm, dis, measure, no_run, others, others_undone, plain, run_asked, unasked, unfit}
+use Rattle.chip_main.proofs.Wholes.{whole, whole_asm, whole_dis, whole_measure, whole_plain}
 use Rattle.chip_main.proofs.run_words.Goals as goal
 
 pub returns-clause-statuses : goal.returns-clause-statuses
@@ -43,9 +43,6 @@ returns-clause-others g c = others c.answer-done.ensures.outcome
 pub returns-clause-others_undone : goal.returns-clause-others_undone
 returns-clause-others_undone g c = others_undone c.answer-done.ensures.outcome
 
-pub returns-clause-not_flat : goal.returns-clause-not_flat
-returns-clause-not_flat g c = not_flat c.answer-done.ensures.outcome
-
 pub returns-clause-unasked : goal.returns-clause-unasked
 returns-clause-unasked g c = unasked c.answer-done.ensures.outcome
 
@@ -70,6 +67,12 @@ returns-clause-no_run g c = no_run c.answer-done.ensures.outcome
 pub returns-clause-plain : goal.returns-clause-plain
 returns-clause-plain g c = plain c.answer-done.ensures.outcome
 
+pub returns-clause-asm : goal.returns-clause-asm
+returns-clause-asm g c = asm c.answer-done.ensures.outcome
+
+pub returns-clause-measure : goal.returns-clause-measure
+returns-clause-measure g c = measure c.answer-done.ensures.outcome
+
 pub returns-clause-dis : goal.returns-clause-dis
 returns-clause-dis g c = dis c.answer-done.ensures.outcome
 
@@ -81,6 +84,12 @@ returns-clause-whole g c = whole c.answer-done.ensures.outcome
 
 pub returns-clause-whole_plain : goal.returns-clause-whole_plain
 returns-clause-whole_plain g c = whole_plain c.answer-done.ensures.outcome
+
+pub returns-clause-whole_asm : goal.returns-clause-whole_asm
+returns-clause-whole_asm g c = whole_asm c.answer-done.ensures.outcome
+
+pub returns-clause-whole_measure : goal.returns-clause-whole_measure
+returns-clause-whole_measure g c = whole_measure c.answer-done.ensures.outcome
 
 pub returns-clause-whole_dis : goal.returns-clause-whole_dis
 returns-clause-whole_dis g c = whole_dis c.answer-done.ensures.outcome

@@ -1,14 +1,10 @@
-use Rattle.std.proofs.Common.{◌<◌, length, inr, arith}
-use Rattle.sec_base.specs.Layout.{memory_size}
-use Rattle.chip_main.specs.declared.refusal.Refusal.TheVariants.{TooLarge}
-use Rattle.chip_main.proofs.Takings.{runs_out_here, stops_here, too_large}
+use Rattle.std.proofs.Common.{ap, Err}
+use Rattle.chip_main.specs.Program.{program_file}
+use Rattle.chip_main.proofs.Takings.{untold}
 use Rattle.chip_main.proofs.taking.take_program.Goals as goal
 
-pub returns-then-len-size-clause-stopped : goal.returns-then-len-size-clause-stopped
-returns-then-len-size-clause-stopped g c =
-    let large : memory_size c.args.geometry < length c.in-Ok.bytes = omega arith in
-    stops_here TooLarge _ _ _ c.in-Ok.ensures.asked
-    (c.in-Ok.bytes, c.in-Ok.ensures.bytes, c.in-Ok.ensures.within, too_large c.args.geometry c.in-Ok.bytes large)
-
-pub returns-in-Err-flat_image-clause-stopped : goal.returns-in-Err-flat_image-clause-stopped
-returns-in-Err-flat_image-clause-stopped g c = runs_out_here _ _ _ (inr c.in-Ok.ensures.asked)
+pub returns-clause-stopped : goal.returns-clause-stopped
+returns-clause-stopped g c =
+    untold c.in-Err-program_in.stop (program_file c.args.name.now c.args.form c.args.geometry) c.in-Ok.bytes _ _
+    c.in-Ok.ensures.bytes (rw c.limit.ensures.limit at c.in-Ok.ensures.within) c.in-Ok.ensures.asked
+    (λ refusal is. rw (c.size.ensures.size, c.as_slice.ensures) at c.in-Err-program_in.ensures.refused refusal (ap Err is))

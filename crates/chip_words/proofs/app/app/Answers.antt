@@ -13,4 +13,8 @@ returns c =
     ∙ ap₂ with_subcommand top c.in_ok-run.ensures.shape in
     let plain = c.in_ok-subcommand-2.ensures.shape c.in_ok-plain.ensures.local
     ∙ ap₂ with_subcommand run c.in_ok-plain.ensures.shape in
-    c.in_ok-app.ensures.shape c.in_ok-dis.ensures.local ∙ ap₂ with_subcommand plain c.in_ok-dis.ensures.shape
+    let asm = c.in_ok-subcommand-3.ensures.shape c.in_ok-asm.ensures.local
+    ∙ ap₂ with_subcommand plain c.in_ok-asm.ensures.shape in
+    let dis = c.in_ok-subcommand-4.ensures.shape c.in_ok-dis.ensures.local
+    ∙ ap₂ with_subcommand asm c.in_ok-dis.ensures.shape in
+    c.in_ok-app.ensures.shape c.in_ok-measure.ensures.local ∙ ap₂ with_subcommand dis c.in_ok-measure.ensures.shape

@@ -1,13 +1,15 @@
--- A run of a flat program, as its pieces were made.
+-- A run on the device, as its pieces were made.
 use Rattle.std.proofs.Common.{◌≡◌, ℕ, List, [], refl, ap}
+use Rattle.sec_base.specs.Layout.{memory_size}
 use Rattle.sec_base.specs.declared.program.Image.{Image}
 use Rattle.bus_model.specs.Told.{Told, NothingWritten, nothing_told}
 use Rattle.hmac_tag.specs.DeviceKeys.{keys_of}
 use Rattle.hmac_tag.specs.Tags.{TagKeys, tag_of}
 use Rattle.hmac_tag.specs.declared.derivation.Keys.{Keys}
 use Rattle.tag_engine.specs.Tag.{engine_tag}
-use Rattle.rv32_core.specs.Machine.{opening}
-use Rattle.chip_main.specs.Flat.{IsFlatImage, device_enc_key, device_key, device_tag, flat_opening}
+use Rattle.rv32_core.specs.Machine.{opening as image_opening}
+use Rattle.chip_main.specs.Device.{device_enc_key, device_key, device_tag}
+use Rattle.chip_main.specs.Program.{IsImageOf, Program, opening}
 
 -- a new bus has nothing written
 pub nothing_written : (told : Told) (levels : ℕ) → told ≡ nothing_told levels → NothingWritten told
@@ -24,6 +26,6 @@ pub enc_key_is : (keys : Keys) → keys ≡ keys_of device_key → keys.enc_key 
 unfolding device_enc_key
 enc_key_is keys derived = rw derived refl
 
--- the machine is the flat program's as it begins
-pub opening_is : (levels : ℕ) (program input : List ℕ) (image : Image) → IsFlatImage levels program image → opening image input ≡ flat_opening levels program input
-opening_is levels program input image flat = rw (flat.entry, flat.size, flat.segments) refl
+-- the machine is the program's as it begins
+pub opening_is : (levels : ℕ) (program : Program) (input : List ℕ) (image : Image) → IsImageOf (memory_size levels) program image → image_opening image input ≡ opening levels program input
+opening_is levels program input image is = rw (is.entry, is.memory, is.segments) refl

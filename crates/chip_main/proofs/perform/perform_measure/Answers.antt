@@ -1,0 +1,13 @@
+use Rattle.std.proofs.Common.{rules, ◌≡◌, refl, sym}
+use Rattle.chip_words.specs.Words.{inspection as inspection_asked}
+use Rattle.chip_main.specs.Needs.{inspection_file}
+use Rattle.chip_main.specs.Texts.{measurement_line}
+use Rattle.chip_main.proofs.Courses.{writes_of}
+use Rattle.chip_main.proofs.perform.perform_measure.Goals as goal
+
+pub returns-clause-came : goal.returns-clause-came
+returns-clause-came g c =
+    let taken = c.in-Ok.ensures.taken in
+    let levels : c.args.inspection.now.levels ≡ c.unwrap-geometry.result = search rules in
+    writes_of (inspection_file (inspection_asked c.args.inspection.now)) c.of_program-form.result c.unwrap-geometry.result measurement_line taken.0 c.in-Ok.image
+    _ _ _ _ _ (sym c.of_program-form.ensures) levels taken.1 taken.2 c.in-Ok.ensures.asked c.write_measurement-written.ensures.told

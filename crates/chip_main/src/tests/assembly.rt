@@ -1,0 +1,165 @@
+// Assembly texts. The bytes are put together by hand from the formats' tables, and so are the lines of the faults.
+use super::files::EXIT_7_ELF;
+use super::{Call, check, check_length, file, make_call};
+use sec_base::NoMemory;
+use std::alloc::Global;
+use std::test::Fail;
+
+const ASM: [&str; 3] = ["chip", "asm", "f"];
+
+const ASM_SMALL: [&str; 5] = ["chip", "asm", "f", "--levels", "1"];
+
+// A byte is stored in lines of memory that a small cache would hold in one place, and then printed.
+const STORE_AND_PRINT: &[u8] = b"_start: li   t0, 0x140
+        lui  t1, 0x1
+        add  t1, t1, t0
+        lui  t2, 0x2
+        add  t2, t2, t0
+        li   t3, 65
+        sb   t3, 0(t0)
+        sb   t3, 64(t0)
+        sb   t3, 0(t1)
+        sb   t3, 64(t1)
+        sb   t3, 0(t2)
+        sb   t3, 64(t2)
+        li   a0, 1
+        mv   a1, t2
+        li   a2, 1
+        li   a7, 64
+        ecall
+        lbu  a0, 0(t0)
+        li   a7, 93
+        ecall
+";
+
+// It prints A and then B, and exits with what the service answered.
+const PRINT_TWICE: &[u8] = b"_start: la   a1, text
+        li   a2, 1
+        li   a0, 1
+        li   a7, 64
+        ecall
+        addi a1, a1, 1
+        li   a0, 1
+        ecall
+        li   a7, 93
+        ecall
+text:   .ascii \"AB\"
+";
+
+// A call on an assembly text.
+fn call_text(alloc: Global, words: &[&str], text: &[u8]) -> Result<Call, NoMemory> {
+    let mut files = file(alloc, text, &[])?;
+    make_call(alloc, words, &mut files, &[], &[])
+}
+
+// A call on the ELF file of an assembly text, whose writes to `out` with these numbers fail.
+fn call_assembled(
+    alloc: Global,
+    words: &[&str],
+    text: &[u8],
+    out_fails: &[u64],
+) -> Result<Call, NoMemory> {
+    let assembled = call_text(alloc, &ASM, text)?;
+    let mut files = file(alloc, assembled.out.bytes(), &[])?;
+    make_call(alloc, words, &mut files, out_fails, &[])
+}
+
+#[test]
+fn texts_are_assembled(rt: HostRuntime) -> Result<(), Fail> {
+    let call = call_text(rt.alloc(), &ASM, b"li a0, 7\nli a7, 93\necall\n")?;
+    check(&rt, &call, &EXIT_7_ELF, b"", 0);
+
+    // An empty text is one segment of length 0.
+    let call = call_text(rt.alloc(), &ASM, b"")?;
+    let mut empty = Vec::from_slice(rt.alloc(), &EXIT_7_ELF[..68])?;
+    empty.extend_from_slice(&[0, 0, 0, 0, 0, 0, 0, 0, 7, 0, 0, 0, 1, 0, 0, 0])?;
+    check(&rt, &call, empty.as_slice(), b"", 0);
+    Ok(())
+}
+
+#[test]
+fn assembled_programs_run(rt: HostRuntime) -> Result<(), Fail> {
+    let alloc = rt.alloc();
+    let words = ["chip", "run", "f"];
+    let call = call_assembled(alloc, &words, STORE_AND_PRINT, &[])?;
+    check(&rt, &call, b"A", b"halted 65\nretired 20\nlies 0\n", 0);
+    let call = call_assembled(alloc, &words, PRINT_TWICE, &[])?;
+    check(&rt, &call, b"AB", b"halted 1\nretired 11\nlies 0\n", 0);
+    let call = call_assembled(alloc, &words, PRINT_TWICE, &[2])?;
+    check(&rt, &call, b"A", b"write fault\nretired 8\nlies 0\n", 9);
+    Ok(())
+}
+
+#[test]
+fn texts_are_refused(rt: HostRuntime) -> Result<(), Fail> {
+    let rows: [(&[u8], &[u8]); 15] = [
+        (b"addi a0, zero, 2048\n", b"refused asm 1 3 Range\n"),
+        (b"frob a0\n", b"refused asm 1 1 Unknown\n"),
+        (b"add a0, a1\n", b"refused asm 1 2 Operand\n"),
+        (b"a:\na:\n", b"refused asm 2 4 Twice\n"),
+        (b"j b\n", b"refused asm 1 5 Missing\n"),
+        (b".space 1048577\n", b"refused asm 1 6 Large\n"),
+        (b".ascii \"a\n", b"refused asm 1 2 Operand\n"),
+        (
+            b".word 1234567890123456789012345678901234567890\n",
+            b"refused asm 1 2 Operand\n",
+        ),
+        (b".align 3\n", b"refused asm 1 3 Range\n"),
+        (b"lui a0, 1048576\n", b"refused asm 1 3 Range\n"),
+        (b".byte 1\nnop\n", b"refused asm 2 3 Range\n"),
+        (b".half 1\n_start:\n", b"refused asm 2 3 Range\n"),
+        (b"\x80", b"refused asm 1 1 Unknown\n"),
+        (b"# nothing\n\n\tfrob\n", b"refused asm 3 1 Unknown\n"),
+        (b"j b\nfrob\n", b"refused asm 2 1 Unknown\n"),
+    ];
+    for (text, told) in rows {
+        let call = call_text(rt.alloc(), &ASM, text)?;
+        check(&rt, &call, b"", told, 3);
+    }
+    Ok(())
+}
+
+#[test]
+fn texts_fit_the_memory(rt: HostRuntime) -> Result<(), Fail> {
+    let call = call_text(rt.alloc(), &ASM_SMALL, b".space 16385\n")?;
+    check(&rt, &call, b"", b"refused asm 1 6 Large\n", 3);
+    let call = call_text(rt.alloc(), &ASM_SMALL, b".space 16384\n")?;
+    assert_eq!(rt; call.out.bytes().len(), 16468);
+    assert_eq!(rt; call.done.status, 0);
+    check_length(&rt, rt.alloc(), &ASM, 1048577, b"refused long\n", 3)?;
+    Ok(())
+}
+
+#[test]
+fn a_text_fills_its_limit(rt: HostRuntime) -> Result<(), Fail> {
+    // Three instructions, and then blanks.
+    let mut text = Vec::from_slice(rt.alloc(), b"li a0, 7\nli a7, 93\necall\n")?;
+    text.resize(1048576, b' ')?;
+    let call = call_text(rt.alloc(), &ASM, text.as_slice())?;
+    check(&rt, &call, &EXIT_7_ELF, b"", 0);
+    Ok(())
+}
+
+#[test]
+fn a_file_is_one_piece(rt: HostRuntime) -> Result<(), Fail> {
+    // The write that fails, and what stands then.
+    let rows: [(u64, &[u8], u8); 2] = [(1, b"", 9), (2, &EXIT_7_ELF, 0)];
+    for (fails, printed, status) in rows {
+        let text = b"li a0, 7\nli a7, 93\necall\n";
+        let mut files = file(rt.alloc(), text, &[])?;
+        let call = make_call(rt.alloc(), &ASM, &mut files, &[fails], &[])?;
+        check(&rt, &call, printed, b"", status);
+    }
+    Ok(())
+}
+
+#[test]
+fn a_fault_of_note_keeps_a_refused_text(rt: HostRuntime) -> Result<(), Fail> {
+    let rows: [(u64, &[u8]); 2] = [(1, b""), (2, b"refused asm 1 1 Unknown\n")];
+    for (fails, told) in rows {
+        let mut files = file(rt.alloc(), b"frob\n", &[])?;
+        let call = make_call(rt.alloc(), &ASM, &mut files, &[], &[fails])?;
+        check(&rt, &call, b"", told, 3);
+    }
+    Ok(())
+}

@@ -1,0 +1,39 @@
+ghost use Rattle.std.specs.Prelude.{◌≡◌, ◌≤◌, IfOk, string_bytes};
+ghost use Rattle.rv32_listing.specs.Listed.{IsListed as IsTold};
+ghost use Rattle.chip_main.specs.Texts.{elf_file, measurement_line};
+
+use elf_load::measure;
+use sec_base::{Image, NoMemory, Sink, SinkStop, write_all};
+use std::alloc::Global;
+
+/// Writes a program's ELF file, as one piece.
+pub fn write_elf_file<O: Sink>(alloc: Global, image: &Image, out: &mut O) -> Result<(), SinkStop>
+    ensures told { IsTold (elf_file image.now) (O.state out.old) (O.state out.new) result }
+    ensures faults { (O.state out.old).faults ≤ (O.state out.new).faults }
+{
+    let Ok(bytes) = elf_load::write(alloc, image) else {
+        return Err(SinkStop::NoMemory);
+    };
+    write_all(out, bytes.as_slice())?;
+    Ok(())
+}
+
+/// Writes a program's measurement as a line of 64 digits.
+pub fn write_measurement<O: Sink>(alloc: Global, image: &Image, out: &mut O) -> Result<(), SinkStop>
+    ensures told { IsTold (measurement_line image.now) (O.state out.old) (O.state out.new) result }
+    ensures faults { (O.state out.old).faults ≤ (O.state out.new).faults }
+{
+    let Ok(line) = measurement_text(alloc, image) else {
+        return Err(SinkStop::NoMemory);
+    };
+    write_all(out, line.as_bytes())?;
+    Ok(())
+}
+
+fn measurement_text(alloc: Global, image: &Image) -> Result<String, NoMemory>
+    ensures { IfOk result (λ line. string_bytes line ≡ measurement_line image.now) }
+{
+    let mut line = hex::encode(alloc, measure(image))?;
+    line.push_str("\n")?;
+    Ok(line)
+}
