@@ -25,7 +25,7 @@ use Rattle.rv32_decode.specs.Table.{rows}
 use Rattle.rv32_text.specs.Text.{mnemonic_of}
 use Rattle.rv32_asm.proofs.TextImmediates.{value_alone}
 use Rattle.rv32_asm.proofs.TextKeywords.{is_word}
-use Rattle.rv32_asm.proofs.TextLines.{is_plain, plain_labels, plain_line}
+use Rattle.rv32_asm.proofs.TextLines.{followed_line, is_plain, plain_labels, plain_line}
 use Rattle.rv32_asm.proofs.TextNumbers.{hex8_operand, hex8_read}
 use Rattle.rv32_asm.proofs.TextOperands.{is_operand, operands_read}
 use Rattle.rv32_asm.proofs.TextStatements.{line_plain, statement_read}
@@ -57,6 +57,7 @@ pub read_back : (size word address : ℕ) (text : List ℕ) (meaning : Statement
     IsStatementOf word address meaning → IsReadBack size word address
 read_back size word address text meaning e plain means inside is = record {
   one_line = rw e (plain_line text plain);
+  followed = λ rest. rw e (followed_line text rest plain);
   passed = λ number progress here. ap (after_line size number progress) e
       ∙ passed_text size address number text meaning progress (plain_labels text plain) means is.placed is.size inside here;
   emitted = λ labels. ap (line_bytes labels address) e

@@ -1,5 +1,5 @@
 -- A line without labels, comments and strings is its statement's text.
-use Rattle.std.proofs.Common.{◌≡◌, ℕ, ◌&&◌, ◌==◌, Bool, true, false, not, List, [], ◌∷◌, refl, arith, nat_lt}
+use Rattle.std.proofs.Common.{◌≡◌, ℕ, ◌&&◌, ◌==◌, Bool, true, false, not, List, [], ◌∷◌, ◌++◌, refl, arith, nat_lt}
 use Rattle.std.proofs.lemmas.Bool.{and_parts, le-ltb, ltb-true, not-true}
 use Rattle.std.specs.List.{list_all, slice_split}
 use Rattle.rv32_asm.specs.Characters.{trimmed}
@@ -81,3 +81,12 @@ plain_line (byte ∷ bytes) all =
     let parts = and_parts (is_plain byte) (list_all is_plain bytes) all in
     let plain = plain_parts byte parts.0 in
     rw (plain.line_feed, plain.carriage_return, plain_line bytes parts.1) refl
+
+pub followed_line : (line rest : List ℕ) → list_all is_plain line ≡ true →
+    lines_of (line ++ 10 ∷ rest) ≡ line ∷ lines_of rest
+unfolding lines_of
+followed_line [] rest all = refl
+followed_line (byte ∷ bytes) rest all =
+    let parts = and_parts (is_plain byte) (list_all is_plain bytes) all in
+    let plain = plain_parts byte parts.0 in
+    rw (plain.line_feed, plain.carriage_return, followed_line bytes rest parts.1) refl

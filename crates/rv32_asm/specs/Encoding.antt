@@ -22,6 +22,7 @@ use Rattle.rv32_asm.specs.Values.{expression_in, immediate_value, is_missing, mo
 abbrev pub distance : ℕ → ℤ → ℤ
 distance address target = signed 32 (modulo 32 (target -ℤ pos address))
 
+-- its lowest bit is 0
 abbrev pub is_even : ℤ → Bool
 is_even value = modulo 1 value == 0
 

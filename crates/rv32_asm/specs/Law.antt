@@ -1,15 +1,19 @@
 -- The texts of words are read back as those words.
-use Rattle.std.specs.Prelude.{◌≡◌, ℕ, ◌+◌, ◌%◌, ◌^◌, ◌<◌, ◌≤◌, List, [], ◌∷◌, Ok}
+use Rattle.std.specs.Prelude.{◌≡◌, ℕ, ◌+◌, ◌%◌, ◌^◌, ◌<◌, ◌≤◌, List, [], ◌∷◌, ◌++◌, Ok}
 use Rattle.std.specs.Int.{w32, to_le_bytes}
 use Rattle.rv32_text.specs.Text.{text_of_word}
+use Rattle.rv32_asm.specs.Characters.{line_feed}
 use Rattle.rv32_asm.specs.Lines.{lines_of}
 use Rattle.rv32_asm.specs.Labels.{Label}
 use Rattle.rv32_asm.specs.Passes.{Progress, after_line, line_bytes}
 
--- The text of a word at the line's own address, a multiple of 4 with four bytes of memory behind it, is one line, which
--- has no fault in either pass, whatever labels there are; it adds no label, and its bytes are the word's.
+-- The text of a word at the line's own address, a multiple of 4 with four bytes of memory behind it, is one line, at the
+-- end of a text and before further lines. The line has no fault in either pass, whatever labels there are; it adds no
+-- label, and its bytes are the word's.
 pub record IsReadBack (size word address : ℕ) : Type 0 where
   pub one_line : lines_of (text_of_word word address) ≡ text_of_word word address ∷ []
+  pub followed : (rest : List ℕ) →
+      lines_of (text_of_word word address ++ line_feed ∷ rest) ≡ text_of_word word address ∷ lines_of rest
   pub passed : (number : ℕ) (progress : Progress) → progress.address ≡ address →
       after_line size number progress (text_of_word word address) ≡ Ok (record progress { address = address + 4 })
   pub emitted : (labels : List Label) →

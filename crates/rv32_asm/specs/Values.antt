@@ -22,7 +22,7 @@ address_of labels (Some name) = unwrap_or (option_map (λ label. label.address) 
 unfoldable pub value_of : List Label → Expression → ℤ
 value_of labels value = pos (address_of labels value.label) +ℤ value.number
 
--- a value modulo 2^count
+-- a value modulo 2^count: its lowest bits
 abbrev pub modulo : ℕ → ℤ → ℕ
 modulo count value = unsigned_abs (int_rem_euclid value (pos (2 ^ count)))
 
