@@ -1,23 +1,9 @@
 -- Words are searched in tables.
-use Rattle.std.proofs.Common.{◌≡◌, ℕ, ◌+◌, ◌<◌, ◌≤◌, ◌++◌, Bool, true, false, List, [], ◌∷◌, map, length, get_or, drop, refl}
-use Rattle.std.specs.Prelude.{Option, Some, None}
+use Rattle.std.proofs.Common.{◌≡◌, ℕ, ◌++◌, Bool, true, false, List, [], ◌∷◌, refl}
+use Rattle.std.specs.Prelude.{Some, None}
 use Rattle.std.specs.Str.{bytes_eq}
-use Rattle.std.proofs.lemmas.List.{at_drop_more, at_drop_all}
 use Rattle.rv32_asm.specs.Keywords.{Keyword}
 use Rattle.rv32_asm.specs.Tables.{named}
-
--- what the code's search answers
-chosen : {X : Type 0} (entry : X → List ℕ × Keyword) (word : List ℕ) → List X → Option Keyword
-chosen entry word xs = named (map entry xs) word
-
-pub hit : {X : Type 0} (entry : X → List ℕ × Keyword) (word : List ℕ) (xs : List X) (i : ℕ) (d : X) → i < length xs → bytes_eq (entry (get_or xs i d)).0 word ≡ true → named (map entry (drop i xs)) word ≡ Some (entry (get_or xs i d)).1
-hit entry word xs i d below e = rw (at_drop_more (λ ys. named (map entry ys) word) xs i d below, e) refl
-
-pub missed : {X : Type 0} (entry : X → List ℕ × Keyword) (word : List ℕ) (xs : List X) (i : ℕ) (d : X) → i < length xs → bytes_eq (entry (get_or xs i d)).0 word ≡ false → named (map entry (drop i xs)) word ≡ named (map entry (drop (i + 1) xs)) word
-missed entry word xs i d below e = rw (at_drop_more (λ ys. named (map entry ys) word) xs i d below, e) refl
-
-pub none_left : {X : Type 0} (entry : X → List ℕ × Keyword) (word : List ℕ) (xs : List X) (i : ℕ) → length xs ≤ i → named (map entry (drop i xs)) word ≡ None
-none_left entry word xs i past = at_drop_all (λ ys. named (map entry ys) word) xs i past
 
 at_first : (c : Bool) (word : List ℕ) (entry : List ℕ × Keyword) (rest more : List (List ℕ × Keyword)) (keyword : Keyword) → bytes_eq entry.0 word ≡ c → named (entry ∷ rest) word ≡ Some keyword → (named rest word ≡ Some keyword → named (rest ++ more) word ≡ Some keyword) → named (entry ∷ (rest ++ more)) word ≡ Some keyword
 at_first true word entry rest more keyword e h next = let f = rw e at h in rw e f

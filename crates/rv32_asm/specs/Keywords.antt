@@ -26,7 +26,8 @@ pub data Keyword : Type 0 where
   TextWord : Keyword
   GloblWord : Keyword
 
--- the operands of the table's rows
+-- The operands of the table's rows. Each is a register for a field of the instruction, an expression for its immediate,
+-- or a place in memory for its immediate and its first register, as `4(sp)`.
 abbrev pub slots_of : Style → List Slot
 slots_of Registers = Rd ∷ Rs1 ∷ Rs2 ∷ []
 slots_of Immediate = Rd ∷ Rs1 ∷ Value ∷ []
