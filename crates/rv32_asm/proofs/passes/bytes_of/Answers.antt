@@ -1,6 +1,4 @@
-use Rattle.std.proofs.Common.{◌≡◌, ◌∙◌, ◌+◌, ◌<◌, ℕ, Err, Result, List, length, subst, sym, ap, arith, rules}
-use Rattle.rv32_asm.specs.Lines.{lines_of}
-use Rattle.rv32_asm.specs.Passes.{second_pass}
+use Rattle.std.proofs.Common.{◌≡◌, ◌∙◌, ◌+◌, ◌<◌, Err, length, sym, ap, arith, rules}
 use Rattle.rv32_asm.proofs.SecondSteps.{bytes_done, bytes_on, bytes_stop, end_done, end_on, line_inside, told}
 use Rattle.rv32_asm.proofs.passes.bytes_of.Goals as goal
 
