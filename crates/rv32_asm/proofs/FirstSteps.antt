@@ -269,7 +269,7 @@ module _ (size : ℕ) where
     goes_along address labels reach inside = elim next [
       | inl e ↦ rw e (then_reach number (lines_of rest) (after_line size number p line) address labels reach)
       | inr e ↦ rw (e.0, e.1, last_pass (number + 1) (at address labels) inside)
-        (then_reach number [] (after_line size number p line) address labels reach)
+          (then_reach number [] (after_line size number p line) address labels reach)
     ]
 
     pub pass_on : (all : Result Progress LineFault) (address : ℕ) (labels : List Label) →

@@ -41,6 +41,6 @@ pub inserted : (old new : BTreeMap (Bor (List ℕ)) Label) (name : List ℕ) (pl
     AreAlike (record { name = name; address = place.address; line = place.line } ∷ labels old.entries) (labels new.entries)
 inserted old new name place updates = record {
   each = λ q.
-    sym (chosen (bytes_eq name q) (record { ref_ptr = (0, 0); now = name }, place) _ _ (looked_up q old.entries))
-    ∙ (sym (btree_map_updates_str name old new (Some place) updates q) ∙ looked_up q new.entries);
+      sym (chosen (bytes_eq name q) (record { ref_ptr = (0, 0); now = name }, place) _ _ (looked_up q old.entries))
+      ∙ (sym (btree_map_updates_str name old new (Some place) updates q) ∙ looked_up q new.entries);
 }

@@ -201,5 +201,5 @@ module _ (labels : List Label) (address : ℕ) (i : Instruction) (value : ℤ) (
           rs1 = rs1_kept style (given imm) b;
           rs2 = rs2_kept style (given imm) c;
           format = rw (op_kept style (given imm))
-            (fits_kept style (row_for i.op).format (given imm) address value (style_format i.op) t.0 t.1);
+              (fits_kept style (row_for i.op).format (given imm) address value (style_format i.op) t.0 t.1);
         })

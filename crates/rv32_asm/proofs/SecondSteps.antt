@@ -58,8 +58,8 @@ module _ (text line rest : List ℕ) (next : IsNextLine text line rest) where
     bytes_step = elim next [
       | inl e ↦ rw e refl
       | inr e ↦ rw (e.0, e.1)
-        (bind_same (in_line number (line_bytes labels (length bytes) line)) _ _
-        (λ more. sym (last_bytes labels (number + 1) (bytes ++ more))))
+          (bind_same (in_line number (line_bytes labels (length bytes) line)) _ _
+          (λ more. sym (last_bytes labels (number + 1) (bytes ++ more))))
     ]
 
     goes_on : (made : Result (List ℕ) AsmFault) (new : List ℕ) → with_more bytes made ≡ Ok new →

@@ -18,14 +18,14 @@ returns-in-Err-clause-refused c = λ line code e.
 pub loop-rest-preserved : goal.loop-rest-preserved
 loop-rest-preserved c = record {
   counted =
-    let some : 0 < length c.loop-rest.rest.now = grind arith in
-    omega (arith, c.next_line.ensures.shorter some);
+      let some : 0 < length c.loop-rest.rest.now = grind arith in
+      omega (arith, c.next_line.ensures.shorter some);
   same = bytes_on c.loop-rest.rest.now c.next_line.result.0.now c.next_line.result.1.now c.next_line.ensures.lines c.args.labels.now
-    (c.loop-rest.number + 1) c.loop-rest.bytes.items c.put_line.new.bytes.items c.in_default.ensures.ok
-    ∙ c.loop-rest.invariant.same;
+      (c.loop-rest.number + 1) c.loop-rest.bytes.items c.put_line.new.bytes.items c.in_default.ensures.ok
+      ∙ c.loop-rest.invariant.same;
   ends = end_on c.loop-rest.rest.now c.next_line.result.0.now c.next_line.result.1.now c.next_line.ensures.lines
-    (length c.loop-rest.bytes.items) (length c.put_line.new.bytes.items) c.in_default.ensures.length
-    ∙ c.loop-rest.invariant.ends;
+      (length c.loop-rest.bytes.items) (length c.put_line.new.bytes.items) c.in_default.ensures.length
+      ∙ c.loop-rest.invariant.ends;
 }
 
 pub returns-clause-bytes : goal.returns-clause-bytes

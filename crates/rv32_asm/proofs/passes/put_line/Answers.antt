@@ -10,9 +10,9 @@ pub returns-in_err-statement-clause-refused : goal.returns-in_err-statement-clau
 returns-in_err-statement-clause-refused c =
     let p = err_from_is_err_and c.from_residual.result c.from_residual.ensures.1 in
     rw (p.1, p.2) (λ fault e.
-      let same : c.in_err-statement.field-0.0 ≡ Fault fault = cc in
-      bytes_fault c.args.labels.now (length c.args.bytes.now.items) c.args.line.now fault
-      (c.in_err-statement.ensures.refused fault (ap Err same)))
+    let same : c.in_err-statement.field-0.0 ≡ Fault fault = cc in
+    bytes_fault c.args.labels.now (length c.args.bytes.now.items) c.args.line.now fault
+    (c.in_err-statement.ensures.refused fault (ap Err same)))
 
 pub emit-requires-clause-placed : goal.emit-requires-clause-placed
 emit-requires-clause-placed c =
