@@ -1,5 +1,5 @@
 -- The program of a text, from what the passes found.
-use Rattle.std.proofs.Common.{◌≡◌, ℕ, List, [], Option, Result, Ok, Err, option_map, codes, refl, sym, ap, ◌∙◌}
+use Rattle.std.proofs.Common.{◌≡◌, ℕ, List, [], Result, Ok, Err, option_map, codes, refl, ap, ◌∙◌}
 use Rattle.rv32_asm.specs.Assembly.{Program, entry_of, program_of}
 use Rattle.rv32_asm.specs.Course.{Reaches, end_of, entry_at}
 use Rattle.rv32_asm.specs.Labels.{Label, label_named}

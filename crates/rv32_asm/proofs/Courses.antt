@@ -1,5 +1,5 @@
 -- The bytes of a line are as many as the addresses that it goes through.
-use Rattle.std.proofs.Common.{◌≡◌, ℕ, ◌+◌, ◌*◌, ◌<◌, ◌≤◌, ◌^◌, Bool, true, false, not, List, [], ◌∷◌, ◌++◌, Result, Ok, Err, length, map, replicate, refl, sym, ap, ◌∙◌, arith, length-append, if◌then◌else◌}
+use Rattle.std.proofs.Common.{◌≡◌, ℕ, ◌+◌, ◌*◌, ◌<◌, ◌^◌, Bool, true, false, not, List, [], ◌∷◌, ◌++◌, Result, Ok, Err, length, refl, ap, ◌∙◌, arith, length-append, if◌then◌else◌}
 use Rattle.std.specs.Prelude.{IsOkAnd}
 use Rattle.std.proofs.lemmas.List.{length-replicate}
 use Rattle.std.specs.List.{flat_map}
@@ -10,7 +10,7 @@ use Rattle.sec_base.specs.declared.memory.Width.TheVariants.{One, Two, Four}
 use Rattle.rv32_decode.specs.Table.{word_of}
 use Rattle.rv32_asm.specs.declared.fault.AsmFault.{AsmFault}
 use Rattle.rv32_asm.specs.declared.fault.AsmFault.TheVariants.{Range, Missing}
-use Rattle.rv32_asm.specs.Course.{behind, behind_line, end_of}
+use Rattle.rv32_asm.specs.Course.{behind, behind_line}
 use Rattle.rv32_asm.specs.Emission.{with_more}
 use Rattle.rv32_asm.specs.Encoding.{bytes_at, code_from, encoded_at, is_in_range, misses_label, number_bytes}
 use Rattle.rv32_asm.specs.Expressions.{Expression}

@@ -1,20 +1,19 @@
 -- The steps of the first pass, from line to line.
-use Rattle.std.proofs.Common.{◌≡◌, ℕ, ◌+◌, ◌<◌, ◌≤◌, Bool, true, false, List, [], ◌∷◌, Option, Some, None, Result, Ok, Err, length, option_map, refl, sym, ap, subst, ◌∙◌, inl, inr, arith, if◌then◌else◌}
+use Rattle.std.proofs.Common.{◌≡◌, ℕ, ◌+◌, ◌≤◌, Bool, true, false, List, [], ◌∷◌, Option, Some, None, Result, Ok, Err, length, option_map, refl, ap, subst, ◌∙◌, inl, inr, arith, if◌then◌else◌}
 use Rattle.std.specs.Prelude.{is_some, nat_lt}
 use Rattle.std.specs.Str.{bytes_eq}
 use Rattle.std.proofs.lemmas.Bool.{le-ltb}
 use Rattle.rv32_asm.specs.declared.fault.AsmFault.{AsmFault}
 use Rattle.rv32_asm.specs.declared.fault.AsmFault.TheVariants.{Range, Large, Twice}
-use Rattle.rv32_asm.specs.Characters.{trimmed}
 use Rattle.rv32_asm.specs.Course.{Gives, IsNextLine, Reaches, behind, behind_line, end_of}
 use Rattle.rv32_asm.specs.Labels.{Label, is_there, label_named}
 use Rattle.rv32_asm.specs.Layout.{is_misplaced, size_at}
 use Rattle.rv32_asm.specs.Parts.{parts}
 use Rattle.rv32_asm.specs.Lines.{labels_in, labels_of, lines_of, without_comment}
-use Rattle.rv32_asm.specs.Passes.{LineFault, Progress, address_after, after_line, first_pass, in_line, start, with_names, ◌>>=◌}
+use Rattle.rv32_asm.specs.Passes.{LineFault, Progress, address_after, after_line, first_pass, in_line, with_names, ◌>>=◌}
 use Rattle.rv32_asm.specs.Reading.{statement_of}
 use Rattle.rv32_asm.specs.SeenLabels.{AreAlike, unnamed}
-use Rattle.rv32_asm.specs.Statements.{Nothing, Statement}
+use Rattle.rv32_asm.specs.Statements.{Statement}
 use Rattle.rv32_asm.proofs.SecondSteps.{nothing_said}
 
 -- ---- labels that are alike
@@ -270,7 +269,7 @@ module _ (size : ℕ) where
     goes_along address labels reach inside = elim next [
       | inl e ↦ rw e (then_reach number (lines_of rest) (after_line size number p line) address labels reach)
       | inr e ↦ rw (e.0, e.1, last_pass (number + 1) (at address labels) inside)
-        (then_reach number [] (after_line size number p line) address labels reach)
+          (then_reach number [] (after_line size number p line) address labels reach)
     ]
 
     pub pass_on : (all : Result Progress LineFault) (address : ℕ) (labels : List Label) →

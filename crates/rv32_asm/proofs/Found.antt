@@ -1,11 +1,10 @@
 -- A map by names is as the list of its entries.
-use Rattle.std.proofs.Common.{◌≡◌, ℕ, Bool, true, false, List, [], ◌∷◌, Option, Some, None, map, option_map, refl, sym, ap, ◌∙◌, cond}
+use Rattle.std.proofs.Common.{◌≡◌, ℕ, Bool, true, false, List, [], ◌∷◌, Option, Some, option_map, refl, sym, ◌∙◌, cond}
 use Rattle.std.specs.Borrow.{Bor}
 use Rattle.std.specs.Cmp.Lexicographic.{slice_cmp}
-use Rattle.std.specs.List.{find}
-use Rattle.std.specs.Map.{lookup, update}
+use Rattle.std.specs.Map.{lookup}
 use Rattle.std.specs.Ordering.{nat_cmp}
-use Rattle.std.specs.BTreeMap.{BTreeMap, is_at, get_by, UpdatesBy}
+use Rattle.std.specs.BTreeMap.{BTreeMap, is_at, UpdatesBy}
 use Rattle.std.specs.Str.{bytes_eq}
 use Rattle.std.proofs.lemmas.Bool.Decides.{same_from_decides}
 use Rattle.std.proofs.lemmas.Map.Text.{btree_map_updates_str, is_eq-slice_cmp}
@@ -42,6 +41,6 @@ pub inserted : (old new : BTreeMap (Bor (List ℕ)) Label) (name : List ℕ) (pl
     AreAlike (record { name = name; address = place.address; line = place.line } ∷ labels old.entries) (labels new.entries)
 inserted old new name place updates = record {
   each = λ q.
-    sym (chosen (bytes_eq name q) (record { ref_ptr = (0, 0); now = name }, place) _ _ (looked_up q old.entries))
-    ∙ (sym (btree_map_updates_str name old new (Some place) updates q) ∙ looked_up q new.entries);
+      sym (chosen (bytes_eq name q) (record { ref_ptr = (0, 0); now = name }, place) _ _ (looked_up q old.entries))
+      ∙ (sym (btree_map_updates_str name old new (Some place) updates q) ∙ looked_up q new.entries);
 }

@@ -1,5 +1,5 @@
 -- An instruction is well formed with those of its fields that its row has, and its word is as with all of them.
-use Rattle.std.proofs.Common.{◌≡◌, ℕ, ◌+◌, ◌-◌, ◌*◌, ◌/◌, ◌%◌, ◌^◌, ◌<◌, ◌≤◌, ℤ, pos, negsuc, neg_ℤ, ◌≤ℤ◌, int_le, List, Bool, true, false, Option, Some, None, refl, ap, sym, ◌∙◌, ◌&&◌, inl, inr, arith, if◌then◌else◌}
+use Rattle.std.proofs.Common.{◌≡◌, ℕ, ◌+◌, ◌-◌, ◌*◌, ◌%◌, ◌^◌, ◌<◌, ◌≤◌, ℤ, pos, negsuc, neg_ℤ, ◌≤ℤ◌, int_le, List, Bool, true, false, Option, Some, None, refl, ap, ◌∙◌, ◌&&◌, inl, inr, arith, if◌then◌else◌}
 use Rattle.std.proofs.lemmas.Bool.{and_parts, eqb-true, leb-true}
 use Rattle.std.proofs.lemmas.Int.{ints}
 use Rattle.std.specs.Int.{cast_unsigned, w32}
@@ -201,5 +201,5 @@ module _ (labels : List Label) (address : ℕ) (i : Instruction) (value : ℤ) (
           rs1 = rs1_kept style (given imm) b;
           rs2 = rs2_kept style (given imm) c;
           format = rw (op_kept style (given imm))
-            (fits_kept style (row_for i.op).format (given imm) address value (style_format i.op) t.0 t.1);
+              (fits_kept style (row_for i.op).format (given imm) address value (style_format i.op) t.0 t.1);
         })

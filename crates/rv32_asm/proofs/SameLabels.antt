@@ -1,12 +1,12 @@
 -- Labels that are alike give the same bytes and the same entry.
-use Rattle.std.proofs.Common.{◌≡◌, ℕ, ◌+◌, ℤ, pos, ◌+ℤ◌, Bool, true, false, not, ◌&&◌, ◌||◌, List, [], ◌∷◌, ◌++◌, Option, Some, None, Result, Ok, Err, length, map, option_map, unwrap_or, refl, sym, ap, ◌∙◌, if◌then◌else◌}
+use Rattle.std.proofs.Common.{◌≡◌, ℕ, ◌+◌, ℤ, Bool, not, List, [], ◌∷◌, ◌++◌, Option, Some, None, Result, Ok, Err, length, option_map, unwrap_or, refl, ap}
 use Rattle.std.specs.List.{list_any, list_all, flat_map}
 use Rattle.rv32_asm.specs.declared.fault.AsmFault.{AsmFault}
 use Rattle.rv32_asm.specs.Assembly.{entry_of}
 use Rattle.rv32_asm.specs.Course.{entry_at}
 use Rattle.rv32_asm.specs.Encoding.{bytes_at, code_from, encoded_at, expressions_in, fit_from, fits_at, fits_width, is_in_range, misses_label, number_bytes}
 use Rattle.rv32_asm.specs.Expressions.{Expression}
-use Rattle.rv32_asm.specs.Labels.{Label, is_there, label_named}
+use Rattle.rv32_asm.specs.Labels.{Label, label_named}
 use Rattle.rv32_asm.specs.Passes.{LineFault, emitted, in_line, line_bytes, second_pass, ◌>>=◌}
 use Rattle.rv32_asm.specs.Reading.{statement_of}
 use Rattle.rv32_asm.specs.SeenLabels.{AreAlike, unnamed}

@@ -15,8 +15,8 @@ use Rattle.rv32_asm.specs.Emission.{with_more}
 use Rattle.rv32_asm.specs.Encoding.{bytes_at, is_in_range, misses_label}
 use Rattle.rv32_asm.specs.Labels.{Label}
 use Rattle.rv32_asm.specs.Layout.{is_misplaced, size_at}
-use Rattle.rv32_asm.specs.Lines.{lines_of, labels_of, statement_text, without_comment}
-use Rattle.rv32_asm.specs.Passes.{LineFault, emitted, in_line, line_bytes, second_pass, ◌>>=◌}
+use Rattle.rv32_asm.specs.Lines.{lines_of, statement_text, without_comment}
+use Rattle.rv32_asm.specs.Passes.{LineFault, in_line, line_bytes, second_pass, ◌>>=◌}
 use Rattle.rv32_asm.specs.Reading.{statement_of}
 use Rattle.rv32_asm.specs.Statements.{Statement, Nothing}
 
@@ -58,8 +58,8 @@ module _ (text line rest : List ℕ) (next : IsNextLine text line rest) where
     bytes_step = elim next [
       | inl e ↦ rw e refl
       | inr e ↦ rw (e.0, e.1)
-        (bind_same (in_line number (line_bytes labels (length bytes) line)) _ _
-        (λ more. sym (last_bytes labels (number + 1) (bytes ++ more))))
+          (bind_same (in_line number (line_bytes labels (length bytes) line)) _ _
+          (λ more. sym (last_bytes labels (number + 1) (bytes ++ more))))
     ]
 
     goes_on : (made : Result (List ℕ) AsmFault) (new : List ℕ) → with_more bytes made ≡ Ok new →

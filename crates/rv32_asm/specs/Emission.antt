@@ -1,5 +1,5 @@
 -- The bytes of a statement's parts, added to those before them.
-use Rattle.std.specs.Prelude.{ℕ, List, [], ◌∷◌, ◌++◌, Result, Ok, Err, if◌then◌else◌}
+use Rattle.std.specs.Prelude.{ℕ, List, ◌++◌, Result, Ok, Err, if◌then◌else◌}
 use Rattle.std.specs.List.{list_all, flat_map}
 use Rattle.sec_base.specs.declared.memory.Width.{Width}
 use Rattle.rv32_asm.specs.declared.fault.AsmFault.{AsmFault}

@@ -7,7 +7,6 @@ use Rattle.rv32_decode.specs.declared.table.Format.{Format}
 use Rattle.rv32_decode.specs.declared.table.Format.TheVariants.{R, I, S, B, U, J, H, N}
 use Rattle.rv32_text.specs.declared.names.Style.{Style}
 use Rattle.rv32_text.specs.declared.names.Style.TheVariants.{Registers, Immediate, Offset, Store, Upper, Branch, Jump, Fence, Bare}
-use Rattle.std.specs.Prelude.{pos}
 use Rattle.rv32_asm.specs.Encoding.{fits_format, immediate_of}
 
 -- the rows that shift by a number

@@ -1,5 +1,5 @@
 -- What the code's labels say, as the definitions see them.
-use Rattle.std.specs.Prelude.{◌≡◌, ℕ, List, map, Option, option_map}
+use Rattle.std.specs.Prelude.{◌≡◌, ℕ, List, map, option_map}
 use Rattle.std.specs.Borrow.{Bor}
 use Rattle.rv32_asm.specs.declared.labels.Label.{Label}
 use Rattle.rv32_asm.specs.Labels as meant

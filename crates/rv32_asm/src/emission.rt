@@ -14,12 +14,10 @@ ghost use Rattle.std.specs.Int.{to_le_bytes, w32};
 ghost use Rattle.std.specs.List.{list_any};
 ghost use Rattle.std.specs.Prelude.{Err, Ok, OnOk, false, length, replicate, ◌*◌, ◌++◌, ◌+◌, ◌<◌, ◌^◌, ◌≡◌};
 
-use crate::encoding;
 use crate::fault::{AsmFault, LineError};
 use crate::labels::Labels;
-use crate::layout;
 use crate::statements::{Expression, Instruction, Statement};
-use crate::values;
+use crate::{encoding, layout, values};
 use sec_base::{NoMemory, Width};
 
 // Whether one of the instructions names a label that isn't there.
@@ -186,11 +184,7 @@ fn put_statement(
 }
 
 /// Adds the bytes of a statement that may stand where the bytes end.
-pub fn emit(
-    bytes: &mut Vec<u8>,
-    labels: &Labels,
-    statement: &Statement,
-) -> Result<(), LineError>
+pub fn emit(bytes: &mut Vec<u8>, labels: &Labels, statement: &Statement) -> Result<(), LineError>
     requires placed { layout_spec.is_misplaced (length bytes.old.items) (seen.statement statement.now) ≡ false }
     requires room { length bytes.old.items + layout_spec.size_at (length bytes.old.items) (seen.statement statement.now) < 2 ^ 32 }
     ensures ok { OnOk result (with_more bytes.old.items

@@ -103,15 +103,19 @@ fn immediate_of(op: Op, address: u32, value: i64) -> Option<i32>
 // An instruction with an immediate, and of the registers those that its row has.
 fn with_immediate(instruction: &Instruction, imm: i32) -> Inst
     ensures { result ≡ kept (mnemonic_of instruction.now.op).style (record {
-        op = instruction.now.op;
-        rd = instruction.now.rd;
-        rs1 = instruction.now.rs1;
-        rs2 = instruction.now.rs2;
-        imm = imm;
+      op = instruction.now.op;
+      rd = instruction.now.rd;
+      rs1 = instruction.now.rs1;
+      rs2 = instruction.now.rs2;
+      imm = imm;
     }) }
 {
     let Instruction {
-        op, rd, rs1, rs2, ..
+        op,
+        rd,
+        rs1,
+        rs2,
+        ..
     } = *instruction;
     let (rd, rs1, rs2) = match style_of(op) {
         Style::Registers => (rd, rs1, rs2),

@@ -25,6 +25,8 @@ mod reading;
 mod registers;
 mod statements;
 mod strings;
+#[cfg(test)]
+mod tests;
 mod values;
 
 pub use fault::{AsmError, AsmFault};

@@ -11,12 +11,9 @@ ghost use Rattle.rv32_asm.specs.declared.fault.AsmError.TheVariants as error;
 ghost use Rattle.rv32_asm.specs.declared.fault.LineError.TheVariants.{Fault};
 ghost use Rattle.std.specs.Prelude.{Err, IfOk, IsOkAnd, Ok, OnOk, [], length, ℕ, ◌+◌, ◌<◌, ◌^◌, ◌≡◌, ◌≤◌};
 
-use crate::emission;
 use crate::fault::{AsmError, LineError};
 use crate::labels::{Label, Labels};
-use crate::layout;
-use crate::lines;
-use crate::reading;
+use crate::{emission, layout, lines, reading};
 use std::alloc::Global;
 
 // The first line of a text, and the text behind it, empty behind the last line.
@@ -48,11 +45,7 @@ pub struct Progress<'a> {
 }
 
 // Adds the labels of a line without its comment.
-fn add_labels<'a>(
-    labels: &mut Labels<'a>,
-    text: &'a [u8],
-    label: Label,
-) -> Result<(), LineError>
+fn add_labels<'a>(labels: &mut Labels<'a>, text: &'a [u8], label: Label) -> Result<(), LineError>
     ensures added { OnOk result (Gives
         (spec.with_names label.address label.line (labels_in (parts text.now)) labels.old)
         labels.new) }
@@ -147,12 +140,7 @@ fn put_line(
 }
 
 /// The bytes of a text whose labels are known, and which ends at an address, or its first fault.
-pub fn bytes_of(
-    alloc: Global,
-    text: &[u8],
-    labels: &Labels,
-    end: u32,
-) -> Result<Vec<u8>, AsmError>
+pub fn bytes_of(alloc: Global, text: &[u8], labels: &Labels, end: u32) -> Result<Vec<u8>, AsmError>
     requires short { length text.now < 2 ^ 32 }
     requires end { end_of 0 (lines_of text.now) ≡ Ok end }
     ensures bytes { IfOk result (λ bytes. spec.second_pass labels.now 1 [] (lines_of text.now) ≡ Ok bytes.items) }

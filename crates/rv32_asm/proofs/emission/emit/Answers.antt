@@ -9,7 +9,7 @@ pub returns-clause-ok : goal.returns-clause-ok
 returns-clause-ok c =
     let same = emitted_is c.args.labels.now (length c.args.bytes.now.items) (seen.statement c.args.statement.now) (sym c.if-misses_label.ensures) in
     let P : Result (List ℕ) AsmFault → Type 0 =
-      λ made. OnOk c.put_statement.result (with_more c.args.bytes.now.items made ≡ Ok c.put_statement.new.bytes.items) in
+    λ made. OnOk c.put_statement.result (with_more c.args.bytes.now.items made ≡ Ok c.put_statement.new.bytes.items) in
     subst P (sym same) c.put_statement.ensures.ok
 
 pub returns-clause-refused : goal.returns-clause-refused

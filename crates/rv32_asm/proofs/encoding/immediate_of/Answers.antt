@@ -1,6 +1,5 @@
 use Rattle.std.proofs.lemmas.Int.{to_z-of_z}
 use Rattle.rv32_asm.proofs.Formats.{by_style}
-use Rattle.rv32_asm.proofs.Kept.{word_kept}
 use Rattle.rv32_asm.proofs.encoding.immediate_of.Goals as goal
 
 pub returns : goal.returns

@@ -1,6 +1,6 @@
 use Rattle.std.proofs.Common.{SFits, ◌∙◌, rules, w32, w64, sym}
 use Rattle.std.proofs.lemmas.Int.{to_z-of_z}
-use Rattle.rv32_asm.specs.Encoding.{distance, is_even}
+use Rattle.rv32_asm.specs.Encoding.{is_even}
 use Rattle.rv32_asm.proofs.Kept.{in_reach}
 use Rattle.rv32_asm.proofs.encoding.near.Goals as goal
 

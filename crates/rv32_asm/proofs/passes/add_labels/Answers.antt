@@ -1,6 +1,6 @@
 use Rattle.rv32_asm.specs.Lines.{labels_in}
 use Rattle.rv32_asm.specs.Parts.{parts}
-use Rattle.rv32_asm.proofs.FirstSteps.{named, one_named, one_twice}
+use Rattle.rv32_asm.proofs.FirstSteps.{named, one_named}
 use Rattle.rv32_asm.proofs.passes.add_labels.Goals as goal
 
 pub loop-name-preserved : goal.loop-name-preserved

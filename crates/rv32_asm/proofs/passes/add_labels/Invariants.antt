@@ -1,5 +1,4 @@
 use Rattle.std.proofs.Common.{length}
-use Rattle.rv32_asm.proofs.SameLabels.{second_same}
 use Rattle.rv32_asm.specs.Lines.{labels_in}
 use Rattle.rv32_asm.specs.Parts.{parts}
 use Rattle.rv32_asm.proofs.FirstSteps.{ListsAlike, named}

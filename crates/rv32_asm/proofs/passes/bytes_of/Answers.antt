@@ -1,6 +1,4 @@
-use Rattle.std.proofs.Common.{◌≡◌, ◌∙◌, ◌+◌, ◌<◌, ℕ, Err, Result, List, length, subst, sym, ap, arith, rules}
-use Rattle.rv32_asm.specs.Lines.{lines_of}
-use Rattle.rv32_asm.specs.Passes.{second_pass}
+use Rattle.std.proofs.Common.{◌≡◌, ◌∙◌, ◌+◌, ◌<◌, Err, length, sym, ap, arith, rules}
 use Rattle.rv32_asm.proofs.SecondSteps.{bytes_done, bytes_on, bytes_stop, end_done, end_on, line_inside, told}
 use Rattle.rv32_asm.proofs.passes.bytes_of.Goals as goal
 
@@ -20,14 +18,14 @@ returns-in-Err-clause-refused c = λ line code e.
 pub loop-rest-preserved : goal.loop-rest-preserved
 loop-rest-preserved c = record {
   counted =
-    let some : 0 < length c.loop-rest.rest.now = grind arith in
-    omega (arith, c.next_line.ensures.shorter some);
+      let some : 0 < length c.loop-rest.rest.now = grind arith in
+      omega (arith, c.next_line.ensures.shorter some);
   same = bytes_on c.loop-rest.rest.now c.next_line.result.0.now c.next_line.result.1.now c.next_line.ensures.lines c.args.labels.now
-    (c.loop-rest.number + 1) c.loop-rest.bytes.items c.put_line.new.bytes.items c.in_default.ensures.ok
-    ∙ c.loop-rest.invariant.same;
+      (c.loop-rest.number + 1) c.loop-rest.bytes.items c.put_line.new.bytes.items c.in_default.ensures.ok
+      ∙ c.loop-rest.invariant.same;
   ends = end_on c.loop-rest.rest.now c.next_line.result.0.now c.next_line.result.1.now c.next_line.ensures.lines
-    (length c.loop-rest.bytes.items) (length c.put_line.new.bytes.items) c.in_default.ensures.length
-    ∙ c.loop-rest.invariant.ends;
+      (length c.loop-rest.bytes.items) (length c.put_line.new.bytes.items) c.in_default.ensures.length
+      ∙ c.loop-rest.invariant.ends;
 }
 
 pub returns-clause-bytes : goal.returns-clause-bytes

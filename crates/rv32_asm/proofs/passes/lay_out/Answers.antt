@@ -17,14 +17,14 @@ returns-in-Err-clause-refused c = λ line code e.
 pub loop-rest-preserved : goal.loop-rest-preserved
 loop-rest-preserved c = record {
   counted =
-    let some : 0 < length c.loop-rest.rest.now = grind arith in
-    omega (arith, c.next_line.ensures.shorter some);
+      let some : 0 < length c.loop-rest.rest.now = grind arith in
+      omega (arith, c.next_line.ensures.shorter some);
   inside = c.in-Ok.ensures.inside;
   agree =
-    pass_on c.args.size c.loop-rest.rest.now c.next_line.result.0.now c.next_line.result.1.now c.next_line.ensures.lines
-    (c.loop-rest.number + 1) (at c.loop-rest.progress.address c.loop-rest.progress.labels)
-    (first_pass c.args.size 1 start (lines_of c.args.text.now)) c.in-Ok.after.address c.in-Ok.after.labels
-    c.in-Ok.ensures.after c.in-Ok.ensures.inside c.loop-rest.invariant.agree;
+      pass_on c.args.size c.loop-rest.rest.now c.next_line.result.0.now c.next_line.result.1.now c.next_line.ensures.lines
+      (c.loop-rest.number + 1) (at c.loop-rest.progress.address c.loop-rest.progress.labels)
+      (first_pass c.args.size 1 start (lines_of c.args.text.now)) c.in-Ok.after.address c.in-Ok.after.labels
+      c.in-Ok.ensures.after c.in-Ok.ensures.inside c.loop-rest.invariant.agree;
 }
 
 pub returns-clause-reached : goal.returns-clause-reached

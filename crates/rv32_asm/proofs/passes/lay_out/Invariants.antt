@@ -9,9 +9,9 @@ invariant-loop-rest l = record {
   counted : l.number + length l.rest ≤ length l.text;
   inside : l.progress.address ≤ l.size;
   agree :
-    Agree
-    (first_pass l.size 1 start (lines_of l.text))
-    (first_pass l.size (l.number + 1) (at l.progress.address l.progress.labels) (lines_of l.rest));
+      Agree
+      (first_pass l.size 1 start (lines_of l.text))
+      (first_pass l.size (l.number + 1) (at l.progress.address l.progress.labels) (lines_of l.rest));
 }
 
 abbrev pub decreases-loop-rest : goal.decreases-loop-rest

@@ -1,8 +1,7 @@
-use Rattle.std.proofs.Common.{◌≡◌, ◌∙◌, List, Result, Ok, Err, OnOk, ℕ, length, subst, sym, ap}
+use Rattle.std.proofs.Common.{◌≡◌, ◌∙◌, Err, length, ap}
 use Rattle.std.proofs.lemmas.Result.{err_from_is_err_and, on_ok_weaker}
 use Rattle.rv32_asm.specs.Seen as seen
 use Rattle.rv32_asm.specs.Emission.{with_more}
-use Rattle.rv32_asm.specs.declared.fault.AsmFault.{AsmFault}
 use Rattle.rv32_asm.specs.declared.fault.LineError.TheVariants.{Fault}
 use Rattle.rv32_asm.proofs.Courses.{bytes_fault, bytes_are, placed, grown}
 use Rattle.rv32_asm.proofs.passes.put_line.Goals as goal
@@ -11,9 +10,9 @@ pub returns-in_err-statement-clause-refused : goal.returns-in_err-statement-clau
 returns-in_err-statement-clause-refused c =
     let p = err_from_is_err_and c.from_residual.result c.from_residual.ensures.1 in
     rw (p.1, p.2) (λ fault e.
-      let same : c.in_err-statement.field-0.0 ≡ Fault fault = cc in
-      bytes_fault c.args.labels.now (length c.args.bytes.now.items) c.args.line.now fault
-      (c.in_err-statement.ensures.refused fault (ap Err same)))
+    let same : c.in_err-statement.field-0.0 ≡ Fault fault = cc in
+    bytes_fault c.args.labels.now (length c.args.bytes.now.items) c.args.line.now fault
+    (c.in_err-statement.ensures.refused fault (ap Err same)))
 
 pub emit-requires-clause-placed : goal.emit-requires-clause-placed
 emit-requires-clause-placed c =
