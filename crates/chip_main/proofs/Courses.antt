@@ -1,5 +1,5 @@
 -- How a call comes to its course.
-use Rattle.std.proofs.Common.{◌≡◌, ℕ, List, [], ◌∷◌, ◌++◌, Option, Some, None, Ok, Err, refl, sym, ◌∙◌, arith, append-nil, subst}
+use Rattle.std.proofs.Common.{◌≡◌, ℕ, List, [], ◌∷◌, ◌++◌, Option, Some, None, refl, sym, ◌∙◌, arith, append-nil, subst}
 use Rattle.sec_base.specs.Layout.{memory_size}
 use Rattle.sec_base.specs.Reading.{FilesState}
 use Rattle.sec_base.specs.Writing.{SinkState, Silent}
@@ -13,7 +13,7 @@ use Rattle.chip_main.specs.declared.taking.Stop.{Stop}
 use Rattle.chip_main.specs.declared.taking.Stop.TheVariants.{Refused, NoMemory}
 use Rattle.chip_main.specs.Program.{IsImageOf, Program, ProgramFile, program_file}
 use Rattle.chip_main.specs.Needs.{Need, AreAccepted, IsAccepted, asked_needs, execution_file, execution_needs, input_needs, needs_of, program_need}
-use Rattle.chip_main.specs.Causes.{Asks, AsksNothing, IsRefused, RunsOut, Stops}
+use Rattle.chip_main.specs.Causes.{Asks, IsRefused, RunsOut, Stops}
 use Rattle.chip_main.specs.Stopping.{StopsAs, stopped_course}
 use Rattle.chip_main.specs.Taken.{IsInput, IsProgram, Takes}
 use Rattle.chip_main.specs.Requests.{Writes}

@@ -1,5 +1,5 @@
 -- A run on the device, as its pieces were made.
-use Rattle.std.proofs.Common.{◌≡◌, ℕ, List, [], refl, ap}
+use Rattle.std.proofs.Common.{◌≡◌, ℕ, List, refl, ap}
 use Rattle.sec_base.specs.Layout.{memory_size}
 use Rattle.sec_base.specs.declared.program.Image.{Image}
 use Rattle.bus_model.specs.Told.{Told, NothingWritten, nothing_told}

@@ -1,8 +1,8 @@
 -- What the course of a call says of its status and of what was told.
-use Rattle.std.proofs.Common.{◌≡◌, ◌≢◌, ◌<◌, ◌≤◌, ◌⊎◌, inl, inr, List, [], ◌∷◌, ◌++◌, ℕ, length, Option, Some, None, Ok, Err, Contains, IfNone, IfSome, IsSome, ◌↔◌, refl, sym, ap, ◌∙◌, subst, arith}
+use Rattle.std.proofs.Common.{◌≡◌, ◌≢◌, ◌<◌, ◌≤◌, ◌⊎◌, inl, inr, List, [], ◌∷◌, ℕ, Option, Some, None, Ok, Err, Contains, IfSome, refl, sym, ◌∙◌, subst, arith}
 use Rattle.sec_base.specs.Count.{Rose}
 use Rattle.sec_base.specs.Reading.{FilesState}
-use Rattle.sec_base.specs.Writing.{SinkState, Gains, Silent}
+use Rattle.sec_base.specs.Writing.{SinkState}
 use Rattle.sec_base.specs.declared.account.Evidence.{Evidence}
 use Rattle.sec_base.specs.declared.answers.Ending.{Ending}
 use Rattle.sec_base.specs.declared.answers.Ending.TheVariants.{Halted, Trapped, OutOfSteps, Tampered, Spent, WriteFault, NoMemory as memory_ended}
@@ -16,12 +16,11 @@ use Rattle.chip_main.specs.declared.course.Course.{Course}
 use Rattle.chip_main.specs.declared.course.Course.TheVariants.{Refused, NoMemory, Ran, RanPlain, Written}
 use Rattle.chip_main.specs.declared.Done.{Done}
 use Rattle.chip_main.specs.Needs.{needs_of}
-use Rattle.chip_main.specs.Causes.{IsRefused, RunsOut, Stops}
+use Rattle.chip_main.specs.Causes.{IsRefused, Stops}
 use Rattle.chip_main.specs.Statuses.{Telling, ending_status, evidence_status, refusal_status, run_status, status_with, text_status, untold_ending_status}
 use Rattle.chip_main.specs.Buses.{lies_of, run_told}
-use Rattle.chip_main.specs.Requests.{PlainlyRunsRequest, RunsRequest}
-use Rattle.chip_main.specs.Answer.{LacksMemory, TellsEnding, TellsPlain, TellsRefusal, TellsRun, Undone}
-use Rattle.chip_main.specs.Texts.{plain_text, record_text, refusal_text}
+use Rattle.chip_main.specs.Answer.{TellsEnding, TellsPlain, TellsRun, Undone}
+use Rattle.chip_main.specs.Texts.{plain_text, record_text}
 use Rattle.chip_main.specs.Course.{CameAbout, Outcome, TellsCourse, course_bus, course_run, course_status, status_of, untold_status}
 
 -- ---- the statuses

@@ -1,5 +1,5 @@
 -- What was asked of the files, and what each request came to.
-use Rattle.std.proofs.Common.{◌≡◌, ◌≢◌, ◌<◌, ◌≤◌, ◌⊎◌, inl, inr, List, [], ◌∷◌, ◌++◌, ℕ, length, Option, Some, None, Ok, Err, Contains, IfNone, IfSome, refl, sym, ap, ◌∙◌, subst, arith, append-nil, append_assoc}
+use Rattle.std.proofs.Common.{◌≡◌, ◌≢◌, ◌⊎◌, inl, inr, List, [], ◌∷◌, ◌++◌, ℕ, length, Option, Some, None, Ok, Err, Contains, IfNone, IfSome, refl, sym, ap, ◌∙◌, subst, arith, append-nil, append_assoc}
 use Rattle.sec_base.specs.Reading.{FilesState, HasBytes}
 use Rattle.sec_base.specs.Writing.{SinkState}
 use Rattle.sec_base.specs.declared.program.Image.{Image}

@@ -1,7 +1,7 @@
 -- Files that are taken one after another, as far as one stops it.
-use Rattle.std.proofs.Common.{◌≡◌, ◌≤◌, ◌<◌, ◌⊎◌, inl, inr, ℕ, List, [], ◌∷◌, ◌++◌, length, Option, Some, None, IfSome, Result, Ok, Err, ◌+◌, refl, sym, ap, ◌∙◌, subst, arith, append-nil, append_assoc}
+use Rattle.std.proofs.Common.{◌≡◌, ◌≤◌, ◌⊎◌, inl, inr, ℕ, List, [], ◌∷◌, ◌++◌, length, Option, Some, None, IfSome, Result, Ok, Err, ◌+◌, refl, sym, ap, ◌∙◌, subst, arith, append-nil, append_assoc}
 use Rattle.std.specs.Result.{result_err}
-use Rattle.sec_base.specs.Count.{Rose, RoseBy, more_by}
+use Rattle.sec_base.specs.Count.{Rose, RoseBy}
 use Rattle.sec_base.specs.Layout.{memory_size}
 use Rattle.sec_base.specs.Reading.{FilesState, HasBytes, HasOver}
 use Rattle.sec_base.specs.declared.program.Image.{Image}
@@ -19,8 +19,8 @@ use Rattle.chip_main.specs.declared.refusal.Refusal.TheVariants.{Usage, Unread, 
 use Rattle.chip_main.specs.declared.taking.Stop.{Stop}
 use Rattle.chip_main.specs.declared.taking.Stop.TheVariants.{Refused, NoMemory}
 use Rattle.chip_main.specs.Program.{IsImageIn, Program, ProgramFile, assembled, unless_faulty, limit_of, program_in, program_of_file}
-use Rattle.chip_main.specs.Needs.{Need, AreAccepted, IsAccepted, execution_file, execution_needs, input_needs, names, program_need}
-use Rattle.chip_main.specs.Causes.{Asks, IsCause, IsMisformed, RunsOut, Stops}
+use Rattle.chip_main.specs.Needs.{Need, AreAccepted, IsAccepted, execution_file, input_needs, names, program_need}
+use Rattle.chip_main.specs.Causes.{Asks, IsCause, IsMisformed}
 use Rattle.chip_main.specs.Stopping.{StopsAs}
 use Rattle.chip_main.specs.Taken.{IsInput, IsProgram, Takes}
 

@@ -1,5 +1,5 @@
 -- Where the files tell all that is needed and nothing fails, what was asked for is done whole.
-use Rattle.std.proofs.Common.{◌≡◌, ◌≢◌, ◌<◌, ◌≤◌, ◌⊎◌, inl, inr, List, [], ◌∷◌, ◌++◌, ℕ, length, Option, Some, None, Ok, Err, Contains, IsSome, refl, sym, ap, ◌∙◌, subst, arith}
+use Rattle.std.proofs.Common.{◌≡◌, ◌≢◌, ◌<◌, ◌≤◌, ◌⊎◌, inl, inr, List, [], ◌∷◌, ℕ, length, Option, Some, None, Ok, Err, Contains, IsSome, refl, sym, ap, ◌∙◌, subst, arith}
 use Rattle.sec_base.specs.Count.{Rose}
 use Rattle.sec_base.specs.Reading.{FilesState, HasBytes, HasOver, IsOver}
 use Rattle.sec_base.specs.Writing.{SinkState}
@@ -20,10 +20,10 @@ use Rattle.chip_main.specs.declared.Done.{Done}
 use Rattle.chip_main.specs.Program.{Program, ProgramFile, opening, program_of_file}
 use Rattle.chip_main.specs.ProtectedRun.{RunsProtected}
 use Rattle.chip_main.specs.PlainRun.{RunsPlain}
-use Rattle.chip_main.specs.Needs.{Need, AreAccepted, HasTold, IsAccepted, asked_needs, assembly_file, execution_file, execution_needs, input_needs, inspection_file, program_need}
+use Rattle.chip_main.specs.Needs.{Need, AreAccepted, HasTold, IsAccepted, asked_needs, assembly_file, execution_file, execution_needs, inspection_file, program_need}
 use Rattle.chip_main.specs.Causes.{IsCause, IsMisformed, IsRefused, Stops}
-use Rattle.chip_main.specs.Taken.{IsInput, IsProgram, Takes, Tell}
-use Rattle.chip_main.specs.Statuses.{Telling, ending_status, run_status, text_status}
+use Rattle.chip_main.specs.Taken.{IsInput, IsProgram, Tell}
+use Rattle.chip_main.specs.Statuses.{Telling, ending_status, run_status}
 use Rattle.chip_main.specs.Buses.{AreBothAnd, IsRunAnd, lies_of, run_told}
 use Rattle.chip_main.specs.Answer.{plain_status}
 use Rattle.chip_main.specs.Requests.{PlainlyRuns, RunsExecution, Writes}

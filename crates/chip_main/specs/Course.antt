@@ -1,5 +1,5 @@
 -- What a call came to, how that came about, and what is made of it.
-use Rattle.std.specs.Prelude.{◌≡◌, List, ℕ, Option, Some, None, Ok, Err}
+use Rattle.std.specs.Prelude.{◌≡◌, ℕ, Option, Some, None, Ok, Err}
 use Rattle.sec_base.specs.Reading.{FilesState}
 use Rattle.sec_base.specs.Writing.{SinkState, Silent}
 use Rattle.sec_base.specs.declared.writing.SinkStop.TheVariants.{Failed, NoMemory as no_memory}

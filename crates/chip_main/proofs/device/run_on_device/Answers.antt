@@ -1,4 +1,3 @@
-use Rattle.std.proofs.Common.{◌≡◌, rules}
 use Rattle.chip_main.proofs.DeviceRuns.{device_tag_is, enc_key_is, nothing_written, opening_is}
 use Rattle.chip_main.proofs.device.run_on_device.Goals as goal
 

@@ -1,4 +1,4 @@
-use Rattle.std.proofs.Common.{rules, ◌≡◌, refl, sym}
+use Rattle.std.proofs.Common.{rules, ◌≡◌, refl}
 use Rattle.chip_words.specs.Words.{assembly as assembly_asked}
 use Rattle.chip_main.specs.Needs.{assembly_file}
 use Rattle.chip_main.specs.Texts.{elf_file}

@@ -1,4 +1,4 @@
-use Rattle.std.proofs.Common.{rules, ◌≡◌, refl, sym}
+use Rattle.std.proofs.Common.{rules, ◌≡◌, sym}
 use Rattle.chip_words.specs.Words.{inspection as inspection_asked}
 use Rattle.chip_main.specs.Needs.{inspection_file}
 use Rattle.chip_main.specs.Texts.{measurement_line}

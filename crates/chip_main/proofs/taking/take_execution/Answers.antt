@@ -1,8 +1,7 @@
-use Rattle.chip_words.specs.Words.{execution as execution_asked}
 use Rattle.chip_main.specs.Program.{program_file}
 use Rattle.chip_main.specs.Needs.{input_needs, program_need}
 use Rattle.chip_main.specs.Taken.{named}
-use Rattle.chip_main.proofs.Takings.{stops_first, stops_later, takes_both}
+use Rattle.chip_main.proofs.Takings.{stops_first, stops_later}
 use Rattle.chip_main.proofs.taking.take_execution.Goals as goal
 
 pub returns-in-Err-clause-stopped : goal.returns-in-Err-clause-stopped
