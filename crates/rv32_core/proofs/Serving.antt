@@ -1,14 +1,13 @@
 -- What the services make of a state.
-use Rattle.std.proofs.Common.{◌≡◌, ◌≢◌, ◌+◌, ◌-◌, ℕ, Bool, true, false, List, [], ◌∷◌, length, take, drop, refl, sym, ◌∙◌, ap, inr, subst, arith, None, Some, Result, Ok, Err, cond, ne_eqb}
+use Rattle.std.proofs.Common.{◌≡◌, ◌≢◌, ◌+◌, ◌-◌, ℕ, Bool, true, false, List, [], ◌∷◌, length, take, drop, refl, sym, ◌∙◌, ap, inr, subst, arith, Result, Ok, Err, cond, ne_eqb}
 use Rattle.std.specs.Result.{OnOk}
 use Rattle.std.proofs.lemmas.List.{length-take, take_min}
-use Rattle.sec_base.specs.declared.answers.Cause.{Cause}
 use Rattle.rv32_core.specs.declared.hart.Step.{Step}
 use Rattle.rv32_core.specs.declared.hart.Step.TheVariants.{Retired}
 use Rattle.rv32_core.specs.declared.hart.StepStop.{StepStop}
-use Rattle.rv32_core.specs.State.{State, Hart, CallState, written_hart, with_bytes}
-use Rattle.rv32_core.specs.After.{After, quietly, passed}
-use Rattle.rv32_core.specs.Services.{service, read_service, write_service, exit_service, brk_service, reads, answered, at_position, next_input, is_output, is_input, is_inside, a0, a1, a2, a7}
+use Rattle.rv32_core.specs.State.{State, Hart, written_hart, with_bytes}
+use Rattle.rv32_core.specs.After.{After, quietly}
+use Rattle.rv32_core.specs.Services.{service, read_service, write_service, reads, answered, next_input, is_output, is_inside, a0, a1, a2, a7}
 use Rattle.rv32_core.specs.Touch.{Range, HasLinesOf, HasLinesOfAll, service_touches, read_touches, write_touches}
 use Rattle.rv32_core.specs.Outcome.{IsOutcome, IsHalfDone, input_taken}
 

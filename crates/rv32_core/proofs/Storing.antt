@@ -2,7 +2,7 @@
 use Rattle.std.proofs.Common.{◌≡◌, ◌≤◌, ◌<◌, ℕ, suc, ◌+◌, ◌%◌, ◌^◌, List, [], ◌∷◌, ◌++◌, length, take, drop, get_or, set, sym, ap, ◌∙◌, arith, add-zero, length-append}
 use Rattle.std.proofs.lemmas.List.{append-nil, take-append-drop, take_all, take_more, length-take}
 use Rattle.std.proofs.lemmas.List.Edits.{sets-eq}
-use Rattle.std.proofs.Math.Seq.{sets, length-sets}
+use Rattle.std.proofs.Math.Seq.{sets}
 use Rattle.rv32_core.specs.State.{with_bytes}
 
 with-sets : (memory : List ℕ) (address : ℕ) (bytes : List ℕ) → address + length bytes ≤ length memory → with_bytes memory address bytes ≡ sets memory address bytes

@@ -1,6 +1,6 @@
 -- What one instruction does, or why it traps: the RISC-V unprivileged manual, RV32I 2.1 (sections 2.4 to 2.8), M 2.0
 -- and Zifencei 2.0.
-use Rattle.std.specs.Prelude.{ℕ, ◌+◌, ◌-◌, ◌%◌, ◌==◌, nat_lt, not, if◌then◌else◌, Bool, List, length, Option, Some, None, Result, Ok, Err, bit_and, bit_or, bit_xor}
+use Rattle.std.specs.Prelude.{ℕ, ◌+◌, ◌-◌, ◌%◌, ◌==◌, nat_lt, not, if◌then◌else◌, Bool, length, Option, Some, None, Result, Ok, Err, bit_and, bit_or, bit_xor}
 use Rattle.sec_base.specs.declared.answers.Cause.{Cause}
 use Rattle.sec_base.specs.declared.answers.Cause.TheVariants.{Illegal, MisalignedTarget, MisalignedData, OutsideMemory, Breakpoint}
 use Rattle.sec_base.specs.declared.memory.Width.{Width}

@@ -1,4 +1,4 @@
-use Rattle.std.proofs.Common.{◌≡◌, true, [], length, refl, sym, ◌∙◌, ap, ℕ, List}
+use Rattle.std.proofs.Common.{◌≡◌, true, length, refl, sym, ◌∙◌, ap, ℕ}
 use Rattle.rv32_core.specs.State.{State}
 use Rattle.rv32_core.specs.Services.{next_input, is_inside, a0, a1, a2}
 use Rattle.rv32_core.proofs.Serving.{inside_as, read_in_part, lines_of_read, on_any}
