@@ -10,6 +10,8 @@ mod table;
 #[cfg(test)]
 mod tests;
 
+pub use table::{Format, format_of, ops};
+
 /// The rows of the instruction table, in its order.
 #[derive(Clone, Copy, Debug, PartialEq, Eq)]
 pub enum Op {

@@ -1,15 +1,16 @@
 //! The rows of the instruction table: which word is of which row.
 
 ghost use Rattle.rv32_decode.specs.Fixed.{op_at};
-ghost use Rattle.rv32_decode.specs.Table.{row_for};
+ghost use Rattle.rv32_decode.specs.Table.{row_for, rows};
 ghost use Rattle.rv32_decode.specs.Table as spec;
 ghost use Rattle.rv32_decode.specs.declared.table.Format.TheVariants.{R, I, S, B, H, N};
-ghost use Rattle.std.specs.Prelude.{option_map, IfSome, ◌≡◌, ◌≢◌, ◌⊎◌};
+ghost use Rattle.std.specs.Prelude.{map, option_map, IfSome, ◌≡◌, ◌≢◌, ◌⊎◌};
 
 use crate::Op;
 use crate::fields::bits;
 
-// The layouts of a word's fields (RISC-V unprivileged manual, section 2.2); N has none.
+/// The layouts of a word's fields (RISC-V unprivileged manual, section 2.2); H has a shift where I has its immediate, and
+/// N has no fields.
 #[derive(Clone, Copy, Debug, PartialEq, Eq)]
 pub enum Format {
     R,
@@ -20,6 +21,66 @@ pub enum Format {
     J,
     H,
     N,
+}
+
+static OPS: [Op; 49] = [
+    Op::Lui,
+    Op::Auipc,
+    Op::Jal,
+    Op::Jalr,
+    Op::Beq,
+    Op::Bne,
+    Op::Blt,
+    Op::Bge,
+    Op::Bltu,
+    Op::Bgeu,
+    Op::Lb,
+    Op::Lh,
+    Op::Lw,
+    Op::Lbu,
+    Op::Lhu,
+    Op::Sb,
+    Op::Sh,
+    Op::Sw,
+    Op::Addi,
+    Op::Slti,
+    Op::Sltiu,
+    Op::Xori,
+    Op::Ori,
+    Op::Andi,
+    Op::Slli,
+    Op::Srli,
+    Op::Srai,
+    Op::Add,
+    Op::Sub,
+    Op::Sll,
+    Op::Slt,
+    Op::Sltu,
+    Op::Xor,
+    Op::Srl,
+    Op::Sra,
+    Op::Or,
+    Op::And,
+    Op::Mul,
+    Op::Mulh,
+    Op::Mulhsu,
+    Op::Mulhu,
+    Op::Div,
+    Op::Divu,
+    Op::Rem,
+    Op::Remu,
+    Op::Fence,
+    Op::FenceI,
+    Op::Ecall,
+    Op::Ebreak,
+];
+
+/// The rows of the instruction table, in its order.
+#[tactic(auto, unfolding(crate::specs::Table::rows))]
+pub fn ops() -> &'static [Op]
+    ensures { result.now ≡ map (λ row. row.op) rows }
+{
+    &OPS
 }
 
 // A row: the layout of its words, and its name.
@@ -317,7 +378,7 @@ pub fn pattern_of(op: Op) -> u32
     }
 }
 
-// The row's format.
+/// The format of a row.
 #[tactic(auto, unfolding(crate::specs::Table::rows, crate::specs::Table::row_for, crate::specs::Table::number_of))]
 pub fn format_of(op: Op) -> Format
     ensures { result ≡ (row_for op).format }

@@ -1,4 +1,4 @@
-use Rattle.std.proofs.Common.{◌≡◌, Some, None, sym, ap, ◌∙◌}
+use Rattle.std.proofs.Common.{◌≡◌, Some, None, ap, ◌∙◌}
 use Rattle.rv32_decode.proofs.Both.{answer_encoded, answer_fields, answer_none, instruction_at, no_instruction}
 use Rattle.rv32_decode.proofs.Rows.{one_row}
 use Rattle.rv32_decode.specs.Table.{instruction_of, read}
