@@ -24,10 +24,11 @@ fn main(rt: HostRuntime) -> ExitCode {
     };
     ExitCode::from(match status {
         Ok(status) => status,
-        Err(error) if error.kind() == io::ErrorKind::OutOfMemory => {
-            end(&mut note, "no memory\n", 10)
+        Err(error) if error.kind() == io::ErrorKind::OutOfMemory => 10,
+        Err(_) => {
+            let _ = write_all(&mut note, b"usage\n");
+            2
         }
-        Err(_) => end(&mut note, "usage\n", 2),
     })
 }
 
@@ -51,10 +52,4 @@ fn run<R: Files + AllocGlobal, O: Sink, N: Sink>(
     let mut files = RealFiles::new(rt);
     let done = run_words(rt.alloc(), texts.as_slice(), &mut files, out, note);
     Ok(done.status)
-}
-
-// Ends before a call, with a line and a status.
-fn end<N: Sink>(note: &mut N, line: &str, status: u8) -> u8 {
-    let _ = write_all(note, line.as_bytes());
-    status
 }

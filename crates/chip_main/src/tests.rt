@@ -400,6 +400,20 @@ fn other_words_are_usage(rt: HostRuntime) -> Result<(), Fail> {
     Ok(())
 }
 
+// The lines that stand first where `clap` refuses the words; the text is one piece behind `usage`.
+#[test]
+fn usage_says_what_is_wrong(rt: HostRuntime) -> Result<(), Fail> {
+    let mut files = MemoryFiles::new(rt.alloc(), &[])?;
+    let words = ["chip", "run", "f", "--levels", "7"];
+    let call = make_call(rt.alloc(), &words, &mut files, &[], &[])?;
+    let told =
+        b"usage\nerror: invalid value '7' for '--levels <L>': 7 is not in 1..=6\n".as_slice();
+    assert!(rt; call.note.bytes().starts_with(told));
+    let call = make_call(rt.alloc(), &words, &mut files, &[], &[2])?;
+    check(&rt, &call, b"", b"usage\n", 2);
+    Ok(())
+}
+
 #[test]
 fn files_are_not_read(rt: HostRuntime) -> Result<(), Fail> {
     // No such file, and a read that fails.

@@ -95,7 +95,33 @@ fn setup(geometry: Geometry, budget: u64, page_limit: u64) -> Setup
     }
 }
 
-// The code at 0, and two segments at these addresses, over an honest bus.
+// The code at 0, and two segments at these addresses.
+fn image(
+    alloc: Global,
+    words: &[u32],
+    second: (u32, &[u8]),
+    third: (u32, &[u8]),
+) -> Result<Image, AllocError>
+    requires words { length words.now ≤ 16 }
+    requires second { second.0 + 8 ≤ 16384 }
+    requires second_bytes { length second.1.now ≤ 8 }
+    requires third { third.0 + 4 ≤ 16384 }
+    requires third_bytes { length third.1.now ≤ 4 }
+    ensures { IfOk result (λ image. image.size ≡ 16384) }
+{
+    let bytes = code(alloc, words)?;
+    let first = segment(alloc, 0, 64, bytes.as_slice())?;
+    let second = segment(alloc, second.0, 8, second.1)?;
+    let third = segment(alloc, third.0, 4, third.1)?;
+    let segments = three(alloc, first, second, third)?;
+    Ok(Image {
+        entry: 0,
+        size: 16384,
+        segments,
+    })
+}
+
+// What a program over an honest bus comes to.
 fn outcome(
     alloc: Global,
     words: &[u32],
@@ -110,18 +136,9 @@ fn outcome(
     requires third { third.0 + 4 ≤ 16384 }
     requires third_bytes { length third.1.now ≤ 4 }
 {
-    let bytes = code(alloc, words)?;
-    let first = segment(alloc, 0, 64, bytes.as_slice())?;
-    let second = segment(alloc, second.0, 8, second.1)?;
-    let third = segment(alloc, third.0, 4, third.1)?;
-    let segments = three(alloc, first, second, third)?;
+    let image = image(alloc, words, second, third)?;
     let geometry = Geometry::new(1).ok_or("no geometry")?;
     let setup = setup(geometry, budget, u64::MAX);
-    let image = Image {
-        entry: 0,
-        size: 16384,
-        segments,
-    };
     let bus = HonestBus::new(alloc, geometry)?;
     let (record, _bus) = run(
         alloc,
@@ -217,6 +234,24 @@ fn a_program_prints_in_pieces(rt: HostRuntime) -> Result<(), Fail> {
         assert_eq!(rt; done.ending, ending);
         assert_eq!(rt; done.retired, retired);
     }
+    Ok(())
+}
+
+// The first piece is written as soon as it is loaded, before the line of the second one is read.
+#[test]
+fn a_program_prints_what_it_loaded_before_tampering(rt: HostRuntime) -> Result<(), Fail> {
+    let alloc = rt.alloc();
+    let image = image(alloc, &PRINT_8, (0x103c, b"ABCDEFGH"), (0x2000, &[]))?;
+    let geometry = Geometry::new(1).ok_or("no geometry")?;
+    let setup = setup(geometry, 99, u64::MAX);
+    let tagger = HmacTagger::new(&setup.keys);
+    let bus = FlipBus::new(alloc, geometry, Place::Line(65), 1, 0, 1)?;
+    let mut out = MemorySink::new(alloc, &[])?;
+    let (done, bus) = run(alloc, &image, &[], &setup, tagger, bus, &mut out);
+    assert_eq!(rt; out.bytes(), b"ABCD".as_slice());
+    assert_eq!(rt; done.ending, Ending::Tampered(Place::Line(65)));
+    assert_eq!(rt; done.retired, 5);
+    assert_eq!(rt; bus.lies(), 1);
     Ok(())
 }
 

@@ -154,19 +154,29 @@ fn services_answer_in_a0(rt: HostRuntime) -> Result<(), Fail> {
     Ok(())
 }
 
-// The second of two pieces, from address 64 on, can't be written.
+// 140 bytes from address 60 on are four pieces: up to 64, two lines, and what is left. The write with this number fails
+// after so many bytes.
 #[test]
 fn pieces_end_at_lines(rt: HostRuntime) -> Result<(), Fail> {
     let mut ram = FewBytes::new(ECALL);
     let mut calls = Calls::new(b"", &image(rt.alloc())?);
-    let mut out = MemorySink::new(rt.alloc(), &[2])?;
-    let mut core = asking(64, 1, 60, 12);
+    for (fails, printed) in [(1, 0), (2, 4), (3, 68), (4, 132)] {
+        let mut out = MemorySink::new(rt.alloc(), &[fails])?;
+        let mut core = asking(64, 1, 60, 140);
+        assert_eq!(rt;
+            core.step(&mut ram, &mut calls, &mut out),
+            Err(StepStop::WriteFault)
+        );
+        assert_eq!(rt; out.bytes().len(), printed, "write {fails}");
+        assert_eq!(rt; (core.pc(), core.reg(10)), (0, 1));
+    }
+    let mut out = MemorySink::new(rt.alloc(), &[5])?;
+    let mut core = asking(64, 1, 60, 140);
     assert_eq!(rt;
         core.step(&mut ram, &mut calls, &mut out),
-        Err(StepStop::WriteFault)
+        Ok(Step::Retired)
     );
-    assert_eq!(rt; out.bytes(), [0; 4].as_slice());
-    assert_eq!(rt; (core.pc(), core.reg(10)), (0, 1));
+    assert_eq!(rt; out.bytes().len(), 140);
     Ok(())
 }
 
