@@ -1,6 +1,7 @@
 // The files were spelled, and the digests of the records computed, by Python's `struct` and `hashlib`.
 use crate::{ElfError, ElfFault, flat, measure, parse, write};
 use byteorder::{ByteOrder, LittleEndian};
+use sha2::{Digest, Sha256};
 use std::fmt::Write;
 use std::test::Fail;
 
@@ -56,6 +57,22 @@ fn a_file_and_its_program(rt: HostRuntime) -> Result<(), Fail> {
     assert_eq!(rt; digits(&rt, &measure(&image))?.as_str(), digest);
     let flat = flat(rt.alloc(), &EXIT_7, SIZE)?;
     assert_eq!(rt; digits(&rt, &measure(&flat))?.as_str(), digest);
+    Ok(())
+}
+
+// Its entry, the size, one segment; the segment's address, its lengths and its bytes.
+const EXIT_7_RECORD: [u8; 36] = [
+    0x00, 0x00, 0x00, 0x00, 0x00, 0x00, 0x10, 0x00, 0x01, 0x00, 0x00, 0x00, 0x00, 0x00, 0x00, 0x00,
+    0x0c, 0x00, 0x00, 0x00, 0x0c, 0x00, 0x00, 0x00, 0x13, 0x05, 0x70, 0x00, 0x93, 0x08, 0xd0, 0x05,
+    0x73, 0x00, 0x00, 0x00,
+];
+
+#[test]
+fn a_measurement_is_the_digest_of_the_record(rt: HostRuntime) -> Result<(), Fail> {
+    let image = flat(rt.alloc(), &EXIT_7, SIZE)?;
+    let mut hasher = Sha256::new();
+    hasher.update(EXIT_7_RECORD);
+    assert_eq!(rt; measure(&image), hasher.finalize());
     Ok(())
 }
 
