@@ -12,7 +12,7 @@ use Rattle.rv32_core.specs.Machine.{plain}
 use Rattle.rv32_core.specs.Follows.{Follows, IsWhole}
 use Rattle.chip_run.specs.declared.RunRecord.{RunRecord}
 use Rattle.chip_run.specs.Account.{HonestOrCaught, IsOfFirstLie}
-use Rattle.chip_run.specs.Contents.{AreConsecutive, AreNumbered, HoldsLast, HoldsSealed, IsSpent, IsWrittenOut, line_writes}
+use Rattle.chip_run.specs.Contents.{AreConsecutive, AreNumbered, HoldsLast, HoldsSealed, IsSpent, IsWrittenOut, NodesAreZeros, line_writes}
 use Rattle.rv32_run.specs.Session.{IsMemoryEnding, IsStop}
 use Rattle.chip_main.specs.Device.{device_enc_key, device_tag, page_limit}
 use Rattle.chip_main.specs.Program.{Program, opening}
@@ -36,8 +36,9 @@ pub record RunsProtected (levels steps : ℕ) (program : Program) (input : List 
   pub numbered : run.evidence ≡ None → AreNumbered (line_count levels) run.used
   pub counted : run.evidence ≡ None → AreConsecutive run.used
   pub paired : run.evidence ≡ None → data_pairs run.made ≡ of_lines (line_count levels) run.used
-  -- each line's place that isn't zeros holds what was enciphered and tagged for it
+  -- each line's place that isn't zeros holds what was enciphered and tagged for it, and no node's place holds anything
   pub sealed : HoldsSealed (device_tag levels) (line_count levels) run.made run.used told.written
+  pub nodes : NodesAreZeros levels told.written
   -- where the memory did not end it, the memory outside has what the plain machine's has
   pub written_out : run.evidence ≡ None → ¬ IsMemoryEnding run.ending →
       IsWrittenOut device_enc_key (line_count levels) run.made (plain (opening levels program input) run.retired).state.memory

@@ -8,7 +8,7 @@ use Rattle.std.proofs.lemmas.List.{take_at, drop_at, take-append-le, take_all}
 use Rattle.sec_base.specs.Count.{more_by, Rose}
 use Rattle.sec_base.specs.Places.{at_place}
 use Rattle.sec_base.specs.declared.layout.Place.{Place}
-use Rattle.sec_base.specs.declared.layout.Place.TheVariants.{Line as line_place}
+use Rattle.sec_base.specs.declared.layout.Place.TheVariants.{Line as line_place, Node}
 use Rattle.sec_base.specs.declared.sealing.Counter.{Counter}
 use Rattle.sec_base.specs.declared.sealing.Sealed.{Sealed}
 use Rattle.sec_base.specs.declared.account.Message.{Message}
@@ -19,7 +19,7 @@ use Rattle.sec_base.specs.declared.answers.MemStop.{MemStop}
 use Rattle.sec_base.specs.declared.answers.MemStop.TheVariants.{Tampered, Spent, NoMemory}
 use Rattle.sec_base.specs.Evidence.{sealed_bytes, sealed_of, LineFails, IsEvidence, HasLastCounter}
 use Rattle.sec_base.specs.Last.{last_at, last_data, last_pair, data_pairs}
-use Rattle.sec_base.specs.Layout.{line_count}
+use Rattle.sec_base.specs.Layout.{IsPlace, line_count}
 use Rattle.sec_base.specs.Messages.{has_message}
 use Rattle.sec_base.proofs.SameMessages.{has_message-Decides}
 use Rattle.sec_base.proofs.SamePlaces.{at_place-here, at_place-there, false_from}
@@ -32,7 +32,7 @@ use Rattle.sec_base.specs.Places.{zeros_of}
 use Rattle.pad_stream.proofs.RisingCounters.{rising_nothing, rising_more}
 use Rattle.chip_run.proofs.Pairs.{consecutive_nothing, consecutive_more, data_pairs-append}
 use Rattle.pad_stream.specs.Stream.{Stream, new_stream, after_encrypt, with_room as pads_with_room}
-use Rattle.chip_run.specs.Contents.{AreConsecutive, line_writes, sealed_line, IsSpent, IsSealed, HoldsSealed, HoldsLast}
+use Rattle.chip_run.specs.Contents.{AreConsecutive, line_writes, sealed_line, IsSpent, IsSealed, HoldsSealed, HoldsLast, NodesAreZeros}
 use Rattle.chip_run.specs.Account.{HonestOrCaught, IsOfFirstLie}
 use Rattle.chip_run.specs.Protected.{IsKept, AreCounted, Passed, IsCheckedRead, lasting_stop, after_line, writes_of, times_tagged}
 use Rattle.chip_run.proofs.LineMessages.{some_same, last_data-same, last_data-other, last_made, last_pair-some, counted_new, counted_more, writes_same, behind}
@@ -208,6 +208,7 @@ ended_kept d n told bus bus' engine pads counters limit stopped stop kept going 
   rising = kept.rising;
   consecutive = kept.consecutive;
   sealed = kept.sealed;
+  nodes = kept.nodes;
   counted = kept.counted;
   stored = λ quiet goes_on. kept.stored quiet (goes goes_on);
   answers = λ quiet. honest_with (tags_of d n engine) pads.used engine.made told (Some stop)
@@ -255,6 +256,7 @@ roomed_kept {B} {T} d n told bus bus' engine pads counters limit stopped engine'
       rising = ended.rising;
       consecutive = ended.consecutive;
       sealed = ended.sealed;
+      nodes = ended.nodes;
       counted = ended.counted;
       stored = ended.stored;
       answers = ended.answers;
@@ -342,6 +344,7 @@ module _ {B T : Type 0} (d n : T → List ℕ → List ℕ) (told : Told) (bus b
     rising = kept.rising;
     consecutive = kept.consecutive;
     sealed = subst (λ (written : Place → List ℕ). HoldsSealed (tags_of d n engine) (line_count engine.levels) engine.made pads.used written) (sym (read_written (line_place line) bytes told)) kept.sealed;
+    nodes = subst (NodesAreZeros engine.levels) (sym (read_written (line_place line) bytes told)) kept.nodes;
     counted = kept.counted;
     stored = λ none goes_on.
         let was = kept.stored (quiet none) (ap lasting_stop (sym (goes goes_on)) ∙ goes_on) in
@@ -501,6 +504,7 @@ kept_new {B} {T} d n told bus tagger key levels limit engine pads counters new n
       rising = rising_nothing;
       consecutive = consecutive_nothing;
       sealed = record { holds = λ line inside. inl (empty.zeros (line_place line) (subst (λ (l : ℕ). line < line_count l) (sym same) inside)) };
+      nodes = record { zeros = λ level index inside. empty.zeros (Node level index) (subst (λ (l : ℕ). IsPlace l (Node level index)) (sym same) inside) };
       counted = subst (λ (xs : List ℕ). AreCounted (line_count levels) limit [] xs) (sym zeros) (counted_new (line_count levels) limit);
       stored = λ quiet goes_on. record { holds = λ line counter cipher inside last. absurd (cc) };
       answers = λ quiet. inl (record { lies = none; untampered = λ place is. absurd (cc) });
@@ -580,7 +584,7 @@ module _ {B T : Type 0} (d n : T → List ℕ → List ℕ) (told : Told) (bus b
       }
 
   wrote_kept : (told' : Told) (stopped' : Option MemStop) → told'.levels ≡ told.levels → told'.lies ≡ told.lies → told'.lie ≡ told.lie →
-      HoldsSealed (tags_of d n engine) (line_count engine.levels) made_after used_after told'.written →
+      HoldsSealed (tags_of d n engine) (line_count engine.levels) made_after used_after told'.written → NodesAreZeros engine.levels told'.written →
       (lasting_stop stopped' ≡ None → engine.evidence ≡ None → HoldsLast (tags_of d n engine) (line_count engine.levels) made_after told'.written) →
       ((place : Place) → stopped' ≡ Some (Tampered place) → ⊥) → ((page : ℕ) → stopped' ≡ Some (Spent page) → stopped ≡ Some (Spent page)) →
       IsKept (tags_of d n (after_make (Line line (record { page = writes + 1; line = 0 }) cipher) (with_room 1 engine))) told' (record {
@@ -591,12 +595,13 @@ module _ {B T : Type 0} (d n : T → List ℕ → List ℕ) (told : Told) (bus b
         limit = limit;
         stopped = stopped';
       })
-  wrote_kept told' stopped' levels lies lie sealed stored untampered spent = record {
+  wrote_kept told' stopped' levels lies lie sealed nodes stored untampered spent = record {
     levels = levels ∙ kept.levels;
     paired = write_paired;
     rising = write_rising;
     consecutive = write_consecutive;
     sealed = sealed;
+    nodes = nodes;
     counted = write_counted;
     stored = λ quiet goes_on. stored goes_on quiet;
     answers = λ quiet. honest_with (tags_of d n engine) used_after made_after told' stopped'
@@ -659,6 +664,13 @@ module _ {B T : Type 0} (d n : T → List ℕ → List ℕ) (told : Told) (bus b
             ];
       }
 
+  nodes_after : NodesAreZeros engine.levels (at_place (line_place line) line_after told.written)
+  nodes_after = record {
+    zeros = λ level index inside.
+        let apart : Node level index ≢ line_place line = λ e. absurd (cc) in
+        at_place-there (line_place line) (Node level index) line_after told.written apart ∙ kept.nodes.zeros level index inside;
+  }
+
   wrote_with : (told' : Told) (stopped' : Option MemStop) →
       IsKept (tags_of d n (after_make (Line line (record { page = writes + 1; line = 0 }) cipher) (with_room 1 engine))) told' (record {
         bus = bus';
@@ -688,6 +700,7 @@ module _ {B T : Type 0} (d n : T → List ℕ → List ℕ) (told : Told) (bus b
       wrote_with told' stopped
       (wrote_kept told' stopped (ap (λ (t : Told). t.levels) wrote) (ap (λ (t : Told). t.lies) wrote) (ap (λ (t : Told). t.lie) wrote)
       (subst (λ (t : Told). HoldsSealed (tags_of d n engine) (line_count engine.levels) made_after used_after t.written) (sym wrote) sealed_after)
+      (subst (λ (t : Told). NodesAreZeros engine.levels t.written) (sym wrote) nodes_after)
       (λ goes_on quiet. subst (λ (t : Told). HoldsLast (tags_of d n engine) (line_count engine.levels) made_after t.written) (sym wrote) (stored_more quiet))
       (λ place is. untampered_by stopped place going is) (λ page is. is))
 
@@ -700,4 +713,5 @@ module _ {B T : Type 0} (d n : T → List ℕ → List ℕ) (told : Told) (bus b
       (subst (λ (t : Told). HoldsSealed (tags_of d n engine) (line_count engine.levels) made_after used_after t.written) (sym same)
       (holds_more (tags_of d n engine) (line_count engine.levels) engine.made (Line line (record { page = writes + 1; line = 0 }) cipher ∷ [])
       pads.used ((line, record { page = writes + 1; line = 0 }) ∷ []) told.written kept.sealed))
+      (subst (λ (t : Told). NodesAreZeros engine.levels t.written) (sym same) kept.nodes)
       (λ goes_on quiet. absurd (cc)) (λ place is. absurd (cc)) (λ page is. absurd (cc)))

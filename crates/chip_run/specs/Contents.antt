@@ -2,11 +2,12 @@
 use Rattle.std.specs.Prelude.{◌==◌, ◌≡◌, ◌⊎◌, ℕ, ◌/◌, ◌<◌, ◌≤◌, List, length, replicate, Option, Some, None, Contains}
 use Rattle.std.specs.List.{filter}
 use Rattle.sec_base.specs.declared.layout.Place.{Place}
-use Rattle.sec_base.specs.declared.layout.Place.TheVariants.{Line as line_place}
+use Rattle.sec_base.specs.declared.layout.Place.TheVariants.{Line as line_place, Node}
 use Rattle.sec_base.specs.declared.sealing.Counter.{Counter}
 use Rattle.sec_base.specs.declared.account.Message.{Message}
 use Rattle.sec_base.specs.declared.account.Message.TheVariants.{Line}
 use Rattle.sec_base.specs.Last.{last_data, last_pair}
+use Rattle.sec_base.specs.Layout.{IsPlace}
 use Rattle.sec_base.specs.Lines.{line_at, joined_lines}
 use Rattle.sec_base.specs.Places.{zeros_of}
 use Rattle.sec_base.specs.Evidence.{sealed_bytes}
@@ -73,6 +74,10 @@ pub record HoldsSealed (tag_of : Message → List ℕ) (lines : ℕ) (made : Lis
 pub record HoldsLast (tag_of : Message → List ℕ) (lines : ℕ) (made : List Message) (written : Place → List ℕ) : Type 0 where
   pub holds : (line : ℕ) (counter : Counter) (cipher : List ℕ) → line < lines → last_data line made ≡ Some (counter, cipher) →
       written (line_place line) ≡ sealed_line tag_of line counter cipher
+
+-- No place of a node holds anything: the counters stay on the chip.
+pub record NodesAreZeros (levels : ℕ) (written : Place → List ℕ) : Type 0 where
+  pub zeros : (level index : ℕ) → IsPlace levels (Node level index) → written (Node level index) ≡ zeros_of (Node level index)
 
 -- how many lines a chip may hold that it did not write out
 abbrev pub most_held : ℕ

@@ -17,7 +17,7 @@ use Rattle.bus_model.specs.Told.{Told, after_read}
 use Rattle.tag_engine.specs.Engine.{Engine, new_engine, after_check}
 use Rattle.pad_stream.specs.Used.{AreRising}
 use Rattle.pad_stream.specs.Stream.{Stream, new_stream}
-use Rattle.chip_run.specs.Contents.{AreConsecutive, IsSpent, HoldsLast, HoldsSealed}
+use Rattle.chip_run.specs.Contents.{AreConsecutive, IsSpent, HoldsLast, HoldsSealed, NodesAreZeros}
 use Rattle.chip_run.specs.Account.{HonestOrCaught, IsOfFirstLie}
 
 -- the bus, the tag engine, the pads, how often each line was written, how often one may be, and the stop that was
@@ -80,6 +80,7 @@ pub record IsKept {B T : Type 0} (tag_of : Message → List ℕ) (told : Told) (
   pub rising : AreRising memory.pads.used
   pub consecutive : AreConsecutive memory.pads.used
   pub sealed : HoldsSealed tag_of (line_count memory.engine.levels) memory.engine.made memory.pads.used told.written
+  pub nodes : NodesAreZeros memory.engine.levels told.written
   pub counted : AreCounted (line_count memory.engine.levels) memory.limit memory.engine.made memory.counters
   pub stored : memory.engine.evidence ≡ None → lasting_stop memory.stopped ≡ None →
       HoldsLast tag_of (line_count memory.engine.levels) memory.engine.made told.written

@@ -7,7 +7,7 @@ ghost use Rattle.pad_stream.specs.Used.{AreRising, of_lines};
 ghost use Rattle.sec_base.specs.declared.answers.Ending.TheVariants.{Tampered, Spent, NoMemory as memory_ended};
 ghost use Rattle.tag_engine.specs.Engine.{tags_of};
 ghost use Rattle.chip_run.specs.Account.{HonestOrCaught, IsOfFirstLie};
-ghost use Rattle.chip_run.specs.Contents.{AreConsecutive, AreNumbered, HoldsLast, HoldsSealed, IsSpent, line_writes};
+ghost use Rattle.chip_run.specs.Contents.{AreConsecutive, AreNumbered, HoldsLast, HoldsSealed, IsSpent, NodesAreZeros, line_writes};
 ghost use Rattle.rv32_run.specs.Session.{CarriesEnding, IsMemoryEnding};
 
 use crate::account::Account;
@@ -50,6 +50,7 @@ pub(crate) fn close<B: Bus, T: Tagger>(
     ensures counted { AreConsecutive memory.lines.pads.used }
     ensures sealed { HoldsSealed (tags_of T.data_tag_of T.node_tag_of memory.lines.engine)
         (line_count memory.lines.engine.levels) memory.lines.engine.made memory.lines.pads.used (B.told memory.lines.bus).written }
+    ensures nodes { NodesAreZeros memory.lines.engine.levels (B.told memory.lines.bus).written }
     ensures limited { (line : ℕ) → line_writes memory.lines.pads.used line ≤ memory.lines.limit }
     ensures levels { (B.told memory.lines.bus).levels ≡ memory.lines.engine.levels }
 {

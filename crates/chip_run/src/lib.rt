@@ -15,7 +15,7 @@ ghost use Rattle.tag_engine.specs.Tag.{engine_tag};
 ghost use Rattle.rv32_core.specs.Machine.{opening, plain};
 ghost use Rattle.rv32_core.specs.Follows.{Follows, IsWhole};
 ghost use Rattle.chip_run.specs.Account.{HonestOrCaught, IsOfFirstLie};
-ghost use Rattle.chip_run.specs.Contents.{AreConsecutive, AreNumbered, HoldsLast, HoldsSealed, IsSpent, IsWrittenOut, line_writes};
+ghost use Rattle.chip_run.specs.Contents.{AreConsecutive, AreNumbered, HoldsLast, HoldsSealed, IsSpent, IsWrittenOut, NodesAreZeros, line_writes};
 ghost use Rattle.rv32_run.specs.Session.{IsMemoryEnding, IsStop};
 
 mod account;
@@ -76,9 +76,10 @@ pub fn run<B: Bus, T: Tagger, S: Sink>(
     ensures paired { result.0.evidence ≡ None →
         data_pairs result.0.made ≡ of_lines (line_count setup.now.geometry) result.0.used }
 
-    // Each line's place that isn't zeros holds what was enciphered and tagged for it.
+    // Each line's place that isn't zeros holds what was enciphered and tagged for it. Nothing else leaves the chip.
     ensures sealed { HoldsSealed (engine_tag (T.data_tag_of tagger) (T.node_tag_of tagger) setup.now.geometry)
         (line_count setup.now.geometry) result.0.made result.0.used (B.told result.1).written }
+    ensures nodes { NodesAreZeros setup.now.geometry (B.told result.1).written }
 
     // Where the memory did not end it, the memory outside has what the plain machine's has.
     ensures written_out { result.0.evidence ≡ None → ¬ IsMemoryEnding result.0.ending →

@@ -3,6 +3,7 @@
 ghost use Rattle.std.specs.Prelude.{◌≡◌, ◌≢◌, ◌↔◌, ◌+◌, ◌/◌, ◌<◌, ◌⊎◌, ◌∷◌, [], ℕ, None, Some, Ok, Err, IfOk, IfErr, OnOk, OnErr, IfSome, replicate};
 ghost use Rattle.sec_base.specs.Count.{Rose};
 ghost use Rattle.sec_base.specs.Layout.{IsPlace, line_count};
+ghost use Rattle.sec_base.specs.Last.{IsFresh};
 ghost use Rattle.sec_base.specs.Lines.{line_at, with_line};
 ghost use Rattle.sec_base.specs.Evidence.{IsEvidence};
 ghost use Rattle.sec_base.specs.declared.layout.Place.{Place};
@@ -175,6 +176,9 @@ impl<B: Bus, T: Tagger> LineStore for LineMemory<B, T> {
 
         // A lasting stop is answered again, and nothing is done.
         ensures kept { (stop : MemStop) → lasting_stop self.old.stopped ≡ Some stop → (result ≡ Err stop) × (self.new ≡ self.old) }
+
+        // A line that was never written is read without an access, and nothing changes.
+        ensures fresh { IsFresh line self.old.pads.used → self.new ≡ self.old }
 
         // Tampering comes only of this line, and where an answer was false.
         ensures tampered { (place : Place) → lasting_stop self.old.stopped ≡ None → self.old.engine.evidence ≡ None →

@@ -20,6 +20,7 @@ returns-clause-ran g c = λ program flat.
       counted = c.run-done.ensures.counted;
       paired = c.run-done.ensures.paired;
       sealed = rw tags at c.run-done.ensures.sealed;
+      nodes = c.run-done.ensures.nodes;
       written_out = rw (opens, enc) at c.run-done.ensures.written_out;
       holds_last = rw tags at c.run-done.ensures.holds_last;
       out_of_steps = rw opens at c.run-done.ensures.out_of_steps;

@@ -36,3 +36,7 @@ returns-clause-counted g c =
 pub returns-clause-sealed : goal.returns-clause-sealed
 returns-clause-sealed g c =
     (ended_kept (tags_of g.T.Tagger.data_tag_of g.T.Tagger.node_tag_of) g.B.Bus.told c.into_lines.result c.args.memory.lines c.into_lines.ensures c.finish-account.ensures.kept).sealed
+
+pub returns-clause-nodes : goal.returns-clause-nodes
+returns-clause-nodes g c =
+    (ended_kept (tags_of g.T.Tagger.data_tag_of g.T.Tagger.node_tag_of) g.B.Bus.told c.into_lines.result c.args.memory.lines c.into_lines.ensures c.finish-account.ensures.kept).nodes

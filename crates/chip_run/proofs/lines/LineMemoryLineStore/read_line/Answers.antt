@@ -7,7 +7,8 @@ use Rattle.pad_stream.specs.Pad.{enciphered}
 use Rattle.tag_engine.specs.Engine.{Engine, tags_of}
 use Rattle.sec_base.specs.Last.{last_pair}
 use Rattle.chip_run.specs.Protected.{Protected, ReadMoved, IsCheckedRead, lasting_stop}
-use Rattle.chip_run.proofs.LineMessages.{counter_read, last_pair-none}
+use Rattle.chip_run.specs.Contents.{writes_by}
+use Rattle.chip_run.proofs.LineMessages.{counter_read, last_pair-none, writes_same}
 use Rattle.chip_run.proofs.LineMoves.{lasting_read, fresh_moved, passed_moved, stopped_moved, stopped_levels, never_written, line_there}
 use Rattle.chip_run.proofs.Keeping.{passed_kept, passed_bytes, stopped_kept, tampered_lied}
 use Rattle.chip_run.proofs.lines.LineMemoryLineStore.read_line.Goals as goal
@@ -120,3 +121,21 @@ pub returns-in-Some-clause-moved : goal.returns-in-Some-clause-moved
 returns-in-Some-clause-moved g c =
     rw (← c.self.view_is) (lasting_read g.B.Bus.told (record { bus = c.self.inside.bus; engine = c.self.inside.tags; pads = c.self.inside.pads; counters = c.self.inside.counters.items; limit = c.self.inside.page_limit; stopped = c.self.inside.stopped })
     c.args.line c.in-Some.stop (sym c.lasting.ensures ∙ c.in-Some.is))
+
+pub returns-in-Ok-clause-fresh : goal.returns-in-Ok-clause-fresh
+returns-in-Ok-clause-fresh g c = λ fresh.
+    let inside : c.args.line < line_count c.self.inside.tags.levels = rw (← c.self.view_is) at c.requires.inside in
+    let counted = c.self.invariant.1.counted in
+    let read = counter_read (line_count c.self.inside.tags.levels) c.self.inside.page_limit c.self.inside.tags.made c.self.inside.counters.items c.args.line c.index-writes.result.now counted inside c.index-writes.ensures in
+    let none : last_pair c.args.line c.self.inside.pads.used ≡ None = rw (← c.self.view_is) at fresh in
+    absurd (c.if-writes-eq0.false (read ∙ counted.counts c.args.line inside
+    ∙ sym (writes_same c.self.inside.tags.made c.self.inside.pads.used c.args.line c.self.invariant.1.paired) ∙ ap writes_by none))
+
+pub returns-in-Err-clause-fresh : goal.returns-in-Err-clause-fresh
+returns-in-Err-clause-fresh g c = λ fresh.
+    let inside : c.args.line < line_count c.self.inside.tags.levels = rw (← c.self.view_is) at c.requires.inside in
+    let counted = c.self.invariant.1.counted in
+    let read = counter_read (line_count c.self.inside.tags.levels) c.self.inside.page_limit c.self.inside.tags.made c.self.inside.counters.items c.args.line c.index-writes.result.now counted inside c.index-writes.ensures in
+    let none : last_pair c.args.line c.self.inside.pads.used ≡ None = rw (← c.self.view_is) at fresh in
+    absurd (c.if-writes-eq0.false (read ∙ counted.counts c.args.line inside
+    ∙ sym (writes_same c.self.inside.tags.made c.self.inside.pads.used c.args.line c.self.invariant.1.paired) ∙ ap writes_by none))
