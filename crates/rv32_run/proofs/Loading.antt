@@ -8,10 +8,11 @@ use Rattle.sec_base.specs.declared.memory.Width.TheVariants.{Four}
 use Rattle.sec_base.specs.declared.program.Segment.{Segment}
 use Rattle.sec_base.specs.Opening.{segment_memory, laid_over, opening_memory}
 use Rattle.sec_base.specs.Width.{with_number}
-use Rattle.rv32_run.specs.Loading.{laid_at, part, word_bytes}
+use Rattle.rv32_core.specs.State.{with_bytes}
+use Rattle.rv32_run.specs.Loading.{part, word_bytes}
 
-laid-sets : (m : List ℕ) (a : ℕ) (p : List ℕ) → a + length p ≤ length m → laid_at m a p ≡ sets m a p
-unfolding laid_at
+laid-sets : (m : List ℕ) (a : ℕ) (p : List ℕ) → a + length p ≤ length m → with_bytes m a p ≡ sets m a p
+unfolding with_bytes
 laid-sets m a p h = sym (sets-eq p m a h)
 
 sets-append : (m : List ℕ) (a : ℕ) (p q : List ℕ) → sets (sets m a p) (a + length p) q ≡ sets m a (p ++ q)
@@ -20,25 +21,25 @@ sets-append m a (x ∷ p) q =
     let e : a + suc (length p) ≡ suc a + length p = omega arith in
     ap (λ (n : ℕ). sets (sets (set m a x) (suc a) p) n q) e ∙ sets-append (set m a x) (suc a) p q
 
-pub laid_byte : (m : List ℕ) (a b : ℕ) → a < length m → set m a b ≡ laid_at m a (b ∷ [])
+pub laid_byte : (m : List ℕ) (a b : ℕ) → a < length m → set m a b ≡ with_bytes m a (b ∷ [])
 laid_byte m a b h = sym (laid-sets m a (b ∷ []) (omega arith))
 
-pub laid_word : (m : List ℕ) (a n : ℕ) → a + 4 ≤ length m → with_number m a Four n ≡ laid_at m a (word_bytes n)
+pub laid_word : (m : List ℕ) (a n : ℕ) → a + 4 ≤ length m → with_number m a Four n ≡ with_bytes m a (word_bytes n)
 laid_word m a n h =
     let second : a + 1 ≡ suc a = omega arith in
     let third : a + 2 ≡ suc (suc a) = omega arith in
     let fourth : a + 3 ≡ suc (suc (suc a)) = omega arith in
     rw (second, third, fourth) (sym (laid-sets m a (word_bytes n) h))
 
-pub laid_nothing : (m : List ℕ) (a : ℕ) → laid_at m a [] ≡ m
-unfolding laid_at
+pub laid_nothing : (m : List ℕ) (a : ℕ) → with_bytes m a [] ≡ m
+unfolding with_bytes
 laid_nothing m a =
     ap (λ (xs : List ℕ). xs ++ drop (a + 0) m) (append-nil (take a m)) ∙ ap (λ (n : ℕ). take a m ++ drop n m) (add-zero a)
     ∙ take-append-drop a m
 
-pub laid_on : (m : List ℕ) (a b : ℕ) (p q : List ℕ) → b ≡ a + length p → b + length q ≤ length m → laid_at (laid_at m a p) b q ≡ laid_at m a (p ++ q)
+pub laid_on : (m : List ℕ) (a b : ℕ) (p q : List ℕ) → b ≡ a + length p → b + length q ≤ length m → with_bytes (with_bytes m a p) b q ≡ with_bytes m a (p ++ q)
 laid_on m a b p q e h =
-    ap (λ (xs : List ℕ). laid_at xs b q) (laid-sets m a p (omega arith))
+    ap (λ (xs : List ℕ). with_bytes xs b q) (laid-sets m a p (omega arith))
     ∙ laid-sets (sets m a p) b q (omega (arith, length-sets m a p))
     ∙ ap (λ (n : ℕ). sets (sets m a p) n q) e ∙ sets-append m a p q
     ∙ sym (laid-sets m a (p ++ q) (omega (arith, length-append p q)))
@@ -65,17 +66,17 @@ part_more bytes at count = sym (take-add at count bytes)
 pub length-segment_memory : (segment : Segment) → length segment.bytes ≤ segment.length → length (segment_memory segment) ≡ segment.length
 length-segment_memory segment h = simp (length-append, length-replicate) (omega arith)
 
-pub laid_whole : (m : List ℕ) (segment : Segment) → length segment.bytes ≤ segment.length → laid_at m segment.addr (segment_memory segment) ≡ laid_over m segment
-unfolding laid_at
+pub laid_whole : (m : List ℕ) (segment : Segment) → length segment.bytes ≤ segment.length → with_bytes m segment.addr (segment_memory segment) ≡ laid_over m segment
+unfolding with_bytes
 laid_whole m segment h =
     ap (λ (n : ℕ). take segment.addr m ++ segment_memory segment ++ drop (segment.addr + n) m) (length-segment_memory segment h)
 
 -- one more part of a segment
-pub laid_more : (m now new : List ℕ) (a at count : ℕ) (bytes : List ℕ) → at + count ≤ length bytes → a + length bytes ≤ length m → now ≡ laid_at m a (take at bytes) → new ≡ laid_at now (a + at) (part bytes at count) → new ≡ laid_at m a (take (at + count) bytes)
+pub laid_more : (m now new : List ℕ) (a at count : ℕ) (bytes : List ℕ) → at + count ≤ length bytes → a + length bytes ≤ length m → now ≡ with_bytes m a (take at bytes) → new ≡ with_bytes now (a + at) (part bytes at count) → new ≡ with_bytes m a (take (at + count) bytes)
 laid_more m now new a at count bytes h inside before after =
-    after ∙ ap (λ (xs : List ℕ). laid_at xs (a + at) (part bytes at count)) before
+    after ∙ ap (λ (xs : List ℕ). with_bytes xs (a + at) (part bytes at count)) before
     ∙ laid_on m a (a + at) (take at bytes) (part bytes at count) (omega (arith, length-take at bytes)) (omega (arith, length-part bytes at count h))
-    ∙ ap (laid_at m a) (part_more bytes at count)
+    ∙ ap (with_bytes m a) (part_more bytes at count)
 
 -- a word that is made of four bytes has these bytes
 pub made_of : (a b c d n : ℕ) → a < 2 ^ 8 → b < 2 ^ 8 → c < 2 ^ 8 → d < 2 ^ 8 → n ≡ a + b * 2 ^ 8 + c * 2 ^ 16 + d * 2 ^ 24 → word_bytes n ≡ a ∷ b ∷ c ∷ d ∷ []
@@ -87,19 +88,19 @@ made_of a b c d n ha hb hc hd e =
     rw (first, second, third, fourth) refl
 
 -- a word, or a byte, of a list that was stored
-pub word_stored : (old new : List ℕ) (address n : ℕ) (bytes : List ℕ) (at : ℕ) → address + 4 ≤ length old → word_bytes n ≡ part bytes at 4 → new ≡ with_number old address Four n → new ≡ laid_at old address (part bytes at 4)
-word_stored old new address n bytes at h e stored = stored ∙ laid_word old address n h ∙ ap (laid_at old address) e
+pub word_stored : (old new : List ℕ) (address n : ℕ) (bytes : List ℕ) (at : ℕ) → address + 4 ≤ length old → word_bytes n ≡ part bytes at 4 → new ≡ with_number old address Four n → new ≡ with_bytes old address (part bytes at 4)
+word_stored old new address n bytes at h e stored = stored ∙ laid_word old address n h ∙ ap (with_bytes old address) e
 
-pub byte_stored : (old new : List ℕ) (address n : ℕ) (bytes : List ℕ) (at : ℕ) → address < length old → at < length bytes → n < 2 ^ 8 → n ≡ get_or bytes at 0 → new ≡ set old address (n % 2 ^ 8) → new ≡ laid_at old address (part bytes at 1)
+pub byte_stored : (old new : List ℕ) (address n : ℕ) (bytes : List ℕ) (at : ℕ) → address < length old → at < length bytes → n < 2 ^ 8 → n ≡ get_or bytes at 0 → new ≡ set old address (n % 2 ^ 8) → new ≡ with_bytes old address (part bytes at 1)
 byte_stored old new address n bytes at h inside small e stored =
     let whole : n % 2 ^ 8 ≡ get_or bytes at 0 = omega arith in
-    stored ∙ laid_byte old address (n % 2 ^ 8) h ∙ ap (λ (b : ℕ). laid_at old address (b ∷ [])) whole
-    ∙ ap (laid_at old address) (sym (part_byte bytes at inside))
+    stored ∙ laid_byte old address (n % 2 ^ 8) h ∙ ap (λ (b : ℕ). with_bytes old address (b ∷ [])) whole
+    ∙ ap (with_bytes old address) (sym (part_byte bytes at inside))
 
 -- all of a segment
-pub laid_all : (m now : List ℕ) (segment : Segment) (at : ℕ) → length segment.bytes ≤ segment.length → segment.length ≤ at → now ≡ laid_at m segment.addr (take at (segment_memory segment)) → now ≡ laid_over m segment
+pub laid_all : (m now : List ℕ) (segment : Segment) (at : ℕ) → length segment.bytes ≤ segment.length → segment.length ≤ at → now ≡ with_bytes m segment.addr (take at (segment_memory segment)) → now ≡ laid_over m segment
 laid_all m now segment at h past e =
-    e ∙ ap (laid_at m segment.addr) (take_all at (segment_memory segment) (omega (arith, length-segment_memory segment h)))
+    e ∙ ap (with_bytes m segment.addr) (take_all at (segment_memory segment) (omega (arith, length-segment_memory segment h)))
     ∙ laid_whole m segment h
 
 -- one more segment

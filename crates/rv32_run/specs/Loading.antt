@@ -1,9 +1,5 @@
--- Bytes that are laid over a memory.
-use Rattle.std.specs.Prelude.{ℕ, ◌+◌, ◌/◌, ◌%◌, ◌^◌, List, [], ◌∷◌, ◌++◌, length, take, drop}
-
--- the memory with these bytes from an address on
-unfoldable pub laid_at : List ℕ → ℕ → List ℕ → List ℕ
-laid_at memory address bytes = take address memory ++ bytes ++ drop (address + length bytes) memory
+-- The bytes that are stored one after another.
+use Rattle.std.specs.Prelude.{ℕ, ◌/◌, ◌%◌, ◌^◌, List, [], ◌∷◌, take, drop}
 
 -- so many bytes from a place on
 unfoldable pub part : List ℕ → ℕ → ℕ → List ℕ

@@ -2,7 +2,8 @@
 ghost use Rattle.std.specs.Prelude.{◌≡◌, ◌+◌, ◌<◌, ◌≤◌, ◌^◌, ℕ, List, None, Some, IfOk, IfErr, OnOk, length, slice_index, replicate};
 ghost use Rattle.sec_base.specs.Opening.{segment_memory, laid_over, opening_memory};
 ghost use Rattle.sec_base.specs.Program.{IsSegment};
-ghost use Rattle.rv32_run.specs.Loading.{laid_at, part, word_bytes};
+ghost use Rattle.rv32_core.specs.State.{with_bytes};
+ghost use Rattle.rv32_run.specs.Loading.{part, word_bytes};
 
 use sec_base::{Image, MemStop, Ram, Segment, Width};
 
@@ -59,7 +60,7 @@ fn store_next<M: Ram>(ram: &mut M, segment: &Segment, at: u32) -> Result<u32, Me
     requires going { M.stopped ram.old ≡ None }
 
     ensures stored { M.sound ram.new → IfOk result (λ count. M.contents ram.new
-        ≡ laid_at (M.contents ram.old) (segment.now.addr + at) (part (segment_memory segment.now) at count)) }
+        ≡ with_bytes (M.contents ram.old) (segment.now.addr + at) (part (segment_memory segment.now) at count)) }
     ensures some { IfOk result (λ count. 0 < count) }
     ensures most { IfOk result (λ count. at + count ≤ segment.now.length) }
 

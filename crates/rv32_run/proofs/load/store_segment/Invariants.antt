@@ -1,13 +1,13 @@
 use Rattle.std.proofs.Common.{◌≡◌, ◌≤◌, ◌-◌, ℕ, List, None, take}
 use Rattle.sec_base.specs.Opening.{segment_memory}
-use Rattle.rv32_run.specs.Loading.{laid_at}
+use Rattle.rv32_core.specs.State.{with_bytes}
 use Rattle.rv32_run.proofs.load.store_segment.Given as goal
 
 abbrev pub invariant-loop-at : goal.invariant-loop-at
 invariant-loop-at g l =
     let ram = g.M.Ram in
     record {
-      stored : ram.sound l.ram → ram.contents l.ram ≡ laid_at (ram.contents l.fn.ram) l.segment.addr (take l.at (segment_memory l.segment));
+      stored : ram.sound l.ram → ram.contents l.ram ≡ with_bytes (ram.contents l.fn.ram) l.segment.addr (take l.at (segment_memory l.segment));
       within : l.at ≤ l.segment.length;
       going : ram.stopped l.ram ≡ None;
       extent : ram.extent l.ram ≡ ram.extent l.fn.ram;
