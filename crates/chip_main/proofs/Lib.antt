@@ -1,4 +1,3 @@
-pub mod Hex
 pub mod HonestBuses
 pub mod Lines
 pub mod DeviceRuns

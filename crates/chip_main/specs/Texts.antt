@@ -1,6 +1,6 @@
 -- What is told of a run, or of why nothing was done, and what is written of a program. Each line ends with a line feed.
-use Rattle.std.specs.Prelude.{List, [], ◌∷◌, ◌++◌, ℕ, ◌/◌, ◌%◌, ◌^◌, map, codes, false, string_bytes}
-use Rattle.std.specs.Fmt.{decimal, digit_glyph}
+use Rattle.std.specs.Prelude.{List, ◌++◌, ℕ, codes, string_bytes}
+use Rattle.std.specs.Fmt.{decimal}
 use Rattle.sec_base.specs.declared.layout.Place.{Place}
 use Rattle.sec_base.specs.declared.layout.Place.TheVariants.{Line, Node}
 use Rattle.sec_base.specs.declared.answers.Cause.{Cause}
@@ -13,6 +13,7 @@ use Rattle.elf_load.specs.Faults.{code_of as elf_code, name_of as elf_name}
 use Rattle.elf_load.specs.Measurement.{measurement_of}
 use Rattle.elf_load.specs.Spelling.{spelled}
 use Rattle.elf_load.specs.declared.fault.ElfFault.{ElfFault}
+use Rattle.rv32_text.specs.Text.{hex8}
 use Rattle.rv32_listing.specs.Listing.{listing_of}
 use Rattle.rv32_asm.specs.Faults.{code_of as asm_code, name_of as asm_name}
 use Rattle.rv32_asm.specs.declared.fault.AsmFault.{AsmFault}
@@ -20,14 +21,6 @@ use Rattle.plain_machine.specs.declared.PlainRecord.{PlainRecord}
 use Rattle.chip_run.specs.declared.RunRecord.{RunRecord}
 use Rattle.chip_main.specs.declared.refusal.Refusal.{Refusal}
 use Rattle.chip_main.specs.declared.refusal.Refusal.TheVariants.{Usage, Unread, TooLong, Elf, Asm}
-
--- the hexadecimal digit that is worth 16 ^ place, in lower case
-abbrev pub hex_digit : ℕ → ℕ → ℕ
-hex_digit number place = digit_glyph false (number / 16 ^ place % 16)
-
--- a word as eight digits
-unfoldable pub hex_word : ℕ → List ℕ
-hex_word number = map (hex_digit number) (7 ∷ 6 ∷ 5 ∷ 4 ∷ 3 ∷ 2 ∷ 1 ∷ 0 ∷ [])
 
 abbrev pub cause_text : Cause → List ℕ
 cause_text Illegal = codes "illegal"
@@ -43,7 +36,7 @@ place_text (Node level index) = codes "node " ++ decimal level ++ codes " " ++ d
 -- the first line says how a run ended
 abbrev pub ending_line : Ending → List ℕ
 ending_line (Halted code) = codes "halted " ++ decimal code ++ codes "\n"
-ending_line (Trapped cause pc) = codes "trapped " ++ cause_text cause ++ codes " pc " ++ hex_word pc ++ codes "\n"
+ending_line (Trapped cause pc) = codes "trapped " ++ cause_text cause ++ codes " pc " ++ hex8 pc ++ codes "\n"
 ending_line OutOfSteps = codes "out of steps\n"
 ending_line (Tampered place) = codes "tampered " ++ place_text place ++ codes "\n"
 ending_line (Spent page) = codes "spent page " ++ decimal page ++ codes "\n"
