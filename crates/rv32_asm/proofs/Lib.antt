@@ -6,7 +6,6 @@ pub mod Cuts
 pub mod Digits
 pub mod Emitting
 pub mod FirstSteps
-pub mod Formats
 pub mod Found
 pub mod Fronts
 pub mod Kept

@@ -2,12 +2,12 @@
 
 ghost use Rattle.rv32_asm.specs.Keywords as spec;
 ghost use Rattle.rv32_asm.specs.Seen.{keyword};
-ghost use Rattle.rv32_asm.specs.Tables.{has_registers, named, other_entry, row_entry, shorthand_entry};
+ghost use Rattle.rv32_asm.specs.Tables.{has_registers, named, other_entry, shorthand_entry};
 ghost use Rattle.std.specs.List.{list_all};
 ghost use Rattle.std.specs.Prelude.{map, option_map, true, ◌≡◌};
 
 use crate::statements::Instruction;
-use rv32_decode::Op;
+use rv32_decode::{Op, ops};
 use rv32_text::{Style, name_of, style_of};
 use sec_base::Width;
 
@@ -74,59 +74,6 @@ fn row_keyword(op: Op) -> Keyword
     )
 }
 
-// The table's rows, in its order.
-static OPS: [Op; 49] = [
-    Op::Lui,
-    Op::Auipc,
-    Op::Jal,
-    Op::Jalr,
-    Op::Beq,
-    Op::Bne,
-    Op::Blt,
-    Op::Bge,
-    Op::Bltu,
-    Op::Bgeu,
-    Op::Lb,
-    Op::Lh,
-    Op::Lw,
-    Op::Lbu,
-    Op::Lhu,
-    Op::Sb,
-    Op::Sh,
-    Op::Sw,
-    Op::Addi,
-    Op::Slti,
-    Op::Sltiu,
-    Op::Xori,
-    Op::Ori,
-    Op::Andi,
-    Op::Slli,
-    Op::Srli,
-    Op::Srai,
-    Op::Add,
-    Op::Sub,
-    Op::Sll,
-    Op::Slt,
-    Op::Sltu,
-    Op::Xor,
-    Op::Srl,
-    Op::Sra,
-    Op::Or,
-    Op::And,
-    Op::Mul,
-    Op::Mulh,
-    Op::Mulhsu,
-    Op::Mulhu,
-    Op::Div,
-    Op::Divu,
-    Op::Rem,
-    Op::Remu,
-    Op::Fence,
-    Op::FenceI,
-    Op::Ecall,
-    Op::Ebreak,
-];
-
 // A shorthand for one instruction: the word, its operands, and the row with rd, rs1 and the immediate.
 type Shorthand = (&'static str, &'static [Slot], Op, u8, u8, i64);
 
@@ -160,13 +107,6 @@ static OTHER_WORDS: [(&str, Other); 11] = [
     (".globl", Other::Globl),
 ];
 
-#[tactic(auto, unfolding(crate::specs::Keywords::row_words, rv32_decode::specs::Table::rows, rv32_text::specs::Text::mnemonic_of))]
-fn ops() -> &'static [Op]
-    ensures { map row_entry result.now ≡ spec.row_words }
-{
-    &OPS
-}
-
 #[tactic(auto, unfolding(crate::specs::Keywords::shorthands))]
 fn shorthands() -> &'static [Shorthand]
     ensures same { map shorthand_entry result.now ≡ spec.shorthands }
@@ -182,6 +122,7 @@ fn other_words() -> &'static [(&'static str, Other)]
     &OTHER_WORDS
 }
 
+#[tactic(auto, using(crate::proofs::Tables::rows_named))]
 fn row_word(word: &[u8]) -> Option<Keyword>
     ensures { option_map keyword result ≡ named spec.row_words word.now }
 {
