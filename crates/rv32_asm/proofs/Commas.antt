@@ -5,7 +5,7 @@ use Rattle.std.specs.List.{slice_split, position_or_len}
 use Rattle.std.proofs.lemmas.List.{at_drop_more, at_drop_all}
 use Rattle.std.proofs.lemmas.List.Splits.{slice_split_first}
 use Rattle.sec_base.specs.declared.memory.Width.{Width}
-use Rattle.rv32_asm.specs.declared.keywords.Slot.{Slot}
+use Rattle.rv32_asm.specs.declared.keywords.Operand.{Operand}
 use Rattle.rv32_asm.specs.Characters.{trimmed, is_empty}
 use Rattle.rv32_asm.specs.Statements.{Instruction, Data}
 use Rattle.rv32_asm.specs.Reading.{operands_of, with_operands, expressions_of, li_of, la_of, data_of}
@@ -38,15 +38,15 @@ never_two a b (x ∷ xs) some = refl
 pub too_many : (a b text : List ℕ) → two (a ∷ b ∷ operand_texts text) ≡ None
 too_many a b text = never_two a b (slice_split at_comma text) (some_parts at_comma text)
 
-pub too_few_given : (slots : List Slot) (n : ℕ) (d : Slot) (i : Instruction) → n < length slots → with_operands (drop n slots) [] i ≡ None
-too_few_given slots n d i below = at_drop_more (λ each. with_operands each [] i) slots n d below
+pub too_few_given : (operands : List Operand) (n : ℕ) (d : Operand) (i : Instruction) → n < length operands → with_operands (drop n operands) [] i ≡ None
+too_few_given operands n d i below = at_drop_more (λ each. with_operands each [] i) operands n d below
 
 never_given : (parts : List (List ℕ)) (i : Instruction) → 0 < length parts → with_operands [] (map trimmed parts) i ≡ None
 never_given [] i some = elim some [ ]
 never_given (x ∷ xs) i some = refl
 
-pub too_many_given : (slots : List Slot) (n : ℕ) (text : List ℕ) (i : Instruction) → length slots ≤ n → with_operands (drop n slots) (operand_texts text) i ≡ None
-too_many_given slots n text i past = rw (at_drop_all (λ each. with_operands each (operand_texts text) i) slots n past) (never_given (slice_split at_comma text) i (some_parts at_comma text))
+pub too_many_given : (operands : List Operand) (n : ℕ) (text : List ℕ) (i : Instruction) → length operands ≤ n → with_operands (drop n operands) (operand_texts text) i ≡ None
+too_many_given operands n text i past = rw (at_drop_all (λ each. with_operands each (operand_texts text) i) operands n past) (never_given (slice_split at_comma text) i (some_parts at_comma text))
 
 pub li_other : (texts : List (List ℕ)) → two texts ≡ None → li_of texts ≡ None
 li_other [] e = refl

@@ -9,15 +9,15 @@ use Rattle.rv32_decode.specs.declared.Op.TheVariants.{Jal, Jalr, Beq, Bne, Addi,
 use Rattle.rv32_text.specs.Text.{mnemonic_of}
 use Rattle.rv32_text.specs.declared.names.Style.{Style}
 use Rattle.rv32_text.specs.declared.names.Style.TheVariants.{Registers, Immediate, Offset, Store, Upper, Branch, Jump, Fence, Bare}
-use Rattle.rv32_asm.specs.declared.keywords.Slot.{Slot}
-use Rattle.rv32_asm.specs.declared.keywords.Slot.TheVariants.{Rd, Rs1, Rs2, Value, Place}
+use Rattle.rv32_asm.specs.declared.keywords.Operand.{Operand}
+use Rattle.rv32_asm.specs.declared.keywords.Operand.TheVariants.{Rd, Rs1, Rs2, Value, Place}
 use Rattle.rv32_asm.specs.Statements.{Instruction, instruction}
 
 pub data Keyword : Type 0 where
-  -- an instruction, or a shorthand for one: its operands, and the fields that they leave as they are
-  InstructionWord : List Slot → Instruction → Keyword
-  LiWord : Keyword
-  LaWord : Keyword
+  -- an instruction, or a pseudoinstruction for one: its operands, and the fields that they leave as they are
+  InstructionWord : List Operand → Instruction → Keyword
+  LoadImmediateWord : Keyword
+  LoadAddressWord : Keyword
   DataWord : Width → Keyword
   AsciiWord : Keyword
   AscizWord : Keyword
@@ -28,16 +28,16 @@ pub data Keyword : Type 0 where
 
 -- The operands of the table's rows. Each is a register for a field of the instruction, an expression for its immediate,
 -- or a place in memory for its immediate and its first register, as `4(sp)`.
-abbrev pub slots_of : Style → List Slot
-slots_of Registers = Rd ∷ Rs1 ∷ Rs2 ∷ []
-slots_of Immediate = Rd ∷ Rs1 ∷ Value ∷ []
-slots_of Offset = Rd ∷ Place ∷ []
-slots_of Store = Rs2 ∷ Place ∷ []
-slots_of Upper = Rd ∷ Value ∷ []
-slots_of Branch = Rs1 ∷ Rs2 ∷ Value ∷ []
-slots_of Jump = Rd ∷ Value ∷ []
-slots_of Fence = []
-slots_of Bare = []
+abbrev pub operands_in : Style → List Operand
+operands_in Registers = Rd ∷ Rs1 ∷ Rs2 ∷ []
+operands_in Immediate = Rd ∷ Rs1 ∷ Value ∷ []
+operands_in Offset = Rd ∷ Place ∷ []
+operands_in Store = Rs2 ∷ Place ∷ []
+operands_in Upper = Rd ∷ Value ∷ []
+operands_in Branch = Rs1 ∷ Rs2 ∷ Value ∷ []
+operands_in Jump = Rd ∷ Value ∷ []
+operands_in Fence = []
+operands_in Bare = []
 
 -- `fence` is a fence of all that comes before it and all that comes after it (RISC-V unprivileged manual, section 2.7)
 abbrev pub immediate_without_operands : Op → ℤ
@@ -46,15 +46,15 @@ immediate_without_operands _ = pos 0
 
 abbrev pub row_keyword : Op → Keyword
 row_keyword op =
-    InstructionWord (slots_of (mnemonic_of op).style) (instruction op 0 0 0 (immediate_without_operands op))
+    InstructionWord (operands_in (mnemonic_of op).style) (instruction op 0 0 0 (immediate_without_operands op))
 
 -- the words of the table's rows
 unfoldable pub row_words : List (List ℕ × Keyword)
 row_words = map (λ row. ((mnemonic_of row.op).name, row_keyword row.op)) rows
 
--- shorthands for one instruction: the word, its operands, and the row with rd, rs1, rs2 and the immediate
-unfoldable pub shorthands : List (List ℕ × Keyword)
-shorthands =
+-- pseudoinstructions for one instruction: the word, its operands, and the row with rd, rs1, rs2 and the immediate
+unfoldable pub pseudoinstructions : List (List ℕ × Keyword)
+pseudoinstructions =
     (codes "nop", InstructionWord [] (instruction Addi 0 0 0 (pos 0)))
     ∷ (codes "mv", InstructionWord (Rd ∷ Rs1 ∷ []) (instruction Addi 0 0 0 (pos 0)))
     ∷ (codes "j", InstructionWord (Value ∷ []) (instruction Jal 0 0 0 (pos 0)))
@@ -69,12 +69,13 @@ shorthands =
     ∷ (codes "snez", InstructionWord (Rd ∷ Rs2 ∷ []) (instruction Sltu 0 0 0 (pos 0)))
     ∷ []
 
--- shorthands for one instruction or two, and directives
-unfoldable pub other_words : List (List ℕ × Keyword)
-other_words =
-    (codes "li", LiWord)
-    ∷ (codes "la", LaWord)
-    ∷ (codes ".word", DataWord Four)
+-- pseudoinstructions for one instruction or two
+unfoldable pub long_pseudoinstructions : List (List ℕ × Keyword)
+long_pseudoinstructions = (codes "li", LoadImmediateWord) ∷ (codes "la", LoadAddressWord) ∷ []
+
+unfoldable pub directives : List (List ℕ × Keyword)
+directives =
+    (codes ".word", DataWord Four)
     ∷ (codes ".half", DataWord Two)
     ∷ (codes ".byte", DataWord One)
     ∷ (codes ".ascii", AsciiWord)
@@ -86,7 +87,7 @@ other_words =
     ∷ []
 
 unfoldable pub keywords : List (List ℕ × Keyword)
-keywords = row_words ++ (shorthands ++ other_words)
+keywords = row_words ++ (pseudoinstructions ++ (long_pseudoinstructions ++ directives))
 
 -- what a word stands for
 unfoldable pub keyword_of : List ℕ → Option Keyword

@@ -4,7 +4,7 @@ use Rattle.std.specs.List.{prefix_len, slice_split, ends_with, before_first, aft
 use Rattle.sec_base.specs.declared.memory.Width.{Width}
 use Rattle.rv32_decode.specs.declared.Op.TheVariants.{Lui, Addi}
 use Rattle.rv32_asm.specs.declared.fault.AsmFault.{AsmFault}
-use Rattle.rv32_asm.specs.declared.fault.AsmFault.TheVariants.{Unknown, Operand}
+use Rattle.rv32_asm.specs.declared.fault.AsmFault.TheVariants as fault
 use Rattle.rv32_asm.specs.Characters.{tab, line_feed, digit_0, letter_n, letter_t, quotation_mark, left_parenthesis, right_parenthesis, comma, backslash, is_in_words, is_name, skip_blanks, is_empty, trimmed}
 use Rattle.rv32_asm.specs.declared.lines.Standing.TheVariants.{Outside}
 use Rattle.rv32_asm.specs.Lines.{has_foreign, statement_text, without_comment}
@@ -12,9 +12,9 @@ use Rattle.rv32_asm.specs.Registers.{register_of}
 use Rattle.rv32_asm.specs.Numbers.{number_of, is_between}
 use Rattle.rv32_asm.specs.Expressions.{Expression, expression_of, number_alone}
 use Rattle.rv32_asm.specs.Statements.{Instruction, instruction, Whole, Upper, Lower, Statement, Instructions, Data, Bytes, Zeros, Aligned, Nothing}
-use Rattle.rv32_asm.specs.declared.keywords.Slot.{Slot}
-use Rattle.rv32_asm.specs.declared.keywords.Slot.TheVariants.{Rd, Rs1, Rs2, Value, Place}
-use Rattle.rv32_asm.specs.Keywords.{Keyword, InstructionWord, LiWord, LaWord, DataWord, AsciiWord, AscizWord, SpaceWord, AlignWord, TextWord, GloblWord, keyword_of}
+use Rattle.rv32_asm.specs.declared.keywords.Operand.{Operand}
+use Rattle.rv32_asm.specs.declared.keywords.Operand.TheVariants.{Rd, Rs1, Rs2, Value, Place}
+use Rattle.rv32_asm.specs.Keywords.{Keyword, InstructionWord, LoadImmediateWord, LoadAddressWord, DataWord, AsciiWord, AscizWord, SpaceWord, AlignWord, TextWord, GloblWord, keyword_of}
 
 -- one step after another, where each may find another form than its own
 infixl 10 ◌>>=◌
@@ -45,8 +45,8 @@ place_of text = do
   base ← enclosed_register (after_first (λ byte. byte == left_parenthesis) text)
   Some (offset, base)
 
--- an instruction with the field that an operand gives
-abbrev pub with_operand : Slot → List ℕ → Instruction → Option Instruction
+-- an instruction with the field that the text of an operand gives
+abbrev pub with_operand : Operand → List ℕ → Instruction → Option Instruction
 with_operand Rd text i = option_map (λ number. record i { rd = number }) (register_of text)
 with_operand Rs1 text i = option_map (λ number. record i { rs1 = number }) (register_of text)
 with_operand Rs2 text i = option_map (λ number. record i { rs2 = number }) (register_of text)
@@ -54,12 +54,12 @@ with_operand Value text i = option_map (λ value. record i { immediate = Whole v
 with_operand Place text i =
     option_map (λ place. record i { immediate = Whole place.0; rs1 = place.1 }) (place_of text)
 
--- an instruction with the fields that its operands give, of which there are as many as it takes
-abbrev pub with_operands : List Slot → List (List ℕ) → Instruction → Option Instruction
+-- an instruction with the fields that the texts of its operands give, of which there are as many as it takes
+abbrev pub with_operands : List Operand → List (List ℕ) → Instruction → Option Instruction
 with_operands [] [] i = Some i
 with_operands [] (text ∷ texts) i = None
-with_operands (slot ∷ slots) [] i = None
-with_operands (slot ∷ slots) (text ∷ texts) i = with_operand slot text i >>= with_operands slots texts
+with_operands (operand ∷ operands) [] i = None
+with_operands (operand ∷ operands) (text ∷ texts) i = with_operand operand text i >>= with_operands operands texts
 
 -- each text is an expression
 abbrev pub expressions_of : List (List ℕ) → Option (List Expression)
@@ -140,10 +140,10 @@ globl_of text = if is_name text then Some Nothing else None
 
 -- the statement of a word with the text behind it, where that has its form
 unfoldable pub statement_with : Keyword → List ℕ → Option Statement
-statement_with (InstructionWord slots i) text =
-    option_map (λ each. Instructions (each ∷ [])) (with_operands slots (operands_of text) i)
-statement_with LiWord text = li_of (operands_of text)
-statement_with LaWord text = la_of (operands_of text)
+statement_with (InstructionWord operands i) text =
+    option_map (λ each. Instructions (each ∷ [])) (with_operands operands (operands_of text) i)
+statement_with LoadImmediateWord text = li_of (operands_of text)
+statement_with LoadAddressWord text = la_of (operands_of text)
 statement_with (DataWord width) text = data_of width (operands_of text)
 statement_with AsciiWord text = option_map Bytes (string_of text)
 statement_with AscizWord text = option_map (λ bytes. Bytes (bytes ++ 0 ∷ [])) (string_of text)
@@ -154,8 +154,8 @@ statement_with GloblWord text = globl_of text
 
 -- the statement of a word, if it is one, with the text behind it
 abbrev pub statement_from : Option Keyword → List ℕ → Result Statement AsmFault
-statement_from None text = Err Unknown
-statement_from (Some keyword) text = ok_or (statement_with keyword text) Operand
+statement_from None text = Err fault.Unknown
+statement_from (Some keyword) text = ok_or (statement_with keyword text) fault.Operand
 
 -- the statement that a text is, which begins with its word
 abbrev pub statement_in : List ℕ → Result Statement AsmFault
@@ -169,4 +169,4 @@ statement_in (byte ∷ bytes) = let text = byte ∷ bytes in
 -- begins no statement, and then operands of another number or form
 unfoldable pub statement_of : List ℕ → Result Statement AsmFault
 statement_of line =
-    if has_foreign Outside (without_comment line) then Err Unknown else statement_in (statement_text line)
+    if has_foreign Outside (without_comment line) then Err fault.Unknown else statement_in (statement_text line)

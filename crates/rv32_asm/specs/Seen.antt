@@ -8,9 +8,7 @@ use Rattle.rv32_asm.specs.declared.statements.Instruction.{Instruction}
 use Rattle.rv32_asm.specs.declared.statements.Statement.{Statement}
 use Rattle.rv32_asm.specs.declared.statements.Statement.TheVariants.{Instructions, Data, Bytes, Zeros, Aligned, Nothing}
 use Rattle.rv32_asm.specs.declared.keywords.Keyword.{Keyword}
-use Rattle.rv32_asm.specs.declared.keywords.Keyword.TheVariants.{Instruction as InstructionWord, Other as OtherWord}
-use Rattle.rv32_asm.specs.declared.keywords.Other.{Other}
-use Rattle.rv32_asm.specs.declared.keywords.Other.TheVariants.{Li, La, Data as DataWord, Ascii, Asciz, Space, Align, Text, Globl}
+use Rattle.rv32_asm.specs.declared.keywords.Keyword.TheVariants as word
 use Rattle.rv32_asm.specs.Expressions as spec
 use Rattle.rv32_asm.specs.Keywords as words
 use Rattle.rv32_asm.specs.Statements as meant
@@ -47,17 +45,14 @@ statement (Zeros number) = meant.Zeros number
 statement (Aligned number) = meant.Aligned number
 statement Nothing = meant.Nothing
 
-abbrev pub other : Other → words.Keyword
-other Li = words.LiWord
-other La = words.LaWord
-other (DataWord width) = words.DataWord width
-other Ascii = words.AsciiWord
-other Asciz = words.AscizWord
-other Space = words.SpaceWord
-other Align = words.AlignWord
-other Text = words.TextWord
-other Globl = words.GloblWord
-
 abbrev pub keyword : Keyword → words.Keyword
-keyword (InstructionWord slots i) = words.InstructionWord slots.now (instruction i)
-keyword (OtherWord word) = other word
+keyword (word.Instruction operands i) = words.InstructionWord operands.now (instruction i)
+keyword word.LoadImmediate = words.LoadImmediateWord
+keyword word.LoadAddress = words.LoadAddressWord
+keyword (word.Data width) = words.DataWord width
+keyword word.Ascii = words.AsciiWord
+keyword word.Asciz = words.AscizWord
+keyword word.Space = words.SpaceWord
+keyword word.Align = words.AlignWord
+keyword word.Text = words.TextWord
+keyword word.Globl = words.GloblWord

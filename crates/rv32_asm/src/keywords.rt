@@ -2,7 +2,7 @@
 
 ghost use Rattle.rv32_asm.specs.Keywords as spec;
 ghost use Rattle.rv32_asm.specs.Seen.{keyword};
-ghost use Rattle.rv32_asm.specs.Tables.{has_registers, named, other_entry, shorthand_entry};
+ghost use Rattle.rv32_asm.specs.Tables.{entry, has_registers, named, pseudoinstruction_entry};
 ghost use Rattle.std.specs.List.{list_all};
 ghost use Rattle.std.specs.Prelude.{map, option_map, true, ◌≡◌};
 
@@ -14,7 +14,7 @@ use sec_base::Width;
 /// What an operand is: a register for a field of the instruction, an expression for its immediate, or a place in
 /// memory for its immediate and its first register, as `4(sp)`.
 #[derive(Clone, Copy)]
-pub enum Slot {
+pub enum Operand {
     Rd,
     Rs1,
     Rs2,
@@ -22,11 +22,16 @@ pub enum Slot {
     Place,
 }
 
-/// A shorthand for one instruction or two, or a directive.
+/// What a word at the front of a statement stands for.
 #[derive(Clone, Copy)]
-pub enum Other {
-    Li,
-    La,
+pub enum Keyword {
+    /// An instruction, or a pseudoinstruction for one: its operands, and the fields that they leave as they are.
+    Instruction(&'static [Operand], Instruction<'static>),
+    /// The pseudoinstruction `li`.
+    LoadImmediate,
+    /// The pseudoinstruction `la`.
+    LoadAddress,
+    /// The directive of values of a width.
     Data(Width),
     Ascii,
     Asciz,
@@ -36,26 +41,17 @@ pub enum Other {
     Globl,
 }
 
-/// What a word at the front of a statement stands for.
-#[derive(Clone, Copy)]
-pub enum Keyword {
-    /// An instruction, or a shorthand for one: its operands, and the fields that they leave as they are.
-    Instruction(&'static [Slot], Instruction<'static>),
-    /// Another word.
-    Other(Other),
-}
-
 // The operands of the table's rows.
-fn slots_of(style: Style) -> &'static [Slot]
-    ensures { result.now ≡ spec.slots_of style }
+fn operands_in(style: Style) -> &'static [Operand]
+    ensures { result.now ≡ spec.operands_in style }
 {
     match style {
-        Style::Registers => &[Slot::Rd, Slot::Rs1, Slot::Rs2],
-        Style::Immediate => &[Slot::Rd, Slot::Rs1, Slot::Value],
-        Style::Offset => &[Slot::Rd, Slot::Place],
-        Style::Store => &[Slot::Rs2, Slot::Place],
-        Style::Upper | Style::Jump => &[Slot::Rd, Slot::Value],
-        Style::Branch => &[Slot::Rs1, Slot::Rs2, Slot::Value],
+        Style::Registers => &[Operand::Rd, Operand::Rs1, Operand::Rs2],
+        Style::Immediate => &[Operand::Rd, Operand::Rs1, Operand::Value],
+        Style::Offset => &[Operand::Rd, Operand::Place],
+        Style::Store => &[Operand::Rs2, Operand::Place],
+        Style::Upper | Style::Jump => &[Operand::Rd, Operand::Value],
+        Style::Branch => &[Operand::Rs1, Operand::Rs2, Operand::Value],
         Style::Fence | Style::Bare => &[],
     }
 }
@@ -69,57 +65,81 @@ fn row_keyword(op: Op) -> Keyword
         _ => 0,
     };
     Keyword::Instruction(
-        slots_of(style_of(op)),
+        operands_in(style_of(op)),
         Instruction::with_number(op, 0, 0, 0, immediate),
     )
 }
 
-// A shorthand for one instruction: the word, its operands, and the row with rd, rs1 and the immediate.
-type Shorthand = (&'static str, &'static [Slot], Op, u8, u8, i64);
-
-static SHORTHANDS: [Shorthand; 12] = [
-    ("nop", &[], Op::Addi, 0, 0, 0),
-    ("mv", &[Slot::Rd, Slot::Rs1], Op::Addi, 0, 0, 0),
-    ("j", &[Slot::Value], Op::Jal, 0, 0, 0),
-    ("call", &[Slot::Value], Op::Jal, 1, 0, 0),
-    ("jr", &[Slot::Rs1], Op::Jalr, 0, 0, 0),
-    ("ret", &[], Op::Jalr, 0, 1, 0),
-    ("beqz", &[Slot::Rs1, Slot::Value], Op::Beq, 0, 0, 0),
-    ("bnez", &[Slot::Rs1, Slot::Value], Op::Bne, 0, 0, 0),
-    ("not", &[Slot::Rd, Slot::Rs1], Op::Xori, 0, 0, -1),
-    ("neg", &[Slot::Rd, Slot::Rs2], Op::Sub, 0, 0, 0),
-    ("seqz", &[Slot::Rd, Slot::Rs1], Op::Sltiu, 0, 0, 1),
-    ("snez", &[Slot::Rd, Slot::Rs2], Op::Sltu, 0, 0, 0),
-];
-
-// Shorthands for one instruction or two, and directives.
-static OTHER_WORDS: [(&str, Other); 11] = [
-    ("li", Other::Li),
-    ("la", Other::La),
-    (".word", Other::Data(Width::Four)),
-    (".half", Other::Data(Width::Two)),
-    (".byte", Other::Data(Width::One)),
-    (".ascii", Other::Ascii),
-    (".asciz", Other::Asciz),
-    (".space", Other::Space),
-    (".align", Other::Align),
-    (".text", Other::Text),
-    (".globl", Other::Globl),
-];
-
-#[tactic(auto, unfolding(crate::specs::Keywords::shorthands))]
-fn shorthands() -> &'static [Shorthand]
-    ensures same { map shorthand_entry result.now ≡ spec.shorthands }
-    ensures registers { list_all has_registers result.now ≡ true }
-{
-    &SHORTHANDS
+// A pseudoinstruction for one instruction, whose fields are as here where no operand gives them.
+struct Pseudoinstruction {
+    name: &'static str,
+    operands: &'static [Operand],
+    op: Op,
+    rd: u8,
+    rs1: u8,
+    number: i64,
 }
 
-#[tactic(auto, unfolding(crate::specs::Keywords::other_words))]
-fn other_words() -> &'static [(&'static str, Other)]
-    ensures { map other_entry result.now ≡ spec.other_words }
+// A row of the table: the name and the operands, and op, rd, rs1 and the number of the instruction.
+macro_rules! pseudoinstruction {
+    ($name:literal, [$($operand:ident),*], $op:ident, $rd:literal, $rs1:literal, $number:expr) => {
+        Pseudoinstruction {
+            name: $name,
+            operands: &[$(Operand::$operand),*],
+            op: Op::$op,
+            rd: $rd,
+            rs1: $rs1,
+            number: $number,
+        }
+    };
+}
+
+static PSEUDOINSTRUCTIONS: [Pseudoinstruction; 12] = [
+    pseudoinstruction!("nop", [], Addi, 0, 0, 0),
+    pseudoinstruction!("mv", [Rd, Rs1], Addi, 0, 0, 0),
+    pseudoinstruction!("j", [Value], Jal, 0, 0, 0),
+    pseudoinstruction!("call", [Value], Jal, 1, 0, 0),
+    pseudoinstruction!("jr", [Rs1], Jalr, 0, 0, 0),
+    pseudoinstruction!("ret", [], Jalr, 0, 1, 0),
+    pseudoinstruction!("beqz", [Rs1, Value], Beq, 0, 0, 0),
+    pseudoinstruction!("bnez", [Rs1, Value], Bne, 0, 0, 0),
+    pseudoinstruction!("not", [Rd, Rs1], Xori, 0, 0, -1),
+    pseudoinstruction!("neg", [Rd, Rs2], Sub, 0, 0, 0),
+    pseudoinstruction!("seqz", [Rd, Rs1], Sltiu, 0, 0, 1),
+    pseudoinstruction!("snez", [Rd, Rs2], Sltu, 0, 0, 0),
+];
+
+#[tactic(auto, unfolding(crate::specs::Keywords::pseudoinstructions))]
+fn pseudoinstructions() -> &'static [Pseudoinstruction]
+    ensures same { map pseudoinstruction_entry result.now ≡ spec.pseudoinstructions }
+    ensures registers { list_all has_registers result.now ≡ true }
 {
-    &OTHER_WORDS
+    &PSEUDOINSTRUCTIONS
+}
+
+// The pseudoinstructions for one instruction or two.
+#[tactic(auto, unfolding(crate::specs::Keywords::long_pseudoinstructions))]
+fn long_pseudoinstructions() -> [(&'static str, Keyword); 2]
+    ensures { map entry result ≡ spec.long_pseudoinstructions }
+{
+    [("li", Keyword::LoadImmediate), ("la", Keyword::LoadAddress)]
+}
+
+#[tactic(auto, unfolding(crate::specs::Keywords::directives))]
+fn directives() -> [(&'static str, Keyword); 9]
+    ensures { map entry result ≡ spec.directives }
+{
+    [
+        (".word", Keyword::Data(Width::Four)),
+        (".half", Keyword::Data(Width::Two)),
+        (".byte", Keyword::Data(Width::One)),
+        (".ascii", Keyword::Ascii),
+        (".asciz", Keyword::Asciz),
+        (".space", Keyword::Space),
+        (".align", Keyword::Align),
+        (".text", Keyword::Text),
+        (".globl", Keyword::Globl),
+    ]
 }
 
 #[tactic(auto, using(crate::proofs::Tables::rows_named))]
@@ -134,13 +154,21 @@ fn row_word(word: &[u8]) -> Option<Keyword>
     None
 }
 
-fn shorthand(word: &[u8]) -> Option<Keyword>
-    ensures { option_map keyword result ≡ named spec.shorthands word.now }
+fn pseudoinstruction_word(word: &[u8]) -> Option<Keyword>
+    ensures { option_map keyword result ≡ named spec.pseudoinstructions word.now }
 {
-    for &(name, slots, op, rd, rs1, number) in shorthands() {
-        if name.as_bytes() == word {
+    for pseudo in pseudoinstructions() {
+        if pseudo.name.as_bytes() == word {
+            let Pseudoinstruction {
+                operands,
+                op,
+                rd,
+                rs1,
+                number,
+                ..
+            } = *pseudo;
             return Some(Keyword::Instruction(
-                slots,
+                operands,
                 Instruction::with_number(op, rd, rs1, 0, number),
             ));
         }
@@ -148,12 +176,13 @@ fn shorthand(word: &[u8]) -> Option<Keyword>
     None
 }
 
-fn other_word(word: &[u8]) -> Option<Keyword>
-    ensures { option_map keyword result ≡ named spec.other_words word.now }
+// What a word stands for in a table.
+fn keyword_in(table: &[(&'static str, Keyword)], word: &[u8]) -> Option<Keyword>
+    ensures { option_map keyword result ≡ named (map entry table.now) word.now }
 {
-    for &(name, other) in other_words() {
+    for &(name, keyword) in table {
         if name.as_bytes() == word {
-            return Some(Keyword::Other(other));
+            return Some(keyword);
         }
     }
     None
@@ -167,8 +196,11 @@ pub fn keyword_of(word: &[u8]) -> Option<Keyword>
     if let Some(keyword) = row_word(word) {
         return Some(keyword);
     }
-    if let Some(keyword) = shorthand(word) {
+    if let Some(keyword) = pseudoinstruction_word(word) {
         return Some(keyword);
     }
-    other_word(word)
+    if let Some(keyword) = keyword_in(&long_pseudoinstructions(), word) {
+        return Some(keyword);
+    }
+    keyword_in(&directives(), word)
 }

@@ -7,7 +7,7 @@ ghost use Rattle.std.specs.Prelude.{IfOk, IfSome, option_map, ◌∷◌, ◌<◌
 
 use crate::characters::{len_before, trimmed};
 use crate::expressions::expression_of;
-use crate::keywords::Slot;
+use crate::keywords::Operand;
 use crate::registers::register_of;
 use crate::statements::{Expression, Immediate, Instruction};
 use sec_base::NoMemory;
@@ -83,21 +83,21 @@ pub fn place_of(text: &[u8]) -> Option<(Expression<'_>, u8)>
     Some((offset, base))
 }
 
-// An instruction with the field that an operand gives.
+// An instruction with the field that the text of an operand gives.
 fn with_operand<'a>(
-    slot: Slot,
+    operand: Operand,
     text: &'a [u8],
     instruction: Instruction<'a>,
 ) -> Option<Instruction<'a>>
-    ensures { option_map seen.instruction result ≡ spec.with_operand slot text.now (seen.instruction instruction.entry) }
+    ensures { option_map seen.instruction result ≡ spec.with_operand operand text.now (seen.instruction instruction.entry) }
 {
     let mut given = instruction;
-    match slot {
-        Slot::Rd => given.rd = register_of(text)?,
-        Slot::Rs1 => given.rs1 = register_of(text)?,
-        Slot::Rs2 => given.rs2 = register_of(text)?,
-        Slot::Value => given.immediate = Immediate::Whole(expression_of(text)?),
-        Slot::Place => {
+    match operand {
+        Operand::Rd => given.rd = register_of(text)?,
+        Operand::Rs1 => given.rs1 = register_of(text)?,
+        Operand::Rs2 => given.rs2 = register_of(text)?,
+        Operand::Value => given.immediate = Immediate::Whole(expression_of(text)?),
+        Operand::Place => {
             let (offset, base) = place_of(text)?;
             given.immediate = Immediate::Whole(offset);
             given.rs1 = base;
@@ -106,21 +106,21 @@ fn with_operand<'a>(
     Some(given)
 }
 
-/// An instruction with the fields that its operands give, of which there are as many as it takes.
+/// An instruction with the fields that the texts of its operands give, of which there are as many as it takes.
 #[tactic(auto, using(crate::proofs::Commas::too_few_given, crate::proofs::Commas::too_many_given))]
 pub fn with_operands<'a>(
-    slots: &[Slot],
-    operands: Option<&'a [u8]>,
+    operands: &[Operand],
+    texts: Option<&'a [u8]>,
     instruction: Instruction<'a>,
 ) -> Option<Instruction<'a>>
     ensures { option_map seen.instruction result
-        ≡ spec.with_operands slots.now (operands_left operands.entry) (seen.instruction instruction.entry) }
+        ≡ spec.with_operands operands.now (operands_left texts.entry) (seen.instruction instruction.entry) }
 {
-    let mut left = operands;
+    let mut left = texts;
     let mut given = instruction;
-    for slot in slots {
-        let (operand, rest) = first_operand(left?);
-        given = with_operand(*slot, operand, given)?;
+    for operand in operands {
+        let (text, rest) = first_operand(left?);
+        given = with_operand(*operand, text, given)?;
         left = rest;
     }
     match left {

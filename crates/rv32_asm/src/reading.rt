@@ -15,7 +15,7 @@ mod tests;
 use crate::characters::{is_name, skip_blanks, word_len};
 use crate::expressions::expression_of;
 use crate::fault::{AsmFault, LineError};
-use crate::keywords::{Keyword, Other, Slot, keyword_of};
+use crate::keywords::{Keyword, Operand, keyword_of};
 use crate::lines::{has_foreign, statement_text, without_comment};
 use crate::numbers::number_of;
 use crate::operands::{expressions_of, operands_of, two_operands, with_operands};
@@ -30,14 +30,14 @@ use std::alloc::Global;
 #[tactic(auto, unfolding(crate::specs::Reading::statement_with))]
 fn one_instruction<'a>(
     alloc: Global,
-    slots: &[Slot],
+    operands: &[Operand],
     instruction: Instruction<'a>,
     text: &'a [u8],
 ) -> Result<Option<Statement<'a>>, NoMemory>
     ensures { IfOk result (λ s. option_map statement s
-        ≡ spec.statement_with (InstructionWord slots.now (seen.instruction instruction.entry)) text.now) }
+        ≡ spec.statement_with (InstructionWord operands.now (seen.instruction instruction.entry)) text.now) }
 {
-    match with_operands(slots, operands_of(text), instruction) {
+    match with_operands(operands, operands_of(text), instruction) {
         Some(given) => Ok(Some(Statement::Instructions(vec![in alloc; given]?))),
         None => Ok(None),
     }
@@ -172,30 +172,8 @@ fn nothing_where<'a>(formed: bool) -> Option<Statement<'a>>
     }
 }
 
-// The statement of a word that is no instruction.
-#[tactic(auto, using(crate::proofs::Commas::empty_test), unfolding(crate::specs::Reading::statement_with))]
-fn other_with<'a>(
-    alloc: Global,
-    word: Other,
-    text: &'a [u8],
-) -> Result<Option<Statement<'a>>, NoMemory>
-    ensures { IfOk result (λ s. option_map statement s ≡ spec.statement_with (seen.other word) text.now) }
-{
-    match word {
-        Other::Li => li_of(alloc, text),
-        Other::La => la_of(alloc, text),
-        Other::Data(width) => data_of(alloc, width, text),
-        Other::Ascii => ascii_of(alloc, text),
-        Other::Asciz => asciz_of(alloc, text),
-        Other::Space => Ok(zeros_of(text)),
-        Other::Align => Ok(aligned_of(text)),
-        Other::Text => Ok(nothing_where(text.is_empty())),
-        Other::Globl => Ok(nothing_where(is_name(text))),
-    }
-}
-
 // The statement of a word with the text behind it, where that has its form.
-#[tactic(auto, unfolding(crate::specs::Reading::statement_with))]
+#[tactic(auto, using(crate::proofs::Commas::empty_test), unfolding(crate::specs::Reading::statement_with))]
 fn statement_with<'a>(
     alloc: Global,
     keyword: Keyword,
@@ -204,13 +182,21 @@ fn statement_with<'a>(
     ensures { IfOk result (λ s. option_map statement s ≡ spec.statement_with (seen.keyword keyword) text.now) }
 {
     match keyword {
-        Keyword::Instruction(slots, instruction) => one_instruction(
+        Keyword::Instruction(operands, instruction) => one_instruction(
             alloc,
-            slots,
+            operands,
             instruction,
             text,
         ),
-        Keyword::Other(word) => other_with(alloc, word, text),
+        Keyword::LoadImmediate => li_of(alloc, text),
+        Keyword::LoadAddress => la_of(alloc, text),
+        Keyword::Data(width) => data_of(alloc, width, text),
+        Keyword::Ascii => ascii_of(alloc, text),
+        Keyword::Asciz => asciz_of(alloc, text),
+        Keyword::Space => Ok(zeros_of(text)),
+        Keyword::Align => Ok(aligned_of(text)),
+        Keyword::Text => Ok(nothing_where(text.is_empty())),
+        Keyword::Globl => Ok(nothing_where(is_name(text))),
     }
 }
 

@@ -317,7 +317,7 @@ fn each_row_there_and_back(rt: HostRuntime) -> Result<(), Fail> {
 }
 
 #[test]
-fn shorthands(rt: HostRuntime) -> Result<(), Fail> {
+fn pseudoinstructions(rt: HostRuntime) -> Result<(), Fail> {
     let table: [(&str, &[u32]); 23] = [
         ("nop", &[0x0000_0013]),
         ("mv a0, s11", &[0x000d_8513]),
