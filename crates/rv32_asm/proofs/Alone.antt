@@ -6,12 +6,12 @@ use Rattle.rv32_decode.specs.declared.Op.TheVariants.{Lui, Auipc, Jal, Jalr, Beq
 use Rattle.rv32_text.specs.Text.{mnemonic_of, text_of, text_of_word}
 use Rattle.rv32_text.specs.declared.names.Style.{Style}
 use Rattle.rv32_text.specs.declared.names.Style.TheVariants.{Bare}
-use Rattle.rv32_asm.specs.Characters.{trimmed}
-use Rattle.rv32_asm.specs.Keywords.{directives, keyword_of, keywords, long_pseudoinstructions, pseudoinstructions, row_words}
+use Rattle.rv32_asm_syntax.specs.Characters.{trimmed}
+use Rattle.rv32_asm_syntax.specs.Keywords.{directives, keyword_of, keywords, long_pseudoinstructions, pseudoinstructions, row_words}
 use Rattle.rv32_asm.specs.Law.{IsReadBack}
-use Rattle.rv32_asm.specs.Lines.{statement_text, without_comment}
-use Rattle.rv32_asm.specs.Reading.{operands_of, statement_of, statement_with}
-use Rattle.rv32_asm.specs.Statements.{Instructions, instruction}
+use Rattle.rv32_asm_syntax.specs.Lines.{statement_text, without_comment}
+use Rattle.rv32_asm_syntax.specs.Reading.{operands_of, statement_of, statement_with}
+use Rattle.rv32_asm_syntax.specs.Statements.{Instructions, instruction}
 use Rattle.rv32_asm.proofs.Readings.{instruction_is, read_back}
 
 abbrev pub is_bare : Style → Bool

@@ -11,8 +11,8 @@ use Rattle.rv32_decode.specs.declared.table.Format.TheVariants.{R, I, S, B, U, J
 use Rattle.rv32_asm.specs.Encoding.{distance, encoded_at, fits_at, fits_format, immediate_of, is_even}
 use Rattle.rv32_asm.specs.Fields.{immediate_in, kept}
 use Rattle.rv32_asm.specs.Labels.{Label}
-use Rattle.rv32_asm.specs.Numbers.{is_between}
-use Rattle.rv32_asm.specs.Statements.{Instruction}
+use Rattle.rv32_asm_syntax.specs.Numbers.{is_between}
+use Rattle.rv32_asm_syntax.specs.Statements.{Instruction}
 use Rattle.rv32_asm.specs.Values.{immediate_value}
 use Rattle.rv32_decode.proofs.Signed.{complement_range, complement_word}
 

@@ -1,13 +1,9 @@
 pub mod Alone
 pub mod Assembling
-pub mod Comments
 pub mod Courses
-pub mod Cuts
-pub mod Digits
 pub mod Emitting
 pub mod FirstSteps
 pub mod Found
-pub mod Fronts
 pub mod Kept
 pub mod Law
 pub mod Readings
@@ -23,10 +19,3 @@ pub mod TextNumbers
 pub mod TextOperands
 pub mod TextRegisters
 pub mod TextStatements
-pub mod FirstLabel
-pub mod Words
-pub mod Numbered
-pub mod Tables
-pub mod Splits
-pub mod Commas
-pub mod Quotes

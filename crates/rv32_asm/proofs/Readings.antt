@@ -10,16 +10,16 @@ use Rattle.rv32_decode.specs.declared.Inst.{Inst}
 use Rattle.rv32_decode.specs.declared.Op.{Op}
 use Rattle.rv32_text.specs.Text.{data_text, hex8, statement, text_of_word}
 use Rattle.rv32_asm.specs.Encoding.{bytes_at, encoded_at, fits_at, fits_format, fits_width, immediate_of, is_in_range, misses_label}
-use Rattle.rv32_asm.specs.Expressions.{number_alone}
-use Rattle.rv32_asm.specs.declared.keywords.Operand.{Operand}
-use Rattle.rv32_asm.specs.Keywords.{DataWord, InstructionWord, directives, keyword_of, keywords, long_pseudoinstructions, pseudoinstructions, row_words}
+use Rattle.rv32_asm_syntax.specs.Expressions.{number_alone}
+use Rattle.rv32_asm_syntax.specs.declared.keywords.Operand.{Operand}
+use Rattle.rv32_asm_syntax.specs.Keywords.{DataWord, InstructionWord, directives, keyword_of, keywords, long_pseudoinstructions, pseudoinstructions, row_words}
 use Rattle.rv32_asm.specs.Labels.{Label}
 use Rattle.rv32_asm.specs.Law.{IsReadBack}
 use Rattle.rv32_asm.specs.Layout.{is_misplaced, size_at}
-use Rattle.rv32_asm.specs.Lines.{labels_of}
+use Rattle.rv32_asm_syntax.specs.Lines.{labels_of}
 use Rattle.rv32_asm.specs.Passes.{Progress, after_line, line_bytes}
-use Rattle.rv32_asm.specs.Reading.{statement_of, statement_with, with_operands}
-use Rattle.rv32_asm.specs.Statements.{Data, Instruction, Instructions, Statement, instruction}
+use Rattle.rv32_asm_syntax.specs.Reading.{statement_of, statement_with, with_operands}
+use Rattle.rv32_asm_syntax.specs.Statements.{Data, Instruction, Instructions, Statement, instruction}
 use Rattle.rv32_asm.specs.Values.{immediate_value, modulo}
 use Rattle.rv32_decode.specs.Table.{rows}
 use Rattle.rv32_text.specs.Text.{mnemonic_of}

@@ -12,11 +12,11 @@ use Rattle.rv32_text.specs.Text.{hex8, operands_of, register_name, place_text, s
 use Rattle.rv32_text.specs.declared.names.Style.{Style}
 use Rattle.rv32_text.specs.declared.names.Style.TheVariants.{Registers, Immediate, Offset, Store, Upper, Branch, Jump, Fence, Bare}
 use Rattle.rv32_asm.specs.Encoding.{distance, fits_format, immediate_of, is_even}
-use Rattle.rv32_asm.specs.declared.keywords.Operand.{Operand}
-use Rattle.rv32_asm.specs.Keywords.{InstructionWord, keyword_of, operands_in}
-use Rattle.rv32_asm.specs.Numbers.{is_between}
-use Rattle.rv32_asm.specs.Reading.{statement_of, with_operands}
-use Rattle.rv32_asm.specs.Statements.{Instructions, instruction}
+use Rattle.rv32_asm_syntax.specs.declared.keywords.Operand.{Operand}
+use Rattle.rv32_asm_syntax.specs.Keywords.{InstructionWord, keyword_of, operands_in}
+use Rattle.rv32_asm_syntax.specs.Numbers.{is_between}
+use Rattle.rv32_asm_syntax.specs.Reading.{statement_of, with_operands}
+use Rattle.rv32_asm_syntax.specs.Statements.{Instructions, instruction}
 use Rattle.rv32_asm.proofs.TextImmediates.{between_true, distance_target, even_true, upper_word}
 use Rattle.rv32_asm.proofs.TextKeywords.{has_format, is_word}
 use Rattle.rv32_asm.proofs.TextLines.{is_plain}

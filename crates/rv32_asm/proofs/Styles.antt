@@ -8,11 +8,11 @@ use Rattle.std.specs.List.{after_first, before_first, list_all, position_or_len}
 use Rattle.rv32_decode.specs.declared.Op.{Op}
 use Rattle.rv32_text.specs.Text.{hex8, register_name}
 use Rattle.rv32_text.specs.declared.names.Style.TheVariants.{Registers, Immediate, Offset, Store, Upper, Branch, Jump}
-use Rattle.rv32_asm.specs.Characters.{trimmed}
-use Rattle.rv32_asm.specs.Expressions.{Expression, expression_of, number_alone}
-use Rattle.rv32_asm.specs.Keywords.{operands_in}
-use Rattle.rv32_asm.specs.Reading.{enclosed_register, offset_of, place_of, with_operands}
-use Rattle.rv32_asm.specs.Statements.{instruction}
+use Rattle.rv32_asm_syntax.specs.Characters.{trimmed}
+use Rattle.rv32_asm_syntax.specs.Expressions.{Expression, expression_of, number_alone}
+use Rattle.rv32_asm_syntax.specs.Keywords.{operands_in}
+use Rattle.rv32_asm_syntax.specs.Reading.{enclosed_register, offset_of, place_of, with_operands}
+use Rattle.rv32_asm_syntax.specs.Statements.{instruction}
 use Rattle.rv32_asm.proofs.TextNumbers.{digits_read, hex8_read, is_figure, signed_figures, signed_operand, signed_read}
 use Rattle.rv32_asm.proofs.TextOperands.{is_operand, is_solid, trimmed_solid}
 use Rattle.rv32_asm.proofs.TextRegisters.{base_operand, base_read, register_read}

@@ -2,14 +2,14 @@
 
 ghost use Rattle.rv32_asm.specs.Encoding as spec;
 ghost use Rattle.rv32_asm.specs.Fields.{immediate_in, kept};
-ghost use Rattle.rv32_asm.specs.Numbers as numbers;
-ghost use Rattle.rv32_asm.specs.Seen as seen;
+ghost use Rattle.rv32_asm_syntax.specs.Numbers as numbers;
+ghost use Rattle.rv32_asm_syntax.specs.Seen as seen;
 ghost use Rattle.rv32_decode.specs.Table.{row_for, word_of};
 ghost use Rattle.std.specs.Prelude.{None, Some, if◌then◌else◌, neg_ℤ, pos, ◌&&◌, ◌^◌, ◌≡◌, ◌≤ℤ◌};
 
 use crate::labels::Labels;
-use crate::statements::Instruction;
 use crate::values;
+use rv32_asm_syntax::Instruction;
 use rv32_decode::{Format, Inst, Op, encode, format_of};
 
 // How far it is from an address to a target, modulo 2^32, from -2^31 on.

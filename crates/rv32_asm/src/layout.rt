@@ -2,12 +2,11 @@
 
 ghost use Rattle.rv32_asm.specs.Layout as spec;
 ghost use Rattle.rv32_asm.specs.Passes as passes;
-ghost use Rattle.rv32_asm.specs.Seen as seen;
-ghost use Rattle.rv32_asm.specs.Parts.{as_word};
+ghost use Rattle.rv32_asm_syntax.specs.Parts.{as_word};
+ghost use Rattle.rv32_asm_syntax.specs.Seen as seen;
 ghost use Rattle.std.specs.Prelude.{false, ◌*◌, ◌<◌, ◌≡◌};
 
-use crate::fault::AsmFault;
-use crate::statements::Statement;
+use rv32_asm_syntax::{AsmFault, Statement};
 
 // Whether so many zeros can be asked for.
 fn is_space(number: i64) -> bool

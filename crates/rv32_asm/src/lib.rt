@@ -5,31 +5,22 @@ ghost use Rattle.std.specs.Prelude.{ℕ, IfOk, Err, length, ◌≡◌, ◌<◌, 
 ghost use Rattle.sec_base.specs.Layout.{IsMemorySize};
 ghost use Rattle.rv32_asm.specs.Assembly.{IsAssembled, program_of};
 ghost use Rattle.rv32_asm.specs.Law.{TextsAreWords};
-ghost use Rattle.rv32_asm.specs.declared.fault.AsmFault.{AsmFault};
+ghost use Rattle.rv32_asm_syntax.specs.declared.fault.AsmFault.{AsmFault};
 ghost use Rattle.rv32_asm.specs.declared.fault.AsmError.TheVariants.{Fault};
 
-mod characters;
 mod emission;
 mod encoding;
-mod expressions;
 mod fault;
-mod keywords;
 mod labels;
 mod layout;
-mod lines;
-mod numbers;
-mod operands;
 mod passes;
 mod program;
-mod reading;
-mod registers;
-mod statements;
-mod strings;
 #[cfg(test)]
 mod tests;
 mod values;
 
-pub use fault::{AsmError, AsmFault};
+pub use fault::AsmError;
+pub use rv32_asm_syntax::AsmFault;
 use sec_base::Image;
 use std::alloc::Global;
 
