@@ -6,6 +6,8 @@ pub mod FirstSteps
 pub mod Found
 pub mod Kept
 pub mod Law
+pub mod Parts
+pub mod Programs
 pub mod Readings
 pub mod SameLabels
 pub mod SecondSteps

@@ -25,7 +25,7 @@ fn fields(instruction: &Instruction) -> Fields {
 }
 
 #[test]
-fn one_instruction(rt: HostRuntime) {
+fn operands_fill_the_fields(rt: HostRuntime) {
     let table: [(&str, Fields); 10] = [
         ("main: add a0, a1, a2", (Op::Add, 10, 11, 12, 0)),
         ("lw x31 , ( fp ) # above", (Op::Lw, 31, 8, 0, 0)),
@@ -50,7 +50,7 @@ fn one_instruction(rt: HostRuntime) {
 }
 
 #[test]
-fn upper_and_lower_part(rt: HostRuntime) {
+fn large_numbers_are_two_instructions(rt: HostRuntime) {
     let table: [(&str, u8, i64); 4] = [
         ("li a0, 2048", 10, 2048),
         ("li ra, -2049", 1, -2049),
@@ -70,7 +70,7 @@ fn upper_and_lower_part(rt: HostRuntime) {
 }
 
 #[test]
-fn values(rt: HostRuntime) {
+fn values_are_read_in_order(rt: HostRuntime) {
     match &statement_of(rt.alloc(), b".half 1, -1 ,here + 4") {
         Ok(Statement::Data(Width::Two, all)) => {
             assert_eq!(rt; all.len(), 3);
@@ -82,7 +82,7 @@ fn values(rt: HostRuntime) {
 }
 
 #[test]
-fn strings(rt: HostRuntime) {
+fn strings_have_their_escapes(rt: HostRuntime) {
     let table = [
         (".ascii \"\"", ""),
         (".ascii\"a#b\"# c", "a#b"),
@@ -102,7 +102,7 @@ fn strings(rt: HostRuntime) {
 }
 
 #[test]
-fn refused(rt: HostRuntime) {
+fn each_fault_is_told(rt: HostRuntime) {
     let table: [(&[u8], AsmFault); 10] = [
         (b"frob a0", AsmFault::Unknown),
         (b"a : nop", AsmFault::Unknown),
