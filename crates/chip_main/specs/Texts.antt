@@ -15,8 +15,8 @@ use Rattle.elf_load.specs.Spelling.{spelled}
 use Rattle.elf_load.specs.declared.fault.ElfFault.{ElfFault}
 use Rattle.rv32_text.specs.Text.{hex8}
 use Rattle.rv32_listing.specs.Listing.{listing_of}
-use Rattle.rv32_asm.specs.Faults.{code_of as asm_code, name_of as asm_name}
-use Rattle.rv32_asm.specs.declared.fault.AsmFault.{AsmFault}
+use Rattle.rv32_asm_syntax.specs.Faults.{code_of as asm_code, name_of as asm_name}
+use Rattle.rv32_asm_syntax.specs.declared.fault.AsmFault.{AsmFault}
 use Rattle.plain_machine.specs.declared.PlainRecord.{PlainRecord}
 use Rattle.chip_run.specs.declared.RunRecord.{RunRecord}
 use Rattle.chip_main.specs.declared.refusal.Refusal.{Refusal}

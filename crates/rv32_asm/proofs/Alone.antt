@@ -6,12 +6,12 @@ use Rattle.rv32_decode.specs.declared.Op.TheVariants.{Lui, Auipc, Jal, Jalr, Beq
 use Rattle.rv32_text.specs.Text.{mnemonic_of, text_of, text_of_word}
 use Rattle.rv32_text.specs.declared.names.Style.{Style}
 use Rattle.rv32_text.specs.declared.names.Style.TheVariants.{Bare}
-use Rattle.rv32_asm.specs.Characters.{trimmed}
-use Rattle.rv32_asm.specs.Keywords.{keyword_of, keywords, other_words, row_words, shorthands}
+use Rattle.rv32_asm_syntax.specs.Characters.{trimmed}
+use Rattle.rv32_asm_syntax.specs.Keywords.{directives, keyword_of, keywords, long_pseudoinstructions, pseudoinstructions, row_words}
 use Rattle.rv32_asm.specs.Law.{IsReadBack}
-use Rattle.rv32_asm.specs.Lines.{statement_text, without_comment}
-use Rattle.rv32_asm.specs.Reading.{operands_of, statement_of, statement_with}
-use Rattle.rv32_asm.specs.Statements.{Instructions, instruction}
+use Rattle.rv32_asm_syntax.specs.Lines.{statement_text, without_comment}
+use Rattle.rv32_asm_syntax.specs.Reading.{operands_of, statement_of, statement_with}
+use Rattle.rv32_asm_syntax.specs.Statements.{Instructions, instruction}
 use Rattle.rv32_asm.proofs.Readings.{instruction_is, read_back}
 
 abbrev pub is_bare : Style → Bool
@@ -78,7 +78,7 @@ module _ (size address : ℕ) (aligned : address % 4 ≡ 0) (inside : address + 
   fence_text = refl
 
   fence_means : statement_of (codes "fence") ≡ Ok (Instructions (instruction Fence 0 0 0 (pos 0xff) ∷ []))
-  unfolding statement_of without_comment statement_text trimmed statement_with operands_of keyword_of keywords row_words shorthands other_words rows mnemonic_of
+  unfolding statement_of without_comment statement_text trimmed statement_with operands_of keyword_of keywords row_words pseudoinstructions long_pseudoinstructions directives rows mnemonic_of
   fence_means = refl
 
   pub fence_back : IsReadBack size 0x0ff0000f address
@@ -93,7 +93,7 @@ module _ (size address : ℕ) (aligned : address % 4 ≡ 0) (inside : address + 
   fence_i_text = refl
 
   fence_i_means : statement_of (codes "fence.i") ≡ Ok (Instructions (instruction FenceI 0 0 0 (pos 0) ∷ []))
-  unfolding statement_of without_comment statement_text trimmed statement_with operands_of keyword_of keywords row_words shorthands other_words rows mnemonic_of
+  unfolding statement_of without_comment statement_text trimmed statement_with operands_of keyword_of keywords row_words pseudoinstructions long_pseudoinstructions directives rows mnemonic_of
   fence_i_means = refl
 
   pub fence_i_back : IsReadBack size 0x0000100f address
@@ -108,7 +108,7 @@ module _ (size address : ℕ) (aligned : address % 4 ≡ 0) (inside : address + 
   ecall_text = refl
 
   ecall_means : statement_of (codes "ecall") ≡ Ok (Instructions (instruction Ecall 0 0 0 (pos 0) ∷ []))
-  unfolding statement_of without_comment statement_text trimmed statement_with operands_of keyword_of keywords row_words shorthands other_words rows mnemonic_of
+  unfolding statement_of without_comment statement_text trimmed statement_with operands_of keyword_of keywords row_words pseudoinstructions long_pseudoinstructions directives rows mnemonic_of
   ecall_means = refl
 
   pub ecall_back : IsReadBack size 0x00000073 address
@@ -123,7 +123,7 @@ module _ (size address : ℕ) (aligned : address % 4 ≡ 0) (inside : address + 
   ebreak_text = refl
 
   ebreak_means : statement_of (codes "ebreak") ≡ Ok (Instructions (instruction Ebreak 0 0 0 (pos 0) ∷ []))
-  unfolding statement_of without_comment statement_text trimmed statement_with operands_of keyword_of keywords row_words shorthands other_words rows mnemonic_of
+  unfolding statement_of without_comment statement_text trimmed statement_with operands_of keyword_of keywords row_words pseudoinstructions long_pseudoinstructions directives rows mnemonic_of
   ebreak_means = refl
 
   pub ebreak_back : IsReadBack size 0x00100073 address

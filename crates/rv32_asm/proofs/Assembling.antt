@@ -3,7 +3,7 @@ use Rattle.std.proofs.Common.{◌≡◌, ℕ, List, [], Result, Ok, Err, option_
 use Rattle.rv32_asm.specs.Assembly.{Program, entry_of, program_of}
 use Rattle.rv32_asm.specs.Course.{Reaches, end_of, entry_at}
 use Rattle.rv32_asm.specs.Labels.{Label, label_named}
-use Rattle.rv32_asm.specs.Lines.{lines_of}
+use Rattle.rv32_asm_syntax.specs.Lines.{lines_of}
 use Rattle.rv32_asm.specs.Passes.{LineFault, Progress, first_pass, second_pass, start, ◌>>=◌}
 use Rattle.rv32_asm.specs.SeenLabels.{unnamed}
 use Rattle.rv32_asm.proofs.FirstSteps.{pass_ends}

@@ -8,17 +8,17 @@ use Rattle.sec_base.specs.Width.{width_bytes}
 use Rattle.sec_base.specs.declared.memory.Width.{Width}
 use Rattle.sec_base.specs.declared.memory.Width.TheVariants.{One, Two, Four}
 use Rattle.rv32_decode.specs.Table.{word_of}
-use Rattle.rv32_asm.specs.declared.fault.AsmFault.{AsmFault}
-use Rattle.rv32_asm.specs.declared.fault.AsmFault.TheVariants.{Range, Missing}
+use Rattle.rv32_asm_syntax.specs.declared.fault.AsmFault.{AsmFault}
+use Rattle.rv32_asm_syntax.specs.declared.fault.AsmFault.TheVariants.{Range, Missing}
 use Rattle.rv32_asm.specs.Course.{behind, behind_line}
 use Rattle.rv32_asm.specs.Emission.{with_more}
 use Rattle.rv32_asm.specs.Encoding.{bytes_at, code_from, encoded_at, is_in_range, misses_label, number_bytes}
-use Rattle.rv32_asm.specs.Expressions.{Expression}
+use Rattle.rv32_asm_syntax.specs.Expressions.{Expression}
 use Rattle.rv32_asm.specs.Labels.{Label}
 use Rattle.rv32_asm.specs.Layout.{is_misplaced, size_at}
 use Rattle.rv32_asm.specs.Passes.{emitted, line_bytes}
-use Rattle.rv32_asm.specs.Reading.{statement_of}
-use Rattle.rv32_asm.specs.Statements.{Instruction, Statement, Instructions, Data, Bytes, Zeros, Aligned, Nothing}
+use Rattle.rv32_asm_syntax.specs.Reading.{statement_of}
+use Rattle.rv32_asm_syntax.specs.Statements.{Instruction, Statement, Instructions, Data, Bytes, Zeros, Aligned, Nothing}
 use Rattle.rv32_asm.specs.Values.{value_of}
 
 -- ---- a line by its statement

@@ -5,16 +5,16 @@ use Rattle.std.specs.Int.{to_le_bytes, w32}
 use Rattle.std.specs.List.{list_any, list_all, flat_map}
 use Rattle.sec_base.specs.declared.memory.Width.{Width}
 use Rattle.rv32_decode.specs.Table.{word_of}
-use Rattle.rv32_asm.specs.declared.fault.AsmFault.{AsmFault}
-use Rattle.rv32_asm.specs.declared.fault.AsmFault.TheVariants.{Range}
-use Rattle.rv32_asm.specs.declared.statements.Expression.{Expression}
-use Rattle.rv32_asm.specs.declared.statements.Instruction.{Instruction}
+use Rattle.rv32_asm_syntax.specs.declared.fault.AsmFault.{AsmFault}
+use Rattle.rv32_asm_syntax.specs.declared.fault.AsmFault.TheVariants.{Range}
+use Rattle.rv32_asm_syntax.specs.declared.statements.Expression.{Expression}
+use Rattle.rv32_asm_syntax.specs.declared.statements.Instruction.{Instruction}
 use Rattle.rv32_asm.specs.Emission.{code_at, data_of, statement_bytes, with_more}
 use Rattle.rv32_asm.specs.Passes.{emitted}
 use Rattle.rv32_asm.specs.Encoding.{code_from, encoded_at, expressions_in, fit_from, fits_at, fits_width, is_in_range, misses_label, number_bytes}
 use Rattle.rv32_asm.specs.Labels.{Label}
-use Rattle.rv32_asm.specs.Seen as seen
-use Rattle.rv32_asm.specs.Statements as meant
+use Rattle.rv32_asm_syntax.specs.Seen as seen
+use Rattle.rv32_asm_syntax.specs.Statements as meant
 use Rattle.rv32_asm.specs.Values.{is_missing, value_of}
 
 -- the list from an element on

@@ -3,17 +3,17 @@ use Rattle.std.proofs.Common.{◌≡◌, ℕ, ◌+◌, ◌≤◌, Bool, true, fa
 use Rattle.std.specs.Prelude.{is_some, nat_lt}
 use Rattle.std.specs.Str.{bytes_eq}
 use Rattle.std.proofs.lemmas.Bool.{le-ltb}
-use Rattle.rv32_asm.specs.declared.fault.AsmFault.{AsmFault}
-use Rattle.rv32_asm.specs.declared.fault.AsmFault.TheVariants.{Range, Large, Twice}
+use Rattle.rv32_asm_syntax.specs.declared.fault.AsmFault.{AsmFault}
+use Rattle.rv32_asm_syntax.specs.declared.fault.AsmFault.TheVariants.{Range, Large, Twice}
 use Rattle.rv32_asm.specs.Course.{Gives, IsNextLine, Reaches, behind, behind_line, end_of}
 use Rattle.rv32_asm.specs.Labels.{Label, is_there, label_named}
 use Rattle.rv32_asm.specs.Layout.{is_misplaced, size_at}
-use Rattle.rv32_asm.specs.Parts.{parts}
-use Rattle.rv32_asm.specs.Lines.{labels_in, labels_of, lines_of, without_comment}
+use Rattle.rv32_asm_syntax.specs.Parts.{parts}
+use Rattle.rv32_asm_syntax.specs.Lines.{labels_in, labels_of, lines_of, without_comment}
 use Rattle.rv32_asm.specs.Passes.{LineFault, Progress, address_after, after_line, first_pass, in_line, with_names, ◌>>=◌}
-use Rattle.rv32_asm.specs.Reading.{statement_of}
+use Rattle.rv32_asm_syntax.specs.Reading.{statement_of}
 use Rattle.rv32_asm.specs.SeenLabels.{AreAlike, unnamed}
-use Rattle.rv32_asm.specs.Statements.{Statement}
+use Rattle.rv32_asm_syntax.specs.Statements.{Statement}
 use Rattle.rv32_asm.proofs.SecondSteps.{nothing_said}
 
 -- ---- labels that are alike

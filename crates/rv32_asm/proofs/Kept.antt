@@ -1,4 +1,4 @@
--- An instruction is well formed with those of its fields that its row has, and its word is as with all of them.
+-- An instruction is well formed with those of its fields that its format has, and its word is as with all of them.
 use Rattle.std.proofs.Common.{◌≡◌, ℕ, ◌+◌, ◌-◌, ◌*◌, ◌%◌, ◌^◌, ◌<◌, ◌≤◌, ℤ, pos, negsuc, neg_ℤ, ◌≤ℤ◌, int_le, List, Bool, true, false, Option, Some, None, refl, ap, ◌∙◌, ◌&&◌, inl, inr, arith, if◌then◌else◌}
 use Rattle.std.proofs.lemmas.Bool.{and_parts, eqb-true, leb-true}
 use Rattle.std.proofs.lemmas.Int.{ints}
@@ -8,50 +8,42 @@ use Rattle.rv32_decode.specs.Table.{FitsFormat, IsInst, field, placed, row_for, 
 use Rattle.rv32_decode.specs.declared.Inst.{Inst}
 use Rattle.rv32_decode.specs.declared.table.Format.{Format}
 use Rattle.rv32_decode.specs.declared.table.Format.TheVariants.{R, I, S, B, U, J, H, N}
-use Rattle.rv32_text.specs.Text.{mnemonic_of}
-use Rattle.rv32_text.specs.declared.names.Style.{Style}
-use Rattle.rv32_text.specs.declared.names.Style.TheVariants.{Registers, Immediate, Offset, Store, Upper, Branch, Jump, Fence, Bare}
 use Rattle.rv32_asm.specs.Encoding.{distance, encoded_at, fits_at, fits_format, immediate_of, is_even}
 use Rattle.rv32_asm.specs.Fields.{immediate_in, kept}
 use Rattle.rv32_asm.specs.Labels.{Label}
-use Rattle.rv32_asm.specs.Numbers.{is_between}
-use Rattle.rv32_asm.specs.Statements.{Instruction}
+use Rattle.rv32_asm_syntax.specs.Numbers.{is_between}
+use Rattle.rv32_asm_syntax.specs.Statements.{Instruction}
 use Rattle.rv32_asm.specs.Values.{immediate_value}
 use Rattle.rv32_decode.proofs.Signed.{complement_range, complement_word}
-use Rattle.rv32_asm.proofs.TextKeywords.{has_format, style_format}
 
 -- ---- the word
 
-op_kept : (style : Style) (i : Inst) → (kept style i).op ≡ i.op
-op_kept Registers i = refl
-op_kept Immediate i = refl
-op_kept Offset i = refl
-op_kept Store i = refl
-op_kept Upper i = refl
-op_kept Branch i = refl
-op_kept Jump i = refl
-op_kept Fence i = refl
-op_kept Bare i = refl
+op_kept : (f : Format) (i : Inst) → (kept f i).op ≡ i.op
+op_kept R i = refl
+op_kept I i = refl
+op_kept S i = refl
+op_kept B i = refl
+op_kept U i = refl
+op_kept J i = refl
+op_kept H i = refl
+op_kept N i = refl
 
-placed_kept : (style : Style) (f : Format) (i : Inst) → has_format style f ≡ true → placed f (kept style i) ≡ placed f i
+placed_kept : (f : Format) (i : Inst) → placed f (kept f i) ≡ placed f i
 unfolding placed
-placed_kept Registers R i ok = refl
-placed_kept Immediate I i ok = refl
-placed_kept Immediate H i ok = refl
-placed_kept Offset I i ok = refl
-placed_kept Store S i ok = refl
-placed_kept Upper U i ok = refl
-placed_kept Branch B i ok = refl
-placed_kept Jump J i ok = refl
-placed_kept Fence I i ok = refl
-placed_kept Bare N i ok = refl
-placed_kept _ _ i ok = cc
+placed_kept R i = refl
+placed_kept I i = refl
+placed_kept S i = refl
+placed_kept B i = refl
+placed_kept U i = refl
+placed_kept J i = refl
+placed_kept H i = refl
+placed_kept N i = refl
 
-pub word_kept : (i : Inst) → word_of (kept (mnemonic_of i.op).style i) ≡ word_of i
+pub word_kept : (i : Inst) → word_of (kept (row_for i.op).format i) ≡ word_of i
 unfolding word_of
 word_kept i =
-    rw (op_kept (mnemonic_of i.op).style i)
-    (ap (λ n. (row_for i.op).pattern + n) (placed_kept (mnemonic_of i.op).style (row_for i.op).format i (style_format i.op)))
+    let format = (row_for i.op).format in
+    rw (op_kept format i) (ap (λ n. (row_for i.op).pattern + n) (placed_kept format i))
 
 -- ---- the immediate
 
@@ -105,27 +97,24 @@ in_reach even low a high b far z result e f g h found = let there = rw (f, g, h)
 -- ---- the instruction
 
 -- the fields that are kept, and an immediate in its range, are those of the format
-fits_kept : (style : Style) (f : Format) (i : Inst) (address : ℕ) (value : ℤ) → has_format style f ≡ true →
-    fits_format f address value ≡ true → i.imm ≡ immediate_of f address value → FitsFormat f (kept style i)
+fits_kept : (f : Format) (i : Inst) (address : ℕ) (value : ℤ) → fits_format f address value ≡ true →
+    i.imm ≡ immediate_of f address value → FitsFormat f (kept f i)
 unfolding FitsFormat
-fits_kept Registers R i address value ok fits e = e
-fits_kept Immediate I i address value ok fits e = let range = from_between _ _ value fits in rw e (refl, range.0, range.1)
-fits_kept Immediate H i address value ok fits e = let range = from_between _ _ value fits in rw e (refl, range.0, range.1)
-fits_kept Offset I i address value ok fits e = let range = from_between _ _ value fits in rw e (refl, range.0, range.1)
-fits_kept Store S i address value ok fits e = let range = from_between _ _ value fits in rw e (refl, range.0, range.1)
-fits_kept Upper U i address value ok fits e =
+fits_kept R i address value fits e = e
+fits_kept I i address value fits e = let range = from_between _ _ value fits in rw e (refl, range.0, range.1)
+fits_kept S i address value fits e = let range = from_between _ _ value fits in rw e (refl, range.0, range.1)
+fits_kept B i address value fits e =
+    let far = far_fits (distance address value) (neg_ℤ (pos 4096)) (pos 4094) (omega (arith, ints)) (omega (arith, ints)) fits in
+    rw e (refl, far.0, far.1, far.2)
+fits_kept U i address value fits e =
     let range = from_between _ _ value fits in
     let upper = upper_fits value range.0 range.1 in
     rw e (refl, refl, upper.0, upper.1, upper.2)
-fits_kept Branch B i address value ok fits e =
-    let far = far_fits (distance address value) (neg_ℤ (pos 4096)) (pos 4094) (omega (arith, ints)) (omega (arith, ints)) fits in
-    rw e (refl, far.0, far.1, far.2)
-fits_kept Jump J i address value ok fits e =
+fits_kept J i address value fits e =
     let far = far_fits (distance address value) (neg_ℤ (pos 1048576)) (pos 1048574) (omega (arith, ints)) (omega (arith, ints)) fits in
     rw e (refl, refl, far.0, far.1, far.2)
-fits_kept Fence I i address value ok fits e = let range = from_between _ _ value fits in rw e (refl, range.0, range.1)
-fits_kept Bare N i address value ok fits e = (refl, refl, refl, e)
-fits_kept _ _ i address value ok fits e = cc
+fits_kept H i address value fits e = let range = from_between _ _ value fits in rw e (refl, range.0, range.1)
+fits_kept N i address value fits e = (refl, refl, refl, e)
 
 -- ---- whether there is an immediate
 
@@ -137,38 +126,35 @@ some_taken : (b : Bool) (x imm : ℤ) → (if b then Some x else None) ≡ Some 
 some_taken true x imm e = (refl, cc)
 some_taken false x imm e = cc
 
-rd_kept : (style : Style) (i : Inst) → i.rd < 32 → (kept style i).rd < 32
-rd_kept Registers i small = small
-rd_kept Immediate i small = small
-rd_kept Offset i small = small
-rd_kept Store i small = omega arith
-rd_kept Upper i small = small
-rd_kept Branch i small = omega arith
-rd_kept Jump i small = small
-rd_kept Fence i small = small
-rd_kept Bare i small = omega arith
+rd_kept : (f : Format) (i : Inst) → i.rd < 32 → (kept f i).rd < 32
+rd_kept R i small = small
+rd_kept I i small = small
+rd_kept S i small = omega arith
+rd_kept B i small = omega arith
+rd_kept U i small = small
+rd_kept J i small = small
+rd_kept H i small = small
+rd_kept N i small = omega arith
 
-rs1_kept : (style : Style) (i : Inst) → i.rs1 < 32 → (kept style i).rs1 < 32
-rs1_kept Registers i small = small
-rs1_kept Immediate i small = small
-rs1_kept Offset i small = small
-rs1_kept Store i small = small
-rs1_kept Upper i small = omega arith
-rs1_kept Branch i small = small
-rs1_kept Jump i small = omega arith
-rs1_kept Fence i small = small
-rs1_kept Bare i small = omega arith
+rs1_kept : (f : Format) (i : Inst) → i.rs1 < 32 → (kept f i).rs1 < 32
+rs1_kept R i small = small
+rs1_kept I i small = small
+rs1_kept S i small = small
+rs1_kept B i small = small
+rs1_kept U i small = omega arith
+rs1_kept J i small = omega arith
+rs1_kept H i small = small
+rs1_kept N i small = omega arith
 
-rs2_kept : (style : Style) (i : Inst) → i.rs2 < 32 → (kept style i).rs2 < 32
-rs2_kept Registers i small = small
-rs2_kept Immediate i small = omega arith
-rs2_kept Offset i small = omega arith
-rs2_kept Store i small = small
-rs2_kept Upper i small = omega arith
-rs2_kept Branch i small = small
-rs2_kept Jump i small = omega arith
-rs2_kept Fence i small = omega arith
-rs2_kept Bare i small = omega arith
+rs2_kept : (f : Format) (i : Inst) → i.rs2 < 32 → (kept f i).rs2 < 32
+rs2_kept R i small = small
+rs2_kept I i small = omega arith
+rs2_kept S i small = small
+rs2_kept B i small = small
+rs2_kept U i small = omega arith
+rs2_kept J i small = omega arith
+rs2_kept H i small = omega arith
+rs2_kept N i small = omega arith
 
 module _ (labels : List Label) (address : ℕ) (i : Instruction) (value : ℤ) (valued : value ≡ immediate_value labels i.immediate) where
   pub no_word : immediate_in (row_for i.op).format address value ≡ None →
@@ -183,7 +169,7 @@ module _ (labels : List Label) (address : ℕ) (i : Instruction) (value : ℤ) (
   given imm = record { op = i.op; rd = i.rd; rs1 = i.rs1; rs2 = i.rs2; imm = imm }
 
   module _ (imm : ℤ) (taken : immediate_in (row_for i.op).format address value ≡ Some imm) (inst : Inst)
-      (inst_is : inst ≡ kept (mnemonic_of i.op).style (given imm)) where
+      (inst_is : inst ≡ kept (row_for i.op).format (given imm)) where
     pub has_word : (word : ℕ) → word ≡ word_of inst →
         Some word ≡ (if fits_at labels address i then Some (word_of (encoded_at labels address i)) else None)
     unfolding fits_at encoded_at
@@ -194,12 +180,11 @@ module _ (labels : List Label) (address : ℕ) (i : Instruction) (value : ℤ) (
 
     pub is_formed : i.rd < 32 → i.rs1 < 32 → i.rs2 < 32 → IsInst inst
     is_formed a b c =
-        let style = (mnemonic_of i.op).style in
-        let t = some_taken (fits_format (row_for i.op).format address value) _ imm taken in
+        let format = (row_for i.op).format in
+        let t = some_taken (fits_format format address value) _ imm taken in
         rw inst_is (record {
-          rd = rd_kept style (given imm) a;
-          rs1 = rs1_kept style (given imm) b;
-          rs2 = rs2_kept style (given imm) c;
-          format = rw (op_kept style (given imm))
-              (fits_kept style (row_for i.op).format (given imm) address value (style_format i.op) t.0 t.1);
+          rd = rd_kept format (given imm) a;
+          rs1 = rs1_kept format (given imm) b;
+          rs2 = rs2_kept format (given imm) c;
+          format = rw (op_kept format (given imm)) (fits_kept format (given imm) address value t.0 t.1);
         })

@@ -10,10 +10,10 @@ use Rattle.rv32_text.specs.Text.{data_text, is_unnamed_fence, mnemonic_of, opera
 use Rattle.rv32_text.specs.declared.names.Style.{Style}
 use Rattle.rv32_text.specs.declared.names.Style.TheVariants.{Registers, Immediate, Offset, Store, Upper, Branch, Jump, Fence, Bare}
 use Rattle.sec_base.specs.declared.memory.Width.TheVariants.{Four}
-use Rattle.rv32_asm.specs.Expressions.{number_alone}
-use Rattle.rv32_asm.specs.Keywords.{immediate_without_operands}
+use Rattle.rv32_asm_syntax.specs.Expressions.{number_alone}
+use Rattle.rv32_asm_syntax.specs.Keywords.{immediate_without_operands}
 use Rattle.rv32_asm.specs.Law.{IsReadBack}
-use Rattle.rv32_asm.specs.Statements.{Data, Instructions, instruction}
+use Rattle.rv32_asm_syntax.specs.Statements.{Data, Instructions, instruction}
 use Rattle.std.proofs.Common.{pos}
 use Rattle.rv32_asm.proofs.Alone.{bare_pattern, ebreak_back, ecall_back, fence_back, fence_i_back, is_bare}
 use Rattle.rv32_asm.proofs.TextKeywords.{has_format, keyword_read, name_is_word, style_format}

@@ -10,16 +10,16 @@ use Rattle.rv32_decode.specs.declared.Inst.{Inst}
 use Rattle.rv32_decode.specs.declared.Op.{Op}
 use Rattle.rv32_text.specs.Text.{data_text, hex8, statement, text_of_word}
 use Rattle.rv32_asm.specs.Encoding.{bytes_at, encoded_at, fits_at, fits_format, fits_width, immediate_of, is_in_range, misses_label}
-use Rattle.rv32_asm.specs.Expressions.{number_alone}
-use Rattle.rv32_asm.specs.declared.keywords.Slot.{Slot}
-use Rattle.rv32_asm.specs.Keywords.{DataWord, InstructionWord, keyword_of, keywords, other_words, row_words, shorthands}
+use Rattle.rv32_asm_syntax.specs.Expressions.{number_alone}
+use Rattle.rv32_asm_syntax.specs.declared.keywords.Operand.{Operand}
+use Rattle.rv32_asm_syntax.specs.Keywords.{DataWord, InstructionWord, directives, keyword_of, keywords, long_pseudoinstructions, pseudoinstructions, row_words}
 use Rattle.rv32_asm.specs.Labels.{Label}
 use Rattle.rv32_asm.specs.Law.{IsReadBack}
 use Rattle.rv32_asm.specs.Layout.{is_misplaced, size_at}
-use Rattle.rv32_asm.specs.Lines.{labels_of}
+use Rattle.rv32_asm_syntax.specs.Lines.{labels_of}
 use Rattle.rv32_asm.specs.Passes.{Progress, after_line, line_bytes}
-use Rattle.rv32_asm.specs.Reading.{statement_of, statement_with, with_operands}
-use Rattle.rv32_asm.specs.Statements.{Data, Instruction, Instructions, Statement, instruction}
+use Rattle.rv32_asm_syntax.specs.Reading.{statement_of, statement_with, with_operands}
+use Rattle.rv32_asm_syntax.specs.Statements.{Data, Instruction, Instructions, Statement, instruction}
 use Rattle.rv32_asm.specs.Values.{immediate_value, modulo}
 use Rattle.rv32_decode.specs.Table.{rows}
 use Rattle.rv32_text.specs.Text.{mnemonic_of}
@@ -97,13 +97,13 @@ instruction_is word address op rd rs1 rs2 value aligned fits e = record {
       ∙ ap (λ w. to_le_bytes w32 w ++ []) e;
 }
 
-pub instruction_line : (name first : List ℕ) (others : List (List ℕ)) (slots : List Slot) (before after : Instruction) →
-    is_word name ≡ true → keyword_of name ≡ Some (InstructionWord slots before) → is_operand first ≡ true →
-    list_all is_operand others ≡ true → with_operands slots (first ∷ others) before ≡ Some after →
+pub instruction_line : (name first : List ℕ) (others : List (List ℕ)) (operands : List Operand) (before after : Instruction) →
+    is_word name ≡ true → keyword_of name ≡ Some (InstructionWord operands before) → is_operand first ≡ true →
+    list_all is_operand others ≡ true → with_operands operands (first ∷ others) before ≡ Some after →
     statement_of (statement name (first ∷ others)) ≡ Ok (Instructions (after ∷ []))
 unfolding statement_with
-instruction_line name first others slots before after word found operand all read =
-    statement_read name first others (InstructionWord slots before) word found operand all
+instruction_line name first others operands before after word found operand all read =
+    statement_read name first others (InstructionWord operands before) word found operand all
     ∙ rw (operands_read first others operand all, read) refl
 
 -- ---- words as data
@@ -125,7 +125,7 @@ data_is word address below = record {
 }
 
 data_keyword : keyword_of (codes ".word") ≡ Some (DataWord Four)
-unfolding keyword_of keywords row_words shorthands other_words rows mnemonic_of
+unfolding keyword_of keywords row_words pseudoinstructions long_pseudoinstructions directives rows mnemonic_of
 data_keyword = refl
 
 abbrev number_text : ℕ → List ℕ

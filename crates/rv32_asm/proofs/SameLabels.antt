@@ -1,16 +1,16 @@
 -- Labels that are alike give the same bytes and the same entry.
 use Rattle.std.proofs.Common.{◌≡◌, ℕ, ◌+◌, ℤ, Bool, not, List, [], ◌∷◌, ◌++◌, Option, Some, None, Result, Ok, Err, length, option_map, unwrap_or, refl, ap}
 use Rattle.std.specs.List.{list_any, list_all, flat_map}
-use Rattle.rv32_asm.specs.declared.fault.AsmFault.{AsmFault}
+use Rattle.rv32_asm_syntax.specs.declared.fault.AsmFault.{AsmFault}
 use Rattle.rv32_asm.specs.Assembly.{entry_of}
 use Rattle.rv32_asm.specs.Course.{entry_at}
 use Rattle.rv32_asm.specs.Encoding.{bytes_at, code_from, encoded_at, expressions_in, fit_from, fits_at, fits_width, is_in_range, misses_label, number_bytes}
-use Rattle.rv32_asm.specs.Expressions.{Expression}
+use Rattle.rv32_asm_syntax.specs.Expressions.{Expression}
 use Rattle.rv32_asm.specs.Labels.{Label, label_named}
 use Rattle.rv32_asm.specs.Passes.{LineFault, emitted, in_line, line_bytes, second_pass, ◌>>=◌}
-use Rattle.rv32_asm.specs.Reading.{statement_of}
+use Rattle.rv32_asm_syntax.specs.Reading.{statement_of}
 use Rattle.rv32_asm.specs.SeenLabels.{AreAlike, unnamed}
-use Rattle.rv32_asm.specs.Statements.{Immediate, Whole, Upper, Lower, Instruction, Statement, Instructions, Data, Bytes, Zeros, Aligned, Nothing}
+use Rattle.rv32_asm_syntax.specs.Statements.{Immediate, Whole, Upper, Lower, Instruction, Statement, Instructions, Data, Bytes, Zeros, Aligned, Nothing}
 use Rattle.rv32_asm.specs.Values.{address_of, immediate_value, is_missing, value_of}
 use Rattle.rv32_asm.proofs.FirstSteps.{there_alike}
 

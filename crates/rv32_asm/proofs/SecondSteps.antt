@@ -2,23 +2,23 @@
 use Rattle.std.proofs.Common.{◌≡◌, ℕ, ◌+◌, ◌<◌, ◌≤◌, ◌^◌, Bool, true, false, List, [], ◌∷◌, ◌++◌, Result, Ok, Err, length, refl, sym, ap, ◌∙◌, inl, inr, arith, if◌then◌else◌}
 use Rattle.std.specs.Prelude.{IsOkAnd}
 use Rattle.std.proofs.lemmas.List.{append-nil}
-use Rattle.rv32_asm.specs.Characters.{trimmed}
-use Rattle.rv32_asm.specs.declared.fault.AsmFault.{AsmFault}
-use Rattle.rv32_asm.specs.declared.fault.AsmFault.TheVariants.{Range}
+use Rattle.rv32_asm_syntax.specs.Characters.{trimmed}
+use Rattle.rv32_asm_syntax.specs.declared.fault.AsmFault.{AsmFault}
+use Rattle.rv32_asm_syntax.specs.declared.fault.AsmFault.TheVariants.{Range}
 use Rattle.rv32_asm.specs.Course.{IsNextLine, behind, behind_line, end_of}
 use Rattle.rv32_asm.specs.Course as course
 use Rattle.rv32_asm.specs.declared.fault.AsmError.{AsmError}
 use Rattle.rv32_asm.specs.declared.fault.AsmError.TheVariants as errors
-use Rattle.rv32_asm.specs.declared.fault.LineError.{LineError}
-use Rattle.rv32_asm.specs.declared.fault.LineError.TheVariants.{Fault, NoMemory}
+use Rattle.rv32_asm_syntax.specs.declared.fault.LineError.{LineError}
+use Rattle.rv32_asm_syntax.specs.declared.fault.LineError.TheVariants.{Fault, NoMemory}
 use Rattle.rv32_asm.specs.Emission.{with_more}
 use Rattle.rv32_asm.specs.Encoding.{bytes_at, is_in_range, misses_label}
 use Rattle.rv32_asm.specs.Labels.{Label}
 use Rattle.rv32_asm.specs.Layout.{is_misplaced, size_at}
-use Rattle.rv32_asm.specs.Lines.{lines_of, statement_text, without_comment}
+use Rattle.rv32_asm_syntax.specs.Lines.{lines_of, statement_text, without_comment}
 use Rattle.rv32_asm.specs.Passes.{LineFault, in_line, line_bytes, second_pass, ◌>>=◌}
-use Rattle.rv32_asm.specs.Reading.{statement_of}
-use Rattle.rv32_asm.specs.Statements.{Statement, Nothing}
+use Rattle.rv32_asm_syntax.specs.Reading.{statement_of}
+use Rattle.rv32_asm_syntax.specs.Statements.{Statement, Nothing}
 
 -- ---- an empty line does nothing
 

@@ -1,7 +1,7 @@
 -- Numbers of bytes that 32 bits hold.
 use Rattle.std.proofs.Common.{◌≡◌, ℕ, ◌*◌, ◌<◌, ◌≤◌, ◌^◌, Some, None, arith}
 use Rattle.std.proofs.Math.Nat.{mul-le-mul_right}
-use Rattle.rv32_asm.specs.Parts.{as_word}
+use Rattle.rv32_asm_syntax.specs.Parts.{as_word}
 
 pub too_many : (part count : ℕ) → 0 < part → 2 ^ 32 ≤ count → as_word (part * count) ≡ None
 too_many part count some many = let more : 1 * count ≤ part * count = mul-le-mul_right count some in grind arith

@@ -12,11 +12,11 @@ use Rattle.rv32_text.specs.Text.{hex8, operands_of, register_name, place_text, s
 use Rattle.rv32_text.specs.declared.names.Style.{Style}
 use Rattle.rv32_text.specs.declared.names.Style.TheVariants.{Registers, Immediate, Offset, Store, Upper, Branch, Jump, Fence, Bare}
 use Rattle.rv32_asm.specs.Encoding.{distance, fits_format, immediate_of, is_even}
-use Rattle.rv32_asm.specs.declared.keywords.Slot.{Slot}
-use Rattle.rv32_asm.specs.Keywords.{InstructionWord, keyword_of, slots_of}
-use Rattle.rv32_asm.specs.Numbers.{is_between}
-use Rattle.rv32_asm.specs.Reading.{statement_of, with_operands}
-use Rattle.rv32_asm.specs.Statements.{Instructions, instruction}
+use Rattle.rv32_asm_syntax.specs.declared.keywords.Operand.{Operand}
+use Rattle.rv32_asm_syntax.specs.Keywords.{InstructionWord, keyword_of, operands_in}
+use Rattle.rv32_asm_syntax.specs.Numbers.{is_between}
+use Rattle.rv32_asm_syntax.specs.Reading.{statement_of, with_operands}
+use Rattle.rv32_asm_syntax.specs.Statements.{Instructions, instruction}
 use Rattle.rv32_asm.proofs.TextImmediates.{between_true, distance_target, even_true, upper_word}
 use Rattle.rv32_asm.proofs.TextKeywords.{has_format, is_word}
 use Rattle.rv32_asm.proofs.TextLines.{is_plain}
@@ -66,20 +66,20 @@ is_spoken Fence = false
 is_spoken Bare = false
 is_spoken _ = true
 
-read_line : (format : Format) (address : ℕ) (i : Inst) (name first : List ℕ) (others : List (List ℕ)) (slots : List Slot)
+read_line : (format : Format) (address : ℕ) (i : Inst) (name first : List ℕ) (others : List (List ℕ)) (operands : List Operand)
     (initial : ℤ) (rd rs1 rs2 : ℕ) (value : ℤ) → is_word name ≡ true →
-    keyword_of name ≡ Some (InstructionWord slots (instruction i.op 0 0 0 initial)) → is_operand first ≡ true →
+    keyword_of name ≡ Some (InstructionWord operands (instruction i.op 0 0 0 initial)) → is_operand first ≡ true →
     list_all is_operand others ≡ true →
-    with_operands slots (first ∷ others) (instruction i.op 0 0 0 initial) ≡ Some (instruction i.op rd rs1 rs2 value) →
+    with_operands operands (first ∷ others) (instruction i.op 0 0 0 initial) ≡ Some (instruction i.op rd rs1 rs2 value) →
     fits_format format address value ≡ true → made i.op rd rs1 rs2 (immediate_of format address value) ≡ i →
     IsRead format address i (statement name (first ∷ others))
-read_line format address i name first others slots initial rd rs1 rs2 value word found operand all read fits same = record {
+read_line format address i name first others operands initial rd rs1 rs2 value word found operand all read fits same = record {
   rd = rd;
   rs1 = rs1;
   rs2 = rs2;
   value = value;
-  plain = line_plain name first others (InstructionWord slots (instruction i.op 0 0 0 initial)) word found operand all;
-  means = instruction_line name first others slots (instruction i.op 0 0 0 initial) (instruction i.op rd rs1 rs2 value) word found operand all read;
+  plain = line_plain name first others (InstructionWord operands (instruction i.op 0 0 0 initial)) word found operand all;
+  means = instruction_line name first others operands (instruction i.op 0 0 0 initial) (instruction i.op rd rs1 rs2 value) word found operand all read;
   fits = fits;
   same = same;
 }
@@ -94,18 +94,18 @@ one first a = rw a refl
 module _ (i : Inst) (address : ℕ) (name : List ℕ) (word : is_word name ≡ true) (initial : ℤ)
     (a : i.rd < 32) (b : i.rs1 < 32) (c : i.rs2 < 32) where
   pub styled : (s : Style) (f : Format) → is_spoken s ≡ true → has_format s f ≡ true → FitsFormat f i →
-      keyword_of name ≡ Some (InstructionWord (slots_of s) (instruction i.op 0 0 0 initial)) →
+      keyword_of name ≡ Some (InstructionWord (operands_in s) (instruction i.op 0 0 0 initial)) →
       IsRead f address i (statement name (operands_of s i address))
   unfolding FitsFormat place_text upper_text target_text
   styled Registers R spoken ok fields found =
-      read_line R address i name (register_name i.rd) (register_name i.rs1 ∷ register_name i.rs2 ∷ []) (slots_of Registers)
+      read_line R address i name (register_name i.rd) (register_name i.rs1 ∷ register_name i.rs2 ∷ []) (operands_in Registers)
       initial i.rd i.rs1 i.rs2 initial word found (register_operand i.rd a)
       (two (register_name i.rs1) (register_name i.rs2) (register_operand i.rs1 b) (register_operand i.rs2 c))
       (registers_read i.op i.rd i.rs1 i.rs2 a b c initial) refl
       (same_made i i.rd i.rs1 i.rs2 (pos 0) refl refl refl (sym fields))
   styled Immediate I spoken ok fields found =
       let range = wide i.imm 2047 2047 fields.1 fields.2 (omega arith) (omega arith) in
-      read_line I address i name (register_name i.rd) (register_name i.rs1 ∷ signed_decimal i.imm ∷ []) (slots_of Immediate)
+      read_line I address i name (register_name i.rd) (register_name i.rs1 ∷ signed_decimal i.imm ∷ []) (operands_in Immediate)
       initial i.rd i.rs1 0 i.imm word found (register_operand i.rd a)
       (two (register_name i.rs1) (signed_decimal i.imm) (register_operand i.rs1 b) (signed_operand i.imm range.0 range.1))
       (immediate_read i.op i.rd i.rs1 i.rs2 a b c initial i.imm range.0 range.1)
@@ -114,7 +114,7 @@ module _ (i : Inst) (address : ℕ) (name : List ℕ) (word : is_word name ≡ t
   styled Immediate H spoken ok fields found =
       let low : negsuc 2147483647 ≤ℤ i.imm = omega (arith, ints) in
       let high : i.imm ≤ℤ pos 2147483647 = omega (arith, ints) in
-      read_line H address i name (register_name i.rd) (register_name i.rs1 ∷ signed_decimal i.imm ∷ []) (slots_of Immediate)
+      read_line H address i name (register_name i.rd) (register_name i.rs1 ∷ signed_decimal i.imm ∷ []) (operands_in Immediate)
       initial i.rd i.rs1 0 i.imm word found (register_operand i.rd a)
       (two (register_name i.rs1) (signed_decimal i.imm) (register_operand i.rs1 b) (signed_operand i.imm low high))
       (immediate_read i.op i.rd i.rs1 i.rs2 a b c initial i.imm low high)
@@ -122,7 +122,7 @@ module _ (i : Inst) (address : ℕ) (name : List ℕ) (word : is_word name ≡ t
       (same_made i i.rd i.rs1 0 i.imm refl refl (sym fields.0) refl)
   styled Offset I spoken ok fields found =
       let range = wide i.imm 2047 2047 fields.1 fields.2 (omega arith) (omega arith) in
-      read_line I address i name (register_name i.rd) (place i.imm i.rs1 ∷ []) (slots_of Offset)
+      read_line I address i name (register_name i.rd) (place i.imm i.rs1 ∷ []) (operands_in Offset)
       initial i.rd i.rs1 0 i.imm word found (register_operand i.rd a)
       (one (place i.imm i.rs1) (place_operand i.imm i.rs1 range.0 range.1 b))
       (offset_read i.op i.rd i.rs1 i.rs2 a b c initial i.imm range.0 range.1)
@@ -130,7 +130,7 @@ module _ (i : Inst) (address : ℕ) (name : List ℕ) (word : is_word name ≡ t
       (same_made i i.rd i.rs1 0 i.imm refl refl (sym fields.0) refl)
   styled Store S spoken ok fields found =
       let range = wide i.imm 2047 2047 fields.1 fields.2 (omega arith) (omega arith) in
-      read_line S address i name (register_name i.rs2) (place i.imm i.rs1 ∷ []) (slots_of Store)
+      read_line S address i name (register_name i.rs2) (place i.imm i.rs1 ∷ []) (operands_in Store)
       initial 0 i.rs1 i.rs2 i.imm word found (register_operand i.rs2 c)
       (one (place i.imm i.rs1) (place_operand i.imm i.rs1 range.0 range.1 b))
       (store_read i.op i.rd i.rs1 i.rs2 a b c initial i.imm range.0 range.1)
@@ -140,7 +140,7 @@ module _ (i : Inst) (address : ℕ) (name : List ℕ) (word : is_word name ≡ t
       let n = imm_bits i 12 20 in
       let below = upper_below i in
       let less : n < 2 ^ 32 = omega arith in
-      read_line U address i name (register_name i.rd) ((codes "0x" ++ digits 16 false n) ∷ []) (slots_of Upper)
+      read_line U address i name (register_name i.rd) ((codes "0x" ++ digits 16 false n) ∷ []) (operands_in Upper)
       initial i.rd 0 0 (pos n) word found (register_operand i.rd a)
       (one (codes "0x" ++ digits 16 false n) (digits_operand n less))
       (upper_read i.op i.rd i.rs1 i.rs2 a b c initial n less)
@@ -151,7 +151,7 @@ module _ (i : Inst) (address : ℕ) (name : List ℕ) (word : is_word name ≡ t
       let n = target_of i address in
       let less = below_target i address in
       let back = distance_target address i.imm range.0 range.1 in
-      read_line B address i name (register_name i.rs1) (register_name i.rs2 ∷ (codes "0x" ++ hex8 n) ∷ []) (slots_of Branch)
+      read_line B address i name (register_name i.rs1) (register_name i.rs2 ∷ (codes "0x" ++ hex8 n) ∷ []) (operands_in Branch)
       initial 0 i.rs1 i.rs2 (pos n) word found (register_operand i.rs1 b)
       (two (register_name i.rs2) (codes "0x" ++ hex8 n) (register_operand i.rs2 c) (hex8_operand n less))
       (branch_read i.op i.rd i.rs1 i.rs2 a b c initial n less)
@@ -162,7 +162,7 @@ module _ (i : Inst) (address : ℕ) (name : List ℕ) (word : is_word name ≡ t
       let n = target_of i address in
       let less = below_target i address in
       let back = distance_target address i.imm range.0 range.1 in
-      read_line J address i name (register_name i.rd) ((codes "0x" ++ hex8 n) ∷ []) (slots_of Jump)
+      read_line J address i name (register_name i.rd) ((codes "0x" ++ hex8 n) ∷ []) (operands_in Jump)
       initial i.rd 0 0 (pos n) word found (register_operand i.rd a)
       (one (codes "0x" ++ hex8 n) (hex8_operand n less))
       (jump_read i.op i.rd i.rs1 i.rs2 a b c initial n less)

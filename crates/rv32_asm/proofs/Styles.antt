@@ -8,11 +8,11 @@ use Rattle.std.specs.List.{after_first, before_first, list_all, position_or_len}
 use Rattle.rv32_decode.specs.declared.Op.{Op}
 use Rattle.rv32_text.specs.Text.{hex8, register_name}
 use Rattle.rv32_text.specs.declared.names.Style.TheVariants.{Registers, Immediate, Offset, Store, Upper, Branch, Jump}
-use Rattle.rv32_asm.specs.Characters.{trimmed}
-use Rattle.rv32_asm.specs.Expressions.{Expression, expression_of, number_alone}
-use Rattle.rv32_asm.specs.Keywords.{slots_of}
-use Rattle.rv32_asm.specs.Reading.{enclosed_register, offset_of, place_of, with_operands}
-use Rattle.rv32_asm.specs.Statements.{instruction}
+use Rattle.rv32_asm_syntax.specs.Characters.{trimmed}
+use Rattle.rv32_asm_syntax.specs.Expressions.{Expression, expression_of, number_alone}
+use Rattle.rv32_asm_syntax.specs.Keywords.{operands_in}
+use Rattle.rv32_asm_syntax.specs.Reading.{enclosed_register, offset_of, place_of, with_operands}
+use Rattle.rv32_asm_syntax.specs.Statements.{instruction}
 use Rattle.rv32_asm.proofs.TextNumbers.{digits_read, hex8_read, is_figure, signed_figures, signed_operand, signed_read}
 use Rattle.rv32_asm.proofs.TextOperands.{is_operand, is_solid, trimmed_solid}
 use Rattle.rv32_asm.proofs.TextRegisters.{base_operand, base_read, register_read}
@@ -86,39 +86,39 @@ place_operand imm base low high below =
 -- ---- the styles
 
 module _ (op : Op) (rd rs1 rs2 : ℕ) (a : rd < 32) (b : rs1 < 32) (c : rs2 < 32) (initial : ℤ) where
-  pub registers_read : with_operands (slots_of Registers)
+  pub registers_read : with_operands (operands_in Registers)
       (register_name rd ∷ register_name rs1 ∷ register_name rs2 ∷ []) (instruction op 0 0 0 initial)
       ≡ Some (instruction op rd rs1 rs2 initial)
   registers_read = rw (register_read rd a, register_read rs1 b, register_read rs2 c) refl
 
   module _ (imm : ℤ) (low : negsuc 2147483647 ≤ℤ imm) (high : imm ≤ℤ pos 2147483647) where
-    pub immediate_read : with_operands (slots_of Immediate)
+    pub immediate_read : with_operands (operands_in Immediate)
         (register_name rd ∷ register_name rs1 ∷ signed_decimal imm ∷ []) (instruction op 0 0 0 initial)
         ≡ Some (instruction op rd rs1 0 imm)
     immediate_read = rw (register_read rd a, register_read rs1 b, signed_read imm low high) refl
 
-    pub offset_read : with_operands (slots_of Offset) (register_name rd ∷ place imm rs1 ∷ [])
+    pub offset_read : with_operands (operands_in Offset) (register_name rd ∷ place imm rs1 ∷ [])
         (instruction op 0 0 0 initial)
         ≡ Some (instruction op rd rs1 0 imm)
     offset_read = rw (register_read rd a, place_read imm rs1 low high b) refl
 
-    pub store_read : with_operands (slots_of Store) (register_name rs2 ∷ place imm rs1 ∷ [])
+    pub store_read : with_operands (operands_in Store) (register_name rs2 ∷ place imm rs1 ∷ [])
         (instruction op 0 0 0 initial)
         ≡ Some (instruction op 0 rs1 rs2 imm)
     store_read = rw (register_read rs2 c, place_read imm rs1 low high b) refl
 
   module _ (n : ℕ) (below : n < 2 ^ 32) where
-    pub upper_read : with_operands (slots_of Upper) (register_name rd ∷ (codes "0x" ++ digits 16 false n) ∷ [])
+    pub upper_read : with_operands (operands_in Upper) (register_name rd ∷ (codes "0x" ++ digits 16 false n) ∷ [])
         (instruction op 0 0 0 initial)
         ≡ Some (instruction op rd 0 0 (pos n))
     upper_read = rw (register_read rd a, digits_read n below) refl
 
-    pub branch_read : with_operands (slots_of Branch)
+    pub branch_read : with_operands (operands_in Branch)
         (register_name rs1 ∷ register_name rs2 ∷ (codes "0x" ++ hex8 n) ∷ []) (instruction op 0 0 0 initial)
         ≡ Some (instruction op 0 rs1 rs2 (pos n))
     branch_read = rw (register_read rs1 b, register_read rs2 c, hex8_read n below) refl
 
-    pub jump_read : with_operands (slots_of Jump) (register_name rd ∷ (codes "0x" ++ hex8 n) ∷ [])
+    pub jump_read : with_operands (operands_in Jump) (register_name rd ∷ (codes "0x" ++ hex8 n) ∷ [])
         (instruction op 0 0 0 initial)
         ≡ Some (instruction op rd 0 0 (pos n))
     jump_read = rw (register_read rd a, hex8_read n below) refl

@@ -7,9 +7,9 @@ use Rattle.std.specs.Int.{cast_unsigned, w32}
 use Rattle.rv32_decode.proofs.Signed.{Spells, complement_spelled}
 use Rattle.rv32_decode.specs.Table.{field, signed}
 use Rattle.rv32_asm.specs.Encoding.{distance, is_even}
-use Rattle.rv32_asm.specs.Expressions.{number_alone}
+use Rattle.rv32_asm_syntax.specs.Expressions.{number_alone}
 use Rattle.rv32_asm.specs.Labels.{Label}
-use Rattle.rv32_asm.specs.Numbers.{is_between}
+use Rattle.rv32_asm_syntax.specs.Numbers.{is_between}
 use Rattle.rv32_asm.specs.Values.{modulo, value_of}
 
 pub value_alone : (labels : List Label) (z : ℤ) → value_of labels (number_alone z) ≡ z

@@ -9,12 +9,12 @@ use Rattle.rv32_decode.specs.declared.table.Format.TheVariants.{R, I, S, B, U, J
 use Rattle.rv32_text.specs.Text.{mnemonic_of}
 use Rattle.rv32_text.specs.declared.names.Style.{Style}
 use Rattle.rv32_text.specs.declared.names.Style.TheVariants.{Registers, Immediate, Offset, Store, Upper, Branch, Jump, Fence as FenceStyle, Bare}
-use Rattle.rv32_asm.specs.Characters.{is_in_words, is_blank}
-use Rattle.rv32_asm.specs.Keywords.{keyword_of, keywords, other_words, row_keyword, row_words, shorthands}
+use Rattle.rv32_asm_syntax.specs.Characters.{is_in_words, is_blank}
+use Rattle.rv32_asm_syntax.specs.Keywords.{directives, keyword_of, keywords, long_pseudoinstructions, pseudoinstructions, row_keyword, row_words}
 use Rattle.rv32_asm.proofs.TextLines.{is_plain}
 
 pub keyword_read : (op : Op) → keyword_of (mnemonic_of op).name ≡ Some (row_keyword op)
-unfolding keyword_of keywords row_words shorthands other_words rows mnemonic_of
+unfolding keyword_of keywords row_words pseudoinstructions long_pseudoinstructions directives rows mnemonic_of
 keyword_read Lui = refl
 keyword_read Auipc = refl
 keyword_read Jal = refl

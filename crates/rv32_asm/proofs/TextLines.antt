@@ -2,9 +2,9 @@
 use Rattle.std.proofs.Common.{◌≡◌, ℕ, ◌&&◌, ◌==◌, Bool, true, false, not, List, [], ◌∷◌, ◌++◌, refl, arith, nat_lt}
 use Rattle.std.proofs.lemmas.Bool.{and_parts, le-ltb, ltb-true, not-true}
 use Rattle.std.specs.List.{list_all, slice_split}
-use Rattle.rv32_asm.specs.Characters.{trimmed}
-use Rattle.rv32_asm.specs.declared.lines.Standing.TheVariants.{Outside}
-use Rattle.rv32_asm.specs.Lines.{before_comment, has_foreign, labels_of, lines_of, statement_text, without_comment}
+use Rattle.rv32_asm_syntax.specs.Characters.{trimmed}
+use Rattle.rv32_asm_syntax.specs.declared.lines.Standing.TheVariants.{Outside}
+use Rattle.rv32_asm_syntax.specs.Lines.{before_comment, has_foreign, labels_of, lines_of, statement_text, without_comment}
 
 -- a byte that begins no comment, no string and no label, ends no line, and which is an ASCII character
 abbrev pub is_plain : ℕ → Bool

@@ -9,9 +9,9 @@ use Rattle.std.specs.Fmt.{digits, signed_decimal}
 use Rattle.std.specs.List.{list_all, starts_with}
 use Rattle.std.specs.Str.Parse.{AllDigits, IsNumeral, digits_value}
 use Rattle.rv32_text.specs.Text.{hex8}
-use Rattle.rv32_asm.specs.Characters.{begins_as_name, begins_names}
-use Rattle.rv32_asm.specs.Expressions.{expression_of, number_alone}
-use Rattle.rv32_asm.specs.Numbers.{in_range, natural_of, number_of}
+use Rattle.rv32_asm_syntax.specs.Characters.{begins_as_name, begins_names}
+use Rattle.rv32_asm_syntax.specs.Expressions.{expression_of, number_alone}
+use Rattle.rv32_asm_syntax.specs.Numbers.{in_range, natural_of, number_of}
 use Rattle.rv32_asm.proofs.TextOperands.{is_solid, is_operand}
 
 -- ---- digits

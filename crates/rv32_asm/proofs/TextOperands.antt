@@ -4,8 +4,8 @@ use Rattle.std.proofs.lemmas.Bool.{and_parts, and_right, not-true}
 use Rattle.std.proofs.lemmas.List.{append-nil}
 use Rattle.std.specs.List.{list_all, onto_first, slice_split}
 use Rattle.rv32_text.specs.Text.{further}
-use Rattle.rv32_asm.specs.Characters.{drop_end_blanks, is_blank, is_empty, skip_blanks, trimmed}
-use Rattle.rv32_asm.specs.Reading.{operands_of}
+use Rattle.rv32_asm_syntax.specs.Characters.{drop_end_blanks, is_blank, is_empty, skip_blanks, trimmed}
+use Rattle.rv32_asm_syntax.specs.Reading.{operands_of}
 use Rattle.rv32_asm.proofs.TextLines.{is_plain}
 
 -- a byte of an operand

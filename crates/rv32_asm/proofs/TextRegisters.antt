@@ -3,9 +3,9 @@ use Rattle.std.proofs.Common.{◌≡◌, ℕ, ◌<◌, ◌==◌, ◌++◌, Bool,
 use Rattle.std.proofs.lemmas.Bool.{agree_below_at, eqb-true}
 use Rattle.std.specs.Prelude.{codes}
 use Rattle.rv32_text.specs.Text.{register_name, register_names}
-use Rattle.rv32_asm.specs.Registers.{register_of}
-use Rattle.rv32_asm.specs.Reading.{enclosed_register}
-use Rattle.rv32_asm.specs.Characters.{trimmed}
+use Rattle.rv32_asm_syntax.specs.Registers.{register_of}
+use Rattle.rv32_asm_syntax.specs.Reading.{enclosed_register}
+use Rattle.rv32_asm_syntax.specs.Characters.{trimmed}
 use Rattle.rv32_asm.proofs.TextOperands.{is_operand}
 
 -- the number that was found

@@ -5,12 +5,12 @@ use Rattle.std.proofs.lemmas.Bool.{and_from, and_parts, not-true}
 use Rattle.std.proofs.lemmas.List.Folds.{list_all-append}
 use Rattle.std.specs.List.{list_all, prefix_len}
 use Rattle.rv32_text.specs.Text.{further, statement}
-use Rattle.rv32_asm.specs.declared.fault.AsmFault.TheVariants.{Operand, Unknown}
-use Rattle.rv32_asm.specs.Characters.{drop_end_blanks, is_blank, is_empty, is_in_words, skip_blanks, trimmed}
-use Rattle.rv32_asm.specs.declared.lines.Standing.TheVariants.{Outside}
-use Rattle.rv32_asm.specs.Lines.{has_foreign, statement_text, without_comment}
-use Rattle.rv32_asm.specs.Keywords.{Keyword, keyword_of}
-use Rattle.rv32_asm.specs.Reading.{statement_from, statement_in, statement_of, statement_with}
+use Rattle.rv32_asm_syntax.specs.declared.fault.AsmFault.TheVariants.{Operand, Unknown}
+use Rattle.rv32_asm_syntax.specs.Characters.{drop_end_blanks, is_blank, is_empty, is_in_words, skip_blanks, trimmed}
+use Rattle.rv32_asm_syntax.specs.declared.lines.Standing.TheVariants.{Outside}
+use Rattle.rv32_asm_syntax.specs.Lines.{has_foreign, statement_text, without_comment}
+use Rattle.rv32_asm_syntax.specs.Keywords.{Keyword, keyword_of}
+use Rattle.rv32_asm_syntax.specs.Reading.{statement_from, statement_in, statement_of, statement_with}
 use Rattle.rv32_asm.proofs.TextKeywords.{begins_solid, is_word}
 use Rattle.rv32_asm.proofs.TextLines.{is_plain, plain_foreign, plain_statement}
 use Rattle.rv32_asm.proofs.TextOperands.{append_full, end_behind, further_end, further_full, is_operand, operand_solid, skip_solid, solid_plain}

@@ -2,8 +2,8 @@
 use Rattle.std.specs.Prelude.{◌≡◌, ℕ, ◌+◌, ◌%◌, ◌==◌, List, [], ◌∷◌, Bool, not, ◌||◌, Option, None, Some, Result, Ok, Err, length, nat_lt, codes, if◌then◌else◌}
 use Rattle.sec_base.specs.declared.program.Segment.{Segment}
 use Rattle.sec_base.specs.declared.program.Image.{Image}
-use Rattle.rv32_asm.specs.declared.fault.AsmFault.TheVariants.{Range}
-use Rattle.rv32_asm.specs.Lines.{lines_of}
+use Rattle.rv32_asm_syntax.specs.declared.fault.AsmFault.TheVariants.{Range}
+use Rattle.rv32_asm_syntax.specs.Lines.{lines_of}
 use Rattle.rv32_asm.specs.Labels.{Label, label_named}
 use Rattle.rv32_asm.specs.Passes.{LineFault, start, first_pass, second_pass, ◌>>=◌}
 

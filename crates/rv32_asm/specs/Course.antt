@@ -1,20 +1,20 @@
 -- The addresses that lines lead to, and what the passes reach.
 use Rattle.std.specs.Prelude.{◌≡◌, ℕ, ◌+◌, List, [], ◌∷◌, Option, None, Some, Result, Ok, Err, if◌then◌else◌, ◌⊎◌}
-use Rattle.rv32_asm.specs.declared.fault.AsmFault.{AsmFault}
-use Rattle.rv32_asm.specs.declared.fault.AsmFault.TheVariants.{Range}
+use Rattle.rv32_asm_syntax.specs.declared.fault.AsmFault.{AsmFault}
+use Rattle.rv32_asm_syntax.specs.declared.fault.AsmFault.TheVariants.{Range}
 use Rattle.rv32_asm.specs.declared.fault.AsmError.{AsmError}
 use Rattle.rv32_asm.specs.declared.fault.AsmError.TheVariants as error
-use Rattle.rv32_asm.specs.declared.fault.LineError.{LineError}
-use Rattle.rv32_asm.specs.declared.fault.LineError.TheVariants.{Fault, NoMemory}
+use Rattle.rv32_asm_syntax.specs.declared.fault.LineError.{LineError}
+use Rattle.rv32_asm_syntax.specs.declared.fault.LineError.TheVariants.{Fault, NoMemory}
 use Rattle.rv32_asm.specs.Labels.{Label}
 use Rattle.rv32_asm.specs.Layout.{is_misplaced, size_at}
-use Rattle.rv32_asm.specs.Lines.{lines_of}
+use Rattle.rv32_asm_syntax.specs.Lines.{lines_of}
 use Rattle.rv32_asm.specs.Passes.{LineFault, Progress, ◌>>=◌}
 use Rattle.rv32_asm.specs.declared.labels.Label as place
 use Rattle.rv32_asm.specs.Assembly.{is_no_entry}
-use Rattle.rv32_asm.specs.Reading.{statement_of}
+use Rattle.rv32_asm_syntax.specs.Reading.{statement_of}
 use Rattle.rv32_asm.specs.SeenLabels.{AreAlike}
-use Rattle.rv32_asm.specs.Statements.{Statement}
+use Rattle.rv32_asm_syntax.specs.Statements.{Statement}
 
 -- ---- lines
 

@@ -2,12 +2,12 @@
 use Rattle.std.specs.Prelude.{ℕ, List, ◌++◌, Result, Ok, Err, if◌then◌else◌}
 use Rattle.std.specs.List.{list_all, flat_map}
 use Rattle.sec_base.specs.declared.memory.Width.{Width}
-use Rattle.rv32_asm.specs.declared.fault.AsmFault.{AsmFault}
-use Rattle.rv32_asm.specs.declared.fault.AsmFault.TheVariants.{Range}
+use Rattle.rv32_asm_syntax.specs.declared.fault.AsmFault.{AsmFault}
+use Rattle.rv32_asm_syntax.specs.declared.fault.AsmFault.TheVariants.{Range}
 use Rattle.rv32_asm.specs.Encoding.{bytes_at, code_from, fit_from, fits_width, is_in_range, number_bytes}
-use Rattle.rv32_asm.specs.Expressions.{Expression}
+use Rattle.rv32_asm_syntax.specs.Expressions.{Expression}
 use Rattle.rv32_asm.specs.Labels.{Label}
-use Rattle.rv32_asm.specs.Statements.{Instruction, Statement}
+use Rattle.rv32_asm_syntax.specs.Statements.{Instruction, Statement}
 use Rattle.rv32_asm.specs.Values.{value_of}
 
 -- bytes with more behind them, or why there are no more

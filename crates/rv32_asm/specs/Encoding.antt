@@ -9,11 +9,11 @@ use Rattle.rv32_decode.specs.Table.{row_for, signed, word_of}
 use Rattle.rv32_decode.specs.declared.Inst.{Inst}
 use Rattle.rv32_decode.specs.declared.table.Format.{Format}
 use Rattle.rv32_decode.specs.declared.table.Format.TheVariants.{R, I, S, B, U, J, H, N}
-use Rattle.rv32_asm.specs.Numbers.{is_between}
-use Rattle.rv32_asm.specs.Expressions.{Expression}
+use Rattle.rv32_asm_syntax.specs.Numbers.{is_between}
+use Rattle.rv32_asm_syntax.specs.Expressions.{Expression}
 use Rattle.rv32_asm.specs.Labels.{Label}
 use Rattle.rv32_asm.specs.Layout.{size_at}
-use Rattle.rv32_asm.specs.Statements.{Instruction, Statement, Instructions, Data, Bytes, Zeros, Aligned, Nothing}
+use Rattle.rv32_asm_syntax.specs.Statements.{Instruction, Statement, Instructions, Data, Bytes, Zeros, Aligned, Nothing}
 use Rattle.rv32_asm.specs.Values.{expression_in, immediate_value, is_missing, modulo, value_of}
 
 -- ---- instructions

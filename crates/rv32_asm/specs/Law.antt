@@ -1,11 +1,14 @@
--- The texts of words are read back as those words.
-use Rattle.std.specs.Prelude.{◌≡◌, ℕ, ◌+◌, ◌%◌, ◌^◌, ◌<◌, ◌≤◌, List, [], ◌∷◌, ◌++◌, Ok}
+-- The texts of words are read back as those words, and the two parts of a value make it again.
+use Rattle.std.specs.Prelude.{◌≡◌, ℕ, ◌+◌, ◌*◌, ◌%◌, ◌^◌, ◌<◌, ◌≤◌, pos, ◌+ℤ◌, All, List, [], ◌∷◌, ◌++◌, Ok, length}
 use Rattle.std.specs.Int.{w32, to_le_bytes}
+use Rattle.std.specs.List.{flat_map}
 use Rattle.rv32_text.specs.Text.{text_of_word}
-use Rattle.rv32_asm.specs.Characters.{line_feed}
-use Rattle.rv32_asm.specs.Lines.{lines_of}
+use Rattle.rv32_asm_syntax.specs.Characters.{line_feed}
+use Rattle.rv32_asm_syntax.specs.Lines.{lines_of}
 use Rattle.rv32_asm.specs.Labels.{Label}
+use Rattle.rv32_asm.specs.Assembly.{program_of}
 use Rattle.rv32_asm.specs.Passes.{Progress, after_line, line_bytes}
+use Rattle.rv32_asm.specs.Values.{lower_part, modulo, upper_part}
 
 -- The text of a word at the line's own address, a multiple of 4 with four bytes of memory behind it, is one line, at the
 -- end of a text and before further lines. The line has no fault in either pass, whatever labels there are; it adds no
@@ -23,3 +26,17 @@ pub record IsReadBack (size word address : ℕ) : Type 0 where
 abbrev pub TextsAreWords : ℕ → Type 0
 TextsAreWords size =
     (word address : ℕ) → word < 2 ^ 32 → address % 4 ≡ 0 → address + 4 ≤ size → IsReadBack size word address
+
+-- the texts of words from an address on, each at its word's address and in a line of its own
+abbrev pub source : ℕ → List ℕ → List ℕ
+source address [] = []
+source address (word ∷ words) = text_of_word word address ++ line_feed ∷ source (address + 4) words
+
+-- the program of that text is the words, as many as the memory holds
+abbrev pub TextsAreProgram : ℕ → Type 0
+TextsAreProgram size = (words : List ℕ) → All (λ word. word < 2 ^ 32) words → 4 * length words ≤ size →
+    program_of (source 0 words) size ≡ Ok (record { entry = 0; bytes = flat_map (to_le_bytes w32) words })
+
+-- what LUI loads of a word and what ADDI adds to it make the word, modulo 2^32
+abbrev pub PartsMakeWord : ℕ → Type 0
+PartsMakeWord word = modulo 32 (pos (upper_part word * 2 ^ 12) +ℤ lower_part word) ≡ word

@@ -2,7 +2,7 @@
 use Rattle.std.specs.Prelude.{ℕ, ◌-◌, ◌*◌, ◌%◌, ◌^◌, ℤ, pos, negsuc, Bool, false, not, ◌==◌, length, nat_le, unsigned_abs}
 use Rattle.std.specs.List.{list_any, range_with_len}
 use Rattle.sec_base.specs.Width.{width_bytes}
-use Rattle.rv32_asm.specs.Statements.{Statement, Instructions, Data, Bytes, Zeros, Aligned, Nothing}
+use Rattle.rv32_asm_syntax.specs.Statements.{Statement, Instructions, Data, Bytes, Zeros, Aligned, Nothing}
 
 -- a number of zeros that can be asked for
 abbrev pub is_space : ℤ → Bool

@@ -1,10 +1,10 @@
 -- The two passes over the lines of a text: the first finds where the labels stand, the second makes the bytes.
 use Rattle.std.specs.Prelude.{ℕ, ◌+◌, List, [], ◌∷◌, ◌++◌, Result, Ok, Err, length, nat_lt, not, if◌then◌else◌}
-use Rattle.rv32_asm.specs.declared.fault.AsmFault.{AsmFault}
-use Rattle.rv32_asm.specs.declared.fault.AsmFault.TheVariants.{Range, Twice, Missing, Large}
-use Rattle.rv32_asm.specs.Lines.{labels_of}
-use Rattle.rv32_asm.specs.Statements.{Statement}
-use Rattle.rv32_asm.specs.Reading.{statement_of}
+use Rattle.rv32_asm_syntax.specs.declared.fault.AsmFault.{AsmFault}
+use Rattle.rv32_asm_syntax.specs.declared.fault.AsmFault.TheVariants.{Range, Twice, Missing, Large}
+use Rattle.rv32_asm_syntax.specs.Lines.{labels_of}
+use Rattle.rv32_asm_syntax.specs.Statements.{Statement}
+use Rattle.rv32_asm_syntax.specs.Reading.{statement_of}
 use Rattle.rv32_asm.specs.Labels.{Label, is_there}
 use Rattle.rv32_asm.specs.Layout.{is_misplaced, size_at}
 use Rattle.rv32_asm.specs.Encoding.{misses_label, is_in_range, bytes_at}

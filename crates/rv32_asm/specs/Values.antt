@@ -2,9 +2,9 @@
 use Rattle.std.specs.Prelude.{ℕ, ◌+◌, ◌%◌, ◌^◌, ℤ, pos, ◌+ℤ◌, List, Bool, false, not, Option, None, Some, option_map, unwrap_or, unsigned_abs}
 use Rattle.std.specs.Int.{int_rem_euclid}
 use Rattle.rv32_decode.specs.Table.{field, signed}
-use Rattle.rv32_asm.specs.Expressions.{Expression}
+use Rattle.rv32_asm_syntax.specs.Expressions.{Expression}
 use Rattle.rv32_asm.specs.Labels.{Label, label_named, is_there}
-use Rattle.rv32_asm.specs.Statements.{Immediate, Whole, Upper, Lower}
+use Rattle.rv32_asm_syntax.specs.Statements.{Immediate, Whole, Upper, Lower}
 
 -- the expression names a label that isn't there
 abbrev pub names_missing : List Label → Option (List ℕ) → Bool

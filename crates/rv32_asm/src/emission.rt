@@ -5,19 +5,18 @@ ghost use Rattle.rv32_asm.specs.Emission.{with_more};
 ghost use Rattle.rv32_asm.specs.Encoding as spec;
 ghost use Rattle.rv32_asm.specs.Layout as layout_spec;
 ghost use Rattle.rv32_asm.specs.Passes as passes;
-ghost use Rattle.rv32_asm.specs.Seen as seen;
-ghost use Rattle.rv32_asm.specs.Statements as meant;
 ghost use Rattle.rv32_asm.specs.Values as values_spec;
-ghost use Rattle.rv32_asm.specs.declared.fault.AsmFault.{AsmFault};
-ghost use Rattle.rv32_asm.specs.declared.fault.LineError.TheVariants.{Fault};
+ghost use Rattle.rv32_asm_syntax.specs.Seen as seen;
+ghost use Rattle.rv32_asm_syntax.specs.Statements as meant;
+ghost use Rattle.rv32_asm_syntax.specs.declared.fault.AsmFault.{AsmFault};
+ghost use Rattle.rv32_asm_syntax.specs.declared.fault.LineError.TheVariants.{Fault};
 ghost use Rattle.std.specs.Int.{to_le_bytes, w32};
 ghost use Rattle.std.specs.List.{list_any};
 ghost use Rattle.std.specs.Prelude.{Err, Ok, OnOk, false, length, replicate, ◌*◌, ◌++◌, ◌+◌, ◌<◌, ◌^◌, ◌≡◌};
 
-use crate::fault::{AsmFault, LineError};
 use crate::labels::Labels;
-use crate::statements::{Expression, Instruction, Statement};
 use crate::{encoding, layout, values};
+use rv32_asm_syntax::{AsmFault, Expression, Instruction, LineError, Statement};
 use sec_base::{NoMemory, Width};
 
 // Whether one of the instructions names a label that isn't there.

@@ -1,19 +1,16 @@
 //! The words of instructions.
 
 ghost use Rattle.rv32_asm.specs.Encoding as spec;
-ghost use Rattle.rv32_asm.specs.Fields.{format_in, immediate_in, kept};
-ghost use Rattle.rv32_asm.specs.Fields as fields;
-ghost use Rattle.rv32_asm.specs.Numbers as numbers;
-ghost use Rattle.rv32_asm.specs.Seen as seen;
+ghost use Rattle.rv32_asm.specs.Fields.{immediate_in, kept};
+ghost use Rattle.rv32_asm_syntax.specs.Numbers as numbers;
+ghost use Rattle.rv32_asm_syntax.specs.Seen as seen;
 ghost use Rattle.rv32_decode.specs.Table.{row_for, word_of};
-ghost use Rattle.rv32_text.specs.Text.{mnemonic_of};
-ghost use Rattle.std.specs.Prelude.{None, Some, true, if◌then◌else◌, neg_ℤ, pos, ◌&&◌, ◌^◌, ◌≡◌, ◌≤ℤ◌};
+ghost use Rattle.std.specs.Prelude.{None, Some, if◌then◌else◌, neg_ℤ, pos, ◌&&◌, ◌^◌, ◌≡◌, ◌≤ℤ◌};
 
 use crate::labels::Labels;
-use crate::statements::Instruction;
 use crate::values;
-use rv32_decode::{Inst, Op, encode};
-use rv32_text::{Style, style_of};
+use rv32_asm_syntax::Instruction;
+use rv32_decode::{Format, Inst, Op, encode, format_of};
 
 // How far it is from an address to a target, modulo 2^32, from -2^31 on.
 fn distance(address: u32, target: i64) -> i32
@@ -58,36 +55,12 @@ fn near(address: u32, target: i64, low: i32, high: i32) -> Option<i32>
 
 // The number with these upper twenty bits, where they are no more.
 fn upper(value: i64) -> Option<i32>
-    ensures { result ≡ immediate_in (format_in true Style.Upper) 0 value }
+    ensures { result ≡ immediate_in Format.U 0 value }
 {
     if 0 <= value && value <= 0xf_ffff {
         Some(((value as u32) << 12).cast_signed())
     } else {
         None
-    }
-}
-
-fn is_shift(op: Op) -> bool
-    ensures { result ≡ fields.is_shift op }
-{
-    matches!(op, Op::Slli | Op::Srli | Op::Srai)
-}
-
-// The immediate of a value at an address, for rows whose operands are written so.
-fn styled_immediate(style: Style, is_shift: bool, address: u32, value: i64) -> Option<i32>
-    requires least { neg_ℤ (pos (2 ^ 33)) ≤ℤ value }
-    requires most { value ≤ℤ pos (2 ^ 33) }
-    ensures { result ≡ immediate_in (format_in is_shift style) address value }
-{
-    match style {
-        Style::Registers | Style::Bare => Some(0),
-        Style::Immediate if is_shift => number_between(0, 31, value),
-        Style::Immediate | Style::Offset | Style::Store | Style::Fence => {
-            number_between(-2048, 2047, value)
-        }
-        Style::Upper => upper(value),
-        Style::Branch => near(address, value, -4096, 4094),
-        Style::Jump => near(address, value, -0x10_0000, 0xf_fffe),
     }
 }
 
@@ -97,12 +70,19 @@ fn immediate_of(op: Op, address: u32, value: i64) -> Option<i32>
     requires most { value ≤ℤ pos (2 ^ 33) }
     ensures { result ≡ immediate_in (row_for op).format address value }
 {
-    styled_immediate(style_of(op), is_shift(op), address, value)
+    match format_of(op) {
+        Format::R | Format::N => Some(0),
+        Format::I | Format::S => number_between(-2048, 2047, value),
+        Format::H => number_between(0, 31, value),
+        Format::U => upper(value),
+        Format::B => near(address, value, -4096, 4094),
+        Format::J => near(address, value, -0x10_0000, 0xf_fffe),
+    }
 }
 
-// An instruction with an immediate, and of the registers those that its row has.
+// An instruction with an immediate, and of the registers those that its format has.
 fn with_immediate(instruction: &Instruction, imm: i32) -> Inst
-    ensures { result ≡ kept (mnemonic_of instruction.now.op).style (record {
+    ensures { result ≡ kept (row_for instruction.now.op).format (record {
       op = instruction.now.op;
       rd = instruction.now.rd;
       rs1 = instruction.now.rs1;
@@ -117,12 +97,12 @@ fn with_immediate(instruction: &Instruction, imm: i32) -> Inst
         rs2,
         ..
     } = *instruction;
-    let (rd, rs1, rs2) = match style_of(op) {
-        Style::Registers => (rd, rs1, rs2),
-        Style::Immediate | Style::Offset | Style::Fence => (rd, rs1, 0),
-        Style::Store | Style::Branch => (0, rs1, rs2),
-        Style::Upper | Style::Jump => (rd, 0, 0),
-        Style::Bare => (0, 0, 0),
+    let (rd, rs1, rs2) = match format_of(op) {
+        Format::R => (rd, rs1, rs2),
+        Format::I | Format::H => (rd, rs1, 0),
+        Format::S | Format::B => (0, rs1, rs2),
+        Format::U | Format::J => (rd, 0, 0),
+        Format::N => (0, 0, 0),
     };
     Inst {
         op,

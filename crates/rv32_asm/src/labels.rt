@@ -2,12 +2,12 @@
 
 ghost use Rattle.rv32_asm.specs.Labels.{is_there, label_named};
 ghost use Rattle.rv32_asm.specs.SeenLabels.{AreAlike, unnamed};
-ghost use Rattle.rv32_asm.specs.declared.fault.AsmFault.{AsmFault};
-ghost use Rattle.rv32_asm.specs.declared.fault.AsmFault.TheVariants.{Twice};
-ghost use Rattle.rv32_asm.specs.declared.fault.LineError.TheVariants.{Fault};
+ghost use Rattle.rv32_asm_syntax.specs.declared.fault.AsmFault.TheVariants.{Twice};
+ghost use Rattle.rv32_asm_syntax.specs.declared.fault.AsmFault.{AsmFault};
+ghost use Rattle.rv32_asm_syntax.specs.declared.fault.LineError.TheVariants.{Fault};
 ghost use Rattle.std.specs.Prelude.{Err, OnOk, [], false, option_map, true, ◌∷◌, ◌≡◌};
 
-use crate::fault::{AsmFault, LineError};
+use rv32_asm_syntax::{AsmFault, LineError};
 use sec_base::NoMemory;
 use std::alloc::Global;
 use std::collections::BTreeMap;

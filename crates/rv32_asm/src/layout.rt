@@ -2,14 +2,11 @@
 
 ghost use Rattle.rv32_asm.specs.Layout as spec;
 ghost use Rattle.rv32_asm.specs.Passes as passes;
-ghost use Rattle.rv32_asm.specs.Seen as seen;
-ghost use Rattle.sec_base.specs.Width as width_spec;
-ghost use Rattle.rv32_asm.specs.Parts.{as_word};
+ghost use Rattle.rv32_asm_syntax.specs.Parts.{as_word};
+ghost use Rattle.rv32_asm_syntax.specs.Seen as seen;
 ghost use Rattle.std.specs.Prelude.{false, ◌*◌, ◌<◌, ◌≡◌};
 
-use crate::fault::AsmFault;
-use crate::statements::Statement;
-use sec_base::Width;
+use rv32_asm_syntax::{AsmFault, Statement};
 
 // Whether so many zeros can be asked for.
 fn is_space(number: i64) -> bool
@@ -39,17 +36,6 @@ pub fn is_misplaced(address: u32, statement: &Statement) -> bool
         Statement::Zeros(number) => !is_space(*number),
         Statement::Aligned(number) => !is_alignment(*number),
         _ => false,
-    }
-}
-
-// How many bytes a number of this width has.
-fn width_bytes(width: Width) -> u32
-    ensures { result ≡ width_spec.width_bytes width }
-{
-    match width {
-        Width::One => 1,
-        Width::Two => 2,
-        Width::Four => 4,
     }
 }
 
@@ -86,7 +72,7 @@ fn size_at(address: u32, statement: &Statement) -> Option<u32>
 {
     match statement {
         Statement::Instructions(instructions) => bytes_of(4, instructions.len()),
-        Statement::Data(width, values) => bytes_of(width_bytes(*width), values.len()),
+        Statement::Data(width, values) => bytes_of(width.bytes(), values.len()),
         Statement::Bytes(bytes) => bytes_of(1, bytes.len()),
         Statement::Zeros(number) => word_of(number.unsigned_abs()),
         Statement::Aligned(number) => word_of(padding(address, number.unsigned_abs())),

@@ -4,32 +4,23 @@
 ghost use Rattle.std.specs.Prelude.{ℕ, IfOk, Err, length, ◌≡◌, ◌<◌, ◌^◌};
 ghost use Rattle.sec_base.specs.Layout.{IsMemorySize};
 ghost use Rattle.rv32_asm.specs.Assembly.{IsAssembled, program_of};
-ghost use Rattle.rv32_asm.specs.Law.{TextsAreWords};
-ghost use Rattle.rv32_asm.specs.declared.fault.AsmFault.{AsmFault};
+ghost use Rattle.rv32_asm.specs.Law.{PartsMakeWord, TextsAreProgram, TextsAreWords};
+ghost use Rattle.rv32_asm_syntax.specs.declared.fault.AsmFault.{AsmFault};
 ghost use Rattle.rv32_asm.specs.declared.fault.AsmError.TheVariants.{Fault};
 
-mod characters;
 mod emission;
 mod encoding;
-mod expressions;
 mod fault;
-mod keywords;
 mod labels;
 mod layout;
-mod lines;
-mod numbers;
-mod operands;
 mod passes;
 mod program;
-mod reading;
-mod registers;
-mod statements;
-mod strings;
 #[cfg(test)]
 mod tests;
 mod values;
 
-pub use fault::{AsmError, AsmFault};
+pub use fault::AsmError;
+pub use rv32_asm_syntax::AsmFault;
 use sec_base::Image;
 use std::alloc::Global;
 
@@ -55,8 +46,16 @@ pub fn assemble(alloc: Global, text: &[u8], size: u32) -> Result<Image, AsmError
     })
 }
 
-/// Where a line is the text of a word at the line's own address, the word is read back. It does nothing: its contract
-/// is a theorem over all words, and all memories and places where they can stand.
+/// Where a line is the text of a word at the line's own address, the word is read back; and the texts of words, one
+/// line after another, are the program of these words. It does nothing: its contract is a theorem over all words, and
+/// all memories and places where they can stand.
 pub fn texts_are_words()
-    ensures { (size : ℕ) → TextsAreWords size }
+    ensures lines { (size : ℕ) → TextsAreWords size }
+    ensures programs { (size : ℕ) → TextsAreProgram size }
+{}
+
+/// The two instructions that `li` and `la` stand for load the value, modulo 2^32: the upper part that LUI loads and the
+/// lower part that ADDI adds to it make the value's word. It does nothing: its contract is a theorem over all words.
+pub fn parts_make_words()
+    ensures { (word : ℕ) → word < 2 ^ 32 → PartsMakeWord word }
 {}

@@ -1,19 +1,20 @@
 //! The two passes over the lines of a text: the first finds where the labels stand, the second makes the bytes.
 
-ghost use Rattle.rv32_asm.specs.Course.{Gives, IsNextLine, Reaches, behind_line, end_of};
 ghost use Rattle.rv32_asm.specs.Course as course;
+ghost use Rattle.rv32_asm.specs.Course.{Gives, IsNextLine, Reaches, behind_line, end_of};
 ghost use Rattle.rv32_asm.specs.Emission.{with_more};
-ghost use Rattle.rv32_asm.specs.Lines.{labels_in, lines_of};
-ghost use Rattle.rv32_asm.specs.Parts.{parts};
 ghost use Rattle.rv32_asm.specs.Passes as spec;
-ghost use Rattle.rv32_asm.specs.declared.fault.AsmFault.{AsmFault};
 ghost use Rattle.rv32_asm.specs.declared.fault.AsmError.TheVariants as error;
-ghost use Rattle.rv32_asm.specs.declared.fault.LineError.TheVariants.{Fault};
+ghost use Rattle.rv32_asm_syntax.specs.Lines.{labels_in, lines_of};
+ghost use Rattle.rv32_asm_syntax.specs.Parts.{parts};
+ghost use Rattle.rv32_asm_syntax.specs.declared.fault.AsmFault.{AsmFault};
+ghost use Rattle.rv32_asm_syntax.specs.declared.fault.LineError.TheVariants.{Fault};
 ghost use Rattle.std.specs.Prelude.{Err, IfOk, IsOkAnd, Ok, OnOk, [], length, ℕ, ◌+◌, ◌<◌, ◌^◌, ◌≡◌, ◌≤◌};
 
-use crate::fault::{AsmError, LineError};
+use crate::fault::AsmError;
 use crate::labels::{Label, Labels};
-use crate::{emission, layout, lines, reading};
+use crate::{emission, layout};
+use rv32_asm_syntax::{LineError, first_label, first_line, statement_of, without_comment};
 use std::alloc::Global;
 
 // The first line of a text, and the text behind it, empty behind the last line.
@@ -21,7 +22,7 @@ fn next_line(text: &[u8]) -> (&[u8], &[u8])
     ensures lines { IsNextLine text.now result.0.now result.1.now }
     ensures shorter { 0 < length text.now → length result.1.now < length text.now }
 {
-    match lines::first_line(text) {
+    match first_line(text) {
         (line, Some(rest)) => (line, rest),
         (line, None) => (line, &[]),
     }
@@ -53,7 +54,7 @@ fn add_labels<'a>(labels: &mut Labels<'a>, text: &'a [u8], label: Label) -> Resu
         spec.with_names label.address label.line (labels_in (parts text.now)) labels.old ≡ Err fault }
 {
     let mut rest = text;
-    while let Some((name, behind)) = lines::first_label(rest) {
+    while let Some((name, behind)) = first_label(rest) {
         labels.add(name, label)?;
         rest = behind;
     }
@@ -84,8 +85,8 @@ fn after_line<'a>(
         address,
         line: number,
     };
-    add_labels(&mut labels, lines::without_comment(line), label)?;
-    let statement = reading::statement_of(alloc, line)?;
+    add_labels(&mut labels, without_comment(line), label)?;
+    let statement = statement_of(alloc, line)?;
     match layout::address_after(size, address, &statement) {
         Ok(address) => Ok(Progress { address, labels }),
         Err(fault) => Err(LineError::Fault(fault)),
@@ -135,7 +136,7 @@ fn put_line(
     ensures refused { (fault : AsmFault) → result ≡ Err (Fault fault) →
         spec.line_bytes labels.now (length bytes.old.items) line.now ≡ Err fault }
 {
-    let statement = reading::statement_of(alloc, line)?;
+    let statement = statement_of(alloc, line)?;
     emission::emit(bytes, labels, &statement)
 }
 

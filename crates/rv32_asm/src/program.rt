@@ -3,12 +3,13 @@
 ghost use Rattle.rv32_asm.specs.Assembly as spec;
 ghost use Rattle.rv32_asm.specs.Course.{entry_at};
 ghost use Rattle.rv32_asm.specs.declared.fault.AsmError.TheVariants as error;
-ghost use Rattle.rv32_asm.specs.declared.fault.AsmFault.{AsmFault};
+ghost use Rattle.rv32_asm_syntax.specs.declared.fault.AsmFault.{AsmFault};
 ghost use Rattle.sec_base.specs.Layout.{IsMemorySize};
 ghost use Rattle.std.specs.Prelude.{Err, IfOk, Ok, length, ℕ, ◌%◌, ◌+◌, ◌<◌, ◌^◌, ◌≡◌, ◌≤◌};
 
-use crate::fault::{AsmError, AsmFault};
+use crate::fault::AsmError;
 use crate::labels::Label;
+use rv32_asm_syntax::AsmFault;
 use sec_base::{Bytes, NoMemory, Segment, Segments};
 use std::alloc::Global;
 

@@ -10,8 +10,8 @@ use std::test::Fail;
 
 const SIZE: u32 = 1_048_576;
 
-// A1 to A6 are programs that runs are tested with.
-const A1: &str = "
+// A byte is stored in lines of memory that a small cache would hold in one place, and then printed.
+const STORE_AND_PRINT: &str = "
 _start: li   t0, 0x140
         lui  t1, 0x1
         add  t1, t1, t0
@@ -34,7 +34,8 @@ _start: li   t0, 0x140
         ecall
 ";
 
-const A2: &str = "
+// Three of those lines are stored again: what is read is the later byte.
+const STORE_TWICE: &str = "
 _start: li   t0, 0x140
         lui  t1, 0x1
         add  t1, t1, t0
@@ -53,7 +54,8 @@ again:  sb   t3, 0(t0)
         ecall
 ";
 
-const A3: &str = "
+// It prints A and then B, and exits with what the service answered.
+const PRINT_TWICE: &str = "
 _start: la   a1, text
         li   a2, 1
         li   a0, 1
@@ -67,7 +69,8 @@ _start: la   a1, text
 text:   .ascii \"AB\"
 ";
 
-const A5: &str = "
+// One line is stored 200 times.
+const WEAR_ONE_LINE: &str = "
 li t0, 0x1000
 li t1, 200
 again: sw t1, 0(t0)
@@ -77,7 +80,8 @@ li a7, 93
 ecall
 ";
 
-const A6: &str = "
+// It reads pages that nothing was stored into.
+const READ_UNTOUCHED: &str = "
 li t0, 0x140
 lui t1, 0x1
 add t1, t1, t0
@@ -132,7 +136,7 @@ fn expect_fault(rt: &impl Abort, alloc: Global, text: &[u8], line: u32, code: As
 }
 
 #[test]
-fn a_program_that_exits(rt: HostRuntime) {
+fn lines_may_end_with_a_carriage_return(rt: HostRuntime) {
     let bytes = [
         0x13, 0x05, 0x70, 0x00, 0x93, 0x08, 0xd0, 0x05, 0x73, 0x00, 0x00, 0x00,
     ];
@@ -141,10 +145,10 @@ fn a_program_that_exits(rt: HostRuntime) {
 }
 
 #[test]
-fn programs(rt: HostRuntime) -> Result<(), Fail> {
+fn programs_have_their_words(rt: HostRuntime) -> Result<(), Fail> {
     let table: [(&str, &[u32]); 4] = [
         (
-            A1,
+            STORE_AND_PRINT,
             &[
                 0x1400_0293,
                 0x0000_1337,
@@ -169,7 +173,7 @@ fn programs(rt: HostRuntime) -> Result<(), Fail> {
             ],
         ),
         (
-            A2,
+            STORE_TWICE,
             &[
                 0x1400_0293,
                 0x0000_1337,
@@ -190,7 +194,7 @@ fn programs(rt: HostRuntime) -> Result<(), Fail> {
             ],
         ),
         (
-            A5,
+            WEAR_ONE_LINE,
             &[
                 0x0000_12b7,
                 0x0002_8293,
@@ -203,7 +207,7 @@ fn programs(rt: HostRuntime) -> Result<(), Fail> {
             ],
         ),
         (
-            A6,
+            READ_UNTOUCHED,
             &[
                 0x1400_0293,
                 0x0000_1337,
@@ -230,7 +234,7 @@ fn programs(rt: HostRuntime) -> Result<(), Fail> {
 }
 
 #[test]
-fn a_program_with_data(rt: HostRuntime) -> Result<(), Fail> {
+fn a_label_behind_the_code_is_its_address(rt: HostRuntime) -> Result<(), Fail> {
     let words = [
         0x0000_05b7,
         0x02c5_8593,
@@ -246,13 +250,13 @@ fn a_program_with_data(rt: HostRuntime) -> Result<(), Fail> {
     ];
     let mut bytes = bytes_of(rt.alloc(), &words)?;
     bytes.extend_from_slice(b"AB")?;
-    expect(&rt, rt.alloc(), A3, &bytes);
+    expect(&rt, rt.alloc(), PRINT_TWICE, &bytes);
     Ok(())
 }
 
 // One word of each row, by GNU as. Their texts, line after line, are the words again.
 #[test]
-fn each_row_there_and_back(rt: HostRuntime) -> Result<(), Fail> {
+fn each_row_is_read_back(rt: HostRuntime) -> Result<(), Fail> {
     let words = [
         0x1234_52b7,
         0xffff_fd97,
@@ -317,7 +321,7 @@ fn each_row_there_and_back(rt: HostRuntime) -> Result<(), Fail> {
 }
 
 #[test]
-fn shorthands(rt: HostRuntime) -> Result<(), Fail> {
+fn pseudoinstructions_are_their_instructions(rt: HostRuntime) -> Result<(), Fail> {
     let table: [(&str, &[u32]); 23] = [
         ("nop", &[0x0000_0013]),
         ("mv a0, s11", &[0x000d_8513]),
@@ -351,7 +355,7 @@ fn shorthands(rt: HostRuntime) -> Result<(), Fail> {
 
 // The ends of the ranges that are taken; those beyond are among the faults.
 #[test]
-fn ends_of_ranges(rt: HostRuntime) -> Result<(), Fail> {
+fn the_ends_of_ranges_are_taken(rt: HostRuntime) -> Result<(), Fail> {
     let table = [
         ("addi a0, zero, 2047", 0x7ff0_0513),
         ("addi a0, zero, -2048", 0x8000_0513),
@@ -375,7 +379,7 @@ fn ends_of_ranges(rt: HostRuntime) -> Result<(), Fail> {
 }
 
 #[test]
-fn directives(rt: HostRuntime) {
+fn directives_put_their_bytes(rt: HostRuntime) {
     let table: [(&str, &[u8]); 18] = [
         ("", b""),
         (" # nothing\n\n\t\n", b""),
@@ -405,7 +409,7 @@ fn directives(rt: HostRuntime) {
 }
 
 #[test]
-fn entries(rt: HostRuntime) {
+fn a_program_begins_at_its_label(rt: HostRuntime) {
     let table: [(&[u8], u32, &[u8]); 4] = [
         (b"start: .byte 1", 0, b"\x01"),
         (b"_start:", 0, b""),
@@ -418,7 +422,7 @@ fn entries(rt: HostRuntime) {
 }
 
 #[test]
-fn the_last_entry(rt: HostRuntime) {
+fn a_program_may_begin_at_the_last_word(rt: HostRuntime) {
     match assemble(rt.alloc(), b".space 1048572\n_start:", SIZE) {
         Ok(image) => assert_eq!(rt; image.entry, 1_048_572),
         Err(error) => assert!(rt; false, "{error}"),
@@ -430,7 +434,7 @@ fn the_last_entry(rt: HostRuntime) {
 }
 
 #[test]
-fn faults(rt: HostRuntime) {
+fn each_fault_is_told(rt: HostRuntime) {
     let table: [(&[u8], AsmFault); 37] = [
         (b"frob a0", AsmFault::Unknown),
         (b"a : nop", AsmFault::Unknown),
@@ -479,7 +483,7 @@ fn faults(rt: HostRuntime) {
 }
 
 #[test]
-fn the_first_fault(rt: HostRuntime) {
+fn the_first_fault_is_told(rt: HostRuntime) {
     let table: [(&[u8], u32, AsmFault); 20] = [
         (b"a:\na:", 2, AsmFault::Twice),
         (b"a:\na: frob", 2, AsmFault::Twice),

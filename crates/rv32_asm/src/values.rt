@@ -1,11 +1,11 @@
 //! The values of expressions, and of the immediates that stand for them.
 
-ghost use Rattle.rv32_asm.specs.Seen as seen;
 ghost use Rattle.rv32_asm.specs.Values as spec;
+ghost use Rattle.rv32_asm_syntax.specs.Seen as seen;
 ghost use Rattle.std.specs.Prelude.{neg_ℤ, pos, ◌^◌, ◌≡◌, ◌≤ℤ◌};
 
 use crate::labels::Labels;
-use crate::statements::{Expression, Immediate};
+use rv32_asm_syntax::{Expression, Immediate};
 
 /// Whether an expression names a label that isn't there.
 pub fn is_missing(labels: &Labels, value: &Expression) -> bool

@@ -46,6 +46,53 @@ const PRINT_TWICE: &[u8] = b"_start: la   a1, text
 text:   .ascii \"AB\"
 ";
 
+// Three of those lines are stored again: what is read is the later byte.
+const STORE_TWICE: &[u8] = b"_start: li   t0, 0x140
+        lui  t1, 0x1
+        add  t1, t1, t0
+        lui  t2, 0x2
+        add  t2, t2, t0
+        li   t3, 65
+        li   t4, 2
+again:  sb   t3, 0(t0)
+        sb   t3, 0(t1)
+        sb   t3, 0(t2)
+        addi t3, t3, 1
+        addi t4, t4, -1
+        bnez t4, again
+        lbu  a0, 0(t0)
+        li   a7, 93
+        ecall
+";
+
+// One line is stored 200 times.
+const WEAR_ONE_LINE: &[u8] = b"li t0, 0x1000
+li t1, 200
+again: sw t1, 0(t0)
+addi t1, t1, -1
+bnez t1, again
+li a7, 93
+ecall
+";
+
+// It reads pages that nothing was stored into.
+const READ_UNTOUCHED: &[u8] = b"li t0, 0x140
+lui t1, 0x1
+add t1, t1, t0
+lui t2, 0x2
+add t2, t2, t0
+sb t0, 0(t0)
+sb t0, 0(t1)
+sb t0, 0(t2)
+lui t1, 0x10
+lui t2, 0x20
+lbu a0, 128(t1)
+lbu a0, 128(t2)
+lbu a0, 0(t0)
+li a7, 93
+ecall
+";
+
 // A call on an assembly text.
 fn call_text(alloc: Global, words: &[&str], text: &[u8]) -> Result<Call, NoMemory> {
     let mut files = file(alloc, text, &[])?;
@@ -79,13 +126,19 @@ fn texts_are_assembled(rt: HostRuntime) -> Result<(), Fail> {
 
 #[test]
 fn assembled_programs_run(rt: HostRuntime) -> Result<(), Fail> {
-    let alloc = rt.alloc();
     let words = ["chip", "run", "f"];
-    let call = call_assembled(alloc, &words, STORE_AND_PRINT, &[])?;
-    check(&rt, &call, b"A", b"halted 65\nretired 20\nlies 0\n", 0);
-    let call = call_assembled(alloc, &words, PRINT_TWICE, &[])?;
-    check(&rt, &call, b"AB", b"halted 1\nretired 11\nlies 0\n", 0);
-    let call = call_assembled(alloc, &words, PRINT_TWICE, &[2])?;
+    let rows: [(&[u8], &[u8], &[u8]); 5] = [
+        (STORE_AND_PRINT, b"A", b"halted 65\nretired 20\nlies 0\n"),
+        (STORE_TWICE, b"", b"halted 66\nretired 22\nlies 0\n"),
+        (PRINT_TWICE, b"AB", b"halted 1\nretired 11\nlies 0\n"),
+        (WEAR_ONE_LINE, b"", b"halted 0\nretired 605\nlies 0\n"),
+        (READ_UNTOUCHED, b"", b"halted 64\nretired 15\nlies 0\n"),
+    ];
+    for (text, printed, told) in rows {
+        let call = call_assembled(rt.alloc(), &words, text, &[])?;
+        check(&rt, &call, printed, told, 0);
+    }
+    let call = call_assembled(rt.alloc(), &words, PRINT_TWICE, &[2])?;
     check(&rt, &call, b"A", b"write fault\nretired 8\nlies 0\n", 9);
     Ok(())
 }

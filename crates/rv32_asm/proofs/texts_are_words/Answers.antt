@@ -1,5 +1,9 @@
 use Rattle.rv32_asm.proofs.Law.{word_back}
+use Rattle.rv32_asm.proofs.Programs.{words_assembled}
 use Rattle.rv32_asm.proofs.texts_are_words.Goals as goal
 
-pub returns : goal.returns
-returns c = λ size word address below aligned inside. word_back size word address below aligned inside
+pub returns-clause-lines : goal.returns-clause-lines
+returns-clause-lines c = λ size word address below aligned inside. word_back size word address below aligned inside
+
+pub returns-clause-programs : goal.returns-clause-programs
+returns-clause-programs c = λ size. words_assembled size

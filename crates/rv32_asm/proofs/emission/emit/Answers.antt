@@ -1,7 +1,7 @@
 use Rattle.std.proofs.Common.{◌≡◌, ◌∙◌, List, Result, Ok, OnOk, ℕ, length, subst, sym}
-use Rattle.rv32_asm.specs.Seen as seen
+use Rattle.rv32_asm_syntax.specs.Seen as seen
 use Rattle.rv32_asm.specs.Emission.{with_more}
-use Rattle.rv32_asm.specs.declared.fault.AsmFault.{AsmFault}
+use Rattle.rv32_asm_syntax.specs.declared.fault.AsmFault.{AsmFault}
 use Rattle.rv32_asm.proofs.Emitting.{emitted_is}
 use Rattle.rv32_asm.proofs.emission.emit.Goals as goal
 

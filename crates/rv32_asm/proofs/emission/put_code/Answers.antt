@@ -1,5 +1,5 @@
 use Rattle.std.proofs.Common.{◌≡◌, ◌∙◌, Err, ap, sym, arith}
-use Rattle.rv32_asm.specs.declared.fault.AsmFault.TheVariants.{Range}
+use Rattle.rv32_asm_syntax.specs.declared.fault.AsmFault.TheVariants.{Range}
 use Rattle.rv32_asm.proofs.Emitting.{code_done, code_stops, code_goes_on, fault_in}
 use Rattle.rv32_asm.proofs.emission.put_code.Goals as goal
 

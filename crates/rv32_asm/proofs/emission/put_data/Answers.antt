@@ -1,6 +1,6 @@
 use Rattle.std.proofs.Common.{◌≡◌, ◌∙◌, Err, SFits, rules, w64, ap, sym, arith}
 use Rattle.std.proofs.lemmas.Int.{to_z-of_z}
-use Rattle.rv32_asm.specs.declared.fault.AsmFault.TheVariants.{Range}
+use Rattle.rv32_asm_syntax.specs.declared.fault.AsmFault.TheVariants.{Range}
 use Rattle.rv32_asm.proofs.Emitting.{data_done, data_stops, data_goes_on, fault_in}
 use Rattle.rv32_asm.proofs.emission.put_data.Goals as goal
 

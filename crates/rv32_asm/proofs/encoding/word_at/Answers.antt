@@ -1,6 +1,6 @@
 use Rattle.std.proofs.Common.{SFits, ◌∙◌, rules, w32, w64, sym}
 use Rattle.std.proofs.lemmas.Int.{to_z-of_z}
-use Rattle.rv32_asm.specs.Seen as seen
+use Rattle.rv32_asm_syntax.specs.Seen as seen
 use Rattle.rv32_asm.proofs.Kept.{no_word, has_word, is_formed}
 use Rattle.rv32_asm.proofs.encoding.word_at.Goals as goal
 

@@ -1,5 +1,5 @@
-use Rattle.rv32_asm.specs.Lines.{labels_in}
-use Rattle.rv32_asm.specs.Parts.{parts}
+use Rattle.rv32_asm_syntax.specs.Lines.{labels_in}
+use Rattle.rv32_asm_syntax.specs.Parts.{parts}
 use Rattle.rv32_asm.proofs.FirstSteps.{named, one_named}
 use Rattle.rv32_asm.proofs.passes.add_labels.Goals as goal
 

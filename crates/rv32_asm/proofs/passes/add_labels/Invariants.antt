@@ -1,6 +1,6 @@
 use Rattle.std.proofs.Common.{length}
-use Rattle.rv32_asm.specs.Lines.{labels_in}
-use Rattle.rv32_asm.specs.Parts.{parts}
+use Rattle.rv32_asm_syntax.specs.Lines.{labels_in}
+use Rattle.rv32_asm_syntax.specs.Parts.{parts}
 use Rattle.rv32_asm.proofs.FirstSteps.{ListsAlike, named}
 use Rattle.rv32_asm.proofs.passes.add_labels.Given as goal
 

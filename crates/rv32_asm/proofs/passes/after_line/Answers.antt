@@ -2,8 +2,8 @@ use Rattle.std.proofs.Common.{◌≡◌, ◌∙◌, ℕ, Err, List, sym, ap, sub
 use Rattle.std.proofs.lemmas.Result.{err_from_is_err_and}
 use Rattle.rv32_asm.specs.Course.{Gives}
 use Rattle.rv32_asm.specs.Passes.{Progress, with_names}
-use Rattle.rv32_asm.specs.Seen as seen
-use Rattle.rv32_asm.specs.declared.fault.LineError.TheVariants.{Fault}
+use Rattle.rv32_asm_syntax.specs.Seen as seen
+use Rattle.rv32_asm_syntax.specs.declared.fault.LineError.TheVariants.{Fault}
 use Rattle.rv32_asm.proofs.FirstSteps.{labels_are, line_reaches, labels_refused, statement_refused, place_refused}
 use Rattle.rv32_asm.proofs.passes.after_line.Goals as goal
 

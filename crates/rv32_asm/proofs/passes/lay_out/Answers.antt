@@ -1,5 +1,5 @@
 use Rattle.std.proofs.Common.{◌≡◌, ◌+◌, ◌<◌, Err, length, ap, arith, rules}
-use Rattle.rv32_asm.specs.Lines.{lines_of}
+use Rattle.rv32_asm_syntax.specs.Lines.{lines_of}
 use Rattle.rv32_asm.specs.Passes.{first_pass, start}
 use Rattle.rv32_asm.proofs.FirstSteps.{at, pass_on, pass_reaches, pass_stop}
 use Rattle.rv32_asm.proofs.SecondSteps.{told}

@@ -1,5 +1,5 @@
 use Rattle.std.proofs.Common.{◌+◌, ◌≤◌, length}
-use Rattle.rv32_asm.specs.Lines.{lines_of}
+use Rattle.rv32_asm_syntax.specs.Lines.{lines_of}
 use Rattle.rv32_asm.specs.Passes.{first_pass, start}
 use Rattle.rv32_asm.proofs.FirstSteps.{Agree, at}
 use Rattle.rv32_asm.proofs.passes.lay_out.Given as goal

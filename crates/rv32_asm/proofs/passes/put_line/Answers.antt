@@ -1,8 +1,8 @@
 use Rattle.std.proofs.Common.{◌≡◌, ◌∙◌, Err, length, ap}
 use Rattle.std.proofs.lemmas.Result.{err_from_is_err_and, on_ok_weaker}
-use Rattle.rv32_asm.specs.Seen as seen
+use Rattle.rv32_asm_syntax.specs.Seen as seen
 use Rattle.rv32_asm.specs.Emission.{with_more}
-use Rattle.rv32_asm.specs.declared.fault.LineError.TheVariants.{Fault}
+use Rattle.rv32_asm_syntax.specs.declared.fault.LineError.TheVariants.{Fault}
 use Rattle.rv32_asm.proofs.Courses.{bytes_fault, bytes_are, placed, grown}
 use Rattle.rv32_asm.proofs.passes.put_line.Goals as goal
 

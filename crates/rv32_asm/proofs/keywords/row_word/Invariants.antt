@@ -1,7 +1,0 @@
-use Rattle.std.proofs.Common.{◌≡◌, drop, map}
-use Rattle.rv32_asm.specs.Tables.{named, row_entry}
-use Rattle.rv32_asm.specs.Keywords.{row_words}
-use Rattle.rv32_asm.proofs.keywords.row_word.Given as goal
-
-abbrev pub invariant-loop-op : goal.invariant-loop-op
-invariant-loop-op l = named (map row_entry (drop l.op-index l.op-items)) l.word ≡ named row_words l.word

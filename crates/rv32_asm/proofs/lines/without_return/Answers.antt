@@ -1,6 +1,0 @@
-use Rattle.std.proofs.Common.{arith}
-use Rattle.rv32_asm.proofs.Cuts.{none_off}
-use Rattle.rv32_asm.proofs.lines.without_return.Goals as goal
-
-pub returns : goal.returns
-returns c = none_off c.args.line.now 0 (grind arith) (grind arith)

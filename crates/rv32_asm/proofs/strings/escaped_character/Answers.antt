@@ -1,8 +1,0 @@
-use Rattle.std.proofs.Common.{rules}
-use Rattle.std.proofs.lemmas.List.{take_rest}
-use Rattle.rv32_asm.proofs.Quotes.{escaped}
-use Rattle.rv32_asm.proofs.strings.escaped_character.Goals as goal
-
-pub returns-in-Some-clause-character : goal.returns-in-Some-clause-character
-returns-in-Some-clause-character c =
-    rw take_rest (escaped c.args.text.now 0 c.in-Some.meaning (search rules) (search rules))

@@ -1,7 +1,0 @@
-use Rattle.std.proofs.Common.{rules}
-use Rattle.std.proofs.lemmas.List.{take_rest}
-use Rattle.rv32_asm.proofs.Quotes.{plain}
-use Rattle.rv32_asm.proofs.strings.first_character.Goals as goal
-
-pub returns-clause-character : goal.returns-clause-character
-returns-clause-character c = λ other. rw take_rest (plain c.args.text.now 0 (search rules) (search rules) (search rules))

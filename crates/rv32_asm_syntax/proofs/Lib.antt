@@ -1,0 +1,11 @@
+pub mod Commas
+pub mod Comments
+pub mod Cuts
+pub mod Digits
+pub mod FirstLabel
+pub mod Fronts
+pub mod Numbered
+pub mod Quotes
+pub mod Splits
+pub mod Tables
+pub mod Words

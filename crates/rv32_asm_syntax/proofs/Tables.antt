@@ -1,0 +1,28 @@
+-- Words are searched in tables.
+use Rattle.std.proofs.Common.{◌≡◌, ℕ, ◌++◌, Bool, true, false, List, [], ◌∷◌, refl}
+use Rattle.std.specs.Prelude.{Some, None, map}
+use Rattle.std.specs.Str.{bytes_eq}
+use Rattle.rv32_decode.specs.Table.{rows}
+use Rattle.rv32_decode.specs.declared.Op.{Op}
+use Rattle.rv32_asm_syntax.specs.Keywords.{Keyword, row_words}
+use Rattle.rv32_asm_syntax.specs.Tables.{named, row_entry}
+
+at_first : (c : Bool) (word : List ℕ) (entry : List ℕ × Keyword) (rest more : List (List ℕ × Keyword)) (keyword : Keyword) → bytes_eq entry.0 word ≡ c → named (entry ∷ rest) word ≡ Some keyword → (named rest word ≡ Some keyword → named (rest ++ more) word ≡ Some keyword) → named (entry ∷ (rest ++ more)) word ≡ Some keyword
+at_first true word entry rest more keyword e h next = let f = rw e at h in rw e f
+at_first false word entry rest more keyword e h next = let f = rw e at h in rw e (next f)
+
+pub found_first : (a b : List (List ℕ × Keyword)) (word : List ℕ) (keyword : Keyword) → named a word ≡ Some keyword → named (a ++ b) word ≡ Some keyword
+found_first [] b word keyword h = cc
+found_first (x ∷ xs) b word keyword h = at_first (bytes_eq x.0 word) word x xs b keyword refl h (found_first xs b word keyword)
+
+at_later : (c : Bool) (word : List ℕ) (entry : List ℕ × Keyword) (rest more : List (List ℕ × Keyword)) → bytes_eq entry.0 word ≡ c → named (entry ∷ rest) word ≡ None → (named rest word ≡ None → named (rest ++ more) word ≡ named more word) → named (entry ∷ (rest ++ more)) word ≡ named more word
+at_later true word entry rest more e h next = let f = rw e at h in cc
+at_later false word entry rest more e h next = let f = rw e at h in rw e (next f)
+
+pub found_later : (a b : List (List ℕ × Keyword)) (word : List ℕ) → named a word ≡ None → named (a ++ b) word ≡ named b word
+found_later [] b word h = refl
+found_later (x ∷ xs) b word h = at_later (bytes_eq x.0 word) word x xs b refl h (found_later xs b word)
+
+pub rows_named : (ops : List Op) → ops ≡ map (λ row. row.op) rows → map row_entry ops ≡ row_words
+unfolding row_words rows
+rows_named ops e = rw e refl

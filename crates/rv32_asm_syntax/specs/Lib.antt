@@ -1,0 +1,12 @@
+pub mod Faults
+pub mod Characters
+pub mod Lines
+pub mod Registers
+pub mod Numbers
+pub mod Expressions
+pub mod Statements
+pub mod Keywords
+pub mod Reading
+pub mod Parts
+pub mod Seen
+pub mod Tables

@@ -1,0 +1,135 @@
+//! An assembly text cut into lines, and a line without its comment.
+
+ghost use Rattle.rv32_asm_syntax.specs.Lines as spec;
+ghost use Rattle.rv32_asm_syntax.specs.Parts as parts;
+ghost use Rattle.rv32_asm_syntax.specs.Parts.{IsFirstLabel, lines_left};
+ghost use Rattle.rv32_asm_syntax.specs.declared.lines.Standing.TheVariants.{Outside};
+ghost use Rattle.std.specs.Prelude.{IfSome, length, ◌∷◌, ◌<◌, ◌≡◌};
+
+use crate::characters::{is_name, len_before, skip_blanks, trimmed};
+
+/// Where a byte of a line stands: outside the strings, in one, or behind a backslash in one.
+#[derive(Clone, Copy)]
+pub enum Standing {
+    Outside,
+    Inside,
+    Escaped,
+}
+
+impl Standing {
+    // Where the byte after this one stands.
+    fn after(self, byte: u8) -> Self
+        ensures { result ≡ spec.standing_after self byte }
+    {
+        match self {
+            Standing::Outside => {
+                if byte == b'"' {
+                    Standing::Inside
+                } else {
+                    Standing::Outside
+                }
+            }
+            Standing::Inside => match byte {
+                b'"' => Standing::Outside,
+                b'\\' => Standing::Escaped,
+                _ => Standing::Inside,
+            },
+            Standing::Escaped => Standing::Inside,
+        }
+    }
+
+    fn is_outside(self) -> bool
+        ensures { result ≡ spec.is_outside self }
+    {
+        matches!(self, Standing::Outside)
+    }
+}
+
+/// The line up to its comment.
+#[tactic(auto, using(crate::proofs::Comments::goes_on, crate::proofs::Comments::stops, crate::proofs::Comments::ends), unfolding(crate::specs::Lines::without_comment))]
+pub fn without_comment(line: &[u8]) -> &[u8]
+    ensures { result.now ≡ spec.without_comment line.now }
+{
+    let mut standing = Standing::Outside;
+    let mut end = 0;
+    while end < line.len() {
+        let byte = line[end];
+        if standing.is_outside() && byte == b'#' {
+            break;
+        }
+        standing = standing.after(byte);
+        end += 1;
+    }
+    &line[..end]
+}
+
+/// Whether a byte above 7f stands outside the strings.
+pub fn has_foreign(line: &[u8]) -> bool
+    ensures { result ≡ spec.has_foreign Outside line.now }
+{
+    let mut standing = Standing::Outside;
+    for byte in line {
+        if standing.is_outside() && *byte > 0x7f {
+            return true;
+        }
+        standing = standing.after(*byte);
+    }
+    false
+}
+
+// The line without the carriage return that it may end with.
+#[tactic(auto, using(crate::proofs::Cuts::return_off, crate::proofs::Cuts::none_off, crate::proofs::Cuts::nothing_off))]
+fn without_return(line: &[u8]) -> &[u8]
+    ensures { result.now ≡ parts.without_return line.now }
+{
+    if line.is_empty() {
+        return line;
+    }
+    let front = line.len() - 1;
+    if line[front] == b'\r' {
+        return &line[..front];
+    }
+    line
+}
+
+/// The first line of a text, and what is left of it behind the line feed that ends the line.
+#[tactic(auto, using(crate::proofs::Cuts::first_cut, crate::proofs::Cuts::last_line))]
+pub fn first_line(text: &[u8]) -> (&[u8], Option<&[u8]>)
+    ensures lines { spec.lines_of text.now ≡ result.0.now ∷ lines_left result.1 }
+    ensures shorter { IfSome result.1 (λ rest. length rest.now < length text.now) }
+{
+    let len = len_before(b'\n', text);
+    if len < text.len() {
+        (without_return(&text[..len]), Some(&text[len + 1..]))
+    } else {
+        (text, None)
+    }
+}
+
+/// The first label of a line without its comment, and what stands behind the label's colon.
+pub fn first_label(text: &[u8]) -> Option<(&[u8], &[u8])>
+    ensures labels { IsFirstLabel text.now result }
+{
+    let len = len_before(b':', text);
+    if len == text.len() {
+        return None;
+    }
+    let name = skip_blanks(&text[..len]);
+    if is_name(name) {
+        Some((name, &text[len + 1..]))
+    } else {
+        None
+    }
+}
+
+/// The text of a line's statement: what stands behind its labels, without its comment and the blanks at its ends.
+#[tactic(auto, unfolding(crate::specs::Lines::statement_text))]
+pub fn statement_text(line: &[u8]) -> &[u8]
+    ensures { result.now ≡ spec.statement_text line.now }
+{
+    let mut left = without_comment(line);
+    while let Some((_, rest)) = first_label(left) {
+        left = rest;
+    }
+    trimmed(left)
+}

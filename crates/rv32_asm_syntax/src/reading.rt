@@ -1,0 +1,231 @@
+//! The statement of a line: its word, and the operands behind it.
+
+ghost use Rattle.rv32_asm_syntax.specs.Keywords.{AlignWord, AsciiWord, AscizWord, InstructionWord, SpaceWord};
+ghost use Rattle.rv32_asm_syntax.specs.Reading as spec;
+ghost use Rattle.rv32_asm_syntax.specs.Seen as seen;
+ghost use Rattle.rv32_asm_syntax.specs.Seen.{statement};
+ghost use Rattle.rv32_asm_syntax.specs.Statements.{Nothing};
+ghost use Rattle.rv32_asm_syntax.specs.declared.fault.AsmFault.{AsmFault};
+ghost use Rattle.rv32_asm_syntax.specs.declared.fault.LineError.TheVariants.{Fault};
+ghost use Rattle.std.specs.Prelude.{IfOk, Ok, Err, Some, None, neg_ℤ, option_map, pos, if◌then◌else◌, ◌<◌, ◌^◌, ◌≡◌, ◌≤ℤ◌};
+
+#[cfg(test)]
+mod tests;
+
+use crate::characters::{is_name, skip_blanks, word_len};
+use crate::expressions::expression_of;
+use crate::fault::{AsmFault, LineError};
+use crate::keywords::{Keyword, Operand, keyword_of};
+use crate::lines::{has_foreign, statement_text, without_comment};
+use crate::numbers::number_of;
+use crate::operands::{expressions_of, operands_of, two_operands, with_operands};
+use crate::registers::register_of;
+use crate::statements::{Expression, Immediate, Instruction, Statement};
+use crate::strings::string_of;
+use rv32_decode::Op;
+use sec_base::{NoMemory, Width};
+use std::alloc::Global;
+
+// An instruction alone, with the fields that its operands give.
+#[tactic(auto, unfolding(crate::specs::Reading::statement_with))]
+fn one_instruction<'a>(
+    alloc: Global,
+    operands: &[Operand],
+    instruction: Instruction<'a>,
+    text: &'a [u8],
+) -> Result<Option<Statement<'a>>, NoMemory>
+    ensures { IfOk result (λ s. option_map statement s
+        ≡ spec.statement_with (InstructionWord operands.now (seen.instruction instruction.entry)) text.now) }
+{
+    match with_operands(operands, operands_of(text), instruction) {
+        Some(given) => Ok(Some(Statement::Instructions(vec![in alloc; given]?))),
+        None => Ok(None),
+    }
+}
+
+// The value put into a register by its upper and its lower part.
+fn pair<'a>(alloc: Global, rd: u8, value: Expression<'a>) -> Result<Vec<Instruction<'a>>, NoMemory>
+    requires { rd < 32 }
+    ensures { IfOk result (λ is. seen.instructions is.items ≡ spec.pair rd (seen.expression value.entry)) }
+{
+    let upper = Instruction {
+        op: Op::Lui,
+        rd,
+        rs1: 0,
+        rs2: 0,
+        immediate: Immediate::Upper(value),
+    };
+    let lower = Instruction {
+        op: Op::Addi,
+        rd,
+        rs1: rd,
+        rs2: 0,
+        immediate: Immediate::Lower(value),
+    };
+    Ok(vec![in alloc; upper, lower]?)
+}
+
+// A number put into a register, by one instruction where ADDI can.
+fn loaded(alloc: Global, rd: u8, number: i64) -> Result<Vec<Instruction<'static>>, NoMemory>
+    requires register { rd < 32 }
+    requires least { neg_ℤ (pos (2 ^ 32)) ≤ℤ number }
+    requires most { number ≤ℤ pos (2 ^ 32) }
+    ensures { IfOk result (λ is. seen.instructions is.items ≡ spec.loaded rd number) }
+{
+    if (-2048..=2047).contains(&number) {
+        return Ok(vec![in alloc; Instruction::with_number(Op::Addi, rd, 0, 0, number)]?);
+    }
+    pair(alloc, rd, Expression::number_alone(number))
+}
+
+// A register and a number.
+#[tactic(auto, using(crate::proofs::Commas::li_other))]
+fn li_of<'a>(alloc: Global, text: &'a [u8]) -> Result<Option<Statement<'a>>, NoMemory>
+    ensures { IfOk result (λ s. option_map statement s ≡ spec.li_of (spec.operands_of text.now)) }
+{
+    let Some((register, number)) = two_operands(text) else {
+        return Ok(None);
+    };
+    match (register_of(register), number_of(number)) {
+        (Some(rd), Some(number)) => Ok(Some(Statement::Instructions(loaded(alloc, rd, number)?))),
+        _ => Ok(None),
+    }
+}
+
+// A register and an expression.
+#[tactic(auto, using(crate::proofs::Commas::la_other))]
+fn la_of<'a>(alloc: Global, text: &'a [u8]) -> Result<Option<Statement<'a>>, NoMemory>
+    ensures { IfOk result (λ s. option_map statement s ≡ spec.la_of (spec.operands_of text.now)) }
+{
+    let Some((register, value)) = two_operands(text) else {
+        return Ok(None);
+    };
+    match (register_of(register), expression_of(value)) {
+        (Some(rd), Some(value)) => Ok(Some(Statement::Instructions(pair(alloc, rd, value)?))),
+        _ => Ok(None),
+    }
+}
+
+// One or more values.
+#[tactic(auto, using(crate::proofs::Commas::no_data, crate::proofs::Commas::some_data))]
+fn data_of<'a>(
+    alloc: Global,
+    width: Width,
+    text: &'a [u8],
+) -> Result<Option<Statement<'a>>, NoMemory>
+    ensures { IfOk result (λ s. option_map statement s ≡ spec.data_of width (spec.operands_of text.now)) }
+{
+    if text.is_empty() {
+        return Ok(None);
+    }
+    match expressions_of(alloc, operands_of(text))? {
+        Some(values) => Ok(Some(Statement::Data(width, values))),
+        None => Ok(None),
+    }
+}
+
+// A string.
+#[tactic(auto, unfolding(crate::specs::Reading::statement_with))]
+fn ascii_of<'a>(alloc: Global, text: &'a [u8]) -> Result<Option<Statement<'a>>, NoMemory>
+    ensures { IfOk result (λ s. option_map statement s ≡ spec.statement_with AsciiWord text.now) }
+{
+    match string_of(alloc, text)? {
+        Some(bytes) => Ok(Some(Statement::Bytes(bytes))),
+        None => Ok(None),
+    }
+}
+
+// A string and a zero byte.
+#[tactic(auto, unfolding(crate::specs::Reading::statement_with))]
+fn asciz_of<'a>(alloc: Global, text: &'a [u8]) -> Result<Option<Statement<'a>>, NoMemory>
+    ensures { IfOk result (λ s. option_map statement s ≡ spec.statement_with AscizWord text.now) }
+{
+    let Some(mut bytes) = string_of(alloc, text)? else {
+        return Ok(None);
+    };
+    bytes.push(0)?;
+    Ok(Some(Statement::Bytes(bytes)))
+}
+
+#[tactic(auto, unfolding(crate::specs::Reading::statement_with))]
+fn zeros_of<'a>(text: &[u8]) -> Option<Statement<'a>>
+    ensures { option_map statement result ≡ spec.statement_with SpaceWord text.now }
+{
+    Some(Statement::Zeros(number_of(text)?))
+}
+
+#[tactic(auto, unfolding(crate::specs::Reading::statement_with))]
+fn aligned_of<'a>(text: &[u8]) -> Option<Statement<'a>>
+    ensures { option_map statement result ≡ spec.statement_with AlignWord text.now }
+{
+    Some(Statement::Aligned(number_of(text)?))
+}
+
+// No bytes, where the text behind the word has its form.
+fn nothing_where<'a>(formed: bool) -> Option<Statement<'a>>
+    ensures { option_map statement result ≡ (if formed then Some Nothing else None) }
+{
+    if formed {
+        Some(Statement::Nothing)
+    } else {
+        None
+    }
+}
+
+// The statement of a word with the text behind it, where that has its form.
+#[tactic(auto, using(crate::proofs::Commas::empty_test), unfolding(crate::specs::Reading::statement_with))]
+fn statement_with<'a>(
+    alloc: Global,
+    keyword: Keyword,
+    text: &'a [u8],
+) -> Result<Option<Statement<'a>>, NoMemory>
+    ensures { IfOk result (λ s. option_map statement s ≡ spec.statement_with (seen.keyword keyword) text.now) }
+{
+    match keyword {
+        Keyword::Instruction(operands, instruction) => one_instruction(
+            alloc,
+            operands,
+            instruction,
+            text,
+        ),
+        Keyword::LoadImmediate => li_of(alloc, text),
+        Keyword::LoadAddress => la_of(alloc, text),
+        Keyword::Data(width) => data_of(alloc, width, text),
+        Keyword::Ascii => ascii_of(alloc, text),
+        Keyword::Asciz => asciz_of(alloc, text),
+        Keyword::Space => Ok(zeros_of(text)),
+        Keyword::Align => Ok(aligned_of(text)),
+        Keyword::Text => Ok(nothing_where(text.is_empty())),
+        Keyword::Globl => Ok(nothing_where(is_name(text))),
+    }
+}
+
+// The statement that a text is, which begins with its word.
+fn statement_in<'a>(alloc: Global, text: &'a [u8]) -> Result<Statement<'a>, LineError>
+    ensures read { IfOk result (λ s. spec.statement_in text.now ≡ Ok (statement s)) }
+    ensures refused { (fault : AsmFault) → result ≡ Err (Fault fault) → spec.statement_in text.now ≡ Err fault }
+{
+    if text.is_empty() {
+        return Ok(Statement::Nothing);
+    }
+    let len = word_len(text);
+    let Some(keyword) = keyword_of(&text[..len]) else {
+        return Err(LineError::Fault(AsmFault::Unknown));
+    };
+    match statement_with(alloc, keyword, skip_blanks(&text[len..]))? {
+        Some(read) => Ok(read),
+        None => Err(LineError::Fault(AsmFault::Operand)),
+    }
+}
+
+/// The statement of a line, which may have labels before it and a comment behind it. `NoMemory` may come at any line.
+#[tactic(auto, unfolding(crate::specs::Reading::statement_of))]
+pub fn statement_of<'a>(alloc: Global, line: &'a [u8]) -> Result<Statement<'a>, LineError>
+    ensures read { IfOk result (λ s. spec.statement_of line.now ≡ Ok (statement s)) }
+    ensures refused { (fault : AsmFault) → result ≡ Err (Fault fault) → spec.statement_of line.now ≡ Err fault }
+{
+    if has_foreign(without_comment(line)) {
+        return Err(LineError::Fault(AsmFault::Unknown));
+    }
+    statement_in(alloc, statement_text(line))
+}

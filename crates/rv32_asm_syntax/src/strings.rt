@@ -1,0 +1,89 @@
+//! Strings in quotation marks.
+
+ghost use Rattle.rv32_asm_syntax.specs.Reading as spec;
+ghost use Rattle.rv32_asm_syntax.specs.Parts.{string_from};
+ghost use Rattle.std.specs.Prelude.{IfOk, IfSome, [], length, option_map, ◌∷◌, ◌<◌, ◌≡◌, ◌≢◌};
+
+use sec_base::NoMemory;
+use std::alloc::Global;
+
+/// The byte that a character behind a backslash means.
+pub fn escape_of(byte: u8) -> Option<u8>
+    ensures { result ≡ spec.escape_of byte }
+{
+    match byte {
+        b'n' => Some(b'\n'),
+        b't' => Some(b'\t'),
+        b'0' => Some(0),
+        b'\\' => Some(b'\\'),
+        b'"' => Some(b'"'),
+        _ => None,
+    }
+}
+
+// The byte that a character of a string means, and what stands behind the character.
+#[derive(Clone, Copy)]
+struct Character<'a> {
+    meaning: u8,
+    rest: &'a [u8],
+}
+
+// The byte that a character behind a backslash means, and what stands behind the character.
+#[tactic(auto, using(std::proofs::lemmas::List::take_rest, crate::proofs::Quotes::escaped, crate::proofs::Quotes::none_escaped, crate::proofs::Quotes::unknown))]
+fn escaped_character(text: &[u8]) -> Option<Character<'_>>
+    ensures character { spec.string_after (92 ∷ text.now) ≡ string_from result }
+    ensures shorter { IfSome result (λ c. length c.rest.now < length text.now) }
+{
+    if text.is_empty() {
+        return None;
+    }
+    match escape_of(text[0]) {
+        Some(meaning) => Some(Character {
+            meaning,
+            rest: &text[1..],
+        }),
+        None => None,
+    }
+}
+
+// The byte that the first character of a string means, and what stands behind the character.
+#[tactic(auto, using(std::proofs::lemmas::List::take_rest, crate::proofs::Quotes::plain, crate::proofs::Quotes::behind, crate::proofs::Quotes::quoted, crate::proofs::Quotes::nothing))]
+fn first_character(text: &[u8]) -> Option<Character<'_>>
+    ensures character { text.now ≢ 34 ∷ [] → spec.string_after text.now ≡ string_from result }
+    ensures shorter { IfSome result (λ c. length c.rest.now < length text.now) }
+{
+    if text.is_empty() {
+        return None;
+    }
+    let byte = text[0];
+    if byte == b'"' {
+        return None;
+    }
+    if byte == b'\\' {
+        return escaped_character(&text[1..]);
+    }
+    Some(Character {
+        meaning: byte,
+        rest: &text[1..],
+    })
+}
+
+/// The bytes of a string in quotation marks, or `None` where a text is none.
+#[tactic(auto, using(crate::proofs::Quotes::no_string), unfolding(crate::specs::Reading::string_of))]
+pub fn string_of(alloc: Global, text: &[u8]) -> Result<Option<Vec<u8>>, NoMemory>
+    ensures { IfOk result (λ string. option_map (λ bytes. bytes.items) string ≡ spec.string_of text.now) }
+{
+    if text.is_empty() || text[0] != b'"' {
+        return Ok(None);
+    }
+    let mut left = &text[1..];
+    let mut bytes = Vec::new(alloc);
+    while left != b"\"".as_slice() {
+        let Some(character) = first_character(left) else {
+            return Ok(None);
+        };
+        bytes.push(character.meaning)?;
+        left = character.rest;
+    }
+    Ok(Some(bytes))
+}
