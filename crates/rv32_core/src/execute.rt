@@ -1,9 +1,9 @@
 // What each row of the instruction table does.
-ghost use Rattle.std.specs.Prelude.{◌≡◌, ◌≤◌, ℕ, List, None, Err, OnErr, OnOk};
+ghost use Rattle.std.specs.Prelude.{◌≡◌, ◌<◌, ◌≤◌, ℕ, List, None, Err, OnErr, OnOk};
 ghost use Rattle.sec_base.specs.Count.{Rose};
 ghost use Rattle.sec_base.specs.Writing.{Gains};
 ghost use Rattle.rv32_decode.specs.Table.{IsInst};
-ghost use Rattle.rv32_core.specs.State.{word};
+ghost use Rattle.rv32_core.specs.State.{register, word};
 ghost use Rattle.rv32_core.specs.Effect.{effect};
 ghost use Rattle.rv32_core.specs.Touch.{data_touches, HasLinesOfAll};
 ghost use Rattle.rv32_core.specs.declared.hart.StepStop.TheVariants.{WriteFault};
@@ -21,6 +21,24 @@ use rv32_decode::{Inst, Op};
 use sec_base::{Cause, Ram, Sink, Width};
 
 impl Core {
+    // The first register that an instruction reads.
+    #[inline(always)]
+    fn rs1(&self, inst: &Inst) -> u32
+        requires { inst.now.rs1 < 32 }
+        ensures { result ≡ register self.now inst.now.rs1 }
+    {
+        self.reg(inst.rs1)
+    }
+
+    // The second register that an instruction reads.
+    #[inline(always)]
+    fn rs2(&self, inst: &Inst) -> u32
+        requires { inst.now.rs2 < 32 }
+        ensures { result ≡ register self.now inst.now.rs2 }
+    {
+        self.reg(inst.rs2)
+    }
+
     // Does a decoded instruction.
     #[inline(always)]
     pub(crate) fn execute<M: Ram, S: Sink>(
@@ -53,20 +71,20 @@ impl Core {
             × (M.stopped ram.old ≡ None → M.sound ram.new → OnOk result (HasLinesOfAll lines
             (data_touches inst.now.op inst.now (record { hart = self.old; calls = calls.old; memory = M.contents ram.old })))) }
     {
-        let a = self.reg(inst.rs1);
-        let b = self.reg(inst.rs2);
-        let i = immediate(inst);
         match inst.op {
-            Op::Lui => self.retire(inst.rd, i),
-            Op::Auipc => self.retire(inst.rd, self.pc().wrapping_add(i)),
-            Op::Jal => self.jump(self.pc().wrapping_add(i), inst),
-            Op::Jalr => self.jump(without_bit_0(a.wrapping_add(i)), inst),
-            Op::Beq => self.branch(a == b, inst),
-            Op::Bne => self.branch(a != b, inst),
-            Op::Blt => self.branch(is_less_signed(a, b), inst),
-            Op::Bge => self.branch(!is_less_signed(a, b), inst),
-            Op::Bltu => self.branch(a < b, inst),
-            Op::Bgeu => self.branch(a >= b, inst),
+            Op::Lui => self.retire(inst.rd, immediate(inst)),
+            Op::Auipc => self.retire(inst.rd, self.pc().wrapping_add(immediate(inst))),
+            Op::Jal => self.jump(self.pc().wrapping_add(immediate(inst)), inst),
+            Op::Jalr => self.jump(
+                without_bit_0(self.rs1(inst).wrapping_add(immediate(inst))),
+                inst,
+            ),
+            Op::Beq => self.branch(self.rs1(inst) == self.rs2(inst), inst),
+            Op::Bne => self.branch(self.rs1(inst) != self.rs2(inst), inst),
+            Op::Blt => self.branch(is_less_signed(self.rs1(inst), self.rs2(inst)), inst),
+            Op::Bge => self.branch(!is_less_signed(self.rs1(inst), self.rs2(inst)), inst),
+            Op::Bltu => self.branch(self.rs1(inst) < self.rs2(inst), inst),
+            Op::Bgeu => self.branch(self.rs1(inst) >= self.rs2(inst), inst),
             Op::Lb => self.load(inst, Width::One, Extension::Sign, ram),
             Op::Lh => self.load(inst, Width::Two, Extension::Sign, ram),
             Op::Lw => self.load(inst, Width::Four, Extension::Zero, ram),
@@ -75,33 +93,36 @@ impl Core {
             Op::Sb => self.store(inst, Width::One, ram),
             Op::Sh => self.store(inst, Width::Two, ram),
             Op::Sw => self.store(inst, Width::Four, ram),
-            Op::Addi => self.retire(inst.rd, a.wrapping_add(i)),
-            Op::Slti => self.retire(inst.rd, less_signed(a, i)),
-            Op::Sltiu => self.retire(inst.rd, less(a, i)),
-            Op::Xori => self.retire(inst.rd, a ^ i),
-            Op::Ori => self.retire(inst.rd, a | i),
-            Op::Andi => self.retire(inst.rd, a & i),
-            Op::Slli => self.retire(inst.rd, a.wrapping_shl(i)),
-            Op::Srli => self.retire(inst.rd, a.wrapping_shr(i)),
-            Op::Srai => self.retire(inst.rd, shift_right_signed(a, i)),
-            Op::Add => self.retire(inst.rd, a.wrapping_add(b)),
-            Op::Sub => self.retire(inst.rd, a.wrapping_sub(b)),
-            Op::Sll => self.retire(inst.rd, a.wrapping_shl(b)),
-            Op::Slt => self.retire(inst.rd, less_signed(a, b)),
-            Op::Sltu => self.retire(inst.rd, less(a, b)),
-            Op::Xor => self.retire(inst.rd, a ^ b),
-            Op::Srl => self.retire(inst.rd, a.wrapping_shr(b)),
-            Op::Sra => self.retire(inst.rd, shift_right_signed(a, b)),
-            Op::Or => self.retire(inst.rd, a | b),
-            Op::And => self.retire(inst.rd, a & b),
-            Op::Mul => self.retire(inst.rd, a.wrapping_mul(b)),
-            Op::Mulh => self.retire(inst.rd, high_product(a, b)),
-            Op::Mulhsu => self.retire(inst.rd, high_product_mixed(a, b)),
-            Op::Mulhu => self.retire(inst.rd, high_product_unsigned(a, b)),
-            Op::Div => self.retire(inst.rd, quotient(a, b)),
-            Op::Divu => self.retire(inst.rd, quotient_unsigned(a, b)),
-            Op::Rem => self.retire(inst.rd, remainder(a, b)),
-            Op::Remu => self.retire(inst.rd, remainder_unsigned(a, b)),
+            Op::Addi => self.retire(inst.rd, self.rs1(inst).wrapping_add(immediate(inst))),
+            Op::Slti => self.retire(inst.rd, less_signed(self.rs1(inst), immediate(inst))),
+            Op::Sltiu => self.retire(inst.rd, less(self.rs1(inst), immediate(inst))),
+            Op::Xori => self.retire(inst.rd, self.rs1(inst) ^ immediate(inst)),
+            Op::Ori => self.retire(inst.rd, self.rs1(inst) | immediate(inst)),
+            Op::Andi => self.retire(inst.rd, self.rs1(inst) & immediate(inst)),
+            Op::Slli => self.retire(inst.rd, self.rs1(inst).wrapping_shl(immediate(inst))),
+            Op::Srli => self.retire(inst.rd, self.rs1(inst).wrapping_shr(immediate(inst))),
+            Op::Srai => self.retire(inst.rd, shift_right_signed(self.rs1(inst), immediate(inst))),
+            Op::Add => self.retire(inst.rd, self.rs1(inst).wrapping_add(self.rs2(inst))),
+            Op::Sub => self.retire(inst.rd, self.rs1(inst).wrapping_sub(self.rs2(inst))),
+            Op::Sll => self.retire(inst.rd, self.rs1(inst).wrapping_shl(self.rs2(inst))),
+            Op::Slt => self.retire(inst.rd, less_signed(self.rs1(inst), self.rs2(inst))),
+            Op::Sltu => self.retire(inst.rd, less(self.rs1(inst), self.rs2(inst))),
+            Op::Xor => self.retire(inst.rd, self.rs1(inst) ^ self.rs2(inst)),
+            Op::Srl => self.retire(inst.rd, self.rs1(inst).wrapping_shr(self.rs2(inst))),
+            Op::Sra => self.retire(inst.rd, shift_right_signed(self.rs1(inst), self.rs2(inst))),
+            Op::Or => self.retire(inst.rd, self.rs1(inst) | self.rs2(inst)),
+            Op::And => self.retire(inst.rd, self.rs1(inst) & self.rs2(inst)),
+            Op::Mul => self.retire(inst.rd, self.rs1(inst).wrapping_mul(self.rs2(inst))),
+            Op::Mulh => self.retire(inst.rd, high_product(self.rs1(inst), self.rs2(inst))),
+            Op::Mulhsu => self.retire(inst.rd, high_product_mixed(self.rs1(inst), self.rs2(inst))),
+            Op::Mulhu => self.retire(
+                inst.rd,
+                high_product_unsigned(self.rs1(inst), self.rs2(inst)),
+            ),
+            Op::Div => self.retire(inst.rd, quotient(self.rs1(inst), self.rs2(inst))),
+            Op::Divu => self.retire(inst.rd, quotient_unsigned(self.rs1(inst), self.rs2(inst))),
+            Op::Rem => self.retire(inst.rd, remainder(self.rs1(inst), self.rs2(inst))),
+            Op::Remu => self.retire(inst.rd, remainder_unsigned(self.rs1(inst), self.rs2(inst))),
             Op::Fence => self.pass(),
             Op::FenceI => self.pass(),
             Op::Ecall => self.serve(ram, calls, out),
@@ -111,7 +132,7 @@ impl Core {
 }
 
 // The immediate as a word.
-#[inline]
+#[inline(always)]
 fn immediate(inst: &Inst) -> u32
     ensures { result ≡ word inst.now.imm }
 {

@@ -3,6 +3,7 @@ use Rattle.std.proofs.Common.{◌≡◌, ◌≢◌, ℕ, ◌+◌, ◌<◌, ◌^�
 use Rattle.rv32_decode.proofs.Masks.{is_pattern, mask_is, tests_fields}
 use Rattle.rv32_decode.proofs.Rows.{found_fits, found_matches, name_of_row, no_row, row_fits, row_for_row_of, row_missing, row_of_word}
 use Rattle.rv32_decode.proofs.Words.{placed_below, placed_fixed, read_fits, read_placed, read_registers, word_read}
+use Rattle.rv32_decode.specs.Fixed.{read_as}
 use Rattle.rv32_decode.specs.Table.{IsInst, Row, instruction_of, is_word_of, placed, read, row_for, row_of, rows, word_of}
 use Rattle.rv32_decode.specs.declared.Inst.{Inst}
 use Rattle.rv32_decode.specs.declared.Op.{Op}
@@ -20,7 +21,7 @@ found_instruction w (Some r) i e = let same : i ≡ read r.format r.op w = cc in
 read_of_name : (w : ℕ) (op : Op) (r : Row) → r.op ≡ op → row_for op ≡ r → read (row_for op).format op w ≡ read r.format r.op w
 read_of_name w op r name same = rw (same, name) refl
 
-pub instruction_at : (w : ℕ) (op : Op) → Some op ≡ option_map (λ r. r.op) (row_of w) → Some (read (row_for op).format op w) ≡ instruction_of w
+instruction_at : (w : ℕ) (op : Op) → Some op ≡ option_map (λ r. r.op) (row_of w) → Some (read (row_for op).format op w) ≡ instruction_of w
 unfolding instruction_of
 instruction_at w op e =
     let (r, found, name) = found_by_name (row_of w) op e in
@@ -31,9 +32,14 @@ none_of : (w : ℕ) (o : Option Row) → None ≡ option_map (λ r. r.op) o → 
 none_of w None e = refl
 none_of w (Some r) e = cc
 
-pub no_instruction : (w : ℕ) → None ≡ option_map (λ r. r.op) (row_of w) → None ≡ instruction_of w
+no_instruction : (w : ℕ) → None ≡ option_map (λ r. r.op) (row_of w) → None ≡ instruction_of w
 unfolding instruction_of
 no_instruction w e = none_of w (row_of w) e
+
+-- the instruction, from the name of the row that its word matches
+pub instruction_named : (w : ℕ) (o : Option Op) → o ≡ option_map (λ r. r.op) (row_of w) → option_map (λ op. read_as op w) o ≡ instruction_of w
+instruction_named w None e = no_instruction w e
+instruction_named w (Some op) e = instruction_at w op e
 
 pub instruction_fields : (w : ℕ) (i : Inst) → instruction_of w ≡ Some i → IsInst i
 unfolding instruction_of

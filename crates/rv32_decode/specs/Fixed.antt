@@ -1,5 +1,6 @@
 -- The table searched by the fields that a row fixes in its words: opcode, funct3 and funct7, or the whole word.
-use Rattle.rv32_decode.specs.Table.{Row, field, rows}
+use Rattle.rv32_decode.specs.Table.{Row, field, read, row_for, rows}
+use Rattle.rv32_decode.specs.declared.Inst.{Inst}
 use Rattle.rv32_decode.specs.declared.Op.{Op}
 use Rattle.rv32_decode.specs.declared.table.Format.{Format}
 use Rattle.rv32_decode.specs.declared.table.Format.TheVariants.{R, I, S, B, U, J, H, N}
@@ -21,3 +22,7 @@ row_at opcode funct3 funct7 word = find (λ r. are_fixed opcode funct3 funct7 wo
 
 unfoldable pub op_at : ℕ → ℕ → ℕ → ℕ → Option Op
 op_at opcode funct3 funct7 word = option_map (λ r. r.op) (row_at opcode funct3 funct7 word)
+
+-- the fields of a word, in the format of the row of a name
+abbrev pub read_as : Op → ℕ → Inst
+read_as op word = read (row_for op).format op word

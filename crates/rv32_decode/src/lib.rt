@@ -71,14 +71,15 @@ pub enum Op {
 pub struct Inst {
     /// The row.
     pub op: Op,
+    // Here it keeps the fields apart: eight bytes in a row would be moved as one number, and each step would be slower.
+    /// The immediate, sign-extended.
+    pub imm: i32,
     /// The number of the register that is written, below 32.
     pub rd: u8,
     /// The number of the first register that is read, below 32.
     pub rs1: u8,
     /// The number of the second register that is read, below 32.
     pub rs2: u8,
-    /// The immediate, sign-extended.
-    pub imm: i32,
 }
 
 /// The instruction of a word, or None where no row of the table matches it
@@ -93,10 +94,7 @@ pub fn decode(word: u32) -> Option<Inst>
     ensures none { IsNone result ↔ All (λ row. bit_and word row.mask ≢ row.pattern) rows }
     ensures one_row { length (filter (is_word_of word) rows) ≤ 1 }
 {
-    match table::row_of(word) {
-        Some(row) => Some(fields::read(row.format, row.op, word)),
-        None => None,
-    }
+    table::inst_of(word)
 }
 
 /// The word of an instruction whose fields are in the ranges of its format.

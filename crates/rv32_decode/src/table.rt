@@ -1,13 +1,11 @@
 //! The rows of the instruction table: which word is of which row.
 
-ghost use Rattle.rv32_decode.specs.Fixed.{op_at};
-ghost use Rattle.rv32_decode.specs.Table.{row_for, rows};
-ghost use Rattle.rv32_decode.specs.Table as spec;
-ghost use Rattle.rv32_decode.specs.declared.table.Format.TheVariants.{R, I, S, B, H, N};
-ghost use Rattle.std.specs.Prelude.{map, option_map, IfSome, ◌≡◌, ◌≢◌, ◌⊎◌};
+ghost use Rattle.rv32_decode.specs.Fixed.{op_at, read_as};
+ghost use Rattle.rv32_decode.specs.Table.{instruction_of, row_for, rows};
+ghost use Rattle.std.specs.Prelude.{map, option_map, Some, ◌≡◌, ◌≢◌, ◌⊎◌};
 
-use crate::Op;
-use crate::fields::bits;
+use crate::fields::{bits, read};
+use crate::{Inst, Op};
 
 /// The layouts of a word's fields (RISC-V unprivileged manual, section 2.2); H has a shift where I has its immediate, and
 /// N has no fields.
@@ -83,239 +81,213 @@ pub fn ops() -> &'static [Op]
     &OPS
 }
 
-// A row: the layout of its words, and its name.
-#[derive(Clone, Copy, Debug, PartialEq, Eq)]
-pub struct Row {
-    pub format: Format,
-    pub op: Op,
-}
-
-// The row that a word matches.
+// The instruction of a word, or None where no row matches it.
 #[inline(always)]
-pub fn row_of(word: u32) -> Option<Row>
-    ensures op { option_map (λ r. r.op) result ≡ option_map (λ r. r.op) (spec.row_of word) }
-    ensures format { IfSome result (λ r. r.format ≡ (row_for r.op).format) }
+pub fn inst_of(word: u32) -> Option<Inst>
+    ensures { result ≡ instruction_of word }
 {
-    row_with(word % 128, bits(word, 12, 3), bits(word, 25, 7), word)
+    inst_with(word % 128, bits(word, 12, 3), bits(word, 25, 7), word)
 }
 
 #[inline(always)]
 #[tactic(auto, unfolding(crate::specs::Table::rows, crate::specs::Table::row_for, crate::specs::Table::number_of, crate::specs::Fixed::row_at, crate::specs::Fixed::op_at))]
-fn row_with(opcode: u32, funct3: u32, funct7: u32, word: u32) -> Option<Row>
-    ensures op { option_map (λ r. r.op) result ≡ op_at opcode funct3 funct7 word }
-    ensures format { IfSome result (λ r. r.format ≡ (row_for r.op).format) }
+fn inst_with(opcode: u32, funct3: u32, funct7: u32, word: u32) -> Option<Inst>
+    ensures { result ≡ option_map (λ op. read_as op word) (op_at opcode funct3 funct7 word) }
 {
     match opcode {
-        0x37 => in_format(Format::U, Some(Op::Lui)),
-        0x17 => in_format(Format::U, Some(Op::Auipc)),
-        0x6f => in_format(Format::J, Some(Op::Jal)),
-        0x67 => in_format(Format::I, jump(funct3)),
-        0x63 => in_format(Format::B, branch(funct3)),
-        0x03 => in_format(Format::I, load(funct3)),
-        0x23 => in_format(Format::S, store(funct3)),
+        0x37 => row(Op::Lui, word),
+        0x17 => row(Op::Auipc, word),
+        0x6f => row(Op::Jal, word),
+        0x67 => jump(funct3, word),
+        0x63 => branch(funct3, word),
+        0x03 => load(funct3, word),
+        0x23 => store(funct3, word),
         0x13 => match funct3 {
-            1 | 5 => in_format(Format::H, shift(funct3, funct7)),
-            _ => in_format(Format::I, immediate(funct3, funct7)),
+            1 | 5 => shift(funct3, funct7, word),
+            _ => immediate(funct3, funct7, word),
         },
-        0x33 => in_format(Format::R, register(funct3, funct7)),
-        0x0f => in_format(Format::I, fence(funct3)),
-        0x73 => in_format(Format::N, system(word)),
+        0x33 => register(funct3, funct7, word),
+        0x0f => fence(funct3, word),
+        0x73 => system(word),
         _ => None,
     }
 }
 
-// The row of this name, whose words have this format.
+// The instruction of a word of the row of this name.
 #[inline(always)]
-fn in_format(format: Format, op: Option<Op>) -> Option<Row>
-    requires { IfSome op (λ op. (row_for op).format ≡ format) }
-    ensures op { option_map (λ r. r.op) result ≡ op }
-    ensures format { IfSome result (λ r. r.format ≡ (row_for r.op).format) }
+fn row(op: Op, word: u32) -> Option<Inst>
+    ensures { result ≡ Some (read_as op word) }
 {
-    match op {
-        Some(op) => Some(Row { format, op }),
-        None => None,
-    }
+    Some(read(format_of(op), op, word))
 }
 
 #[inline(always)]
 #[tactic(auto, unfolding(crate::specs::Table::rows, crate::specs::Table::row_for, crate::specs::Table::number_of, crate::specs::Fixed::row_at, crate::specs::Fixed::op_at))]
-fn jump(funct3: u32) -> Option<Op>
-    ensures op { result ≡ op_at 0x67 funct3 0 0 }
-    ensures format { IfSome result (λ op. (row_for op).format ≡ I) }
+fn jump(funct3: u32, word: u32) -> Option<Inst>
+    ensures { result ≡ option_map (λ op. read_as op word) (op_at 0x67 funct3 0 0) }
 {
     match funct3 {
-        0 => Some(Op::Jalr),
+        0 => row(Op::Jalr, word),
         _ => None,
     }
 }
 
 #[inline(always)]
 #[tactic(auto, unfolding(crate::specs::Table::rows, crate::specs::Table::row_for, crate::specs::Table::number_of, crate::specs::Fixed::row_at, crate::specs::Fixed::op_at))]
-fn branch(funct3: u32) -> Option<Op>
-    ensures op { result ≡ op_at 0x63 funct3 0 0 }
-    ensures format { IfSome result (λ op. (row_for op).format ≡ B) }
+fn branch(funct3: u32, word: u32) -> Option<Inst>
+    ensures { result ≡ option_map (λ op. read_as op word) (op_at 0x63 funct3 0 0) }
 {
     match funct3 {
-        0 => Some(Op::Beq),
-        1 => Some(Op::Bne),
-        4 => Some(Op::Blt),
-        5 => Some(Op::Bge),
-        6 => Some(Op::Bltu),
-        7 => Some(Op::Bgeu),
+        0 => row(Op::Beq, word),
+        1 => row(Op::Bne, word),
+        4 => row(Op::Blt, word),
+        5 => row(Op::Bge, word),
+        6 => row(Op::Bltu, word),
+        7 => row(Op::Bgeu, word),
         _ => None,
     }
 }
 
 #[inline(always)]
 #[tactic(auto, unfolding(crate::specs::Table::rows, crate::specs::Table::row_for, crate::specs::Table::number_of, crate::specs::Fixed::row_at, crate::specs::Fixed::op_at))]
-fn load(funct3: u32) -> Option<Op>
-    ensures op { result ≡ op_at 0x03 funct3 0 0 }
-    ensures format { IfSome result (λ op. (row_for op).format ≡ I) }
+fn load(funct3: u32, word: u32) -> Option<Inst>
+    ensures { result ≡ option_map (λ op. read_as op word) (op_at 0x03 funct3 0 0) }
 {
     match funct3 {
-        0 => Some(Op::Lb),
-        1 => Some(Op::Lh),
-        2 => Some(Op::Lw),
-        4 => Some(Op::Lbu),
-        5 => Some(Op::Lhu),
+        0 => row(Op::Lb, word),
+        1 => row(Op::Lh, word),
+        2 => row(Op::Lw, word),
+        4 => row(Op::Lbu, word),
+        5 => row(Op::Lhu, word),
         _ => None,
     }
 }
 
 #[inline(always)]
 #[tactic(auto, unfolding(crate::specs::Table::rows, crate::specs::Table::row_for, crate::specs::Table::number_of, crate::specs::Fixed::row_at, crate::specs::Fixed::op_at))]
-fn store(funct3: u32) -> Option<Op>
-    ensures op { result ≡ op_at 0x23 funct3 0 0 }
-    ensures format { IfSome result (λ op. (row_for op).format ≡ S) }
+fn store(funct3: u32, word: u32) -> Option<Inst>
+    ensures { result ≡ option_map (λ op. read_as op word) (op_at 0x23 funct3 0 0) }
 {
     match funct3 {
-        0 => Some(Op::Sb),
-        1 => Some(Op::Sh),
-        2 => Some(Op::Sw),
+        0 => row(Op::Sb, word),
+        1 => row(Op::Sh, word),
+        2 => row(Op::Sw, word),
         _ => None,
     }
 }
 
 #[inline(always)]
 #[tactic(auto, unfolding(crate::specs::Table::rows, crate::specs::Table::row_for, crate::specs::Table::number_of, crate::specs::Fixed::row_at, crate::specs::Fixed::op_at))]
-fn immediate(funct3: u32, funct7: u32) -> Option<Op>
+fn immediate(funct3: u32, funct7: u32, word: u32) -> Option<Inst>
     requires { (funct3 ≢ 1) × (funct3 ≢ 5) }
-    ensures op { result ≡ op_at 0x13 funct3 funct7 0 }
-    ensures format { IfSome result (λ op. (row_for op).format ≡ I) }
+    ensures { result ≡ option_map (λ op. read_as op word) (op_at 0x13 funct3 funct7 0) }
 {
     match funct3 {
-        0 => Some(Op::Addi),
-        2 => Some(Op::Slti),
-        3 => Some(Op::Sltiu),
-        4 => Some(Op::Xori),
-        6 => Some(Op::Ori),
-        7 => Some(Op::Andi),
+        0 => row(Op::Addi, word),
+        2 => row(Op::Slti, word),
+        3 => row(Op::Sltiu, word),
+        4 => row(Op::Xori, word),
+        6 => row(Op::Ori, word),
+        7 => row(Op::Andi, word),
         _ => None,
     }
 }
 
 #[inline(always)]
 #[tactic(auto, unfolding(crate::specs::Table::rows, crate::specs::Table::row_for, crate::specs::Table::number_of, crate::specs::Fixed::row_at, crate::specs::Fixed::op_at))]
-fn shift(funct3: u32, funct7: u32) -> Option<Op>
+fn shift(funct3: u32, funct7: u32, word: u32) -> Option<Inst>
     requires { (funct3 ≡ 1) ⊎ (funct3 ≡ 5) }
-    ensures op { result ≡ op_at 0x13 funct3 funct7 0 }
-    ensures format { IfSome result (λ op. (row_for op).format ≡ H) }
+    ensures { result ≡ option_map (λ op. read_as op word) (op_at 0x13 funct3 funct7 0) }
 {
     match (funct3, funct7) {
-        (1, 0x00) => Some(Op::Slli),
-        (5, 0x00) => Some(Op::Srli),
-        (5, 0x20) => Some(Op::Srai),
+        (1, 0x00) => row(Op::Slli, word),
+        (5, 0x00) => row(Op::Srli, word),
+        (5, 0x20) => row(Op::Srai, word),
         _ => None,
     }
 }
 
 #[inline(always)]
 #[tactic(auto, unfolding(crate::specs::Table::rows, crate::specs::Table::row_for, crate::specs::Table::number_of, crate::specs::Fixed::row_at, crate::specs::Fixed::op_at))]
-fn register(funct3: u32, funct7: u32) -> Option<Op>
-    ensures op { result ≡ op_at 0x33 funct3 funct7 0 }
-    ensures format { IfSome result (λ op. (row_for op).format ≡ R) }
+fn register(funct3: u32, funct7: u32, word: u32) -> Option<Inst>
+    ensures { result ≡ option_map (λ op. read_as op word) (op_at 0x33 funct3 funct7 0) }
 {
     match funct7 {
-        0x00 => plain(funct3),
-        0x20 => inverse(funct3),
-        0x01 => multiply(funct3),
+        0x00 => plain(funct3, word),
+        0x20 => inverse(funct3, word),
+        0x01 => multiply(funct3, word),
         _ => None,
     }
 }
 
 #[inline(always)]
 #[tactic(auto, unfolding(crate::specs::Table::rows, crate::specs::Table::row_for, crate::specs::Table::number_of, crate::specs::Fixed::row_at, crate::specs::Fixed::op_at))]
-fn plain(funct3: u32) -> Option<Op>
-    ensures op { result ≡ op_at 0x33 funct3 0x00 0 }
-    ensures format { IfSome result (λ op. (row_for op).format ≡ R) }
+fn plain(funct3: u32, word: u32) -> Option<Inst>
+    ensures { result ≡ option_map (λ op. read_as op word) (op_at 0x33 funct3 0x00 0) }
 {
     match funct3 {
-        0 => Some(Op::Add),
-        1 => Some(Op::Sll),
-        2 => Some(Op::Slt),
-        3 => Some(Op::Sltu),
-        4 => Some(Op::Xor),
-        5 => Some(Op::Srl),
-        6 => Some(Op::Or),
-        7 => Some(Op::And),
+        0 => row(Op::Add, word),
+        1 => row(Op::Sll, word),
+        2 => row(Op::Slt, word),
+        3 => row(Op::Sltu, word),
+        4 => row(Op::Xor, word),
+        5 => row(Op::Srl, word),
+        6 => row(Op::Or, word),
+        7 => row(Op::And, word),
         _ => None,
     }
 }
 
 #[inline(always)]
 #[tactic(auto, unfolding(crate::specs::Table::rows, crate::specs::Table::row_for, crate::specs::Table::number_of, crate::specs::Fixed::row_at, crate::specs::Fixed::op_at))]
-fn inverse(funct3: u32) -> Option<Op>
-    ensures op { result ≡ op_at 0x33 funct3 0x20 0 }
-    ensures format { IfSome result (λ op. (row_for op).format ≡ R) }
+fn inverse(funct3: u32, word: u32) -> Option<Inst>
+    ensures { result ≡ option_map (λ op. read_as op word) (op_at 0x33 funct3 0x20 0) }
 {
     match funct3 {
-        0 => Some(Op::Sub),
-        5 => Some(Op::Sra),
+        0 => row(Op::Sub, word),
+        5 => row(Op::Sra, word),
         _ => None,
     }
 }
 
 #[inline(always)]
 #[tactic(auto, unfolding(crate::specs::Table::rows, crate::specs::Table::row_for, crate::specs::Table::number_of, crate::specs::Fixed::row_at, crate::specs::Fixed::op_at))]
-fn multiply(funct3: u32) -> Option<Op>
-    ensures op { result ≡ op_at 0x33 funct3 0x01 0 }
-    ensures format { IfSome result (λ op. (row_for op).format ≡ R) }
+fn multiply(funct3: u32, word: u32) -> Option<Inst>
+    ensures { result ≡ option_map (λ op. read_as op word) (op_at 0x33 funct3 0x01 0) }
 {
     match funct3 {
-        0 => Some(Op::Mul),
-        1 => Some(Op::Mulh),
-        2 => Some(Op::Mulhsu),
-        3 => Some(Op::Mulhu),
-        4 => Some(Op::Div),
-        5 => Some(Op::Divu),
-        6 => Some(Op::Rem),
-        7 => Some(Op::Remu),
+        0 => row(Op::Mul, word),
+        1 => row(Op::Mulh, word),
+        2 => row(Op::Mulhsu, word),
+        3 => row(Op::Mulhu, word),
+        4 => row(Op::Div, word),
+        5 => row(Op::Divu, word),
+        6 => row(Op::Rem, word),
+        7 => row(Op::Remu, word),
         _ => None,
     }
 }
 
 #[inline(always)]
 #[tactic(auto, unfolding(crate::specs::Table::rows, crate::specs::Table::row_for, crate::specs::Table::number_of, crate::specs::Fixed::row_at, crate::specs::Fixed::op_at))]
-fn fence(funct3: u32) -> Option<Op>
-    ensures op { result ≡ op_at 0x0f funct3 0 0 }
-    ensures format { IfSome result (λ op. (row_for op).format ≡ I) }
+fn fence(funct3: u32, word: u32) -> Option<Inst>
+    ensures { result ≡ option_map (λ op. read_as op word) (op_at 0x0f funct3 0 0) }
 {
     match funct3 {
-        0 => Some(Op::Fence),
-        1 => Some(Op::FenceI),
+        0 => row(Op::Fence, word),
+        1 => row(Op::FenceI, word),
         _ => None,
     }
 }
 
 #[inline(always)]
 #[tactic(auto, unfolding(crate::specs::Table::rows, crate::specs::Table::row_for, crate::specs::Table::number_of, crate::specs::Fixed::row_at, crate::specs::Fixed::op_at))]
-fn system(word: u32) -> Option<Op>
-    ensures op { result ≡ op_at 0x73 0 0 word }
-    ensures format { IfSome result (λ op. (row_for op).format ≡ N) }
+fn system(word: u32) -> Option<Inst>
+    ensures { result ≡ option_map (λ op. read_as op word) (op_at 0x73 0 0 word) }
 {
     match word {
-        0x0000_0073 => Some(Op::Ecall),
-        0x0010_0073 => Some(Op::Ebreak),
+        0x0000_0073 => row(Op::Ecall, word),
+        0x0010_0073 => row(Op::Ebreak, word),
         _ => None,
     }
 }
@@ -380,6 +352,7 @@ pub fn pattern_of(op: Op) -> u32
 
 /// The format of a row.
 #[tactic(auto, unfolding(crate::specs::Table::rows, crate::specs::Table::row_for, crate::specs::Table::number_of))]
+#[inline(always)]
 pub fn format_of(op: Op) -> Format
     ensures { result ≡ (row_for op).format }
 {
