@@ -1,5 +1,5 @@
 -- Turns of a session.
-use Rattle.std.proofs.Common.{◌≡◌, ◌≢◌, ◌+◌, ◌<◌, ◌≤◌, ◌↔◌, ℕ, List, [], ◌++◌, Option, Some, None, Result, Ok, Err, length, refl, sym, ap, ◌∙◌, subst, arith, append_assoc}
+use Rattle.std.proofs.Common.{◌≡◌, ◌≢◌, ◌+◌, ◌<◌, ◌≤◌, ◌↔◌, ℕ, List, [], ◌++◌, Option, Some, None, Result, Ok, Err, length, refl, sym, ap, ◌∙◌, subst, arith, append_assoc, append-nil}
 use Rattle.sec_base.specs.declared.answers.Ending.{Ending}
 use Rattle.sec_base.specs.declared.answers.Cause.{Cause}
 use Rattle.sec_base.specs.declared.answers.Ending.TheVariants.{Halted, Trapped, OutOfSteps, Tampered, Spent, WriteFault, NoMemory}
@@ -30,24 +30,18 @@ pub stop_ends : (stop : MemStop) (ending : Ending) (state : State) (before print
 stop_ends stop ending state before printed n budget e =
     subst (λ (x : Ending). EndsAs x (going_on state before n) n budget printed) (sym e) (ends_by stop state before printed n budget)
 
--- A session, and the parts that it is made of
+-- A session as it begins, and the parts that it is made of
 
-pub parts_reach : {M : Type 0} (contents : M → List ℕ) (parts session : Running M) (start : Machine) (before : List ℕ) → parts ≡ session → Reaches start session.retired session.core session.calls (contents session.memory) before → Reaches start parts.retired parts.core parts.calls (contents parts.memory) before
-parts_reach {M} contents parts session start before same here =
-    subst (λ (r : Running M). Reaches start r.retired r.core r.calls (contents r.memory) before) (sym same) here
+pub begun_reaches : {M : Type 0} (contents : M → List ℕ) (parts session : Running M) (start : Machine) (before : List ℕ) → parts ≡ session → Reaches start session.retired session.core session.calls (contents session.memory) before → Reaches start parts.retired parts.core parts.calls (contents parts.memory) (before ++ [])
+begun_reaches {M} contents parts session start before same here =
+    subst (λ (r : Running M). Reaches start r.retired r.core r.calls (contents r.memory) (before ++ [])) (sym same)
+    (subst (λ (xs : List ℕ). Reaches start session.retired session.core session.calls (contents session.memory) xs) (sym (append-nil before)) here)
 
-pub parts_follow : {M : Type 0} (parts session : Running M) (start : Machine) (n : ℕ) (ending : Ending) (memory printed : List ℕ) → parts ≡ session → FollowsWith start parts.budget n ending memory printed → FollowsWith start session.budget n ending memory printed
-parts_follow {M} parts session start n ending memory printed same follows =
-    subst (λ (r : Running M). FollowsWith start r.budget n ending memory printed) same follows
+pub begun_going : {M : Type 0} (stopped : M → Option MemStop) (parts session : Running M) → parts ≡ session → stopped session.memory ≡ None → stopped parts.memory ≡ None
+begun_going {M} stopped parts session same going = subst (λ (r : Running M). stopped r.memory ≡ None) (sym same) going
 
-pub parts_going : {M : Type 0} (stopped : M → Option MemStop) (parts session : Running M) → parts ≡ session → stopped session.memory ≡ None → stopped parts.memory ≡ None
-parts_going {M} stopped parts session same going = subst (λ (r : Running M). stopped r.memory ≡ None) (sym same) going
-
-pub parts_within : {M : Type 0} (parts session : Running M) → parts ≡ session → session.retired ≤ session.budget → parts.retired ≤ parts.budget
-parts_within {M} parts session same within = subst (λ (r : Running M). r.retired ≤ r.budget) (sym same) within
-
-pub parts_used : {M : Type 0} (parts session : Running M) → parts ≡ session → parts.retired ≡ parts.budget → session.retired ≡ session.budget
-parts_used {M} parts session same used = subst (λ (r : Running M). r.retired ≡ r.budget) same used
+pub begun_within : {M : Type 0} (parts session : Running M) → parts ≡ session → session.retired ≤ session.budget → parts.retired ≤ parts.budget
+begun_within {M} parts session same within = subst (λ (r : Running M). r.retired ≤ r.budget) (sym same) within
 
 -- A turn that ends a run
 

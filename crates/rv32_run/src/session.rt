@@ -75,56 +75,6 @@ impl<'a, M: Ram> Session<'a, M> {
         memory
     }
 
-    /// Does one instruction, where the budget allows one more, and answers how the run ended, if it did.
-    #[inline(always)]
-    pub fn turn<S: Sink>(&mut self, out: &mut S) -> Option<Ending>
-        requires within { self.old.retired ≤ self.old.budget }
-        requires going { M.stopped self.old.memory ≡ None }
-
-        // Where the memory can be relied on, it goes on as the plain machine does.
-        ensures turns { (printed : List ℕ) × Gains (S.state out.old) printed (S.state out.new)
-            × (M.sound self.new.memory → (start : Machine) (before : List ℕ) →
-            Reaches start self.old.retired self.old.core self.old.calls (M.contents self.old.memory) before →
-            Turns start self.old.budget result self.new.retired self.new.core self.new.calls (M.contents self.new.memory) (before ++ printed)) }
-
-        ensures out_of_steps { (result ≡ Some OutOfSteps) ↔ (self.old.retired ≡ self.old.budget) }
-        ensures retired { self.new.retired ≡ retired_after result self.old.retired }
-        ensures budget { self.new.budget ≡ self.old.budget }
-
-        // Where the memory did not stop, only an instruction that prints is stopped.
-        ensures sink_stop { M.stopped self.new.memory ≡ None → M.sound self.new.memory → IfSome result (λ ending.
-            IsStop ending → 0 < length (prints_of (next
-            (record { hart = self.old.core; calls = self.old.calls; memory = M.contents self.old.memory })))) }
-
-        ensures mem { CarriesEnding (M.stopped self.new.memory) result }
-        ensures write_fault { result ≡ Some WriteFault → Rose (S.state out.old).faults (S.state out.new).faults }
-        ensures faults { (S.state out.old).faults ≤ (S.state out.new).faults }
-
-        ensures extent { M.extent self.new.memory ≡ M.extent self.old.memory }
-        ensures lost { M.sound self.new.memory → M.sound self.old.memory }
-        ensures moved { (lines : List ℕ) × M.moved self.old.memory lines self.new.memory }
-    {
-        if self.retired == self.budget {
-            return Some(Ending::OutOfSteps);
-        }
-        match self.core.step(&mut self.memory, &mut self.calls, out) {
-            Ok(Step::Retired) => {
-                self.retired += 1;
-                None
-            }
-            Ok(Step::Halted(code)) => {
-                self.retired += 1;
-                Some(Ending::Halted(code))
-            }
-            Err(StepStop::Trap(cause)) => Some(Ending::Trapped {
-                cause,
-                pc: self.core.pc(),
-            }),
-            Err(StepStop::Mem(stop)) => Some(ending_of(stop)),
-            Err(StepStop::WriteFault) => Some(Ending::WriteFault),
-        }
-    }
-
     /// Goes on to the end.
     pub fn finish<S: Sink>(&mut self, out: &mut S) -> Ending
         requires within { self.old.retired ≤ self.old.budget }
@@ -152,11 +102,78 @@ impl<'a, M: Ram> Session<'a, M> {
         ensures lost { M.sound self.new.memory → M.sound self.old.memory }
         ensures moved { (lines : List ℕ) × M.moved self.old.memory lines self.new.memory }
     {
+        let mut retired = self.retired;
         loop {
-            if let Some(ending) = self.turn(out) {
+            let turned = turn(
+                &mut self.core,
+                &mut self.calls,
+                &mut self.memory,
+                &mut retired,
+                self.budget,
+                out,
+            );
+            if let Some(ending) = turned {
+                self.retired = retired;
                 return ending;
             }
         }
+    }
+}
+
+// Does one instruction, where the budget allows one more, and answers how the run ended, if it did. The count of retired
+// instructions is apart from the session, since a run would else store it at each instruction.
+#[inline(always)]
+fn turn<M: Ram, S: Sink>(
+    core: &mut Core,
+    calls: &mut Calls,
+    memory: &mut M,
+    retired: &mut u64,
+    budget: u64,
+    out: &mut S,
+) -> Option<Ending>
+    requires within { retired.old ≤ budget }
+    requires going { M.stopped memory.old ≡ None }
+
+    // Where the memory can be relied on, it goes on as the plain machine does.
+    ensures turns { (printed : List ℕ) × Gains (S.state out.old) printed (S.state out.new)
+        × (M.sound memory.new → (start : Machine) (before : List ℕ) →
+        Reaches start retired.old core.old calls.old (M.contents memory.old) before →
+        Turns start budget result retired.new core.new calls.new (M.contents memory.new) (before ++ printed)) }
+
+    ensures out_of_steps { (result ≡ Some OutOfSteps) ↔ (retired.old ≡ budget) }
+    ensures retired { retired.new ≡ retired_after result retired.old }
+
+    // Where the memory did not stop, only an instruction that prints is stopped.
+    ensures sink_stop { M.stopped memory.new ≡ None → M.sound memory.new → IfSome result (λ ending.
+        IsStop ending → 0 < length (prints_of (next
+        (record { hart = core.old; calls = calls.old; memory = M.contents memory.old })))) }
+
+    ensures mem { CarriesEnding (M.stopped memory.new) result }
+    ensures write_fault { result ≡ Some WriteFault → Rose (S.state out.old).faults (S.state out.new).faults }
+    ensures faults { (S.state out.old).faults ≤ (S.state out.new).faults }
+
+    ensures extent { M.extent memory.new ≡ M.extent memory.old }
+    ensures lost { M.sound memory.new → M.sound memory.old }
+    ensures moved { (lines : List ℕ) × M.moved memory.old lines memory.new }
+{
+    if *retired == budget {
+        return Some(Ending::OutOfSteps);
+    }
+    match core.step(memory, calls, out) {
+        Ok(Step::Retired) => {
+            *retired += 1;
+            None
+        }
+        Ok(Step::Halted(code)) => {
+            *retired += 1;
+            Some(Ending::Halted(code))
+        }
+        Err(StepStop::Trap(cause)) => Some(Ending::Trapped {
+            cause,
+            pc: core.pc(),
+        }),
+        Err(StepStop::Mem(stop)) => Some(ending_of(stop)),
+        Err(StepStop::WriteFault) => Some(Ending::WriteFault),
     }
 }
 

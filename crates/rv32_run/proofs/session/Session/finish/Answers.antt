@@ -1,6 +1,19 @@
-use Rattle.std.proofs.Common.{◌++◌, ◌∙◌, arith}
-use Rattle.rv32_run.proofs.Turns.{carries_on, allowed, gains_on, reaches_on, follows_on, stop_prints}
+use Rattle.std.proofs.Common.{[], ◌++◌, sym, ap, ◌∙◌, arith}
+use Rattle.sec_base.proofs.Writes.{gained-nil}
+use Rattle.rv32_run.proofs.Turns.{begun_reaches, begun_within, begun_going, carries_on, allowed, gains_on, reaches_on, follows_on, stop_prints}
 use Rattle.rv32_run.proofs.session.Session.finish.Goals as goal
+
+pub loop-ending-init : goal.loop-ending-init
+loop-ending-init g c = record {
+  turns = ([], sym (gained-nil _), λ sound start before here. begun_reaches g.M.Ram.contents _ c.args.self.now start before c.self.view_is here);
+  within = begun_within _ c.args.self.now c.self.view_is c.requires.within;
+  budget = ap (λ session. session.budget) c.self.view_is;
+  going = begun_going g.M.Ram.stopped _ c.args.self.now c.self.view_is c.requires.going;
+  faults = omega arith;
+  extent = ap (λ session. g.M.Ram.extent session.memory) c.self.view_is;
+  lost = λ sound. rw (sym c.self.view_is) sound;
+  moved = ([], rw (sym c.self.view_is) (g.met.M.Ram.unmoved _));
+}
 
 pub loop-ending-preserved : goal.loop-ending-preserved
 loop-ending-preserved g c =
@@ -9,15 +22,15 @@ loop-ending-preserved g c =
     record {
       turns = (
         so_far.turns.0 ++ turn.turns.0,
-        gains_on (g.S.Sink.state c.args.out.now) (g.S.Sink.state c.loop-ending.out) (g.S.Sink.state c.turn.new.out) so_far.turns.0 turn.turns.0 so_far.turns.1 turn.turns.1,
+        gains_on (g.S.Sink.state c.args.out.now) (g.S.Sink.state c.loop-ending.out) (g.S.Sink.state c.turn-turned.new.out) so_far.turns.0 turn.turns.0 so_far.turns.1 turn.turns.1,
         λ sound start before here.
             reaches_on start _ _ _ _ before so_far.turns.0 turn.turns.0
             (turn.turns.2 sound start (before ++ so_far.turns.0) (so_far.turns.2 (turn.lost sound) start before here)),
       );
       within =
-          let below = allowed c.turn.result c.loop-ending.self.retired c.loop-ending.self.budget so_far.within c.turn.ensures.out_of_steps c.in_default.is in
-          omega (arith, below, turn.retired, turn.budget);
-      budget = turn.budget ∙ so_far.budget;
+          let below = allowed c.turn-turned.result c.loop-ending.retired c.loop-ending.self-inside.budget so_far.within c.turn-turned.ensures.out_of_steps c.in_default.is in
+          omega (arith, below, turn.retired);
+      budget = so_far.budget;
       going = carries_on _ turn.mem;
       faults = omega (arith, turn.faults);
       extent = turn.extent ∙ so_far.extent;
@@ -30,7 +43,7 @@ returns-in-Some-clause-follows g c =
     let so_far = c.loop-ending.invariant in
     let turn = c.in-Some.ensures in (
       so_far.turns.0 ++ turn.turns.0,
-      gains_on (g.S.Sink.state c.args.out.now) (g.S.Sink.state c.loop-ending.out) (g.S.Sink.state c.turn.new.out) so_far.turns.0 turn.turns.0 so_far.turns.1 turn.turns.1,
+      gains_on (g.S.Sink.state c.args.out.now) (g.S.Sink.state c.loop-ending.out) (g.S.Sink.state c.turn-turned.new.out) so_far.turns.0 turn.turns.0 so_far.turns.1 turn.turns.1,
       λ sound start before here.
           follows_on start _ _ _ _ _ before so_far.turns.0 turn.turns.0 so_far.budget
           (turn.turns.2 sound start (before ++ so_far.turns.0) (so_far.turns.2 (turn.lost sound) start before here)),
@@ -48,5 +61,5 @@ returns-in-Some-clause-sink_stop g c =
     let turn = c.in-Some.ensures in
     λ going sound start before here stops.
     let begun = so_far.turns.2 (turn.lost sound) start before here in
-    stop_prints start c.loop-ending.self.retired c.turn.new.self.retired c.in-Some.ending _ _ begun turn.retired stops
+    stop_prints start c.loop-ending.retired c.turn-turned.new.retired c.in-Some.ending _ _ begun turn.retired stops
     (turn.sink_stop going sound stops)

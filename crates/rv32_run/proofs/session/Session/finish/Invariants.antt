@@ -10,17 +10,17 @@ invariant-loop-ending g l =
     let sink = g.S.Sink in
     record {
       turns : (printed : List ℕ) × Gains (sink.state l.fn.out) printed (sink.state l.out)
-          × (ram.sound l.self.memory → (start : Machine) (before : List ℕ) →
+          × (ram.sound l.self-inside.memory → (start : Machine) (before : List ℕ) →
           Reaches start l.fn.self.retired l.fn.self.core l.fn.self.calls (ram.contents l.fn.self.memory) before →
-          Reaches start l.self.retired l.self.core l.self.calls (ram.contents l.self.memory) (before ++ printed));
-      within : l.self.retired ≤ l.self.budget;
-      budget : l.self.budget ≡ l.fn.self.budget;
-      going : ram.stopped l.self.memory ≡ None;
+          Reaches start l.retired l.self-inside.core l.self-inside.calls (ram.contents l.self-inside.memory) (before ++ printed));
+      within : l.retired ≤ l.self-inside.budget;
+      budget : l.self-inside.budget ≡ l.fn.self.budget;
+      going : ram.stopped l.self-inside.memory ≡ None;
       faults : (sink.state l.fn.out).faults ≤ (sink.state l.out).faults;
-      extent : ram.extent l.self.memory ≡ ram.extent l.fn.self.memory;
-      lost : ram.sound l.self.memory → ram.sound l.fn.self.memory;
-      moved : (lines : List ℕ) × ram.moved l.fn.self.memory lines l.self.memory;
+      extent : ram.extent l.self-inside.memory ≡ ram.extent l.fn.self.memory;
+      lost : ram.sound l.self-inside.memory → ram.sound l.fn.self.memory;
+      moved : (lines : List ℕ) × ram.moved l.fn.self.memory lines l.self-inside.memory;
     }
 
 abbrev pub decreases-loop-ending : goal.decreases-loop-ending
-decreases-loop-ending g l = l.self.budget - l.self.retired
+decreases-loop-ending g l = l.self-inside.budget - l.retired

@@ -1,0 +1,84 @@
+use Rattle.std.proofs.Common.{◌≡◌, [], Ok, Err, sym, ap, ◌∙◌, arith}
+use Rattle.rv32_core.specs.declared.hart.Step.TheVariants.{Retired, Halted}
+use Rattle.rv32_core.specs.declared.hart.StepStop.TheVariants.{Trap, Mem, WriteFault}
+use Rattle.rv32_core.specs.State.{Hart}
+use Rattle.rv32_core.proofs.Plain.{step_reaches}
+use Rattle.sec_base.proofs.Writes.{gained-nil}
+use Rattle.rv32_run.proofs.Turns.{turn_ends, turn_halts, turn_traps, turn_stops, turn_fails}
+use Rattle.rv32_run.proofs.session.turn.Goals as goal
+
+pub returns-then-retired-budget-clause-turns : goal.returns-then-retired-budget-clause-turns
+returns-then-retired-budget-clause-turns g c = (
+  [],
+  sym (gained-nil _),
+  λ sound start before here.
+      turn_ends start c.args.budget c.args.retired.now
+      (record { hart = c.args.core.now; calls = c.args.calls.now; memory = g.M.Ram.contents c.args.memory.now })
+      before here c.if-retired-budget.true,
+)
+
+pub returns-in-Ok-Retired-clause-turns : goal.returns-in-Ok-Retired-clause-turns
+returns-in-Ok-Retired-clause-turns g c =
+    let outcome = c.step.ensures.outcome in
+    let is : c.step.result ≡ Ok Retired = cc in (
+      outcome.0,
+      outcome.1,
+      λ sound start before here.
+          step_reaches start c.args.retired.now
+          (record { hart = c.args.core.now; calls = c.args.calls.now; memory = g.M.Ram.contents c.args.memory.now })
+          (record { hart = c.step.new.self; calls = c.step.new.calls; memory = g.M.Ram.contents c.step.new.ram })
+          before outcome.0 c.step.result here (outcome.2 c.requires.going sound) is,
+    )
+
+pub returns-in-Ok-Halted-clause-turns : goal.returns-in-Ok-Halted-clause-turns
+returns-in-Ok-Halted-clause-turns g c =
+    let outcome = c.step.ensures.outcome in
+    let is : c.step.result ≡ Ok (Halted c.in-Ok-Halted.code) = cc in (
+      outcome.0,
+      outcome.1,
+      λ sound start before here.
+          turn_halts start c.args.budget c.args.retired.now
+          (record { hart = c.args.core.now; calls = c.args.calls.now; memory = g.M.Ram.contents c.args.memory.now })
+          (record { hart = c.step.new.self; calls = c.step.new.calls; memory = g.M.Ram.contents c.step.new.ram })
+          before outcome.0 c.step.result c.in-Ok-Halted.code here (omega arith) (outcome.2 c.requires.going sound) is,
+    )
+
+pub returns-in-Err-Trap-clause-turns : goal.returns-in-Err-Trap-clause-turns
+returns-in-Err-Trap-clause-turns g c =
+    let outcome = c.step.ensures.outcome in
+    let is : c.step.result ≡ Err (Trap c.in-Err-Trap.cause) = cc in (
+      outcome.0,
+      outcome.1,
+      λ sound start before here.
+          turn_traps start c.args.budget c.args.retired.now
+          (record { hart = c.args.core.now; calls = c.args.calls.now; memory = g.M.Ram.contents c.args.memory.now })
+          (record { hart = c.step.new.self; calls = c.step.new.calls; memory = g.M.Ram.contents c.step.new.ram })
+          before outcome.0 c.step.result c.in-Err-Trap.cause c.pc.result here (omega arith) (outcome.2 c.requires.going sound) is
+          (c.pc.ensures ∙ ap (λ (hart : Hart). hart.pc) c.in-Err-Trap.ensures.stays.0),
+    )
+
+pub returns-in-Err-Mem-clause-turns : goal.returns-in-Err-Mem-clause-turns
+returns-in-Err-Mem-clause-turns g c =
+    let outcome = c.step.ensures.outcome in
+    let is : c.step.result ≡ Err (Mem c.in-Err-Mem.stop) = cc in (
+      outcome.0,
+      outcome.1,
+      λ sound start before here.
+          turn_stops start c.args.budget c.args.retired.now
+          (record { hart = c.args.core.now; calls = c.args.calls.now; memory = g.M.Ram.contents c.args.memory.now })
+          (record { hart = c.step.new.self; calls = c.step.new.calls; memory = g.M.Ram.contents c.step.new.ram })
+          before outcome.0 c.step.result c.in-Err-Mem.stop c.ending_of.result here c.requires.within (outcome.2 c.requires.going sound) is c.ending_of.ensures,
+    )
+
+pub returns-in-Err-WriteFault-clause-turns : goal.returns-in-Err-WriteFault-clause-turns
+returns-in-Err-WriteFault-clause-turns g c =
+    let outcome = c.step.ensures.outcome in
+    let is : c.step.result ≡ Err WriteFault = cc in (
+      outcome.0,
+      outcome.1,
+      λ sound start before here.
+          turn_fails start c.args.budget c.args.retired.now
+          (record { hart = c.args.core.now; calls = c.args.calls.now; memory = g.M.Ram.contents c.args.memory.now })
+          (record { hart = c.step.new.self; calls = c.step.new.calls; memory = g.M.Ram.contents c.step.new.ram })
+          before outcome.0 c.step.result here c.requires.within (outcome.2 c.requires.going sound) is,
+    )
