@@ -7,9 +7,9 @@ use Rattle.std.proofs.lemmas.List.{append-nil, append_assoc}
 use Rattle.rv32_text.specs.Text.{text_of_word}
 use Rattle.rv32_asm_syntax.specs.Lines.{lines_of}
 use Rattle.rv32_asm.specs.Assembly.{program_of}
-use Rattle.rv32_asm.specs.Labels.{Label, label_named}
+use Rattle.rv32_asm.specs.Labels.{Label}
 use Rattle.rv32_asm.specs.Law.{source, TextsAreProgram}
-use Rattle.rv32_asm.specs.Passes.{Progress, LineFault, after_line, first_pass, line_bytes, second_pass, in_line, ◌>>=◌}
+use Rattle.rv32_asm.specs.Passes.{Progress, after_line, first_pass, line_bytes, second_pass}
 use Rattle.rv32_asm.proofs.Law.{word_back}
 use Rattle.rv32_asm.proofs.FirstSteps.{pass_done}
 use Rattle.rv32_asm.proofs.SecondSteps.{last_bytes}
