@@ -114,7 +114,7 @@ fn inst_with(opcode: u32, funct3: u32, funct7: u32, word: u32) -> Option<Inst>
 }
 
 // The instruction of a word of the row of this name.
-#[inline(always)]
+#[inline]
 fn row(op: Op, word: u32) -> Option<Inst>
     ensures { result ≡ Some (read_as op word) }
 {
