@@ -76,7 +76,7 @@ pub fn run<B: Bus, T: Tagger, S: Sink>(
     ensures paired { result.0.evidence ≡ None →
         data_pairs result.0.made ≡ of_lines (line_count setup.now.geometry) result.0.used }
 
-    // Each line's place that isn't zeros holds what was enciphered and tagged for it. Nothing else leaves the chip.
+    // Each line's place that isn't zeros holds what was enciphered and tagged for it, and a node's place holds zeros.
     ensures sealed { HoldsSealed (engine_tag (T.data_tag_of tagger) (T.node_tag_of tagger) setup.now.geometry)
         (line_count setup.now.geometry) result.0.made result.0.used (B.told result.1).written }
     ensures nodes { NodesAreZeros setup.now.geometry (B.told result.1).written }

@@ -54,8 +54,9 @@ pub fn texts_are_words()
     ensures programs { (size : ℕ) → TextsAreProgram size }
 {}
 
-/// The two instructions that `li` and `la` stand for load the value, modulo 2^32: the upper part that LUI loads and the
-/// lower part that ADDI adds to it make the value's word. It does nothing: its contract is a theorem over all words.
+/// The upper part that LUI takes and the lower part that ADDI takes, where `li` and `la` stand for the two, make the
+/// word, modulo 2^32: 4096 times the one plus the other, which is signed. It does nothing: its contract is a theorem over
+/// all words.
 pub fn parts_make_words()
     ensures { (word : ℕ) → word < 2 ^ 32 → PartsMakeWord word }
 {}
