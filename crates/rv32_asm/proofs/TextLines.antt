@@ -4,7 +4,7 @@ use Rattle.std.proofs.lemmas.Bool.{and_parts, le-ltb, ltb-true, not-true}
 use Rattle.std.specs.List.{list_all, slice_split}
 use Rattle.rv32_asm_syntax.specs.Characters.{trimmed}
 use Rattle.rv32_asm_syntax.specs.declared.lines.Standing.TheVariants.{Outside}
-use Rattle.rv32_asm_syntax.specs.Lines.{before_comment, has_foreign, labels_of, lines_of, statement_text, without_comment}
+use Rattle.rv32_asm_syntax.specs.Lines.{before_comment, has_non_ascii, labels_of, lines_of, statement_text, without_comment}
 
 -- a byte that begins no comment, no string and no label, ends no line, and which is an ASCII character
 abbrev pub is_plain : ℕ → Bool
@@ -45,7 +45,7 @@ comment_plain (byte ∷ bytes) all =
     let plain = plain_parts byte parts.0 in
     rw (plain.hash, plain.quotation_mark, comment_plain bytes parts.1) refl
 
-foreign_plain : (line : List ℕ) → list_all is_plain line ≡ true → has_foreign Outside line ≡ false
+foreign_plain : (line : List ℕ) → list_all is_plain line ≡ true → has_non_ascii Outside line ≡ false
 foreign_plain [] all = refl
 foreign_plain (byte ∷ bytes) all =
     let parts = and_parts (is_plain byte) (list_all is_plain bytes) all in
@@ -63,7 +63,7 @@ pub plain_comment : (line : List ℕ) → list_all is_plain line ≡ true → wi
 unfolding without_comment
 plain_comment line all = comment_plain line all
 
-pub plain_foreign : (line : List ℕ) → list_all is_plain line ≡ true → has_foreign Outside (without_comment line) ≡ false
+pub plain_foreign : (line : List ℕ) → list_all is_plain line ≡ true → has_non_ascii Outside (without_comment line) ≡ false
 plain_foreign line all = rw (plain_comment line all) (foreign_plain line all)
 
 pub plain_labels : (line : List ℕ) → list_all is_plain line ≡ true → labels_of line ≡ []

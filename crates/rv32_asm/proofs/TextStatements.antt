@@ -8,7 +8,7 @@ use Rattle.rv32_text.specs.Text.{further, statement}
 use Rattle.rv32_asm_syntax.specs.declared.fault.AsmFault.TheVariants.{Operand, Unknown}
 use Rattle.rv32_asm_syntax.specs.Characters.{drop_end_blanks, is_blank, is_empty, is_in_words, skip_blanks, trimmed}
 use Rattle.rv32_asm_syntax.specs.declared.lines.Standing.TheVariants.{Outside}
-use Rattle.rv32_asm_syntax.specs.Lines.{has_foreign, statement_text, without_comment}
+use Rattle.rv32_asm_syntax.specs.Lines.{has_non_ascii, statement_text, without_comment}
 use Rattle.rv32_asm_syntax.specs.Keywords.{Keyword, keyword_of}
 use Rattle.rv32_asm_syntax.specs.Reading.{statement_from, statement_in, statement_of, statement_with}
 use Rattle.rv32_asm.proofs.TextKeywords.{begins_solid, is_word}
@@ -112,6 +112,6 @@ module _ (name first : List ℕ) (others : List (List ℕ)) (keyword : Keyword) 
   unfolding statement_of
   statement_read =
       let line = statement name (first ∷ others) in
-      outside_strings line (has_foreign Outside (without_comment line)) (statement_text line) (plain_foreign line line_plain)
+      outside_strings line (has_non_ascii Outside (without_comment line)) (statement_text line) (plain_foreign line line_plain)
       (plain_statement line line_plain ∙ line_trimmed)
       ∙ statement_in_line

@@ -39,7 +39,7 @@ fn is_even(number: i32) -> bool
 }
 
 // The distance to a target, where it is even and in a range.
-fn near(address: u32, target: i64, low: i32, high: i32) -> Option<i32>
+fn distance_between(address: u32, target: i64, low: i32, high: i32) -> Option<i32>
     requires least { neg_ℤ (pos (2 ^ 33)) ≤ℤ target }
     requires most { target ≤ℤ pos (2 ^ 33) }
     ensures { let far = spec.distance address target in
@@ -75,8 +75,8 @@ fn immediate_of(op: Op, address: u32, value: i64) -> Option<i32>
         Format::I | Format::S => number_between(-2048, 2047, value),
         Format::H => number_between(0, 31, value),
         Format::U => upper(value),
-        Format::B => near(address, value, -4096, 4094),
-        Format::J => near(address, value, -0x10_0000, 0xf_fffe),
+        Format::B => distance_between(address, value, -4096, 4094),
+        Format::J => distance_between(address, value, -0x10_0000, 0xf_fffe),
     }
 }
 

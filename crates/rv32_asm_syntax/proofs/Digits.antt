@@ -76,19 +76,19 @@ held_if false m more w = grind arith
 pub is_word : (base number more digit : ℕ) → with_digit base number digit ≡ Some more → more < 2 ^ 32
 is_word base number more digit w = held_if (is_digit digit base) (number * base + digit_value digit) more w
 
-pub upright : (o : Option ℕ) → option_and_then in_range (option_map pos o) ≡ option_map pos (option_and_then as_word o)
-upright None = refl
-upright (Some n) = grind arith
+pub unsigned_number : (o : Option ℕ) → option_and_then in_range (option_map pos o) ≡ option_map pos (option_and_then as_word o)
+unsigned_number None = refl
+unsigned_number (Some n) = grind arith
 
 pub negated : (n : ℕ) → n ≤ 2 ^ 31 → in_range (neg_ℤ (pos n)) ≡ Some (neg_ℤ (pos n))
 negated zero small = refl
 negated (suc n) small = grind arith
 
-pub upright_some : (o : Option ℕ) (number : ℕ) → Some number ≡ option_and_then as_word o → Some (pos number) ≡ option_and_then in_range (option_map pos o)
-upright_some o number e = rw (upright o, sym e) refl
+pub unsigned_some : (o : Option ℕ) (number : ℕ) → Some number ≡ option_and_then as_word o → Some (pos number) ≡ option_and_then in_range (option_map pos o)
+unsigned_some o number e = rw (unsigned_number o, sym e) refl
 
-pub upright_none : (o : Option ℕ) → None ≡ option_and_then as_word o → None ≡ option_and_then in_range (option_map pos o)
-upright_none o e = rw (upright o, sym e) refl
+pub unsigned_none : (o : Option ℕ) → None ≡ option_and_then as_word o → None ≡ option_and_then in_range (option_map pos o)
+unsigned_none o e = rw (unsigned_number o, sym e) refl
 
 pub below_range : (n : ℕ) → 2 ^ 31 < n → in_range (neg_ℤ (pos n)) ≡ None
 below_range zero large = elim large [ ]

@@ -36,10 +36,10 @@ unfoldable pub without_comment : List ℕ → List ℕ
 without_comment line = before_comment Outside line
 
 -- a byte above 7f stands outside the strings
-abbrev pub has_foreign : Standing → List ℕ → Bool
-has_foreign standing [] = false
-has_foreign standing (byte ∷ bytes) =
-    (is_outside standing && nat_lt 0x7f byte) || has_foreign (standing_after standing byte) bytes
+abbrev pub has_non_ascii : Standing → List ℕ → Bool
+has_non_ascii standing [] = false
+has_non_ascii standing (byte ∷ bytes) =
+    (is_outside standing && nat_lt 0x7f byte) || has_non_ascii (standing_after standing byte) bytes
 
 -- The parts of a line between its colons: each part that a colon ends is a label, as long as it is a name, where
 -- blanks may stand before it.

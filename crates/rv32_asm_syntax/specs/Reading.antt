@@ -7,7 +7,7 @@ use Rattle.rv32_asm_syntax.specs.declared.fault.AsmFault.{AsmFault}
 use Rattle.rv32_asm_syntax.specs.declared.fault.AsmFault.TheVariants as fault
 use Rattle.rv32_asm_syntax.specs.Characters.{tab, line_feed, digit_0, letter_n, letter_t, quotation_mark, left_parenthesis, right_parenthesis, comma, backslash, is_in_words, is_name, skip_blanks, is_empty, trimmed}
 use Rattle.rv32_asm_syntax.specs.declared.lines.Standing.TheVariants.{Outside}
-use Rattle.rv32_asm_syntax.specs.Lines.{has_foreign, statement_text, without_comment}
+use Rattle.rv32_asm_syntax.specs.Lines.{has_non_ascii, statement_text, without_comment}
 use Rattle.rv32_asm_syntax.specs.Registers.{register_of}
 use Rattle.rv32_asm_syntax.specs.Numbers.{number_of, is_between}
 use Rattle.rv32_asm_syntax.specs.Expressions.{Expression, expression_of, number_alone}
@@ -169,4 +169,4 @@ statement_in (byte ∷ bytes) = let text = byte ∷ bytes in
 -- begins no statement, and then operands of another number or form
 unfoldable pub statement_of : List ℕ → Result Statement AsmFault
 statement_of line =
-    if has_foreign Outside (without_comment line) then Err fault.Unknown else statement_in (statement_text line)
+    if has_non_ascii Outside (without_comment line) then Err fault.Unknown else statement_in (statement_text line)

@@ -64,8 +64,8 @@ pub fn without_comment(line: &[u8]) -> &[u8]
 }
 
 /// Whether a byte above 7f stands outside the strings.
-pub fn has_foreign(line: &[u8]) -> bool
-    ensures { result ≡ spec.has_foreign Outside line.now }
+pub fn has_non_ascii(line: &[u8]) -> bool
+    ensures { result ≡ spec.has_non_ascii Outside line.now }
 {
     let mut standing = Standing::Outside;
     for byte in line {

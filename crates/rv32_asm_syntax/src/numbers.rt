@@ -36,7 +36,7 @@ fn word_from(base: u32, digits: &[u8]) -> Option<u32>
 }
 
 // The number that one digit or more write, where it is in the range of numbers.
-fn upright(base: u32, digits: &[u8]) -> Option<i64>
+fn unsigned_number(base: u32, digits: &[u8]) -> Option<i64>
     requires low { 2 ≤ base }
     requires high { base ≤ 16 }
     ensures { result ≡ option_and_then in_range (option_map pos (spec.natural_of base digits.now)) }
@@ -72,10 +72,10 @@ pub fn number_of(text: &[u8]) -> Option<i64>
     ensures most { IfSome result (λ number. number ≤ℤ pos (2 ^ 32 - 1)) }
 {
     if text.starts_with(b"0x") {
-        upright(16, &text[2..])
+        unsigned_number(16, &text[2..])
     } else if text.starts_with(b"-") {
         negated(&text[1..])
     } else {
-        upright(10, text)
+        unsigned_number(10, text)
     }
 }

@@ -16,7 +16,7 @@ use crate::characters::{is_name, skip_blanks, word_len};
 use crate::expressions::expression_of;
 use crate::fault::{AsmFault, LineError};
 use crate::keywords::{Keyword, Operand, keyword_of};
-use crate::lines::{has_foreign, statement_text, without_comment};
+use crate::lines::{has_non_ascii, statement_text, without_comment};
 use crate::numbers::number_of;
 use crate::operands::{expressions_of, operands_of, two_operands, with_operands};
 use crate::registers::register_of;
@@ -224,7 +224,7 @@ pub fn statement_of<'a>(alloc: Global, line: &'a [u8]) -> Result<Statement<'a>, 
     ensures read { IfOk result (λ s. spec.statement_of line.now ≡ Ok (statement s)) }
     ensures refused { (fault : AsmFault) → result ≡ Err (Fault fault) → spec.statement_of line.now ≡ Err fault }
 {
-    if has_foreign(without_comment(line)) {
+    if has_non_ascii(without_comment(line)) {
         return Err(LineError::Fault(AsmFault::Unknown));
     }
     statement_in(alloc, statement_text(line))

@@ -2,7 +2,7 @@ use Rattle.std.proofs.Common.{SFits, ◌∙◌, rules, w32, w64, sym}
 use Rattle.std.proofs.lemmas.Int.{to_z-of_z}
 use Rattle.rv32_asm.specs.Encoding.{is_even}
 use Rattle.rv32_asm.proofs.Kept.{in_reach}
-use Rattle.rv32_asm.proofs.encoding.near.Goals as goal
+use Rattle.rv32_asm.proofs.encoding.distance_between.Goals as goal
 
 pub returns-then-is_even : goal.returns-then-is_even
 returns-then-is_even c =
