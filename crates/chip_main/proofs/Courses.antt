@@ -4,7 +4,7 @@ use Rattle.sec_base.specs.Layout.{memory_size}
 use Rattle.sec_base.specs.Reading.{FilesState}
 use Rattle.sec_base.specs.Writing.{SinkState, Silent}
 use Rattle.sec_base.specs.declared.program.Image.{Image}
-use Rattle.rv32_listing.specs.Listed.{IsListed as IsTold}
+use Rattle.sec_base.specs.Writing.{IsWritten as IsTold}
 use Rattle.chip_words.specs.Request.{Asked, ExecutionAsked, to_run}
 use Rattle.chip_main.specs.declared.program.ProgramForm.{ProgramForm}
 use Rattle.chip_main.specs.declared.refusal.Refusal.{Refusal}

@@ -6,8 +6,8 @@ use Rattle.sec_base.specs.declared.writing.SinkStop.{SinkStop}
 use Rattle.sec_base.specs.declared.writing.SinkStop.TheVariants.{Failed, NoMemory}
 use Rattle.sec_base.proofs.Writes.{gained-append}
 use Rattle.chip_main.specs.Statuses.{Telling}
-use Rattle.rv32_listing.specs.Listed.{GainsFront}
-use Rattle.rv32_listing.specs.Listed.{IsListed as IsTold}
+use Rattle.sec_base.specs.Writing.{GainsFront}
+use Rattle.sec_base.specs.Writing.{IsWritten as IsTold}
 
 -- a front part of the first line is one of the text
 front_longer : (first others : List ℕ) (old new : SinkState) → GainsFront old first new → GainsFront old (first ++ others) new

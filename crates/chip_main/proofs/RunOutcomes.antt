@@ -10,7 +10,7 @@ use Rattle.sec_base.specs.declared.program.Image.{Image}
 use Rattle.sec_base.specs.declared.writing.SinkStop.TheVariants.{Failed, NoMemory as no_memory}
 use Rattle.bus_model.specs.Told.{Told}
 use Rattle.plain_machine.specs.declared.PlainRecord.{PlainRecord}
-use Rattle.rv32_listing.specs.Listed.{IsListed as IsTold}
+use Rattle.sec_base.specs.Writing.{IsWritten as IsTold}
 use Rattle.chip_run.specs.declared.RunRecord.{RunRecord}
 use Rattle.chip_words.specs.Request.{Asked, ExecutionAsked, to_assemble, to_disassemble, to_measure, to_run, to_run_plain}
 use Rattle.chip_main.specs.declared.refusal.Refusal.{Refusal}

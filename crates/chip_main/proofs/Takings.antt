@@ -3,12 +3,13 @@ use Rattle.std.proofs.Common.{◌≡◌, ◌≤◌, ◌⊎◌, inl, inr, ℕ, Li
 use Rattle.std.specs.Result.{result_err}
 use Rattle.sec_base.specs.Count.{Rose, RoseBy}
 use Rattle.sec_base.specs.Layout.{memory_size}
+use Rattle.sec_base.specs.Program.{from_zero}
 use Rattle.sec_base.specs.Reading.{FilesState, HasBytes, HasOver}
 use Rattle.sec_base.specs.declared.program.Image.{Image}
-use Rattle.elf_load.specs.Loading.{IsProgramOf, entry_of, flat_segments, segments_of}
+use Rattle.elf_load.specs.Loading.{IsProgramOf, entry_of, segments_of}
 use Rattle.elf_load.specs.Refusals.{first_fault, flat_fault}
 use Rattle.elf_load.specs.declared.fault.ElfFault.{ElfFault}
-use Rattle.rv32_asm.specs.Assembly.{IsAssembled, one_segment, program_of}
+use Rattle.rv32_asm.specs.Assembly.{IsAssembled, program_of}
 use Rattle.rv32_asm.specs.Assembly.{Program as Assembled}
 use Rattle.rv32_asm.specs.Passes.{LineFault}
 use Rattle.chip_words.specs.Request.{ExecutionAsked}
@@ -106,16 +107,16 @@ elf_image size file image is = record {
   is_image = record { entry = is.entry; memory = is.memory; segments = is.segments };
 }
 
-pub flat_image : (size : ℕ) (file : List ℕ) (image : Image) → flat_fault file size ≡ None → image.entry ≡ 0 → image.size ≡ size → image.segments ≡ flat_segments file → IsImageIn FlatFile size file image
+pub flat_image : (size : ℕ) (file : List ℕ) (image : Image) → flat_fault file size ≡ None → image.entry ≡ 0 → image.size ≡ size → image.segments ≡ from_zero file → IsImageIn FlatFile size file image
 flat_image size file image accepted entry memory segments = record {
-  program = record { entry = 0; segments = flat_segments file };
+  program = record { entry = 0; segments = from_zero file };
   is = rw accepted refl;
   is_image = record { entry = entry; memory = memory; segments = segments };
 }
 
 pub text_image : (size : ℕ) (text : List ℕ) (image : Image) → IsAssembled text size image → IsImageIn AssemblyText size text image
 text_image size text image is = record {
-  program = record { entry = is.program.entry; segments = one_segment is.program.bytes };
+  program = record { entry = is.program.entry; segments = from_zero is.program.bytes };
   is = rw is.assembled refl;
   is_image = record { entry = is.entry; memory = is.memory; segments = is.segments };
 }

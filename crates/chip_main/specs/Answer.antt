@@ -9,7 +9,7 @@ use Rattle.sec_base.specs.declared.answers.Ending.TheVariants.{Halted, Trapped, 
 use Rattle.sec_base.specs.declared.program.Image.{Image}
 use Rattle.rv32_core.specs.Machine.{plain}
 use Rattle.rv32_core.specs.Follows.{standing}
-use Rattle.rv32_listing.specs.Listed.{GainsFront}
+use Rattle.sec_base.specs.Writing.{GainsFront}
 use Rattle.plain_machine.specs.declared.PlainRecord.{PlainRecord}
 use Rattle.chip_run.specs.declared.RunRecord.{RunRecord}
 use Rattle.chip_words.specs.Request.{Asked, ExecutionAsked}

@@ -3,13 +3,14 @@
 use Rattle.std.specs.Prelude.{◌≡◌, ℕ, List, Option, Some, None, Result, Ok, Err}
 use Rattle.std.specs.Result.{result_err}
 use Rattle.sec_base.specs.Layout.{memory_size}
+use Rattle.sec_base.specs.Program.{from_zero}
 use Rattle.sec_base.specs.declared.program.Image.{Image}
 use Rattle.sec_base.specs.declared.program.Segment.{Segment}
 use Rattle.elf_load.specs.declared.fault.ElfFault.{ElfFault}
 use Rattle.elf_load.specs.Refusals.{first_fault, flat_fault}
-use Rattle.elf_load.specs.Loading.{entry_of, flat_segments, segments_of}
+use Rattle.elf_load.specs.Loading.{entry_of, segments_of}
 use Rattle.rv32_asm.specs.Passes.{LineFault}
-use Rattle.rv32_asm.specs.Assembly.{one_segment, program_of}
+use Rattle.rv32_asm.specs.Assembly.{program_of}
 use Rattle.rv32_asm.specs.Assembly.{Program as Assembled}
 use Rattle.rv32_core.specs.Machine.{Machine, opening_of}
 use Rattle.chip_main.specs.declared.program.ProgramForm.{ProgramForm}
@@ -29,7 +30,7 @@ unless_faulty (Some fault) program = Err (Elf fault)
 
 -- the program that was assembled, or the refusal that tells the line of the fault
 abbrev pub assembled : Result Assembled LineFault → Result Program Refusal
-assembled (Ok program) = Ok (record { entry = program.entry; segments = one_segment program.bytes })
+assembled (Ok program) = Ok (record { entry = program.entry; segments = from_zero program.bytes })
 assembled (Err fault) = Err (Asm fault.line fault.code)
 
 -- the program that a file of this form is for a memory of this size, or why the file is refused
@@ -37,7 +38,7 @@ abbrev pub program_in : ProgramForm → ℕ → List ℕ → Result Program Refu
 program_in ElfFile size file =
     unless_faulty (first_fault file size) (record { entry = entry_of file; segments = segments_of file })
 program_in FlatFile size file =
-    unless_faulty (flat_fault file size) (record { entry = 0; segments = flat_segments file })
+    unless_faulty (flat_fault file size) (record { entry = 0; segments = from_zero file })
 program_in AssemblyText size file = assembled (program_of file size)
 
 -- how many bytes of a file of this form are read at most

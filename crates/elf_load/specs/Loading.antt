@@ -28,7 +28,3 @@ pub record IsProgramOf (file : List ℕ) (size : ℕ) (image : Image) : Type 0 w
   pub entry : image.entry ≡ entry_of file
   pub memory : image.size ≡ size
   pub segments : image.segments ≡ segments_of file
-
--- a flat file is one segment, whose bytes begin at address 0
-abbrev pub flat_segments : List ℕ → List Segment
-flat_segments file = record { addr = 0; length = length file; bytes = file } ∷ []

@@ -2,6 +2,7 @@ ghost use Rattle.std.specs.Prelude.{◌≡◌};
 ghost use Rattle.elf_load.specs.Faults.{code_of, name_of};
 
 use sec_base::NoMemory;
+use std::alloc::AllocError;
 use std::fmt;
 use thiserror::Error;
 
@@ -97,6 +98,17 @@ impl From<NoMemory> for ElfError {
     ghost from_gives = { λ _ error. error ≡ NoMemory };
 
     fn from(_: NoMemory) -> Self {
+        ElfError::NoMemory
+    }
+}
+
+impl From<AllocError> for ElfError {
+    ghost use Rattle.std.specs.Prelude.{◌≡◌};
+    ghost use Rattle.elf_load.specs.declared.fault.ElfError.TheVariants.{NoMemory};
+
+    ghost from_gives = { λ _ error. error ≡ NoMemory };
+
+    fn from(_: AllocError) -> Self {
         ElfError::NoMemory
     }
 }

@@ -1,6 +1,7 @@
 ghost use Rattle.std.specs.Prelude.{◌≡◌, ◌+◌, ◌≤◌, ◌<◌, ◌^◌, length, take, drop, filter, map, None, Some, Err, IfOk, OnOk};
 ghost use Rattle.sec_base.specs.Layout.{IsMemorySize};
-ghost use Rattle.elf_load.specs.Loading.{IsProgramOf, segment_of, flat_segments};
+ghost use Rattle.sec_base.specs.Program.{from_zero};
+ghost use Rattle.elf_load.specs.Loading.{IsProgramOf, segment_of};
 ghost use Rattle.elf_load.specs.Refusals.{first_holding, program_refusals, first_fault, flat_fault, is_load, is_misfit};
 ghost use Rattle.elf_load.specs.declared.fault.ElfFault.{ElfFault};
 ghost use Rattle.elf_load.specs.declared.fault.ElfError.TheVariants.{Fault};
@@ -90,20 +91,6 @@ pub fn parse(alloc: Global, file: &[u8], size: u32) -> Result<Image, ElfError>
     })
 }
 
-/// The one segment of a flat file.
-fn flat_segments(alloc: Global, file: &[u8]) -> Result<Vec<Segment>, NoMemory>
-    requires { length file.now < 2 ^ 32 }
-    ensures { IfOk result (λ segments. segments.items ≡ flat_segments file.now) }
-{
-    let mut segments = Vec::new(alloc);
-    segments.push(Segment {
-        addr: 0,
-        length: file.len() as u32,
-        bytes: Bytes::from_vec(Vec::from_slice(alloc, file)?),
-    })?;
-    Ok(segments)
-}
-
 /// The program of a flat file, which is loaded at address 0 and begins there, for a memory of `size` bytes. It is
 /// refused as `Segment` exactly where it is longer; `NoMemory` may come at any file.
 pub fn flat(alloc: Global, file: &[u8], size: u32) -> Result<Image, ElfError>
@@ -111,16 +98,16 @@ pub fn flat(alloc: Global, file: &[u8], size: u32) -> Result<Image, ElfError>
     ensures accepted { OnOk result (flat_fault file.now size ≡ None) }
     ensures entry { IfOk result (λ image. image.entry ≡ 0) }
     ensures size { IfOk result (λ image. image.size ≡ size) }
-    ensures segments { IfOk result (λ image. image.segments ≡ flat_segments file.now) }
+    ensures segments { IfOk result (λ image. image.segments ≡ from_zero file.now) }
     ensures refused { (fault : ElfFault) → result ≡ Err (Fault fault) → flat_fault file.now size ≡ Some fault }
 {
     if file.len() > size as usize {
         return Err(ElfError::Fault(ElfFault::Segment));
     }
-    let segments = flat_segments(alloc, file)?;
+    let bytes = Bytes::from_vec(Vec::from_slice(alloc, file)?);
     Ok(Image {
         entry: 0,
         size,
-        segments: Segments::from_vec(segments),
+        segments: Segments::from_zero(alloc, bytes)?,
     })
 }

@@ -1,6 +1,6 @@
 -- The program that an assembly text is.
 use Rattle.std.specs.Prelude.{◌≡◌, ℕ, ◌+◌, ◌%◌, ◌==◌, List, [], ◌∷◌, Bool, not, ◌||◌, Option, None, Some, Result, Ok, Err, length, nat_lt, codes, if◌then◌else◌}
-use Rattle.sec_base.specs.declared.program.Segment.{Segment}
+use Rattle.sec_base.specs.Program.{from_zero}
 use Rattle.sec_base.specs.declared.program.Image.{Image}
 use Rattle.rv32_asm_syntax.specs.declared.fault.AsmFault.TheVariants.{Range}
 use Rattle.rv32_asm_syntax.specs.Lines.{lines_of}
@@ -30,14 +30,10 @@ program_of text size = do
   entry ← entry_of size (label_named progress.labels (codes "_start"))
   Ok (record { entry = entry; bytes = bytes })
 
--- one segment from 0 on, of all that was emitted
-abbrev pub one_segment : List ℕ → List Segment
-one_segment bytes = record { addr = 0; length = length bytes; bytes = bytes } ∷ []
-
--- the image is the program that a text is for a memory of this size
+-- The image is the program that a text is for a memory of this size: one segment from 0 on, of all that was emitted.
 pub record IsAssembled (text : List ℕ) (size : ℕ) (image : Image) : Type 0 where
   pub program : Program
   pub assembled : program_of text size ≡ Ok program
   pub entry : image.entry ≡ program.entry
   pub memory : image.size ≡ size
-  pub segments : image.segments ≡ one_segment program.bytes
+  pub segments : image.segments ≡ from_zero program.bytes

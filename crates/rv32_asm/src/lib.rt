@@ -21,7 +21,7 @@ mod values;
 
 pub use fault::AsmError;
 pub use rv32_asm_syntax::AsmFault;
-use sec_base::Image;
+use sec_base::{Bytes, Image, Segments};
 use std::alloc::Global;
 
 /// The program of an assembly text, for a memory of `size` bytes: one segment at 0 of all that was emitted, and the
@@ -38,7 +38,7 @@ pub fn assemble(alloc: Global, text: &[u8], size: u32) -> Result<Image, AsmError
     let layout = passes::lay_out(alloc, text, size)?;
     let bytes = passes::bytes_of(alloc, text, &layout.labels, layout.address)?;
     let entry = program::entry_of(size, layout.labels.get(b"_start"))?;
-    let segments = program::one_segment(alloc, bytes)?;
+    let segments = Segments::from_zero(alloc, Bytes::from_vec(bytes))?;
     Ok(Image {
         entry,
         size,

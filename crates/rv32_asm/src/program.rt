@@ -1,17 +1,14 @@
-//! A program's entry and its segment.
+//! A program's entry.
 
-ghost use Rattle.rv32_asm.specs.Assembly as spec;
 ghost use Rattle.rv32_asm.specs.Course.{entry_at};
 ghost use Rattle.rv32_asm.specs.declared.fault.AsmError.TheVariants as error;
 ghost use Rattle.rv32_asm_syntax.specs.declared.fault.AsmFault.{AsmFault};
 ghost use Rattle.sec_base.specs.Layout.{IsMemorySize};
-ghost use Rattle.std.specs.Prelude.{Err, IfOk, Ok, length, ℕ, ◌%◌, ◌+◌, ◌<◌, ◌^◌, ◌≡◌, ◌≤◌};
+ghost use Rattle.std.specs.Prelude.{Err, IfOk, Ok, ℕ, ◌%◌, ◌+◌, ◌≡◌, ◌≤◌};
 
 use crate::fault::AsmError;
 use crate::labels::Label;
 use rv32_asm_syntax::AsmFault;
-use sec_base::{Bytes, NoMemory, Segment, Segments};
-use std::alloc::Global;
 
 /// Where a program begins: where its label is, and else at 0.
 pub fn entry_of(size: u32, start: Option<Label>) -> Result<u32, AsmError>
@@ -32,18 +29,4 @@ pub fn entry_of(size: u32, start: Option<Label>) -> Result<u32, AsmError>
         });
     }
     Ok(label.address)
-}
-
-/// One segment from address 0 on, of all the bytes.
-pub fn one_segment(alloc: Global, bytes: Vec<u8>) -> Result<Segments, NoMemory>
-    requires { length bytes.items < 2 ^ 32 }
-    ensures { IfOk result (λ segments. segments ≡ spec.one_segment bytes.items) }
-{
-    let mut segments = Vec::new(alloc);
-    segments.push(Segment {
-        addr: 0,
-        length: bytes.len() as u32,
-        bytes: Bytes::from_vec(bytes),
-    })?;
-    Ok(Segments::from_vec(segments))
 }

@@ -5,7 +5,7 @@ use Rattle.sec_base.specs.Writing.{SinkState, gained, Gains}
 use Rattle.sec_base.specs.declared.writing.SinkStop.{SinkStop}
 use Rattle.sec_base.specs.declared.writing.SinkStop.TheVariants.{Failed, NoMemory}
 use Rattle.sec_base.proofs.Writes.{IsPart, gained-append}
-use Rattle.rv32_listing.specs.Listed.{GainsFront, IsListed}
+use Rattle.sec_base.specs.Writing.{GainsFront, IsWritten}
 
 -- the next line was written
 line_written : (old mid new : SinkState) (whole line rest : List ℕ) → IsPart old mid whole (line ++ rest) → Gains mid line new → mid.faults ≤ new.faults → IsPart old new whole rest
@@ -28,7 +28,7 @@ front_of_whole old mid new whole line rest part written =
     gains = written.2 ∙ ap (gained written.0) part.gains ∙ sym (gained-append part.front written.0 old.written)
 
 -- it stopped in the next line
-line_stopped : (old mid new : SinkState) (whole line rest : List ℕ) (stop : SinkStop) → IsPart old mid whole (line ++ rest) → IsListed line mid new (Err stop) → IsListed whole old new (Err stop)
+line_stopped : (old mid new : SinkState) (whole line rest : List ℕ) (stop : SinkStop) → IsPart old mid whole (line ++ rest) → IsWritten line mid new (Err stop) → IsWritten whole old new (Err stop)
 line_stopped old mid new whole line rest Failed part written =
     (front_of_whole old mid new whole line rest part written.0, let risen : Rose mid.faults new.faults = written.1 in let grown : old.faults ≤ mid.faults = part.faults in omega arith)
 line_stopped old mid new whole line rest NoMemory part written = front_of_whole old mid new whole line rest part written
@@ -38,5 +38,5 @@ pub first_written : (old mid new : SinkState) (whole text line rest : List ℕ) 
 first_written old mid new whole text line rest same part gains grows = line_written old mid new whole line rest (subst (λ (x : List ℕ). IsPart old mid whole x) same part) gains grows
 
 -- it stopped in that line
-pub first_stopped : (old mid new : SinkState) (whole text line rest : List ℕ) (stop : SinkStop) → text ≡ line ++ rest → IsPart old mid whole text → IsListed line mid new (Err stop) → IsListed whole old new (Err stop)
+pub first_stopped : (old mid new : SinkState) (whole text line rest : List ℕ) (stop : SinkStop) → text ≡ line ++ rest → IsPart old mid whole text → IsWritten line mid new (Err stop) → IsWritten whole old new (Err stop)
 first_stopped old mid new whole text line rest stop same part written = line_stopped old mid new whole line rest stop (subst (λ (x : List ℕ). IsPart old mid whole x) same part) written

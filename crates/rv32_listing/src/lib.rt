@@ -3,7 +3,7 @@
 
 ghost use Rattle.std.specs.Prelude.{◌≤◌};
 ghost use Rattle.rv32_listing.specs.Listing.{listing_of};
-ghost use Rattle.rv32_listing.specs.Listed.{IsListed};
+ghost use Rattle.sec_base.specs.Writing.{IsWritten};
 
 mod lines;
 #[cfg(test)]
@@ -20,7 +20,7 @@ use std::alloc::Global;
 ///
 /// Each line is one piece. After an error a front part of the listing was written.
 pub fn write_listing<S: Sink>(alloc: Global, image: &Image, out: &mut S) -> Result<(), SinkStop>
-    ensures listed { IsListed (listing_of image.now.segments) (S.state out.old) (S.state out.new) result }
+    ensures listed { IsWritten (listing_of image.now.segments) (S.state out.old) (S.state out.new) result }
     ensures faults { (S.state out.old).faults ≤ (S.state out.new).faults }
 {
     for segment in image.segments.as_slice() {

@@ -3,7 +3,7 @@ ghost use Rattle.std.specs.Prelude.{◌≡◌, ◌+◌, ◌<◌, ◌≤◌, ◌^
 ghost use Rattle.rv32_listing.specs.Listing.{bytes_lines};
 ghost use Rattle.rv32_listing.specs.Listing as spec;
 ghost use Rattle.rv32_text.specs.Text.{hex8};
-ghost use Rattle.rv32_listing.specs.Listed.{IsListed};
+ghost use Rattle.sec_base.specs.Writing.{IsWritten};
 
 use rv32_text::write_word;
 use sec_base::{NoMemory, Sink, SinkStop, write_all};
@@ -17,7 +17,7 @@ pub(crate) fn write_bytes<S: Sink>(
     out: &mut S,
 ) -> Result<(), SinkStop>
     requires { addr + length bytes.now < 2 ^ 32 }
-    ensures listed { IsListed (bytes_lines addr bytes.now) (S.state out.old) (S.state out.new) result }
+    ensures listed { IsWritten (bytes_lines addr bytes.now) (S.state out.old) (S.state out.new) result }
     ensures faults { (S.state out.old).faults ≤ (S.state out.new).faults }
 {
     let mut address = addr;
@@ -43,12 +43,10 @@ fn write_word_line<S: Sink>(
     word: u32,
     out: &mut S,
 ) -> Result<(), SinkStop>
-    ensures listed { IsListed (spec.word_line address word) (S.state out.old) (S.state out.new) result }
+    ensures listed { IsWritten (spec.word_line address word) (S.state out.old) (S.state out.new) result }
     ensures faults { (S.state out.old).faults ≤ (S.state out.new).faults }
 {
-    let Ok(line) = word_line(alloc, address, word) else {
-        return Err(SinkStop::NoMemory);
-    };
+    let line = word_line(alloc, address, word)?;
     write_all(out, &line)?;
     Ok(())
 }
@@ -59,12 +57,10 @@ fn write_byte_line<S: Sink>(
     byte: u8,
     out: &mut S,
 ) -> Result<(), SinkStop>
-    ensures listed { IsListed (spec.byte_line address byte) (S.state out.old) (S.state out.new) result }
+    ensures listed { IsWritten (spec.byte_line address byte) (S.state out.old) (S.state out.new) result }
     ensures faults { (S.state out.old).faults ≤ (S.state out.new).faults }
 {
-    let Ok(line) = byte_line(alloc, address, byte) else {
-        return Err(SinkStop::NoMemory);
-    };
+    let line = byte_line(alloc, address, byte)?;
     write_all(out, line.as_bytes())?;
     Ok(())
 }

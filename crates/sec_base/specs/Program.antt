@@ -1,5 +1,5 @@
 -- When a program fits a memory.
-use Rattle.std.specs.Prelude.{◌≡◌, ℕ, ◌+◌, ◌%◌, ◌≤◌, List, length, All}
+use Rattle.std.specs.Prelude.{◌≡◌, ℕ, ◌+◌, ◌%◌, ◌≤◌, List, [], ◌∷◌, length, All}
 use Rattle.sec_base.specs.Layout.{IsMemorySize}
 use Rattle.sec_base.specs.declared.program.Segment.{Segment}
 
@@ -15,3 +15,7 @@ pub record IsImage (entry size : ℕ) (segments : List Segment) : Type 0 where
   pub inside : entry + 4 ≤ size
   pub few : length segments ≤ 64
   pub each : All (IsSegment size) segments
+
+-- one segment, which has these bytes from address 0 on
+abbrev pub from_zero : List ℕ → List Segment
+from_zero bytes = record { addr = 0; length = length bytes; bytes = bytes } ∷ []

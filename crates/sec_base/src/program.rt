@@ -1,10 +1,12 @@
 // Programs, as they are loaded.
-ghost use Rattle.std.specs.Prelude.{◌≡◌, ◌↔◌, [], length, IsTrue};
+ghost use Rattle.std.specs.Prelude.{◌≡◌, ◌↔◌, ◌<◌, ◌^◌, [], length, IsTrue, IfOk};
 ghost use Rattle.std.specs.Option.{option_copied};
 ghost use Rattle.std.specs.List.{slice_get};
-ghost use Rattle.sec_base.specs.Program.{IsImage};
+ghost use Rattle.sec_base.specs.Program.{IsImage, from_zero};
 
+use crate::answers::NoMemory;
 use crate::lists::Bytes;
+use std::alloc::Global;
 use std::marker::Model;
 
 /// A part of a program: `length` bytes of memory from `addr` on, which begin with `bytes` and go on with zeros.
@@ -36,6 +38,20 @@ impl Segments {
         ensures { result ≡ items.items }
     {
         Segments { items }
+    }
+
+    /// One segment, which has these bytes from address 0 on. Only want of memory refuses it.
+    pub fn from_zero(alloc: Global, bytes: Bytes) -> Result<Self, NoMemory>
+        requires { length bytes < 2 ^ 32 }
+        ensures { IfOk result (λ segments. segments ≡ from_zero bytes) }
+    {
+        let mut items = Vec::new(alloc);
+        items.push(Segment {
+            addr: 0,
+            length: bytes.len() as u32,
+            bytes,
+        })?;
+        Ok(Segments { items })
     }
 
     /// The vector, which takes no memory.

@@ -19,6 +19,14 @@ pub enum SinkStop {
     NoMemory,
 }
 
+impl From<NoMemory> for SinkStop {
+    ghost from_gives = { λ _ stop. stop ≡ no_memory };
+
+    fn from(_: NoMemory) -> Self {
+        SinkStop::NoMemory
+    }
+}
+
 /// Something that bytes are written to.
 pub trait Sink {
     /// What was written and how often a write failed.
