@@ -151,12 +151,10 @@ impl Core {
 
     // The next instruction in order is next.
     #[inline]
-    pub(crate) fn pass(&mut self) -> Result<Step, StepStop>
-        ensures hart { self.new ≡ next_hart self.old }
-        ensures retired { result ≡ Ok Retired }
+    pub(crate) fn pass(&mut self)
+        ensures { self.new ≡ next_hart self.old }
     {
         self.pc = self.pc.wrapping_add(4);
-        Ok(Step::Retired)
     }
 
     // A value goes to a register, and the next instruction in order is next.
@@ -167,6 +165,7 @@ impl Core {
         ensures retired { result ≡ Ok Retired }
     {
         self.set_reg(number, value);
-        self.pass()
+        self.pass();
+        Ok(Step::Retired)
     }
 }
