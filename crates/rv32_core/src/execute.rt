@@ -123,11 +123,7 @@ impl Core {
             Op::Divu => self.retire(inst.rd, quotient_unsigned(self.rs1(inst), self.rs2(inst))),
             Op::Rem => self.retire(inst.rd, remainder(self.rs1(inst), self.rs2(inst))),
             Op::Remu => self.retire(inst.rd, remainder_unsigned(self.rs1(inst), self.rs2(inst))),
-            Op::Fence => {
-                self.pass();
-                Ok(Step::Retired)
-            }
-            Op::FenceI => {
+            Op::Fence | Op::FenceI => {
                 self.pass();
                 Ok(Step::Retired)
             }
