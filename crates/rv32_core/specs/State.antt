@@ -19,6 +19,9 @@ pub record State : Type 0 where
   pub calls : CallState
   pub memory : List ℕ
 
+abbrev pub state_of : Hart → CallState → List ℕ → State
+state_of hart calls memory = record { hart = hart; calls = calls; memory = memory }
+
 -- a signed number as a word: modulo 2 ^ 32
 abbrev pub word : ℤ → ℕ
 word number = cast_unsigned w32 number

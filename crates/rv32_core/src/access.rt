@@ -11,6 +11,7 @@ ghost use Rattle.rv32_core.specs.Fetching.{IsFetched, StopsFetch};
 ghost use Rattle.rv32_core.specs.Loading.{extended as extended_by};
 ghost use Rattle.rv32_core.specs.Outcome.{IsOutcome, CarriesStop, OnlyTraps};
 
+use crate::execute::immediate;
 use crate::hart::{Core, Step, StepStop};
 use rv32_decode::Inst;
 use sec_base::{Cause, Ram, Width};
@@ -78,7 +79,7 @@ impl Core {
         ensures moved { (lines : List ℕ) × M.moved ram.old lines ram.new
             × OnOk result (HasLinesOf lines (record { from = data_address inst.now self.old; count = width_bytes width })) }
     {
-        let address = self.reg(inst.rs1).wrapping_add(inst.imm.cast_unsigned());
+        let address = self.effective_address(inst);
         if let Some(cause) = fault_at(address, width, ram.size()) {
             return Err(StepStop::Trap(cause));
         }
@@ -115,14 +116,26 @@ impl Core {
         ensures moved { (lines : List ℕ) × M.moved ram.old lines ram.new
             × OnOk result (HasLinesOf lines (record { from = data_address inst.now self.old; count = width_bytes width })) }
     {
-        let address = self.reg(inst.rs1).wrapping_add(inst.imm.cast_unsigned());
+        let address = self.effective_address(inst);
         if let Some(cause) = fault_at(address, width, ram.size()) {
             return Err(StepStop::Trap(cause));
         }
         match ram.store(address, width, self.reg(inst.rs2)) {
-            Ok(()) => self.pass(),
+            Ok(()) => {
+                self.pass();
+                Ok(Step::Retired)
+            }
             Err(stop) => Err(StepStop::Mem(stop)),
         }
+    }
+
+    // Where a load or a store goes.
+    #[inline(always)]
+    fn effective_address(&self, inst: &Inst) -> u32
+        requires { inst.now.rs1 < 32 }
+        ensures { result ≡ data_address inst.now self.now }
+    {
+        self.reg(inst.rs1).wrapping_add(immediate(inst))
     }
 }
 

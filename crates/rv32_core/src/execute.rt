@@ -123,8 +123,10 @@ impl Core {
             Op::Divu => self.retire(inst.rd, quotient_unsigned(self.rs1(inst), self.rs2(inst))),
             Op::Rem => self.retire(inst.rd, remainder(self.rs1(inst), self.rs2(inst))),
             Op::Remu => self.retire(inst.rd, remainder_unsigned(self.rs1(inst), self.rs2(inst))),
-            Op::Fence => self.pass(),
-            Op::FenceI => self.pass(),
+            Op::Fence | Op::FenceI => {
+                self.pass();
+                Ok(Step::Retired)
+            }
             Op::Ecall => self.serve(ram, calls, out),
             Op::Ebreak => Err(StepStop::Trap(Cause::Breakpoint)),
         }
@@ -133,7 +135,7 @@ impl Core {
 
 // The immediate as a word.
 #[inline(always)]
-fn immediate(inst: &Inst) -> u32
+pub fn immediate(inst: &Inst) -> u32
     ensures { result ≡ word inst.now.imm }
 {
     inst.imm.cast_unsigned()

@@ -2,7 +2,7 @@ ghost use Rattle.std.specs.Prelude.{◌≡◌, ◌%◌, ◌<◌, ◌≤◌, ℕ,
 ghost use Rattle.sec_base.specs.Count.{Rose};
 ghost use Rattle.sec_base.specs.Layout.{IsMemorySize};
 ghost use Rattle.sec_base.specs.Writing.{Gains};
-ghost use Rattle.rv32_core.specs.State.{State, opening_hart, register, with_register, next_hart, written_hart};
+ghost use Rattle.rv32_core.specs.State.{state_of, opening_hart, register, with_register, next_hart, written_hart};
 ghost use Rattle.rv32_core.specs.Effect.{next};
 ghost use Rattle.rv32_core.specs.Touch.{touches, HasLinesOfAll};
 
@@ -101,16 +101,16 @@ impl Core {
         ensures outcome { (printed : List ℕ) × Gains (S.state out.old) printed (S.state out.new)
             × (M.stopped ram.old ≡ None → M.sound ram.new →
             IsOutcome
-            (next (record { hart = self.old; calls = calls.old; memory = M.contents ram.old }))
+            (next (state_of self.old calls.old (M.contents ram.old)))
             result
-            (record { hart = self.old; calls = calls.old; memory = M.contents ram.old })
-            (record { hart = self.new; calls = calls.new; memory = M.contents ram.new })
+            (state_of self.old calls.old (M.contents ram.old))
+            (state_of self.new calls.new (M.contents ram.new))
             printed) }
         ensures stays { OnErr result ((self.new ≡ self.old) × (calls.new ≡ calls.old)) }
 
         ensures mem { M.stopped ram.old ≡ None → CarriesStop (M.stopped ram.new) result }
         ensures sink_stop { M.stopped ram.old ≡ None → M.sound ram.new → M.stopped ram.new ≡ None →
-            IsSinkStop result (next (record { hart = self.old; calls = calls.old; memory = M.contents ram.old })) }
+            IsSinkStop result (next (state_of self.old calls.old (M.contents ram.old))) }
         ensures write_fault { result ≡ Err WriteFault → Rose (S.state out.old).faults (S.state out.new).faults }
         ensures faults { (S.state out.old).faults ≤ (S.state out.new).faults }
 
@@ -118,7 +118,7 @@ impl Core {
         ensures lost { M.sound ram.new → M.sound ram.old }
         ensures moved { (lines : List ℕ) × M.moved ram.old lines ram.new
             × (M.stopped ram.old ≡ None → M.sound ram.new → OnOk result (HasLinesOfAll lines
-            (touches (record { hart = self.old; calls = calls.old; memory = M.contents ram.old })))) }
+            (touches (state_of self.old calls.old (M.contents ram.old))))) }
     {
         let word = match fetch(ram, self.pc) {
             Ok(word) => word,
@@ -151,12 +151,10 @@ impl Core {
 
     // The next instruction in order is next.
     #[inline]
-    pub(crate) fn pass(&mut self) -> Result<Step, StepStop>
-        ensures hart { self.new ≡ next_hart self.old }
-        ensures retired { result ≡ Ok Retired }
+    pub(crate) fn pass(&mut self)
+        ensures { self.new ≡ next_hart self.old }
     {
         self.pc = self.pc.wrapping_add(4);
-        Ok(Step::Retired)
     }
 
     // A value goes to a register, and the next instruction in order is next.
@@ -167,6 +165,7 @@ impl Core {
         ensures retired { result ≡ Ok Retired }
     {
         self.set_reg(number, value);
-        self.pass()
+        self.pass();
+        Ok(Step::Retired)
     }
 }

@@ -2,7 +2,7 @@
 ghost use Rattle.std.specs.Prelude.{◌≡◌, ◌≢◌, ◌≤◌, ℕ, List, [], None, Ok, Err, OnErr, OnOk};
 ghost use Rattle.sec_base.specs.Count.{Rose};
 ghost use Rattle.sec_base.specs.Writing.{Gains};
-ghost use Rattle.rv32_core.specs.State.{CallState, register, next_hart};
+ghost use Rattle.rv32_core.specs.State.{CallState, word, register, next_hart, written_hart};
 ghost use Rattle.rv32_core.specs.Services.{service, read_service, write_service, brk_service, is_inside, is_output};
 ghost use Rattle.rv32_core.specs.Touch.{service_touches, read_touches, write_touches, HasLinesOfAll};
 ghost use Rattle.rv32_core.specs.declared.hart.Step.TheVariants.{Retired, Halted};
@@ -15,6 +15,15 @@ use crate::input::store_bytes;
 use crate::print::print;
 use sec_base::{Ram, Sink};
 
+// The registers of the arguments, of which the first takes the answer, and of the service's number.
+const A0: u8 = 10;
+
+const A1: u8 = 11;
+
+const A2: u8 = 12;
+
+const A7: u8 = 17;
+
 // The services, and their negative answers.
 const READ: u32 = 63;
 
@@ -24,11 +33,11 @@ const EXIT: u32 = 93;
 
 const BRK: u32 = 214;
 
-const BAD_DESCRIPTOR: u32 = u32::MAX - 8;
+const BAD_DESCRIPTOR: i32 = -9;
 
-const BAD_ADDRESS: u32 = u32::MAX - 13;
+const BAD_ADDRESS: i32 = -14;
 
-const NO_SUCH_SERVICE: u32 = u32::MAX - 37;
+const NO_SUCH_SERVICE: i32 = -38;
 
 impl Core {
     // Does the service that a7 names.
@@ -60,7 +69,7 @@ impl Core {
             × (M.stopped ram.old ≡ None → M.sound ram.new → OnOk result (HasLinesOfAll lines
             (service_touches (record { hart = self.old; calls = calls.old; memory = M.contents ram.old })))) }
     {
-        let number = self.reg(17);
+        let number = self.reg(A7);
         if number == READ {
             return self.read_input(ram, calls);
         }
@@ -73,7 +82,7 @@ impl Core {
         if number == BRK {
             return self.move_break(ram, calls);
         }
-        self.retire(10, NO_SUCH_SERVICE)
+        self.refuse(NO_SUCH_SERVICE)
     }
 
     // The next a2 bytes of the input, or what is left of it, are stored from a1 on.
@@ -96,20 +105,20 @@ impl Core {
             × (M.stopped ram.old ≡ None → M.sound ram.new → OnOk result (HasLinesOfAll lines
             (read_touches (record { hart = self.old; calls = calls.old; memory = M.contents ram.old })))) }
     {
-        let from = self.reg(11);
-        let count = self.reg(12);
-        if self.reg(10) != 0 {
-            return self.retire(10, BAD_DESCRIPTOR);
+        let from = self.reg(A1);
+        let count = self.reg(A2);
+        if self.reg(A0) != 0 {
+            return self.refuse(BAD_DESCRIPTOR);
         }
         if !reaches_inside(from, count, ram.size()) {
-            return self.retire(10, BAD_ADDRESS);
+            return self.refuse(BAD_ADDRESS);
         }
         let bytes = calls.next_bytes(count);
         let taken = bytes.len();
         match store_bytes(ram, from, bytes) {
             Ok(()) => {
                 calls.advance(taken);
-                self.retire(10, taken as u32)
+                self.retire(A0, taken as u32)
             }
             Err(stop) => Err(StepStop::Mem(stop)),
         }
@@ -138,16 +147,16 @@ impl Core {
             × (M.stopped ram.old ≡ None → M.sound ram.new → (calls : CallState) → OnOk result (HasLinesOfAll lines
             (write_touches (record { hart = self.old; calls = calls; memory = M.contents ram.old })))) }
     {
-        let from = self.reg(11);
-        let count = self.reg(12);
-        if !names_output(self.reg(10)) {
-            return self.retire(10, BAD_DESCRIPTOR);
+        let from = self.reg(A1);
+        let count = self.reg(A2);
+        if !names_output(self.reg(A0)) {
+            return self.refuse(BAD_DESCRIPTOR);
         }
         if !reaches_inside(from, count, ram.size()) {
-            return self.retire(10, BAD_ADDRESS);
+            return self.refuse(BAD_ADDRESS);
         }
         match print(ram, out, from, count) {
-            Ok(()) => self.retire(10, count),
+            Ok(()) => self.retire(A0, count),
             Err(stop) => Err(stop),
         }
     }
@@ -157,11 +166,9 @@ impl Core {
         ensures hart { self.new ≡ next_hart self.old }
         ensures halted { result ≡ Ok (Halted (register self.old 10)) }
     {
-        let code = self.reg(10);
-        match self.pass() {
-            Ok(_) => Ok(Step::Halted(code)),
-            Err(stop) => Err(stop),
-        }
+        let code = self.reg(A0);
+        self.pass();
+        Ok(Step::Halted(code))
     }
 
     // Moves the program's break to the address in a0, where it may stand there.
@@ -174,8 +181,16 @@ impl Core {
             [] }
         ensures retired { result ≡ Ok Retired }
     {
-        let brk = calls.move_break(self.reg(10), ram.size());
-        self.retire(10, brk)
+        let brk = calls.move_break(self.reg(A0), ram.size());
+        self.retire(A0, brk)
+    }
+
+    // Answers a negative number.
+    fn refuse(&mut self, answer: i32) -> Result<Step, StepStop>
+        ensures hart { self.new ≡ written_hart self.old 10 (word answer) }
+        ensures retired { result ≡ Ok Retired }
+    {
+        self.retire(A0, answer.cast_unsigned())
     }
 }
 

@@ -1,7 +1,7 @@
 ghost use Rattle.std.specs.Prelude.{◌<◌, List, ℕ};
 
 use super::*;
-use sec_base::{Bytes, Image, MemStop, MemorySink, Ram, Segment, Segments, Width};
+use sec_base::{Bytes, Cause, Image, MemStop, MemorySink, Ram, Segment, Segments, Width};
 use std::alloc::{AllocError, Global};
 use std::test::Fail;
 
@@ -125,9 +125,11 @@ fn services_answer_in_a0(rt: HostRuntime) -> Result<(), Fail> {
         (57, 0, 0, 0, 0xffff_ffda),
         (64, 3, 0, 1, 0xffff_fff7), // no output
         (64, 1, 16_382, 3, 0xffff_fff2), // past the end
+        (64, 3, 16_382, 3, 0xffff_fff7), // no output, and past the end
         (64, 1, 0xffff_ffff, 0, 0),
         (63, 1, 64, 4, 0xffff_fff7), // no input
         (63, 0, 16_382, 3, 0xffff_fff2),
+        (63, 1, 16_382, 3, 0xffff_fff7), // no input, and past the end
         (63, 0, 62, 4, 2), // two bytes are left
         (63, 0, 64, 4, 0),
         (64, 2, 61, 5, 5),
@@ -196,5 +198,70 @@ fn quotients_at_the_borders(rt: HostRuntime) -> Result<(), Fail> {
         assert_eq!(rt; step, Ok(Step::Retired), "{word:08x}");
         assert_eq!(rt; core.reg(10), answer, "{word:08x}");
     }
+    Ok(())
+}
+
+// The first cause of the order is told, where others hold too; a1 has the address or the target.
+#[test]
+fn the_first_cause_is_told(rt: HostRuntime) -> Result<(), Fail> {
+    let rows = [
+        (0x0005_9503, 16_383, Cause::MisalignedData), // lh a0, 0(a1): the last byte is outside too
+        (0x0005_a503, 16_382, Cause::MisalignedData), // lw a0, 0(a1)
+        (0x0005_a503, 16_384, Cause::OutsideMemory),
+        (0x0005_8503, 16_384, Cause::OutsideMemory), // lb a0, 0(a1)
+        (0x00c5_9023, 16_385, Cause::MisalignedData), // sh a2, 0(a1)
+        (0x00c5_a023, 0xffff_fffe, Cause::MisalignedData), // sw a2, 0(a1)
+        (0x00c5_a023, 0xffff_fffc, Cause::OutsideMemory),
+        (0x0005_8567, 16_387, Cause::MisalignedTarget), // jalr a0, 0(a1): to 16386, which is outside too
+        (0x0010_0073, 0, Cause::Breakpoint), // ebreak
+        (0x0020_0073, 0, Cause::Illegal),
+    ];
+    let mut calls = Calls::new(b"", &image(rt.alloc())?);
+    let mut out = MemorySink::new(rt.alloc(), &[])?;
+    for (word, address, cause) in rows {
+        let mut core = asking(0, 1, address, 0);
+        let step = core.step(&mut FewBytes::new(word), &mut calls, &mut out);
+        assert_eq!(rt; step, Err(StepStop::Trap(cause)), "{word:08x}");
+        assert_eq!(rt; (core.pc(), core.reg(10)), (0, 1), "{word:08x}");
+    }
+    Ok(())
+}
+
+// The word at 16380 is 0, which is no instruction; nothing is there at 16384.
+#[test]
+fn a_fetch_outside_is_told_first(rt: HostRuntime) -> Result<(), Fail> {
+    let rows = [
+        (16_380, Cause::Illegal),
+        (16_384, Cause::OutsideMemory),
+        (0xffff_fffc, Cause::OutsideMemory),
+    ];
+    let mut calls = Calls::new(b"", &image(rt.alloc())?);
+    let mut out = MemorySink::new(rt.alloc(), &[])?;
+    for (pc, cause) in rows {
+        let mut core = Core::new(pc, 16_384);
+        let step = core.step(&mut FewBytes::new(ECALL), &mut calls, &mut out);
+        assert_eq!(rt; step, Err(StepStop::Trap(cause)), "pc {pc:08x}");
+        assert_eq!(rt; core.pc(), pc);
+    }
+    Ok(())
+}
+
+// A jump to the end of the memory is retired; what traps is the fetch there.
+#[test]
+fn a_jump_out_of_the_memory_is_retired(rt: HostRuntime) -> Result<(), Fail> {
+    let mut ram = FewBytes::new(0x0005_8567); // jalr a0, 0(a1)
+    let mut calls = Calls::new(b"", &image(rt.alloc())?);
+    let mut out = MemorySink::new(rt.alloc(), &[])?;
+    let mut core = asking(0, 0, 16_385, 0);
+    assert_eq!(rt;
+        core.step(&mut ram, &mut calls, &mut out),
+        Ok(Step::Retired)
+    );
+    assert_eq!(rt; (core.pc(), core.reg(10)), (16_384, 4));
+    assert_eq!(rt;
+        core.step(&mut ram, &mut calls, &mut out),
+        Err(StepStop::Trap(Cause::OutsideMemory))
+    );
+    assert_eq!(rt; (core.pc(), core.reg(10)), (16_384, 4));
     Ok(())
 }

@@ -5,6 +5,7 @@ ghost use Rattle.rv32_core.specs.State.{CallState};
 ghost use Rattle.rv32_core.specs.Effect.{target_fault, jumps, branches};
 ghost use Rattle.rv32_core.specs.Outcome.{IsOutcome, OnlyTraps};
 
+use crate::execute::immediate;
 use crate::hart::{Core, Step, StepStop};
 use rv32_decode::Inst;
 use sec_base::Cause;
@@ -46,9 +47,10 @@ impl Core {
         ensures only_traps { OnlyTraps result }
     {
         if !taken {
-            return self.pass();
+            self.pass();
+            return Ok(Step::Retired);
         }
-        let target = self.pc().wrapping_add(inst.imm.cast_unsigned());
+        let target = self.pc().wrapping_add(immediate(inst));
         if let Some(cause) = fault_at_target(target) {
             return Err(StepStop::Trap(cause));
         }

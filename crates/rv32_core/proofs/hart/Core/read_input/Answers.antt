@@ -13,7 +13,7 @@ returns-in-Ok-clause-moved g c =
       moved.0,
       moved.1,
       λ none sound.
-          on_any c.retire-in-Ok.result (lines_of_read moved.0 before c.reg-from.result c.next_bytes-bytes.result.now c.reg-from.ensures bytes moved.2),
+          on_any c.retire.result (lines_of_read moved.0 before c.reg-from.result c.next_bytes-bytes.result.now c.reg-from.ensures bytes moved.2),
     )
 
 pub returns-in-Err-clause-outcome : goal.returns-in-Err-clause-outcome

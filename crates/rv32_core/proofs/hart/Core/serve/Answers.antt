@@ -40,5 +40,5 @@ returns-clause-outcome g c = (
       let write : a7 before ≢ 64 = λ e. c.if-number-eq-WRITE.false (c.reg-number.ensures ∙ e) in
       let exit : a7 before ≢ 93 = λ e. c.if-number-eq-EXIT.false (c.reg-number.ensures ∙ e) in
       let brk : a7 before ≢ 214 = λ e. c.if-number-eq-BRK.false (c.reg-number.ensures ∙ e) in
-      answer_outcome _ c.retire.result before _ 4294967258 c.retire.ensures.retired c.retire.ensures.hart (service_of_other before read write exit brk),
+      answer_outcome _ c.refuse.result before _ 4294967258 c.refuse.ensures.retired c.refuse.ensures.hart (service_of_other before read write exit brk),
 )
