@@ -1,11 +1,12 @@
 -- A text is cut at its line feeds.
 use Rattle.std.proofs.Common.{◌≡◌, ℕ, ◌+◌, ◌<◌, ◌≤◌, Bool, true, false, ◌&&◌, List, [], ◌∷◌, ◌++◌, ◌-◌, get_or, length, take, drop, suc, sym, refl, arith, eqb, nat_eq}
 use Rattle.std.specs.Prelude.{if◌then◌else◌}
-use Rattle.std.specs.List.{starts_with, onto_first, position_or_len}
+use Rattle.std.specs.List.{starts_with, onto_first, position_or_len, before_first, list_any}
 use Rattle.rv32_asm_syntax.proofs.Fronts.{last_of}
+use Rattle.rv32_asm_syntax.proofs.Splits.{around}
 use Rattle.std.proofs.lemmas.List.{take_all}
 use Rattle.rv32_asm_syntax.specs.Lines.{lines_of}
-use Rattle.rv32_asm_syntax.specs.Parts.{without_return}
+use Rattle.rv32_asm_syntax.specs.Parts.{without_return, is_line_feed}
 
 abbrev pub len_of : List ℕ → ℕ
 len_of xs = position_or_len (λ byte. eqb byte 10) xs
@@ -127,3 +128,11 @@ none_off xs d some e = stays_on xs (take (length xs - 1) xs) (get_or xs (length 
 pub nothing_off : (xs : List ℕ) → length xs ≡ 0 → xs ≡ without_return xs
 nothing_off [] none = refl
 nothing_off (x ∷ xs) none = grind arith
+
+-- the first line, and what stands behind its line feed
+pub first_cut_off : (text line : List ℕ) (n : ℕ) → n ≡ len_of text → n < length text → line ≡ without_return (take n text) → (text ≡ before_first is_line_feed text ++ 10 ∷ drop (n + 1) text) × (line ≡ without_return (before_first is_line_feed text))
+first_cut_off text line n e few l = rw (sym e) (around 10 text n e few, l)
+
+pub no_feed : (text : List ℕ) → length text ≤ len_of text → list_any is_line_feed text ≡ false
+no_feed [] none = refl
+no_feed (x ∷ xs) none = rw (never_fed x xs none) (no_feed xs (all_left x xs none))
