@@ -80,18 +80,10 @@ pub fn has_non_ascii(line: &[u8]) -> bool
 }
 
 // The line without the carriage return that it may end with.
-#[tactic(auto, using(crate::proofs::Cuts::return_off, crate::proofs::Cuts::none_off, crate::proofs::Cuts::nothing_off))]
 fn without_return(line: &[u8]) -> &[u8]
     ensures { result.now ≡ parts.without_return line.now }
 {
-    if line.is_empty() {
-        return line;
-    }
-    let front = line.len() - 1;
-    if line[front] == b'\r' {
-        return &line[..front];
-    }
-    line
+    line.strip_suffix(b"\r").unwrap_or(line)
 }
 
 /// The first line of a text, without the line feed, or carriage return and line feed, that ends it, and what stands
