@@ -1,6 +1,6 @@
 -- What parts of the reading find.
 use Rattle.std.specs.Borrow.{Bor}
-use Rattle.rv32_asm_syntax.specs.Characters.{line_feed, colon, comma, trimmed}
+use Rattle.rv32_asm_syntax.specs.Characters.{line_feed, carriage_return, colon, comma, trimmed}
 use Rattle.rv32_asm_syntax.specs.declared.strings.Character.{Character}
 use Rattle.rv32_asm_syntax.specs.Reading.{string_after}
 use Rattle.rv32_asm_syntax.specs.Lines.{lines_of, labels_in, behind_labels}
@@ -19,7 +19,7 @@ with_digit base number digit = if is_digit digit base then as_word (number * bas
 -- the line without the carriage return that it may end with
 abbrev pub without_return : List ℕ → List ℕ
 without_return [] = []
-without_return (byte ∷ []) = if byte == 13 then [] else byte ∷ []
+without_return (byte ∷ []) = if byte == carriage_return then [] else byte ∷ []
 without_return (byte ∷ next ∷ bytes) = byte ∷ without_return (next ∷ bytes)
 
 abbrev pub is_line_feed : ℕ → Bool

@@ -1,5 +1,6 @@
 //! Strings in quotation marks.
 
+ghost use Rattle.rv32_asm_syntax.specs.Characters.{backslash, quotation_mark};
 ghost use Rattle.rv32_asm_syntax.specs.Reading as spec;
 ghost use Rattle.rv32_asm_syntax.specs.Parts.{string_from};
 ghost use Rattle.std.specs.Prelude.{IfOk, IfSome, [], length, option_map, ◌∷◌, ◌<◌, ◌≡◌, ◌≢◌};
@@ -31,7 +32,7 @@ struct Character<'a> {
 // The byte that a character behind a backslash means, and what stands behind the character.
 #[tactic(auto, using(crate::proofs::Quotes::escaped, crate::proofs::Quotes::unknown))]
 fn escaped_character(text: &[u8]) -> Option<Character<'_>>
-    ensures character { spec.string_after (92 ∷ text.now) ≡ string_from result }
+    ensures character { spec.string_after (backslash ∷ text.now) ≡ string_from result }
     ensures shorter { IfSome result (λ c. length c.rest.now < length text.now) }
 {
     let [escape, rest @ ..] = text else {
@@ -44,7 +45,7 @@ fn escaped_character(text: &[u8]) -> Option<Character<'_>>
 // The byte that the first character of a string means, and what stands behind the character.
 #[tactic(auto, using(crate::proofs::Quotes::plain, crate::proofs::Quotes::quoted))]
 fn first_character(text: &[u8]) -> Option<Character<'_>>
-    ensures character { text.now ≢ 34 ∷ [] → spec.string_after text.now ≡ string_from result }
+    ensures character { text.now ≢ quotation_mark ∷ [] → spec.string_after text.now ≡ string_from result }
     ensures shorter { IfSome result (λ c. length c.rest.now < length text.now) }
 {
     match text {
