@@ -8,6 +8,9 @@ ghost use Rattle.rv32_asm_syntax.specs.Parts.{IsFirstLabel, IsFirstLine, lines_l
 ghost use Rattle.rv32_asm_syntax.specs.declared.lines.Standing.TheVariants.{Outside};
 ghost use Rattle.std.specs.Prelude.{IfSome, length, true, ◌∷◌, ◌++◌, ◌<◌, ◌≡◌};
 
+#[cfg(test)]
+mod tests;
+
 use crate::characters::{is_name, len_before, skip_blanks, trimmed};
 
 /// Where a byte of a line stands: outside the strings, in one, or behind a backslash in one.
