@@ -1,11 +1,11 @@
 -- A text is cut at its line feeds.
-use Rattle.std.proofs.Common.{◌≡◌, ℕ, ◌+◌, ◌<◌, ◌≤◌, Bool, true, false, ◌&&◌, List, [], ◌∷◌, ◌++◌, ◌-◌, get_or, length, take, drop, suc, sym, refl, arith, eqb, nat_eq}
-use Rattle.std.specs.Prelude.{if◌then◌else◌}
-use Rattle.std.specs.List.{starts_with, onto_first, position_or_len}
-use Rattle.rv32_asm_syntax.proofs.Fronts.{last_of}
-use Rattle.std.proofs.lemmas.List.{take_all}
+use Rattle.std.proofs.Common.{◌≡◌, ◌≢◌, ℕ, ◌+◌, ◌<◌, ◌≤◌, Bool, true, false, ◌&&◌, List, [], ◌∷◌, ◌++◌, length, take, drop, suc, sym, refl, arith, eqb, nat_eq}
+use Rattle.std.specs.Borrow.{Bor}
+use Rattle.std.specs.Prelude.{if◌then◌else◌, Option, Some, None, MatchOption, unwrap_or}
+use Rattle.std.specs.List.{starts_with, onto_first, position_or_len, before_first, list_any}
+use Rattle.rv32_asm_syntax.proofs.Splits.{around}
 use Rattle.rv32_asm_syntax.specs.Lines.{lines_of}
-use Rattle.rv32_asm_syntax.specs.Parts.{without_return}
+use Rattle.rv32_asm_syntax.specs.Parts.{without_return, is_line_feed}
 
 abbrev pub len_of : List ℕ → ℕ
 len_of xs = position_or_len (λ byte. eqb byte 10) xs
@@ -104,26 +104,24 @@ return_goes [] = refl
 return_goes (x ∷ []) = refl
 return_goes (x ∷ y ∷ ys) = rw (return_goes (y ∷ ys)) refl
 
-other_stays : (front : List ℕ) (b : ℕ) → eqb b 13 ≡ false → without_return (front ++ b ∷ []) ≡ front ++ b ∷ []
-other_stays [] b e = rw e refl
-other_stays (x ∷ []) b e = rw e refl
-other_stays (x ∷ y ∷ ys) b e = rw (other_stays (y ∷ ys) b e) refl
+alone_stays : (b : Bool) (x : ℕ) → eqb x 13 ≡ b → x ∷ [] ≢ 13 ∷ [] → without_return (x ∷ []) ≡ x ∷ []
+alone_stays true x e other = absurd (other (grind (arith, e)))
+alone_stays false x e other = rw e refl
 
-split_last : (xs : List ℕ) (d : ℕ) → 0 < length xs → xs ≡ take (length xs - 1) xs ++ get_or xs (length xs - 1) d ∷ []
-split_last xs d some = let last = last_of xs (length xs) d some (omega arith) in rw (take_all (length xs) xs (omega arith)) at last
+return_stays : (xs : List ℕ) → ((front : List ℕ) → xs ≢ front ++ 13 ∷ []) → without_return xs ≡ xs
+return_stays [] other = refl
+return_stays (x ∷ []) other = alone_stays (eqb x 13) x refl (other [])
+return_stays (x ∷ y ∷ ys) other = rw (return_stays (y ∷ ys) (λ front same. other (x ∷ front) (rw same refl))) refl
 
-goes_off : (xs front : List ℕ) (b : ℕ) → xs ≡ front ++ b ∷ [] → b ≡ 13 → front ≡ without_return xs
-goes_off xs front b e f = rw (e, f) (sym (return_goes front))
+-- what `strip_suffix` gives, or the whole line
+pub stripped : (line result : Bor (List ℕ)) (front : Option (Bor (List ℕ))) → result ≡ unwrap_or front line → MatchOption front ((before : List ℕ) → line.now ≢ before ++ 13 ∷ []) (λ before. line.now ≡ before.now ++ 13 ∷ []) → result.now ≡ without_return line.now
+stripped line result None e other = rw e (sym (return_stays line.now other))
+stripped line result (Some before) e same = rw (e, same) (sym (return_goes before.now))
 
-stays_on : (xs front : List ℕ) (b : ℕ) → xs ≡ front ++ b ∷ [] → eqb b 13 ≡ false → xs ≡ without_return xs
-stays_on xs front b e f = rw e (sym (other_stays front b f))
+-- the first line, and what stands behind its line feed
+pub first_cut_off : (text line : List ℕ) (n : ℕ) → n ≡ len_of text → n < length text → line ≡ without_return (take n text) → (text ≡ before_first is_line_feed text ++ 10 ∷ drop (n + 1) text) × (line ≡ without_return (before_first is_line_feed text))
+first_cut_off text line n e few l = rw (sym e) (around 10 text n e few, l)
 
-pub return_off : (xs : List ℕ) (d : ℕ) → 0 < length xs → get_or xs (length xs - 1) d ≡ 13 → take (length xs - 1) xs ≡ without_return xs
-return_off xs d some e = goes_off xs (take (length xs - 1) xs) (get_or xs (length xs - 1) d) (split_last xs d some) e
-
-pub none_off : (xs : List ℕ) (d : ℕ) → 0 < length xs → eqb (get_or xs (length xs - 1) d) 13 ≡ false → xs ≡ without_return xs
-none_off xs d some e = stays_on xs (take (length xs - 1) xs) (get_or xs (length xs - 1) d) (split_last xs d some) e
-
-pub nothing_off : (xs : List ℕ) → length xs ≡ 0 → xs ≡ without_return xs
-nothing_off [] none = refl
-nothing_off (x ∷ xs) none = grind arith
+pub no_feed : (text : List ℕ) → length text ≤ len_of text → list_any is_line_feed text ≡ false
+no_feed [] none = refl
+no_feed (x ∷ xs) none = rw (never_fed x xs none) (no_feed xs (all_left x xs none))

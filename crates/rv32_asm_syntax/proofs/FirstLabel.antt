@@ -1,11 +1,11 @@
 -- The first label of a line.
-use Rattle.std.proofs.Common.{◌≡◌, ℕ, ◌+◌, ◌<◌, Bool, true, false, List, [], ◌∷◌, length, take, drop, length-drop, refl, sym, arith, eqb}
+use Rattle.std.proofs.Common.{◌≡◌, ℕ, ◌+◌, ◌<◌, Bool, true, false, List, [], ◌∷◌, ◌++◌, length, take, drop, length-drop, refl, sym, ap, ◌∙◌, arith, eqb}
 use Rattle.std.specs.List.{position_or_len, join_with_byte}
 use Rattle.std.proofs.lemmas.List.Splits.{slice_split_first, join_with_byte-slice_split}
-use Rattle.rv32_asm_syntax.specs.Characters.{is_name, skip_blanks}
+use Rattle.rv32_asm_syntax.specs.Characters.{is_name, is_blank, skip_blanks}
 use Rattle.rv32_asm_syntax.specs.Lines.{labels_in, behind_labels}
 use Rattle.rv32_asm_syntax.specs.Parts.{parts}
-use Rattle.rv32_asm_syntax.proofs.Splits.{one_part, some_parts}
+use Rattle.rv32_asm_syntax.proofs.Splits.{one_part, some_parts, around}
 
 abbrev pub at_colon : ℕ → Bool
 at_colon byte = eqb byte 58
@@ -64,3 +64,16 @@ no_name text name len e below f n =
 -- no colon
 pub no_colon : (text : List ℕ) (len : ℕ) → len ≡ len_of text → len ≡ length text → (labels_in (parts text) ≡ []) × (behind_labels (parts text) ≡ text)
 no_colon text len e f = rw (one_part at_colon text (omega (arith, e))) (refl, refl)
+
+skip_one : (c : Bool) (x : ℕ) (front rest : List ℕ) → is_blank x ≡ c → skip_blanks (front ++ 58 ∷ rest) ≡ skip_blanks front ++ 58 ∷ rest → skip_blanks (x ∷ front ++ 58 ∷ rest) ≡ skip_blanks (x ∷ front) ++ 58 ∷ rest
+skip_one true x front rest e next = rw e next
+skip_one false x front rest e next = rw e refl
+
+-- a colon ends the blanks
+skip_before : (front rest : List ℕ) → skip_blanks (front ++ 58 ∷ rest) ≡ skip_blanks front ++ 58 ∷ rest
+skip_before [] rest = refl
+skip_before (x ∷ front) rest = skip_one (is_blank x) x front rest refl (skip_before front rest)
+
+-- a name, its colon, and what stands behind that
+pub name_cut : (text name : List ℕ) (len : ℕ) → len ≡ len_of text → len < length text → name ≡ skip_blanks (take len text) → skip_blanks text ≡ name ++ 58 ∷ drop (len + 1) text
+name_cut text name len e below f = rw f (ap skip_blanks (around 58 text len e below) ∙ skip_before (take len text) (drop (len + 1) text))

@@ -1,8 +1,9 @@
 -- What stands at the front and at the end of a text.
-use Rattle.std.proofs.Common.{◌≡◌, ℕ, ◌+◌, ◌-◌, ◌<◌, ◌≤◌, Bool, true, false, List, [], ◌∷◌, ◌++◌, length, get_or, take, drop, refl, sym, arith, eqb, cond, ◌&&◌}
-use Rattle.std.specs.List.{prefix_len, list_all}
+use Rattle.std.proofs.Common.{◌≡◌, ℕ, ◌+◌, ◌-◌, ◌<◌, ◌≤◌, Bool, true, false, List, [], ◌∷◌, ◌++◌, length, get_or, take, drop, refl, sym, arith, ltb, cond, ◌&&◌}
+use Rattle.std.specs.List.{position_or_len}
+use Rattle.std.specs.Prelude.{Option, Some, None, unwrap_or}
+use Rattle.std.proofs.lemmas.List.Sums.{prefix_len-le-length}
 use Rattle.std.proofs.lemmas.List.{at_drop_more, take_more}
-use Rattle.std.proofs.lemmas.Grind.{common_steps}
 use Rattle.rv32_asm_syntax.specs.Characters.{is_blank, is_empty, skip_blanks, drop_end_blanks}
 
 pub blanks_go_on : (xs : List ℕ) (i d : ℕ) → i < length xs → is_blank (get_or xs i d) ≡ true → skip_blanks (drop i xs) ≡ skip_blanks (drop (i + 1) xs)
@@ -11,10 +12,16 @@ blanks_go_on xs i d below passes = rw (at_drop_more skip_blanks xs i d below, pa
 pub blanks_end : (xs : List ℕ) (i d : ℕ) → i < length xs → is_blank (get_or xs i d) ≡ false → skip_blanks (drop i xs) ≡ drop i xs
 blanks_end xs i d below stops = rw (at_drop_more (λ ys. ys) xs i d below, stops) refl
 
--- all pass where the front is the whole
-pub all_pass : {X : Type 0} (p : X → Bool) (xs : List X) → list_all p xs ≡ eqb (prefix_len p xs) (length xs)
-all_pass p [] = refl
-all_pass p (x ∷ xs) = grind (arith, common_steps, all_pass p xs)
+chosen : (b : Bool) (n len : ℕ) → ltb n len ≡ b → n ≤ len → unwrap_or (cond b (Some n) None) len ≡ n
+chosen true n len e within = refl
+chosen false n len e within = grind (arith, e, within)
+
+-- the first that passes, or the length where none does
+pub or_length : (p : ℕ → Bool) (xs : List ℕ) (found : Option ℕ) (n : ℕ) → n ≡ unwrap_or found (length xs) → found ≡ cond (ltb (position_or_len p xs) (length xs)) (Some (position_or_len p xs)) None → n ≡ position_or_len p xs
+or_length p xs found n e f = rw (e, f) (chosen _ (position_or_len p xs) (length xs) refl (prefix_len-le-length _ xs))
+
+pub begun : (begins found all : Bool) → begins ≡ true → found ≡ all → found ≡ (begins && all)
+begun begins found all e f = rw (e, f) refl
 
 pub end_blank_goes : (xs : List ℕ) (b : ℕ) → is_blank b ≡ true → drop_end_blanks (xs ++ b ∷ []) ≡ drop_end_blanks xs
 end_blank_goes [] b e = rw e refl

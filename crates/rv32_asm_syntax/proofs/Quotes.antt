@@ -1,5 +1,5 @@
 -- Strings are read from the front on.
-use Rattle.std.proofs.Common.{◌≡◌, ◌≢◌, ℕ, ◌<◌, ◌++◌, Bool, true, false, not, List, [], ◌∷◌, length, get_or, drop, refl, sym, arith, eqb, append_assoc, ap}
+use Rattle.std.proofs.Common.{◌≡◌, ◌≢◌, ℕ, ◌<◌, ◌++◌, Bool, true, false, not, List, [], ◌∷◌, length, get_or, drop, refl, sym, eqb, append_assoc}
 use Rattle.std.specs.Prelude.{Option, Some, None, option_map, option_and_then}
 use Rattle.std.specs.Str.{bytes_eq}
 use Rattle.rv32_asm_syntax.specs.Reading.{string_after, string_of, escape_of}
@@ -20,27 +20,15 @@ pub unknown : (text : List ℕ) (d : ℕ) → 0 < length text → escape_of (get
 unknown [] d some e = elim some [ ]
 unknown (x ∷ xs) d some e = with_escape x xs None e
 
-pub none_escaped : (text : List ℕ) → length text ≡ 0 → string_after (92 ∷ text) ≡ None
-none_escaped [] e = refl
-none_escaped (x ∷ xs) e = grind arith
-
 pub plain : (text : List ℕ) (d : ℕ) → 0 < length text → eqb (get_or text 0 d) 34 ≡ false → eqb (get_or text 0 d) 92 ≡ false → string_after text ≡ option_map (λ bytes. get_or text 0 d ∷ bytes) (string_after (drop 1 text))
 plain [] d some e f = elim some [ ]
 plain (x ∷ []) d some e f = rw e refl
 plain (x ∷ y ∷ ys) d some e f = rw (e, f) refl
 
-pub behind : (text : List ℕ) (d : ℕ) → 0 < length text → get_or text 0 d ≡ 92 → string_after text ≡ string_after (92 ∷ drop 1 text)
-behind [] d some e = elim some [ ]
-behind (x ∷ xs) d some e = ap (λ y. string_after (y ∷ xs)) e
-
 pub quoted : (text : List ℕ) (d : ℕ) → 0 < length text → get_or text 0 d ≡ 34 → text ≢ 34 ∷ [] → string_after text ≡ None
 quoted [] d some e other = elim some [ ]
 quoted (x ∷ []) d some e other = absurd (other (rw e refl))
 quoted (x ∷ y ∷ ys) d some e other = rw e refl
-
-pub nothing : (text : List ℕ) → length text ≡ 0 → string_after text ≡ None
-nothing [] e = refl
-nothing (x ∷ xs) e = grind arith
 
 unchanged : (o : Option (List ℕ)) → option_map (λ more. [] ++ more) o ≡ o
 unchanged None = refl

@@ -1,11 +1,12 @@
 -- What parts of the reading find.
 use Rattle.std.specs.Borrow.{Bor}
-use Rattle.rv32_asm_syntax.specs.Characters.{colon, comma, trimmed}
+use Rattle.rv32_asm_syntax.specs.Characters.{line_feed, carriage_return, colon, comma, is_in_words, trimmed}
+use Rattle.rv32_asm_syntax.specs.Keywords.{Keyword, DataWord, AsciiWord, AscizWord, keyword_of}
 use Rattle.rv32_asm_syntax.specs.declared.strings.Character.{Character}
 use Rattle.rv32_asm_syntax.specs.Reading.{string_after}
 use Rattle.rv32_asm_syntax.specs.Lines.{lines_of, labels_in, behind_labels}
-use Rattle.std.specs.List.{slice_split}
-use Rattle.std.specs.Prelude.{ℕ, List, [], ◌∷◌, ◌≡◌, ◌<◌, ◌==◌, ◌+◌, ◌*◌, ◌^◌, Option, Some, None, length, map, nat_lt, option_and_then, option_map, if◌then◌else◌}
+use Rattle.std.specs.List.{slice_split, before_first, list_any}
+use Rattle.std.specs.Prelude.{ℕ, List, Bool, true, false, [], ◌∷◌, ◌++◌, ◌≡◌, ◌<◌, ◌==◌, ◌+◌, ◌*◌, ◌^◌, Option, Some, None, length, map, take_while, nat_lt, option_and_then, option_map, if◌then◌else◌}
 use Rattle.std.specs.Char.{is_digit, digit_value}
 
 -- the number, where 32 bits hold it
@@ -19,8 +20,19 @@ with_digit base number digit = if is_digit digit base then as_word (number * bas
 -- the line without the carriage return that it may end with
 abbrev pub without_return : List ℕ → List ℕ
 without_return [] = []
-without_return (byte ∷ []) = if byte == 13 then [] else byte ∷ []
+without_return (byte ∷ []) = if byte == carriage_return then [] else byte ∷ []
 without_return (byte ∷ next ∷ bytes) = byte ∷ without_return (next ∷ bytes)
+
+abbrev pub is_line_feed : ℕ → Bool
+is_line_feed byte = byte == line_feed
+
+-- A text's first line: what stands before the first line feed, without the carriage return that it may end with, or
+-- all of a text that has no line feed. What is left is what stands behind the first line feed.
+abbrev pub IsFirstLine : List ℕ → List ℕ → Option (Bor (List ℕ)) → Type 0
+IsFirstLine text line (Some rest) =
+    (text ≡ before_first is_line_feed text ++ line_feed ∷ rest.now)
+    × (line ≡ without_return (before_first is_line_feed text))
+IsFirstLine text line None = (list_any is_line_feed text ≡ false) × (line ≡ text)
 
 -- the lines of what is left of a text, where more is left
 abbrev pub lines_left : Option (Bor (List ℕ)) → List (List ℕ)
@@ -38,6 +50,17 @@ IsFirstLabel text (Some label) =
     × (behind_labels (parts text) ≡ behind_labels (parts label.1.now))
     × (length label.1.now < length text)
 IsFirstLabel text None = (labels_in (parts text) ≡ []) × (behind_labels (parts text) ≡ text)
+
+-- what the word at the front of a text stands for
+abbrev pub front_keyword : List ℕ → Option Keyword
+front_keyword text = keyword_of (take_while is_in_words text)
+
+-- values and strings are kept in memory
+abbrev pub takes_memory : Option Keyword → Bool
+takes_memory (Some (DataWord width)) = true
+takes_memory (Some AsciiWord) = true
+takes_memory (Some AscizWord) = true
+takes_memory _ = false
 
 -- the operands of a text that has some
 abbrev pub operand_texts : List ℕ → List (List ℕ)

@@ -47,11 +47,7 @@ pub fn name_len(text: &[u8]) -> usize
     ensures counted { result ≡ prefix_len spec.is_in_names text.now }
     ensures within { result ≤ length text.now }
 {
-    let mut len = 0;
-    while len < text.len() && is_in_names(text[len]) {
-        len += 1;
-    }
-    len
+    text.iter().take_while(|byte| is_in_names(**byte)).count()
 }
 
 /// How many bytes at the front the word of a statement may have.
@@ -59,11 +55,7 @@ pub fn word_len(text: &[u8]) -> usize
     ensures counted { result ≡ prefix_len spec.is_in_words text.now }
     ensures within { result ≤ length text.now }
 {
-    let mut len = 0;
-    while len < text.len() && is_in_words(text[len]) {
-        len += 1;
-    }
-    len
+    text.iter().take_while(|byte| is_in_words(**byte)).count()
 }
 
 /// How many bytes stand before the first one of this value.
@@ -71,19 +63,16 @@ pub fn len_before(wanted: u8, text: &[u8]) -> usize
     ensures counted { result ≡ position_or_len (λ byte. byte == wanted) text.now }
     ensures within { result ≤ length text.now }
 {
-    let mut len = 0;
-    while len < text.len() && text[len] != wanted {
-        len += 1;
-    }
-    len
+    text.iter()
+        .position(|byte| *byte == wanted)
+        .unwrap_or(text.len())
 }
 
 /// Whether a text is a name.
-#[tactic(auto, using(crate::proofs::Fronts::all_pass))]
 pub fn is_name(text: &[u8]) -> bool
     ensures { result ≡ spec.is_name text.now }
 {
-    begins_as_name(text) && name_len(text) == text.len()
+    begins_as_name(text) && text.iter().all(|byte| is_in_names(*byte))
 }
 
 /// The text without the blanks that it begins with.

@@ -2,9 +2,14 @@
 
 ghost use Rattle.rv32_asm_syntax.specs.Lines as spec;
 ghost use Rattle.rv32_asm_syntax.specs.Parts as parts;
-ghost use Rattle.rv32_asm_syntax.specs.Parts.{IsFirstLabel, lines_left};
+ghost use Rattle.rv32_asm_syntax.specs.Characters as characters;
+ghost use Rattle.rv32_asm_syntax.specs.Characters.{colon};
+ghost use Rattle.rv32_asm_syntax.specs.Parts.{IsFirstLabel, IsFirstLine, lines_left};
 ghost use Rattle.rv32_asm_syntax.specs.declared.lines.Standing.TheVariants.{Outside};
-ghost use Rattle.std.specs.Prelude.{IfSome, length, ◌∷◌, ◌<◌, ◌≡◌};
+ghost use Rattle.std.specs.Prelude.{IfSome, length, true, ◌∷◌, ◌++◌, ◌<◌, ◌≡◌};
+
+#[cfg(test)]
+mod tests;
 
 use crate::characters::{is_name, len_before, skip_blanks, trimmed};
 
@@ -78,23 +83,17 @@ pub fn has_non_ascii(line: &[u8]) -> bool
 }
 
 // The line without the carriage return that it may end with.
-#[tactic(auto, using(crate::proofs::Cuts::return_off, crate::proofs::Cuts::none_off, crate::proofs::Cuts::nothing_off))]
 fn without_return(line: &[u8]) -> &[u8]
     ensures { result.now ≡ parts.without_return line.now }
 {
-    if line.is_empty() {
-        return line;
-    }
-    let front = line.len() - 1;
-    if line[front] == b'\r' {
-        return &line[..front];
-    }
-    line
+    line.strip_suffix(b"\r").unwrap_or(line)
 }
 
-/// The first line of a text, and what is left of it behind the line feed that ends the line.
-#[tactic(auto, using(crate::proofs::Cuts::first_cut, crate::proofs::Cuts::last_line))]
+/// The first line of a text, without the line feed, or carriage return and line feed, that ends it, and what stands
+/// behind that line feed, where there is one.
+#[tactic(auto, using(crate::proofs::Cuts::first_cut, crate::proofs::Cuts::last_line, crate::proofs::Cuts::no_feed))]
 pub fn first_line(text: &[u8]) -> (&[u8], Option<&[u8]>)
+    ensures cut { IsFirstLine text.now result.0.now result.1 }
     ensures lines { spec.lines_of text.now ≡ result.0.now ∷ lines_left result.1 }
     ensures shorter { IfSome result.1 (λ rest. length rest.now < length text.now) }
 {
@@ -106,8 +105,11 @@ pub fn first_line(text: &[u8]) -> (&[u8], Option<&[u8]>)
     }
 }
 
-/// The first label of a line without its comment, and what stands behind the label's colon.
+/// The first label of a line without its comment, which blanks may stand before, and all that stands behind the label's
+/// colon.
 pub fn first_label(text: &[u8]) -> Option<(&[u8], &[u8])>
+    ensures cut { IfSome result (λ label. characters.skip_blanks text.now ≡ label.0.now ++ colon ∷ label.1.now) }
+    ensures named { IfSome result (λ label. characters.is_name label.0.now ≡ true) }
     ensures labels { IsFirstLabel text.now result }
 {
     let len = len_before(b':', text);

@@ -71,10 +71,10 @@ pub fn number_of(text: &[u8]) -> Option<i64>
     ensures least { IfSome result (λ number. neg_ℤ (pos (2 ^ 31)) ≤ℤ number) }
     ensures most { IfSome result (λ number. number ≤ℤ pos (2 ^ 32 - 1)) }
 {
-    if text.starts_with(b"0x") {
-        unsigned_number(16, &text[2..])
-    } else if text.starts_with(b"-") {
-        negated(&text[1..])
+    if let Some(digits) = text.strip_prefix(b"0x") {
+        unsigned_number(16, digits)
+    } else if let Some(digits) = text.strip_prefix(b"-") {
+        negated(digits)
     } else {
         unsigned_number(10, text)
     }

@@ -62,11 +62,7 @@ fn enclosed_register(text: &[u8]) -> Option<u8>
     ensures value { result ≡ spec.enclosed_register text.now }
     ensures register { IfSome result (λ number. number < 32) }
 {
-    if text.ends_with(b")") {
-        register_of(trimmed(&text[..text.len() - 1]))
-    } else {
-        None
-    }
+    register_of(trimmed(text.strip_suffix(b")")?))
 }
 
 /// A place in memory: an offset, and a register in parentheses.

@@ -1,13 +1,16 @@
 //! The statement of a line: its word, and the operands behind it.
 
 ghost use Rattle.rv32_asm_syntax.specs.Keywords.{AlignWord, AsciiWord, AscizWord, InstructionWord, SpaceWord};
+ghost use Rattle.rv32_asm_syntax.specs.Lines as lines;
+ghost use Rattle.rv32_asm_syntax.specs.Parts.{front_keyword, takes_memory};
 ghost use Rattle.rv32_asm_syntax.specs.Reading as spec;
 ghost use Rattle.rv32_asm_syntax.specs.Seen as seen;
 ghost use Rattle.rv32_asm_syntax.specs.Seen.{statement};
 ghost use Rattle.rv32_asm_syntax.specs.Statements.{Nothing};
 ghost use Rattle.rv32_asm_syntax.specs.declared.fault.AsmFault.{AsmFault};
+ghost use Rattle.rv32_asm_syntax.specs.declared.fault.LineError.TheVariants as cause;
 ghost use Rattle.rv32_asm_syntax.specs.declared.fault.LineError.TheVariants.{Fault};
-ghost use Rattle.std.specs.Prelude.{IfOk, Ok, Err, Some, None, neg_ℤ, option_map, pos, if◌then◌else◌, ◌<◌, ◌^◌, ◌≡◌, ◌≤ℤ◌};
+ghost use Rattle.std.specs.Prelude.{IfOk, OnErr, true, Ok, Err, Some, None, [], ◌∷◌, neg_ℤ, option_map, pos, if◌then◌else◌, ◌<◌, ◌^◌, ◌≡◌, ◌≤ℤ◌};
 
 #[cfg(test)]
 mod tests;
@@ -22,31 +25,37 @@ use crate::operands::{expressions_of, operands_of, two_operands, with_operands};
 use crate::registers::register_of;
 use crate::statements::{Expression, Immediate, Instruction, Statement};
 use crate::strings::string_of;
+use arrayvec::ArrayVec;
 use rv32_decode::Op;
 use sec_base::{NoMemory, Width};
 use std::alloc::Global;
 
+fn alone(instruction: Instruction<'_>) -> ArrayVec<Instruction<'_>, 2>
+    ensures { result.items ≡ instruction.entry ∷ [] }
+{
+    let mut instructions = ArrayVec::new();
+    instructions.push(instruction);
+    instructions
+}
+
 // An instruction alone, with the fields that its operands give.
 #[tactic(auto, unfolding(crate::specs::Reading::statement_with))]
 fn one_instruction<'a>(
-    alloc: Global,
     operands: &[Operand],
     instruction: Instruction<'a>,
     text: &'a [u8],
-) -> Result<Option<Statement<'a>>, NoMemory>
-    ensures { IfOk result (λ s. option_map statement s
-        ≡ spec.statement_with (InstructionWord operands.now (seen.instruction instruction.entry)) text.now) }
+) -> Option<Statement<'a>>
+    ensures { option_map statement result
+        ≡ spec.statement_with (InstructionWord operands.now (seen.instruction instruction.entry)) text.now }
 {
-    match with_operands(operands, operands_of(text), instruction) {
-        Some(given) => Ok(Some(Statement::Instructions(vec![in alloc; given]?))),
-        None => Ok(None),
-    }
+    let given = with_operands(operands, operands_of(text), instruction)?;
+    Some(Statement::Instructions(alone(given)))
 }
 
 // The value put into a register by its upper and its lower part.
-fn pair<'a>(alloc: Global, rd: u8, value: Expression<'a>) -> Result<Vec<Instruction<'a>>, NoMemory>
+fn pair<'a>(rd: u8, value: Expression<'a>) -> ArrayVec<Instruction<'a>, 2>
     requires { rd < 32 }
-    ensures { IfOk result (λ is. seen.instructions is.items ≡ spec.pair rd (seen.expression value.entry)) }
+    ensures { seen.instructions result.items ≡ spec.pair rd (seen.expression value.entry) }
 {
     let upper = Instruction {
         op: Op::Lui,
@@ -62,48 +71,42 @@ fn pair<'a>(alloc: Global, rd: u8, value: Expression<'a>) -> Result<Vec<Instruct
         rs2: 0,
         immediate: Immediate::Lower(value),
     };
-    Ok(vec![in alloc; upper, lower]?)
+    ArrayVec::from([upper, lower])
 }
 
 // A number put into a register, by one instruction where ADDI can.
-fn loaded(alloc: Global, rd: u8, number: i64) -> Result<Vec<Instruction<'static>>, NoMemory>
+fn loaded(rd: u8, number: i64) -> ArrayVec<Instruction<'static>, 2>
     requires register { rd < 32 }
     requires least { neg_ℤ (pos (2 ^ 32)) ≤ℤ number }
     requires most { number ≤ℤ pos (2 ^ 32) }
-    ensures { IfOk result (λ is. seen.instructions is.items ≡ spec.loaded rd number) }
+    ensures { seen.instructions result.items ≡ spec.loaded rd number }
 {
     if (-2048..=2047).contains(&number) {
-        return Ok(vec![in alloc; Instruction::with_number(Op::Addi, rd, 0, 0, number)]?);
+        return alone(Instruction::with_number(Op::Addi, rd, 0, 0, number));
     }
-    pair(alloc, rd, Expression::number_alone(number))
+    pair(rd, Expression::number_alone(number))
 }
 
 // A register and a number.
 #[tactic(auto, using(crate::proofs::Commas::li_other))]
-fn li_of<'a>(alloc: Global, text: &'a [u8]) -> Result<Option<Statement<'a>>, NoMemory>
-    ensures { IfOk result (λ s. option_map statement s ≡ spec.li_of (spec.operands_of text.now)) }
+fn li_of(text: &[u8]) -> Option<Statement<'_>>
+    ensures { option_map statement result ≡ spec.li_of (spec.operands_of text.now) }
 {
-    let Some((register, number)) = two_operands(text) else {
-        return Ok(None);
-    };
-    match (register_of(register), number_of(number)) {
-        (Some(rd), Some(number)) => Ok(Some(Statement::Instructions(loaded(alloc, rd, number)?))),
-        _ => Ok(None),
-    }
+    let (register, number) = two_operands(text)?;
+    let rd = register_of(register)?;
+    let number = number_of(number)?;
+    Some(Statement::Instructions(loaded(rd, number)))
 }
 
 // A register and an expression.
 #[tactic(auto, using(crate::proofs::Commas::la_other))]
-fn la_of<'a>(alloc: Global, text: &'a [u8]) -> Result<Option<Statement<'a>>, NoMemory>
-    ensures { IfOk result (λ s. option_map statement s ≡ spec.la_of (spec.operands_of text.now)) }
+fn la_of(text: &[u8]) -> Option<Statement<'_>>
+    ensures { option_map statement result ≡ spec.la_of (spec.operands_of text.now) }
 {
-    let Some((register, value)) = two_operands(text) else {
-        return Ok(None);
-    };
-    match (register_of(register), expression_of(value)) {
-        (Some(rd), Some(value)) => Ok(Some(Statement::Instructions(pair(alloc, rd, value)?))),
-        _ => Ok(None),
-    }
+    let (register, value) = two_operands(text)?;
+    let rd = register_of(register)?;
+    let value = expression_of(value)?;
+    Some(Statement::Instructions(pair(rd, value)))
 }
 
 // One or more values.
@@ -179,17 +182,15 @@ fn statement_with<'a>(
     keyword: Keyword,
     text: &'a [u8],
 ) -> Result<Option<Statement<'a>>, NoMemory>
-    ensures { IfOk result (λ s. option_map statement s ≡ spec.statement_with (seen.keyword keyword) text.now) }
+    ensures read { IfOk result (λ s. option_map statement s ≡ spec.statement_with (seen.keyword keyword) text.now) }
+    ensures memory { OnErr result (takes_memory (Some (seen.keyword keyword)) ≡ true) }
 {
     match keyword {
-        Keyword::Instruction(operands, instruction) => one_instruction(
-            alloc,
-            operands,
-            instruction,
-            text,
-        ),
-        Keyword::LoadImmediate => li_of(alloc, text),
-        Keyword::LoadAddress => la_of(alloc, text),
+        Keyword::Instruction(operands, instruction) => {
+            Ok(one_instruction(operands, instruction, text))
+        }
+        Keyword::LoadImmediate => Ok(li_of(text)),
+        Keyword::LoadAddress => Ok(la_of(text)),
         Keyword::Data(width) => data_of(alloc, width, text),
         Keyword::Ascii => ascii_of(alloc, text),
         Keyword::Asciz => asciz_of(alloc, text),
@@ -204,6 +205,7 @@ fn statement_with<'a>(
 fn statement_in<'a>(alloc: Global, text: &'a [u8]) -> Result<Statement<'a>, LineError>
     ensures read { IfOk result (λ s. spec.statement_in text.now ≡ Ok (statement s)) }
     ensures refused { (fault : AsmFault) → result ≡ Err (Fault fault) → spec.statement_in text.now ≡ Err fault }
+    ensures memory { result ≡ Err cause.NoMemory → takes_memory (front_keyword text.now) ≡ true }
 {
     if text.is_empty() {
         return Ok(Statement::Nothing);
@@ -218,11 +220,13 @@ fn statement_in<'a>(alloc: Global, text: &'a [u8]) -> Result<Statement<'a>, Line
     }
 }
 
-/// The statement of a line, which may have labels before it and a comment behind it. `NoMemory` may come at any line.
+/// The statement of a line, which may have labels before it and a comment behind it. `NoMemory` may come at any line of
+/// values or of a string, and at no other.
 #[tactic(auto, unfolding(crate::specs::Reading::statement_of))]
 pub fn statement_of<'a>(alloc: Global, line: &'a [u8]) -> Result<Statement<'a>, LineError>
     ensures read { IfOk result (λ s. spec.statement_of line.now ≡ Ok (statement s)) }
     ensures refused { (fault : AsmFault) → result ≡ Err (Fault fault) → spec.statement_of line.now ≡ Err fault }
+    ensures memory { result ≡ Err cause.NoMemory → takes_memory (front_keyword (lines.statement_text line.now)) ≡ true }
 {
     if has_non_ascii(without_comment(line)) {
         return Err(LineError::Fault(AsmFault::Unknown));

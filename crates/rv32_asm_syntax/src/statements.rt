@@ -2,6 +2,7 @@
 
 ghost use Rattle.std.specs.Prelude.{pos, neg_ℤ, ◌≤ℤ◌, ◌<◌, ◌^◌};
 
+use arrayvec::ArrayVec;
 use rv32_decode::Op;
 use sec_base::Width;
 
@@ -95,11 +96,25 @@ impl<'a> Instruction<'a> {
     }
 }
 
+impl<'a> Default for Instruction<'a> {
+    ghost use Rattle.rv32_asm_syntax.specs.Seen.{instruction};
+    ghost use Rattle.rv32_asm_syntax.specs.Statements as meant;
+    ghost use Rattle.rv32_decode.specs.declared.Op.TheVariants.{Addi};
+    ghost use Rattle.std.specs.Prelude.{pos, ◌≡◌};
+
+    ghost is_default = { λ each. instruction each ≡ meant.instruction Addi 0 0 0 (pos 0) };
+
+    /// `nop`.
+    fn default() -> Self {
+        Instruction::with_number(Op::Addi, 0, 0, 0, 0)
+    }
+}
+
 /// What one line asks for.
 #[derive(Drop)]
 pub enum Statement<'a> {
-    /// One instruction after another.
-    Instructions(Vec<Instruction<'a>>),
+    /// One instruction, or two, one after the other.
+    Instructions(ArrayVec<Instruction<'a>, 2>),
     /// A number of this width for each value.
     Data(Width, Vec<Expression<'a>>),
     /// These bytes.

@@ -1,5 +1,6 @@
 //! Strings in quotation marks.
 
+ghost use Rattle.rv32_asm_syntax.specs.Characters.{backslash, quotation_mark};
 ghost use Rattle.rv32_asm_syntax.specs.Reading as spec;
 ghost use Rattle.rv32_asm_syntax.specs.Parts.{string_from};
 ghost use Rattle.std.specs.Prelude.{IfOk, IfSome, [], length, option_map, ◌∷◌, ◌<◌, ◌≡◌, ◌≢◌};
@@ -29,43 +30,32 @@ struct Character<'a> {
 }
 
 // The byte that a character behind a backslash means, and what stands behind the character.
-#[tactic(auto, using(std::proofs::lemmas::List::take_rest, crate::proofs::Quotes::escaped, crate::proofs::Quotes::none_escaped, crate::proofs::Quotes::unknown))]
+#[tactic(auto, using(crate::proofs::Quotes::escaped, crate::proofs::Quotes::unknown))]
 fn escaped_character(text: &[u8]) -> Option<Character<'_>>
-    ensures character { spec.string_after (92 ∷ text.now) ≡ string_from result }
+    ensures character { spec.string_after (backslash ∷ text.now) ≡ string_from result }
     ensures shorter { IfSome result (λ c. length c.rest.now < length text.now) }
 {
-    if text.is_empty() {
+    let [escape, rest @ ..] = text else {
         return None;
-    }
-    match escape_of(text[0]) {
-        Some(meaning) => Some(Character {
-            meaning,
-            rest: &text[1..],
-        }),
-        None => None,
-    }
+    };
+    let meaning = escape_of(*escape)?;
+    Some(Character { meaning, rest })
 }
 
 // The byte that the first character of a string means, and what stands behind the character.
-#[tactic(auto, using(std::proofs::lemmas::List::take_rest, crate::proofs::Quotes::plain, crate::proofs::Quotes::behind, crate::proofs::Quotes::quoted, crate::proofs::Quotes::nothing))]
+#[tactic(auto, using(crate::proofs::Quotes::plain, crate::proofs::Quotes::quoted))]
 fn first_character(text: &[u8]) -> Option<Character<'_>>
-    ensures character { text.now ≢ 34 ∷ [] → spec.string_after text.now ≡ string_from result }
+    ensures character { text.now ≢ quotation_mark ∷ [] → spec.string_after text.now ≡ string_from result }
     ensures shorter { IfSome result (λ c. length c.rest.now < length text.now) }
 {
-    if text.is_empty() {
-        return None;
+    match text {
+        [] | [b'"', ..] => None,
+        [b'\\', rest @ ..] => escaped_character(rest),
+        [byte, rest @ ..] => Some(Character {
+            meaning: *byte,
+            rest,
+        }),
     }
-    let byte = text[0];
-    if byte == b'"' {
-        return None;
-    }
-    if byte == b'\\' {
-        return escaped_character(&text[1..]);
-    }
-    Some(Character {
-        meaning: byte,
-        rest: &text[1..],
-    })
 }
 
 /// The bytes of a string in quotation marks, or `None` where a text is none.
@@ -73,10 +63,10 @@ fn first_character(text: &[u8]) -> Option<Character<'_>>
 pub fn string_of(alloc: Global, text: &[u8]) -> Result<Option<Vec<u8>>, NoMemory>
     ensures { IfOk result (λ string. option_map (λ bytes. bytes.items) string ≡ spec.string_of text.now) }
 {
-    if text.is_empty() || text[0] != b'"' {
+    let [b'"', rest @ ..] = text else {
         return Ok(None);
-    }
-    let mut left = &text[1..];
+    };
+    let mut left = rest;
     let mut bytes = Vec::new(alloc);
     while left != b"\"".as_slice() {
         let Some(character) = first_character(left) else {
