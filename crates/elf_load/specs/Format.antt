@@ -13,6 +13,14 @@ u16_at file at = little_number 2 (drop at file)
 unfoldable pub u32_at : List ℕ → ℕ → ℕ
 u32_at file at = little_number 4 (drop at file)
 
+-- how a file begins: 7f and the letters ELF
+abbrev pub magic : List ℕ
+magic = 0x7f ∷ 0x45 ∷ 0x4c ∷ 0x46 ∷ []
+
+-- and behind them: 32 bits, lowest byte first, version 1
+abbrev pub class_bytes : List ℕ
+class_bytes = 1 ∷ 1 ∷ 1 ∷ []
+
 -- the file header, which has 52 bytes
 abbrev pub file_header : List ℕ → FileHeader
 file_header file = record {

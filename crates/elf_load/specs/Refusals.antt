@@ -6,19 +6,19 @@ use Rattle.elf_load.specs.declared.fault.ElfFault.{ElfFault}
 use Rattle.elf_load.specs.declared.fault.ElfFault.TheVariants.{Short, Magic, Class, Kind, Machine, Compressed, Table, Interp, Segment, Entry}
 use Rattle.elf_load.specs.declared.header.FileHeader.{FileHeader}
 use Rattle.elf_load.specs.declared.table.ProgramHeader.{ProgramHeader}
-use Rattle.elf_load.specs.Format.{file_header, program_headers}
+use Rattle.elf_load.specs.Format.{class_bytes, file_header, magic, program_headers}
 
 -- fewer bytes than a file header has
 abbrev pub is_short : List ℕ → Bool
 is_short file = nat_lt (length file) 52
 
--- bytes 0 to 3: 7f and the letters ELF
+-- bytes 0 to 3 are those of an ELF file
 abbrev pub has_magic : List ℕ → Bool
-has_magic file = starts_with nat_eq file (0x7f ∷ 0x45 ∷ 0x4c ∷ 0x46 ∷ [])
+has_magic file = starts_with nat_eq file magic
 
--- bytes 4 to 6: 32 bits, lowest byte first, version 1
+-- bytes 4 to 6 say 32 bits, lowest byte first, version 1
 abbrev pub has_class : List ℕ → Bool
-has_class file = starts_with nat_eq (drop 4 file) (1 ∷ 1 ∷ 1 ∷ [])
+has_class file = starts_with nat_eq (drop 4 file) class_bytes
 
 -- an executable file
 abbrev pub is_executable : FileHeader → Bool

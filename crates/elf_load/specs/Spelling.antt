@@ -2,6 +2,7 @@
 use Rattle.std.specs.Prelude.{ℕ, ◌+◌, ◌*◌, List, [], ◌∷◌, ◌++◌, length, replicate}
 use Rattle.std.specs.List.{flat_map}
 use Rattle.byteorder.specs.Endian.{little_bytes}
+use Rattle.elf_load.specs.Format.{class_bytes, magic}
 use Rattle.sec_base.specs.declared.program.Segment.{Segment}
 use Rattle.sec_base.specs.declared.program.Image.{Image}
 
@@ -12,9 +13,9 @@ u16_bytes n = little_bytes 2 n
 unfoldable pub u32_bytes : ℕ → List ℕ
 u32_bytes n = little_bytes 4 n
 
--- 7f and the letters ELF, 32 bits, lowest byte first, version 1, and nine zeros
+-- how an ELF file begins, and nine zeros
 abbrev pub ident : List ℕ
-ident = 0x7f ∷ 0x45 ∷ 0x4c ∷ 0x46 ∷ 1 ∷ 1 ∷ 1 ∷ [] ++ replicate 9 0
+ident = magic ++ class_bytes ++ replicate 9 0
 
 -- the file header of a program with so many segments
 unfoldable pub spelled_header : ℕ → ℕ → List ℕ

@@ -1,3 +1,5 @@
+//! Why a file is refused.
+
 ghost use Rattle.std.specs.Prelude.{◌≡◌};
 ghost use Rattle.elf_load.specs.Faults.{code_of, name_of};
 

@@ -1,3 +1,5 @@
+//! The file header, and what it shows of a file.
+
 ghost use Rattle.std.specs.Prelude.{◌≡◌, ◌+◌, ◌*◌, ◌≤◌, length, IfOk};
 ghost use Rattle.std.specs.Result.{result_err};
 ghost use Rattle.elf_load.specs.Format.{file_header};

@@ -1,3 +1,5 @@
+//! Programs from files.
+
 ghost use Rattle.std.specs.Prelude.{◌≡◌, ◌+◌, ◌≤◌, ◌<◌, ◌^◌, length, take, drop, filter, map, None, Some, Err, IfOk, OnOk};
 ghost use Rattle.sec_base.specs.Layout.{IsMemorySize};
 ghost use Rattle.sec_base.specs.Program.{from_zero};

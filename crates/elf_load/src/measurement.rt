@@ -1,3 +1,5 @@
+//! The measurement of a program.
+
 ghost use Rattle.std.specs.Prelude.{◌≡◌, ◌<◌, ◌^◌, ◌++◌, List, ℕ, length};
 ghost use Rattle.sha2.specs.Hashers.{Holds256};
 ghost use Rattle.elf_load.specs.Measurement.{measurement_of, segment_record};

@@ -1,3 +1,5 @@
+//! The program headers.
+
 ghost use Rattle.std.specs.Prelude.{◌≡◌, ◌+◌, ◌*◌, ◌≤◌, length, IfOk};
 ghost use Rattle.std.specs.List.{list_any};
 ghost use Rattle.elf_load.specs.Format.{program_header, headers_from};

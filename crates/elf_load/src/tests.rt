@@ -111,7 +111,7 @@ fn segments_with(rt: &HostRuntime, length: usize, edits: &[(u8, u32)]) -> Result
 }
 
 // Case, length, edits, and the number of segments or the refusal.
-const ROWS: [(&str, usize, &[(u8, u32)], Result<u64, ElfFault>); 19] = [
+const ROWS: [(&str, usize, &[(u8, u32)], Result<u64, ElfFault>); 21] = [
     ("51 bytes", 51, &[], Err(ElfFault::Short)),
     ("letters ELG", 96, &[(0, 0x474c_457f)], Err(ElfFault::Magic)),
     ("64 bits", 96, &[(4, 0x0001_0102)], Err(ElfFault::Class)),
@@ -150,6 +150,12 @@ const ROWS: [(&str, usize, &[(u8, u32)], Result<u64, ElfFault>); 19] = [
         Err(ElfFault::Segment),
     ),
     (
+        "bytes from fffffffc on",
+        96,
+        &[(56, 0xffff_fffc)],
+        Err(ElfFault::Segment),
+    ),
+    (
         "one byte at ffffffff",
         96,
         &[(60, 0xffff_ffff), (68, 0), (72, 1)],
@@ -169,6 +175,12 @@ const ROWS: [(&str, usize, &[(u8, u32)], Result<u64, ElfFault>); 19] = [
     ),
     ("entry 2", 96, &[(24, 2)], Err(ElfFault::Entry)),
     ("entry the size", 96, &[(24, SIZE)], Err(ElfFault::Entry)),
+    (
+        "entry fffffffc",
+        96,
+        &[(24, 0xffff_fffc)],
+        Err(ElfFault::Entry),
+    ),
     ("entry the size - 4", 96, &[(24, SIZE - 4)], Ok(1)),
     (
         "entry 2 and a misfit",
@@ -179,7 +191,7 @@ const ROWS: [(&str, usize, &[(u8, u32)], Result<u64, ElfFault>); 19] = [
 ];
 
 #[test]
-fn refusals(rt: HostRuntime) {
+fn a_file_is_taken_or_refused_by_its_first_fault(rt: HostRuntime) {
     for (case, length, edits, expected) in &ROWS {
         let expected = expected.map_err(ElfError::Fault);
         assert_eq!(rt; segments_with(&rt, *length, edits), expected, "{case}");

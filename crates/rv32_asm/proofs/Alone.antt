@@ -8,11 +8,10 @@ use Rattle.rv32_text.specs.declared.names.Style.{Style}
 use Rattle.rv32_text.specs.declared.names.Style.TheVariants.{Bare}
 use Rattle.rv32_asm_syntax.specs.Characters.{trimmed}
 use Rattle.rv32_asm_syntax.specs.Keywords.{directives, keyword_of, keywords, long_pseudoinstructions, pseudoinstructions, row_words}
-use Rattle.rv32_asm.specs.Law.{IsReadBack}
 use Rattle.rv32_asm_syntax.specs.Lines.{statement_text, without_comment}
 use Rattle.rv32_asm_syntax.specs.Reading.{operands_of, statement_of, statement_with}
 use Rattle.rv32_asm_syntax.specs.Statements.{Instructions, instruction}
-use Rattle.rv32_asm.proofs.Readings.{instruction_is, read_back}
+use Rattle.rv32_asm.proofs.Readings.{IsWordBack, instruction_is, read_back}
 
 abbrev pub is_bare : Style → Bool
 is_bare Bare = true
@@ -81,7 +80,7 @@ module _ (size address : ℕ) (aligned : address % 4 ≡ 0) (inside : address + 
   unfolding statement_of without_comment statement_text trimmed statement_with operands_of keyword_of keywords row_words pseudoinstructions long_pseudoinstructions directives rows mnemonic_of
   fence_means = refl
 
-  pub fence_back : IsReadBack size 0x0ff0000f address
+  pub fence_back : IsWordBack size 0x0ff0000f address
   unfolding word_of row_for rows number_of placed
   fence_back =
       read_back size 0x0ff0000f address (codes "fence") (Instructions (instruction Fence 0 0 0 (pos 0xff) ∷ [])) fence_text
@@ -96,7 +95,7 @@ module _ (size address : ℕ) (aligned : address % 4 ≡ 0) (inside : address + 
   unfolding statement_of without_comment statement_text trimmed statement_with operands_of keyword_of keywords row_words pseudoinstructions long_pseudoinstructions directives rows mnemonic_of
   fence_i_means = refl
 
-  pub fence_i_back : IsReadBack size 0x0000100f address
+  pub fence_i_back : IsWordBack size 0x0000100f address
   unfolding word_of row_for rows number_of placed
   fence_i_back =
       read_back size 0x0000100f address (codes "fence.i") (Instructions (instruction FenceI 0 0 0 (pos 0) ∷ [])) fence_i_text
@@ -111,7 +110,7 @@ module _ (size address : ℕ) (aligned : address % 4 ≡ 0) (inside : address + 
   unfolding statement_of without_comment statement_text trimmed statement_with operands_of keyword_of keywords row_words pseudoinstructions long_pseudoinstructions directives rows mnemonic_of
   ecall_means = refl
 
-  pub ecall_back : IsReadBack size 0x00000073 address
+  pub ecall_back : IsWordBack size 0x00000073 address
   unfolding word_of row_for rows number_of placed
   ecall_back =
       read_back size 0x00000073 address (codes "ecall") (Instructions (instruction Ecall 0 0 0 (pos 0) ∷ [])) ecall_text
@@ -126,7 +125,7 @@ module _ (size address : ℕ) (aligned : address % 4 ≡ 0) (inside : address + 
   unfolding statement_of without_comment statement_text trimmed statement_with operands_of keyword_of keywords row_words pseudoinstructions long_pseudoinstructions directives rows mnemonic_of
   ebreak_means = refl
 
-  pub ebreak_back : IsReadBack size 0x00100073 address
+  pub ebreak_back : IsWordBack size 0x00100073 address
   unfolding word_of row_for rows number_of placed
   ebreak_back =
       read_back size 0x00100073 address (codes "ebreak") (Instructions (instruction Ebreak 0 0 0 (pos 0) ∷ [])) ebreak_text

@@ -2,7 +2,6 @@
 use Rattle.std.proofs.Common.{◌≡◌, ℕ, ◌+◌, ◌*◌, ◌<◌, ◌^◌, Bool, true, false, not, List, [], ◌∷◌, ◌++◌, Result, Ok, Err, length, refl, ap, ◌∙◌, arith, length-append, if◌then◌else◌}
 use Rattle.std.specs.Prelude.{IsOkAnd}
 use Rattle.std.proofs.lemmas.List.{length-replicate}
-use Rattle.std.specs.List.{flat_map}
 use Rattle.std.specs.Int.{to_le_bytes, w32}
 use Rattle.sec_base.specs.Width.{width_bytes}
 use Rattle.sec_base.specs.declared.memory.Width.{Width}
@@ -10,13 +9,13 @@ use Rattle.sec_base.specs.declared.memory.Width.TheVariants.{One, Two, Four}
 use Rattle.rv32_decode.specs.Table.{word_of}
 use Rattle.rv32_asm_syntax.specs.declared.fault.AsmFault.{AsmFault}
 use Rattle.rv32_asm_syntax.specs.declared.fault.AsmFault.TheVariants.{Range, Missing}
-use Rattle.rv32_asm.specs.Course.{behind, behind_line}
+use Rattle.rv32_asm.specs.Course.{behind_line}
 use Rattle.rv32_asm.specs.Emission.{with_more}
-use Rattle.rv32_asm.specs.Encoding.{bytes_at, code_from, encoded_at, is_in_range, misses_label, number_bytes}
+use Rattle.rv32_asm.specs.Encoding.{bytes_at, code_from, data_bytes, encoded_at, is_in_range, misses_label, number_bytes}
 use Rattle.rv32_asm_syntax.specs.Expressions.{Expression}
 use Rattle.rv32_asm.specs.Labels.{Label}
 use Rattle.rv32_asm.specs.Layout.{is_misplaced, size_at}
-use Rattle.rv32_asm.specs.Passes.{emitted, line_bytes}
+use Rattle.rv32_asm.specs.Passes.{behind, emitted, line_bytes}
 use Rattle.rv32_asm_syntax.specs.Reading.{statement_of}
 use Rattle.rv32_asm_syntax.specs.Statements.{Instruction, Statement, Instructions, Data, Bytes, Zeros, Aligned, Nothing}
 use Rattle.rv32_asm.specs.Values.{value_of}
@@ -64,12 +63,12 @@ number_long Two labels e = refl
 number_long Four labels e = refl
 
 data_long : (width : Width) (labels : List Label) (es : List Expression) →
-    length (flat_map (λ value. number_bytes width (value_of labels value)) es) ≡ width_bytes width * length es
+    length (data_bytes labels width es) ≡ width_bytes width * length es
 data_long width labels [] = omega arith
 data_long width labels (e ∷ es) =
     let rest = data_long width labels es in
     let one = number_long width labels e in
-    length-append (number_bytes width (value_of labels e)) (flat_map (λ value. number_bytes width (value_of labels value)) es)
+    length-append (number_bytes width (value_of labels e)) (data_bytes labels width es)
     ∙ omega (arith, rest, one)
 
 bytes_long : (labels : List Label) (address : ℕ) (statement : Statement) →

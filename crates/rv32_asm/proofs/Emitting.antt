@@ -2,7 +2,7 @@
 use Rattle.std.proofs.Common.{◌≡◌, ℕ, ◌+◌, ◌<◌, ◌≤◌, ℤ, Bool, true, false, not, List, [], ◌∷◌, ◌++◌, Option, Some, None, Result, Ok, Err, length, get_or, drop, refl, sym, ap, ◌∙◌, append_assoc, length-append, if◌then◌else◌}
 use Rattle.std.proofs.lemmas.List.{at_drop_more, append-nil, drop_all}
 use Rattle.std.specs.Int.{to_le_bytes, w32}
-use Rattle.std.specs.List.{list_any, list_all, flat_map}
+use Rattle.std.specs.List.{list_any}
 use Rattle.sec_base.specs.declared.memory.Width.{Width}
 use Rattle.rv32_decode.specs.Table.{word_of}
 use Rattle.rv32_asm_syntax.specs.declared.fault.AsmFault.{AsmFault}
@@ -11,7 +11,7 @@ use Rattle.rv32_asm_syntax.specs.declared.statements.Expression.{Expression}
 use Rattle.rv32_asm_syntax.specs.declared.statements.Instruction.{Instruction}
 use Rattle.rv32_asm.specs.Emission.{code_at, data_of, statement_bytes, with_more}
 use Rattle.rv32_asm.specs.Passes.{emitted}
-use Rattle.rv32_asm.specs.Encoding.{code_from, encoded_at, expressions_in, fit_from, fits_at, fits_width, is_in_range, misses_label, number_bytes}
+use Rattle.rv32_asm.specs.Encoding.{code_from, data_bytes, data_fits, encoded_at, expressions_in, fit_from, fits_at, fits_width, is_in_range, misses_label, number_bytes}
 use Rattle.rv32_asm.specs.Labels.{Label}
 use Rattle.rv32_asm_syntax.specs.Seen as seen
 use Rattle.rv32_asm_syntax.specs.Statements as meant
@@ -122,9 +122,8 @@ module _ (labels : List Label) (width : Width) (bytes : List ℕ) where
     unfolding data_of
     data_added f =
         rw f
-        (one_added (list_all (λ value. fits_width width (value_of labels value)) (seen.expressions es)) bytes
-        (number_bytes width (value_of labels (seen.expression e)))
-        (flat_map (λ value. number_bytes width (value_of labels value)) (seen.expressions es)))
+        (one_added (data_fits labels width (seen.expressions es)) bytes (number_bytes width (value_of labels (seen.expression e)))
+        (data_bytes labels width (seen.expressions es)))
 
   module _ (es : List Expression) (n : ℕ) where
     pub data_done : length es ≤ n → listed labels width bytes (drop n es) ≡ Ok bytes

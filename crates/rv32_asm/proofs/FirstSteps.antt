@@ -5,12 +5,12 @@ use Rattle.std.specs.Str.{bytes_eq}
 use Rattle.std.proofs.lemmas.Bool.{le-ltb}
 use Rattle.rv32_asm_syntax.specs.declared.fault.AsmFault.{AsmFault}
 use Rattle.rv32_asm_syntax.specs.declared.fault.AsmFault.TheVariants.{Range, Large, Twice}
-use Rattle.rv32_asm.specs.Course.{Gives, IsNextLine, Reaches, behind, behind_line, end_of}
+use Rattle.rv32_asm.specs.Course.{Gives, IsNextLine, Reaches, behind_line, end_of}
 use Rattle.rv32_asm.specs.Labels.{Label, is_there, label_named}
 use Rattle.rv32_asm.specs.Layout.{is_misplaced, size_at}
 use Rattle.rv32_asm_syntax.specs.Parts.{parts}
 use Rattle.rv32_asm_syntax.specs.Lines.{labels_in, labels_of, lines_of, without_comment}
-use Rattle.rv32_asm.specs.Passes.{LineFault, Progress, address_after, after_line, first_pass, in_line, with_names, ◌>>=◌}
+use Rattle.rv32_asm.specs.Passes.{LineFault, Progress, address_after, after_line, behind, first_pass, in_line, with_names, ◌>>=◌}
 use Rattle.rv32_asm_syntax.specs.Reading.{statement_of}
 use Rattle.rv32_asm.specs.SeenLabels.{AreAlike, unnamed}
 use Rattle.rv32_asm_syntax.specs.Statements.{Statement}
@@ -292,17 +292,22 @@ module _ (size : ℕ) where
 
   -- ---- the address that is reached
 
-  next_ends : (misplaced large : Bool) (next : ℕ) (labels : List Label) (r : Progress) →
-      ((if misplaced then Err Range else if large then Err Large else Ok next) >>= λ address. Ok (at address labels)) ≡ Ok r →
+  room_ends : (large : Bool) (next : ℕ) (labels : List Label) (r : Progress) →
+      ((if large then Err Large else Ok next) >>= λ address. Ok (at address labels)) ≡ Ok r → next ≡ r.address
+  room_ends true next labels r e = cc
+  room_ends false next labels r e = let same : at next labels ≡ r = cc in ap (λ p. p.address) same
+
+  next_ends : (misplaced : Bool) (large : ℕ → Bool) (next : ℕ) (labels : List Label) (r : Progress) →
+      ((if misplaced then Err Range else Ok next) >>= (λ after. if large after then Err Large else Ok after)
+      >>= λ address. Ok (at address labels)) ≡ Ok r →
       (if misplaced then Err Range else Ok next) ≡ Ok r.address
   next_ends true large next labels r e = cc
-  next_ends false true next labels r e = cc
-  next_ends false false next labels r e = let same : at next labels ≡ r = cc in ap (λ p. Ok p.address) same
+  next_ends false large next labels r e = ap Ok (room_ends (large next) next labels r e)
 
   work_ends : (named : Result (List Label) AsmFault) (read : Result Statement AsmFault) (address : ℕ) (r : Progress) →
       after_labels named read (address_after size address) ≡ Ok r → (read >>= behind address) ≡ Ok r.address
   work_ends (Ok labels) (Ok statement) address r e =
-      next_ends (is_misplaced address statement) (nat_lt size (address + size_at address statement)) (address + size_at address statement) labels r e
+      next_ends (is_misplaced address statement) (nat_lt size) (address + size_at address statement) labels r e
   work_ends (Ok labels) (Err f) address r e = cc
   work_ends (Err f) read address r e = cc
 

@@ -1,8 +1,8 @@
--- Each text of a word is read back as the word.
+-- Each text of a word is read back as the word, and each text of an instruction as the instruction's word.
 use Rattle.std.proofs.Common.{◌≡◌, ℕ, ◌+◌, ◌%◌, ◌^◌, ◌<◌, ◌≤◌, ◌==◌, ◌||◌, Bool, true, false, List, [], ◌∷◌, Option, Some, None, if◌then◌else◌, refl, ap, sym, subst, ◌∙◌, inl, inr, ◌⊎◌, arith}
 use Rattle.std.proofs.lemmas.Bool.{cases_Bool, cases_eq, eqb-true, ne_eqb, or_cases}
-use Rattle.rv32_decode.proofs.Both.{instruction_fields, instruction_word}
-use Rattle.rv32_decode.specs.Table.{instruction_of, placed, row_for, word_of}
+use Rattle.rv32_decode.proofs.Both.{instruction_fields, instruction_word, word_below, word_instruction}
+use Rattle.rv32_decode.specs.Table.{IsInst, instruction_of, placed, row_for, word_of}
 use Rattle.rv32_decode.specs.declared.Inst.{Inst}
 use Rattle.rv32_decode.specs.declared.table.Format.{Format}
 use Rattle.rv32_decode.specs.declared.table.Format.TheVariants.{N}
@@ -17,7 +17,7 @@ use Rattle.rv32_asm_syntax.specs.Statements.{Data, Instructions, instruction}
 use Rattle.std.proofs.Common.{pos}
 use Rattle.rv32_asm.proofs.Alone.{bare_pattern, ebreak_back, ecall_back, fence_back, fence_i_back, is_bare}
 use Rattle.rv32_asm.proofs.TextKeywords.{has_format, keyword_read, name_is_word, style_format}
-use Rattle.rv32_asm.proofs.Readings.{data_is, data_line, data_plain, instruction_is, read_back}
+use Rattle.rv32_asm.proofs.Readings.{IsWordBack, data_is, data_line, data_plain, instruction_is, read_back}
 use Rattle.rv32_asm.proofs.Styled.{is_spoken, styled}
 
 abbrev is_fence : Style → Bool
@@ -50,7 +50,7 @@ placed_bare Bare N i bare ok = refl
 placed_bare _ _ i bare ok = cc
 
 module _ (size word address : ℕ) (below : word < 2 ^ 32) (aligned : address % 4 ≡ 0) (inside : address + 4 ≤ size) where
-  data_back : text_of_word word address ≡ data_text word → IsReadBack size word address
+  data_back : text_of_word word address ≡ data_text word → IsWordBack size word address
   data_back e =
       read_back size word address (data_text word) (Data Four (number_alone (pos word) ∷ [])) e
       (data_plain word below) (data_line word below) inside (data_is word address below)
@@ -60,7 +60,7 @@ module _ (size word address : ℕ) (below : word < 2 ^ 32) (aligned : address % 
     unfolding text_of_word
     text_found = ap (λ o. text_or_data o word address) found
 
-    spoken_back : is_spoken (mnemonic_of i.op).style ≡ true → IsReadBack size word address
+    spoken_back : is_spoken (mnemonic_of i.op).style ≡ true → IsWordBack size word address
     unfolding text_of
     spoken_back spoken =
         let s = (mnemonic_of i.op).style in
@@ -77,7 +77,7 @@ module _ (size word address : ℕ) (below : word < 2 ^ 32) (aligned : address % 
         (ap word_of read.same ∙ instruction_word word i below found))
 
     fence_data : is_fence (mnemonic_of i.op).style ≡ true → (word == 0x0ff0000f) ≡ false → (word == 0x0000100f) ≡ false →
-        IsReadBack size word address
+        IsWordBack size word address
     unfolding text_of
     fence_data fence e f =
         let s = (mnemonic_of i.op).style in
@@ -104,14 +104,14 @@ module _ (size word address : ℕ) (below : word < 2 ^ 32) (aligned : address % 
   unfolding text_of_word
   text_none e = ap (λ o. text_or_data o word address) e
 
-  at_ecall : word ≡ 0x73 → IsReadBack size word address
-  at_ecall e = subst (λ w. IsReadBack size w address) (sym e) (ecall_back size address aligned inside)
+  at_ecall : word ≡ 0x73 → IsWordBack size word address
+  at_ecall e = subst (λ w. IsWordBack size w address) (sym e) (ecall_back size address aligned inside)
 
-  at_ebreak : word ≡ 0x100073 → IsReadBack size word address
-  at_ebreak e = subst (λ w. IsReadBack size w address) (sym e) (ebreak_back size address aligned inside)
+  at_ebreak : word ≡ 0x100073 → IsWordBack size word address
+  at_ebreak e = subst (λ w. IsWordBack size w address) (sym e) (ebreak_back size address aligned inside)
 
   some_back : (i : Inst) → instruction_of word ≡ Some i → (word == 0x0ff0000f) ≡ false → (word == 0x0000100f) ≡ false →
-      IsReadBack size word address
+      IsWordBack size word address
   some_back i found e f =
       elim (cases_Bool (is_spoken (mnemonic_of i.op).style)) [
         | inl spoken ↦ spoken_back i found spoken
@@ -125,16 +125,25 @@ module _ (size word address : ℕ) (below : word < 2 ^ 32) (aligned : address % 
       ]
 
   any_back : (o : Option Inst) → instruction_of word ≡ o → (word == 0x0ff0000f) ≡ false → (word == 0x0000100f) ≡ false →
-      IsReadBack size word address
+      IsWordBack size word address
   any_back None found e f = data_back (text_none found)
   any_back (Some i) found e f = some_back i found e f
 
-  pub word_back : IsReadBack size word address
+  pub word_back : IsWordBack size word address
   word_back =
       elim (cases_eq word 0x0ff0000f) [
-        | inl e ↦ subst (λ w. IsReadBack size w address) (sym e) (fence_back size address aligned inside)
+        | inl e ↦ subst (λ w. IsWordBack size w address) (sym e) (fence_back size address aligned inside)
         | inr e ↦ elim (cases_eq word 0x0000100f) [
-          | inl f ↦ subst (λ w. IsReadBack size w address) (sym f) (fence_i_back size address aligned inside)
+          | inl f ↦ subst (λ w. IsWordBack size w address) (sym f) (fence_i_back size address aligned inside)
           | inr f ↦ any_back (instruction_of word) refl (ne_eqb word 0x0ff0000f e) (ne_eqb word 0x0000100f f)
         ]
       ]
+
+pub instruction_back : (size address : ℕ) (i : Inst) → IsInst i → address % 4 ≡ 0 → address + 4 ≤ size →
+    IsReadBack size (text_of i address) (word_of i) address
+instruction_back size address i formed aligned inside =
+    let word = word_of i in
+    let below = word_below i formed in
+    subst (λ text. IsReadBack size text word address)
+    (text_found size word address below aligned inside i (word_instruction i formed))
+    (word_back size word address below aligned inside)

@@ -52,17 +52,25 @@ emitted_text : (labels : List Label) (address : ℕ) (text bytes : List ℕ) (me
 unfolding line_bytes
 emitted_text labels address text bytes meaning means known fits e = rw (means, known, fits, e) refl
 
+text_read : (size word address : ℕ) (text : List ℕ) (meaning : Statement) → list_all is_plain text ≡ true →
+    statement_of text ≡ Ok meaning → address + 4 ≤ size → IsStatementOf word address meaning →
+    IsReadBack size text word address
+text_read size word address text meaning plain means inside is = record {
+  one_line = plain_line text plain;
+  followed = λ rest. followed_line text rest plain;
+  passed = λ number progress here. passed_text size address number text meaning progress (plain_labels text plain) means is.placed is.size inside here;
+  emitted = λ labels. emitted_text labels address text (to_le_bytes w32 word) meaning means (is.known labels) (is.fits labels) (is.bytes labels);
+}
+
+-- the text of a word is read back
+abbrev pub IsWordBack : ℕ → ℕ → ℕ → Type 0
+IsWordBack size word address = IsReadBack size (text_of_word word address) word address
+
 pub read_back : (size word address : ℕ) (text : List ℕ) (meaning : Statement) → text_of_word word address ≡ text →
     list_all is_plain text ≡ true → statement_of text ≡ Ok meaning → address + 4 ≤ size →
-    IsStatementOf word address meaning → IsReadBack size word address
-read_back size word address text meaning e plain means inside is = record {
-  one_line = rw e (plain_line text plain);
-  followed = λ rest. rw e (followed_line text rest plain);
-  passed = λ number progress here. ap (after_line size number progress) e
-      ∙ passed_text size address number text meaning progress (plain_labels text plain) means is.placed is.size inside here;
-  emitted = λ labels. ap (line_bytes labels address) e
-      ∙ emitted_text labels address text (to_le_bytes w32 word) meaning means (is.known labels) (is.fits labels) (is.bytes labels);
-}
+    IsStatementOf word address meaning → IsWordBack size word address
+read_back size word address text meaning e plain means inside is =
+    rw e (text_read size word address text meaning plain means inside is)
 
 -- ---- instructions
 

@@ -5,7 +5,7 @@ use Rattle.std.proofs.lemmas.List.{append-nil}
 use Rattle.rv32_asm_syntax.specs.Characters.{trimmed}
 use Rattle.rv32_asm_syntax.specs.declared.fault.AsmFault.{AsmFault}
 use Rattle.rv32_asm_syntax.specs.declared.fault.AsmFault.TheVariants.{Range}
-use Rattle.rv32_asm.specs.Course.{IsNextLine, behind, behind_line, end_of}
+use Rattle.rv32_asm.specs.Course.{IsNextLine, behind_line, end_of}
 use Rattle.rv32_asm.specs.Course as course
 use Rattle.rv32_asm.specs.declared.fault.AsmError.{AsmError}
 use Rattle.rv32_asm.specs.declared.fault.AsmError.TheVariants as errors
@@ -16,7 +16,7 @@ use Rattle.rv32_asm.specs.Encoding.{bytes_at, is_in_range, misses_label}
 use Rattle.rv32_asm.specs.Labels.{Label}
 use Rattle.rv32_asm.specs.Layout.{is_misplaced, size_at}
 use Rattle.rv32_asm_syntax.specs.Lines.{lines_of, statement_text, without_comment}
-use Rattle.rv32_asm.specs.Passes.{LineFault, in_line, line_bytes, second_pass, ◌>>=◌}
+use Rattle.rv32_asm.specs.Passes.{LineFault, behind, in_line, line_bytes, second_pass, ◌>>=◌}
 use Rattle.rv32_asm_syntax.specs.Reading.{statement_of}
 use Rattle.rv32_asm_syntax.specs.Statements.{Statement, Nothing}
 

@@ -1,5 +1,5 @@
 -- The addresses that lines lead to, and what the passes reach.
-use Rattle.std.specs.Prelude.{◌≡◌, ℕ, ◌+◌, List, [], ◌∷◌, Option, None, Some, Result, Ok, Err, if◌then◌else◌, ◌⊎◌}
+use Rattle.std.specs.Prelude.{◌≡◌, ℕ, List, [], ◌∷◌, Option, None, Some, Result, Ok, Err, if◌then◌else◌, ◌⊎◌}
 use Rattle.rv32_asm_syntax.specs.declared.fault.AsmFault.{AsmFault}
 use Rattle.rv32_asm_syntax.specs.declared.fault.AsmFault.TheVariants.{Range}
 use Rattle.rv32_asm.specs.declared.fault.AsmError.{AsmError}
@@ -7,14 +7,12 @@ use Rattle.rv32_asm.specs.declared.fault.AsmError.TheVariants as error
 use Rattle.rv32_asm_syntax.specs.declared.fault.LineError.{LineError}
 use Rattle.rv32_asm_syntax.specs.declared.fault.LineError.TheVariants.{Fault, NoMemory}
 use Rattle.rv32_asm.specs.Labels.{Label}
-use Rattle.rv32_asm.specs.Layout.{is_misplaced, size_at}
 use Rattle.rv32_asm_syntax.specs.Lines.{lines_of}
-use Rattle.rv32_asm.specs.Passes.{LineFault, Progress, ◌>>=◌}
+use Rattle.rv32_asm.specs.Passes.{LineFault, Progress, behind, ◌>>=◌}
 use Rattle.rv32_asm.specs.declared.labels.Label as place
 use Rattle.rv32_asm.specs.Assembly.{is_no_entry}
 use Rattle.rv32_asm_syntax.specs.Reading.{statement_of}
 use Rattle.rv32_asm.specs.SeenLabels.{AreAlike}
-use Rattle.rv32_asm_syntax.specs.Statements.{Statement}
 
 -- ---- lines
 
@@ -29,11 +27,6 @@ in_line number (Fault code) = error.Fault number code
 in_line number NoMemory = error.NoMemory
 
 -- ---- addresses
-
--- the address behind a statement, if it may stand there
-abbrev pub behind : ℕ → Statement → Result ℕ AsmFault
-behind address statement =
-    if is_misplaced address statement then Err Range else Ok (address + size_at address statement)
 
 -- the address behind a line
 unfoldable pub behind_line : ℕ → List ℕ → Result ℕ AsmFault

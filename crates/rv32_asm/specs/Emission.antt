@@ -1,14 +1,12 @@
 -- The bytes of a statement's parts, added to those before them.
 use Rattle.std.specs.Prelude.{ℕ, List, ◌++◌, Result, Ok, Err, if◌then◌else◌}
-use Rattle.std.specs.List.{list_all, flat_map}
 use Rattle.sec_base.specs.declared.memory.Width.{Width}
 use Rattle.rv32_asm_syntax.specs.declared.fault.AsmFault.{AsmFault}
 use Rattle.rv32_asm_syntax.specs.declared.fault.AsmFault.TheVariants.{Range}
-use Rattle.rv32_asm.specs.Encoding.{bytes_at, code_from, fit_from, fits_width, is_in_range, number_bytes}
+use Rattle.rv32_asm.specs.Encoding.{bytes_at, code_from, data_bytes, data_fits, fit_from, is_in_range}
 use Rattle.rv32_asm_syntax.specs.Expressions.{Expression}
 use Rattle.rv32_asm.specs.Labels.{Label}
 use Rattle.rv32_asm_syntax.specs.Statements.{Instruction, Statement}
-use Rattle.rv32_asm.specs.Values.{value_of}
 
 -- bytes with more behind them, or why there are no more
 abbrev pub with_more : {E : Type 0} → List ℕ → Result (List ℕ) E → Result (List ℕ) E
@@ -23,9 +21,7 @@ code_at labels address instructions =
 -- the bytes of values that are in their range
 unfoldable pub data_of : List Label → Width → List Expression → Result (List ℕ) AsmFault
 data_of labels width values =
-    if list_all (λ value. fits_width width (value_of labels value)) values
-    then Ok (flat_map (λ value. number_bytes width (value_of labels value)) values)
-    else Err Range
+    if data_fits labels width values then Ok (data_bytes labels width values) else Err Range
 
 -- the bytes of a statement whose values are in their ranges
 unfoldable pub statement_bytes : List Label → ℕ → Statement → Result (List ℕ) AsmFault

@@ -81,11 +81,19 @@ abbrev pub fits_width : Width → ℤ → Bool
 fits_width width value = let bits = 8 * width_bytes width in
     is_between (neg_ℤ (pos (2 ^ (bits - 1)))) (pos (2 ^ bits - 1)) value
 
+-- each of the values fits
+abbrev pub data_fits : List Label → Width → List Expression → Bool
+data_fits labels width values = list_all (λ value. fits_width width (value_of labels value)) values
+
 -- a value in so many bytes, the lowest first
 abbrev pub number_bytes : Width → ℤ → List ℕ
 number_bytes One value = to_le_bytes w8 (modulo 8 value)
 number_bytes Two value = to_le_bytes w16 (modulo 16 value)
 number_bytes Four value = to_le_bytes w32 (modulo 32 value)
+
+-- the values one after another
+abbrev pub data_bytes : List Label → Width → List Expression → List ℕ
+data_bytes labels width values = flat_map (λ value. number_bytes width (value_of labels value)) values
 
 -- ---- statements
 
@@ -102,13 +110,13 @@ misses_label labels statement = list_any (is_missing labels) (expressions_in sta
 -- each value of the statement is in its range
 unfoldable pub is_in_range : List Label → ℕ → Statement → Bool
 is_in_range labels address (Instructions instructions) = fit_from labels address instructions
-is_in_range labels address (Data width values) = list_all (λ value. fits_width width (value_of labels value)) values
+is_in_range labels address (Data width values) = data_fits labels width values
 is_in_range labels address _ = true
 
 -- the bytes of a statement at an address
 unfoldable pub bytes_at : List Label → ℕ → Statement → List ℕ
 bytes_at labels address (Instructions instructions) = code_from labels address instructions
-bytes_at labels address (Data width values) = flat_map (λ value. number_bytes width (value_of labels value)) values
+bytes_at labels address (Data width values) = data_bytes labels width values
 bytes_at labels address (Bytes bytes) = bytes
 bytes_at labels address (Zeros number) = replicate (size_at address (Zeros number)) 0
 bytes_at labels address (Aligned number) = replicate (size_at address (Aligned number)) 0

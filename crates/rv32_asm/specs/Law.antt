@@ -1,8 +1,10 @@
--- The texts of words are read back as those words, and the two parts of a value make it again.
+-- The texts of words and of instructions are read back as these, and the two parts of a value make it again.
 use Rattle.std.specs.Prelude.{◌≡◌, ℕ, ◌+◌, ◌*◌, ◌%◌, ◌^◌, ◌<◌, ◌≤◌, pos, ◌+ℤ◌, All, List, [], ◌∷◌, ◌++◌, Ok, length}
 use Rattle.std.specs.Int.{w32, to_le_bytes}
 use Rattle.std.specs.List.{flat_map}
-use Rattle.rv32_text.specs.Text.{text_of_word}
+use Rattle.rv32_decode.specs.Table.{IsInst, word_of}
+use Rattle.rv32_decode.specs.declared.Inst.{Inst}
+use Rattle.rv32_text.specs.Text.{text_of, text_of_word}
 use Rattle.rv32_asm_syntax.specs.Characters.{line_feed}
 use Rattle.rv32_asm_syntax.specs.Lines.{lines_of}
 use Rattle.rv32_asm.specs.Labels.{Label}
@@ -10,22 +12,24 @@ use Rattle.rv32_asm.specs.Assembly.{program_of}
 use Rattle.rv32_asm.specs.Passes.{Progress, after_line, line_bytes}
 use Rattle.rv32_asm.specs.Values.{lower_part, modulo, upper_part}
 
--- The text of a word at the line's own address, a multiple of 4 with four bytes of memory behind it, is one line, at the
--- end of a text and before further lines. The line has no fault in either pass, whatever labels there are; it adds no
--- label, and its bytes are the word's.
-pub record IsReadBack (size word address : ℕ) : Type 0 where
-  pub one_line : lines_of (text_of_word word address) ≡ text_of_word word address ∷ []
-  pub followed : (rest : List ℕ) →
-      lines_of (text_of_word word address ++ line_feed ∷ rest) ≡ text_of_word word address ∷ lines_of rest
+-- A text is read back as a word at the line's own address: it is one line, at the end of a text and before further lines.
+-- The line has no fault in either pass, whatever labels there are; it adds no label, and its bytes are the word's.
+pub record IsReadBack (size : ℕ) (text : List ℕ) (word address : ℕ) : Type 0 where
+  pub one_line : lines_of text ≡ text ∷ []
+  pub followed : (rest : List ℕ) → lines_of (text ++ line_feed ∷ rest) ≡ text ∷ lines_of rest
   pub passed : (number : ℕ) (progress : Progress) → progress.address ≡ address →
-      after_line size number progress (text_of_word word address) ≡ Ok (record progress { address = address + 4 })
-  pub emitted : (labels : List Label) →
-      line_bytes labels address (text_of_word word address) ≡ Ok (to_le_bytes w32 word)
+      after_line size number progress text ≡ Ok (record progress { address = address + 4 })
+  pub emitted : (labels : List Label) → line_bytes labels address text ≡ Ok (to_le_bytes w32 word)
 
--- so it is with each word, wherever it can stand
+-- so it is with the text of each word, wherever it can stand: at a multiple of 4 with four bytes of memory behind it
 abbrev pub TextsAreWords : ℕ → Type 0
-TextsAreWords size =
-    (word address : ℕ) → word < 2 ^ 32 → address % 4 ≡ 0 → address + 4 ≤ size → IsReadBack size word address
+TextsAreWords size = (word address : ℕ) → word < 2 ^ 32 → address % 4 ≡ 0 → address + 4 ≤ size →
+    IsReadBack size (text_of_word word address) word address
+
+-- and there the text of each instruction is read back as its word
+abbrev pub TextsAreInstructions : ℕ → Type 0
+TextsAreInstructions size = (i : Inst) (address : ℕ) → IsInst i → address % 4 ≡ 0 → address + 4 ≤ size →
+    IsReadBack size (text_of i address) (word_of i) address
 
 -- the texts of words from an address on, each at its word's address and in a line of its own
 abbrev pub source : ℕ → List ℕ → List ℕ

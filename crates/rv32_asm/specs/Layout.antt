@@ -1,6 +1,6 @@
 -- Where statements may stand, and how many bytes they take there.
-use Rattle.std.specs.Prelude.{ℕ, ◌-◌, ◌*◌, ◌%◌, ◌^◌, ℤ, pos, negsuc, Bool, false, not, ◌==◌, length, nat_le, unsigned_abs}
-use Rattle.std.specs.List.{list_any, range_with_len}
+use Rattle.std.specs.Prelude.{ℕ, ◌-◌, ◌*◌, ◌%◌, ℤ, pos, negsuc, Bool, false, not, ◌&&◌, ◌==◌, length, nat_le, unsigned_abs}
+use Rattle.std.specs.Int.{is_power_of_two}
 use Rattle.sec_base.specs.Width.{width_bytes}
 use Rattle.rv32_asm_syntax.specs.Statements.{Statement, Instructions, Data, Bytes, Zeros, Aligned, Nothing}
 
@@ -11,7 +11,7 @@ is_space (negsuc n) = false
 
 -- a power of two from 1 to 4096
 abbrev pub is_alignment : ℤ → Bool
-is_alignment (pos n) = list_any (λ power. n == 2 ^ power) (range_with_len 0 13)
+is_alignment (pos n) = is_power_of_two n && nat_le n 4096
 is_alignment (negsuc n) = false
 
 -- a number out of its range, or instructions at an address that is no multiple of 4

@@ -42,12 +42,16 @@ with_names address line (name ∷ names) labels =
     if is_there labels name then Err Twice
     else with_names address line names (record { name = name; address = address; line = line } ∷ labels)
 
+-- the address behind a statement, if it may stand there
+abbrev pub behind : ℕ → Statement → Result ℕ AsmFault
+behind address statement =
+    if is_misplaced address statement then Err Range else Ok (address + size_at address statement)
+
 -- the address behind a statement in a memory of a size
 abbrev pub address_after : ℕ → ℕ → Statement → Result ℕ AsmFault
-address_after size address statement =
-    if is_misplaced address statement then Err Range
-    else if nat_lt size (address + size_at address statement) then Err Large
-    else Ok (address + size_at address statement)
+address_after size address statement = do
+  after ← behind address statement
+  if nat_lt size after then Err Large else Ok after
 
 -- what the line of a number leaves, or its first fault
 unfoldable pub after_line : ℕ → ℕ → Progress → List ℕ → Result Progress AsmFault

@@ -91,9 +91,9 @@ fn fits_width(width: Width, value: i64) -> bool
     ensures { result ≡ spec.fits_width width value }
 {
     match width {
-        Width::One => -128 <= value && value <= 255,
-        Width::Two => -0x8000 <= value && value <= 0xffff,
-        Width::Four => -0x8000_0000 <= value && value <= 0xffff_ffff,
+        Width::One => (-128..=255).contains(&value),
+        Width::Two => (-0x8000..=0xffff).contains(&value),
+        Width::Four => (-0x8000_0000..=0xffff_ffff).contains(&value),
     }
 }
 

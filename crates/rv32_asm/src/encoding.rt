@@ -57,7 +57,7 @@ fn distance_between(address: u32, target: i64, low: i32, high: i32) -> Option<i3
 fn upper(value: i64) -> Option<i32>
     ensures { result ≡ immediate_in Format.U 0 value }
 {
-    if 0 <= value && value <= 0xf_ffff {
+    if (0..=0xf_ffff).contains(&value) {
         Some(((value as u32) << 12).cast_signed())
     } else {
         None

@@ -12,17 +12,14 @@ use rv32_asm_syntax::{AsmFault, Statement};
 fn is_space(number: i64) -> bool
     ensures { result ≡ spec.is_space number }
 {
-    0 <= number && number <= 0x100_0000
+    (0..=0x100_0000).contains(&number)
 }
 
 // Whether a number is a power of two from 1 to 4096.
 fn is_alignment(number: i64) -> bool
     ensures { result ≡ spec.is_alignment number }
 {
-    matches!(
-        number,
-        1 | 2 | 4 | 8 | 16 | 32 | 64 | 128 | 256 | 512 | 1024 | 2048 | 4096
-    )
+    (1..=4096).contains(&number) && number.unsigned_abs().is_power_of_two()
 }
 
 /// Whether a statement may not stand at an address: its number is out of range, or it has instructions and the address

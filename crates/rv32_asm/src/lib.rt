@@ -4,7 +4,7 @@
 ghost use Rattle.std.specs.Prelude.{ℕ, IfOk, Err, length, ◌≡◌, ◌<◌, ◌^◌};
 ghost use Rattle.sec_base.specs.Layout.{IsMemorySize};
 ghost use Rattle.rv32_asm.specs.Assembly.{IsAssembled, program_of};
-ghost use Rattle.rv32_asm.specs.Law.{PartsMakeWord, TextsAreProgram, TextsAreWords};
+ghost use Rattle.rv32_asm.specs.Law.{PartsMakeWord, TextsAreInstructions, TextsAreProgram, TextsAreWords};
 ghost use Rattle.rv32_asm_syntax.specs.declared.fault.AsmFault.{AsmFault};
 ghost use Rattle.rv32_asm.specs.declared.fault.AsmError.TheVariants.{Fault};
 
@@ -46,11 +46,12 @@ pub fn assemble(alloc: Global, text: &[u8], size: u32) -> Result<Image, AsmError
     })
 }
 
-/// Where a line is the text of a word at the line's own address, the word is read back; and the texts of words, one
-/// line after another, are the program of these words. It does nothing: its contract is a theorem over all words, and
-/// all memories and places where they can stand.
+/// A line that is the text of a word at the line's own address is read back as the word, and the text of an instruction
+/// as the instruction's word; and the texts of words, one line after another, are the program of these words. It does
+/// nothing: its contract is a theorem over all words and instructions, and all memories and places where they can stand.
 pub fn texts_are_words()
     ensures lines { (size : ℕ) → TextsAreWords size }
+    ensures instructions { (size : ℕ) → TextsAreInstructions size }
     ensures programs { (size : ℕ) → TextsAreProgram size }
 {}
 
