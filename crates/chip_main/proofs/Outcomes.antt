@@ -196,7 +196,7 @@ file_cause (Elf fault) request files files' cause is = cause
 file_cause (Asm line fault) request files files' cause is = cause
 
 pub refused : {request : Option Asked} {old new : World} {done : Done} → Outcome request old new done → done.status ≡ 3 →
-    FileRefused 3 request old new
+    FileRefused 3 request old.files new.files
 refused {request} {old} {new} o is =
     let found = refused_as o 3 (omega arith, omega arith, inl (omega arith)) is in (found.0, found.2, file_cause found.0 request old.files new.files found.1 found.2)
 

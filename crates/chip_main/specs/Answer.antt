@@ -1,6 +1,7 @@
 -- What an answer says of what was done and told.
 use Rattle.std.specs.Prelude.{◌≡◌, ◌≢◌, ◌⊎◌, List, [], ◌∷◌, ℕ, Option, Some, None, Ok, Contains}
 use Rattle.sec_base.specs.Count.{Rose}
+use Rattle.sec_base.specs.Reading.{FilesState}
 use Rattle.sec_base.specs.Writing.{SinkState, Gains, Silent}
 use Rattle.sec_base.specs.declared.answers.Ending.{Ending}
 use Rattle.sec_base.specs.declared.answers.Ending.TheVariants.{NoMemory}
@@ -21,6 +22,34 @@ use Rattle.chip_main.specs.Endings.{EndedWithoutEvidence, IsHalted}
 use Rattle.chip_main.specs.Requests.{ByCommand, PlainlyRuns, RunsExecution, Writes, WritesRequest}
 use Rattle.chip_main.specs.Statuses.{Telling, ending_status, refusal_status, run_status, text_status}
 use Rattle.chip_main.specs.Texts.{plain_text, record_text, refusal_text}
+
+-- ---- why each status comes
+
+-- the request's program ran on the plain machine, and ended so
+abbrev pub PlainlyEnded : (Ending → Type 0) → ExecutionAsked → World → World → Type 0
+PlainlyEnded P execution old new =
+    (run : PlainRecord) × PlainlyRuns execution old.files new.files old.out new.out run × P run.ending
+
+-- as the request says, a run on protected memory ended so without evidence, or one on the plain machine ended so
+abbrev pub Ended : (Ending → Type 0) → Option Asked → World → World → Done → Type 0
+Ended P request old new done = ByCommand request (λ _. IsRunAnd done (EndedWithoutEvidence P))
+    (λ execution. PlainlyEnded P execution old new) (λ _ _. ⊥)
+
+-- a run halted, or the request's text was written whole
+abbrev pub IsDone : Option Asked → World → World → Done → Type 0
+IsDone request old new done = Ended IsHalted request old new done
+    ⊎ WritesRequest request old.files new.files old.out new.out (Ok tt)
+
+-- the request is for a run on protected memory, and this holds of that run and of what its bus was told
+abbrev pub RanAnd : (RunRecord → Told → Type 0) → Option Asked → Done → Type 0
+RanAnd P request done = ByCommand request (λ _. IsRunAnd done P) (λ _. ⊥) (λ _ _. ⊥)
+
+-- one of the files was refused, with this status
+abbrev pub FileRefused : ℕ → Option Asked → FilesState → FilesState → Type 0
+FileRefused status request old new =
+    (refusal : Refusal) × (refusal_status refusal ≡ status) × Stops refusal (needs_of request) old new
+
+-- ---- how far it was told
 
 -- the sink gained a text; or a front part of it, where a write failed or the status is 10
 abbrev pub GainsText : SinkState → List ℕ → SinkState → ℕ → Type 0
@@ -99,29 +128,3 @@ GivesPlainRun execution old new done =
 
 abbrev pub GivesText : Asked → (Image → List ℕ) → World → World → Done → Type 0
 GivesText asked text old new done = Delivers (asked_file asked) text old new done ⊎ Undone (Some asked) old new done
-
--- ---- why each status comes
-
--- the request's program ran on the plain machine, and ended so
-abbrev pub PlainlyEnded : (Ending → Type 0) → ExecutionAsked → World → World → Type 0
-PlainlyEnded P execution old new =
-    (run : PlainRecord) × PlainlyRuns execution old.files new.files old.out new.out run × P run.ending
-
--- as the request says, a run on protected memory ended so without evidence, or one on the plain machine ended so
-abbrev pub Ended : (Ending → Type 0) → Option Asked → World → World → Done → Type 0
-Ended P request old new done = ByCommand request (λ _. IsRunAnd done (EndedWithoutEvidence P))
-    (λ execution. PlainlyEnded P execution old new) (λ _ _. ⊥)
-
--- a run halted, or the request's text was written whole
-abbrev pub IsDone : Option Asked → World → World → Done → Type 0
-IsDone request old new done = Ended IsHalted request old new done
-    ⊎ WritesRequest request old.files new.files old.out new.out (Ok tt)
-
--- the request is for a run on protected memory, and this holds of that run and of what its bus was told
-abbrev pub RanAnd : (RunRecord → Told → Type 0) → Option Asked → Done → Type 0
-RanAnd P request done = ByCommand request (λ _. IsRunAnd done P) (λ _. ⊥) (λ _ _. ⊥)
-
--- one of the files was refused, with this status
-abbrev pub FileRefused : ℕ → Option Asked → World → World → Type 0
-FileRefused status request old new =
-    (refusal : Refusal) × (refusal_status refusal ≡ status) × Stops refusal (needs_of request) old.files new.files

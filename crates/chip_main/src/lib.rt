@@ -69,7 +69,7 @@ pub fn run_words<F: Files, O: Sink, N: Sink>(
         (world (F.state files.old) (O.state out.old) (N.state note.old))
         (world (F.state files.new) (O.state out.new) (N.state note.new)) result }
 
-    // What each status says. 3, 8 and 9 come of all five commands.
+    // What each status says. 3, 8, 9 and 10 come of all five commands.
     ensures statuses { Contains (0 ∷ 1 ∷ 2 ∷ 3 ∷ 4 ∷ 5 ∷ 6 ∷ 7 ∷ 8 ∷ 9 ∷ 10 ∷ []) result.status }
     ensures done { result.status ≡ 0 → IsDone (request_of (texts words.now))
         (world (F.state files.old) (O.state out.old) (N.state note.old))
@@ -78,9 +78,8 @@ pub fn run_words<F: Files, O: Sink, N: Sink>(
         (world (F.state files.old) (O.state out.old) (N.state note.old))
         (world (F.state files.new) (O.state out.new) (N.state note.new)) result }
     ensures usage { result.status ≡ 2 → request_of (texts words.now) ≡ None }
-    ensures refused { result.status ≡ 3 → FileRefused 3 (request_of (texts words.now))
-        (world (F.state files.old) (O.state out.old) (N.state note.old))
-        (world (F.state files.new) (O.state out.new) (N.state note.new)) }
+    ensures refused { result.status ≡ 3 →
+        FileRefused 3 (request_of (texts words.now)) (F.state files.old) (F.state files.new) }
     ensures out_of_steps { result.status ≡ 4 → Ended IsOutOfSteps (request_of (texts words.now))
         (world (F.state files.old) (O.state out.old) (N.state note.old))
         (world (F.state files.new) (O.state out.new) (N.state note.new)) result }
