@@ -92,11 +92,16 @@ pub fn run_words<F: Files, O: Sink, N: Sink>(
     ensures write_fault { result.status ≡ 9 → Rose (O.state out.old).faults (O.state out.new).faults
         ⊎ Rose (N.state note.old).faults (N.state note.new).faults }
 
-    // What words that are no request give, and what each command gives.
+    // Words that are no request are refused, and nothing is asked of the files.
     ensures none { request_of (texts words.now) ≡ None →
         AsksNothing (F.state files.old) (F.state files.new) × Undone None
         (world (F.state files.old) (O.state out.old) (N.state note.old))
         (world (F.state files.new) (O.state out.new) (N.state note.new)) result }
+
+    // What each command gives. A run on protected memory is of the request's program and input. Without evidence it
+    // follows the plain machine, and ended as tampering at the first false answer of its bus, if there was one;
+    // evidence is of the first false answer. A run on the plain machine follows it; or the request's ELF file, listing
+    // or measurement is written. Or nothing was done, since there was a refusal or no memory.
     ensures run { (execution : ExecutionAsked) → request_of (texts words.now) ≡ Some (to_run execution) →
         GivesRun execution
         (world (F.state files.old) (O.state out.old) (N.state note.old))
