@@ -15,11 +15,12 @@ use Rattle.chip_main.specs.declared.refusal.Refusal.TheVariants.{Usage, Unread, 
 use Rattle.chip_main.specs.declared.course.Course.{Course}
 use Rattle.chip_main.specs.declared.course.Course.TheVariants.{Refused, NoMemory, Ran, RanPlain, Written}
 use Rattle.chip_main.specs.declared.Done.{Done}
+use Rattle.chip_main.specs.World.{World}
 use Rattle.chip_main.specs.Needs.{needs_of}
 use Rattle.chip_main.specs.Causes.{IsRefused, Stops}
 use Rattle.chip_main.specs.Statuses.{Telling, ending_status, evidence_status, refusal_status, run_status, status_with, text_status, untold_ending_status}
 use Rattle.chip_main.specs.Buses.{lies_of, run_told}
-use Rattle.chip_main.specs.Answer.{TellsEnding, TellsPlain, TellsRun, Undone}
+use Rattle.chip_main.specs.Answer.{FileRefused, TellsEnding, TellsPlain, TellsRun}
 use Rattle.chip_main.specs.Texts.{plain_text, record_text}
 use Rattle.chip_main.specs.Course.{CameAbout, Outcome, TellsCourse, course_bus, course_run, course_status, status_of, untold_status}
 
@@ -90,7 +91,7 @@ status_listed course (Ok _) = course_listed course
 status_listed course (Err Failed) = untold_listed course
 status_listed course (Err no_memory) = (10, omega arith, refl)
 
-pub statuses : {request : Option Asked} {files files' : FilesState} {out out' note note' : SinkState} {done : Done} → Outcome request files files' out out' note note' done → Contains all_statuses done.status
+pub statuses : {request : Option Asked} {old new : World} {done : Done} → Outcome request old new done → Contains all_statuses done.status
 statuses o = subst (λ (n : ℕ). Contains all_statuses n) (sym o.status) (status_listed o.course o.told)
 
 -- ---- which course a status is of
@@ -114,7 +115,7 @@ course_is (Ran run bus) (Err Failed) status low is = absurd (omega (arith, untol
 course_is (RanPlain run) (Err Failed) status low is = absurd (omega (arith, untold_high run.ending))
 course_is (Written telling) (Err Failed) status low is = is
 
-pub own_status : {request : Option Asked} {files files' : FilesState} {out out' note note' : SinkState} {done : Done} → (o : Outcome request files files' out out' note note' done) → (status : ℕ) → status < 9 → done.status ≡ status →
+pub own_status : {request : Option Asked} {old new : World} {done : Done} → (o : Outcome request old new done) → (status : ℕ) → status < 9 → done.status ≡ status →
     course_status o.course ≡ status
 own_status o status low is = course_is o.course o.told status low (sym o.status ∙ is)
 
@@ -169,11 +170,11 @@ refusal_is (RanPlain run) status refusing is = absurd (apart (ending_status run.
 refusal_is (Written telling) status refusing is = absurd (apart (text_status telling) status (text_result telling) refusing is)
 
 -- so it has its cause
-refused_as : {request : Option Asked} {files files' : FilesState} {out out' note note' : SinkState} {done : Done} → Outcome request files files' out out' note note' done → (status : ℕ) → IsOfRefusal status → done.status ≡ status →
-    (refusal : Refusal) × IsRefused refusal request files files' × (refusal_status refusal ≡ status)
-refused_as {request} {files} {files'} {out} {out'} o status refusing is =
+refused_as : {request : Option Asked} {old new : World} {done : Done} → Outcome request old new done → (status : ℕ) → IsOfRefusal status → done.status ≡ status →
+    (refusal : Refusal) × IsRefused refusal request old.files new.files × (refusal_status refusal ≡ status)
+refused_as {request} {old} {new} o status refusing is =
     let found = refusal_is o.course status refusing (own_status o status refusing.1 is) in
-    let came = subst (λ (course : Course). CameAbout course request files files' out out') found.1 o.came in
+    let came = subst (λ (course : Course). CameAbout course request old.files new.files old.out new.out) found.1 o.came in
     (found.0, came.0, found.2)
 
 usage_cause : (refusal : Refusal) (request : Option Asked) (files files' : FilesState) → IsRefused refusal request files files' → refusal_status refusal ≡ 2 → request ≡ None
@@ -183,14 +184,9 @@ usage_cause TooLong request files files' cause is = absurd (omega arith)
 usage_cause (Elf fault) request files files' cause is = absurd (omega arith)
 usage_cause (Asm line fault) request files files' cause is = absurd (omega arith)
 
-pub usage : {request : Option Asked} {files files' : FilesState} {out out' note note' : SinkState} {done : Done} → Outcome request files files' out out' note note' done → done.status ≡ 2 → request ≡ None
-usage {request} {files} {files'} o is =
-    let found = refused_as o 2 (omega arith, omega arith, inl (omega arith)) is in usage_cause found.0 request files files' found.1 found.2
-
--- one of the files was refused, with status 3
-abbrev pub IsFileRefused : Option Asked → FilesState → FilesState → Type 0
-IsFileRefused request files files' =
-    (refusal : Refusal) × (refusal_status refusal ≡ 3) × Stops refusal (needs_of request) files files'
+pub usage : {request : Option Asked} {old new : World} {done : Done} → Outcome request old new done → done.status ≡ 2 → request ≡ None
+usage {request} {old} {new} o is =
+    let found = refused_as o 2 (omega arith, omega arith, inl (omega arith)) is in usage_cause found.0 request old.files new.files found.1 found.2
 
 file_cause : (refusal : Refusal) (request : Option Asked) (files files' : FilesState) → IsRefused refusal request files files' → refusal_status refusal ≡ 3 → Stops refusal (needs_of request) files files'
 file_cause (Usage text) request files files' cause is = absurd (omega arith)
@@ -199,10 +195,10 @@ file_cause TooLong request files files' cause is = cause
 file_cause (Elf fault) request files files' cause is = cause
 file_cause (Asm line fault) request files files' cause is = cause
 
-pub refused : {request : Option Asked} {files files' : FilesState} {out out' note note' : SinkState} {done : Done} → Outcome request files files' out out' note note' done → done.status ≡ 3 →
-    IsFileRefused request files files'
-refused {request} {files} {files'} o is =
-    let found = refused_as o 3 (omega arith, omega arith, inl (omega arith)) is in (found.0, found.2, file_cause found.0 request files files' found.1 found.2)
+pub refused : {request : Option Asked} {old new : World} {done : Done} → Outcome request old new done → done.status ≡ 3 →
+    FileRefused 3 request old.files new.files
+refused {request} {old} {new} o is =
+    let found = refused_as o 3 (omega arith, omega arith, inl (omega arith)) is in (found.0, found.2, file_cause found.0 request old.files new.files found.1 found.2)
 
 unread_cause : (refusal : Refusal) (request : Option Asked) (files files' : FilesState) → IsRefused refusal request files files' → refusal_status refusal ≡ 8 → Stops Unread (needs_of request) files files'
 unread_cause (Usage text) request files files' cause is = absurd (omega arith)
@@ -211,36 +207,11 @@ unread_cause TooLong request files files' cause is = absurd (omega arith)
 unread_cause (Elf fault) request files files' cause is = absurd (omega arith)
 unread_cause (Asm line fault) request files files' cause is = absurd (omega arith)
 
-pub read_fault : {request : Option Asked} {files files' : FilesState} {out out' note note' : SinkState} {done : Done} → Outcome request files files' out out' note note' done → done.status ≡ 8 → Stops Unread (needs_of request) files files'
-read_fault {request} {files} {files'} o is =
-    let found = refused_as o 8 (omega arith, omega arith, inr (omega arith)) is in unread_cause found.0 request files files' found.1 found.2
+pub read_fault : {request : Option Asked} {old new : World} {done : Done} → Outcome request old new done → done.status ≡ 8 → Stops Unread (needs_of request) old.files new.files
+read_fault {request} {old} {new} o is =
+    let found = refused_as o 8 (omega arith, omega arith, inr (omega arith)) is in unread_cause found.0 request old.files new.files found.1 found.2
 
 -- ---- what was told
-
--- what holds of a course in which nothing was done
-abbrev pub IfUndone : Course → Type 0 → Type 0
-IfUndone (Refused refusal) P = P
-IfUndone NoMemory P = P
-IfUndone (Ran run bus) P = Unit {0}
-IfUndone (RanPlain run) P = Unit {0}
-IfUndone (Written telling) P = Unit {0}
-
-pub undone_of : (course : Course) (telling : Telling) (request : Option Asked) (files files' : FilesState) (out out' note note' : SinkState) → CameAbout course request files files' out out' → TellsCourse course note note' telling →
-    IfUndone course (Undone (status_of course telling) request files files' out out' note note')
-undone_of (Refused refusal) (Ok _) request files files' out out' note note' came tells =
-    record { silent = came.1; told = inl (record { refusal = refusal; cause = came.0; text = inl tells; status_is = inl refl }) }
-undone_of (Refused refusal) (Err Failed) request files files' out out' note note' came tells =
-    record { silent = came.1; told = inl (record { refusal = refusal; cause = came.0; text = inr (tells.0, inl tells.1); status_is = inl refl }) }
-undone_of (Refused refusal) (Err no_memory) request files files' out out' note note' came tells =
-    record { silent = came.1; told = inl (record { refusal = refusal; cause = came.0; text = inr (tells, inr refl); status_is = inr refl }) }
-undone_of NoMemory telling request files files' out out' note note' came tells =
-    record { silent = came.1; told = inr (record { runs_out = came.0; silent = tells.0; status_is = ten telling tells.1 }) }
-  where
-    ten : (telling : Telling) → telling ≡ Ok tt → status_of NoMemory telling ≡ 10
-    ten telling whole = rw whole refl
-undone_of (Ran run bus) telling request files files' out out' note note' came tells = tt
-undone_of (RanPlain run) telling request files files' out out' note note' came tells = tt
-undone_of (Written written) telling request files files' out out' note note' came tells = tt
 
 untold_cases : (ending : Ending) → ((untold_ending_status ending ≡ 9) × (ending ≢ memory_ended)) ⊎ (untold_ending_status ending ≡ 10)
 untold_cases (Halted code) = inl (refl, λ e. cc)
@@ -255,7 +226,7 @@ untold_ending : (text : List ℕ) (whole : ℕ) (ending : Ending) (old new : Sin
 untold_ending text whole ending old new front risen =
     inr (front, elim (untold_cases ending) [ inl untold ↦ inl (untold.0, untold.1, risen) | inr none ↦ inr none ])
 
-told_run : (course : Course) (telling : Telling) (note note' : SinkState) → TellsCourse course note note' telling →
+pub told_run : (course : Course) (telling : Telling) (note note' : SinkState) → TellsCourse course note note' telling →
     IfSome (course_run course) (λ run. TellsRun (status_of course telling) run (lies_of (course_bus course)) note note')
 told_run (Refused refusal) telling note note' tells = tt
 told_run NoMemory telling note note' tells = tt
@@ -265,10 +236,6 @@ told_run (Ran run bus) (Ok _) note note' tells = inl (tells, refl)
 told_run (Ran run bus) (Err Failed) note note' tells =
     untold_ending (record_text run (run_told bus).lies) (run_status run) run.ending note note' tells.0 tells.1
 told_run (Ran run bus) (Err no_memory) note note' tells = inr (tells, inr refl)
-
-pub tells_run : {request : Option Asked} {files files' : FilesState} {out out' note note' : SinkState} {done : Done} → Outcome request files files' out out' note note' done →
-    IfSome done.run (λ run. TellsRun done.status run done.lies note note')
-tells_run {note} {note'} o = rw (o.run, o.status, o.lies) (told_run o.course o.told note note' o.tells)
 
 pub told_plain : (run : PlainRecord) (telling : Telling) (note note' : SinkState) → TellsCourse (RanPlain run) note note' telling → TellsPlain (status_of (RanPlain run) telling) run note note'
 told_plain run (Ok _) note note' tells = inl (tells, refl)

@@ -1,5 +1,5 @@
 -- What was asked of the files, and what each request came to.
-use Rattle.std.proofs.Common.{◌≡◌, ◌≢◌, ◌⊎◌, inl, inr, List, [], ◌∷◌, ◌++◌, ℕ, length, Option, Some, None, Ok, Err, Contains, IfNone, IfSome, refl, sym, ap, ◌∙◌, subst, arith, append-nil, append_assoc}
+use Rattle.std.proofs.Common.{◌≡◌, ◌≢◌, ◌⊎◌, inl, inr, List, [], ◌∷◌, ◌++◌, ℕ, length, Option, Some, None, Ok, Err, Contains, IfSome, refl, sym, ap, ◌∙◌, subst, arith, append-nil, append_assoc}
 use Rattle.sec_base.specs.Reading.{FilesState, HasBytes}
 use Rattle.sec_base.specs.Writing.{SinkState}
 use Rattle.sec_base.specs.declared.program.Image.{Image}
@@ -10,19 +10,22 @@ use Rattle.chip_run.specs.declared.RunRecord.{RunRecord}
 use Rattle.chip_words.specs.Request.{Asked, AssemblyAsked, ExecutionAsked, InspectionAsked, to_assemble, to_disassemble, to_measure, to_run, to_run_plain}
 use Rattle.chip_main.specs.declared.refusal.Refusal.{Refusal}
 use Rattle.chip_main.specs.declared.refusal.Refusal.TheVariants.{Usage, Unread, TooLong, Elf, Asm}
+use Rattle.chip_main.specs.declared.run_bus.RunBus.{RunBus}
 use Rattle.chip_main.specs.declared.course.Course.{Course}
 use Rattle.chip_main.specs.declared.course.Course.TheVariants.{Refused, NoMemory, Ran, RanPlain, Written}
 use Rattle.chip_main.specs.declared.Done.{Done}
+use Rattle.chip_main.specs.World.{World}
 use Rattle.chip_main.specs.Program.{ProgramFile}
 use Rattle.chip_main.specs.Texts.{elf_file, listing, measurement_line}
-use Rattle.chip_main.specs.Needs.{Need, AreAccepted, HasTold, IsAccepted, IsUnfit, asked_needs, assembly_file, inspection_file, names, needs_of, program_need}
+use Rattle.chip_main.specs.Needs.{Need, AreAccepted, HasTold, IsAccepted, IsUnfit, asked_file, asked_needs, assembly_file, inspection_file, names, needs_of, program_need}
 use Rattle.chip_main.specs.Causes.{Asks, AsksFront, AsksNothing, IsRefused, RunsOut, Stops}
 use Rattle.chip_main.specs.Requests.{PlainlyRunsRequest, RunsRequest, Writes, WritesRequest}
 use Rattle.chip_main.specs.Statuses.{Telling}
-use Rattle.chip_main.specs.Answer.{Delivers, PlainlyRan, Undone}
-use Rattle.chip_main.specs.Course.{CameAbout, Outcome, TellsCourse, course_run, status_of}
+use Rattle.chip_main.specs.Buses.{AreBothAnd}
+use Rattle.chip_main.specs.Answer.{Delivers, GivesPlainRun, GivesRun, GivesText, LacksMemory, PlainlyRan, RanAndTold, TellsPlain, TellsRefusal, TellsRun, Undone, undone_statuses}
+use Rattle.chip_main.specs.Course.{CameAbout, Outcome, TellsCourse, course_bus, course_run, status_of}
 use Rattle.chip_main.proofs.Courses.{execution_accepted, program_accepted}
-use Rattle.chip_main.proofs.Outcomes.{IfUndone, told_plain, undone_of}
+use Rattle.chip_main.proofs.Outcomes.{told_plain, told_run}
 
 -- ---- where something was done, all files were taken
 
@@ -98,18 +101,8 @@ front (Ran run bus) request files files' out out' came = front_all (needs_of req
 front (RanPlain run) request files files' out out' came = front_all (needs_of request) files files' (plainly_ran_taken request files files' out out' run came).asked
 front (Written telling) request files files' out out' came = front_all (needs_of request) files files' (written_taken request files files' out out' telling came).asked
 
-pub asks_front : {request : Option Asked} {files files' : FilesState} {out out' note note' : SinkState} {done : Done} → Outcome request files files' out out' note note' done → AsksFront (needs_of request) files files'
-asks_front {request} {files} {files'} {out} {out'} o = front o.course request files files' out out' o.came
-
-asked_of_run : (course : Course) (request : Option Asked) (files files' : FilesState) (out out' : SinkState) → CameAbout course request files files' out out' → IfSome (course_run course) (λ _. Asks (needs_of request) files files')
-asked_of_run (Refused refusal) request files files' out out' came = tt
-asked_of_run NoMemory request files files' out out' came = tt
-asked_of_run (Ran run bus) request files files' out out' came = (ran_taken request files files' out out' run _ came).asked
-asked_of_run (RanPlain run) request files files' out out' came = tt
-asked_of_run (Written telling) request files files' out out' came = tt
-
-pub run_asked : {request : Option Asked} {files files' : FilesState} {out out' note note' : SinkState} {done : Done} → Outcome request files files' out out' note note' done → IfSome done.run (λ _. Asks (needs_of request) files files')
-run_asked {request} {files} {files'} {out} {out'} o = rw o.run (asked_of_run o.course request files files' out out' o.came)
+pub asks_front : {request : Option Asked} {old new : World} {done : Done} → Outcome request old new done → AsksFront (needs_of request) old.files new.files
+asks_front {request} {old} {new} o = front o.course request old.files new.files old.out new.out o.came
 
 -- ---- requests that need nothing
 
@@ -120,72 +113,31 @@ no_place (need ∷ before) here after e = cc
 nothing_stops : (refusal : Refusal) (needs : List Need) (files files' : FilesState) → needs ≡ [] → ¬ Stops refusal needs files files'
 nothing_stops refusal needs files files' none stops = no_place stops.before stops.here stops.after (sym none ∙ stops.order)
 
-no_part : (before tried after : List Need) → [] ≡ before ++ tried ++ after → before ++ tried ≡ []
-no_part [] [] after e = refl
-no_part [] (need ∷ tried) after e = absurd cc
-no_part (need ∷ before) tried after e = absurd cc
+no_front : (front rest : List Need) → [] ≡ front ++ rest → front ≡ []
+no_front [] rest e = refl
+no_front (need ∷ front) rest e = absurd cc
 
-asks_none : (needs : List Need) (files files' : FilesState) → needs ≡ [] → RunsOut needs files files' → AsksNothing files files'
-asks_none needs files files' none runs_out =
-    runs_out.asked ∙ ap (λ (n : List Need). files.asked ++ names n) (no_part runs_out.before runs_out.tried runs_out.after (sym none ∙ runs_out.order)) ∙ append-nil files.asked
+asks_none : (needs : List Need) (files files' : FilesState) → needs ≡ [] → AsksFront needs files files' → AsksNothing files files'
+asks_none needs files files' none asked =
+    asked.2 ∙ ap (λ (n : List Need). files.asked ++ names n) (no_front asked.0 asked.1.0 (sym none ∙ asked.1.1)) ∙ append-nil files.asked
+
+pub unasked : {request : Option Asked} {old new : World} {done : Done} → Outcome request old new done → request ≡ None → AsksNothing old.files new.files
+unasked {request} {old} {new} o none = asks_none (needs_of request) old.files new.files (ap needs_of none) (asks_front o)
+
+-- ---- where nothing was done
 
 abbrev pub refused_statuses : List ℕ
 refused_statuses = 2 ∷ 10 ∷ []
 
--- neither was anything done nor a file asked for
-pub record Idle (status : ℕ) (run : Option RunRecord) (files files' : FilesState) : Type 0 where
-  pub status_is : Contains refused_statuses status
-  pub no_run : run ≡ None
-  pub unasked : AsksNothing files files'
+usage_listed : (text : _) (telling : Telling) → Contains refused_statuses (status_of (Refused (Usage text)) telling)
+usage_listed text (Ok _) = (0, omega arith, refl)
+usage_listed text (Err Failed) = (0, omega arith, refl)
+usage_listed text (Err no_memory) = (1, omega arith, refl)
 
-idle_usage : (text : _) (telling : Telling) → Contains refused_statuses (status_of (Refused (Usage text)) telling)
-idle_usage text (Ok _) = (0, omega arith, refl)
-idle_usage text (Err Failed) = (0, omega arith, refl)
-idle_usage text (Err no_memory) = (1, omega arith, refl)
-
-idle_no_memory : (telling : Telling) → Contains refused_statuses (status_of NoMemory telling)
-idle_no_memory (Ok _) = (1, omega arith, refl)
-idle_no_memory (Err Failed) = (1, omega arith, refl)
-idle_no_memory (Err no_memory) = (1, omega arith, refl)
-
-idle : (course : Course) (telling : Telling) (request : Option Asked) (files files' : FilesState) (out out' : SinkState) → needs_of request ≡ [] → CameAbout course request files files' out out' →
-    Idle (status_of course telling) (course_run course) files files'
-idle (Refused (Usage text)) telling request files files' out out' none came = record { status_is = idle_usage text telling; no_run = refl; unasked = came.0.1 }
-idle (Refused Unread) telling request files files' out out' none came = absurd (nothing_stops Unread (needs_of request) files files' none came.0)
-idle (Refused TooLong) telling request files files' out out' none came = absurd (nothing_stops TooLong (needs_of request) files files' none came.0)
-idle (Refused (Elf fault)) telling request files files' out out' none came = absurd (nothing_stops (Elf fault) (needs_of request) files files' none came.0)
-idle (Refused (Asm line fault)) telling request files files' out out' none came = absurd (nothing_stops (Asm line fault) (needs_of request) files files' none came.0)
-idle NoMemory telling request files files' out out' none came =
-    record { status_is = idle_no_memory telling; no_run = refl; unasked = asks_none (needs_of request) files files' none came.0 }
-idle (Ran run bus) telling request files files' out out' none came = absurd ((ran_taken request files files' out out' run _ came).some none)
-idle (RanPlain run) telling request files files' out out' none came = absurd ((plainly_ran_taken request files files' out out' run came).some none)
-idle (Written written) telling request files files' out out' none came = absurd ((written_taken request files files' out out' written came).some none)
-
-pub is_idle : {request : Option Asked} {files files' : FilesState} {out out' note note' : SinkState} {done : Done} → Outcome request files files' out out' note note' done → needs_of request ≡ [] → Idle done.status done.run files files'
-is_idle {request} {files} {files'} {out} {out'} o none = rw (o.run, o.status) (idle o.course o.told request files files' out out' none o.came)
-
-pub others : {request : Option Asked} {files files' : FilesState} {out out' note note' : SinkState} {done : Done} → Outcome request files files' out out' note note' done → request ≡ None → Contains refused_statuses done.status × (done.run ≡ None)
-others o none = let still = is_idle o (ap needs_of none) in (still.status_is, still.no_run)
-
-pub unasked : {request : Option Asked} {files files' : FilesState} {out out' note note' : SinkState} {done : Done} → Outcome request files files' out out' note note' done → request ≡ None → AsksNothing files files'
-unasked o none = (is_idle o (ap needs_of none)).unasked
-
--- ---- what was done
-
--- something was done only for a request of its command
-undone_without : (course : Course) (P : Type 0) (request : Option Asked) (files files' : FilesState) (out out' : SinkState) → request ≡ None → CameAbout course request files files' out out' → IfUndone course P → P
-undone_without (Refused refusal) P request files files' out out' none came holds = holds
-undone_without NoMemory P request files files' out out' none came holds = holds
-undone_without (Ran run bus) P request files files' out out' none came holds = absurd ((ran_taken request files files' out out' run _ came).some (ap needs_of none))
-undone_without (RanPlain run) P request files files' out out' none came holds = absurd ((plainly_ran_taken request files files' out out' run came).some (ap needs_of none))
-undone_without (Written telling) P request files files' out out' none came holds = absurd ((written_taken request files files' out out' telling came).some (ap needs_of none))
-
-undone : {request : Option Asked} {files files' : FilesState} {out out' note note' : SinkState} {done : Done} → (o : Outcome request files files' out out' note note' done) → IfUndone o.course (Undone done.status request files files' out out' note note')
-undone {request} {files} {files'} {out} {out'} {note} {note'} o = rw o.status (undone_of o.course o.told request files files' out out' note note' o.came o.tells)
-
-pub others_undone : {request : Option Asked} {files files' : FilesState} {out out' note note' : SinkState} {done : Done} → Outcome request files files' out out' note note' done → request ≡ None → Undone done.status request files files' out out' note note'
-others_undone {request} {files} {files'} {out} {out'} {note} {note'} {done} o none =
-    undone_without o.course (Undone done.status request files files' out out' note note') request files files' out out' none o.came (undone o)
+no_memory_listed : (telling : Telling) → Contains refused_statuses (status_of NoMemory telling)
+no_memory_listed (Ok _) = (1, omega arith, refl)
+no_memory_listed (Err Failed) = (1, omega arith, refl)
+no_memory_listed (Err no_memory) = (1, omega arith, refl)
 
 abbrev pub unrun_statuses : List ℕ
 unrun_statuses = 3 ∷ 8 ∷ 10 ∷ []
@@ -207,41 +159,118 @@ no_memory_unrun (Ok _) = (2, omega arith, refl)
 no_memory_unrun (Err Failed) = (2, omega arith, refl)
 no_memory_unrun (Err no_memory) = (2, omega arith, refl)
 
-unrun : (course : Course) (telling : Telling) (P : Type 0) (execution : ExecutionAsked) (files files' : FilesState) (out out' : SinkState) → CameAbout course (Some (to_run execution)) files files' out out' → IfUndone course P →
-    IfNone (course_run course) (Contains unrun_statuses (status_of course telling) × P)
-unrun (Refused refusal) telling P execution files files' out out' came holds = (refusal_unrun refusal telling (to_run execution) files files' came.0, holds)
-unrun NoMemory telling P execution files files' out out' came holds = (no_memory_unrun telling, holds)
-unrun (Ran run bus) telling P execution files files' out out' came holds = tt
-unrun (RanPlain run) telling P execution files files' out out' came holds = absurd came
-unrun (Written written) telling P execution files files' out out' came holds = absurd came
+refusal_listed : (request : Option Asked) (refusal : Refusal) (telling : Telling) (files files' : FilesState) → IsRefused refusal request files files' → Contains (undone_statuses request) (status_of (Refused refusal) telling)
+refusal_listed (Some asked) refusal telling files files' cause = refusal_unrun refusal telling asked files files' cause
+refusal_listed None (Usage text) telling files files' cause = usage_listed text telling
+refusal_listed None Unread telling files files' cause = absurd (nothing_stops Unread [] files files' refl cause)
+refusal_listed None TooLong telling files files' cause = absurd (nothing_stops TooLong [] files files' refl cause)
+refusal_listed None (Elf fault) telling files files' cause = absurd (nothing_stops (Elf fault) [] files files' refl cause)
+refusal_listed None (Asm line fault) telling files files' cause = absurd (nothing_stops (Asm line fault) [] files files' refl cause)
 
-pub no_run : {request : Option Asked} {files files' : FilesState} {out out' note note' : SinkState} {done : Done} → Outcome request files files' out out' note note' done → (execution : ExecutionAsked) → request ≡ Some (to_run execution) →
-    IfNone done.run (Contains unrun_statuses done.status × Undone done.status request files files' out out' note note')
-no_run {request} {files} {files'} {out} {out'} {note} {note'} {done} o execution asks =
-    let came = subst (λ (r : Option Asked). CameAbout o.course r files files' out out') asks o.came in
-    let at = unrun o.course o.told (Undone done.status request files files' out out' note note') execution files files' out out' came (undone o) in
-    rw o.run (subst (λ (n : ℕ). IfNone (course_run o.course) (Contains unrun_statuses n × Undone done.status request files files' out out' note note')) (sym o.status) at)
+lack_listed : (request : Option Asked) (telling : Telling) → Contains (undone_statuses request) (status_of NoMemory telling)
+lack_listed (Some asked) telling = no_memory_unrun telling
+lack_listed None telling = no_memory_listed telling
 
-plainly_ran : (course : Course) (telling : Telling) (P : Type 0) (execution : ExecutionAsked) (files files' : FilesState) (out out' note note' : SinkState) → CameAbout course (Some (to_run_plain execution)) files files' out out' →
-    TellsCourse course note note' telling → IfUndone course P → PlainlyRan (status_of course telling) execution files files' out out' note note' ⊎ P
-plainly_ran (Refused refusal) telling P execution files files' out out' note note' came tells holds = inr holds
-plainly_ran NoMemory telling P execution files files' out out' note note' came tells holds = inr holds
-plainly_ran (Ran run bus) telling P execution files files' out out' note note' came tells holds = absurd came
-plainly_ran (RanPlain run) telling P execution files files' out out' note note' came tells holds =
-    inl (record { run = run; runs = came; told = told_plain run telling note note' tells })
-plainly_ran (Written written) telling P execution files files' out out' note note' came tells holds = absurd came
+refusal_told : (refusal : Refusal) (telling : Telling) (request : Option Asked) (old new : World) (status : ℕ) → IsRefused refusal request old.files new.files → TellsCourse (Refused refusal) old.note new.note telling →
+    status ≡ status_of (Refused refusal) telling → TellsRefusal request old new status
+refusal_told refusal (Ok _) request old new status cause tells is = record { refusal = refusal; cause = cause; text = inl tells; status_is = inl is }
+refusal_told refusal (Err Failed) request old new status cause tells is =
+    record { refusal = refusal; cause = cause; text = inr (tells.0, inl tells.1); status_is = inl is }
+refusal_told refusal (Err no_memory) request old new status cause tells is =
+    record { refusal = refusal; cause = cause; text = inr (tells, inr is); status_is = inr is }
 
-pub plain : {request : Option Asked} {files files' : FilesState} {out out' note note' : SinkState} {done : Done} → Outcome request files files' out out' note note' done → (execution : ExecutionAsked) → request ≡ Some (to_run_plain execution) →
-    PlainlyRan done.status execution files files' out out' note note' ⊎ Undone done.status request files files' out out' note note'
-plain {request} {files} {files'} {out} {out'} {note} {note'} {done} o execution asks =
-    let came = subst (λ (r : Option Asked). CameAbout o.course r files files' out out') asks o.came in
-    let at = plainly_ran o.course o.told (Undone done.status request files files' out out' note note') execution files files' out out' note note' came o.tells (undone o) in
-    subst (λ (n : ℕ). PlainlyRan n execution files files' out out' note note' ⊎ Undone done.status request files files' out out' note note') (sym o.status) at
+lack_told : (telling : Telling) (request : Option Asked) (old new : World) (status : ℕ) → RunsOut (needs_of request) old.files new.files → TellsCourse NoMemory old.note new.note telling →
+    status ≡ status_of NoMemory telling → LacksMemory request old new status
+lack_told telling request old new status runs_out tells is =
+    record { runs_out = runs_out; silent = tells.0; status_is = is ∙ ap (status_of NoMemory) tells.1 }
 
-delivered : (file : ProgramFile) (text : Image → List ℕ) (written telling : Telling) (files files' : FilesState) (out out' note note' : SinkState) → Writes file text files files' out out' written → TellsCourse (Written written) note note' telling →
-    Delivers (status_of (Written written) telling) file text files files' out out' note note'
-delivered file text written telling files files' out out' note note' writes tells =
-    rw tells.1 (record { telling = written; writes = writes; status_is = refl; silent = tells.0 })
+-- what holds of a course in which nothing was done
+abbrev pub IfUndone : Course → Type 0 → Type 0
+IfUndone (Refused refusal) P = P
+IfUndone NoMemory P = P
+IfUndone (Ran run bus) P = Unit {0}
+IfUndone (RanPlain run) P = Unit {0}
+IfUndone (Written telling) P = Unit {0}
+
+undone_of : (course : Course) (telling : Telling) (request : Option Asked) (old new : World) (done : Done) → CameAbout course request old.files new.files old.out new.out → TellsCourse course old.note new.note telling →
+    done.status ≡ status_of course telling → done.run ≡ course_run course → IfUndone course (Undone request old new done)
+undone_of (Refused refusal) telling request old new done came tells status_is run_is = record {
+  told = inl (refusal_told refusal telling request old new done.status came.0 tells status_is);
+  status_is = subst (λ (n : ℕ). Contains (undone_statuses request) n) (sym status_is) (refusal_listed request refusal telling old.files new.files came.0);
+  no_run = run_is;
+  silent = came.1;
+}
+undone_of NoMemory telling request old new done came tells status_is run_is = record {
+  told = inr (lack_told telling request old new done.status came.0 tells status_is);
+  status_is = subst (λ (n : ℕ). Contains (undone_statuses request) n) (sym status_is) (lack_listed request telling);
+  no_run = run_is;
+  silent = came.1;
+}
+undone_of (Ran run bus) telling request old new done came tells status_is run_is = tt
+undone_of (RanPlain run) telling request old new done came tells status_is run_is = tt
+undone_of (Written written) telling request old new done came tells status_is run_is = tt
+
+-- the same for a request that is known
+undone : {request : Option Asked} {old new : World} {done : Done} → (o : Outcome request old new done) → (is : Option Asked) → request ≡ is → IfUndone o.course (Undone is old new done)
+undone {request} {old} {new} {done} o is same = subst (λ (r : Option Asked). IfUndone o.course (Undone r old new done)) same
+    (undone_of o.course o.told request old new done o.came o.tells o.status o.run)
+
+pub came_as : {request : Option Asked} {old new : World} {done : Done} → (o : Outcome request old new done) → (is : Option Asked) → request ≡ is → CameAbout o.course is old.files new.files old.out new.out
+came_as {request} {old} {new} o is same = subst (λ (r : Option Asked). CameAbout o.course r old.files new.files old.out new.out) same o.came
+
+-- ---- what was done
+
+-- something was done only for a request of its command
+undone_without : (course : Course) (P : Type 0) (files files' : FilesState) (out out' : SinkState) → CameAbout course None files files' out out' → IfUndone course P → P
+undone_without (Refused refusal) P files files' out out' came holds = holds
+undone_without NoMemory P files files' out out' came holds = holds
+undone_without (Ran run bus) P files files' out out' came holds = absurd came
+undone_without (RanPlain run) P files files' out out' came holds = absurd came
+undone_without (Written telling) P files files' out out' came holds = absurd came
+
+pub none : {request : Option Asked} {old new : World} {done : Done} → Outcome request old new done → request ≡ None → AsksNothing old.files new.files × Undone None old new done
+none {request} {old} {new} {done} o is =
+    (unasked o is, undone_without o.course (Undone None old new done) old.files new.files old.out new.out (came_as o None is) (undone o None is))
+
+ran : (course : Course) (execution : ExecutionAsked) (P : Type 0) (old new : World) (done : Done) → CameAbout course (Some (to_run execution)) old.files new.files old.out new.out →
+    IfSome (course_run course) (λ run. TellsRun done.status run done.lies old.note new.note) → IfUndone course P →
+    AreBothAnd (course_run course) (course_bus course) (RanAndTold execution old new done) ⊎ P
+ran (Refused refusal) execution P old new done came tells holds = inr holds
+ran NoMemory execution P old new done came tells holds = inr holds
+ran (Ran run bus) execution P old new done came tells holds = inl (record { runs = came; tells = tells })
+ran (RanPlain run) execution P old new done came tells holds = absurd came
+ran (Written written) execution P old new done came tells holds = absurd came
+
+pub run : {request : Option Asked} {old new : World} {done : Done} → Outcome request old new done → (execution : ExecutionAsked) → request ≡ Some (to_run execution) → GivesRun execution old new done
+run {request} {old} {new} {done} o execution asks =
+    let tells : IfSome (course_run o.course) (λ run. TellsRun done.status run done.lies old.note new.note) = rw (o.status, o.lies) (told_run o.course o.told old.note new.note o.tells) in
+    let at = ran o.course execution (Undone (Some (to_run execution)) old new done) old new done
+    (came_as o (Some (to_run execution)) asks) tells (undone o (Some (to_run execution)) asks) in
+    let with_run = subst (λ (r : Option RunRecord). AreBothAnd r (course_bus o.course) (RanAndTold execution old new done) ⊎ Undone (Some (to_run execution)) old new done) (sym o.run) at in
+    subst (λ (b : Option RunBus). AreBothAnd done.run b (RanAndTold execution old new done) ⊎ Undone (Some (to_run execution)) old new done) (sym o.bus) with_run
+
+plainly_ran : (course : Course) (telling : Telling) (execution : ExecutionAsked) (P : Type 0) (old new : World) (done : Done) → CameAbout course (Some (to_run_plain execution)) old.files new.files old.out new.out →
+    TellsCourse course old.note new.note telling → done.status ≡ status_of course telling → done.run ≡ course_run course → IfUndone course P → PlainlyRan execution old new done ⊎ P
+plainly_ran (Refused refusal) telling execution P old new done came tells status_is run_is holds = inr holds
+plainly_ran NoMemory telling execution P old new done came tells status_is run_is holds = inr holds
+plainly_ran (Ran run bus) telling execution P old new done came tells status_is run_is holds = absurd came
+plainly_ran (RanPlain run) telling execution P old new done came tells status_is run_is holds = inl (record {
+  run = run;
+  runs = came;
+  tells = subst (λ (n : ℕ). TellsPlain n run old.note new.note) (sym status_is) (told_plain run telling old.note new.note tells);
+  no_run = run_is;
+})
+plainly_ran (Written written) telling execution P old new done came tells status_is run_is holds = absurd came
+
+pub plain : {request : Option Asked} {old new : World} {done : Done} → Outcome request old new done → (execution : ExecutionAsked) → request ≡ Some (to_run_plain execution) → GivesPlainRun execution old new done
+plain {request} {old} {new} {done} o execution asks =
+    plainly_ran o.course o.told execution (Undone (Some (to_run_plain execution)) old new done) old new done
+    (came_as o (Some (to_run_plain execution)) asks) o.tells o.status o.run (undone o (Some (to_run_plain execution)) asks)
+
+delivered : (file : ProgramFile) (text : Image → List ℕ) (written telling : Telling) (old new : World) (done : Done) → Writes file text old.files new.files old.out new.out written → TellsCourse (Written written) old.note new.note telling →
+    done.status ≡ status_of (Written written) telling → done.run ≡ None → Delivers file text old new done
+delivered file text written telling old new done writes tells status_is run_is =
+    record { telling = written; writes = writes; status_is = status_is ∙ ap (status_of (Written written)) tells.1; no_run = run_is; silent = tells.0 }
 
 -- what came about where the request is for this text
 abbrev pub WritesOr : Course → ProgramFile → (Image → List ℕ) → FilesState → FilesState → SinkState → SinkState → Type 0
@@ -251,19 +280,19 @@ WritesOr (Ran run bus) file text files files' out out' = ⊥
 WritesOr (RanPlain run) file text files files' out out' = ⊥
 WritesOr (Written telling) file text files files' out out' = Writes file text files files' out out' telling
 
-delivered_or : (course : Course) (telling : Telling) (P : Type 0) (file : ProgramFile) (text : Image → List ℕ) (files files' : FilesState) (out out' note note' : SinkState) → WritesOr course file text files files' out out' →
-    TellsCourse course note note' telling → IfUndone course P → Delivers (status_of course telling) file text files files' out out' note note' ⊎ P
-delivered_or (Refused refusal) telling P file text files files' out out' note note' came tells holds = inr holds
-delivered_or NoMemory telling P file text files files' out out' note note' came tells holds = inr holds
-delivered_or (Ran run bus) telling P file text files files' out out' note note' came tells holds = absurd came
-delivered_or (RanPlain run) telling P file text files files' out out' note note' came tells holds = absurd came
-delivered_or (Written written) telling P file text files files' out out' note note' came tells holds = inl (delivered file text written telling files files' out out' note note' came tells)
+delivered_or : (course : Course) (telling : Telling) (file : ProgramFile) (text : Image → List ℕ) (P : Type 0) (old new : World) (done : Done) → WritesOr course file text old.files new.files old.out new.out →
+    TellsCourse course old.note new.note telling → done.status ≡ status_of course telling → done.run ≡ course_run course → IfUndone course P → Delivers file text old new done ⊎ P
+delivered_or (Refused refusal) telling file text P old new done writes tells status_is run_is holds = inr holds
+delivered_or NoMemory telling file text P old new done writes tells status_is run_is holds = inr holds
+delivered_or (Ran run bus) telling file text P old new done writes tells status_is run_is holds = absurd writes
+delivered_or (RanPlain run) telling file text P old new done writes tells status_is run_is holds = absurd writes
+delivered_or (Written written) telling file text P old new done writes tells status_is run_is holds =
+    inl (delivered file text written telling old new done writes tells status_is run_is)
 
-delivers : {request : Option Asked} {files files' : FilesState} {out out' note note' : SinkState} {done : Done} → (o : Outcome request files files' out out' note note' done) → (file : ProgramFile) (text : Image → List ℕ) →
-    WritesOr o.course file text files files' out out' → Delivers done.status file text files files' out out' note note' ⊎ Undone done.status request files files' out out' note note'
-delivers {request} {files} {files'} {out} {out'} {note} {note'} {done} o file text came =
-    let at = delivered_or o.course o.told (Undone done.status request files files' out out' note note') file text files files' out out' note note' came o.tells (undone o) in
-    subst (λ (n : ℕ). Delivers n file text files files' out out' note note' ⊎ Undone done.status request files files' out out' note note') (sym o.status) at
+gives_text : {request : Option Asked} {old new : World} {done : Done} → (o : Outcome request old new done) → (asked : Asked) (text : Image → List ℕ) → request ≡ Some asked →
+    WritesOr o.course (asked_file asked) text old.files new.files old.out new.out → GivesText asked text old new done
+gives_text {request} {old} {new} {done} o asked text asks writes =
+    delivered_or o.course o.told (asked_file asked) text (Undone (Some asked) old new done) old new done writes o.tells o.status o.run (undone o (Some asked) asks)
 
 -- the request is for one of the texts
 pub asm_came : (course : Course) (assembly : AssemblyAsked) (files files' : FilesState) (out out' : SinkState) → CameAbout course (Some (to_assemble assembly)) files files' out out' → WritesOr course (assembly_file assembly) elf_file files files' out out'
@@ -287,23 +316,17 @@ measure_came (Ran run bus) inspection files files' out out' came = came
 measure_came (RanPlain run) inspection files files' out out' came = came
 measure_came (Written telling) inspection files files' out out' came = came
 
-pub asm : {request : Option Asked} {files files' : FilesState} {out out' note note' : SinkState} {done : Done} → Outcome request files files' out out' note note' done → (assembly : AssemblyAsked) → request ≡ Some (to_assemble assembly) →
-    Delivers done.status (assembly_file assembly) elf_file files files' out out' note note' ⊎ Undone done.status request files files' out out' note note'
-asm {files = files} {files' = files'} {out = out} {out' = out'} o assembly asks =
-    delivers o (assembly_file assembly) elf_file
-    (asm_came o.course assembly files files' out out' (subst (λ (r : Option Asked). CameAbout o.course r files files' out out') asks o.came))
+pub asm : {request : Option Asked} {old new : World} {done : Done} → Outcome request old new done → (assembly : AssemblyAsked) → request ≡ Some (to_assemble assembly) → GivesText (to_assemble assembly) elf_file old new done
+asm {old = old} {new = new} o assembly asks =
+    gives_text o (to_assemble assembly) elf_file asks (asm_came o.course assembly old.files new.files old.out new.out (came_as o (Some (to_assemble assembly)) asks))
 
-pub dis : {request : Option Asked} {files files' : FilesState} {out out' note note' : SinkState} {done : Done} → Outcome request files files' out out' note note' done → (inspection : InspectionAsked) → request ≡ Some (to_disassemble inspection) →
-    Delivers done.status (inspection_file inspection) listing files files' out out' note note' ⊎ Undone done.status request files files' out out' note note'
-dis {files = files} {files' = files'} {out = out} {out' = out'} o inspection asks =
-    delivers o (inspection_file inspection) listing
-    (dis_came o.course inspection files files' out out' (subst (λ (r : Option Asked). CameAbout o.course r files files' out out') asks o.came))
+pub dis : {request : Option Asked} {old new : World} {done : Done} → Outcome request old new done → (inspection : InspectionAsked) → request ≡ Some (to_disassemble inspection) → GivesText (to_disassemble inspection) listing old new done
+dis {old = old} {new = new} o inspection asks =
+    gives_text o (to_disassemble inspection) listing asks (dis_came o.course inspection old.files new.files old.out new.out (came_as o (Some (to_disassemble inspection)) asks))
 
-pub measure : {request : Option Asked} {files files' : FilesState} {out out' note note' : SinkState} {done : Done} → Outcome request files files' out out' note note' done → (inspection : InspectionAsked) → request ≡ Some (to_measure inspection) →
-    Delivers done.status (inspection_file inspection) measurement_line files files' out out' note note' ⊎ Undone done.status request files files' out out' note note'
-measure {files = files} {files' = files'} {out = out} {out' = out'} o inspection asks =
-    delivers o (inspection_file inspection) measurement_line
-    (measure_came o.course inspection files files' out out' (subst (λ (r : Option Asked). CameAbout o.course r files files' out out') asks o.came))
+pub measure : {request : Option Asked} {old new : World} {done : Done} → Outcome request old new done → (inspection : InspectionAsked) → request ≡ Some (to_measure inspection) → GivesText (to_measure inspection) measurement_line old new done
+measure {old = old} {new = new} o inspection asks =
+    gives_text o (to_measure inspection) measurement_line asks (measure_came o.course inspection old.files new.files old.out new.out (came_as o (Some (to_measure inspection)) asks))
 
 -- ---- files that are to be refused
 
@@ -363,7 +386,7 @@ unfit_listed (RanPlain run) telling before need after bytes request files files'
 unfit_listed (Written written) telling before need after bytes request files files' out out' order content unfit came =
     absurd (untaken before need after bytes request files files' order content unfit (written_taken request files files' out out' written came))
 
-pub unfit : {request : Option Asked} {files files' : FilesState} {out out' note note' : SinkState} {done : Done} → Outcome request files files' out out' note note' done → (before after : List Need) (need : Need) (bytes : List ℕ) →
-    needs_of request ≡ before ++ need ∷ after → HasTold files.held need.name bytes → IsUnfit need bytes → Contains unfit_statuses done.status
-unfit {request} {files} {files'} {out} {out'} o before after need bytes order content is =
-    subst (λ (n : ℕ). Contains unfit_statuses n) (sym o.status) (unfit_listed o.course o.told before need after bytes request files files' out out' order content is o.came)
+pub unfit : {request : Option Asked} {old new : World} {done : Done} → Outcome request old new done → (before after : List Need) (need : Need) (bytes : List ℕ) →
+    needs_of request ≡ before ++ need ∷ after → HasTold old.files.held need.name bytes → IsUnfit need bytes → Contains unfit_statuses done.status
+unfit {request} {old} {new} o before after need bytes order content is =
+    subst (λ (n : ℕ). Contains unfit_statuses n) (sym o.status) (unfit_listed o.course o.told before need after bytes request old.files new.files old.out new.out order content is o.came)

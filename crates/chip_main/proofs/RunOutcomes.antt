@@ -20,14 +20,15 @@ use Rattle.chip_main.specs.declared.run_bus.RunBus.TheVariants.{Honest}
 use Rattle.chip_main.specs.declared.course.Course.{Course}
 use Rattle.chip_main.specs.declared.course.Course.TheVariants.{Refused, NoMemory, Ran, RanPlain, Written}
 use Rattle.chip_main.specs.declared.Done.{Done}
+use Rattle.chip_main.specs.World.{World}
 use Rattle.chip_main.specs.Program.{ProgramFile}
 use Rattle.chip_main.specs.Needs.{assembly_file, inspection_file}
 use Rattle.chip_main.specs.Texts.{elf_file, listing, measurement_line}
 use Rattle.chip_main.specs.Statuses.{Telling, ending_status, evidence_status, refusal_status, run_status, status_with, text_status}
-use Rattle.chip_main.specs.Buses.{AreBothAnd, IfBoth, IfRun, IsRunAnd, lies_of, run_told}
-use Rattle.chip_main.specs.Endings.{EndedHalted, EndedTrapped, EndedOutOfSteps, EndedTampered, EndedSpent, EndedWithEvidence}
+use Rattle.chip_main.specs.Buses.{AreBothAnd, IsRunAnd, lies_of, run_told}
+use Rattle.chip_main.specs.Endings.{EndedWithoutEvidence, IsHalted, IsTrapped, IsOutOfSteps, EndedTampered, EndedSpent, EndedWithEvidence}
 use Rattle.chip_main.specs.Requests.{ByCommand, PlainlyRuns, PlainlyRunsRequest, RunsExecution, RunsRequest, Writes, WritesRequest}
-use Rattle.chip_main.specs.Answer.{IsHalted, IsTrapped, IsOutOfSteps, PlainlyEnded, WritesWhole}
+use Rattle.chip_main.specs.Answer.{Ended, IsDone, PlainlyEnded, RanAnd}
 use Rattle.chip_main.specs.Course.{CameAbout, Outcome, TellsCourse, course_bus, course_run, course_status, status_of}
 use Rattle.chip_main.proofs.Outcomes.{own_status}
 use Rattle.chip_main.proofs.RunStatuses.{evidence_cause, halted_cause, halted_of, no_seven, out_of_steps_cause, out_of_steps_of, spent_cause, spent_of, tampered_cause, tampered_of, trapped_cause, trapped_of}
@@ -40,7 +41,7 @@ together (Ran run bus) = (λ is. is, λ is. is)
 together (RanPlain run) = (λ is. is, λ is. is)
 together (Written telling) = (λ is. is, λ is. is)
 
-pub bus_together : {request : Option Asked} {files files' : FilesState} {out out' note note' : SinkState} {done : Done} → Outcome request files files' out out' note note' done → IsSome done.run ↔ IsSome done.bus
+pub bus_together : {request : Option Asked} {old new : World} {done : Done} → Outcome request old new done → IsSome done.run ↔ IsSome done.bus
 bus_together o = rw (o.run, o.bus) (together o.course)
 
 -- the bus is honest
@@ -51,19 +52,8 @@ none_false (Ran run (Honest kept)) = refl
 none_false (RanPlain run) = refl
 none_false (Written telling) = refl
 
-pub honest : {request : Option Asked} {files files' : FilesState} {out out' note note' : SinkState} {done : Done} → Outcome request files files' out out' note note' done → done.lies ≡ 0
+pub honest : {request : Option Asked} {old new : World} {done : Done} → Outcome request old new done → done.lies ≡ 0
 honest o = o.lies ∙ none_false o.course
-
-runs : (course : Course) (request : Option Asked) (files files' : FilesState) (out out' : SinkState) → CameAbout course request files files' out out' →
-    IfBoth (course_run course) (course_bus course) (RunsRequest request files files' out out')
-runs (Refused refusal) request files files' out out' came = tt
-runs NoMemory request files files' out out' came = tt
-runs (Ran run bus) request files files' out out' came = came
-runs (RanPlain run) request files files' out out' came = tt
-runs (Written telling) request files files' out out' came = tt
-
-pub runs_request : {request : Option Asked} {files files' : FilesState} {out out' note note' : SinkState} {done : Done} → Outcome request files files' out out' note note' done → IfRun done (RunsRequest request files files' out out')
-runs_request {request} {files} {files'} {out} {out'} o = rw (o.run, o.bus) (runs o.course request files files' out out' o.came)
 
 -- ---- what a status says of what was done, by the command
 
@@ -114,10 +104,10 @@ said (RanPlain run) request status Run Plain Text files files' out out' says cam
 said (Written telling) request status Run Plain Text files files' out out' says came is =
     said_of_text request telling status Run Plain Text files files' out out' says came is
 
-by_command : (status : ℕ) (Run : RunRecord → Told → Type 0) (Plain : ExecutionAsked → Type 0) (Text : ProgramFile → (Image → List ℕ) → Type 0) {request : Option Asked} {files files' : FilesState} {out out' note note' : SinkState} {done : Done} →
-    Says status Run Plain Text files files' out out' → Outcome request files files' out out' note note' done → done.status ≡ status → ByCommand request (λ _. IsRunAnd done Run) Plain Text
-by_command status Run Plain Text {request} {files} {files'} {out} {out'} says o is =
-    rw (o.run, o.bus) (said o.course request status Run Plain Text files files' out out' says o.came (own_status o status says.low is))
+by_command : (status : ℕ) (Run : RunRecord → Told → Type 0) (Plain : ExecutionAsked → Type 0) (Text : ProgramFile → (Image → List ℕ) → Type 0) {request : Option Asked} {old new : World} {done : Done} →
+    Says status Run Plain Text old.files new.files old.out new.out → Outcome request old new done → done.status ≡ status → ByCommand request (λ _. IsRunAnd done Run) Plain Text
+by_command status Run Plain Text {request} {old} {new} says o is =
+    rw (o.run, o.bus) (said o.course request status Run Plain Text old.files new.files old.out new.out says o.came (own_status o status says.low is))
 
 -- no refusal has one of these statuses
 unrefused : (status : ℕ) → status ≢ 2 → status ≢ 3 → status ≢ 8 → (refusal : Refusal) → refusal_status refusal ≢ status
@@ -134,26 +124,36 @@ unwritten status some low (Err Failed) is = omega arith
 unwritten status some low (Err no_memory) is = omega arith
 
 written_whole : (file : ProgramFile) (text : Image → List ℕ) (telling : Telling) (files files' : FilesState) (out out' : SinkState) → Writes file text files files' out out' telling → text_status telling ≡ 0 →
-    WritesWhole file text files files' out out'
+    Writes file text files files' out out' (Ok tt)
 written_whole file text (Ok _) files files' out out' writes is = writes
 written_whole file text (Err Failed) files files' out out' writes is = absurd (omega arith)
 written_whole file text (Err no_memory) files files' out out' writes is = absurd (omega arith)
 
-pub halted : {request : Option Asked} {files files' : FilesState} {out out' note note' : SinkState} {done : Done} → Outcome request files files' out out' note note' done → done.status ≡ 0 →
-    ByCommand request (λ _. IsRunAnd done EndedHalted) (λ execution. PlainlyEnded IsHalted execution files files' out out') (λ file text. WritesWhole file text files files' out out')
-halted {files = files} {files' = files'} {out = out} {out' = out'} o is =
-    by_command 0 EndedHalted (λ execution. PlainlyEnded IsHalted execution files files' out out') (λ file text. WritesWhole file text files files' out out') (record {
+-- either a program ran, or a text was written
+ran_or_written : (request : Option Asked) (Run : Type 0) (Plain : ExecutionAsked → Type 0) (Text : ProgramFile → (Image → List ℕ) → Type 0) → ByCommand request (λ _. Run) Plain Text →
+    ByCommand request (λ _. Run) Plain (λ _ _. ⊥) ⊎ ByCommand request (λ _. ⊥) (λ _. ⊥) Text
+ran_or_written None Run Plain Text holds = absurd holds
+ran_or_written (Some (to_run execution)) Run Plain Text holds = inl holds
+ran_or_written (Some (to_run_plain execution)) Run Plain Text holds = inl holds
+ran_or_written (Some (to_assemble assembly)) Run Plain Text holds = inr holds
+ran_or_written (Some (to_disassemble inspection)) Run Plain Text holds = inr holds
+ran_or_written (Some (to_measure inspection)) Run Plain Text holds = inr holds
+
+pub is_done : {request : Option Asked} {old new : World} {done : Done} → Outcome request old new done → done.status ≡ 0 → IsDone request old new done
+is_done {request = request} {old = old} {new = new} {done = done} o is =
+    let text : ProgramFile → (Image → List ℕ) → Type 0 = λ file text. Writes file text old.files new.files old.out new.out (Ok tt) in
+    ran_or_written request (IsRunAnd done (EndedWithoutEvidence IsHalted)) (λ execution. PlainlyEnded IsHalted execution old new) text
+    (by_command 0 (EndedWithoutEvidence IsHalted) (λ execution. PlainlyEnded IsHalted execution old new) text (record {
       refuses = unrefused 0 (omega arith) (omega arith) (omega arith);
       low = omega arith;
       of_run = λ execution run told runs is. halted_cause runs.3 is;
       of_plain = λ execution run runs is. (run, runs, halted_of run.ending is);
-      of_text = λ file text telling writes is. written_whole file text telling files files' out out' writes is;
-    }) o is
+      of_text = λ file text telling writes is. written_whole file text telling old.files new.files old.out new.out writes is;
+    }) o is)
 
-pub trapped : {request : Option Asked} {files files' : FilesState} {out out' note note' : SinkState} {done : Done} → Outcome request files files' out out' note note' done → done.status ≡ 1 →
-    ByCommand request (λ _. IsRunAnd done EndedTrapped) (λ execution. PlainlyEnded IsTrapped execution files files' out out') (λ _ _. ⊥)
-trapped {files = files} {files' = files'} {out = out} {out' = out'} o is =
-    by_command 1 EndedTrapped (λ execution. PlainlyEnded IsTrapped execution files files' out out') (λ _ _. ⊥) (record {
+pub trapped : {request : Option Asked} {old new : World} {done : Done} → Outcome request old new done → done.status ≡ 1 → Ended IsTrapped request old new done
+trapped {old = old} {new = new} o is =
+    by_command 1 (EndedWithoutEvidence IsTrapped) (λ execution. PlainlyEnded IsTrapped execution old new) (λ _ _. ⊥) (record {
       refuses = unrefused 1 (omega arith) (omega arith) (omega arith);
       low = omega arith;
       of_run = λ execution run told runs is. trapped_cause runs.3 is;
@@ -161,10 +161,9 @@ trapped {files = files} {files' = files'} {out = out} {out' = out'} o is =
       of_text = λ file text telling writes is. unwritten 1 (omega arith) (omega arith) telling is;
     }) o is
 
-pub out_of_steps : {request : Option Asked} {files files' : FilesState} {out out' note note' : SinkState} {done : Done} → Outcome request files files' out out' note note' done → done.status ≡ 4 →
-    ByCommand request (λ _. IsRunAnd done EndedOutOfSteps) (λ execution. PlainlyEnded IsOutOfSteps execution files files' out out') (λ _ _. ⊥)
-out_of_steps {files = files} {files' = files'} {out = out} {out' = out'} o is =
-    by_command 4 EndedOutOfSteps (λ execution. PlainlyEnded IsOutOfSteps execution files files' out out') (λ _ _. ⊥) (record {
+pub out_of_steps : {request : Option Asked} {old new : World} {done : Done} → Outcome request old new done → done.status ≡ 4 → Ended IsOutOfSteps request old new done
+out_of_steps {old = old} {new = new} o is =
+    by_command 4 (EndedWithoutEvidence IsOutOfSteps) (λ execution. PlainlyEnded IsOutOfSteps execution old new) (λ _ _. ⊥) (record {
       refuses = unrefused 4 (omega arith) (omega arith) (omega arith);
       low = omega arith;
       of_run = λ execution run told runs is. out_of_steps_cause runs.3 is;
@@ -172,9 +171,9 @@ out_of_steps {files = files} {files' = files'} {out = out} {out' = out'} o is =
       of_text = λ file text telling writes is. unwritten 4 (omega arith) (omega arith) telling is;
     }) o is
 
-pub tampered : {request : Option Asked} {files files' : FilesState} {out out' note note' : SinkState} {done : Done} → Outcome request files files' out out' note note' done → done.status ≡ 5 →
-    ByCommand request (λ _. IsRunAnd done EndedTampered) (λ _. ⊥) (λ _ _. ⊥)
-tampered o is = by_command 5 EndedTampered (λ _. ⊥) (λ _ _. ⊥) (record {
+tampered_ending : {request : Option Asked} {old new : World} {done : Done} → Outcome request old new done → done.status ≡ 5 →
+    RanAnd EndedTampered request done
+tampered_ending o is = by_command 5 EndedTampered (λ _. ⊥) (λ _ _. ⊥) (record {
   refuses = unrefused 5 (omega arith) (omega arith) (omega arith);
   low = omega arith;
   of_run = λ execution run told runs is. tampered_cause runs.3 is;
@@ -182,8 +181,8 @@ tampered o is = by_command 5 EndedTampered (λ _. ⊥) (λ _ _. ⊥) (record {
   of_text = λ file text telling writes is. unwritten 5 (omega arith) (omega arith) telling is;
 }) o is
 
-pub spent : {request : Option Asked} {files files' : FilesState} {out out' note note' : SinkState} {done : Done} → Outcome request files files' out out' note note' done → done.status ≡ 6 →
-    ByCommand request (λ _. IsRunAnd done EndedSpent) (λ _. ⊥) (λ _ _. ⊥)
+pub spent : {request : Option Asked} {old new : World} {done : Done} → Outcome request old new done → done.status ≡ 6 →
+    RanAnd EndedSpent request done
 spent o is = by_command 6 EndedSpent (λ _. ⊥) (λ _ _. ⊥) (record {
   refuses = unrefused 6 (omega arith) (omega arith) (omega arith);
   low = omega arith;
@@ -192,8 +191,8 @@ spent o is = by_command 6 EndedSpent (λ _. ⊥) (λ _ _. ⊥) (record {
   of_text = λ file text telling writes is. unwritten 6 (omega arith) (omega arith) telling is;
 }) o is
 
-pub with_evidence : {request : Option Asked} {files files' : FilesState} {out out' note note' : SinkState} {done : Done} → Outcome request files files' out out' note note' done → done.status ≡ 7 →
-    ByCommand request (λ _. IsRunAnd done EndedWithEvidence) (λ _. ⊥) (λ _ _. ⊥)
+pub with_evidence : {request : Option Asked} {old new : World} {done : Done} → Outcome request old new done → done.status ≡ 7 →
+    RanAnd EndedWithEvidence request done
 with_evidence o is = by_command 7 EndedWithEvidence (λ _. ⊥) (λ _ _. ⊥) (record {
   refuses = unrefused 7 (omega arith) (omega arith) (omega arith);
   low = omega arith;
@@ -216,9 +215,10 @@ of_command (Some (to_assemble assembly)) P holds = absurd holds
 of_command (Some (to_disassemble inspection)) P holds = absurd holds
 of_command (Some (to_measure inspection)) P holds = absurd holds
 
-pub tampered_once : {request : Option Asked} {files files' : FilesState} {out out' note note' : SinkState} {done : Done} → Outcome request files files' out out' note note' done → done.status ≡ 5 → done.lies ≡ 1
-tampered_once {request = request} {done = done} o is =
-    o.lies ∙ rw (← o.bus) (caught_once done.run done.bus (of_command request (IsRunAnd done EndedTampered) (tampered o is)))
+pub tampered : {request : Option Asked} {old new : World} {done : Done} → Outcome request old new done → done.status ≡ 5 → RanAnd EndedTampered request done × (done.lies ≡ 1)
+tampered {request = request} {done = done} o is =
+    let ended = tampered_ending o is in
+    (ended, o.lies ∙ rw (← o.bus) (caught_once done.run done.bus (of_command request (IsRunAnd done EndedTampered) ended)))
 
 -- ---- failed writes
 
@@ -296,7 +296,7 @@ failed (Ran run bus) (Err Failed) request files files' out out' note note' came 
 failed (RanPlain run) (Err Failed) request files files' out out' note note' came tells is = inr tells.1
 failed (Written written) (Err Failed) request files files' out out' note note' came tells is = inl (out_failed (Written written) request files files' out out' came is)
 
-pub write_fault : {request : Option Asked} {files files' : FilesState} {out out' note note' : SinkState} {done : Done} → Outcome request files files' out out' note note' done → done.status ≡ 9 →
-    Rose out.faults out'.faults ⊎ Rose note.faults note'.faults
-write_fault {request} {files} {files'} {out} {out'} {note} {note'} o is =
-    failed o.course o.told request files files' out out' note note' o.came o.tells (sym o.status ∙ is)
+pub write_fault : {request : Option Asked} {old new : World} {done : Done} → Outcome request old new done → done.status ≡ 9 →
+    Rose old.out.faults new.out.faults ⊎ Rose old.note.faults new.note.faults
+write_fault {request} {old} {new} o is =
+    failed o.course o.told request old.files new.files old.out new.out old.note new.note o.came o.tells (sym o.status ∙ is)

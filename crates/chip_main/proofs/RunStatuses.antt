@@ -4,7 +4,6 @@ use Rattle.sec_base.specs.Evidence.{IsEvidence}
 use Rattle.sec_base.specs.Writing.{SinkState}
 use Rattle.sec_base.specs.declared.account.Evidence.{Evidence}
 use Rattle.sec_base.specs.declared.account.Message.{Message}
-use Rattle.sec_base.specs.declared.answers.Cause.{Cause}
 use Rattle.sec_base.specs.declared.answers.Ending.{Ending}
 use Rattle.sec_base.specs.declared.answers.Ending.TheVariants.{Halted, Trapped, OutOfSteps, Tampered, Spent, WriteFault, NoMemory}
 use Rattle.sec_base.specs.declared.layout.Place.{Place}
@@ -15,7 +14,7 @@ use Rattle.chip_main.specs.Device.{device_tag}
 use Rattle.chip_main.specs.Program.{Program}
 use Rattle.chip_main.specs.Statuses.{ending_status, evidence_status, status_with, run_status}
 use Rattle.chip_main.specs.ProtectedRun.{RunsProtected}
-use Rattle.chip_main.specs.Endings.{EndedHalted, EndedTrapped, EndedOutOfSteps, EndedTampered, EndedSpent, EndedWithEvidence}
+use Rattle.chip_main.specs.Endings.{EndedWithoutEvidence, IsHalted, IsTrapped, IsOutOfSteps, EndedTampered, EndedSpent, EndedWithEvidence}
 
 -- with evidence the status is 7 or more
 evidence_high : (ending : Ending) → 7 ≤ evidence_status ending
@@ -49,7 +48,7 @@ low_status run status is low =
     let none = low_without_evidence run.evidence run.ending (subst (λ (n : ℕ). n < 7) (sym is) low) in
     (none, sym (run_status_without_evidence run none) ∙ is)
 
-pub halted_of : (ending : Ending) → ending_status ending ≡ 0 → (code : ℕ) × (ending ≡ Halted code)
+pub halted_of : (ending : Ending) → ending_status ending ≡ 0 → IsHalted ending
 halted_of (Halted code) is = (code, refl)
 halted_of (Trapped cause pc) is = absurd (omega arith)
 halted_of OutOfSteps is = absurd (omega arith)
@@ -58,7 +57,7 @@ halted_of (Spent page) is = absurd (omega arith)
 halted_of WriteFault is = absurd (omega arith)
 halted_of NoMemory is = absurd (omega arith)
 
-pub trapped_of : (ending : Ending) → ending_status ending ≡ 1 → (cause : Cause) × (pc : ℕ) × (ending ≡ Trapped cause pc)
+pub trapped_of : (ending : Ending) → ending_status ending ≡ 1 → IsTrapped ending
 trapped_of (Trapped cause pc) is = (cause, pc, refl)
 trapped_of (Halted code) is = absurd (omega arith)
 trapped_of OutOfSteps is = absurd (omega arith)
@@ -67,7 +66,7 @@ trapped_of (Spent page) is = absurd (omega arith)
 trapped_of WriteFault is = absurd (omega arith)
 trapped_of NoMemory is = absurd (omega arith)
 
-pub out_of_steps_of : (ending : Ending) → ending_status ending ≡ 4 → ending ≡ OutOfSteps
+pub out_of_steps_of : (ending : Ending) → ending_status ending ≡ 4 → IsOutOfSteps ending
 out_of_steps_of OutOfSteps is = refl
 out_of_steps_of (Halted code) is = absurd (omega arith)
 out_of_steps_of (Trapped cause pc) is = absurd (omega arith)
@@ -127,21 +126,17 @@ caught tag_of run told place ended (inl honest) = absurd (honest.untampered plac
 caught tag_of run told place ended (inr is) = is
 
 -- the causes of the statuses
-pub halted_cause : {levels steps : ℕ} {program : Program} {input : List ℕ} {old new : SinkState} {run : RunRecord} {told : Told} → RunsProtected levels steps program input old new run told → run_status run ≡ 0 → EndedHalted run told
+pub halted_cause : {levels steps : ℕ} {program : Program} {input : List ℕ} {old new : SinkState} {run : RunRecord} {told : Told} → RunsProtected levels steps program input old new run told → run_status run ≡ 0 → EndedWithoutEvidence IsHalted run told
 unfolding HasNoEvidence
 halted_cause {run = run} runs is =
-    let low = low_status run 0 is (omega arith) in
-    let ending = halted_of run.ending low.1 in
-    record { no_evidence = low.0; code = ending.0; ended = ending.1 }
+    let low = low_status run 0 is (omega arith) in record { no_evidence = low.0; ended = halted_of run.ending low.1 }
 
-pub trapped_cause : {levels steps : ℕ} {program : Program} {input : List ℕ} {old new : SinkState} {run : RunRecord} {told : Told} → RunsProtected levels steps program input old new run told → run_status run ≡ 1 → EndedTrapped run told
+pub trapped_cause : {levels steps : ℕ} {program : Program} {input : List ℕ} {old new : SinkState} {run : RunRecord} {told : Told} → RunsProtected levels steps program input old new run told → run_status run ≡ 1 → EndedWithoutEvidence IsTrapped run told
 unfolding HasNoEvidence
 trapped_cause {run = run} runs is =
-    let low = low_status run 1 is (omega arith) in
-    let ending = trapped_of run.ending low.1 in
-    record { no_evidence = low.0; cause = ending.0; pc = ending.1; ended = ending.2 }
+    let low = low_status run 1 is (omega arith) in record { no_evidence = low.0; ended = trapped_of run.ending low.1 }
 
-pub out_of_steps_cause : {levels steps : ℕ} {program : Program} {input : List ℕ} {old new : SinkState} {run : RunRecord} {told : Told} → RunsProtected levels steps program input old new run told → run_status run ≡ 4 → EndedOutOfSteps run told
+pub out_of_steps_cause : {levels steps : ℕ} {program : Program} {input : List ℕ} {old new : SinkState} {run : RunRecord} {told : Told} → RunsProtected levels steps program input old new run told → run_status run ≡ 4 → EndedWithoutEvidence IsOutOfSteps run told
 unfolding HasNoEvidence
 out_of_steps_cause {run = run} runs is =
     let low = low_status run 4 is (omega arith) in record { no_evidence = low.0; ended = out_of_steps_of run.ending low.1 }

@@ -1,25 +1,54 @@
 -- What an answer says of what was done and told.
-use Rattle.std.specs.Prelude.{◌≡◌, ◌≢◌, ◌⊎◌, List, ℕ, Option, Ok}
+use Rattle.std.specs.Prelude.{◌≡◌, ◌≢◌, ◌⊎◌, List, [], ◌∷◌, ℕ, Option, Some, None, Ok, Contains}
 use Rattle.sec_base.specs.Count.{Rose}
 use Rattle.sec_base.specs.Reading.{FilesState}
-use Rattle.sec_base.specs.Writing.{SinkState, Gains, Silent}
-use Rattle.sec_base.specs.declared.answers.Cause.{Cause}
+use Rattle.sec_base.specs.Writing.{SinkState, Gains, GainsFront, Silent}
 use Rattle.sec_base.specs.declared.answers.Ending.{Ending}
-use Rattle.sec_base.specs.declared.answers.Ending.TheVariants.{Halted, Trapped, OutOfSteps, NoMemory}
+use Rattle.sec_base.specs.declared.answers.Ending.TheVariants.{NoMemory}
 use Rattle.sec_base.specs.declared.program.Image.{Image}
-use Rattle.rv32_core.specs.Machine.{plain}
-use Rattle.rv32_core.specs.Follows.{standing}
-use Rattle.sec_base.specs.Writing.{GainsFront}
+use Rattle.bus_model.specs.Told.{Told}
 use Rattle.plain_machine.specs.declared.PlainRecord.{PlainRecord}
 use Rattle.chip_run.specs.declared.RunRecord.{RunRecord}
-use Rattle.chip_words.specs.Request.{Asked, ExecutionAsked}
+use Rattle.chip_words.specs.Request.{Asked, ExecutionAsked, to_run, to_run_plain}
 use Rattle.chip_main.specs.declared.refusal.Refusal.{Refusal}
-use Rattle.chip_main.specs.Program.{Program, ProgramFile, opening}
-use Rattle.chip_main.specs.Needs.{needs_of}
-use Rattle.chip_main.specs.Causes.{IsRefused, RunsOut}
-use Rattle.chip_main.specs.Requests.{PlainlyRuns, Writes}
+use Rattle.chip_main.specs.declared.Done.{Done}
+use Rattle.chip_main.specs.World.{World}
+use Rattle.chip_main.specs.Program.{ProgramFile}
+use Rattle.chip_main.specs.Needs.{asked_file, needs_of}
+use Rattle.chip_main.specs.Causes.{IsRefused, RunsOut, Stops}
+use Rattle.chip_main.specs.Buses.{IsRunAnd}
+use Rattle.chip_main.specs.Endings.{EndedWithoutEvidence, IsHalted}
+use Rattle.chip_main.specs.Requests.{ByCommand, PlainlyRuns, RunsExecution, Writes, WritesRequest}
 use Rattle.chip_main.specs.Statuses.{Telling, ending_status, refusal_status, run_status, text_status}
 use Rattle.chip_main.specs.Texts.{plain_text, record_text, refusal_text}
+
+-- ---- why each status comes
+
+-- the request's program ran on the plain machine, and ended so
+abbrev pub PlainlyEnded : (Ending → Type 0) → ExecutionAsked → World → World → Type 0
+PlainlyEnded P execution old new =
+    (run : PlainRecord) × PlainlyRuns execution old.files new.files old.out new.out run × P run.ending
+
+-- as the request says, a run on protected memory ended so without evidence, or one on the plain machine ended so
+abbrev pub Ended : (Ending → Type 0) → Option Asked → World → World → Done → Type 0
+Ended P request old new done = ByCommand request (λ _. IsRunAnd done (EndedWithoutEvidence P))
+    (λ execution. PlainlyEnded P execution old new) (λ _ _. ⊥)
+
+-- a run halted, or the request's text was written whole
+abbrev pub IsDone : Option Asked → World → World → Done → Type 0
+IsDone request old new done = Ended IsHalted request old new done
+    ⊎ WritesRequest request old.files new.files old.out new.out (Ok tt)
+
+-- the request is for a run on protected memory, and this holds of that run and of what its bus was told
+abbrev pub RanAnd : (RunRecord → Told → Type 0) → Option Asked → Done → Type 0
+RanAnd P request done = ByCommand request (λ _. IsRunAnd done P) (λ _. ⊥) (λ _ _. ⊥)
+
+-- one of the files was refused, with this status
+abbrev pub FileRefused : ℕ → Option Asked → FilesState → FilesState → Type 0
+FileRefused status request old new =
+    (refusal : Refusal) × (refusal_status refusal ≡ status) × Stops refusal (needs_of request) old new
+
+-- ---- how far it was told
 
 -- the sink gained a text; or a front part of it, where a write failed or the status is 10
 abbrev pub GainsText : SinkState → List ℕ → SinkState → ℕ → Type 0
@@ -40,58 +69,61 @@ TellsRun status run lies old new = TellsEnding (record_text run lies) (run_statu
 abbrev pub TellsPlain : ℕ → PlainRecord → SinkState → SinkState → Type 0
 TellsPlain status run old new = TellsEnding (plain_text run) (ending_status run.ending) run.ending status old new
 
+-- ---- what each command gives
+
 -- a refusal with its cause, its text and its status, or 10 for it
-pub record TellsRefusal (status : ℕ) (request : Option Asked) (files files' : FilesState) (old new : SinkState) : Type 0 where
+pub record TellsRefusal (request : Option Asked) (old new : World) (status : ℕ) : Type 0 where
   pub refusal : Refusal
-  pub cause : IsRefused refusal request files files'
-  pub text : GainsText old (refusal_text refusal) new status
+  pub cause : IsRefused refusal request old.files new.files
+  pub text : GainsText old.note (refusal_text refusal) new.note status
   pub status_is : (status ≡ refusal_status refusal) ⊎ (status ≡ 10)
 
 -- memory was not to be had, and nothing was told
-pub record LacksMemory (status : ℕ) (request : Option Asked) (files files' : FilesState) (old new : SinkState) : Type 0 where
-  pub runs_out : RunsOut (needs_of request) files files'
-  pub silent : Silent old new
+pub record LacksMemory (request : Option Asked) (old new : World) (status : ℕ) : Type 0 where
+  pub runs_out : RunsOut (needs_of request) old.files new.files
+  pub silent : Silent old.note new.note
   pub status_is : status ≡ 10
 
+-- the statuses where nothing was done
+abbrev pub undone_statuses : Option Asked → List ℕ
+undone_statuses None = 2 ∷ 10 ∷ []
+undone_statuses (Some asked) = 3 ∷ 8 ∷ 10 ∷ []
+
 -- nothing was done: there was a refusal, or no memory; and nothing was printed
-pub record Undone (status : ℕ) (request : Option Asked) (files files' : FilesState) (out out' note note' : SinkState) : Type 0 where
-  pub silent : Silent out out'
-  pub told : TellsRefusal status request files files' note note' ⊎ LacksMemory status request files files' note note'
+pub record Undone (request : Option Asked) (old new : World) (done : Done) : Type 0 where
+  pub told : TellsRefusal request old new done.status ⊎ LacksMemory request old new done.status
+  pub status_is : Contains (undone_statuses request) done.status
+  pub no_run : done.run ≡ None
+  pub silent : Silent old.out new.out
+
+-- the request's program ran on protected memory, and that was told
+pub record RanAndTold (execution : ExecutionAsked) (old new : World) (done : Done) (run : RunRecord) (told : Told) : Type 0 where
+  pub runs : RunsExecution execution old.files new.files old.out new.out run told
+  pub tells : TellsRun done.status run done.lies old.note new.note
 
 -- the request's program ran on the plain machine, and that was told
-pub record PlainlyRan (status : ℕ) (execution : ExecutionAsked) (files files' : FilesState) (out out' note note' : SinkState) : Type 0 where
+pub record PlainlyRan (execution : ExecutionAsked) (old new : World) (done : Done) : Type 0 where
   pub run : PlainRecord
-  pub runs : PlainlyRuns execution files files' out out' run
-  pub told : TellsPlain status run note note'
+  pub runs : PlainlyRuns execution old.files new.files old.out new.out run
+  pub tells : TellsPlain done.status run old.note new.note
+  pub no_run : done.run ≡ None
 
 -- a text of the file's program was written as far as the status says, and nothing is told of that
-pub record Delivers (status : ℕ) (file : ProgramFile) (text : Image → List ℕ) (files files' : FilesState) (out out' note note' : SinkState) : Type 0 where
+pub record Delivers (file : ProgramFile) (text : Image → List ℕ) (old new : World) (done : Done) : Type 0 where
   pub telling : Telling
-  pub writes : Writes file text files files' out out' telling
-  pub status_is : status ≡ text_status telling
-  pub silent : Silent note note'
+  pub writes : Writes file text old.files new.files old.out new.out telling
+  pub status_is : done.status ≡ text_status telling
+  pub no_run : done.run ≡ None
+  pub silent : Silent old.note new.note
 
--- ---- causes of statuses
+-- what each command gives, or nothing was done
+abbrev pub GivesRun : ExecutionAsked → World → World → Done → Type 0
+GivesRun execution old new done =
+    IsRunAnd done (RanAndTold execution old new done) ⊎ Undone (Some (to_run execution)) old new done
 
-abbrev pub IsHalted : Ending → Type 0
-IsHalted ending = (code : ℕ) × (ending ≡ Halted code)
+abbrev pub GivesPlainRun : ExecutionAsked → World → World → Done → Type 0
+GivesPlainRun execution old new done =
+    PlainlyRan execution old new done ⊎ Undone (Some (to_run_plain execution)) old new done
 
-abbrev pub IsTrapped : Ending → Type 0
-IsTrapped ending = (cause : Cause) × (pc : ℕ) × (ending ≡ Trapped cause pc)
-
-abbrev pub IsOutOfSteps : Ending → Type 0
-IsOutOfSteps ending = ending ≡ OutOfSteps
-
--- the request's program ran on the plain machine, and ended so
-abbrev pub PlainlyEnded : (Ending → Type 0) → ExecutionAsked → FilesState → FilesState → SinkState → SinkState → Type 0
-PlainlyEnded P execution files files' out out' =
-    (run : PlainRecord) × PlainlyRuns execution files files' out out' run × P run.ending
-
--- a text of the file's program was written whole
-abbrev pub WritesWhole : ProgramFile → (Image → List ℕ) → FilesState → FilesState → SinkState → SinkState → Type 0
-WritesWhole file text files files' out out' = Writes file text files files' out out' (Ok tt)
-
--- the status of the plain machine's run over the whole budget
-abbrev pub plain_status : ExecutionAsked → Program → List ℕ → ℕ
-plain_status execution program input =
-    ending_status (standing (plain (opening execution.levels program input) execution.steps) execution.steps)
+abbrev pub GivesText : Asked → (Image → List ℕ) → World → World → Done → Type 0
+GivesText asked text old new done = Delivers (asked_file asked) text old new done ⊎ Undone (Some asked) old new done

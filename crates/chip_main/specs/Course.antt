@@ -10,6 +10,7 @@ use Rattle.chip_main.specs.declared.Done.{Done}
 use Rattle.chip_main.specs.declared.run_bus.RunBus.{RunBus}
 use Rattle.chip_main.specs.declared.course.Course.{Course}
 use Rattle.chip_main.specs.declared.course.Course.TheVariants.{Refused, NoMemory, Ran, RanPlain, Written}
+use Rattle.chip_main.specs.World.{World}
 use Rattle.chip_main.specs.Needs.{needs_of}
 use Rattle.chip_main.specs.Causes.{IsRefused, RunsOut}
 use Rattle.chip_main.specs.Requests.{RunsRequest, PlainlyRunsRequest, WritesRequest}
@@ -75,11 +76,11 @@ status_of course (Err Failed) = untold_status course
 status_of course (Err no_memory) = 10
 
 -- the whole of a call, with its answer
-pub record Outcome (request : Option Asked) (files files' : FilesState) (out out' note note' : SinkState) (done : Done) : Type 0 where
+pub record Outcome (request : Option Asked) (old new : World) (done : Done) : Type 0 where
   pub course : Course
   pub told : Telling
-  pub came : CameAbout course request files files' out out'
-  pub tells : TellsCourse course note note' told
+  pub came : CameAbout course request old.files new.files old.out new.out
+  pub tells : TellsCourse course old.note new.note told
   pub status : done.status ≡ status_of course told
   pub run : done.run ≡ course_run course
   pub bus : done.bus ≡ course_bus course

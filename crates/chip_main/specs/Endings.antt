@@ -1,9 +1,10 @@
--- How a run on protected memory ended, as each status says.
+-- How a run ended, as each status says.
 use Rattle.std.specs.Prelude.{◌≡◌, ◌≢◌, ℕ, Some, None}
 use Rattle.sec_base.specs.Evidence.{IsEvidence}
 use Rattle.sec_base.specs.Layout.{line_count}
 use Rattle.sec_base.specs.declared.account.Evidence.{Evidence}
 use Rattle.sec_base.specs.declared.answers.Cause.{Cause}
+use Rattle.sec_base.specs.declared.answers.Ending.{Ending}
 use Rattle.sec_base.specs.declared.answers.Ending.TheVariants.{Halted, Trapped, OutOfSteps, Tampered, Spent, WriteFault, NoMemory}
 use Rattle.bus_model.specs.Told.{Told}
 use Rattle.chip_run.specs.declared.RunRecord.{RunRecord}
@@ -11,20 +12,19 @@ use Rattle.chip_run.specs.Account.{IsCaught, IsOfFirstLie}
 use Rattle.chip_run.specs.Contents.{IsSpent}
 use Rattle.chip_main.specs.Device.{device_tag, page_limit}
 
-pub record EndedHalted (run : RunRecord) (told : Told) : Type 0 where
-  pub no_evidence : run.evidence ≡ None
-  pub code : ℕ
-  pub ended : run.ending ≡ Halted code
+abbrev pub IsHalted : Ending → Type 0
+IsHalted ending = (code : ℕ) × (ending ≡ Halted code)
 
-pub record EndedTrapped (run : RunRecord) (told : Told) : Type 0 where
-  pub no_evidence : run.evidence ≡ None
-  pub cause : Cause
-  pub pc : ℕ
-  pub ended : run.ending ≡ Trapped cause pc
+abbrev pub IsTrapped : Ending → Type 0
+IsTrapped ending = (cause : Cause) × (pc : ℕ) × (ending ≡ Trapped cause pc)
 
-pub record EndedOutOfSteps (run : RunRecord) (told : Told) : Type 0 where
+abbrev pub IsOutOfSteps : Ending → Type 0
+IsOutOfSteps ending = ending ≡ OutOfSteps
+
+-- it ended so, and there is no evidence
+pub record EndedWithoutEvidence (P : Ending → Type 0) (run : RunRecord) (told : Told) : Type 0 where
   pub no_evidence : run.evidence ≡ None
-  pub ended : run.ending ≡ OutOfSteps
+  pub ended : P run.ending
 
 -- The one false answer of the bus failed its check, was the last access, and ended the run as tampering of its place.
 pub record EndedTampered (run : RunRecord) (told : Told) : Type 0 where

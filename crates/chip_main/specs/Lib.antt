@@ -1,3 +1,4 @@
+pub mod World
 pub mod Program
 pub mod Needs
 pub mod Causes
@@ -12,4 +13,5 @@ pub mod Texts
 pub mod Statuses
 pub mod Requests
 pub mod Answer
+pub mod Whole
 pub mod Course

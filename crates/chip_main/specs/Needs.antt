@@ -23,6 +23,14 @@ assembly_file assembly = program_file assembly.file AssemblyText assembly.levels
 abbrev pub inspection_file : InspectionAsked → ProgramFile
 inspection_file inspection = program_file inspection.file (form_of inspection.flat) inspection.levels
 
+-- the file of a request's program
+abbrev pub asked_file : Asked → ProgramFile
+asked_file (to_run execution) = execution_file execution
+asked_file (to_run_plain execution) = execution_file execution
+asked_file (to_assemble assembly) = assembly_file assembly
+asked_file (to_disassemble inspection) = inspection_file inspection
+asked_file (to_measure inspection) = inspection_file inspection
+
 -- ---- the files that are needed
 
 -- a file's name, how many bytes of it are read at most, and what is wrong with bytes that don't have its form

@@ -1,0 +1,63 @@
+-- What is due where nothing fails.
+use Rattle.std.specs.Prelude.{◌≡◌, List, [], ◌∷◌, ℕ, Option, None}
+use Rattle.sec_base.specs.Count.{Rose}
+use Rattle.sec_base.specs.Reading.{FilesState}
+use Rattle.sec_base.specs.Writing.{SinkState}
+use Rattle.rv32_core.specs.Machine.{plain}
+use Rattle.rv32_core.specs.Follows.{IsWhole, standing}
+use Rattle.chip_words.specs.Request.{Asked, ExecutionAsked, to_assemble, to_disassemble, to_measure, to_run, to_run_plain}
+use Rattle.chip_main.specs.declared.Done.{Done}
+use Rattle.chip_main.specs.World.{World}
+use Rattle.chip_main.specs.Program.{Program, opening}
+use Rattle.chip_main.specs.Needs.{asked_file}
+use Rattle.chip_main.specs.Taken.{IsInput, IsProgram, Tell}
+use Rattle.chip_main.specs.Buses.{IsRunAnd}
+use Rattle.chip_main.specs.Statuses.{ending_status}
+
+-- the name of a request's input, where it has one
+abbrev pub asked_input : Asked → Option (List ℕ)
+asked_input (to_run execution) = execution.input
+asked_input (to_run_plain execution) = execution.input
+asked_input (to_assemble assembly) = None
+asked_input (to_disassemble inspection) = None
+asked_input (to_measure inspection) = None
+
+-- the files tell all that the request needs, in its form: this program and this input
+pub record Ready (asked : Asked) (files : FilesState) (program : Program) (input : List ℕ) : Type 0 where
+  pub tells : Tell files
+  pub program_is : IsProgram files (asked_file asked) program
+  pub input_is : IsInput files (asked_input asked) input
+
+-- no write of what a request tells of itself failed; of a text nothing is told
+abbrev pub NoteFaultless : Asked → SinkState → SinkState → Type 0
+NoteFaultless (to_run execution) old new = ¬ (Rose old.faults new.faults)
+NoteFaultless (to_run_plain execution) old new = ¬ (Rose old.faults new.faults)
+NoteFaultless (to_assemble assembly) old new = Unit {0}
+NoteFaultless (to_disassemble inspection) old new = Unit {0}
+NoteFaultless (to_measure inspection) old new = Unit {0}
+
+-- no read and no write failed, and no answer of a bus was false
+pub record Faultless (asked : Asked) (old new : World) (done : Done) : Type 0 where
+  pub files : ¬ (Rose old.files.faults new.files.faults)
+  pub out : ¬ (Rose old.out.faults new.out.faults)
+  pub note : NoteFaultless asked old.note new.note
+  pub bus : done.lies ≡ 0
+
+-- the status of the plain machine's run over the whole budget
+abbrev pub plain_status : ExecutionAsked → Program → List ℕ → ℕ
+plain_status execution program input =
+    ending_status (standing (plain (opening execution.levels program input) execution.steps) execution.steps)
+
+-- The status that is due, or want of memory; and of a run on protected memory, a page that was used up.
+abbrev pub whole_statuses : Asked → Program → List ℕ → List ℕ
+whole_statuses (to_run execution) program input = plain_status execution program input ∷ 6 ∷ 10 ∷ []
+whole_statuses (to_run_plain execution) program input = plain_status execution program input ∷ 10 ∷ []
+whole_statuses (to_assemble assembly) program input = 0 ∷ 10 ∷ []
+whole_statuses (to_disassemble inspection) program input = 0 ∷ 10 ∷ []
+whole_statuses (to_measure inspection) program input = 0 ∷ 10 ∷ []
+
+-- the run is the plain machine's over the whole budget, and has its status
+abbrev pub RanWhole : ExecutionAsked → Program → List ℕ → Done → Type 0
+RanWhole execution program input done = IsRunAnd done (λ run told.
+    IsWhole (opening execution.levels program input) execution.steps run.retired run.ending
+    × (done.status ≡ ending_status run.ending))

@@ -1,0 +1,12 @@
+-- What a call reads and writes.
+use Rattle.sec_base.specs.Reading.{FilesState}
+use Rattle.sec_base.specs.Writing.{SinkState}
+
+-- the files, the sink for what is printed or made, and the sink for the rest
+pub record World : Type 0 where
+  pub files : FilesState
+  pub out : SinkState
+  pub note : SinkState
+
+abbrev pub world : FilesState → SinkState → SinkState → World
+world files out note = record { files = files; out = out; note = note }
