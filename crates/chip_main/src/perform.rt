@@ -28,10 +28,7 @@ pub fn perform<F: Files, O: Sink>(
     ensures out_faults { (O.state out.old).faults ≤ (O.state out.new).faults }
 {
     match read_words(alloc, words) {
-        Ok(request) => {
-            let course = perform_request(alloc, &request, files, out);
-            course
-        }
+        Ok(request) => perform_request(alloc, &request, files, out),
         Err(WordsError::Usage(text)) => Course::Refused(Refusal::Usage(text)),
         Err(WordsError::NoMemory) => Course::NoMemory,
     }

@@ -43,14 +43,9 @@ pub fn take_execution<F: Files>(
     ensures faults { (F.state files.old).faults ≤ (F.state files.new).faults }
 {
     let form = ProgramForm::of_program(execution.flat);
-    let image = match take_program(alloc, execution.file, form, geometry, files) {
-        Ok(image) => image,
-        Err(stop) => return Err(stop),
-    };
-    match take_input(alloc, execution.input, files) {
-        Ok(input) => Ok((image, input)),
-        Err(stop) => Err(stop),
-    }
+    let image = take_program(alloc, execution.file, form, geometry, files)?;
+    let input = take_input(alloc, execution.input, files)?;
+    Ok((image, input))
 }
 
 /// The program of a file of this form, which has to be one for the memory.
@@ -70,14 +65,8 @@ pub fn take_program<F: Files>(
     ensures faults { (F.state files.old).faults ≤ (F.state files.new).faults }
     ensures bytes_taken { (F.state files.old).taken ≤ (F.state files.new).taken }
 {
-    let bytes = match read_file(alloc, name, form.limit(), files) {
-        Ok(bytes) => bytes,
-        Err(stop) => return Err(stop),
-    };
-    match program_in(alloc, form, bytes.as_slice(), geometry.size()) {
-        Ok(image) => Ok(image),
-        Err(stop) => Err(stop),
-    }
+    let bytes = read_file(alloc, name, form.limit(), files)?;
+    program_in(alloc, form, bytes.as_slice(), geometry.size())
 }
 
 // The bytes of the input's file, where one is named.
@@ -93,10 +82,7 @@ fn take_input<F: Files>(alloc: Global, name: Option<&str>, files: &mut F) -> Res
     let Some(name) = name else {
         return Ok(Bytes::new(alloc));
     };
-    match read_file(alloc, name, INPUT_LIMIT, files) {
-        Ok(bytes) => Ok(bytes),
-        Err(stop) => Err(stop),
-    }
+    read_file(alloc, name, INPUT_LIMIT, files)
 }
 
 // A file's bytes, which are within the limit.
