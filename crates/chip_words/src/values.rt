@@ -22,7 +22,8 @@ pub(crate) fn requested<'a>(matches: &ArgMatches<'a>) -> Request<'a>
         "plain" => Request::Plain(execution(values)),
         "asm" => Request::Asm(assembly(values)),
         "dis" => Request::Dis(inspection(values)),
-        _ => Request::Measure(inspection(values)),
+        "measure" => Request::Measure(inspection(values)),
+        _ => unreachable!(),
     }
 }
 
@@ -63,10 +64,7 @@ fn inspection<'a>(values: &ArgMatches<'a>) -> Inspection<'a>
 fn is_flat(values: &ArgMatches<'_>) -> bool
     ensures { result ≡ flat_of (rows_of (found_of values.now)) }
 {
-    match text(values, "flat") {
-        Some(set) => set == "true",
-        None => false,
-    }
+    values.get_one::<bool>("flat").unwrap_or(false)
 }
 
 fn levels(values: &ArgMatches<'_>) -> u8
