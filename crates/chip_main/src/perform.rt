@@ -1,5 +1,5 @@
 ghost use Rattle.std.specs.Prelude.{◌≡◌, ◌≤◌, Some};
-ghost use Rattle.chip_words.specs.Request.{request_of, levels_asked, to_assemble, to_disassemble, to_measure, to_run, to_run_plain};
+ghost use Rattle.chip_words.specs.Request.{request_of, to_assemble, to_disassemble, to_measure, to_run, to_run_plain};
 ghost use Rattle.chip_words.specs.Words.{asked, texts, assembly as assembly_asked, execution as execution_asked, inspection as inspection_asked};
 ghost use Rattle.chip_main.specs.Course.{CameAbout};
 ghost use Rattle.chip_main.specs.Stopping.{stopped_course};
@@ -12,7 +12,7 @@ use crate::taking::{Stop, take_execution, take_program};
 use crate::writing::{write_elf_file, write_measurement};
 use chip_words::{Assembly, Execution, Inspection, Request, WordsError, read_words};
 use rv32_listing::write_listing;
-use sec_base::{Files, Geometry, Sink};
+use sec_base::{Files, Sink};
 use std::alloc::Global;
 
 /// Does what the words ask for, but for telling it.
@@ -40,8 +40,6 @@ fn perform_request<F: Files, O: Sink>(
     files: &mut F,
     out: &mut O,
 ) -> Course
-    requires least { 1 ≤ levels_asked (asked request.now) }
-    requires most { levels_asked (asked request.now) ≤ 6 }
     ensures came { CameAbout result (Some (asked request.now)) (F.state files.old) (F.state files.new) (O.state out.old) (O.state out.new) }
     ensures held { (F.state files.new).held ≡ (F.state files.old).held }
     ensures files_faults { (F.state files.old).faults ≤ (F.state files.new).faults }
@@ -62,15 +60,12 @@ fn perform_run<F: Files, O: Sink>(
     files: &mut F,
     out: &mut O,
 ) -> Course
-    requires least { 1 ≤ execution.now.levels }
-    requires most { execution.now.levels ≤ 6 }
     ensures came { CameAbout result (Some (to_run (execution_asked execution.now))) (F.state files.old) (F.state files.new) (O.state out.old) (O.state out.new) }
     ensures held { (F.state files.new).held ≡ (F.state files.old).held }
     ensures files_faults { (F.state files.old).faults ≤ (F.state files.new).faults }
     ensures out_faults { (O.state out.old).faults ≤ (O.state out.new).faults }
 {
-    let geometry = Geometry::new(execution.levels).unwrap();
-    let (image, input) = match take_execution(alloc, execution, geometry, files) {
+    let (image, input) = match take_execution(alloc, execution, files) {
         Ok(taken) => taken,
         Err(stop) => return stopped(stop),
     };
@@ -78,7 +73,7 @@ fn perform_run<F: Files, O: Sink>(
         alloc,
         &image,
         input.as_slice(),
-        geometry,
+        execution.geometry,
         execution.steps,
         out,
     ) {
@@ -93,15 +88,12 @@ fn perform_plain<F: Files, O: Sink>(
     files: &mut F,
     out: &mut O,
 ) -> Course
-    requires least { 1 ≤ execution.now.levels }
-    requires most { execution.now.levels ≤ 6 }
     ensures came { CameAbout result (Some (to_run_plain (execution_asked execution.now))) (F.state files.old) (F.state files.new) (O.state out.old) (O.state out.new) }
     ensures held { (F.state files.new).held ≡ (F.state files.old).held }
     ensures files_faults { (F.state files.old).faults ≤ (F.state files.new).faults }
     ensures out_faults { (O.state out.old).faults ≤ (O.state out.new).faults }
 {
-    let geometry = Geometry::new(execution.levels).unwrap();
-    let (image, input) = match take_execution(alloc, execution, geometry, files) {
+    let (image, input) = match take_execution(alloc, execution, files) {
         Ok(taken) => taken,
         Err(stop) => return stopped(stop),
     };
@@ -115,16 +107,13 @@ fn perform_asm<F: Files, O: Sink>(
     files: &mut F,
     out: &mut O,
 ) -> Course
-    requires least { 1 ≤ assembly.now.levels }
-    requires most { assembly.now.levels ≤ 6 }
     ensures came { CameAbout result (Some (to_assemble (assembly_asked assembly.now))) (F.state files.old) (F.state files.new) (O.state out.old) (O.state out.new) }
     ensures held { (F.state files.new).held ≡ (F.state files.old).held }
     ensures files_faults { (F.state files.old).faults ≤ (F.state files.new).faults }
     ensures out_faults { (O.state out.old).faults ≤ (O.state out.new).faults }
 {
-    let geometry = Geometry::new(assembly.levels).unwrap();
     let form = ProgramForm::AssemblyText;
-    let image = match take_program(alloc, assembly.file, form, geometry, files) {
+    let image = match take_program(alloc, assembly.file, form, assembly.geometry, files) {
         Ok(image) => image,
         Err(stop) => return stopped(stop),
     };
@@ -138,16 +127,13 @@ fn perform_dis<F: Files, O: Sink>(
     files: &mut F,
     out: &mut O,
 ) -> Course
-    requires least { 1 ≤ inspection.now.levels }
-    requires most { inspection.now.levels ≤ 6 }
     ensures came { CameAbout result (Some (to_disassemble (inspection_asked inspection.now))) (F.state files.old) (F.state files.new) (O.state out.old) (O.state out.new) }
     ensures held { (F.state files.new).held ≡ (F.state files.old).held }
     ensures files_faults { (F.state files.old).faults ≤ (F.state files.new).faults }
     ensures out_faults { (O.state out.old).faults ≤ (O.state out.new).faults }
 {
-    let geometry = Geometry::new(inspection.levels).unwrap();
     let form = ProgramForm::of_program(inspection.flat);
-    let image = match take_program(alloc, inspection.file, form, geometry, files) {
+    let image = match take_program(alloc, inspection.file, form, inspection.geometry, files) {
         Ok(image) => image,
         Err(stop) => return stopped(stop),
     };
@@ -161,16 +147,13 @@ fn perform_measure<F: Files, O: Sink>(
     files: &mut F,
     out: &mut O,
 ) -> Course
-    requires least { 1 ≤ inspection.now.levels }
-    requires most { inspection.now.levels ≤ 6 }
     ensures came { CameAbout result (Some (to_measure (inspection_asked inspection.now))) (F.state files.old) (F.state files.new) (O.state out.old) (O.state out.new) }
     ensures held { (F.state files.new).held ≡ (F.state files.old).held }
     ensures files_faults { (F.state files.old).faults ≤ (F.state files.new).faults }
     ensures out_faults { (O.state out.old).faults ≤ (O.state out.new).faults }
 {
-    let geometry = Geometry::new(inspection.levels).unwrap();
     let form = ProgramForm::of_program(inspection.flat);
-    let image = match take_program(alloc, inspection.file, form, geometry, files) {
+    let image = match take_program(alloc, inspection.file, form, inspection.geometry, files) {
         Ok(image) => image,
         Err(stop) => return stopped(stop),
     };

@@ -31,11 +31,9 @@ pub enum Stop {
 pub fn take_execution<F: Files>(
     alloc: Global,
     execution: &Execution<'_>,
-    geometry: Geometry,
     files: &mut F,
 ) -> Result<(Image, Bytes), Stop>
-    requires levels { execution.now.levels ≡ geometry }
-    ensures taken { IfOk result (λ taken. (program : Program) × IsImageOf (memory_size geometry) program taken.0
+    ensures taken { IfOk result (λ taken. (program : Program) × IsImageOf (memory_size execution.now.geometry) program taken.0
         × Takes (execution_asked execution.now) (F.state files.old) (F.state files.new) program taken.1) }
     ensures stopped { IfErr result (λ stop.
         StopsAs stop (execution_needs (execution_asked execution.now)) (F.state files.old) (F.state files.new)) }
@@ -43,7 +41,7 @@ pub fn take_execution<F: Files>(
     ensures faults { (F.state files.old).faults ≤ (F.state files.new).faults }
 {
     let form = ProgramForm::of_program(execution.flat);
-    let image = take_program(alloc, execution.file, form, geometry, files)?;
+    let image = take_program(alloc, execution.file, form, execution.geometry, files)?;
     let input = take_input(alloc, execution.input, files)?;
     Ok((image, input))
 }

@@ -1,4 +1,4 @@
-use Rattle.std.proofs.Common.{rules, ◌≡◌, refl}
+use Rattle.std.proofs.Common.{refl}
 use Rattle.chip_words.specs.Words.{assembly as assembly_asked}
 use Rattle.chip_main.specs.Needs.{assembly_file}
 use Rattle.chip_main.specs.Texts.{elf_file}
@@ -9,6 +9,5 @@ use Rattle.chip_main.proofs.perform.perform_asm.Goals as goal
 pub returns-clause-came : goal.returns-clause-came
 returns-clause-came g c =
     let taken = c.in-Ok.ensures.taken in
-    let levels : c.args.assembly.now.levels ≡ c.unwrap-geometry.result = search rules in
-    writes_of (assembly_file (assembly_asked c.args.assembly.now)) AssemblyText c.unwrap-geometry.result elf_file taken.0 c.in-Ok.image
-    _ _ _ _ _ refl levels taken.1 taken.2 c.in-Ok.ensures.asked c.write_elf_file-written.ensures.told
+    writes_of (assembly_file (assembly_asked c.args.assembly.now)) AssemblyText c.args.assembly.now.geometry elf_file taken.0 c.in-Ok.image
+    _ _ _ _ _ refl refl taken.1 taken.2 c.in-Ok.ensures.asked c.write_elf_file-written.ensures.told
