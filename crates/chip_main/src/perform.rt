@@ -1,6 +1,6 @@
 ghost use Rattle.std.specs.Prelude.{◌≡◌, ◌≤◌, Some};
-ghost use Rattle.chip_words.specs.Request.{request_of, to_assemble, to_disassemble, to_measure, to_run, to_run_plain};
-ghost use Rattle.chip_words.specs.Words.{asked, texts, assembly as assembly_asked, execution as execution_asked, inspection as inspection_asked};
+ghost use Rattle.chip_words.specs.Request.{request_of, to_run, to_run_plain};
+ghost use Rattle.chip_words.specs.Words.{asked, texts, execution as execution_asked};
 ghost use Rattle.chip_main.specs.Course.{CameAbout};
 ghost use Rattle.chip_main.specs.Stopping.{stopped_course};
 
@@ -10,7 +10,7 @@ use crate::program::ProgramForm;
 use crate::refusal::Refusal;
 use crate::taking::{Stop, take_execution, take_program};
 use crate::writing::{write_elf_file, write_measurement};
-use chip_words::{Assembly, Execution, Inspection, Request, WordsError, read_words};
+use chip_words::{Execution, Request, WordsError, read_words};
 use rv32_listing::write_listing;
 use sec_base::{Files, Sink};
 use std::alloc::Global;
@@ -48,9 +48,27 @@ fn perform_request<F: Files, O: Sink>(
     match request {
         Request::Run(execution) => perform_run(alloc, execution, files, out),
         Request::Plain(execution) => perform_plain(alloc, execution, files, out),
-        Request::Asm(assembly) => perform_asm(alloc, assembly, files, out),
-        Request::Dis(inspection) => perform_dis(alloc, inspection, files, out),
-        Request::Measure(inspection) => perform_measure(alloc, inspection, files, out),
+        Request::Asm(assembly) => {
+            let form = ProgramForm::AssemblyText;
+            match take_program(alloc, assembly.file, form, assembly.geometry, files) {
+                Ok(image) => Course::Written(write_elf_file(alloc, &image, out)),
+                Err(stop) => stopped(stop),
+            }
+        }
+        Request::Dis(inspection) => {
+            let form = ProgramForm::of_program(inspection.flat);
+            match take_program(alloc, inspection.file, form, inspection.geometry, files) {
+                Ok(image) => Course::Written(write_listing(alloc, &image, out)),
+                Err(stop) => stopped(stop),
+            }
+        }
+        Request::Measure(inspection) => {
+            let form = ProgramForm::of_program(inspection.flat);
+            match take_program(alloc, inspection.file, form, inspection.geometry, files) {
+                Ok(image) => Course::Written(write_measurement(alloc, &image, out)),
+                Err(stop) => stopped(stop),
+            }
+        }
     }
 }
 
@@ -99,66 +117,6 @@ fn perform_plain<F: Files, O: Sink>(
     };
     let run = plain_machine::run(alloc, &image, input.as_slice(), execution.steps, out);
     Course::RanPlain(run)
-}
-
-fn perform_asm<F: Files, O: Sink>(
-    alloc: Global,
-    assembly: &Assembly<'_>,
-    files: &mut F,
-    out: &mut O,
-) -> Course
-    ensures came { CameAbout result (Some (to_assemble (assembly_asked assembly.now))) (F.state files.old) (F.state files.new) (O.state out.old) (O.state out.new) }
-    ensures held { (F.state files.new).held ≡ (F.state files.old).held }
-    ensures files_faults { (F.state files.old).faults ≤ (F.state files.new).faults }
-    ensures out_faults { (O.state out.old).faults ≤ (O.state out.new).faults }
-{
-    let form = ProgramForm::AssemblyText;
-    let image = match take_program(alloc, assembly.file, form, assembly.geometry, files) {
-        Ok(image) => image,
-        Err(stop) => return stopped(stop),
-    };
-    let written = write_elf_file(alloc, &image, out);
-    Course::Written(written)
-}
-
-fn perform_dis<F: Files, O: Sink>(
-    alloc: Global,
-    inspection: &Inspection<'_>,
-    files: &mut F,
-    out: &mut O,
-) -> Course
-    ensures came { CameAbout result (Some (to_disassemble (inspection_asked inspection.now))) (F.state files.old) (F.state files.new) (O.state out.old) (O.state out.new) }
-    ensures held { (F.state files.new).held ≡ (F.state files.old).held }
-    ensures files_faults { (F.state files.old).faults ≤ (F.state files.new).faults }
-    ensures out_faults { (O.state out.old).faults ≤ (O.state out.new).faults }
-{
-    let form = ProgramForm::of_program(inspection.flat);
-    let image = match take_program(alloc, inspection.file, form, inspection.geometry, files) {
-        Ok(image) => image,
-        Err(stop) => return stopped(stop),
-    };
-    let written = write_listing(alloc, &image, out);
-    Course::Written(written)
-}
-
-fn perform_measure<F: Files, O: Sink>(
-    alloc: Global,
-    inspection: &Inspection<'_>,
-    files: &mut F,
-    out: &mut O,
-) -> Course
-    ensures came { CameAbout result (Some (to_measure (inspection_asked inspection.now))) (F.state files.old) (F.state files.new) (O.state out.old) (O.state out.new) }
-    ensures held { (F.state files.new).held ≡ (F.state files.old).held }
-    ensures files_faults { (F.state files.old).faults ≤ (F.state files.new).faults }
-    ensures out_faults { (O.state out.old).faults ≤ (O.state out.new).faults }
-{
-    let form = ProgramForm::of_program(inspection.flat);
-    let image = match take_program(alloc, inspection.file, form, inspection.geometry, files) {
-        Ok(image) => image,
-        Err(stop) => return stopped(stop),
-    };
-    let written = write_measurement(alloc, &image, out);
-    Course::Written(written)
 }
 
 // What it comes to where the files were not taken.
