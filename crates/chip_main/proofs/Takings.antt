@@ -1,6 +1,6 @@
 -- Files that are taken one after another, as far as one stops it.
 use Rattle.std.proofs.Common.{◌≡◌, ◌≤◌, ◌⊎◌, inl, inr, ℕ, List, [], ◌∷◌, ◌++◌, length, Option, Some, None, IfSome, Result, Ok, Err, ◌+◌, refl, sym, ap, ◌∙◌, subst, arith, append-nil, append_assoc}
-use Rattle.std.specs.Result.{result_err}
+use Rattle.std.specs.Result.{result_err, IfErr}
 use Rattle.sec_base.specs.Count.{Rose, RoseBy}
 use Rattle.sec_base.specs.Layout.{memory_size}
 use Rattle.sec_base.specs.Program.{from_zero}
@@ -24,6 +24,11 @@ use Rattle.chip_main.specs.Needs.{Need, AreAccepted, IsAccepted, execution_file,
 use Rattle.chip_main.specs.Causes.{Asks, IsCause, IsMisformed}
 use Rattle.chip_main.specs.Stopping.{StopsAs}
 use Rattle.chip_main.specs.Taken.{IsInput, IsProgram, Takes}
+
+-- what holds of each error that a result may be holds of its error
+pub at_err : {A E : Type 0} (result : Result A E) (P : E → Type 0) → ((error : E) → result ≡ Err error → P error) → IfErr result P
+at_err (Ok value) P each = tt
+at_err (Err error) P each = each error refl
 
 -- ---- one file
 

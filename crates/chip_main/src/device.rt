@@ -36,10 +36,7 @@ pub fn run_on_device<O: Sink>(
     ensures silent { OnErr result (Silent (O.state out.old) (O.state out.new)) }
     ensures faults { (O.state out.old).faults ≤ (O.state out.new).faults }
 {
-    let bus = match HonestBus::new(alloc, geometry) {
-        Ok(bus) => RunBus::Honest(bus),
-        Err(_) => return Err(NoMemory),
-    };
+    let bus = RunBus::Honest(HonestBus::new(alloc, geometry)?);
     let keys = derive(&DEVICE_KEY);
     let setup = Setup {
         geometry,
@@ -49,6 +46,5 @@ pub fn run_on_device<O: Sink>(
         nonce: [0; 16],
     };
     let tagger = HmacTagger::new(&keys);
-    let done = run(alloc, image, input, &setup, tagger, bus, out);
-    Ok(done)
+    Ok(run(alloc, image, input, &setup, tagger, bus, out))
 }

@@ -1,6 +1,6 @@
 ghost use Rattle.std.specs.Prelude.{◌≡◌, ◌≤◌, Some};
-ghost use Rattle.chip_words.specs.Request.{request_of, levels_asked, to_assemble, to_disassemble, to_measure, to_run, to_run_plain};
-ghost use Rattle.chip_words.specs.Words.{asked, texts, assembly as assembly_asked, execution as execution_asked, inspection as inspection_asked};
+ghost use Rattle.chip_words.specs.Request.{request_of, to_run, to_run_plain};
+ghost use Rattle.chip_words.specs.Words.{asked, texts, execution as execution_asked};
 ghost use Rattle.chip_main.specs.Course.{CameAbout};
 ghost use Rattle.chip_main.specs.Stopping.{stopped_course};
 
@@ -10,9 +10,9 @@ use crate::program::ProgramForm;
 use crate::refusal::Refusal;
 use crate::taking::{Stop, take_execution, take_program};
 use crate::writing::{write_elf_file, write_measurement};
-use chip_words::{Assembly, Execution, Inspection, Request, WordsError, read_words};
+use chip_words::{Execution, Request, WordsError, read_words};
 use rv32_listing::write_listing;
-use sec_base::{Files, Geometry, Sink};
+use sec_base::{Files, Sink};
 use std::alloc::Global;
 
 /// Does what the words ask for, but for telling it.
@@ -28,10 +28,7 @@ pub fn perform<F: Files, O: Sink>(
     ensures out_faults { (O.state out.old).faults ≤ (O.state out.new).faults }
 {
     match read_words(alloc, words) {
-        Ok(request) => {
-            let course = perform_request(alloc, &request, files, out);
-            course
-        }
+        Ok(request) => perform_request(alloc, &request, files, out),
         Err(WordsError::Usage(text)) => Course::Refused(Refusal::Usage(text)),
         Err(WordsError::NoMemory) => Course::NoMemory,
     }
@@ -43,8 +40,6 @@ fn perform_request<F: Files, O: Sink>(
     files: &mut F,
     out: &mut O,
 ) -> Course
-    requires least { 1 ≤ levels_asked (asked request.now) }
-    requires most { levels_asked (asked request.now) ≤ 6 }
     ensures came { CameAbout result (Some (asked request.now)) (F.state files.old) (F.state files.new) (O.state out.old) (O.state out.new) }
     ensures held { (F.state files.new).held ≡ (F.state files.old).held }
     ensures files_faults { (F.state files.old).faults ≤ (F.state files.new).faults }
@@ -53,9 +48,27 @@ fn perform_request<F: Files, O: Sink>(
     match request {
         Request::Run(execution) => perform_run(alloc, execution, files, out),
         Request::Plain(execution) => perform_plain(alloc, execution, files, out),
-        Request::Asm(assembly) => perform_asm(alloc, assembly, files, out),
-        Request::Dis(inspection) => perform_dis(alloc, inspection, files, out),
-        Request::Measure(inspection) => perform_measure(alloc, inspection, files, out),
+        Request::Asm(assembly) => {
+            let form = ProgramForm::AssemblyText;
+            match take_program(alloc, assembly.file, form, assembly.geometry, files) {
+                Ok(image) => Course::Written(write_elf_file(alloc, &image, out)),
+                Err(stop) => stopped(stop),
+            }
+        }
+        Request::Dis(inspection) => {
+            let form = ProgramForm::of_program(inspection.flat);
+            match take_program(alloc, inspection.file, form, inspection.geometry, files) {
+                Ok(image) => Course::Written(write_listing(alloc, &image, out)),
+                Err(stop) => stopped(stop),
+            }
+        }
+        Request::Measure(inspection) => {
+            let form = ProgramForm::of_program(inspection.flat);
+            match take_program(alloc, inspection.file, form, inspection.geometry, files) {
+                Ok(image) => Course::Written(write_measurement(alloc, &image, out)),
+                Err(stop) => stopped(stop),
+            }
+        }
     }
 }
 
@@ -65,15 +78,12 @@ fn perform_run<F: Files, O: Sink>(
     files: &mut F,
     out: &mut O,
 ) -> Course
-    requires least { 1 ≤ execution.now.levels }
-    requires most { execution.now.levels ≤ 6 }
     ensures came { CameAbout result (Some (to_run (execution_asked execution.now))) (F.state files.old) (F.state files.new) (O.state out.old) (O.state out.new) }
     ensures held { (F.state files.new).held ≡ (F.state files.old).held }
     ensures files_faults { (F.state files.old).faults ≤ (F.state files.new).faults }
     ensures out_faults { (O.state out.old).faults ≤ (O.state out.new).faults }
 {
-    let geometry = Geometry::new(execution.levels).unwrap();
-    let (image, input) = match take_execution(alloc, execution, geometry, files) {
+    let (image, input) = match take_execution(alloc, execution, files) {
         Ok(taken) => taken,
         Err(stop) => return stopped(stop),
     };
@@ -81,7 +91,7 @@ fn perform_run<F: Files, O: Sink>(
         alloc,
         &image,
         input.as_slice(),
-        geometry,
+        execution.geometry,
         execution.steps,
         out,
     ) {
@@ -96,89 +106,17 @@ fn perform_plain<F: Files, O: Sink>(
     files: &mut F,
     out: &mut O,
 ) -> Course
-    requires least { 1 ≤ execution.now.levels }
-    requires most { execution.now.levels ≤ 6 }
     ensures came { CameAbout result (Some (to_run_plain (execution_asked execution.now))) (F.state files.old) (F.state files.new) (O.state out.old) (O.state out.new) }
     ensures held { (F.state files.new).held ≡ (F.state files.old).held }
     ensures files_faults { (F.state files.old).faults ≤ (F.state files.new).faults }
     ensures out_faults { (O.state out.old).faults ≤ (O.state out.new).faults }
 {
-    let geometry = Geometry::new(execution.levels).unwrap();
-    let (image, input) = match take_execution(alloc, execution, geometry, files) {
+    let (image, input) = match take_execution(alloc, execution, files) {
         Ok(taken) => taken,
         Err(stop) => return stopped(stop),
     };
     let run = plain_machine::run(alloc, &image, input.as_slice(), execution.steps, out);
     Course::RanPlain(run)
-}
-
-fn perform_asm<F: Files, O: Sink>(
-    alloc: Global,
-    assembly: &Assembly<'_>,
-    files: &mut F,
-    out: &mut O,
-) -> Course
-    requires least { 1 ≤ assembly.now.levels }
-    requires most { assembly.now.levels ≤ 6 }
-    ensures came { CameAbout result (Some (to_assemble (assembly_asked assembly.now))) (F.state files.old) (F.state files.new) (O.state out.old) (O.state out.new) }
-    ensures held { (F.state files.new).held ≡ (F.state files.old).held }
-    ensures files_faults { (F.state files.old).faults ≤ (F.state files.new).faults }
-    ensures out_faults { (O.state out.old).faults ≤ (O.state out.new).faults }
-{
-    let geometry = Geometry::new(assembly.levels).unwrap();
-    let form = ProgramForm::AssemblyText;
-    let image = match take_program(alloc, assembly.file, form, geometry, files) {
-        Ok(image) => image,
-        Err(stop) => return stopped(stop),
-    };
-    let written = write_elf_file(alloc, &image, out);
-    Course::Written(written)
-}
-
-fn perform_dis<F: Files, O: Sink>(
-    alloc: Global,
-    inspection: &Inspection<'_>,
-    files: &mut F,
-    out: &mut O,
-) -> Course
-    requires least { 1 ≤ inspection.now.levels }
-    requires most { inspection.now.levels ≤ 6 }
-    ensures came { CameAbout result (Some (to_disassemble (inspection_asked inspection.now))) (F.state files.old) (F.state files.new) (O.state out.old) (O.state out.new) }
-    ensures held { (F.state files.new).held ≡ (F.state files.old).held }
-    ensures files_faults { (F.state files.old).faults ≤ (F.state files.new).faults }
-    ensures out_faults { (O.state out.old).faults ≤ (O.state out.new).faults }
-{
-    let geometry = Geometry::new(inspection.levels).unwrap();
-    let form = ProgramForm::of_program(inspection.flat);
-    let image = match take_program(alloc, inspection.file, form, geometry, files) {
-        Ok(image) => image,
-        Err(stop) => return stopped(stop),
-    };
-    let written = write_listing(alloc, &image, out);
-    Course::Written(written)
-}
-
-fn perform_measure<F: Files, O: Sink>(
-    alloc: Global,
-    inspection: &Inspection<'_>,
-    files: &mut F,
-    out: &mut O,
-) -> Course
-    requires least { 1 ≤ inspection.now.levels }
-    requires most { inspection.now.levels ≤ 6 }
-    ensures came { CameAbout result (Some (to_measure (inspection_asked inspection.now))) (F.state files.old) (F.state files.new) (O.state out.old) (O.state out.new) }
-    ensures held { (F.state files.new).held ≡ (F.state files.old).held }
-    ensures files_faults { (F.state files.old).faults ≤ (F.state files.new).faults }
-    ensures out_faults { (O.state out.old).faults ≤ (O.state out.new).faults }
-{
-    let geometry = Geometry::new(inspection.levels).unwrap();
-    let form = ProgramForm::of_program(inspection.flat);
-    let image = match take_program(alloc, inspection.file, form, geometry, files) {
-        Ok(image) => image,
-        Err(stop) => return stopped(stop),
-    };
-    let written = write_measurement(alloc, &image, out);
-    Course::Written(written)
 }
 
 // What it comes to where the files were not taken.

@@ -27,10 +27,7 @@ impl Bus for RunBus {
 
     fn read_data(&mut self, line: u32) -> Result<Sealed, NoMemory> {
         match self {
-            RunBus::Honest(bus) => {
-                let sealed = bus.read_data(line)?;
-                Ok(sealed)
-            }
+            RunBus::Honest(bus) => bus.read_data(line),
         }
     }
 
@@ -42,10 +39,7 @@ impl Bus for RunBus {
 
     fn read_node(&mut self, level: u8, index: u32) -> Result<[u8; 64], NoMemory> {
         match self {
-            RunBus::Honest(bus) => {
-                let block = bus.read_node(level, index)?;
-                Ok(block)
-            }
+            RunBus::Honest(bus) => bus.read_node(level, index),
         }
     }
 

@@ -31,11 +31,9 @@ pub enum Stop {
 pub fn take_execution<F: Files>(
     alloc: Global,
     execution: &Execution<'_>,
-    geometry: Geometry,
     files: &mut F,
 ) -> Result<(Image, Bytes), Stop>
-    requires levels { execution.now.levels ≡ geometry }
-    ensures taken { IfOk result (λ taken. (program : Program) × IsImageOf (memory_size geometry) program taken.0
+    ensures taken { IfOk result (λ taken. (program : Program) × IsImageOf (memory_size execution.now.geometry) program taken.0
         × Takes (execution_asked execution.now) (F.state files.old) (F.state files.new) program taken.1) }
     ensures stopped { IfErr result (λ stop.
         StopsAs stop (execution_needs (execution_asked execution.now)) (F.state files.old) (F.state files.new)) }
@@ -43,14 +41,9 @@ pub fn take_execution<F: Files>(
     ensures faults { (F.state files.old).faults ≤ (F.state files.new).faults }
 {
     let form = ProgramForm::of_program(execution.flat);
-    let image = match take_program(alloc, execution.file, form, geometry, files) {
-        Ok(image) => image,
-        Err(stop) => return Err(stop),
-    };
-    match take_input(alloc, execution.input, files) {
-        Ok(input) => Ok((image, input)),
-        Err(stop) => Err(stop),
-    }
+    let image = take_program(alloc, execution.file, form, execution.geometry, files)?;
+    let input = take_input(alloc, execution.input, files)?;
+    Ok((image, input))
 }
 
 /// The program of a file of this form, which has to be one for the memory.
@@ -70,14 +63,8 @@ pub fn take_program<F: Files>(
     ensures faults { (F.state files.old).faults ≤ (F.state files.new).faults }
     ensures bytes_taken { (F.state files.old).taken ≤ (F.state files.new).taken }
 {
-    let bytes = match read_file(alloc, name, form.limit(), files) {
-        Ok(bytes) => bytes,
-        Err(stop) => return Err(stop),
-    };
-    match program_in(alloc, form, bytes.as_slice(), geometry.size()) {
-        Ok(image) => Ok(image),
-        Err(stop) => Err(stop),
-    }
+    let bytes = read_file(alloc, name, form.limit(), files)?;
+    program_in(alloc, form, bytes.as_slice(), geometry.size())
 }
 
 // The bytes of the input's file, where one is named.
@@ -93,10 +80,7 @@ fn take_input<F: Files>(alloc: Global, name: Option<&str>, files: &mut F) -> Res
     let Some(name) = name else {
         return Ok(Bytes::new(alloc));
     };
-    match read_file(alloc, name, INPUT_LIMIT, files) {
-        Ok(bytes) => Ok(bytes),
-        Err(stop) => Err(stop),
-    }
+    read_file(alloc, name, INPUT_LIMIT, files)
 }
 
 // A file's bytes, which are within the limit.

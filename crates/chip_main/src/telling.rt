@@ -19,19 +19,10 @@ pub fn tell<N: Sink>(alloc: Global, course: &Course, note: &mut N) -> Result<(),
     ensures faults { (N.state note.old).faults ≤ (N.state note.new).faults }
 {
     match course {
-        Course::Refused(refusal) => {
-            tell_refusal(alloc, refusal, note)?;
-            Ok(())
-        }
+        Course::Refused(refusal) => tell_refusal(alloc, refusal, note),
         Course::NoMemory | Course::Written(_) => Ok(()),
-        Course::Ran(run, bus) => {
-            tell_run(alloc, run, bus.lies(), note)?;
-            Ok(())
-        }
-        Course::RanPlain(run) => {
-            tell_plain(alloc, run, note)?;
-            Ok(())
-        }
+        Course::Ran(run, bus) => tell_run(alloc, run, bus.lies(), note),
+        Course::RanPlain(run) => tell_plain(alloc, run, note),
     }
 }
 
@@ -52,14 +43,8 @@ fn tell_usage<N: Sink>(text: &str, note: &mut N) -> Result<(), SinkStop>
     ensures told { IsTold (codes "usage\n" ++ text.now) (N.state note.old) (N.state note.new) result }
     ensures faults { (N.state note.old).faults ≤ (N.state note.new).faults }
 {
-    match write_line(note, "usage\n") {
-        Ok(()) => {}
-        Err(stop) => return Err(stop),
-    }
-    match write_line(note, text) {
-        Ok(()) => Ok(()),
-        Err(stop) => Err(stop),
-    }
+    write_line(note, "usage\n")?;
+    write_line(note, text)
 }
 
 fn tell_elf_fault<N: Sink>(alloc: Global, fault: ElfFault, note: &mut N) -> Result<(), SinkStop>
@@ -69,10 +54,7 @@ fn tell_elf_fault<N: Sink>(alloc: Global, fault: ElfFault, note: &mut N) -> Resu
     let Ok(line) = elf_text(alloc, fault) else {
         return Err(SinkStop::NoMemory);
     };
-    match write_line(note, line.as_str()) {
-        Ok(()) => Ok(()),
-        Err(stop) => Err(stop),
-    }
+    write_line(note, line.as_str())
 }
 
 fn tell_asm_fault<N: Sink>(
@@ -87,10 +69,7 @@ fn tell_asm_fault<N: Sink>(
     let Ok(line) = asm_text(alloc, line, fault) else {
         return Err(SinkStop::NoMemory);
     };
-    match write_line(note, line.as_str()) {
-        Ok(()) => Ok(()),
-        Err(stop) => Err(stop),
-    }
+    write_line(note, line.as_str())
 }
 
 // How the run ended, and how many instructions were retired.
@@ -104,14 +83,8 @@ fn tell_plain<N: Sink>(alloc: Global, run: &PlainRecord, note: &mut N) -> Result
     let Ok(retired) = retired_text(alloc, run.retired) else {
         return Err(SinkStop::NoMemory);
     };
-    match write_line(note, ending.as_str()) {
-        Ok(()) => {}
-        Err(stop) => return Err(stop),
-    }
-    match write_line(note, retired.as_str()) {
-        Ok(()) => Ok(()),
-        Err(stop) => Err(stop),
-    }
+    write_line(note, ending.as_str())?;
+    write_line(note, retired.as_str())
 }
 
 // How the run ended, how many instructions were retired, and how many answers were false.
@@ -133,18 +106,9 @@ fn tell_run<N: Sink>(
     let Ok(lies) = lies_text(alloc, lies) else {
         return Err(SinkStop::NoMemory);
     };
-    match write_line(note, ending.as_str()) {
-        Ok(()) => {}
-        Err(stop) => return Err(stop),
-    }
-    match write_line(note, retired.as_str()) {
-        Ok(()) => {}
-        Err(stop) => return Err(stop),
-    }
-    match write_line(note, lies.as_str()) {
-        Ok(()) => Ok(()),
-        Err(stop) => Err(stop),
-    }
+    write_line(note, ending.as_str())?;
+    write_line(note, retired.as_str())?;
+    write_line(note, lies.as_str())
 }
 
 // A line of a text, as one piece.
@@ -152,8 +116,7 @@ fn write_line<N: Sink>(note: &mut N, line: &str) -> Result<(), SinkStop>
     ensures told { IsTold line.now (N.state note.old) (N.state note.new) result }
     ensures faults { (N.state note.old).faults ≤ (N.state note.new).faults }
 {
-    write_all(note, line.as_bytes())?;
-    Ok(())
+    write_all(note, line.as_bytes())
 }
 
 fn elf_text(alloc: Global, fault: ElfFault) -> Result<String, NoMemory>
@@ -187,9 +150,9 @@ fn ending_text(alloc: Global, ending: Ending) -> Result<String, NoMemory>
 {
     match ending {
         Ending::Halted(code) => Ok(format!(in alloc; "halted {code}\n")?),
-        Ending::Trapped { cause, pc } => Ok(trapped_text(alloc, cause, pc)?),
+        Ending::Trapped { cause, pc } => trapped_text(alloc, cause, pc),
         Ending::OutOfSteps => Ok(String::from_str(alloc, "out of steps\n")?),
-        Ending::Tampered(place) => Ok(tampered_text(alloc, place)?),
+        Ending::Tampered(place) => tampered_text(alloc, place),
         Ending::Spent(page) => Ok(format!(in alloc; "spent page {page}\n")?),
         Ending::WriteFault => Ok(String::from_str(alloc, "write fault\n")?),
         Ending::NoMemory => Ok(String::from_str(alloc, "no memory\n")?),

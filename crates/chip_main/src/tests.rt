@@ -47,6 +47,17 @@ const COPY_4: [u32; 11] = [
     0x00000073, 0x05d00893, 0x00000073,
 ];
 
+// It writes a byte past 16 KiB to descriptor 3, and exits with what the service answered: -9, since the descriptor is
+// tested before the range.
+const WRITE_TO_3: [u32; 7] = [
+    0x00300513, 0x000045b7, 0x00100613, 0x04000893, 0x00000073, 0x05d00893, 0x00000073,
+];
+
+// The same of a read.
+const READ_FROM_3: [u32; 7] = [
+    0x00300513, 0x000045b7, 0x00100613, 0x03f00893, 0x00000073, 0x05d00893, 0x00000073,
+];
+
 // addi zero, zero, 0
 const NOTHING: u32 = 0x00000013;
 
@@ -160,63 +171,59 @@ fn check_program(
     Ok(())
 }
 
-#[test]
-fn programs_end(rt: HostRuntime) -> Result<(), Fail> {
-    let alloc = rt.alloc();
-    check_program(
-        &rt,
-        alloc,
-        ["--levels", "4"],
-        &EXIT_7,
-        b"",
-        b"halted 7\nretired 3\n",
-        0,
-    )?;
-    check_program(
-        &rt,
-        alloc,
-        ["--steps", "3"],
-        &EXIT_7,
-        b"",
-        b"halted 7\nretired 3\n",
-        0,
-    )?;
-    check_program(
-        &rt,
-        alloc,
+// An option, a program, and what it prints, what it tells and its status.
+const ENDS: [([&str; 2], &[u32], &[u8], &[u8], u8); 8] = [
+    (["--levels", "4"], &EXIT_7, b"", b"halted 7\nretired 3\n", 0),
+    (["--steps", "3"], &EXIT_7, b"", b"halted 7\nretired 3\n", 0),
+    (
         ["--steps", "2"],
         &EXIT_7,
         b"",
         b"out of steps\nretired 2\n",
         4,
-    )?;
-    check_program(
-        &rt,
-        alloc,
+    ),
+    (
         ["--steps", "0"],
         &EXIT_7,
         b"",
         b"out of steps\nretired 0\n",
         4,
-    )?;
-    check_program(
-        &rt,
-        alloc,
+    ),
+    (
         ["--levels", "1"],
         &EXIT_65,
         b"",
         b"halted 65\nretired 6\n",
         0,
-    )?;
-    check_program(
-        &rt,
-        alloc,
+    ),
+    (
         ["--levels", "1"],
         &PRINT_A,
         b"A",
         b"halted 1\nretired 10\n",
         0,
-    )?;
+    ),
+    (
+        ["--levels", "1"],
+        &WRITE_TO_3,
+        b"",
+        b"halted 4294967287\nretired 7\n",
+        0,
+    ),
+    (
+        ["--levels", "1"],
+        &READ_FROM_3,
+        b"",
+        b"halted 4294967287\nretired 7\n",
+        0,
+    ),
+];
+
+#[test]
+fn programs_end(rt: HostRuntime) -> Result<(), Fail> {
+    for (option, code, printed, told, status) in ENDS {
+        check_program(&rt, rt.alloc(), option, code, printed, told, status)?;
+    }
     Ok(())
 }
 
@@ -248,28 +255,48 @@ fn the_memory_has_its_levels(rt: HostRuntime) -> Result<(), Fail> {
     Ok(())
 }
 
+// The levels of the memory, a program, and how it traps.
+const TRAPS: [(&str, &[u32], &[u8]); 7] = [
+    // Nothing at all; three instructions and then no more; a word without a row.
+    ("4", &[], b"trapped illegal pc 00000000\nretired 0\n"),
+    (
+        "1",
+        &[NOTHING; 3],
+        b"trapped illegal pc 0000000c\nretired 3\n",
+    ),
+    (
+        "1",
+        &[0x30001073],
+        b"trapped illegal pc 00000000\nretired 0\n",
+    ),
+    // A jump to 2; a load at address 1, and one at 0x4001, which is outside too; a breakpoint.
+    (
+        "1",
+        &[0x00200093, 0x00008167],
+        b"trapped misaligned target pc 00000004\nretired 1\n",
+    ),
+    (
+        "1",
+        &[0x00102503],
+        b"trapped misaligned data pc 00000000\nretired 0\n",
+    ),
+    (
+        "1",
+        &[0x000042b7, 0x0012a503],
+        b"trapped misaligned data pc 00000004\nretired 1\n",
+    ),
+    (
+        "1",
+        &[0x00100073],
+        b"trapped breakpoint pc 00000000\nretired 0\n",
+    ),
+];
+
 #[test]
 fn programs_trap(rt: HostRuntime) -> Result<(), Fail> {
-    // Nothing at all; three instructions and then no more; a jump to 2; a load at address 1; a breakpoint.
-    let alloc = rt.alloc();
-    let told = b"trapped illegal pc 00000000\nretired 0\n";
-    check_program(&rt, alloc, ["--levels", "4"], &[], b"", told, 1)?;
-    let told = b"trapped illegal pc 0000000c\nretired 3\n";
-    check_program(&rt, alloc, ["--levels", "1"], &[NOTHING; 3], b"", told, 1)?;
-    let told = b"trapped misaligned target pc 00000004\nretired 1\n";
-    check_program(
-        &rt,
-        alloc,
-        ["--levels", "1"],
-        &[0x00200093, 0x00008167],
-        b"",
-        told,
-        1,
-    )?;
-    let told = b"trapped misaligned data pc 00000000\nretired 0\n";
-    check_program(&rt, alloc, ["--levels", "1"], &[0x00102503], b"", told, 1)?;
-    let told = b"trapped breakpoint pc 00000000\nretired 0\n";
-    check_program(&rt, alloc, ["--levels", "1"], &[0x00100073], b"", told, 1)?;
+    for (levels, code, told) in TRAPS {
+        check_program(&rt, rt.alloc(), ["--levels", levels], code, b"", told, 1)?;
+    }
     Ok(())
 }
 
@@ -348,23 +375,26 @@ fn check_length(
     Ok(())
 }
 
+// The words, how many zeros the file has, what is told, and the status.
+const LENGTHS: [(&[&str], usize, &[u8], u8); 6] = [
+    (&RUN_SMALL, 16385, b"refused elf 9 Segment\n", 3),
+    (&RUN_SMALL, 1048576, b"refused elf 9 Segment\n", 3),
+    (&RUN_SMALL, 1048577, b"refused long\n", 3),
+    (&DIS, 1048577, b"refused long\n", 3),
+    (&PLAIN, 1048577, b"refused long\n", 3),
+    (
+        &PLAIN,
+        1048576,
+        b"trapped illegal pc 00000000\nretired 0\n",
+        1,
+    ),
+];
+
 #[test]
 fn files_are_refused(rt: HostRuntime) -> Result<(), Fail> {
-    let alloc = rt.alloc();
-    check_length(&rt, alloc, &RUN_SMALL, 16385, b"refused elf 9 Segment\n", 3)?;
-    check_length(
-        &rt,
-        alloc,
-        &RUN_SMALL,
-        1048576,
-        b"refused elf 9 Segment\n",
-        3,
-    )?;
-    check_length(&rt, alloc, &RUN_SMALL, 1048577, b"refused long\n", 3)?;
-    check_length(&rt, alloc, &DIS, 1048577, b"refused long\n", 3)?;
-    check_length(&rt, alloc, &PLAIN, 1048577, b"refused long\n", 3)?;
-    let told = b"trapped illegal pc 00000000\nretired 0\n";
-    check_length(&rt, alloc, &PLAIN, 1048576, told, 1)?;
+    for (words, length, told, status) in LENGTHS {
+        check_length(&rt, rt.alloc(), words, length, told, status)?;
+    }
     Ok(())
 }
 

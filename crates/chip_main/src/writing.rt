@@ -14,8 +14,7 @@ pub fn write_elf_file<O: Sink>(alloc: Global, image: &Image, out: &mut O) -> Res
     let Ok(bytes) = elf_load::write(alloc, image) else {
         return Err(SinkStop::NoMemory);
     };
-    write_all(out, bytes.as_slice())?;
-    Ok(())
+    write_all(out, bytes.as_slice())
 }
 
 /// Writes a program's measurement as a line of 64 digits.
@@ -26,8 +25,7 @@ pub fn write_measurement<O: Sink>(alloc: Global, image: &Image, out: &mut O) -> 
     let Ok(line) = measurement_text(alloc, image) else {
         return Err(SinkStop::NoMemory);
     };
-    write_all(out, line.as_bytes())?;
-    Ok(())
+    write_all(out, line.as_bytes())
 }
 
 fn measurement_text(alloc: Global, image: &Image) -> Result<String, NoMemory>

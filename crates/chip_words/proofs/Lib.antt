@@ -1,4 +1,5 @@
 pub mod Walks
+pub mod Flags
 pub mod Fits
 pub mod Commands
 pub mod Requests

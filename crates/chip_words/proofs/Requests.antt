@@ -1,5 +1,5 @@
 -- What follows from a request.
-use Rattle.std.proofs.Common.{◌≡◌, ◌≤◌, ◌<◌, ◌^◌, ◌∙◌, ap, subst, Bool, List, [], Option, Some, None, Ok, true, false, refl, sym, inl, inr, is_some, if◌then◌else◌, arith, unwrap_or}
+use Rattle.std.proofs.Common.{◌≡◌, ◌≤◌, ◌∙◌, ap, subst, Bool, List, [], Option, Some, None, Ok, true, false, refl, sym, inl, inr, is_some, if◌then◌else◌, unwrap_or}
 use Rattle.std.specs.Prelude.{◌↔◌, codes, IsSome}
 use Rattle.std.specs.Str.{bytes_eq}
 use Rattle.std.proofs.lemmas.Slice.Eq.{bytes_eq-Decides}
@@ -14,7 +14,7 @@ use Rattle.clap.specs.declared.parser.matches.ArgMatches.{ArgMatches}
 use Rattle.clap.proofs.OnLiterals.{clap_on_literals}
 use Rattle.clap.proofs.SimpleLemmas.{is_nil}
 use Rattle.chip_words.specs.App.{chip_app}
-use Rattle.chip_words.specs.Request.{Asked, asked_in, assembly_of, execution_of, inspection_of, levels_asked, request_of, steps_asked, to_assemble, to_disassemble, to_measure, to_run, to_run_plain}
+use Rattle.chip_words.specs.Request.{Asked, asked_in, assembly_of, execution_of, inspection_of, levels_asked, request_of, to_assemble, to_disassemble, to_measure, to_run, to_run_plain}
 use Rattle.chip_words.specs.Words.{IfUsage}
 use Rattle.chip_words.specs.declared.request.WordsError.{WordsError}
 use Rattle.chip_words.specs.declared.request.WordsError.TheVariants.{Usage, NoMemory}
@@ -170,10 +170,6 @@ request_keeps P words r executes writes e =
 pub request_of-levels : (words : List Text) (r : Asked) → request_of words ≡ Some r → (1 ≤ levels_asked r) × (levels_asked r ≤ 6)
 request_of-levels words r e = request_keeps (λ x. (1 ≤ levels_asked x) × (levels_asked x ≤ 6)) words r
     (λ values has. (has.program.bounds, has.program.bounds)) (λ values has. (has.bounds, has.bounds, has.bounds)) e
-
-pub request_of-steps : (words : List Text) (r : Asked) → request_of words ≡ Some r → steps_asked r < 2 ^ 64
-request_of-steps words r e = request_keeps (λ x. steps_asked x < 2 ^ 64) words r
-    (λ values has. (has.steps.1.1, has.steps.1.1)) (λ values has. (omega arith, omega arith, omega arith)) e
 
 -- ---- errors
 

@@ -2,7 +2,7 @@
 use Rattle.std.specs.Prelude.{ℕ, Bool, List, [], Option, Some, None, option_and_then, unwrap_or, codes, if◌then◌else◌}
 use Rattle.std.specs.Str.{bytes_eq}
 use Rattle.std.specs.Str.Parse.{digits_value, without_leading_plus}
-use Rattle.clap.specs.Walk.{Row, Text, first_of, is_empty}
+use Rattle.clap.specs.Walk.{Row, Text, first_of, is_empty, one_of}
 use Rattle.clap.specs.Simple.{subcommand_of}
 use Rattle.clap.specs.Faults.{fault_of}
 use Rattle.chip_words.specs.App.{chip_app}
@@ -47,7 +47,7 @@ abbrev pub file_of : List Row → Text
 file_of values = value_of (codes "file") values
 
 abbrev pub flat_of : List Row → Bool
-flat_of values = bytes_eq (value_of (codes "flat") values) (codes "true")
+flat_of values = bytes_eq (unwrap_or (one_of (codes "flat") values) []) (codes "true")
 
 abbrev pub input_of : List Row → Option Text
 input_of values = first_of (codes "input") values
@@ -93,19 +93,10 @@ abbrev pub request_of : List Text → Option Asked
 request_of words =
     if is_empty (fault_of chip_app words) then asked_in (subcommand_of chip_app words) else None
 
--- ---- the numbers of a request
-
+-- the levels of a request
 abbrev pub levels_asked : Asked → ℕ
 levels_asked (to_run execution) = execution.levels
 levels_asked (to_run_plain execution) = execution.levels
 levels_asked (to_assemble assembly) = assembly.levels
 levels_asked (to_disassemble inspection) = inspection.levels
 levels_asked (to_measure inspection) = inspection.levels
-
--- no step is asked for where nothing is run
-abbrev pub steps_asked : Asked → ℕ
-steps_asked (to_run execution) = execution.steps
-steps_asked (to_run_plain execution) = execution.steps
-steps_asked (to_assemble assembly) = 0
-steps_asked (to_disassemble inspection) = 0
-steps_asked (to_measure inspection) = 0

@@ -20,15 +20,15 @@ execution e = record {
   file = e.file.now;
   flat = e.flat;
   input = option_map (λ text. text.now) e.input;
-  levels = e.levels;
+  levels = e.geometry;
   steps = e.steps;
 }
 
 abbrev pub assembly : Assembly → AssemblyAsked
-assembly a = record { file = a.file.now; levels = a.levels }
+assembly a = record { file = a.file.now; levels = a.geometry }
 
 abbrev pub inspection : Inspection → InspectionAsked
-inspection i = record { file = i.file.now; flat = i.flat; levels = i.levels }
+inspection i = record { file = i.file.now; flat = i.flat; levels = i.geometry }
 
 -- what the request asks for
 abbrev pub asked : Request → Asked

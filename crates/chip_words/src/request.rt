@@ -1,8 +1,9 @@
 // What words ask for, and why they ask for nothing.
+use sec_base::Geometry;
 use thiserror::Error;
 
 /// What the words ask for.
-#[derive(Clone, Copy, Debug, PartialEq, Eq)]
+#[derive(Clone, Copy, Debug)]
 pub enum Request<'a> {
     /// To run a program on protected memory.
     Run(Execution<'a>),
@@ -17,7 +18,7 @@ pub enum Request<'a> {
 }
 
 /// What is to be run, and how.
-#[derive(Clone, Copy, Debug, PartialEq, Eq)]
+#[derive(Clone, Copy, Debug)]
 pub struct Execution<'a> {
     /// The program's file.
     pub file: &'a str,
@@ -25,30 +26,30 @@ pub struct Execution<'a> {
     pub flat: bool,
     /// The file of the program's input, where it has one.
     pub input: Option<&'a str>,
-    /// The levels of the memory's tree, 1 to 6.
-    pub levels: u8,
+    /// How large the memory is.
+    pub geometry: Geometry,
     /// How many instructions may be retired.
     pub steps: u64,
 }
 
 /// What is to be assembled, and for how large a memory.
-#[derive(Clone, Copy, Debug, PartialEq, Eq)]
+#[derive(Clone, Copy, Debug)]
 pub struct Assembly<'a> {
     /// The assembly text's file.
     pub file: &'a str,
-    /// The levels of the memory's tree, 1 to 6.
-    pub levels: u8,
+    /// How large the memory is.
+    pub geometry: Geometry,
 }
 
 /// Which program is to be looked at without running it.
-#[derive(Clone, Copy, Debug, PartialEq, Eq)]
+#[derive(Clone, Copy, Debug)]
 pub struct Inspection<'a> {
     /// The program's file.
     pub file: &'a str,
     /// The file is read as the program's bytes and nothing else, and not as an ELF file.
     pub flat: bool,
-    /// The levels of the memory's tree, 1 to 6.
-    pub levels: u8,
+    /// How large the memory is.
+    pub geometry: Geometry,
 }
 
 /// Why words ask for nothing that can be done.

@@ -1,31 +1,49 @@
 // Lines of words. What each asks for is worked out by hand from the commands' arguments and from clap's rules: an option
 // stands anywhere behind its command, its value stands in the next word or behind `=`, after `--` no word is an option,
 // and no option stands twice.
-use super::{Assembly, Execution, Inspection, Request, WordsError, read_words};
+use super::{Execution, Inspection, Request, WordsError, read_words};
 use std::alloc::{AllocError, Global};
 use std::test::Fail;
 
-const EXECUTION: Execution<'static> = Execution {
-    file: "p",
-    flat: false,
-    input: None,
-    levels: 4,
-    steps: 10000000,
-};
+// The command, the file, whether it is flat, the input's file, the levels and the steps, which are 0 where nothing is
+// run.
+type Parts<'a> = (&'a str, &'a str, bool, Option<&'a str>, u8, u64);
 
-const INSPECTION: Inspection<'static> = Inspection {
-    file: "p",
-    flat: false,
-    levels: 4,
-};
+fn parts<'a>(request: &Request<'a>) -> Parts<'a> {
+    match request {
+        Request::Run(execution) => execution_parts("run", execution),
+        Request::Plain(execution) => execution_parts("plain", execution),
+        Request::Asm(assembly) => {
+            let levels = assembly.geometry.levels();
+            ("asm", assembly.file, false, None, levels, 0)
+        }
+        Request::Dis(inspection) => inspection_parts("dis", inspection),
+        Request::Measure(inspection) => inspection_parts("measure", inspection),
+    }
+}
 
-fn asks_for(alloc: Global, line: &str, request: Request<'_>) -> Result<bool, AllocError> {
+fn execution_parts<'a>(command: &'a str, execution: &Execution<'a>) -> Parts<'a> {
+    (
+        command,
+        execution.file,
+        execution.flat,
+        execution.input,
+        execution.geometry.levels(),
+        execution.steps,
+    )
+}
+
+fn inspection_parts<'a>(command: &'a str, inspection: &Inspection<'a>) -> Parts<'a> {
+    let levels = inspection.geometry.levels();
+    (command, inspection.file, inspection.flat, None, levels, 0)
+}
+
+fn asks_for(alloc: Global, line: &str, expected: Parts<'_>) -> Result<bool, AllocError> {
     let words: Vec<&str> = line.split_whitespace().collect(alloc)?;
-    let is_right = match read_words(alloc, words.as_slice()) {
-        Ok(found) => found == request,
-        Err(_) => false,
+    let Ok(request) = read_words(alloc, words.as_slice()) else {
+        return Ok(false);
     };
-    Ok(is_right)
+    Ok(parts(&request) == expected)
 }
 
 fn usage(alloc: Global, line: &str) -> Result<Option<String>, AllocError> {
@@ -44,106 +62,55 @@ fn is_refused(alloc: Global, line: &str) -> Result<bool, AllocError> {
 
 #[test]
 fn requests(rt: HostRuntime) -> Result<(), Fail> {
-    let flat = Execution {
-        flat: true,
-        ..EXECUTION
-    };
-    let all = Execution {
-        file: "p",
-        flat: true,
-        input: Some("i"),
-        levels: 2,
-        steps: 3,
-    };
-    let rows = [
-        ("chip run p", Request::Run(EXECUTION)),
-        ("chip run p --flat", Request::Run(flat)),
-        ("chip run --flat p", Request::Run(flat)),
+    let rows: [(&str, Parts<'_>); 18] = [
+        ("chip run p", ("run", "p", false, None, 4, 10000000)),
+        ("chip run p --flat", ("run", "p", true, None, 4, 10000000)),
+        ("chip run --flat p", ("run", "p", true, None, 4, 10000000)),
         (
             "other run p --input i --steps 3 --levels 2 --flat",
-            Request::Run(all),
+            ("run", "p", true, Some("i"), 2, 3),
         ),
         (
             "chip run --flat --levels=2 --steps=3 --input=i p",
-            Request::Run(all),
+            ("run", "p", true, Some("i"), 2, 3),
         ),
         (
             "chip run help --levels 1",
-            Request::Run(Execution {
-                file: "help",
-                levels: 1,
-                ..EXECUTION
-            }),
+            ("run", "help", false, None, 1, 10000000),
         ),
         (
             "chip run -- --flat",
-            Request::Run(Execution {
-                file: "--flat",
-                ..EXECUTION
-            }),
+            ("run", "--flat", false, None, 4, 10000000),
         ),
-        (
-            "chip run p --steps +5",
-            Request::Run(Execution {
-                steps: 5,
-                ..EXECUTION
-            }),
-        ),
-        (
-            "chip run --steps 007 p",
-            Request::Run(Execution {
-                steps: 7,
-                ..EXECUTION
-            }),
-        ),
+        ("chip run p --steps +5", ("run", "p", false, None, 4, 5)),
+        ("chip run --steps 007 p", ("run", "p", false, None, 4, 7)),
         (
             "chip run p --steps 18446744073709551615 --levels 6",
-            Request::Run(Execution {
-                steps: u64::MAX,
-                levels: 6,
-                ..EXECUTION
-            }),
+            ("run", "p", false, None, 6, u64::MAX),
         ),
-        ("chip plain p", Request::Plain(EXECUTION)),
+        ("chip plain p", ("plain", "p", false, None, 4, 10000000)),
         (
             "chip plain --levels 2 p --input i --flat --steps 3",
-            Request::Plain(all),
+            ("plain", "p", true, Some("i"), 2, 3),
         ),
-        ("chip dis p", Request::Dis(INSPECTION)),
+        ("chip dis p", ("dis", "p", false, None, 4, 0)),
         (
             "chip dis --flat p --levels +06",
-            Request::Dis(Inspection {
-                file: "p",
-                flat: true,
-                levels: 6,
-            }),
+            ("dis", "p", true, None, 6, 0),
         ),
-        ("chip measure p", Request::Measure(INSPECTION)),
+        ("chip measure p", ("measure", "p", false, None, 4, 0)),
         (
             "chip measure --levels=1 --flat p",
-            Request::Measure(Inspection {
-                file: "p",
-                flat: true,
-                levels: 1,
-            }),
+            ("measure", "p", true, None, 1, 0),
         ),
-        (
-            "chip asm p",
-            Request::Asm(Assembly {
-                file: "p",
-                levels: 4,
-            }),
-        ),
+        ("chip asm p", ("asm", "p", false, None, 4, 0)),
         (
             "chip asm --levels 2 measure",
-            Request::Asm(Assembly {
-                file: "measure",
-                levels: 2,
-            }),
+            ("asm", "measure", false, None, 2, 0),
         ),
     ];
-    for (line, request) in rows {
-        assert!(rt; asks_for(rt.alloc(), line, request)?, "{line}");
+    for (line, expected) in rows {
+        assert!(rt; asks_for(rt.alloc(), line, expected)?, "{line}");
     }
     Ok(())
 }

@@ -9,6 +9,7 @@ ghost use Rattle.chip_words.specs.Words.{asked, assembly, execution, inspection}
 
 use crate::request::{Assembly, Execution, Inspection, Request};
 use clap::ArgMatches;
+use sec_base::Geometry;
 
 // What the command that was met asks for.
 pub(crate) fn requested<'a>(matches: &ArgMatches<'a>) -> Request<'a>
@@ -22,7 +23,8 @@ pub(crate) fn requested<'a>(matches: &ArgMatches<'a>) -> Request<'a>
         "plain" => Request::Plain(execution(values)),
         "asm" => Request::Asm(assembly(values)),
         "dis" => Request::Dis(inspection(values)),
-        _ => Request::Measure(inspection(values)),
+        "measure" => Request::Measure(inspection(values)),
+        _ => unreachable!(),
     }
 }
 
@@ -34,7 +36,7 @@ fn execution<'a>(values: &ArgMatches<'a>) -> Execution<'a>
         file: value(values, "file"),
         flat: is_flat(values),
         input: text(values, "input"),
-        levels: levels(values),
+        geometry: geometry(values),
         steps: number(values, "steps"),
     }
 }
@@ -45,7 +47,7 @@ fn assembly<'a>(values: &ArgMatches<'a>) -> Assembly<'a>
 {
     Assembly {
         file: value(values, "file"),
-        levels: levels(values),
+        geometry: geometry(values),
     }
 }
 
@@ -56,24 +58,21 @@ fn inspection<'a>(values: &ArgMatches<'a>) -> Inspection<'a>
     Inspection {
         file: value(values, "file"),
         flat: is_flat(values),
-        levels: levels(values),
+        geometry: geometry(values),
     }
 }
 
 fn is_flat(values: &ArgMatches<'_>) -> bool
     ensures { result ≡ flat_of (rows_of (found_of values.now)) }
 {
-    match text(values, "flat") {
-        Some(set) => set == "true",
-        None => false,
-    }
+    values.get_one::<bool>("flat").unwrap_or(false)
 }
 
-fn levels(values: &ArgMatches<'_>) -> u8
+fn geometry(values: &ArgMatches<'_>) -> Geometry
     requires { HasProgram (rows_of (found_of values.now)) }
     ensures { result ≡ levels_of (rows_of (found_of values.now)) }
 {
-    number(values, "levels") as u8
+    Geometry::new(number(values, "levels") as u8).unwrap()
 }
 
 fn number(values: &ArgMatches<'_>, id: &str) -> u64

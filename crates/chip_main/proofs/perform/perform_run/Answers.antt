@@ -1,4 +1,3 @@
-use Rattle.std.proofs.Common.{rules, ◌≡◌}
 use Rattle.chip_words.specs.Words.{execution as execution_asked}
 use Rattle.chip_main.proofs.Courses.{came_without_memory}
 use Rattle.chip_main.proofs.perform.perform_run.Goals as goal
@@ -11,5 +10,4 @@ returns-clause-came g c =
 pub returns-in-Ok-run_on_device-clause-came : goal.returns-in-Ok-run_on_device-clause-came
 returns-in-Ok-run_on_device-clause-came g c =
     let taken = c.in-Ok.ensures.taken in
-    let levels : c.unwrap-geometry.result ≡ c.args.execution.now.levels = search rules in
-    (taken.0, c.in-Ok.taken.1, taken.2, rw (levels, c.as_slice.ensures) at (c.in-Ok-run_on_device.ensures.ran taken.0 taken.1))
+    (taken.0, c.in-Ok.taken.1, taken.2, rw c.as_slice.ensures at (c.in-Ok-run_on_device.ensures.ran taken.0 taken.1))
