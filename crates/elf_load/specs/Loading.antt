@@ -1,5 +1,5 @@
 -- The program that a file is.
-use Rattle.std.specs.Prelude.{◌≡◌, None, ℕ, List, [], ◌∷◌, length, take, drop, map, filter}
+use Rattle.std.specs.Prelude.{◌≡◌, None, ℕ, List, take, drop, map, filter}
 use Rattle.sec_base.specs.declared.program.Segment.{Segment}
 use Rattle.sec_base.specs.declared.program.Image.{Image}
 use Rattle.elf_load.specs.declared.table.ProgramHeader.{ProgramHeader}

@@ -1,5 +1,5 @@
 -- The program that an assembly text is.
-use Rattle.std.specs.Prelude.{◌≡◌, ℕ, ◌+◌, ◌%◌, ◌==◌, List, [], ◌∷◌, Bool, not, ◌||◌, Option, None, Some, Result, Ok, Err, length, nat_lt, codes, if◌then◌else◌}
+use Rattle.std.specs.Prelude.{◌≡◌, ℕ, ◌+◌, ◌%◌, ◌==◌, List, [], Bool, not, ◌||◌, Option, None, Some, Result, Ok, Err, nat_lt, codes, if◌then◌else◌}
 use Rattle.sec_base.specs.Program.{from_zero}
 use Rattle.sec_base.specs.declared.program.Image.{Image}
 use Rattle.rv32_asm_syntax.specs.declared.fault.AsmFault.TheVariants.{Range}
