@@ -3,7 +3,7 @@ use sec_base::Geometry;
 use thiserror::Error;
 
 /// What the words ask for.
-#[derive(Clone, Copy, Debug)]
+#[derive(Clone, Copy, Debug, PartialEq, Eq)]
 pub enum Request<'a> {
     /// To run a program on protected memory.
     Run(Execution<'a>),
@@ -18,7 +18,7 @@ pub enum Request<'a> {
 }
 
 /// What is to be run, and how.
-#[derive(Clone, Copy, Debug)]
+#[derive(Clone, Copy, Debug, PartialEq, Eq)]
 pub struct Execution<'a> {
     /// The program's file.
     pub file: &'a str,
@@ -33,7 +33,7 @@ pub struct Execution<'a> {
 }
 
 /// What is to be assembled, and for how large a memory.
-#[derive(Clone, Copy, Debug)]
+#[derive(Clone, Copy, Debug, PartialEq, Eq)]
 pub struct Assembly<'a> {
     /// The assembly text's file.
     pub file: &'a str,
@@ -42,7 +42,7 @@ pub struct Assembly<'a> {
 }
 
 /// Which program is to be looked at without running it.
-#[derive(Clone, Copy, Debug)]
+#[derive(Clone, Copy, Debug, PartialEq, Eq)]
 pub struct Inspection<'a> {
     /// The program's file.
     pub file: &'a str,

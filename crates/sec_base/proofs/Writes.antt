@@ -1,5 +1,5 @@
 -- A piece that is written in parts.
-use Rattle.std.proofs.Common.{◌≡◌, ◌≤◌, ℕ, ◌+◌, List, [], ◌∷◌, ◌++◌, take, drop, length, refl, sym, ap, ◌∙◌, subst, Option, Some, None, arith, append_assoc}
+use Rattle.std.proofs.Common.{◌≡◌, ◌≤◌, ℕ, List, [], ◌++◌, take, drop, refl, sym, ap, ◌∙◌, Option, Some, None, arith, append_assoc}
 use Rattle.std.proofs.lemmas.List.{append-nil, take-append-drop}
 use Rattle.sec_base.specs.Count.{Rose}
 use Rattle.sec_base.specs.Lists.{IsPrefix}

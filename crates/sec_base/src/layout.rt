@@ -14,7 +14,7 @@ pub enum Place {
 }
 
 /// How large the memory is: a tree of 1 to 6 levels above 4 ^ levels pages of 4096 bytes.
-#[derive(Clone, Copy, Debug)]
+#[derive(Clone, Copy, Debug, PartialEq, Eq)]
 pub struct Geometry {
     levels: u8,
 }
