@@ -1,5 +1,6 @@
 use Rattle.std.proofs.Common.{◌≡◌, ◌∙◌, Err, ap, refl, sym}
 use Rattle.std.proofs.lemmas.Result.{err_from_is_err_and}
+use Rattle.sec_base.specs.Program.{from_zero}
 use Rattle.rv32_asm.specs.Course.{entry_at}
 use Rattle.rv32_asm.specs.declared.fault.AsmError.TheVariants.{Fault}
 use Rattle.rv32_asm.proofs.Assembling.{end_is, no_bytes, no_entry, no_labels, program_is}
@@ -44,5 +45,5 @@ returns-clause-program c = record {
       (sym (ap (entry_at c.args.size) c.get.ensures) ∙ c.in_ok-entry.ensures.entry);
   entry = refl;
   memory = refl;
-  segments = c.in_ok-segments.ensures;
+  segments = c.in_ok-segments.ensures ∙ ap from_zero c.from_vec.ensures;
 }
