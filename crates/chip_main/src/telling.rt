@@ -51,9 +51,7 @@ fn tell_elf_fault<N: Sink>(alloc: Global, fault: ElfFault, note: &mut N) -> Resu
     ensures told { IsTold (elf_line fault) (N.state note.old) (N.state note.new) result }
     ensures faults { (N.state note.old).faults ≤ (N.state note.new).faults }
 {
-    let Ok(line) = elf_text(alloc, fault) else {
-        return Err(SinkStop::NoMemory);
-    };
+    let line = elf_text(alloc, fault)?;
     write_line(note, line.as_str())
 }
 
@@ -66,9 +64,7 @@ fn tell_asm_fault<N: Sink>(
     ensures told { IsTold (asm_line line fault) (N.state note.old) (N.state note.new) result }
     ensures faults { (N.state note.old).faults ≤ (N.state note.new).faults }
 {
-    let Ok(line) = asm_text(alloc, line, fault) else {
-        return Err(SinkStop::NoMemory);
-    };
+    let line = asm_text(alloc, line, fault)?;
     write_line(note, line.as_str())
 }
 
@@ -77,12 +73,8 @@ fn tell_plain<N: Sink>(alloc: Global, run: &PlainRecord, note: &mut N) -> Result
     ensures told { IsTold (plain_text run.now) (N.state note.old) (N.state note.new) result }
     ensures faults { (N.state note.old).faults ≤ (N.state note.new).faults }
 {
-    let Ok(ending) = ending_text(alloc, run.ending) else {
-        return Err(SinkStop::NoMemory);
-    };
-    let Ok(retired) = retired_text(alloc, run.retired) else {
-        return Err(SinkStop::NoMemory);
-    };
+    let ending = ending_text(alloc, run.ending)?;
+    let retired = retired_text(alloc, run.retired)?;
     write_line(note, ending.as_str())?;
     write_line(note, retired.as_str())
 }
@@ -97,15 +89,9 @@ fn tell_run<N: Sink>(
     ensures told { IsTold (record_text run.now lies) (N.state note.old) (N.state note.new) result }
     ensures faults { (N.state note.old).faults ≤ (N.state note.new).faults }
 {
-    let Ok(ending) = ending_text(alloc, run.ending) else {
-        return Err(SinkStop::NoMemory);
-    };
-    let Ok(retired) = retired_text(alloc, run.retired) else {
-        return Err(SinkStop::NoMemory);
-    };
-    let Ok(lies) = lies_text(alloc, lies) else {
-        return Err(SinkStop::NoMemory);
-    };
+    let ending = ending_text(alloc, run.ending)?;
+    let retired = retired_text(alloc, run.retired)?;
+    let lies = lies_text(alloc, lies)?;
     write_line(note, ending.as_str())?;
     write_line(note, retired.as_str())?;
     write_line(note, lies.as_str())

@@ -11,9 +11,7 @@ pub fn write_elf_file<O: Sink>(alloc: Global, image: &Image, out: &mut O) -> Res
     ensures told { IsTold (elf_file image.now) (O.state out.old) (O.state out.new) result }
     ensures faults { (O.state out.old).faults ≤ (O.state out.new).faults }
 {
-    let Ok(bytes) = elf_load::write(alloc, image) else {
-        return Err(SinkStop::NoMemory);
-    };
+    let bytes = elf_load::write(alloc, image)?;
     write_all(out, bytes.as_slice())
 }
 
@@ -22,9 +20,7 @@ pub fn write_measurement<O: Sink>(alloc: Global, image: &Image, out: &mut O) -> 
     ensures told { IsTold (measurement_line image.now) (O.state out.old) (O.state out.new) result }
     ensures faults { (O.state out.old).faults ≤ (O.state out.new).faults }
 {
-    let Ok(line) = measurement_text(alloc, image) else {
-        return Err(SinkStop::NoMemory);
-    };
+    let line = measurement_text(alloc, image)?;
     write_all(out, line.as_bytes())
 }
 
