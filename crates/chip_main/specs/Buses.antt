@@ -16,21 +16,12 @@ abbrev pub lies_of : Option RunBus → ℕ
 lies_of None = 0
 lies_of (Some bus) = (run_told bus).lies
 
--- this holds of a run and of what its bus was told, where both are there
-abbrev pub IfBoth : Option RunRecord → Option RunBus → (RunRecord → Told → Type 0) → Type 0
-IfBoth None bus P = Unit {0}
-IfBoth (Some run) None P = Unit {0}
-IfBoth (Some run) (Some bus) P = P run (run_told bus)
-
--- both are there, and this holds of them
+-- a run and its bus are there, and this holds of the run and of what the bus was told
 abbrev pub AreBothAnd : Option RunRecord → Option RunBus → (RunRecord → Told → Type 0) → Type 0
 AreBothAnd None bus P = ⊥
 AreBothAnd (Some run) None P = ⊥
 AreBothAnd (Some run) (Some bus) P = P run (run_told bus)
 
 -- the same of a call's run and bus
-abbrev pub IfRun : Done → (RunRecord → Told → Type 0) → Type 0
-IfRun done P = IfBoth done.run done.bus P
-
 abbrev pub IsRunAnd : Done → (RunRecord → Told → Type 0) → Type 0
 IsRunAnd done P = AreBothAnd done.run done.bus P

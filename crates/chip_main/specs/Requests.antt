@@ -2,10 +2,9 @@
 use Rattle.std.specs.Prelude.{List, ℕ, Option, Some, None}
 use Rattle.sec_base.specs.Reading.{FilesState}
 use Rattle.sec_base.specs.Layout.{memory_size}
-use Rattle.sec_base.specs.Writing.{SinkState}
+use Rattle.sec_base.specs.Writing.{SinkState, IsWritten as IsTold}
 use Rattle.sec_base.specs.declared.program.Image.{Image}
 use Rattle.bus_model.specs.Told.{Told}
-use Rattle.sec_base.specs.Writing.{IsWritten as IsTold}
 use Rattle.plain_machine.specs.declared.PlainRecord.{PlainRecord}
 use Rattle.chip_run.specs.declared.RunRecord.{RunRecord}
 use Rattle.chip_words.specs.Request.{Asked, ExecutionAsked, to_assemble, to_disassemble, to_measure, to_run, to_run_plain}

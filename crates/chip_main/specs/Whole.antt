@@ -36,7 +36,7 @@ NoteFaultless (to_assemble assembly) old new = Unit {0}
 NoteFaultless (to_disassemble inspection) old new = Unit {0}
 NoteFaultless (to_measure inspection) old new = Unit {0}
 
--- no read and no write failed, and no answer of a bus was false
+-- no read failed, no write did whose failure the status tells, and no answer of a bus was false
 pub record Faultless (asked : Asked) (old new : World) (done : Done) : Type 0 where
   pub files : ¬ (Rose old.files.faults new.files.faults)
   pub out : ¬ (Rose old.out.faults new.out.faults)

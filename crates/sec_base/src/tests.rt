@@ -121,6 +121,18 @@ fn segments_are_got_by_their_place(rt: HostRuntime) -> Result<(), Fail> {
 }
 
 #[test]
+fn one_segment_begins_at_zero(rt: HostRuntime) -> Result<(), Fail> {
+    let bytes = Bytes::from_vec([7, 8, 9].to_vec(rt.alloc())?);
+    let segments = Segments::from_zero(rt.alloc(), bytes)?;
+    assert_eq!(rt; segments.len(), 1);
+    let segment = segments.get(0).ok_or("no segment")?;
+    assert_eq!(rt; segment.addr, 0);
+    assert_eq!(rt; segment.length, 3);
+    assert_eq!(rt; segment.bytes.as_slice(), [7, 8, 9].as_slice());
+    Ok(())
+}
+
+#[test]
 fn an_image_fits_its_memory(rt: HostRuntime) -> Result<(), Fail> {
     let image = Image {
         entry: 4,
