@@ -34,6 +34,8 @@ pub struct PlainRecord {
 }
 
 /// Runs a program on an input, in a flat memory, and writes what it prints to a sink.
+// As a part of its caller's body its loop would be slower.
+#[inline(never)]
 pub fn run<S: Sink>(
     alloc: Global,
     image: &Image,
