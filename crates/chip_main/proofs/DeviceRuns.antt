@@ -1,5 +1,8 @@
 -- A run on the device, as its pieces were made.
-use Rattle.std.proofs.Common.{◌≡◌, ℕ, List, refl, ap}
+use Rattle.std.proofs.Common.{◌≡◌, ◌+◌, ℕ, List, refl, ap, subst, arith}
+use Rattle.sec_base.specs.Count.{RoseBy}
+use Rattle.sec_base.specs.Gain.{Gain}
+use Rattle.sec_base.proofs.Gains.{gain_none, gain_on}
 use Rattle.sec_base.specs.Layout.{memory_size}
 use Rattle.sec_base.specs.declared.program.Image.{Image}
 use Rattle.bus_model.specs.Told.{Told, NothingWritten, nothing_told}
@@ -29,3 +32,10 @@ enc_key_is keys derived = rw derived refl
 -- the machine is the program's as it begins
 pub opening_is : (levels : ℕ) (program : Program) (input : List ℕ) (image : Image) → IsImageOf (memory_size levels) program image → image_opening image input ≡ opening levels program input
 opening_is levels program input image is = rw (is.entry, is.memory, is.segments) refl
+
+-- what was read since a bus was new, which was at least what was read since then
+pub read_from_none : (places : ℕ) (old new : ℕ → ℕ) (k : ℕ) → ((place : ℕ) → RoseBy 0 (old place) (new place)) → Gain places old new k → Gain places (λ place. 0) new k
+read_from_none places old new k rises gained =
+    let none : 0 + k ≡ k = omega arith in
+    subst (λ (n : ℕ). Gain places (λ place. 0) new n) none
+    (gain_on places (λ place. 0) old new 0 k rises (gain_none places (λ place. 0) old (λ place. omega arith)) gained)

@@ -1,6 +1,9 @@
 -- A run of a program on protected memory.
 use Rattle.std.specs.Prelude.{◌≡◌, ◌≢◌, ◌<◌, ◌≤◌, ◌↔◌, ◌⊎◌, List, ℕ, None, IfSome}
 use Rattle.sec_base.specs.Count.{Rose}
+use Rattle.sec_base.specs.Gain.{Gain}
+use Rattle.sec_base.specs.declared.layout.Place.TheVariants.{Line}
+use Rattle.rv32_core.specs.Turnover.{turnover}
 use Rattle.sec_base.specs.Evidence.{IsEvidence}
 use Rattle.sec_base.specs.Last.{data_pairs}
 use Rattle.sec_base.specs.Layout.{line_count}
@@ -60,6 +63,9 @@ pub record RunsProtected (levels steps : ℕ) (program : Program) (input : List 
   pub spent : (page : ℕ) → run.evidence ≡ None → run.ending ≡ Spent page →
       IsSpent (line_count levels) page_limit run.used page
   pub write_fault : run.ending ≡ WriteFault → Rose old.faults new.faults
+  -- without evidence the places of the lines were read together at least as often as the run turned over
+  pub turned : run.evidence ≡ None → Gain (line_count levels) (λ line. 0) (λ line. told.reads (Line line))
+      (turnover (opening levels program input) run.retired)
   pub bus_levels : told.levels ≡ levels
   -- nothing is signed yet
   pub report : run.report ≡ None

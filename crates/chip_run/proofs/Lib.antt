@@ -4,3 +4,4 @@ pub mod Keeping
 pub mod LineMoves
 pub mod Closing
 pub mod Runs
+pub mod Turned

@@ -4,7 +4,7 @@ use Rattle.std.specs.Option.{option_or}
 use Rattle.std.proofs.lemmas.List.{append-nil}
 use Rattle.sec_base.specs.Count.{more_by, Rose, RoseBy}
 use Rattle.sec_base.specs.Places.{place_eq, at_place}
-use Rattle.sec_base.specs.Last.{last_data, IsFresh}
+use Rattle.sec_base.specs.Last.{last_data}
 use Rattle.sec_base.specs.Lines.{line_at}
 use Rattle.sec_base.specs.declared.layout.Place.{Place}
 use Rattle.sec_base.specs.declared.layout.Place.TheVariants.{Line as line_place}
@@ -132,12 +132,12 @@ module _ {B T : Type 0} (told : B → Told) (old : Protected B T) (line : ℕ) w
   }
 
   -- a line that was never written
-  pub fresh_moved : IsFresh line old.pads.used → ReadMoved told old line old
+  pub fresh_moved : last_data line old.engine.made ≡ None → ReadMoved told old line old
   fresh_moved fresh = record {
     moves = moves_not told old;
     read = record {
       read = λ going quiet other listed.
-          inl (subst (λ (l : ℕ). IsFresh l old.pads.used) (sym (only_line line other listed)) fresh);
+          inl (subst (λ (l : ℕ). last_data l old.engine.made ≡ None) (sym (only_line line other listed)) fresh);
     };
   }
 

@@ -11,7 +11,7 @@ use Rattle.sec_base.specs.declared.answers.MemStop.{MemStop}
 use Rattle.sec_base.specs.declared.answers.MemStop.TheVariants.{Tampered, Spent, NoMemory}
 use Rattle.sec_base.specs.Count.{Rose, RoseBy}
 use Rattle.sec_base.specs.Evidence.{sealed_bytes, IsEvidence}
-use Rattle.sec_base.specs.Last.{last_data, data_pairs, IsFresh}
+use Rattle.sec_base.specs.Last.{last_data, data_pairs}
 use Rattle.sec_base.specs.Layout.{line_count}
 use Rattle.bus_model.specs.Told.{Told, after_read}
 use Rattle.tag_engine.specs.Engine.{Engine, new_engine, after_check}
@@ -104,10 +104,10 @@ pub record Moves {B T : Type 0} (told : B → Told) (old new : Protected B T) : 
   pub reads : (place : Place) → RoseBy 0 ((told old.bus).reads place) ((told new.bus).reads place)
   pub evidence : (evidence : Evidence) → old.engine.evidence ≡ Some evidence → new.engine.evidence ≡ Some evidence
 
--- Each of the lines was read from the bus or had never been written, where there is neither a stop nor evidence.
+-- Each of the lines was read from the bus or had never been tagged, where there is neither a stop nor evidence.
 pub record WereRead {B T : Type 0} (told : B → Told) (old : Protected B T) (lines : List ℕ) (new : Protected B T) : Type 0 where
   pub read : new.stopped ≡ None → new.engine.evidence ≡ None → (line : ℕ) → Contains lines line →
-      IsFresh line old.pads.used ⊎ Rose ((told old.bus).reads (line_place line)) ((told new.bus).reads (line_place line))
+      (last_data line old.engine.made ≡ None) ⊎ Rose ((told old.bus).reads (line_place line)) ((told new.bus).reads (line_place line))
 
 -- a read of a line, whatever it answered
 pub record ReadMoved {B T : Type 0} (told : B → Told) (old : Protected B T) (line : ℕ) (new : Protected B T) : Type 0 where

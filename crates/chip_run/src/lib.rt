@@ -3,6 +3,9 @@
 
 ghost use Rattle.std.specs.Prelude.{◌≡◌, ◌≢◌, ◌<◌, ◌≤◌, ◌↔◌, ◌⊎◌, ℕ, List, [], None, IfSome};
 ghost use Rattle.sec_base.specs.Count.{Rose, RoseBy};
+ghost use Rattle.sec_base.specs.Gain.{Gain};
+ghost use Rattle.sec_base.specs.declared.layout.Place.TheVariants.{Line};
+ghost use Rattle.rv32_core.specs.Turnover.{turnover};
 ghost use Rattle.sec_base.specs.Last.{data_pairs};
 ghost use Rattle.sec_base.specs.Layout.{line_count, memory_size};
 ghost use Rattle.pad_stream.specs.Used.{AreRising, NoRepeat, of_lines};
@@ -115,6 +118,12 @@ pub fn run<B: Bus, T: Tagger, S: Sink>(
 
     // The bus is the one that was given, with more reads.
     ensures reads { (place : Place) → RoseBy 0 ((B.told bus).reads place) ((B.told result.1).reads place) }
+
+    // Without evidence the places of the lines were read together at least as often as the run turned over what the
+    // chip can hold.
+    ensures turnover { result.0.evidence ≡ None →
+        Gain (line_count setup.now.geometry) (λ line. (B.told bus).reads (Line line))
+        (λ line. (B.told result.1).reads (Line line)) (turnover (opening image.now input.now) result.0.retired) }
     ensures bus_levels { (B.told result.1).levels ≡ setup.now.geometry }
     ensures report { result.0.report ≡ None }
 {

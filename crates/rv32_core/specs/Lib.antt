@@ -10,3 +10,4 @@ pub mod Loading
 pub mod Printing
 pub mod Outcome
 pub mod Follows
+pub mod Turnover

@@ -1,3 +1,6 @@
 pub mod Loading
 pub mod Turns
 pub mod Runs
+pub mod Trails
+pub mod Counting
+pub mod Windows

@@ -7,6 +7,7 @@ ghost use Rattle.rv32_core.specs.State.{opening_hart};
 ghost use Rattle.rv32_core.specs.Effect.{next};
 ghost use Rattle.rv32_core.specs.Outcome.{prints_of};
 ghost use Rattle.rv32_core.specs.Machine.{Machine, plain, opening_calls};
+ghost use Rattle.rv32_run.specs.Trail.{IsInstruction, HasTrail};
 ghost use Rattle.rv32_run.specs.Session.{Reaches, FollowsWith, Turns, retired_after, IsStop, stop_ending, CarriesEnding};
 
 use rv32_core::{Calls, Core, Step, StepStop};
@@ -101,6 +102,11 @@ impl<'a, M: Ram> Session<'a, M> {
         ensures extent { M.extent self.new.memory ≡ M.extent self.old.memory }
         ensures lost { M.sound self.new.memory → M.sound self.old.memory }
         ensures moved { (lines : List ℕ) × M.moved self.old.memory lines self.new.memory }
+
+        // It went through a memory of the plain machine after each instruction that was retired.
+        ensures trail { M.sound self.new.memory → (start : Machine) (before : List ℕ) →
+            Reaches start self.old.retired self.old.core self.old.calls (M.contents self.old.memory) before →
+            HasTrail M.stopped M.contents M.moved start self.old.retired self.new.retired self.old.memory self.new.memory }
     {
         let mut retired = self.retired;
         loop {
@@ -155,6 +161,9 @@ fn turn<M: Ram, S: Sink>(
     ensures extent { M.extent memory.new ≡ M.extent memory.old }
     ensures lost { M.sound memory.new → M.sound memory.old }
     ensures moved { (lines : List ℕ) × M.moved memory.old lines memory.new }
+    ensures instruction { retired.old < retired.new → M.sound memory.new → (start : Machine) (before : List ℕ) →
+        Reaches start retired.old core.old calls.old (M.contents memory.old) before →
+        IsInstruction M.stopped M.contents M.moved start retired.old memory.old memory.new }
 {
     if *retired == budget {
         return Some(Ending::OutOfSteps);

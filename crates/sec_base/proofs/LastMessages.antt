@@ -161,7 +161,7 @@ unfolding last_at data_pairs
 last_pair-data_pairs line made =
     pairs_on line made (0, None) (0, None) refl ∙ mapped_twice (λ (found : ℕ × (Counter × List ℕ)). found.1) (λ (found : Counter × List ℕ). found.0) (last_at (data_part line) made)
 
-none_front : {A B : Type 0} (part : A → Option B) (front more : List A) → last_of part (front ++ more) ≡ None → last_of part front ≡ None
+pub none_front : {A B : Type 0} (part : A → Option B) (front more : List A) → last_of part (front ++ more) ≡ None → last_of part front ≡ None
 unfolding last_at
 none_front {A} {B} part front more e =
     let start : ℕ × Option (ℕ × B) = (0, None) in

@@ -8,3 +8,4 @@ pub mod SameMessages
 pub mod SamePlaces
 pub mod JoinedLines
 pub mod LineNumbers
+pub mod Gains

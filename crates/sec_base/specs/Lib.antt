@@ -16,3 +16,4 @@ pub mod Last
 pub mod Evidence
 pub mod Nodes
 pub mod Places
+pub mod Gain

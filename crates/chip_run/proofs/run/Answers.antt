@@ -1,4 +1,4 @@
-use Rattle.std.proofs.Common.{◌≡◌, [], None, sym, ap, ◌∙◌, subst, arith}
+use Rattle.std.proofs.Common.{◌≡◌, [], None, sym, ap, ◌∙◌, subst, arith, rules}
 use Rattle.sec_base.specs.declared.answers.MemStop.TheVariants.{NoMemory}
 use Rattle.sec_base.specs.Layout.{line_count}
 use Rattle.sec_base.specs.Opening.{opening_memory}
@@ -6,10 +6,13 @@ use Rattle.sec_base.proofs.Writes.{gained-nil}
 use Rattle.rv32_core.specs.Machine.{opening}
 use Rattle.tag_engine.specs.Engine.{tags_of}
 use Rattle.chip_run.specs.Contents.{contents_of}
-use Rattle.chip_run.specs.Protected.{new_protected}
+use Rattle.chip_run.specs.Protected.{Protected, new_protected}
 use Rattle.rv32_run.specs.Session.{IsStop, FollowsWith}
-use Rattle.rv32_run.proofs.Runs.{opening_follows, nothing_follows, budget_ends}
+use Rattle.sec_base.specs.declared.layout.Place.TheVariants.{Line}
+use Rattle.chip_run.specs.declared.ram.LineRam.{LineRam}
+use Rattle.rv32_run.proofs.Runs.{opening_begins, opening_follows, nothing_follows, budget_ends}
 use Rattle.chip_run.proofs.Runs.{opening_zeros, levels_stay, key_stays, no_repeat, nothing_rising, nothing_paired, nothing_numbered, nothing_consecutive, limit_stays, limit_stored, limited_by, never_limited, reads_stay, reads_stored, written_out, honest_run}
+use Rattle.chip_run.proofs.Turned.{nothing_turned, run_turned, opening_bytes}
 use Rattle.chip_run.proofs.run.Given.{Over}
 use Rattle.chip_run.proofs.run.Goals as goal
 
@@ -144,3 +147,35 @@ returns-in-Err-clause-numbered g c = λ quiet. nothing_numbered (line_count c.ar
 
 pub returns-in-Err-clause-counted : goal.returns-in-Err-clause-counted
 returns-in-Err-clause-counted g c = λ quiet. nothing_consecutive c.no_run.result.used c.no_run.ensures.used
+
+pub returns-in-Err-clause-turnover : goal.returns-in-Err-clause-turnover
+returns-in-Err-clause-turnover g c = λ quiet.
+    nothing_turned _ _ _ _ _ c.no_run.ensures.retired (λ line. search rules)
+
+pub returns-in-Err-store_image-clause-turnover : goal.returns-in-Err-store_image-clause-turnover
+returns-in-Err-store_image-clause-turnover g c = λ quiet.
+    nothing_turned _ _ _ _ _ c.close.ensures.retired
+    (λ line. reads_stored g.B.Bus.told c.args.bus c.close.result.1 c.args.tagger c.args.setup.now.keys.enc_key c.args.setup.now.geometry c.args.setup.now.page_limit
+    c.new-memory.result.lines c.store_image.new.ram.lines _ (c.new-memory.ensures ∙ c.in-Ok.ensures.new) c.in-Err-store_image.ensures.moved.1 c.close.ensures.bus (Line line))
+
+pub returns-clause-turnover : goal.returns-clause-turnover
+returns-clause-turnover g c = λ quiet.
+    let image = c.args.image.now in
+    let session = c.new-session.result in
+    let began = c.new-session.ensures in
+    let sound : c.finish-ending.new.self.memory.lines.engine.evidence ≡ None = cc in
+    let opened : contents_of session.memory.lines.pads.key (line_count session.memory.lines.engine.levels) session.memory.lines.engine.made ≡ opening_memory image.size image.segments =
+    ap (λ memory. contents_of memory.lines.pads.key (line_count memory.lines.engine.levels) memory.lines.engine.made) began.memory
+    ∙ c.in_default.ensures.stored (ap (λ memory. memory.lines.engine.evidence) (sym began.memory) ∙ c.finish-ending.ensures.lost sound) in
+    let levels : session.memory.lines.engine.levels ≡ c.args.setup.now.geometry =
+    ap (λ memory. memory.lines.engine.levels) began.memory ∙ c.in_default.ensures.moved.1.moves.levels
+    ∙ ap (λ (m : Protected g.row.B.Denot g.row.T.Denot). m.engine.levels) (booted g c) in
+    run_turned {M = LineRam g.row.B.Denot g.row.T.Denot} (λ memory. memory.lines) g.B.Bus.told c.args.setup.now.geometry session.retired c.finish-ending.new.self.retired
+    c.close-2.result.0.retired (opening image c.args.input.now) c.args.bus c.close-2.result.1 session.memory c.finish-ending.new.self.memory
+    c.finish-ending.ensures.moved.0 c.finish-ending.ensures.moved.1 began.retired (opening_bytes image.entry image.size image.segments c.args.input.now _ opened) levels sound
+    (c.finish-ending.ensures.trail sound (opening image c.args.input.now) []
+    (opening_begins image.entry image.size image.segments c.args.input.now session.core session.calls _ session.retired began.core began.calls opened began.retired))
+    (c.close-2.ensures.retired ∙ c.retired-retired.ensures)
+    (reads_stored g.B.Bus.told c.args.bus session.memory.lines.bus c.args.tagger c.args.setup.now.keys.enc_key c.args.setup.now.geometry c.args.setup.now.page_limit
+    c.new-memory.result.lines c.store_image.new.ram.lines _ (booted g c) c.in_default.ensures.moved.1 (ap (λ memory. memory.lines.bus) began.memory))
+    (c.close-2.ensures.bus ∙ ap (λ memory. memory.lines.bus) c.into_memory.ensures)

@@ -1,4 +1,6 @@
-use Rattle.chip_main.proofs.DeviceRuns.{device_tag_is, enc_key_is, nothing_written, opening_is}
+use Rattle.sec_base.specs.Layout.{line_count}
+use Rattle.sec_base.specs.declared.layout.Place.TheVariants.{Line}
+use Rattle.chip_main.proofs.DeviceRuns.{read_from_none, device_tag_is, enc_key_is, nothing_written, opening_is}
 use Rattle.chip_main.proofs.device.run_on_device.Goals as goal
 
 pub run-requires-clause-nothing_written : goal.run-requires-clause-nothing_written
@@ -31,6 +33,7 @@ returns-clause-ran g c = λ program flat.
       limited = c.run.ensures.limited;
       spent = c.run.ensures.spent;
       write_fault = c.run.ensures.write_fault;
+      turned = λ quiet. read_from_none (line_count c.args.geometry) _ _ _ (λ line. c.run.ensures.reads (Line line)) (rw opens at c.run.ensures.turnover quiet);
       bus_levels = c.run.ensures.bus_levels;
       report = c.run.ensures.report;
     }

@@ -1,10 +1,11 @@
-use Rattle.std.proofs.Common.{◌≡◌, [], Ok, Err, sym, ap, ◌∙◌, arith}
+use Rattle.std.proofs.Common.{◌≡◌, [], Ok, Err, refl, sym, ap, ◌∙◌, arith}
 use Rattle.rv32_core.specs.declared.hart.Step.TheVariants.{Retired, Halted}
 use Rattle.rv32_core.specs.declared.hart.StepStop.TheVariants.{Trap, Mem, WriteFault}
 use Rattle.rv32_core.specs.State.{Hart}
 use Rattle.rv32_core.proofs.Plain.{step_reaches}
 use Rattle.sec_base.proofs.Writes.{gained-nil}
 use Rattle.rv32_run.proofs.Turns.{turn_ends, turn_halts, turn_traps, turn_stops, turn_fails}
+use Rattle.rv32_run.proofs.Trails.{step_instruction}
 use Rattle.rv32_run.proofs.session.turn.Goals as goal
 
 pub returns-then-retired-budget-clause-turns : goal.returns-then-retired-budget-clause-turns
@@ -82,3 +83,25 @@ returns-in-Err-WriteFault-clause-turns g c =
           (record { hart = c.step.new.self; calls = c.step.new.calls; memory = g.M.Ram.contents c.step.new.ram })
           before outcome.0 c.step.result here c.requires.within (outcome.2 c.requires.going sound) is,
     )
+
+pub returns-in-Ok-Retired-clause-instruction : goal.returns-in-Ok-Retired-clause-instruction
+returns-in-Ok-Retired-clause-instruction g c =
+    let outcome = c.step.ensures.outcome in
+    let is : c.step.result ≡ Ok Retired = cc in
+    λ more sound start before here.
+    step_instruction g.M.Ram.stopped g.M.Ram.contents g.M.Ram.moved start c.args.retired.now c.args.memory.now c.step.new.ram
+    (record { hart = c.args.core.now; calls = c.args.calls.now; memory = g.M.Ram.contents c.args.memory.now })
+    (record { hart = c.step.new.self; calls = c.step.new.calls; memory = g.M.Ram.contents c.step.new.ram })
+    before outcome.0 c.step.result Retired c.step.ensures.moved.0 here (outcome.2 c.requires.going sound) is
+    (c.step.ensures.mem c.requires.going) refl c.step.ensures.moved.1 (c.step.ensures.moved.2 c.requires.going sound)
+
+pub returns-in-Ok-Halted-clause-instruction : goal.returns-in-Ok-Halted-clause-instruction
+returns-in-Ok-Halted-clause-instruction g c =
+    let outcome = c.step.ensures.outcome in
+    let is : c.step.result ≡ Ok (Halted c.in-Ok-Halted.code) = cc in
+    λ more sound start before here.
+    step_instruction g.M.Ram.stopped g.M.Ram.contents g.M.Ram.moved start c.args.retired.now c.args.memory.now c.step.new.ram
+    (record { hart = c.args.core.now; calls = c.args.calls.now; memory = g.M.Ram.contents c.args.memory.now })
+    (record { hart = c.step.new.self; calls = c.step.new.calls; memory = g.M.Ram.contents c.step.new.ram })
+    before outcome.0 c.step.result (Halted c.in-Ok-Halted.code) c.step.ensures.moved.0 here (outcome.2 c.requires.going sound) is
+    (c.step.ensures.mem c.requires.going) refl c.step.ensures.moved.1 (c.step.ensures.moved.2 c.requires.going sound)

@@ -1,6 +1,7 @@
 use Rattle.std.proofs.Common.{[], ◌++◌, sym, ap, ◌∙◌, arith}
 use Rattle.sec_base.proofs.Writes.{gained-nil}
 use Rattle.rv32_run.proofs.Turns.{begun_reaches, begun_within, begun_going, carries_on, allowed, gains_on, reaches_on, follows_on, stop_prints}
+use Rattle.rv32_run.proofs.Trails.{walk_begins, walked_on, walk_ends}
 use Rattle.rv32_run.proofs.session.Session.finish.Goals as goal
 
 pub loop-ending-init : goal.loop-ending-init
@@ -13,6 +14,9 @@ loop-ending-init g c = record {
   extent = ap (λ session. g.M.Ram.extent session.memory) c.self.view_is;
   lost = λ sound. rw (sym c.self.view_is) sound;
   moved = ([], rw (sym c.self.view_is) (g.met.M.Ram.unmoved _));
+  walked = λ sound start before here.
+      walk_begins g.M.Ram.stopped g.M.Ram.contents g.M.Ram.moved start _ _ _ _
+      (ap (λ session. session.retired) (sym c.self.view_is)) (ap (λ session. session.memory) (sym c.self.view_is));
 }
 
 pub loop-ending-preserved : goal.loop-ending-preserved
@@ -36,6 +40,11 @@ loop-ending-preserved g c =
       extent = turn.extent ∙ so_far.extent;
       lost = λ sound. so_far.lost (turn.lost sound);
       moved = (so_far.moved.0 ++ turn.moved.0, g.met.M.Ram.moved_on _ _ _ _ _ so_far.moved.1 turn.moved.1);
+      walked = λ sound start before here.
+          let old = turn.lost sound in
+          walked_on g.M.Ram.stopped g.M.Ram.contents g.M.Ram.moved start c.args.self.now.retired c.loop-ending.retired c.turn-turned.new.retired
+          c.args.self.now.memory c.loop-ending.self-inside.memory c.turn-turned.new.memory turn.retired (so_far.walked old start before here)
+          (turn.instruction (omega (arith, turn.retired)) sound start (before ++ so_far.turns.0) (so_far.turns.2 old start before here));
     }
 
 pub returns-in-Some-clause-follows : goal.returns-in-Some-clause-follows
@@ -63,3 +72,15 @@ returns-in-Some-clause-sink_stop g c =
     let begun = so_far.turns.2 (turn.lost sound) start before here in
     stop_prints start c.loop-ending.retired c.turn-turned.new.retired c.in-Some.ending _ _ begun turn.retired stops
     (turn.sink_stop going sound stops)
+
+pub returns-in-Some-clause-trail : goal.returns-in-Some-clause-trail
+returns-in-Some-clause-trail g c =
+    let so_far = c.loop-ending.invariant in
+    let turn = c.in-Some.ensures in
+    λ sound start before here.
+    let old = turn.lost sound in
+    walk_ends g.M.Ram.stopped g.M.Ram.contents g.M.Ram.moved start c.args.self.now.retired c.loop-ending.retired c.turn-turned.new.retired
+    c.in-Some.ending c.args.self.now.memory c.loop-ending.self-inside.memory c.turn-turned.new.memory turn.moved.0
+    (g.met.M.Ram.unmoved c.turn-turned.new.memory) turn.retired turn.moved.1
+    (λ more. turn.instruction more sound start (before ++ so_far.turns.0) (so_far.turns.2 old start before here))
+    (so_far.walked old start before here)

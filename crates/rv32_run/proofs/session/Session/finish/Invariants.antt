@@ -2,6 +2,7 @@ use Rattle.std.proofs.Common.{◌≡◌, ◌≤◌, ◌++◌, ◌-◌, ℕ, List
 use Rattle.sec_base.specs.Writing.{Gains}
 use Rattle.rv32_core.specs.Machine.{Machine}
 use Rattle.rv32_run.specs.Session.{Reaches}
+use Rattle.rv32_run.proofs.Trails.{IsWalked}
 use Rattle.rv32_run.proofs.session.Session.finish.Given as goal
 
 abbrev pub invariant-loop-ending : goal.invariant-loop-ending
@@ -20,6 +21,9 @@ invariant-loop-ending g l =
       extent : ram.extent l.self-inside.memory ≡ ram.extent l.fn.self.memory;
       lost : ram.sound l.self-inside.memory → ram.sound l.fn.self.memory;
       moved : (lines : List ℕ) × ram.moved l.fn.self.memory lines l.self-inside.memory;
+      walked : ram.sound l.self-inside.memory → (start : Machine) (before : List ℕ) →
+          Reaches start l.fn.self.retired l.fn.self.core l.fn.self.calls (ram.contents l.fn.self.memory) before →
+          IsWalked ram.stopped ram.contents ram.moved start l.fn.self.retired l.retired l.fn.self.memory l.self-inside.memory;
     }
 
 abbrev pub decreases-loop-ending : goal.decreases-loop-ending

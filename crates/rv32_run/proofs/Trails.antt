@@ -1,0 +1,89 @@
+-- The memories that a run went through.
+use Rattle.std.proofs.Common.{◌≡◌, ◌<◌, ◌⊎◌, inl, inr, ℕ, suc, ◌+◌, List, [], Option, Some, None, Result, Ok, refl, sym, ap, ◌∙◌, subst, arith}
+use Rattle.std.specs.Prelude.{OnOk}
+use Rattle.sec_base.specs.declared.answers.Ending.{Ending}
+use Rattle.sec_base.specs.declared.answers.Ending.TheVariants.{Halted, Trapped, OutOfSteps, Tampered, Spent, WriteFault, NoMemory}
+use Rattle.sec_base.specs.declared.answers.MemStop.{MemStop}
+use Rattle.rv32_core.specs.declared.hart.Step.{Step}
+use Rattle.rv32_core.specs.declared.hart.StepStop.{StepStop}
+use Rattle.rv32_core.specs.State.{State}
+use Rattle.rv32_core.specs.Effect.{next}
+use Rattle.rv32_core.specs.Outcome.{IsOutcome, CarriesStop, exit_of}
+use Rattle.rv32_core.specs.Touch.{touches, HasLinesOfAll}
+use Rattle.rv32_core.specs.Machine.{Machine, plain}
+use Rattle.rv32_core.proofs.Plain.{going_on, plain_stepped}
+use Rattle.rv32_run.specs.Session.{retired_after}
+use Rattle.rv32_run.specs.Trail.{IsInstruction, IsTrail, HasTrail}
+
+-- a step that went well is the plain machine's instruction
+stepped_going : (stopped : Option MemStop) (result : Result Step StepStop) (step : Step) → CarriesStop stopped result → result ≡ Ok step → stopped ≡ None
+stepped_going None result step carries is = refl
+stepped_going (Some stop) result step carries is = let same = sym is ∙ carries in cc
+
+pub step_instruction : {M : Type 0} (stopped : M → Option MemStop) (contents : M → List ℕ) (moved : M → List ℕ → M → Type 0) (start : Machine) (n : ℕ) (first last : M) (old new : State) (before printed : List ℕ) (result : Result Step StepStop) (step : Step) (lines : List ℕ) → plain start n ≡ going_on old before n → IsOutcome (next old) result old new printed → result ≡ Ok step → CarriesStop (stopped last) result → new.memory ≡ contents last → moved first lines last → OnOk result (HasLinesOfAll lines (touches old)) → IsInstruction stopped contents moved start n first last
+step_instruction {M} stopped contents moved start n first last old new before printed result step lines here outcome is carries bytes led touched = record {
+  lines = lines;
+  led = led;
+  going = stepped_going (stopped last) result step carries is;
+  bytes =
+      let stepped = plain_stepped start n old new before printed (exit_of step) here (subst (λ (r : Result Step StepStop). IsOutcome (next old) r old new printed) is outcome) in
+      sym bytes ∙ ap (λ (machine : Machine). machine.state.memory) (sym stepped);
+  touched = subst (λ (machine : Machine). HasLinesOfAll lines (touches machine.state)) (sym here)
+      (subst (λ (r : Result Step StepStop). OnOk r (HasLinesOfAll lines (touches old))) is touched);
+}
+
+-- one more instruction
+pub record IsWalked {M : Type 0} (stopped : M → Option MemStop) (contents : M → List ℕ) (moved : M → List ℕ → M → Type 0) (start : Machine) (from to : ℕ) (first last : M) : Type 0 where
+  pub count : ℕ
+  pub counted : from + count ≡ to
+  pub trail : IsTrail stopped contents moved start from count first last
+
+pub walked_on : {M : Type 0} (stopped : M → Option MemStop) (contents : M → List ℕ) (moved : M → List ℕ → M → Type 0) (start : Machine) (from to next : ℕ) (first mid last : M) → next ≡ to + 1 → IsWalked stopped contents moved start from to first mid → IsInstruction stopped contents moved start to mid last → IsWalked stopped contents moved start from next first last
+walked_on {M} stopped contents moved start from to next first mid last more walked step = record {
+  count = suc walked.count;
+  counted = omega (arith, walked.counted, more);
+  trail = (mid, walked.trail, subst (λ (n : ℕ). IsInstruction stopped contents moved start n mid last) (sym walked.counted) step);
+}
+
+-- an ending retires an instruction or none
+retired_or_not : (ending : Ending) (n : ℕ) → (retired_after (Some ending) n ≡ n) ⊎ (retired_after (Some ending) n ≡ n + 1)
+retired_or_not (Halted code) n = inr refl
+retired_or_not (Trapped cause pc) n = inl refl
+retired_or_not OutOfSteps n = inl refl
+retired_or_not (Tampered place) n = inl refl
+retired_or_not (Spent page) n = inl refl
+retired_or_not WriteFault n = inl refl
+retired_or_not NoMemory n = inl refl
+
+-- the last turn of a run
+pub walk_ends : {M : Type 0} (stopped : M → Option MemStop) (contents : M → List ℕ) (moved : M → List ℕ → M → Type 0) (start : Machine) (from to retired : ℕ) (ending : Ending) (first last end : M) (lines : List ℕ) → moved end [] end → retired ≡ retired_after (Some ending) to → moved last lines end → (to < retired → IsInstruction stopped contents moved start to last end) → IsWalked stopped contents moved start from to first last → HasTrail stopped contents moved start from retired first end
+walk_ends {M} stopped contents moved start from to retired ending first last end lines still count led step walked =
+    elim (retired_or_not ending to) [
+      | inl none ↦ record {
+        count = walked.count;
+        counted = omega (arith, walked.counted, none, count);
+        last = last;
+        trail = walked.trail;
+        lines = lines;
+        rest = led;
+      }
+      | inr more ↦
+          let one : retired ≡ to + 1 = count ∙ more in
+          let on = walked_on stopped contents moved start from to retired first last end one walked (step (omega arith)) in
+          record {
+            count = on.count;
+            counted = on.counted;
+            last = end;
+            trail = on.trail;
+            lines = [];
+            rest = still;
+          }
+    ]
+
+-- a run that begins
+pub walk_begins : {M : Type 0} (stopped : M → Option MemStop) (contents : M → List ℕ) (moved : M → List ℕ → M → Type 0) (start : Machine) (from to : ℕ) (first last : M) → from ≡ to → first ≡ last → IsWalked stopped contents moved start from to first last
+walk_begins {M} stopped contents moved start from to first last same here = record {
+  count = 0;
+  counted = omega (arith, same);
+  trail = here;
+}

@@ -1,0 +1,30 @@
+-- The memories that a run went through, one after each instruction that was retired.
+use Rattle.std.specs.Prelude.{◌≡◌, ℕ, zero, suc, ◌+◌, List, Option, None}
+use Rattle.sec_base.specs.declared.answers.MemStop.{MemStop}
+use Rattle.rv32_core.specs.Machine.{Machine, plain}
+use Rattle.rv32_core.specs.Touch.{touches, HasLinesOfAll}
+
+-- What calls made of a memory in the instruction after n others: it did not stop, it has the bytes of the plain
+-- machine, and each line that the instruction touches is among the lines of the calls.
+pub record IsInstruction {M : Type 0} (stopped : M → Option MemStop) (contents : M → List ℕ) (moved : M → List ℕ → M → Type 0) (start : Machine) (n : ℕ) (old new : M) : Type 0 where
+  pub lines : List ℕ
+  pub led : moved old lines new
+  pub going : stopped new ≡ None
+  pub bytes : contents new ≡ (plain start (n + 1)).state.memory
+  pub touched : HasLinesOfAll lines (touches (plain start n).state)
+
+-- so many instructions after others
+abbrev pub IsTrail : {M : Type 0} → (M → Option MemStop) → (M → List ℕ) → (M → List ℕ → M → Type 0) → Machine → ℕ → ℕ → M → M → Type 0
+IsTrail {M} stopped contents moved start from zero first last = first ≡ last
+IsTrail {M} stopped contents moved start from (suc n) first last =
+    (mid : M) × IsTrail stopped contents moved start from n first mid × IsInstruction stopped contents moved start (from + n) mid last
+
+-- The instructions from one count to another led from a memory to the last one, and an instruction that was not
+-- retired from there to the end.
+pub record HasTrail {M : Type 0} (stopped : M → Option MemStop) (contents : M → List ℕ) (moved : M → List ℕ → M → Type 0) (start : Machine) (from to : ℕ) (first end : M) : Type 0 where
+  pub count : ℕ
+  pub counted : from + count ≡ to
+  pub last : M
+  pub trail : IsTrail stopped contents moved start from count first last
+  pub lines : List ℕ
+  pub rest : moved last lines end
