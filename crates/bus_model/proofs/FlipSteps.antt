@@ -7,7 +7,7 @@ use Rattle.std.proofs.lemmas.List.{get_or_append_left, get_or-append-add, set-ap
 use Rattle.std.specs.Str.{bytes_eq}
 use Rattle.std.proofs.lemmas.Slice.Eq.{bytes_eq-Decides}
 use Rattle.sec_base.specs.Count.{more_by}
-use Rattle.sec_base.specs.declared.layout.Place.{Place}
+use Rattle.sec_base.specs.declared.place.Place.{Place}
 use Rattle.bus_model.specs.declared.lies.FalseAnswer.{FalseAnswer}
 use Rattle.bus_model.specs.declared.lies.Lies.{Lies}
 use Rattle.bus_model.specs.declared.flipping.Flip.{Flip}

@@ -1,16 +1,14 @@
 -- The four calls of an honest bus.
 use Rattle.std.proofs.Common.{◌≡◌, ℕ, ◌<◌, Bool, true, false, cond, List, length, slice_index_or, slice_set, replicate, inl, inr, nat_lt, None, arith, refl, ap, ◌∙◌, sym}
 use Rattle.sec_base.specs.Count.{more_by}
-use Rattle.sec_base.specs.Layout.{IsNode, line_count}
-use Rattle.sec_base.specs.Nodes.{node_number, node_end}
-use Rattle.sec_base.specs.Places.{at_place}
+use Rattle.sec_base.specs.Geometry.{IsNode, line_count, node_number, node_end}
+use Rattle.sec_base.specs.Place.{at_place, zeros_of}
 use Rattle.sec_base.specs.Evidence.{sealed_bytes}
-use Rattle.sec_base.specs.declared.sealing.Sealed.{Sealed}
-use Rattle.sec_base.specs.declared.layout.Place.{Place}
-use Rattle.sec_base.specs.declared.layout.Place.TheVariants.{Line, Node}
+use Rattle.sec_base.specs.declared.sealed.Sealed.{Sealed}
+use Rattle.sec_base.specs.declared.place.Place.{Place}
+use Rattle.sec_base.specs.declared.place.Place.TheVariants.{Line, Node}
 use Rattle.bus_model.specs.declared.honest.DataPlace.{DataPlace}
 use Rattle.bus_model.specs.declared.honest.NodePlace.{NodePlace}
-use Rattle.sec_base.specs.Places.{zeros_of}
 use Rattle.sec_base.proofs.SamePlaces.{functions_same}
 use Rattle.std.proofs.lemmas.List.{get_or-replicate, length-replicate}
 use Rattle.std.proofs.Math.ListN.{get_or-eq_default}

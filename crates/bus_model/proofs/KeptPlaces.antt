@@ -4,12 +4,11 @@ use Rattle.std.specs.Bool.{Decides}
 use Rattle.std.proofs.lemmas.Bool.Decides.{Decides-eqb, Decides-ltb, Decides-and, Decides-like, eqb_tells, same_from_decides}
 use Rattle.std.proofs.lemmas.List.{get_or-set_other, get_or_default}
 use Rattle.std.proofs.lemmas.Grind.{get_or-set_at}
-use Rattle.sec_base.specs.Layout.{IsNode, line_count}
-use Rattle.sec_base.specs.Nodes.{node_number, node_end}
-use Rattle.sec_base.specs.Places.{at_place}
+use Rattle.sec_base.specs.Geometry.{IsNode, line_count, node_number, node_end}
+use Rattle.sec_base.specs.Place.{at_place}
 use Rattle.sec_base.specs.Evidence.{sealed_bytes}
-use Rattle.sec_base.specs.declared.layout.Place.{Place}
-use Rattle.sec_base.specs.declared.layout.Place.TheVariants.{Line, Node}
+use Rattle.sec_base.specs.declared.place.Place.{Place}
+use Rattle.sec_base.specs.declared.place.Place.TheVariants.{Line, Node}
 use Rattle.sec_base.proofs.Numbers.{number_inside, numbers_apart}
 use Rattle.sec_base.proofs.SamePlaces.{functions_same, false_from}
 use Rattle.bus_model.specs.declared.honest.DataPlace.{DataPlace}

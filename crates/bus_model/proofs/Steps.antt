@@ -4,9 +4,9 @@ use Rattle.std.specs.Bool.{Decides}
 use Rattle.std.specs.Str.{bytes_eq}
 use Rattle.std.proofs.lemmas.Slice.Eq.{bytes_eq-Decides}
 use Rattle.sec_base.specs.Count.{more_by, Rose}
-use Rattle.sec_base.specs.Places.{at_place}
+use Rattle.sec_base.specs.Place.{at_place}
 use Rattle.sec_base.proofs.SamePlaces.{at_place-same, at_place-here, false_from}
-use Rattle.sec_base.specs.declared.layout.Place.{Place}
+use Rattle.sec_base.specs.declared.place.Place.{Place}
 use Rattle.bus_model.specs.Told.{Told, Lie, NothingWritten, nothing_told, after_read, after_write, after_answer, after_lie, is_false}
 
 -- two with the same functions are one

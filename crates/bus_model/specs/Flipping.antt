@@ -1,10 +1,10 @@
 -- A bus that is honest but for one answer.
 use Rattle.std.specs.Prelude.{◌==◌, ℕ, ◌+◌, List, Bool, ◌&&◌, if◌then◌else◌, slice_index, slice_set, bit_xor}
 use Rattle.std.specs.Option.{option_map}
-use Rattle.sec_base.specs.Places.{place_eq}
+use Rattle.sec_base.specs.Place.{place_eq}
 use Rattle.sec_base.specs.Evidence.{sealed_bytes}
-use Rattle.sec_base.specs.declared.layout.Place.{Place}
-use Rattle.sec_base.specs.declared.layout.Place.TheVariants.{Line, Node}
+use Rattle.sec_base.specs.declared.place.Place.{Place}
+use Rattle.sec_base.specs.declared.place.Place.TheVariants.{Line, Node}
 use Rattle.bus_model.specs.declared.lies.FalseAnswer.{FalseAnswer}
 use Rattle.bus_model.specs.declared.lies.FalseAnswer.TheVariants.{Sealed as sealed_answer, Block as block_answer}
 use Rattle.bus_model.specs.declared.lies.Lies.{Lies}

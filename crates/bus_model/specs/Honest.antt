@@ -1,10 +1,9 @@
 -- An honest bus: what it keeps, and what that stands for.
 use Rattle.std.specs.Prelude.{ℕ, ◌+◌, ◌-◌, ◌^◌, List, replicate, slice_index_or, None, Bool, ◌&&◌, nat_lt, if◌then◌else◌}
-use Rattle.sec_base.specs.Layout.{line_count}
-use Rattle.sec_base.specs.Nodes.{node_number, node_end}
+use Rattle.sec_base.specs.Geometry.{line_count, node_number, node_end}
 use Rattle.sec_base.specs.Evidence.{sealed_bytes}
-use Rattle.sec_base.specs.declared.layout.Place.{Place}
-use Rattle.sec_base.specs.declared.layout.Place.TheVariants.{Line, Node}
+use Rattle.sec_base.specs.declared.place.Place.{Place}
+use Rattle.sec_base.specs.declared.place.Place.TheVariants.{Line, Node}
 use Rattle.bus_model.specs.declared.honest.DataPlace.{DataPlace}
 use Rattle.bus_model.specs.declared.honest.NodePlace.{NodePlace}
 use Rattle.bus_model.specs.Told.{Told}

@@ -2,9 +2,8 @@
 use Rattle.std.specs.Prelude.{◌==◌, ◌≡◌, ℕ, List, Option, Some, None, Bool, not, if◌then◌else◌}
 use Rattle.std.specs.Str.{bytes_eq}
 use Rattle.sec_base.specs.Count.{more_by}
-use Rattle.sec_base.specs.Layout.{IsPlace}
-use Rattle.sec_base.specs.Places.{at_place, zeros_of}
-use Rattle.sec_base.specs.declared.layout.Place.{Place}
+use Rattle.sec_base.specs.Place.{IsPlace, at_place, zeros_of}
+use Rattle.sec_base.specs.declared.place.Place.{Place}
 
 -- a false answer: which access it was, its place, and the bytes that were answered
 pub record Lie : Type 0 where

@@ -1,8 +1,8 @@
 // The bus that leads outside the chip.
 ghost use Rattle.std.specs.Prelude.{◌≡◌, IfOk, OnOk, OnErr};
-ghost use Rattle.sec_base.specs.Layout.{IsPlace};
+ghost use Rattle.sec_base.specs.Place.{IsPlace};
 ghost use Rattle.sec_base.specs.Evidence.{sealed_bytes};
-ghost use Rattle.sec_base.specs.declared.layout.Place.TheVariants.{Line, Node};
+ghost use Rattle.sec_base.specs.declared.place.Place.TheVariants.{Line, Node};
 ghost use Rattle.bus_model.specs.Told.{Told, after_read, after_write};
 
 use sec_base::{NoMemory, Sealed};

@@ -1,10 +1,9 @@
 // A bus that is honest but for one answer.
 ghost use Rattle.std.specs.Prelude.{◌≡◌, ◌<◌, not, IsOk, IfOk, OnOk, OnErr};
 ghost use Rattle.std.specs.Str.{bytes_eq};
-ghost use Rattle.sec_base.specs.Layout.{IsPlace};
-ghost use Rattle.sec_base.specs.Places.{place_size};
+ghost use Rattle.sec_base.specs.Place.{IsPlace, place_size};
 ghost use Rattle.sec_base.specs.Evidence.{sealed_bytes};
-ghost use Rattle.sec_base.specs.declared.layout.Place.TheVariants.{Line, Node};
+ghost use Rattle.sec_base.specs.declared.place.Place.TheVariants.{Line, Node};
 ghost use Rattle.bus_model.specs.Told.{nothing_told, after_read, after_write};
 ghost use Rattle.bus_model.specs.Flipping.{flip_told, is_due, flipped, next_answer};
 

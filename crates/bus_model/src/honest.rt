@@ -1,8 +1,8 @@
 // A bus that answers what was written.
 ghost use Rattle.std.specs.Prelude.{◌≡◌, replicate, IsOk, IfOk, OnOk, OnErr};
-ghost use Rattle.sec_base.specs.Layout.{IsPlace};
+ghost use Rattle.sec_base.specs.Place.{IsPlace};
 ghost use Rattle.sec_base.specs.Evidence.{sealed_bytes};
-ghost use Rattle.sec_base.specs.declared.layout.Place.TheVariants.{Line, Node};
+ghost use Rattle.sec_base.specs.declared.place.Place.TheVariants.{Line, Node};
 ghost use Rattle.bus_model.specs.Told.{nothing_told, after_read, after_write};
 ghost use Rattle.bus_model.specs.Honest.{honest_told, empty_line, empty_node};
 
@@ -36,8 +36,7 @@ pub struct HonestBus {
 
 impl Model for HonestBus {
     ghost use Rattle.std.specs.Prelude.{◌≡◌, length};
-    ghost use Rattle.sec_base.specs.Layout.{line_count};
-    ghost use Rattle.sec_base.specs.Nodes.{node_end};
+    ghost use Rattle.sec_base.specs.Geometry.{line_count, node_end};
     ghost use Rattle.bus_model.specs.Honest.{Kept};
 
     ghost Value = { Kept };

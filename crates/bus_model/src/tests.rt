@@ -1,8 +1,8 @@
 // Each public call once with ample memory. What is expected follows from the words of a bus alone: zeros at first,
 // then what was written last, with one byte xored at the one read.
 ghost use Rattle.std.specs.Prelude.{◌≡◌};
-ghost use Rattle.sec_base.specs.Layout.{IsPlace};
-ghost use Rattle.sec_base.specs.declared.layout.Place.TheVariants.{Line, Node};
+ghost use Rattle.sec_base.specs.Place.{IsPlace};
+ghost use Rattle.sec_base.specs.declared.place.Place.TheVariants.{Line, Node};
 ghost use Rattle.bus_model.specs.Honest.{honest_told};
 ghost use Rattle.bus_model.specs.Flipping.{flip_told};
 

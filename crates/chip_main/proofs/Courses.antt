@@ -1,10 +1,10 @@
 -- How a call comes to its course.
 use Rattle.std.proofs.Common.{◌≡◌, ℕ, List, [], ◌∷◌, ◌++◌, Option, Some, None, refl, sym, ◌∙◌, arith, append-nil, subst}
-use Rattle.sec_base.specs.Layout.{memory_size}
-use Rattle.sec_base.specs.Reading.{FilesState}
-use Rattle.sec_base.specs.Writing.{SinkState, Silent}
-use Rattle.sec_base.specs.declared.program.Image.{Image}
-use Rattle.sec_base.specs.Writing.{IsWritten as IsTold}
+use Rattle.sec_base.specs.Geometry.{memory_size}
+use Rattle.sec_base.specs.Files.{FilesState}
+use Rattle.sec_base.specs.Sink.{SinkState, Silent}
+use Rattle.sec_base.specs.declared.image.Image.{Image}
+use Rattle.sec_base.specs.Sink.{IsWritten as IsTold}
 use Rattle.chip_words.specs.Request.{Asked, ExecutionAsked, to_run}
 use Rattle.chip_main.specs.declared.program.ProgramForm.{ProgramForm}
 use Rattle.chip_main.specs.declared.refusal.Refusal.{Refusal}

@@ -3,8 +3,8 @@ use Rattle.std.proofs.Common.{◌≡◌, ◌+◌, ℕ, List, refl, ap, subst, ar
 use Rattle.sec_base.specs.Count.{RoseBy}
 use Rattle.sec_base.specs.Gain.{Gain}
 use Rattle.sec_base.proofs.Gains.{gain_none, gain_on}
-use Rattle.sec_base.specs.Layout.{memory_size}
-use Rattle.sec_base.specs.declared.program.Image.{Image}
+use Rattle.sec_base.specs.Geometry.{memory_size}
+use Rattle.sec_base.specs.declared.image.Image.{Image}
 use Rattle.bus_model.specs.Told.{Told, NothingWritten, nothing_told}
 use Rattle.hmac_tag.specs.DeviceKeys.{keys_of}
 use Rattle.hmac_tag.specs.Tags.{TagKeys, tag_of}

@@ -1,13 +1,13 @@
 -- A text of lines, of which one may not have been written.
 use Rattle.std.proofs.Common.{◌≡◌, ◌≤◌, ℕ, List, ◌++◌, sym, ap, ◌∙◌, subst, Ok, Err, arith, append_assoc}
 use Rattle.sec_base.specs.Count.{Rose}
-use Rattle.sec_base.specs.Writing.{SinkState, gained, Gains}
-use Rattle.sec_base.specs.declared.writing.SinkStop.{SinkStop}
-use Rattle.sec_base.specs.declared.writing.SinkStop.TheVariants.{Failed, NoMemory}
+use Rattle.sec_base.specs.Sink.{SinkState, gained, Gains}
+use Rattle.sec_base.specs.declared.sink.SinkStop.{SinkStop}
+use Rattle.sec_base.specs.declared.sink.SinkStop.TheVariants.{Failed, NoMemory}
 use Rattle.sec_base.proofs.Writes.{gained-append}
 use Rattle.chip_main.specs.Statuses.{Telling}
-use Rattle.sec_base.specs.Writing.{GainsFront}
-use Rattle.sec_base.specs.Writing.{IsWritten as IsTold}
+use Rattle.sec_base.specs.Sink.{GainsFront}
+use Rattle.sec_base.specs.Sink.{IsWritten as IsTold}
 
 -- a front part of the first line is one of the text
 front_longer : (first others : List ℕ) (old new : SinkState) → GainsFront old first new → GainsFront old (first ++ others) new

@@ -1,9 +1,9 @@
 -- What was asked of the files, and what each request came to.
 use Rattle.std.proofs.Common.{◌≡◌, ◌≢◌, ◌⊎◌, inl, inr, List, [], ◌∷◌, ◌++◌, ℕ, length, Option, Some, None, Ok, Err, Contains, IfSome, refl, sym, ap, ◌∙◌, subst, arith, append-nil, append_assoc}
-use Rattle.sec_base.specs.Reading.{FilesState, HasBytes}
-use Rattle.sec_base.specs.Writing.{SinkState}
-use Rattle.sec_base.specs.declared.program.Image.{Image}
-use Rattle.sec_base.specs.declared.writing.SinkStop.TheVariants.{Failed, NoMemory as no_memory}
+use Rattle.sec_base.specs.Files.{FilesState, HasBytes}
+use Rattle.sec_base.specs.Sink.{SinkState}
+use Rattle.sec_base.specs.declared.image.Image.{Image}
+use Rattle.sec_base.specs.declared.sink.SinkStop.TheVariants.{Failed, NoMemory as no_memory}
 use Rattle.bus_model.specs.Told.{Told}
 use Rattle.plain_machine.specs.declared.PlainRecord.{PlainRecord}
 use Rattle.chip_run.specs.declared.RunRecord.{RunRecord}

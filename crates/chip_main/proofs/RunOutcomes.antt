@@ -1,16 +1,16 @@
 -- What the course of a call says of what was done.
 use Rattle.std.proofs.Common.{◌≡◌, ◌≢◌, ◌<◌, ◌↔◌, ◌⊎◌, inl, inr, List, ℕ, Option, Some, None, Ok, Err, IsSome, refl, sym, ◌∙◌, arith}
 use Rattle.sec_base.specs.Count.{Rose}
-use Rattle.sec_base.specs.Reading.{FilesState}
-use Rattle.sec_base.specs.Writing.{SinkState}
-use Rattle.sec_base.specs.declared.account.Evidence.{Evidence}
-use Rattle.sec_base.specs.declared.answers.Ending.{Ending}
-use Rattle.sec_base.specs.declared.answers.Ending.TheVariants.{Halted, Trapped, OutOfSteps, Tampered, Spent, WriteFault, NoMemory as memory_ended}
-use Rattle.sec_base.specs.declared.program.Image.{Image}
-use Rattle.sec_base.specs.declared.writing.SinkStop.TheVariants.{Failed, NoMemory as no_memory}
+use Rattle.sec_base.specs.Files.{FilesState}
+use Rattle.sec_base.specs.Sink.{SinkState}
+use Rattle.sec_base.specs.declared.evidence.Evidence.{Evidence}
+use Rattle.sec_base.specs.declared.ending.Ending.{Ending}
+use Rattle.sec_base.specs.declared.ending.Ending.TheVariants.{Halted, Trapped, OutOfSteps, Tampered, Spent, WriteFault, NoMemory as memory_ended}
+use Rattle.sec_base.specs.declared.image.Image.{Image}
+use Rattle.sec_base.specs.declared.sink.SinkStop.TheVariants.{Failed, NoMemory as no_memory}
 use Rattle.bus_model.specs.Told.{Told}
 use Rattle.plain_machine.specs.declared.PlainRecord.{PlainRecord}
-use Rattle.sec_base.specs.Writing.{IsWritten as IsTold}
+use Rattle.sec_base.specs.Sink.{IsWritten as IsTold}
 use Rattle.chip_run.specs.declared.RunRecord.{RunRecord}
 use Rattle.chip_words.specs.Request.{Asked, ExecutionAsked, to_assemble, to_disassemble, to_measure, to_run, to_run_plain}
 use Rattle.chip_main.specs.declared.refusal.Refusal.{Refusal}

@@ -1,12 +1,12 @@
 -- What the status of a run on protected memory says of how it ended.
 use Rattle.std.proofs.Common.{◌≡◌, ◌≢◌, ◌<◌, ◌≤◌, inl, inr, List, ℕ, Option, Some, None, IfSome, refl, sym, ◌∙◌, subst, arith}
 use Rattle.sec_base.specs.Evidence.{IsEvidence}
-use Rattle.sec_base.specs.Writing.{SinkState}
-use Rattle.sec_base.specs.declared.account.Evidence.{Evidence}
-use Rattle.sec_base.specs.declared.account.Message.{Message}
-use Rattle.sec_base.specs.declared.answers.Ending.{Ending}
-use Rattle.sec_base.specs.declared.answers.Ending.TheVariants.{Halted, Trapped, OutOfSteps, Tampered, Spent, WriteFault, NoMemory}
-use Rattle.sec_base.specs.declared.layout.Place.{Place}
+use Rattle.sec_base.specs.Sink.{SinkState}
+use Rattle.sec_base.specs.declared.evidence.Evidence.{Evidence}
+use Rattle.sec_base.specs.declared.message.Message.{Message}
+use Rattle.sec_base.specs.declared.ending.Ending.{Ending}
+use Rattle.sec_base.specs.declared.ending.Ending.TheVariants.{Halted, Trapped, OutOfSteps, Tampered, Spent, WriteFault, NoMemory}
+use Rattle.sec_base.specs.declared.place.Place.{Place}
 use Rattle.bus_model.specs.Told.{Told}
 use Rattle.chip_run.specs.declared.RunRecord.{RunRecord}
 use Rattle.chip_run.specs.Account.{HonestOrCaught, IsCaught, IsOfFirstLie}

@@ -2,10 +2,10 @@
 use Rattle.std.proofs.Common.{◌≡◌, ◌≤◌, ◌⊎◌, inl, inr, ℕ, List, [], ◌∷◌, ◌++◌, length, Option, Some, None, IfSome, Result, Ok, Err, ◌+◌, refl, sym, ap, ◌∙◌, subst, arith, append-nil, append_assoc}
 use Rattle.std.specs.Result.{result_err, IfErr}
 use Rattle.sec_base.specs.Count.{Rose, RoseBy}
-use Rattle.sec_base.specs.Layout.{memory_size}
-use Rattle.sec_base.specs.Program.{from_zero}
-use Rattle.sec_base.specs.Reading.{FilesState, HasBytes, HasOver}
-use Rattle.sec_base.specs.declared.program.Image.{Image}
+use Rattle.sec_base.specs.Geometry.{memory_size}
+use Rattle.sec_base.specs.Segment.{from_zero}
+use Rattle.sec_base.specs.Files.{FilesState, HasBytes, HasOver}
+use Rattle.sec_base.specs.declared.image.Image.{Image}
 use Rattle.elf_load.specs.Loading.{IsProgramOf, entry_of, segments_of}
 use Rattle.elf_load.specs.Refusals.{first_fault, flat_fault}
 use Rattle.elf_load.specs.declared.fault.ElfFault.{ElfFault}

@@ -1,12 +1,12 @@
 -- Where the files tell all that is needed and nothing fails, what was asked for is done whole.
 use Rattle.std.proofs.Common.{◌≡◌, ◌≢◌, ◌<◌, ◌≤◌, ◌⊎◌, inl, inr, List, [], ◌∷◌, ℕ, suc, length, Option, Some, None, Ok, Err, Contains, IsSome, refl, sym, ap, ◌∙◌, subst, arith}
 use Rattle.sec_base.specs.Count.{Rose}
-use Rattle.sec_base.specs.Reading.{FilesState, HasBytes, HasOver, IsOver}
-use Rattle.sec_base.specs.Writing.{SinkState}
-use Rattle.sec_base.specs.declared.answers.Ending.{Ending}
-use Rattle.sec_base.specs.declared.answers.Ending.TheVariants.{Halted, Trapped, OutOfSteps, Tampered, Spent, WriteFault, NoMemory as memory_ended}
-use Rattle.sec_base.specs.declared.program.Image.{Image}
-use Rattle.sec_base.specs.declared.writing.SinkStop.TheVariants.{Failed, NoMemory as no_memory}
+use Rattle.sec_base.specs.Files.{FilesState, HasBytes, HasOver, IsOver}
+use Rattle.sec_base.specs.Sink.{SinkState}
+use Rattle.sec_base.specs.declared.ending.Ending.{Ending}
+use Rattle.sec_base.specs.declared.ending.Ending.TheVariants.{Halted, Trapped, OutOfSteps, Tampered, Spent, WriteFault, NoMemory as memory_ended}
+use Rattle.sec_base.specs.declared.image.Image.{Image}
+use Rattle.sec_base.specs.declared.sink.SinkStop.TheVariants.{Failed, NoMemory as no_memory}
 use Rattle.bus_model.specs.Told.{Told}
 use Rattle.rv32_core.specs.Follows.{IsWhole}
 use Rattle.plain_machine.specs.declared.PlainRecord.{PlainRecord}

@@ -1,8 +1,8 @@
 -- What is asked of the files, and why a request is refused.
 use Rattle.std.specs.Prelude.{◌≡◌, ◌≤◌, ◌+◌, List, [], ◌∷◌, ◌++◌, ℕ, length, Option, Some, None}
 use Rattle.sec_base.specs.Count.{Rose, RoseBy}
-use Rattle.sec_base.specs.Lists.{IsPrefix}
-use Rattle.sec_base.specs.Reading.{FilesState, HasBytes, HasOver}
+use Rattle.sec_base.specs.Prefix.{IsPrefix}
+use Rattle.sec_base.specs.Files.{FilesState, HasBytes, HasOver}
 use Rattle.chip_words.specs.Request.{Asked}
 use Rattle.chip_main.specs.declared.refusal.Refusal.{Refusal}
 use Rattle.chip_main.specs.declared.refusal.Refusal.TheVariants.{Usage, Unread, TooLong, Elf, Asm}

@@ -1,6 +1,6 @@
 -- The device that programs run on: its keys, and how often a line may be written.
 use Rattle.std.specs.Prelude.{List, [], ◌∷◌, ℕ}
-use Rattle.sec_base.specs.declared.account.Message.{Message}
+use Rattle.sec_base.specs.declared.message.Message.{Message}
 use Rattle.hmac_tag.specs.DeviceKeys.{keys_of}
 use Rattle.hmac_tag.specs.Tags.{tag_of}
 use Rattle.tag_engine.specs.Tag.{engine_tag}

@@ -1,6 +1,6 @@
 -- The files that a request needs, in order.
 use Rattle.std.specs.Prelude.{◌≡◌, ◌<◌, ◌≤◌, ◌≢◌, ◌⊎◌, Bool, true, false, List, [], ◌∷◌, ℕ, length, map, Option, Some, None}
-use Rattle.sec_base.specs.Reading.{FilesState, HasBytes}
+use Rattle.sec_base.specs.Files.{FilesState, HasBytes}
 use Rattle.chip_words.specs.Request.{Asked, AssemblyAsked, ExecutionAsked, InspectionAsked, to_assemble, to_disassemble, to_measure, to_run, to_run_plain}
 use Rattle.chip_main.specs.declared.program.ProgramForm.{ProgramForm}
 use Rattle.chip_main.specs.declared.program.ProgramForm.TheVariants.{ElfFile, FlatFile, AssemblyText}

@@ -1,9 +1,9 @@
 -- A run of a program on the plain machine.
 use Rattle.std.specs.Prelude.{◌≡◌, ◌≢◌, ◌<◌, ◌↔◌, ◌⊎◌, List, ℕ, length, None}
 use Rattle.sec_base.specs.Count.{Rose}
-use Rattle.sec_base.specs.Writing.{SinkState, Gains}
-use Rattle.sec_base.specs.declared.layout.Place.{Place}
-use Rattle.sec_base.specs.declared.answers.Ending.TheVariants.{OutOfSteps, Tampered, Spent, WriteFault, NoMemory}
+use Rattle.sec_base.specs.Sink.{SinkState, Gains}
+use Rattle.sec_base.specs.declared.place.Place.{Place}
+use Rattle.sec_base.specs.declared.ending.Ending.TheVariants.{OutOfSteps, Tampered, Spent, WriteFault, NoMemory}
 use Rattle.rv32_core.specs.Effect.{next}
 use Rattle.rv32_core.specs.Machine.{plain}
 use Rattle.rv32_core.specs.Outcome.{prints_of}

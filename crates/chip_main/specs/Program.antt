@@ -2,10 +2,10 @@
 -- just one reason.
 use Rattle.std.specs.Prelude.{◌≡◌, ℕ, List, Option, Some, None, Result, Ok, Err}
 use Rattle.std.specs.Result.{result_err}
-use Rattle.sec_base.specs.Layout.{memory_size}
-use Rattle.sec_base.specs.Program.{from_zero}
-use Rattle.sec_base.specs.declared.program.Image.{Image}
-use Rattle.sec_base.specs.declared.program.Segment.{Segment}
+use Rattle.sec_base.specs.Geometry.{memory_size}
+use Rattle.sec_base.specs.Segment.{from_zero}
+use Rattle.sec_base.specs.declared.image.Image.{Image}
+use Rattle.sec_base.specs.declared.segment.Segment.{Segment}
 use Rattle.elf_load.specs.declared.fault.ElfFault.{ElfFault}
 use Rattle.elf_load.specs.Refusals.{first_fault, flat_fault}
 use Rattle.elf_load.specs.Loading.{entry_of, segments_of}

@@ -2,13 +2,13 @@
 use Rattle.std.specs.Prelude.{◌≡◌, ◌≢◌, ◌<◌, ◌≤◌, ◌↔◌, ◌⊎◌, List, ℕ, None, IfSome}
 use Rattle.sec_base.specs.Count.{Rose}
 use Rattle.sec_base.specs.Gain.{Gain}
-use Rattle.sec_base.specs.declared.layout.Place.TheVariants.{Line}
+use Rattle.sec_base.specs.declared.place.Place.TheVariants.{Line}
 use Rattle.rv32_core.specs.Turnover.{turnover}
 use Rattle.sec_base.specs.Evidence.{IsEvidence}
-use Rattle.sec_base.specs.Last.{data_pairs}
-use Rattle.sec_base.specs.Layout.{line_count}
-use Rattle.sec_base.specs.Writing.{SinkState, Gains}
-use Rattle.sec_base.specs.declared.answers.Ending.TheVariants.{OutOfSteps, Tampered, Spent, WriteFault, NoMemory}
+use Rattle.sec_base.specs.LastMessage.{data_pairs}
+use Rattle.sec_base.specs.Geometry.{line_count}
+use Rattle.sec_base.specs.Sink.{SinkState, Gains}
+use Rattle.sec_base.specs.declared.ending.Ending.TheVariants.{OutOfSteps, Tampered, Spent, WriteFault, NoMemory}
 use Rattle.bus_model.specs.Told.{Told}
 use Rattle.pad_stream.specs.Used.{AreRising, NoRepeat, of_lines}
 use Rattle.rv32_core.specs.Machine.{plain}

@@ -1,9 +1,9 @@
 -- What was done for a request.
 use Rattle.std.specs.Prelude.{List, ℕ, Option, Some, None}
-use Rattle.sec_base.specs.Reading.{FilesState}
-use Rattle.sec_base.specs.Layout.{memory_size}
-use Rattle.sec_base.specs.Writing.{SinkState, IsWritten as IsTold}
-use Rattle.sec_base.specs.declared.program.Image.{Image}
+use Rattle.sec_base.specs.Files.{FilesState}
+use Rattle.sec_base.specs.Geometry.{memory_size}
+use Rattle.sec_base.specs.Sink.{SinkState, IsWritten as IsTold}
+use Rattle.sec_base.specs.declared.image.Image.{Image}
 use Rattle.bus_model.specs.Told.{Told}
 use Rattle.plain_machine.specs.declared.PlainRecord.{PlainRecord}
 use Rattle.chip_run.specs.declared.RunRecord.{RunRecord}

@@ -1,6 +1,6 @@
 -- What the reasons for a stop stand for while files are taken.
 use Rattle.std.specs.Prelude.{List}
-use Rattle.sec_base.specs.Reading.{FilesState}
+use Rattle.sec_base.specs.Files.{FilesState}
 use Rattle.elf_load.specs.declared.fault.ElfError.{ElfError}
 use Rattle.elf_load.specs.declared.fault.ElfError.TheVariants.{Fault as ElfFaulty, NoMemory as elf_no_memory}
 use Rattle.rv32_asm.specs.declared.fault.AsmError.{AsmError}

@@ -1,7 +1,7 @@
 -- The programs and inputs that files are, and what was read for a request.
 use Rattle.std.specs.Prelude.{◌≡◌, List, [], ◌∷◌, ℕ, Option, Some, None, IsSome, option_map, Ok}
 use Rattle.std.specs.Borrow.{Bor}
-use Rattle.sec_base.specs.Reading.{FilesState}
+use Rattle.sec_base.specs.Files.{FilesState}
 use Rattle.chip_words.specs.Request.{ExecutionAsked}
 use Rattle.chip_main.specs.Program.{Program, ProgramFile, program_of_file}
 use Rattle.chip_main.specs.Needs.{IsAccepted, execution_file, execution_needs, input_need, program_need}

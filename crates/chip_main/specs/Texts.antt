@@ -1,19 +1,19 @@
 -- What is told of a run, or of why nothing was done, and what is written of a program. Each line ends with a line feed.
 use Rattle.std.specs.Prelude.{List, ◌++◌, ℕ, codes, string_bytes}
 use Rattle.std.specs.Fmt.{decimal}
-use Rattle.sec_base.specs.declared.layout.Place.{Place}
-use Rattle.sec_base.specs.declared.layout.Place.TheVariants.{Line, Node}
-use Rattle.sec_base.specs.declared.answers.Cause.{Cause}
-use Rattle.sec_base.specs.declared.answers.Cause.TheVariants.{Illegal, MisalignedTarget, MisalignedData, OutsideMemory, Breakpoint}
-use Rattle.sec_base.specs.declared.answers.Ending.{Ending}
-use Rattle.sec_base.specs.declared.answers.Ending.TheVariants.{Halted, Trapped, OutOfSteps, Tampered, Spent, WriteFault, NoMemory}
-use Rattle.sec_base.specs.declared.program.Image.{Image}
+use Rattle.sec_base.specs.declared.place.Place.{Place}
+use Rattle.sec_base.specs.declared.place.Place.TheVariants.{Line, Node}
+use Rattle.sec_base.specs.declared.ending.Cause.{Cause}
+use Rattle.sec_base.specs.declared.ending.Cause.TheVariants.{Illegal, MisalignedTarget, MisalignedData, OutsideMemory, Breakpoint}
+use Rattle.sec_base.specs.declared.ending.Ending.{Ending}
+use Rattle.sec_base.specs.declared.ending.Ending.TheVariants.{Halted, Trapped, OutOfSteps, Tampered, Spent, WriteFault, NoMemory}
+use Rattle.sec_base.specs.declared.image.Image.{Image}
 use Rattle.hex.specs.Hex.{encode_lower}
 use Rattle.elf_load.specs.Faults.{code_of as elf_code, name_of as elf_name}
 use Rattle.elf_load.specs.Measurement.{measurement_of}
 use Rattle.elf_load.specs.Spelling.{spelled}
 use Rattle.elf_load.specs.declared.fault.ElfFault.{ElfFault}
-use Rattle.rv32_text.specs.Text.{hex8}
+use Rattle.sec_base.specs.Hexadecimal.{hex_digits}
 use Rattle.rv32_listing.specs.Listing.{listing_of}
 use Rattle.rv32_asm_syntax.specs.Faults.{code_of as asm_code, name_of as asm_name}
 use Rattle.rv32_asm_syntax.specs.declared.fault.AsmFault.{AsmFault}
@@ -36,7 +36,7 @@ place_text (Node level index) = codes "node " ++ decimal level ++ codes " " ++ d
 -- the first line says how a run ended
 abbrev pub ending_line : Ending → List ℕ
 ending_line (Halted code) = codes "halted " ++ decimal code ++ codes "\n"
-ending_line (Trapped cause pc) = codes "trapped " ++ cause_text cause ++ codes " pc " ++ hex8 pc ++ codes "\n"
+ending_line (Trapped cause pc) = codes "trapped " ++ cause_text cause ++ codes " pc " ++ hex_digits 8 pc ++ codes "\n"
 ending_line OutOfSteps = codes "out of steps\n"
 ending_line (Tampered place) = codes "tampered " ++ place_text place ++ codes "\n"
 ending_line (Spent page) = codes "spent page " ++ decimal page ++ codes "\n"

@@ -1,6 +1,6 @@
 -- What a call reads and writes.
-use Rattle.sec_base.specs.Reading.{FilesState}
-use Rattle.sec_base.specs.Writing.{SinkState}
+use Rattle.sec_base.specs.Files.{FilesState}
+use Rattle.sec_base.specs.Sink.{SinkState}
 
 -- the files, the sink for what is printed or made, and the sink for the rest
 pub record World : Type 0 where

@@ -1,6 +1,6 @@
 ghost use Rattle.std.specs.Prelude.{◌≡◌, ◌≤◌, IfOk, OnErr};
-ghost use Rattle.sec_base.specs.Layout.{memory_size};
-ghost use Rattle.sec_base.specs.Writing.{Silent};
+ghost use Rattle.sec_base.specs.Geometry.{memory_size};
+ghost use Rattle.sec_base.specs.Sink.{Silent};
 ghost use Rattle.chip_main.specs.Buses.{run_told};
 ghost use Rattle.chip_main.specs.Program.{IsImageOf, Program};
 ghost use Rattle.chip_main.specs.ProtectedRun.{RunsProtected};

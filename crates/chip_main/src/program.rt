@@ -1,5 +1,5 @@
 ghost use Rattle.std.specs.Prelude.{◌≡◌, ◌<◌, ◌≤◌, ◌^◌, length, Err, IfOk};
-ghost use Rattle.sec_base.specs.Layout.{IsMemorySize};
+ghost use Rattle.sec_base.specs.Geometry.{IsMemorySize};
 ghost use Rattle.chip_main.specs.declared.refusal.Refusal.{Refusal};
 ghost use Rattle.chip_main.specs.declared.taking.Stop.TheVariants.{Refused};
 ghost use Rattle.chip_main.specs.Needs.{form_of};

@@ -1,6 +1,6 @@
 ghost use Rattle.std.specs.Prelude.{◌≡◌, ◌≤◌, [], ◌∷◌, ◌++◌, List, ℕ, Option, length, IfOk, IfErr, OnOk};
-ghost use Rattle.sec_base.specs.Layout.{memory_size};
-ghost use Rattle.sec_base.specs.Reading.{HasBytes};
+ghost use Rattle.sec_base.specs.Geometry.{memory_size};
+ghost use Rattle.sec_base.specs.Files.{HasBytes};
 ghost use Rattle.chip_words.specs.Words.{execution as execution_asked};
 ghost use Rattle.chip_main.specs.declared.refusal.Refusal.{Refusal};
 ghost use Rattle.chip_main.specs.Program.{IsImageOf, Program, program_file};

@@ -1,7 +1,7 @@
 ghost use Rattle.std.specs.Prelude.{◌≡◌, ◌≤◌, ◌++◌, codes, IfOk, string_bytes};
-ghost use Rattle.sec_base.specs.declared.answers.Ending.TheVariants.{Tampered, Trapped};
+ghost use Rattle.sec_base.specs.declared.ending.Ending.TheVariants.{Tampered, Trapped};
 ghost use Rattle.chip_main.specs.Texts.{asm_line, cause_text, elf_line, ending_line, lies_line, plain_text, record_text, refusal_text, retired_line};
-ghost use Rattle.sec_base.specs.Writing.{IsWritten as IsTold};
+ghost use Rattle.sec_base.specs.Sink.{IsWritten as IsTold};
 ghost use Rattle.chip_main.specs.Course.{TellsCourse};
 
 use crate::course::Course;

@@ -1,5 +1,5 @@
 ghost use Rattle.std.specs.Prelude.{◌≡◌, ◌≤◌, IfOk, string_bytes};
-ghost use Rattle.sec_base.specs.Writing.{IsWritten as IsTold};
+ghost use Rattle.sec_base.specs.Sink.{IsWritten as IsTold};
 ghost use Rattle.chip_main.specs.Texts.{elf_file, measurement_line};
 
 use elf_load::measure;

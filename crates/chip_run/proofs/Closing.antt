@@ -1,13 +1,13 @@
 -- How a run ends, by the stop that its memory keeps.
 use Rattle.std.proofs.Common.{◌≡◌, ◌≤◌, inl, inr, ℕ, List, Option, Some, None, ap, sym, ◌∙◌, subst, arith}
-use Rattle.sec_base.specs.Last.{data_pairs}
-use Rattle.sec_base.specs.Layout.{line_count}
-use Rattle.sec_base.specs.declared.layout.Place.{Place}
-use Rattle.sec_base.specs.declared.account.Message.{Message}
-use Rattle.sec_base.specs.declared.answers.Ending.{Ending}
-use Rattle.sec_base.specs.declared.answers.Ending.TheVariants.{Tampered, Spent}
-use Rattle.sec_base.specs.declared.answers.MemStop.{MemStop}
-use Rattle.sec_base.specs.declared.answers.MemStop.TheVariants.{Tampered as tampered, Spent as spent, NoMemory as no_memory}
+use Rattle.sec_base.specs.LastMessage.{data_pairs}
+use Rattle.sec_base.specs.Geometry.{line_count}
+use Rattle.sec_base.specs.declared.place.Place.{Place}
+use Rattle.sec_base.specs.declared.message.Message.{Message}
+use Rattle.sec_base.specs.declared.ending.Ending.{Ending}
+use Rattle.sec_base.specs.declared.ending.Ending.TheVariants.{Tampered, Spent}
+use Rattle.sec_base.specs.declared.stop.MemStop.{MemStop}
+use Rattle.sec_base.specs.declared.stop.MemStop.TheVariants.{Tampered as tampered, Spent as spent, NoMemory as no_memory}
 use Rattle.bus_model.specs.Told.{Told}
 use Rattle.tag_engine.specs.Engine.{Engine}
 use Rattle.chip_run.specs.Account.{HonestOrCaught}
@@ -17,7 +17,7 @@ use Rattle.rv32_run.specs.Session.{CarriesEnding}
 use Rattle.pad_stream.specs.Used.{of_lines}
 use Rattle.chip_run.proofs.LineMessages.{writes_same}
 use Rattle.chip_run.proofs.Pairs.{pairs_numbered, all_of_lines}
-use Rattle.sec_base.specs.declared.sealing.Counter.{Counter}
+use Rattle.sec_base.specs.declared.counter.Counter.{Counter}
 
 -- It ends as tampering where the memory stopped so
 

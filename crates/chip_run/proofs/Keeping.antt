@@ -6,21 +6,21 @@ use Rattle.std.proofs.lemmas.Bool.Decides.{Decides-eqb}
 use Rattle.std.proofs.lemmas.List.Elements.{Contains-append_left, Contains-push}
 use Rattle.std.proofs.lemmas.List.{take_at, drop_at, take-append-le, take_all}
 use Rattle.sec_base.specs.Count.{more_by, Rose}
-use Rattle.sec_base.specs.Places.{at_place}
-use Rattle.sec_base.specs.declared.layout.Place.{Place}
-use Rattle.sec_base.specs.declared.layout.Place.TheVariants.{Line as line_place, Node}
-use Rattle.sec_base.specs.declared.sealing.Counter.{Counter}
-use Rattle.sec_base.specs.declared.sealing.Sealed.{Sealed}
-use Rattle.sec_base.specs.declared.account.Message.{Message}
-use Rattle.sec_base.specs.declared.account.Message.TheVariants.{Line}
-use Rattle.sec_base.specs.declared.account.Evidence.{Evidence}
-use Rattle.sec_base.specs.declared.account.Evidence.TheVariants.{Forgery, Collision}
-use Rattle.sec_base.specs.declared.answers.MemStop.{MemStop}
-use Rattle.sec_base.specs.declared.answers.MemStop.TheVariants.{Tampered, Spent, NoMemory}
+use Rattle.sec_base.specs.Place.{at_place, IsPlace, zeros_of}
+use Rattle.sec_base.specs.declared.place.Place.{Place}
+use Rattle.sec_base.specs.declared.place.Place.TheVariants.{Line as line_place, Node}
+use Rattle.sec_base.specs.declared.counter.Counter.{Counter}
+use Rattle.sec_base.specs.declared.sealed.Sealed.{Sealed}
+use Rattle.sec_base.specs.declared.message.Message.{Message}
+use Rattle.sec_base.specs.declared.message.Message.TheVariants.{Line}
+use Rattle.sec_base.specs.declared.evidence.Evidence.{Evidence}
+use Rattle.sec_base.specs.declared.evidence.Evidence.TheVariants.{Forgery, Collision}
+use Rattle.sec_base.specs.declared.stop.MemStop.{MemStop}
+use Rattle.sec_base.specs.declared.stop.MemStop.TheVariants.{Tampered, Spent, NoMemory}
 use Rattle.sec_base.specs.Evidence.{sealed_bytes, sealed_of, LineFails, IsEvidence, HasLastCounter}
-use Rattle.sec_base.specs.Last.{last_at, last_data, last_pair, data_pairs}
-use Rattle.sec_base.specs.Layout.{IsPlace, line_count}
-use Rattle.sec_base.specs.Messages.{has_message}
+use Rattle.sec_base.specs.LastMessage.{last_at, last_data, last_pair, data_pairs}
+use Rattle.sec_base.specs.Geometry.{line_count}
+use Rattle.sec_base.specs.Message.{has_message}
 use Rattle.sec_base.proofs.SameMessages.{has_message-Decides}
 use Rattle.sec_base.proofs.SamePlaces.{at_place-here, at_place-there, false_from}
 use Rattle.bus_model.specs.Told.{Told, Lie, NothingWritten, after_read, after_write, after_answer, after_lie, first_lie}
@@ -28,7 +28,6 @@ use Rattle.bus_model.proofs.Steps.{true_or_false, answered, lied, read_levels, r
 use Rattle.tag_engine.specs.Engine.{Engine, new_engine, tags_of, forgery_of, after_make, with_room}
 use Rattle.tag_engine.proofs.Forgeries.{known, still_genuine}
 use Rattle.pad_stream.specs.Used.{AreRising}
-use Rattle.sec_base.specs.Places.{zeros_of}
 use Rattle.pad_stream.proofs.RisingCounters.{rising_nothing, rising_more}
 use Rattle.chip_run.proofs.Pairs.{consecutive_nothing, consecutive_more, data_pairs-append}
 use Rattle.pad_stream.specs.Stream.{Stream, new_stream, after_encrypt, with_room as pads_with_room}

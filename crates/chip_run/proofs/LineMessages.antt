@@ -7,10 +7,10 @@ use Rattle.std.proofs.lemmas.Bool.Decides.{Decides-eqb}
 use Rattle.std.proofs.lemmas.Grind.{get_or-set_at}
 use Rattle.std.proofs.lemmas.List.{length-set, length-replicate, get_or-replicate, get_or_read}
 use Rattle.std.proofs.lemmas.List.Elements.{Contains-push_cases}
-use Rattle.sec_base.specs.declared.sealing.Counter.{Counter}
-use Rattle.sec_base.specs.declared.account.Message.{Message}
-use Rattle.sec_base.specs.declared.account.Message.TheVariants.{Line, Node}
-use Rattle.sec_base.specs.Last.{data_part, last_at, last_data, last_pair, data_pairs}
+use Rattle.sec_base.specs.declared.counter.Counter.{Counter}
+use Rattle.sec_base.specs.declared.message.Message.{Message}
+use Rattle.sec_base.specs.declared.message.Message.TheVariants.{Line, Node}
+use Rattle.sec_base.specs.LastMessage.{data_part, last_at, last_data, last_pair, data_pairs}
 use Rattle.sec_base.specs.Lines.{with_line}
 use Rattle.pad_stream.specs.Used.{IsBefore}
 use Rattle.pad_stream.specs.Pad.{enciphered}

@@ -1,10 +1,10 @@
 -- Lines and counters, and the messages that they are of.
 use Rattle.std.proofs.Common.{◌≡◌, ◌≢◌, ℕ, zero, suc, ◌+◌, inl, inr, Bool, true, false, cond, nat_eq, nat_lt, List, [], ◌∷◌, ◌++◌, length, Some, None, Contains, refl, ap, sym, ◌∙◌, subst, arith}
 use Rattle.std.specs.List.{filter}
-use Rattle.sec_base.specs.declared.sealing.Counter.{Counter}
-use Rattle.sec_base.specs.declared.account.Message.{Message}
-use Rattle.sec_base.specs.declared.account.Message.TheVariants.{Line, Node}
-use Rattle.sec_base.specs.Last.{counter_part, last_at, last_pair, data_pairs}
+use Rattle.sec_base.specs.declared.counter.Counter.{Counter}
+use Rattle.sec_base.specs.declared.message.Message.{Message}
+use Rattle.sec_base.specs.declared.message.Message.TheVariants.{Line, Node}
+use Rattle.sec_base.specs.LastMessage.{counter_part, last_at, last_pair, data_pairs}
 use Rattle.sec_base.proofs.LastMessages.{last_of_same, last_of_other}
 use Rattle.sec_base.proofs.SamePlaces.{false_from}
 use Rattle.std.proofs.lemmas.Bool.{cases_eq, lt-ltb}

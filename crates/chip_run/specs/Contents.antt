@@ -1,15 +1,14 @@
 -- What a memory of lines holds, by the messages that were tagged and the key that lines are enciphered with.
 use Rattle.std.specs.Prelude.{◌==◌, ◌≡◌, ◌⊎◌, ℕ, ◌/◌, ◌<◌, ◌≤◌, List, length, replicate, Option, Some, None, Contains}
 use Rattle.std.specs.List.{filter}
-use Rattle.sec_base.specs.declared.layout.Place.{Place}
-use Rattle.sec_base.specs.declared.layout.Place.TheVariants.{Line as line_place, Node}
-use Rattle.sec_base.specs.declared.sealing.Counter.{Counter}
-use Rattle.sec_base.specs.declared.account.Message.{Message}
-use Rattle.sec_base.specs.declared.account.Message.TheVariants.{Line}
-use Rattle.sec_base.specs.Last.{last_data, last_pair}
-use Rattle.sec_base.specs.Layout.{IsPlace}
+use Rattle.sec_base.specs.declared.place.Place.{Place}
+use Rattle.sec_base.specs.declared.place.Place.TheVariants.{Line as line_place, Node}
+use Rattle.sec_base.specs.declared.counter.Counter.{Counter}
+use Rattle.sec_base.specs.declared.message.Message.{Message}
+use Rattle.sec_base.specs.declared.message.Message.TheVariants.{Line}
+use Rattle.sec_base.specs.LastMessage.{last_data, last_pair}
+use Rattle.sec_base.specs.Place.{IsPlace, zeros_of}
 use Rattle.sec_base.specs.Lines.{line_at, joined_lines}
-use Rattle.sec_base.specs.Places.{zeros_of}
 use Rattle.sec_base.specs.Evidence.{sealed_bytes}
 use Rattle.pad_stream.specs.Pad.{enciphered}
 

@@ -1,8 +1,8 @@
 -- How long lines and memories are.
 use Rattle.std.specs.Prelude.{◌≡◌, ℕ, ◌*◌, List, length, Option, Some, None, refl}
-use Rattle.sec_base.specs.declared.sealing.Counter.{Counter}
-use Rattle.sec_base.specs.declared.account.Message.{Message}
-use Rattle.sec_base.specs.Last.{last_data}
+use Rattle.sec_base.specs.declared.counter.Counter.{Counter}
+use Rattle.sec_base.specs.declared.message.Message.{Message}
+use Rattle.sec_base.specs.LastMessage.{last_data}
 use Rattle.sec_base.proofs.JoinedLines.{length-joined_lines}
 use Rattle.pad_stream.proofs.Enciphering.{enciphered_long}
 use Rattle.chip_run.specs.Contents.{bytes_of, line_bytes, contents_of}

@@ -3,10 +3,10 @@ use Rattle.std.proofs.Common.{◌≡◌, ◌⊎◌, inl, inr, ℕ, List, [], ◌
 use Rattle.std.proofs.lemmas.List.{append-nil}
 use Rattle.std.proofs.lemmas.List.Elements.{Contains-append_cases}
 use Rattle.sec_base.specs.Count.{Rose}
-use Rattle.sec_base.specs.Last.{last_data, data_part}
-use Rattle.sec_base.specs.declared.sealing.Counter.{Counter}
-use Rattle.sec_base.specs.declared.layout.Place.TheVariants.{Line as line_place}
-use Rattle.sec_base.specs.declared.account.Message.{Message}
+use Rattle.sec_base.specs.LastMessage.{last_data, data_part}
+use Rattle.sec_base.specs.declared.counter.Counter.{Counter}
+use Rattle.sec_base.specs.declared.place.Place.TheVariants.{Line as line_place}
+use Rattle.sec_base.specs.declared.message.Message.{Message}
 use Rattle.bus_model.specs.Told.{Told}
 use Rattle.chip_run.specs.Protected.{Protected, Moves, IsMoved}
 use Rattle.sec_base.proofs.LastMessages.{none_front}

@@ -1,18 +1,18 @@
 -- The protected memory: lines outside the chip, enciphered, each with a counter on the chip and a tag beside it.
 use Rattle.std.specs.Prelude.{◌≡◌, ◌≢◌, ◌⊎◌, ℕ, ◌<◌, ◌≤◌, List, [], ◌∷◌, ◌++◌, length, Option, Some, None, Contains, Result, Ok, Err, IfSome, slice_index, replicate, true}
-use Rattle.sec_base.specs.declared.layout.Place.{Place}
-use Rattle.sec_base.specs.declared.layout.Place.TheVariants.{Line as line_place}
-use Rattle.sec_base.specs.declared.sealing.Counter.{Counter}
-use Rattle.sec_base.specs.declared.sealing.Sealed.{Sealed}
-use Rattle.sec_base.specs.declared.account.Message.{Message}
-use Rattle.sec_base.specs.declared.account.Message.TheVariants.{Line}
-use Rattle.sec_base.specs.declared.account.Evidence.{Evidence}
-use Rattle.sec_base.specs.declared.answers.MemStop.{MemStop}
-use Rattle.sec_base.specs.declared.answers.MemStop.TheVariants.{Tampered, Spent, NoMemory}
+use Rattle.sec_base.specs.declared.place.Place.{Place}
+use Rattle.sec_base.specs.declared.place.Place.TheVariants.{Line as line_place}
+use Rattle.sec_base.specs.declared.counter.Counter.{Counter}
+use Rattle.sec_base.specs.declared.sealed.Sealed.{Sealed}
+use Rattle.sec_base.specs.declared.message.Message.{Message}
+use Rattle.sec_base.specs.declared.message.Message.TheVariants.{Line}
+use Rattle.sec_base.specs.declared.evidence.Evidence.{Evidence}
+use Rattle.sec_base.specs.declared.stop.MemStop.{MemStop}
+use Rattle.sec_base.specs.declared.stop.MemStop.TheVariants.{Tampered, Spent, NoMemory}
 use Rattle.sec_base.specs.Count.{Rose, RoseBy}
 use Rattle.sec_base.specs.Evidence.{sealed_bytes, IsEvidence}
-use Rattle.sec_base.specs.Last.{last_data, data_pairs}
-use Rattle.sec_base.specs.Layout.{line_count}
+use Rattle.sec_base.specs.LastMessage.{last_data, data_pairs}
+use Rattle.sec_base.specs.Geometry.{line_count}
 use Rattle.bus_model.specs.Told.{Told, after_read}
 use Rattle.tag_engine.specs.Engine.{Engine, new_engine, after_check}
 use Rattle.pad_stream.specs.Used.{AreRising}

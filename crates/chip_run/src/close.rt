@@ -1,10 +1,10 @@
 // How a run is closed: its memory is given up, and its record made.
 ghost use Rattle.std.specs.Prelude.{◌≡◌, ◌≤◌, [], ℕ, None, Some, IfSome};
 ghost use Rattle.sec_base.specs.Evidence.{IsEvidence};
-ghost use Rattle.sec_base.specs.Last.{data_pairs};
-ghost use Rattle.sec_base.specs.Layout.{line_count};
+ghost use Rattle.sec_base.specs.LastMessage.{data_pairs};
+ghost use Rattle.sec_base.specs.Geometry.{line_count};
 ghost use Rattle.pad_stream.specs.Used.{AreRising, of_lines};
-ghost use Rattle.sec_base.specs.declared.answers.Ending.TheVariants.{Tampered, Spent, NoMemory as memory_ended};
+ghost use Rattle.sec_base.specs.declared.ending.Ending.TheVariants.{Tampered, Spent, NoMemory as memory_ended};
 ghost use Rattle.tag_engine.specs.Engine.{tags_of};
 ghost use Rattle.chip_run.specs.Account.{HonestOrCaught, IsOfFirstLie};
 ghost use Rattle.chip_run.specs.Contents.{AreConsecutive, AreNumbered, HoldsLast, HoldsSealed, IsSpent, NodesAreZeros, line_writes};

@@ -2,15 +2,16 @@
 // on the chip.
 ghost use Rattle.std.specs.Prelude.{◌≡◌, ◌≢◌, ◌↔◌, ◌+◌, ◌/◌, ◌<◌, ◌⊎◌, ◌∷◌, [], ℕ, None, Some, Ok, Err, IfOk, IfErr, OnOk, OnErr, IfSome, replicate};
 ghost use Rattle.sec_base.specs.Count.{Rose};
-ghost use Rattle.sec_base.specs.Layout.{IsPlace, line_count};
-ghost use Rattle.sec_base.specs.Last.{IsFresh};
+ghost use Rattle.sec_base.specs.Geometry.{line_count};
+ghost use Rattle.sec_base.specs.Place.{IsPlace};
+ghost use Rattle.sec_base.specs.LastMessage.{IsFresh};
 ghost use Rattle.sec_base.specs.Lines.{line_at, with_line};
 ghost use Rattle.sec_base.specs.Evidence.{IsEvidence};
-ghost use Rattle.sec_base.specs.declared.layout.Place.{Place};
-ghost use Rattle.sec_base.specs.declared.layout.Place.TheVariants.{Line as line_place};
-ghost use Rattle.sec_base.specs.declared.answers.MemStop.{MemStop};
-ghost use Rattle.sec_base.specs.declared.answers.MemStop.TheVariants.{Tampered, Spent};
-ghost use Rattle.sec_base.specs.declared.account.Message.TheVariants.{Line};
+ghost use Rattle.sec_base.specs.declared.place.Place.{Place};
+ghost use Rattle.sec_base.specs.declared.place.Place.TheVariants.{Line as line_place};
+ghost use Rattle.sec_base.specs.declared.stop.MemStop.{MemStop};
+ghost use Rattle.sec_base.specs.declared.stop.MemStop.TheVariants.{Tampered, Spent};
+ghost use Rattle.sec_base.specs.declared.message.Message.TheVariants.{Line};
 ghost use Rattle.bus_model.specs.Told.{NothingWritten, after_write};
 ghost use Rattle.pad_stream.specs.Pad.{enciphered};
 ghost use Rattle.pad_stream.specs.Stream.{after_encrypt};

@@ -28,7 +28,7 @@ impl<B: Bus, T: Tagger> LineRam<B, T> {
 
 impl<B: Bus, T: Tagger> Ram for LineRam<B, T> {
     ghost use Rattle.std.specs.Prelude.{◌*◌};
-    ghost use Rattle.sec_base.specs.Layout.{line_count};
+    ghost use Rattle.sec_base.specs.Geometry.{line_count};
     ghost use Rattle.chip_run.specs.Contents.{contents_of};
     ghost use Rattle.chip_run.specs.Protected.{IsMoved};
     ghost use Rattle.chip_run.specs.LineLengths.{length-contents_of};

@@ -1,7 +1,8 @@
 // Programs of a few words, with data in two further segments. The words were put together by hand from the
 // RISC-V unprivileged manual.
 ghost use Rattle.std.specs.Prelude.{◌≡◌, ◌+◌, ◌≤◌, IfOk, length, refl, replicate};
-ghost use Rattle.sec_base.specs.Program.{IsImage, IsSegment};
+ghost use Rattle.sec_base.specs.Image.{IsImage};
+ghost use Rattle.sec_base.specs.Segment.{IsSegment};
 
 use crate::{RunRecord, Setup, run};
 use bus_model::{Bus, FlipBus, HonestBus};

@@ -1,7 +1,7 @@
 -- What stands outside the chip for the line that is timed.
 use Rattle.std.specs.Prelude.{ℕ, List}
-use Rattle.sec_base.specs.declared.sealing.Counter.{Counter}
-use Rattle.sec_base.specs.declared.account.Message.TheVariants.{Line}
+use Rattle.sec_base.specs.declared.counter.Counter.{Counter}
+use Rattle.sec_base.specs.declared.message.Message.TheVariants.{Line}
 use Rattle.sec_base.specs.Evidence.{sealed_bytes}
 use Rattle.pad_stream.specs.Pad.{enciphered}
 use Rattle.hmac_tag.specs.Tags.{TagKeys, tag_of}

@@ -1,6 +1,6 @@
 // The calls that are timed, and what they are made on.
 ghost use Rattle.std.specs.Prelude.{◌≡◌, slice_index_or};
-ghost use Rattle.sec_base.specs.Encoding.{data_bytes};
+ghost use Rattle.sec_base.specs.Message.{data_bytes};
 ghost use Rattle.aes128_block.specs.KeyExpansion.{encrypted};
 ghost use Rattle.hmac_tag.specs.Tags.{tag_of};
 

@@ -1,6 +1,6 @@
 // One line of a memory outside the chip, written and read as a run does it.
 ghost use Rattle.std.specs.Prelude.{◌≡◌, ◌+◌, IfOk, OnOk};
-ghost use Rattle.sec_base.specs.declared.layout.Place.TheVariants.{Line};
+ghost use Rattle.sec_base.specs.declared.place.Place.TheVariants.{Line};
 ghost use Rattle.bus_model.specs.Told.{after_write};
 ghost use Rattle.bus_model.specs.Honest.{honest_told};
 ghost use Rattle.chip_time.specs.Outside.{counter_of, outside, tagged};

@@ -3,8 +3,8 @@ use Rattle.std.proofs.Common.{◌≡◌, ℕ, ◌+◌, ◌*◌, ◌%◌, ◌≤�
 use Rattle.std.specs.List.{All, list_any}
 use Rattle.std.proofs.lemmas.Bool.{le-ltb, eq-eqb}
 use Rattle.std.proofs.lemmas.List.Elements.{All-head, All-tail}
-use Rattle.sec_base.specs.Program.{IsSegment}
-use Rattle.sec_base.specs.declared.program.Segment.{Segment as MemorySegment}
+use Rattle.sec_base.specs.Segment.{IsSegment}
+use Rattle.sec_base.specs.declared.segment.Segment.{Segment as MemorySegment}
 use Rattle.elf_load.specs.declared.fault.ElfFault.TheVariants.{Short, Magic, Class, Kind, Machine, Compressed, Table}
 use Rattle.elf_load.specs.declared.header.FileHeader.{FileHeader}
 use Rattle.elf_load.specs.Format.{file_header}

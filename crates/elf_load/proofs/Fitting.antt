@@ -7,9 +7,10 @@ use Rattle.std.proofs.lemmas.List.{length-take}
 use Rattle.std.proofs.lemmas.List.Elements.{All-nil, All-cons}
 use Rattle.std.proofs.lemmas.List.Sums.{length-filter, count_by-le-length}
 use Rattle.std.proofs.lemmas.Grind.{common_steps}
-use Rattle.sec_base.specs.Layout.{IsMemorySize}
-use Rattle.sec_base.specs.Program.{IsImage, IsSegment}
-use Rattle.sec_base.specs.declared.program.Segment.{Segment as MemorySegment}
+use Rattle.sec_base.specs.Geometry.{IsMemorySize}
+use Rattle.sec_base.specs.Image.{IsImage}
+use Rattle.sec_base.specs.Segment.{IsSegment}
+use Rattle.sec_base.specs.declared.segment.Segment.{Segment as MemorySegment}
 use Rattle.elf_load.specs.declared.fault.ElfFault.{ElfFault}
 use Rattle.elf_load.specs.declared.fault.ElfFault.TheVariants.{Interp, Segment, Entry}
 use Rattle.elf_load.specs.declared.header.FileHeader.{FileHeader}

@@ -6,8 +6,8 @@ use Rattle.std.proofs.lemmas.List.Elements.{All-head, All-tail}
 use Rattle.std.proofs.Math.Seq.{drop-append-add}
 use Rattle.byteorder.specs.Endian.{little_number}
 use Rattle.byteorder.specs.Numbers.{little_number-reads_back}
-use Rattle.sec_base.specs.Program.{IsSegment}
-use Rattle.sec_base.specs.declared.program.Segment.{Segment}
+use Rattle.sec_base.specs.Segment.{IsSegment}
+use Rattle.sec_base.specs.declared.segment.Segment.{Segment}
 use Rattle.elf_load.specs.declared.header.FileHeader.{FileHeader}
 use Rattle.elf_load.specs.declared.table.ProgramHeader.{ProgramHeader}
 use Rattle.elf_load.specs.Format.{u16_at, u32_at, file_header, program_header, headers_from}

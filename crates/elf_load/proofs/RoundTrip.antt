@@ -1,9 +1,9 @@
 -- A program is the program that its spelling holds.
 use Rattle.std.proofs.Common.{◌≡◌, ℕ, ◌+◌, ◌*◌, ◌^◌, ◌<◌, ◌≤◌, List, [], ◌++◌, length, map, filter, None, refl, sym, ◌∙◌, ap, arith, length-append, append_assoc}
 use Rattle.std.proofs.lemmas.List.{append-nil}
-use Rattle.sec_base.specs.Program.{IsImage}
-use Rattle.sec_base.specs.declared.program.Segment.{Segment}
-use Rattle.sec_base.specs.declared.program.Image.{Image}
+use Rattle.sec_base.specs.Image.{IsImage}
+use Rattle.sec_base.specs.declared.segment.Segment.{Segment}
+use Rattle.sec_base.specs.declared.image.Image.{Image}
 use Rattle.elf_load.specs.declared.header.FileHeader.{FileHeader}
 use Rattle.elf_load.specs.Format.{file_header, headers_from}
 use Rattle.elf_load.specs.Loading.{IsProgramOf, entry_of, segment_of, segments_of}

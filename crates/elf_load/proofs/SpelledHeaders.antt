@@ -1,7 +1,7 @@
 -- Headers that are put by halves and words.
 use Rattle.std.proofs.Common.{◌≡◌, ℕ, List, [], ◌∷◌, ◌++◌, length, replicate, refl, ap, ◌∙◌, append_assoc}
 use Rattle.std.specs.List.{flat_map}
-use Rattle.sec_base.specs.declared.program.Segment.{Segment}
+use Rattle.sec_base.specs.declared.segment.Segment.{Segment}
 use Rattle.elf_load.specs.Spelling.{spelled_header, spelled_segment, u16_bytes, u32_bytes}
 
 header_words : (entry count : ℕ)

@@ -5,9 +5,10 @@ use Rattle.std.proofs.Math.Nat.{mul-le-mul_right}
 use Rattle.std.proofs.lemmas.List.{append-nil, drop_all}
 use Rattle.std.proofs.lemmas.List.Elements.{All-head, All-tail}
 use Rattle.std.proofs.lemmas.Bool.Decides.{nat_tests}
-use Rattle.sec_base.specs.Layout.{IsMemorySize}
-use Rattle.sec_base.specs.Program.{IsImage, IsSegment}
-use Rattle.sec_base.specs.declared.program.Segment.{Segment}
+use Rattle.sec_base.specs.Geometry.{IsMemorySize}
+use Rattle.sec_base.specs.Image.{IsImage}
+use Rattle.sec_base.specs.Segment.{IsSegment}
+use Rattle.sec_base.specs.declared.segment.Segment.{Segment}
 use Rattle.elf_load.specs.Spelling.{spelled_segment, spelled_table, joined_bytes}
 
 rest_of : (segments : List Segment) (i : ℕ) (segment : Segment) → i < length segments → segment ≡ get_or segments i segment

@@ -1,7 +1,7 @@
 -- The program that a file is.
 use Rattle.std.specs.Prelude.{◌≡◌, None, ℕ, List, take, drop, map, filter}
-use Rattle.sec_base.specs.declared.program.Segment.{Segment}
-use Rattle.sec_base.specs.declared.program.Image.{Image}
+use Rattle.sec_base.specs.declared.segment.Segment.{Segment}
+use Rattle.sec_base.specs.declared.image.Image.{Image}
 use Rattle.elf_load.specs.declared.table.ProgramHeader.{ProgramHeader}
 use Rattle.elf_load.specs.Format.{file_header, program_headers}
 use Rattle.elf_load.specs.Refusals.{first_fault, is_load}

@@ -2,8 +2,8 @@
 use Rattle.std.specs.Prelude.{ℕ, List, ◌++◌, length}
 use Rattle.std.specs.List.{flat_map}
 use Rattle.sha2.specs.Sha256.{sha256}
-use Rattle.sec_base.specs.declared.program.Segment.{Segment}
-use Rattle.sec_base.specs.declared.program.Image.{Image}
+use Rattle.sec_base.specs.declared.segment.Segment.{Segment}
+use Rattle.sec_base.specs.declared.image.Image.{Image}
 use Rattle.elf_load.specs.Spelling.{u32_bytes}
 
 -- a segment's address, the lengths of its bytes and of its memory, and its bytes

@@ -3,8 +3,8 @@ use Rattle.std.specs.Prelude.{ℕ, ◌+◌, ◌*◌, List, [], ◌∷◌, ◌++�
 use Rattle.std.specs.List.{flat_map}
 use Rattle.byteorder.specs.Endian.{little_bytes}
 use Rattle.elf_load.specs.Format.{class_bytes, magic}
-use Rattle.sec_base.specs.declared.program.Segment.{Segment}
-use Rattle.sec_base.specs.declared.program.Image.{Image}
+use Rattle.sec_base.specs.declared.segment.Segment.{Segment}
+use Rattle.sec_base.specs.declared.image.Image.{Image}
 
 -- a number in two bytes and in four, the lowest first
 unfoldable pub u16_bytes : ℕ → List ℕ

@@ -1,8 +1,8 @@
 //! Programs from files.
 
 ghost use Rattle.std.specs.Prelude.{◌≡◌, ◌+◌, ◌≤◌, ◌<◌, ◌^◌, length, take, drop, filter, map, None, Some, Err, IfOk, OnOk};
-ghost use Rattle.sec_base.specs.Layout.{IsMemorySize};
-ghost use Rattle.sec_base.specs.Program.{from_zero};
+ghost use Rattle.sec_base.specs.Geometry.{IsMemorySize};
+ghost use Rattle.sec_base.specs.Segment.{from_zero};
 ghost use Rattle.elf_load.specs.Loading.{IsProgramOf, segment_of};
 ghost use Rattle.elf_load.specs.Refusals.{first_holding, program_refusals, first_fault, flat_fault, is_load, is_misfit};
 ghost use Rattle.elf_load.specs.declared.fault.ElfFault.{ElfFault};

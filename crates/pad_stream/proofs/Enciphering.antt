@@ -3,7 +3,7 @@ use Rattle.std.proofs.Common.{◌≡◌, ℕ, ◌<◌, List, length, slice_index
 use Rattle.std.proofs.lemmas.List.{ext_get_or}
 use Rattle.std.proofs.lemmas.List.FromFn.{get_or-map-range_with_len, fill_by_all}
 use Rattle.std.specs.Int.Bits.{bit_xor, xor_assoc, xor_self, xor_zero_l}
-use Rattle.sec_base.specs.declared.sealing.Counter.{Counter}
+use Rattle.sec_base.specs.declared.counter.Counter.{Counter}
 use Rattle.pad_stream.specs.Pad.{pad_of, xored, enciphered}
 
 -- 64 bytes that were mixed one by one

@@ -2,7 +2,7 @@
 use Rattle.std.proofs.Common.{◌≡◌, ℕ, ◌+◌, List, [], ◌∷◌, ◌++◌, length, take, refl, ap, sym, ◌∙◌, arith, w32, w64}
 use Rattle.std.proofs.lemmas.List.{take_all}
 use Rattle.std.specs.Int.{to_le_bytes}
-use Rattle.sec_base.specs.declared.sealing.Counter.{Counter}
+use Rattle.sec_base.specs.declared.counter.Counter.{Counter}
 use Rattle.sec_base.proofs.MessageBytes.{put_behind}
 use Rattle.aes128_block.specs.KeyExpansion.{encrypted}
 use Rattle.pad_stream.specs.Pad.{pad_input, pad_block, pad_of}

@@ -3,7 +3,7 @@
 use Rattle.std.specs.Prelude.{ℕ, List, [], ◌∷◌, ◌++◌, map, slice_index, bit_xor}
 use Rattle.std.specs.List.{range_with_len}
 use Rattle.std.specs.Int.{w32, w64, to_le_bytes}
-use Rattle.sec_base.specs.declared.sealing.Counter.{Counter}
+use Rattle.sec_base.specs.declared.counter.Counter.{Counter}
 use Rattle.aes128_block.specs.KeyExpansion.{encrypted}
 
 -- a counter block: the line's number, its page's counter and its own, the number of the block, and two zeros

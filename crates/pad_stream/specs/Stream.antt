@@ -1,6 +1,6 @@
 -- What contracts see of a pad engine, and what its calls make of it.
 use Rattle.std.specs.Prelude.{ℕ, ◌-◌, max, List, [], ◌∷◌, ◌++◌}
-use Rattle.sec_base.specs.declared.sealing.Counter.{Counter}
+use Rattle.sec_base.specs.declared.counter.Counter.{Counter}
 
 -- the key's 16 bytes, the lines and counters that were used, in order, and how many more are sure to find memory
 pub record Stream : Type 0 where

@@ -1,7 +1,7 @@
 -- What was enciphered: lines with their counters, in order.
 use Rattle.std.specs.Prelude.{◌≡◌, ◌⊎◌, ℕ, ◌<◌, nat_lt, List, Some}
 use Rattle.std.specs.List.{filter, slice_get}
-use Rattle.sec_base.specs.declared.sealing.Counter.{Counter}
+use Rattle.sec_base.specs.declared.counter.Counter.{Counter}
 
 -- no line was enciphered twice under one counter
 pub record NoRepeat (used : List (ℕ × Counter)) : Type 0 where

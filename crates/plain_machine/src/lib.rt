@@ -4,9 +4,9 @@
 ghost use Rattle.std.specs.Prelude.{◌≡◌, ◌≢◌, ◌<◌, ◌≤◌, ◌↔◌, ◌⊎◌, ℕ, List, None, IfOk, length};
 ghost use Rattle.sec_base.specs.Count.{Rose};
 ghost use Rattle.sec_base.specs.Opening.{opening_memory};
-ghost use Rattle.sec_base.specs.Writing.{Gains};
-ghost use Rattle.sec_base.specs.declared.layout.Place.{Place};
-ghost use Rattle.sec_base.specs.declared.answers.Ending.TheVariants.{OutOfSteps, Tampered, Spent, WriteFault, NoMemory as memory_ended};
+ghost use Rattle.sec_base.specs.Sink.{Gains};
+ghost use Rattle.sec_base.specs.declared.place.Place.{Place};
+ghost use Rattle.sec_base.specs.declared.ending.Ending.TheVariants.{OutOfSteps, Tampered, Spent, WriteFault, NoMemory as memory_ended};
 ghost use Rattle.rv32_core.specs.Effect.{next};
 ghost use Rattle.rv32_core.specs.Outcome.{prints_of};
 ghost use Rattle.rv32_core.specs.Machine.{opening, plain};

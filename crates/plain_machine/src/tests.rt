@@ -1,6 +1,6 @@
 // Programs of a few words at 0, which were put together by hand from the RISC-V unprivileged manual.
 ghost use Rattle.std.specs.Prelude.{◌≡◌, IfOk, length};
-ghost use Rattle.sec_base.specs.Program.{IsImage};
+ghost use Rattle.sec_base.specs.Image.{IsImage};
 
 use crate::{FlatRam, PlainRecord, run};
 use sec_base::{Bytes, Cause, Ending, Image, MemorySink, Ram, Segment, Segments, Width};

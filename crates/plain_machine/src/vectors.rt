@@ -1,7 +1,7 @@
 // What single instructions do. The words are GNU as's (2.40) and the outcomes are qemu-riscv32's (7.2.22, Debian's
 // qemu-user); bench/vectors.py prints the tables, and compares them with the manual's text.
 ghost use Rattle.std.specs.Prelude.{◌≡◌, ◌≤◌, IfOk, length};
-ghost use Rattle.sec_base.specs.Layout.{IsMemorySize};
+ghost use Rattle.sec_base.specs.Geometry.{IsMemorySize};
 
 use crate::run;
 use sec_base::{Bytes, Ending, Image, MemorySink, Segment, Segments};

@@ -9,7 +9,7 @@ use Rattle.rv32_decode.specs.declared.table.Format.TheVariants.{N}
 use Rattle.rv32_text.specs.Text.{data_text, is_unnamed_fence, mnemonic_of, operands_of, statement, text_of, text_of_word, text_or_data}
 use Rattle.rv32_text.specs.declared.names.Style.{Style}
 use Rattle.rv32_text.specs.declared.names.Style.TheVariants.{Registers, Immediate, Offset, Store, Upper, Branch, Jump, Fence, Bare}
-use Rattle.sec_base.specs.declared.memory.Width.TheVariants.{Four}
+use Rattle.sec_base.specs.declared.width.Width.TheVariants.{Four}
 use Rattle.rv32_asm_syntax.specs.Expressions.{number_alone}
 use Rattle.rv32_asm_syntax.specs.Keywords.{immediate_without_operands}
 use Rattle.rv32_asm.specs.Law.{IsReadBack}

@@ -4,11 +4,12 @@ use Rattle.std.proofs.lemmas.Bool.{and_from, eq-eqb, le-leb, le-ltb}
 use Rattle.std.proofs.lemmas.List.{append-nil}
 use Rattle.std.specs.Int.{to_le_bytes, w32}
 use Rattle.std.specs.List.{list_all}
-use Rattle.sec_base.specs.declared.memory.Width.TheVariants.{Four}
+use Rattle.sec_base.specs.declared.width.Width.TheVariants.{Four}
 use Rattle.rv32_decode.specs.Table.{row_for, word_of}
 use Rattle.rv32_decode.specs.declared.Inst.{Inst}
 use Rattle.rv32_decode.specs.declared.Op.{Op}
-use Rattle.rv32_text.specs.Text.{data_text, hex8, statement, text_of_word}
+use Rattle.rv32_text.specs.Text.{data_text, statement, text_of_word}
+use Rattle.sec_base.specs.Hexadecimal.{hex_digits}
 use Rattle.rv32_asm.specs.Encoding.{bytes_at, encoded_at, fits_at, fits_format, fits_width, immediate_of, is_in_range, misses_label}
 use Rattle.rv32_asm_syntax.specs.Expressions.{number_alone}
 use Rattle.rv32_asm_syntax.specs.declared.keywords.Operand.{Operand}
@@ -137,7 +138,7 @@ unfolding keyword_of keywords row_words pseudoinstructions long_pseudoinstructio
 data_keyword = refl
 
 abbrev number_text : ℕ → List ℕ
-number_text word = codes "0x" ++ hex8 word
+number_text word = codes "0x" ++ hex_digits 8 word
 
 data_statement : (word : ℕ) → data_text word ≡ statement (codes ".word") (number_text word ∷ [])
 unfolding data_text

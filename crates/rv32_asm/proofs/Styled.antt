@@ -8,7 +8,8 @@ use Rattle.rv32_decode.specs.Table.{FitsFormat, imm_bits, signed}
 use Rattle.rv32_decode.specs.declared.Inst.{Inst}
 use Rattle.rv32_decode.specs.declared.table.Format.{Format}
 use Rattle.rv32_decode.specs.declared.table.Format.TheVariants.{R, I, S, B, U, J, H}
-use Rattle.rv32_text.specs.Text.{hex8, operands_of, register_name, place_text, statement, target_of, target_text, upper_text}
+use Rattle.rv32_text.specs.Text.{operands_of, register_name, place_text, statement, target_of, target_text, upper_text}
+use Rattle.sec_base.specs.Hexadecimal.{hex_digits}
 use Rattle.rv32_text.specs.declared.names.Style.{Style}
 use Rattle.rv32_text.specs.declared.names.Style.TheVariants.{Registers, Immediate, Offset, Store, Upper, Branch, Jump, Fence, Bare}
 use Rattle.rv32_asm.specs.Encoding.{distance, fits_format, immediate_of, is_even}
@@ -151,9 +152,9 @@ module _ (i : Inst) (address : ℕ) (name : List ℕ) (word : is_word name ≡ t
       let n = target_of i address in
       let less = below_target i address in
       let back = distance_target address i.imm range.0 range.1 in
-      read_line B address i name (register_name i.rs1) (register_name i.rs2 ∷ (codes "0x" ++ hex8 n) ∷ []) (operands_in Branch)
+      read_line B address i name (register_name i.rs1) (register_name i.rs2 ∷ (codes "0x" ++ hex_digits 8 n) ∷ []) (operands_in Branch)
       initial 0 i.rs1 i.rs2 (pos n) word found (register_operand i.rs1 b)
-      (two (register_name i.rs2) (codes "0x" ++ hex8 n) (register_operand i.rs2 c) (hex8_operand n less))
+      (two (register_name i.rs2) (codes "0x" ++ hex_digits 8 n) (register_operand i.rs2 c) (hex8_operand n less))
       (branch_read i.op i.rd i.rs1 i.rs2 a b c initial n less)
       (far_fits (distance address (pos n)) i.imm (negsuc 4095) (pos 4094) back (even_true i.imm fields.3 range.0) fields.1 fields.2)
       (same_made i 0 i.rs1 i.rs2 (distance address (pos n)) (sym fields.0) refl refl back)
@@ -162,9 +163,9 @@ module _ (i : Inst) (address : ℕ) (name : List ℕ) (word : is_word name ≡ t
       let n = target_of i address in
       let less = below_target i address in
       let back = distance_target address i.imm range.0 range.1 in
-      read_line J address i name (register_name i.rd) ((codes "0x" ++ hex8 n) ∷ []) (operands_in Jump)
+      read_line J address i name (register_name i.rd) ((codes "0x" ++ hex_digits 8 n) ∷ []) (operands_in Jump)
       initial i.rd 0 0 (pos n) word found (register_operand i.rd a)
-      (one (codes "0x" ++ hex8 n) (hex8_operand n less))
+      (one (codes "0x" ++ hex_digits 8 n) (hex8_operand n less))
       (jump_read i.op i.rd i.rs1 i.rs2 a b c initial n less)
       (far_fits (distance address (pos n)) i.imm (negsuc 1048575) (pos 1048574) back (even_true i.imm fields.4 range.0) fields.2 fields.3)
       (same_made i i.rd 0 0 (distance address (pos n)) refl (sym fields.0) (sym fields.1) back)

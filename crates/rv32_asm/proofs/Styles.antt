@@ -6,7 +6,8 @@ use Rattle.std.proofs.lemmas.List.Folds.{list_all-append}
 use Rattle.std.specs.Fmt.{digits, signed_decimal}
 use Rattle.std.specs.List.{after_first, before_first, list_all, position_or_len}
 use Rattle.rv32_decode.specs.declared.Op.{Op}
-use Rattle.rv32_text.specs.Text.{hex8, register_name}
+use Rattle.rv32_text.specs.Text.{register_name}
+use Rattle.sec_base.specs.Hexadecimal.{hex_digits}
 use Rattle.rv32_text.specs.declared.names.Style.TheVariants.{Registers, Immediate, Offset, Store, Upper, Branch, Jump}
 use Rattle.rv32_asm_syntax.specs.Characters.{trimmed}
 use Rattle.rv32_asm_syntax.specs.Expressions.{Expression, expression_of, number_alone}
@@ -114,11 +115,11 @@ module _ (op : Op) (rd rs1 rs2 : ℕ) (a : rd < 32) (b : rs1 < 32) (c : rs2 < 32
     upper_read = rw (register_read rd a, digits_read n below) refl
 
     pub branch_read : with_operands (operands_in Branch)
-        (register_name rs1 ∷ register_name rs2 ∷ (codes "0x" ++ hex8 n) ∷ []) (instruction op 0 0 0 initial)
+        (register_name rs1 ∷ register_name rs2 ∷ (codes "0x" ++ hex_digits 8 n) ∷ []) (instruction op 0 0 0 initial)
         ≡ Some (instruction op 0 rs1 rs2 (pos n))
     branch_read = rw (register_read rs1 b, register_read rs2 c, hex8_read n below) refl
 
-    pub jump_read : with_operands (operands_in Jump) (register_name rd ∷ (codes "0x" ++ hex8 n) ∷ [])
+    pub jump_read : with_operands (operands_in Jump) (register_name rd ∷ (codes "0x" ++ hex_digits 8 n) ∷ [])
         (instruction op 0 0 0 initial)
         ≡ Some (instruction op rd 0 0 (pos n))
     jump_read = rw (register_read rd a, hex8_read n below) refl

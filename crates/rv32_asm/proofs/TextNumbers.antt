@@ -8,7 +8,7 @@ use Rattle.std.specs.Char.{digit_value, is_digit}
 use Rattle.std.specs.Fmt.{digits, signed_decimal}
 use Rattle.std.specs.List.{list_all, starts_with}
 use Rattle.std.specs.Str.Parse.{AllDigits, IsNumeral, digits_value}
-use Rattle.rv32_text.specs.Text.{hex8}
+use Rattle.sec_base.specs.Hexadecimal.{hex_digits}
 use Rattle.rv32_asm_syntax.specs.Characters.{begins_as_name, begins_names}
 use Rattle.rv32_asm_syntax.specs.Expressions.{expression_of, number_alone}
 use Rattle.rv32_asm_syntax.specs.Numbers.{in_range, natural_of, number_of}
@@ -42,8 +42,8 @@ hex_numeral n below = digits_is_IsNumeral 16 false (omega arith) (omega arith) n
 decimal_numeral : (n : ℕ) → n < 2 ^ 32 → IsNumeral 10 (decimal n) × (digits_value 10 (decimal n) ≡ n)
 decimal_numeral n below = digits_is_IsNumeral 10 false (omega arith) (omega arith) n (omega arith)
 
-hex8_numeral : (n : ℕ) → n < 2 ^ 32 → IsNumeral 16 (hex8 n) × (digits_value 16 (hex8 n) ≡ n)
-unfolding hex8
+hex8_numeral : (n : ℕ) → n < 2 ^ 32 → IsNumeral 16 (hex_digits 8 n) × (digits_value 16 (hex_digits 8 n) ≡ n)
+unfolding hex_digits
 hex8_numeral n below =
     let hex = hex_numeral n below in
     let ds = digits 16 false n in
@@ -95,18 +95,18 @@ hex_read : (ds : List ℕ) (n : ℕ) → natural_of 16 ds ≡ Some n → n < 2 ^
 unfolding expression_of number_of
 hex_read ds n read below = rw (read, range_pos n below) refl
 
-pub hex8_read : (n : ℕ) → n < 2 ^ 32 → expression_of (codes "0x" ++ hex8 n) ≡ Some (number_alone (pos n))
+pub hex8_read : (n : ℕ) → n < 2 ^ 32 → expression_of (codes "0x" ++ hex_digits 8 n) ≡ Some (number_alone (pos n))
 hex8_read n below =
     let numeral = hex8_numeral n below in
-    hex_read (hex8 n) n (natural_numeral 16 (hex8 n) n numeral.0 numeral.1) below
+    hex_read (hex_digits 8 n) n (natural_numeral 16 (hex_digits 8 n) n numeral.0 numeral.1) below
 
 pub digits_read : (n : ℕ) → n < 2 ^ 32 → expression_of (codes "0x" ++ digits 16 false n) ≡ Some (number_alone (pos n))
 digits_read n below =
     let numeral = hex_numeral n below in
     hex_read (digits 16 false n) n (natural_numeral 16 (digits 16 false n) n numeral.0 numeral.1) below
 
-pub hex8_operand : (n : ℕ) → n < 2 ^ 32 → is_operand (codes "0x" ++ hex8 n) ≡ true
-hex8_operand n below = figures_solid (hex8 n) (digits_figures 16 (hex8 n) (omega arith) (hex8_numeral n below).0.1)
+pub hex8_operand : (n : ℕ) → n < 2 ^ 32 → is_operand (codes "0x" ++ hex_digits 8 n) ≡ true
+hex8_operand n below = figures_solid (hex_digits 8 n) (digits_figures 16 (hex_digits 8 n) (omega arith) (hex8_numeral n below).0.1)
 
 pub digits_operand : (n : ℕ) → n < 2 ^ 32 → is_operand (codes "0x" ++ digits 16 false n) ≡ true
 digits_operand n below =

@@ -1,7 +1,7 @@
 -- The program that an assembly text is.
 use Rattle.std.specs.Prelude.{◌≡◌, ℕ, ◌+◌, ◌%◌, ◌==◌, List, [], Bool, not, ◌||◌, Option, None, Some, Result, Ok, Err, nat_lt, codes, if◌then◌else◌}
-use Rattle.sec_base.specs.Program.{from_zero}
-use Rattle.sec_base.specs.declared.program.Image.{Image}
+use Rattle.sec_base.specs.Segment.{from_zero}
+use Rattle.sec_base.specs.declared.image.Image.{Image}
 use Rattle.rv32_asm_syntax.specs.declared.fault.AsmFault.TheVariants.{Range}
 use Rattle.rv32_asm_syntax.specs.Lines.{lines_of}
 use Rattle.rv32_asm.specs.Labels.{Label, label_named}

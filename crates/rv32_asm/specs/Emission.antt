@@ -1,6 +1,6 @@
 -- The bytes of a statement's parts, added to those before them.
 use Rattle.std.specs.Prelude.{ℕ, List, ◌++◌, Result, Ok, Err, if◌then◌else◌}
-use Rattle.sec_base.specs.declared.memory.Width.{Width}
+use Rattle.sec_base.specs.declared.width.Width.{Width}
 use Rattle.rv32_asm_syntax.specs.declared.fault.AsmFault.{AsmFault}
 use Rattle.rv32_asm_syntax.specs.declared.fault.AsmFault.TheVariants.{Range}
 use Rattle.rv32_asm.specs.Encoding.{bytes_at, code_from, data_bytes, data_fits, fit_from, is_in_range}

@@ -2,7 +2,7 @@
 #![tactic(auto)]
 
 ghost use Rattle.std.specs.Prelude.{ℕ, IfOk, Err, length, ◌≡◌, ◌<◌, ◌^◌};
-ghost use Rattle.sec_base.specs.Layout.{IsMemorySize};
+ghost use Rattle.sec_base.specs.Geometry.{IsMemorySize};
 ghost use Rattle.rv32_asm.specs.Assembly.{IsAssembled, program_of};
 ghost use Rattle.rv32_asm.specs.Law.{PartsMakeWord, TextsAreInstructions, TextsAreProgram, TextsAreWords};
 ghost use Rattle.rv32_asm_syntax.specs.declared.fault.AsmFault.{AsmFault};

@@ -3,7 +3,7 @@
 ghost use Rattle.rv32_asm.specs.Course.{entry_at};
 ghost use Rattle.rv32_asm.specs.declared.fault.AsmError.TheVariants as error;
 ghost use Rattle.rv32_asm_syntax.specs.declared.fault.AsmFault.{AsmFault};
-ghost use Rattle.sec_base.specs.Layout.{IsMemorySize};
+ghost use Rattle.sec_base.specs.Geometry.{IsMemorySize};
 ghost use Rattle.std.specs.Prelude.{Err, IfOk, Ok, ℕ, ◌%◌, ◌+◌, ◌≡◌, ◌≤◌};
 
 use crate::fault::AsmError;

@@ -4,7 +4,7 @@ use Rattle.std.specs.Prelude.{None, option_map}
 use Rattle.std.specs.List.{slice_split, position_or_len}
 use Rattle.std.proofs.lemmas.List.{at_drop_more, at_drop_all}
 use Rattle.std.proofs.lemmas.List.Splits.{slice_split_first}
-use Rattle.sec_base.specs.declared.memory.Width.{Width}
+use Rattle.sec_base.specs.declared.width.Width.{Width}
 use Rattle.rv32_asm_syntax.specs.declared.keywords.Operand.{Operand}
 use Rattle.rv32_asm_syntax.specs.Characters.{trimmed, is_empty}
 use Rattle.rv32_asm_syntax.specs.Statements.{Instruction, Data}

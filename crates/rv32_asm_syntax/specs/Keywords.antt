@@ -1,8 +1,8 @@
 -- The words that a statement begins with, and which operands stand behind them.
 use Rattle.std.specs.Prelude.{ℕ, ℤ, pos, neg_ℤ, List, [], ◌∷◌, ◌++◌, Option, option_map, find, map, codes}
 use Rattle.std.specs.Str.{bytes_eq}
-use Rattle.sec_base.specs.declared.memory.Width.{Width}
-use Rattle.sec_base.specs.declared.memory.Width.TheVariants.{One, Two, Four}
+use Rattle.sec_base.specs.declared.width.Width.{Width}
+use Rattle.sec_base.specs.declared.width.Width.TheVariants.{One, Two, Four}
 use Rattle.rv32_decode.specs.Table.{rows}
 use Rattle.rv32_decode.specs.declared.Op.{Op}
 use Rattle.rv32_decode.specs.declared.Op.TheVariants.{Jal, Jalr, Beq, Bne, Addi, Sltiu, Xori, Sub, Sltu, Fence}

@@ -1,7 +1,7 @@
 -- The statement of a line: its word, and the operands behind it.
 use Rattle.std.specs.Prelude.{ℕ, ℤ, pos, neg_ℤ, ◌-◌, List, [], ◌∷◌, ◌++◌, ◌==◌, Option, Some, None, option_map, option_and_then, find, Result, Ok, Err, ok_or, length, map, take, drop, take_while, nat_eq, if◌then◌else◌}
 use Rattle.std.specs.List.{prefix_len, slice_split, ends_with, before_first, after_first}
-use Rattle.sec_base.specs.declared.memory.Width.{Width}
+use Rattle.sec_base.specs.declared.width.Width.{Width}
 use Rattle.rv32_decode.specs.declared.Op.TheVariants.{Lui, Addi}
 use Rattle.rv32_asm_syntax.specs.declared.fault.AsmFault.{AsmFault}
 use Rattle.rv32_asm_syntax.specs.declared.fault.AsmFault.TheVariants as fault

@@ -1,6 +1,6 @@
 -- What a statement is, apart from how it is spelled.
 use Rattle.std.specs.Prelude.{ℕ, ℤ, List}
-use Rattle.sec_base.specs.declared.memory.Width.{Width}
+use Rattle.sec_base.specs.declared.width.Width.{Width}
 use Rattle.rv32_decode.specs.declared.Op.{Op}
 use Rattle.rv32_asm_syntax.specs.Expressions.{Expression, number_alone}
 

@@ -5,7 +5,7 @@ use Rattle.std.proofs.Math.Seq.{take-append_seam}
 use Rattle.std.proofs.lemmas.Bool.{cases_lt}
 use Rattle.std.proofs.lemmas.List.Prefix.{at_from_reads}
 use Rattle.std.proofs.lemmas.List.Elements.{Contains-append_left, Contains-push}
-use Rattle.sec_base.specs.Layout.{line_of}
+use Rattle.sec_base.specs.Geometry.{line_of}
 use Rattle.rv32_core.specs.Touch.{HasLinesOf}
 
 -- the memory is as it was, and the first bytes of the piece are its

@@ -4,12 +4,12 @@ use Rattle.std.proofs.Math.Seq.{take-add}
 use Rattle.std.proofs.lemmas.List.{drop-drop}
 use Rattle.std.proofs.lemmas.Bool.{cases_lt}
 use Rattle.std.proofs.lemmas.List.Elements.{Contains-append_left, Contains-append_right}
-use Rattle.sec_base.specs.Layout.{line_of}
-use Rattle.sec_base.specs.Lists.{IsPrefix}
-use Rattle.sec_base.specs.Writing.{SinkState, gained, Gains}
+use Rattle.sec_base.specs.Geometry.{line_of}
+use Rattle.sec_base.specs.Prefix.{IsPrefix}
+use Rattle.sec_base.specs.Sink.{SinkState, gained, Gains}
 use Rattle.sec_base.proofs.Writes.{gained-append}
 use Rattle.rv32_core.specs.Touch.{HasLinesOf}
-use Rattle.sec_base.specs.declared.answers.MemStop.{MemStop}
+use Rattle.sec_base.specs.declared.stop.MemStop.{MemStop}
 use Rattle.rv32_core.specs.Printing.{bytes_at, StopsAs}
 
 pub gains_both : (a b c : SinkState) (p q : List ℕ) → Gains a p b → Gains b q c → Gains a (p ++ q) c

@@ -1,8 +1,8 @@
 -- Rows of the instruction table that print nothing.
 use Rattle.std.proofs.Common.{◌≡◌, ℕ, List, [], sym, refl, Result, Ok, nat_lt, nat_le, not, inl, inr, lt-ltb, le-ltb}
 use Rattle.std.proofs.lemmas.Bool.{cases_lt, le-leb, lt-leb}
-use Rattle.sec_base.specs.declared.answers.Cause.{Cause}
-use Rattle.sec_base.specs.Writing.{SinkState, Gains}
+use Rattle.sec_base.specs.declared.ending.Cause.{Cause}
+use Rattle.sec_base.specs.Sink.{SinkState, Gains}
 use Rattle.sec_base.proofs.Writes.{gained-nil}
 use Rattle.rv32_core.specs.declared.hart.Step.{Step}
 use Rattle.rv32_core.specs.declared.hart.Step.TheVariants.{Retired}

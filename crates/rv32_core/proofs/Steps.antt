@@ -2,8 +2,8 @@
 use Rattle.std.proofs.Common.{inl, ◌≡◌, ◌+◌, ◌≤◌, ℕ, List, [], ◌∷◌, ◌++◌, length, refl, sym, ◌∙◌, ap, subst, Option, None, Some, Result, Ok, Err, lt-ltb, le-ltb}
 use Rattle.std.specs.Result.{OnOk}
 use Rattle.std.proofs.lemmas.List.Elements.{Contains-append_left, Contains-append_right}
-use Rattle.sec_base.specs.declared.answers.Cause.{Cause}
-use Rattle.sec_base.specs.declared.answers.Cause.TheVariants.{Illegal}
+use Rattle.sec_base.specs.declared.ending.Cause.{Cause}
+use Rattle.sec_base.specs.declared.ending.Cause.TheVariants.{Illegal}
 use Rattle.rv32_decode.specs.declared.Inst.{Inst}
 use Rattle.rv32_decode.specs.Table.{instruction_of}
 use Rattle.rv32_core.specs.declared.hart.Step.{Step}
@@ -14,7 +14,7 @@ use Rattle.rv32_core.specs.After.{After}
 use Rattle.rv32_core.specs.Effect.{next, effect, fetched}
 use Rattle.rv32_core.specs.Touch.{Range, HasLinesOf, HasLinesOfAll, touches, data_touches}
 use Rattle.rv32_core.specs.Fetching.{IsFetched, StopsFetch}
-use Rattle.sec_base.specs.declared.answers.MemStop.{MemStop}
+use Rattle.sec_base.specs.declared.stop.MemStop.{MemStop}
 use Rattle.rv32_core.specs.Outcome.{IsOutcome, IsHalfDone}
 
 -- a fact of a good answer gives another

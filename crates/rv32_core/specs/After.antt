@@ -1,6 +1,6 @@
 -- What an instruction makes of a state.
 use Rattle.std.specs.Prelude.{ℕ, List, [], Option, Some, None, Result, Ok, Err}
-use Rattle.sec_base.specs.declared.answers.Cause.{Cause}
+use Rattle.sec_base.specs.declared.ending.Cause.{Cause}
 use Rattle.rv32_core.specs.State.{State, next_hart, written_hart, with_hart}
 
 -- the state after an instruction, what it prints, and the code with which it ends the program, if it does

@@ -1,9 +1,9 @@
 -- A fetch, and how it stops.
 use Rattle.std.specs.Prelude.{◌≡◌, ◌+◌, ◌<◌, ◌≤◌, ℕ, List, length, Option, Some, None, Result, Ok, Err}
 use Rattle.sec_base.specs.Width.{number_at}
-use Rattle.sec_base.specs.declared.memory.Width.TheVariants.{Four}
-use Rattle.sec_base.specs.declared.answers.Cause.TheVariants.{OutsideMemory}
-use Rattle.sec_base.specs.declared.answers.MemStop.{MemStop}
+use Rattle.sec_base.specs.declared.width.Width.TheVariants.{Four}
+use Rattle.sec_base.specs.declared.ending.Cause.TheVariants.{OutsideMemory}
+use Rattle.sec_base.specs.declared.stop.MemStop.{MemStop}
 use Rattle.rv32_core.specs.declared.hart.StepStop.{StepStop}
 use Rattle.rv32_core.specs.declared.hart.StepStop.TheVariants.{Trap, Mem, WriteFault}
 

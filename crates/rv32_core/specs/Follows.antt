@@ -1,9 +1,9 @@
 -- A run follows the plain machine.
 use Rattle.std.specs.Prelude.{◌≡◌, ◌<◌, ◌≤◌, ℕ, ◌+◌, List, Option, Some, None, Result, Ok, Err, nat_lt, if◌then◌else◌}
-use Rattle.sec_base.specs.Lists.{IsPrefix}
-use Rattle.sec_base.specs.declared.answers.Cause.{Cause}
-use Rattle.sec_base.specs.declared.answers.Ending.{Ending}
-use Rattle.sec_base.specs.declared.answers.Ending.TheVariants.{Halted, Trapped, OutOfSteps, Tampered, Spent, WriteFault, NoMemory}
+use Rattle.sec_base.specs.Prefix.{IsPrefix}
+use Rattle.sec_base.specs.declared.ending.Cause.{Cause}
+use Rattle.sec_base.specs.declared.ending.Ending.{Ending}
+use Rattle.sec_base.specs.declared.ending.Ending.TheVariants.{Halted, Trapped, OutOfSteps, Tampered, Spent, WriteFault, NoMemory}
 use Rattle.rv32_core.specs.After.{After}
 use Rattle.rv32_core.specs.Effect.{next}
 use Rattle.rv32_core.specs.Machine.{Machine, plain}

@@ -1,7 +1,7 @@
 -- Numbers that are loaded, made as long as a word: the RISC-V unprivileged manual, section 2.6.
 use Rattle.std.specs.Prelude.{ℕ}
-use Rattle.sec_base.specs.declared.memory.Width.{Width}
-use Rattle.sec_base.specs.declared.memory.Width.TheVariants.{One, Two, Four}
+use Rattle.sec_base.specs.declared.width.Width.{Width}
+use Rattle.sec_base.specs.declared.width.Width.TheVariants.{One, Two, Four}
 use Rattle.rv32_core.specs.declared.access.Extension.{Extension}
 use Rattle.rv32_core.specs.declared.access.Extension.TheVariants.{Zero, Sign}
 use Rattle.rv32_core.specs.Arithmetic.{sign_extended}

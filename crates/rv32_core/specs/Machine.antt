@@ -1,8 +1,8 @@
 -- The plain machine: a flat list of bytes, and one instruction after another.
 use Rattle.std.specs.Prelude.{ℕ, zero, suc, ◌+◌, List, [], ◌++◌, Option, Some, None, Result, Ok, Err}
-use Rattle.sec_base.specs.declared.answers.Cause.{Cause}
-use Rattle.sec_base.specs.declared.program.Image.{Image}
-use Rattle.sec_base.specs.declared.program.Segment.{Segment}
+use Rattle.sec_base.specs.declared.ending.Cause.{Cause}
+use Rattle.sec_base.specs.declared.image.Image.{Image}
+use Rattle.sec_base.specs.declared.segment.Segment.{Segment}
 use Rattle.sec_base.specs.Opening.{opening_memory, first_break}
 use Rattle.rv32_core.specs.State.{State, CallState, opening_hart}
 use Rattle.rv32_core.specs.After.{After}

@@ -1,8 +1,8 @@
 -- Bytes of the memory that are printed, and a printing that stops.
 use Rattle.std.specs.Prelude.{◌≡◌, ℕ, ◌-◌, ◌%◌, min, List, take, drop, Option, Some, None, Result, Ok, Err}
-use Rattle.sec_base.specs.Lists.{IsPrefix}
-use Rattle.sec_base.specs.declared.answers.MemStop.{MemStop}
-use Rattle.sec_base.specs.declared.answers.MemStop.TheVariants.{NoMemory}
+use Rattle.sec_base.specs.Prefix.{IsPrefix}
+use Rattle.sec_base.specs.declared.stop.MemStop.{MemStop}
+use Rattle.sec_base.specs.declared.stop.MemStop.TheVariants.{NoMemory}
 use Rattle.rv32_core.specs.declared.hart.StepStop.{StepStop}
 use Rattle.rv32_core.specs.declared.hart.StepStop.TheVariants.{Trap, Mem, WriteFault}
 

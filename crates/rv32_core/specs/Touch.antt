@@ -1,9 +1,9 @@
 -- Which bytes an instruction fetches, loads and stores.
 use Rattle.std.specs.Prelude.{ℕ, ◌+◌, ◌<◌, ◌==◌, ◌&&◌, if◌then◌else◌, List, [], ◌∷◌, length, Option, Some, None, Contains}
-use Rattle.sec_base.specs.Layout.{line_of}
+use Rattle.sec_base.specs.Geometry.{line_of}
 use Rattle.sec_base.specs.Width.{width_bytes}
-use Rattle.sec_base.specs.declared.memory.Width.{Width}
-use Rattle.sec_base.specs.declared.memory.Width.TheVariants.{One, Two, Four}
+use Rattle.sec_base.specs.declared.width.Width.{Width}
+use Rattle.sec_base.specs.declared.width.Width.TheVariants.{One, Two, Four}
 use Rattle.rv32_decode.specs.declared.Op.{Op}
 use Rattle.rv32_decode.specs.declared.Op.TheVariants.{Lb, Lh, Lw, Lbu, Lhu, Sb, Sh, Sw, Ecall}
 use Rattle.rv32_decode.specs.declared.Inst.{Inst}

@@ -2,7 +2,7 @@
 use Rattle.std.specs.Prelude.{ℕ, zero, suc, ◌+◌, ◌/◌, List, [], ◌++◌, map, Bool, not, ◌==◌, nat_eq, nat_le, if◌then◌else◌}
 use Rattle.std.specs.List.{list_any, filter, flat_map, range_with_len}
 use Rattle.std.specs.Set.{distinct_count}
-use Rattle.sec_base.specs.Layout.{line_of}
+use Rattle.sec_base.specs.Geometry.{line_of}
 use Rattle.sec_base.specs.Lines.{line_at}
 use Rattle.rv32_core.specs.State.{State}
 use Rattle.rv32_core.specs.Touch.{Range, touches}

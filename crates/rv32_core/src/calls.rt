@@ -1,5 +1,5 @@
 ghost use Rattle.std.specs.Prelude.{◌≡◌, ◌+◌, ◌≤◌, All, length, if◌then◌else◌};
-ghost use Rattle.sec_base.specs.Program.{IsSegment};
+ghost use Rattle.sec_base.specs.Segment.{IsSegment};
 ghost use Rattle.sec_base.specs.Opening.{first_break as break_after, segments_end as end_of};
 
 use sec_base::{Image, Segment};

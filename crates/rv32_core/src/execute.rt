@@ -1,7 +1,7 @@
 // What each row of the instruction table does.
 ghost use Rattle.std.specs.Prelude.{◌≡◌, ◌<◌, ◌≤◌, ℕ, List, None, Err, OnErr, OnOk};
 ghost use Rattle.sec_base.specs.Count.{Rose};
-ghost use Rattle.sec_base.specs.Writing.{Gains};
+ghost use Rattle.sec_base.specs.Sink.{Gains};
 ghost use Rattle.rv32_decode.specs.Table.{IsInst};
 ghost use Rattle.rv32_core.specs.State.{register, word};
 ghost use Rattle.rv32_core.specs.Effect.{effect};

@@ -1,7 +1,7 @@
 ghost use Rattle.std.specs.Prelude.{◌≡◌, ◌%◌, ◌<◌, ◌≤◌, ℕ, List, None, Ok, Err, OnErr, OnOk};
 ghost use Rattle.sec_base.specs.Count.{Rose};
-ghost use Rattle.sec_base.specs.Layout.{IsMemorySize};
-ghost use Rattle.sec_base.specs.Writing.{Gains};
+ghost use Rattle.sec_base.specs.Geometry.{IsMemorySize};
+ghost use Rattle.sec_base.specs.Sink.{Gains};
 ghost use Rattle.rv32_core.specs.State.{state_of, opening_hart, register, with_register, next_hart, written_hart};
 ghost use Rattle.rv32_core.specs.Effect.{next};
 ghost use Rattle.rv32_core.specs.Touch.{touches, HasLinesOfAll};

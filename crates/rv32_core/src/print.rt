@@ -1,8 +1,8 @@
 // What an instruction prints: bytes of the memory, loaded and written piece by piece.
 ghost use Rattle.std.specs.Prelude.{◌≡◌, ◌+◌, ◌<◌, ◌≤◌, ◌^◌, ℕ, List, Option, None, Some, Result, Ok, Err, length, take, drop, IfErr, OnOk, OnErr};
 ghost use Rattle.sec_base.specs.Count.{Rose};
-ghost use Rattle.sec_base.specs.Lists.{IsPrefix};
-ghost use Rattle.sec_base.specs.Writing.{Gains};
+ghost use Rattle.sec_base.specs.Prefix.{IsPrefix};
+ghost use Rattle.sec_base.specs.Sink.{Gains};
 ghost use Rattle.rv32_core.specs.declared.hart.StepStop.TheVariants.{WriteFault};
 ghost use Rattle.rv32_core.specs.Touch.{HasLinesOf};
 ghost use Rattle.rv32_core.specs.Printing.{bytes_at, piece_length as length_of_piece, IsPrinted, StopsAs};

@@ -1,7 +1,7 @@
 // The services of ECALL.
 ghost use Rattle.std.specs.Prelude.{◌≡◌, ◌≢◌, ◌≤◌, ℕ, List, [], None, Ok, Err, OnErr, OnOk};
 ghost use Rattle.sec_base.specs.Count.{Rose};
-ghost use Rattle.sec_base.specs.Writing.{Gains};
+ghost use Rattle.sec_base.specs.Sink.{Gains};
 ghost use Rattle.rv32_core.specs.State.{CallState, word, register, next_hart, written_hart};
 ghost use Rattle.rv32_core.specs.Services.{service, read_service, write_service, brk_service, is_inside, is_output};
 ghost use Rattle.rv32_core.specs.Touch.{service_touches, read_touches, write_touches, HasLinesOfAll};

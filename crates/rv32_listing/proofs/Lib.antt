@@ -1,4 +1,3 @@
-pub mod Digits
 pub mod Firsts
 pub mod Parts
 pub mod Segments

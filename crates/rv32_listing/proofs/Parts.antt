@@ -1,11 +1,11 @@
 -- A text that is written a line at a time.
 use Rattle.std.proofs.Common.{◌≡◌, ◌≤◌, ℕ, List, ◌++◌, sym, ap, subst, ◌∙◌, Err, arith, append_assoc}
 use Rattle.sec_base.specs.Count.{Rose}
-use Rattle.sec_base.specs.Writing.{SinkState, gained, Gains}
-use Rattle.sec_base.specs.declared.writing.SinkStop.{SinkStop}
-use Rattle.sec_base.specs.declared.writing.SinkStop.TheVariants.{Failed, NoMemory}
+use Rattle.sec_base.specs.Sink.{SinkState, gained, Gains}
+use Rattle.sec_base.specs.declared.sink.SinkStop.{SinkStop}
+use Rattle.sec_base.specs.declared.sink.SinkStop.TheVariants.{Failed, NoMemory}
 use Rattle.sec_base.proofs.Writes.{IsPart, gained-append}
-use Rattle.sec_base.specs.Writing.{GainsFront, IsWritten}
+use Rattle.sec_base.specs.Sink.{GainsFront, IsWritten}
 
 -- the next line was written
 line_written : (old mid new : SinkState) (whole line rest : List ℕ) → IsPart old mid whole (line ++ rest) → Gains mid line new → mid.faults ≤ new.faults → IsPart old new whole rest

@@ -1,7 +1,7 @@
 -- The first segment of a program.
 use Rattle.std.proofs.Common.{◌≡◌, ◌<◌, ◌≤◌, ℕ, ◌+◌, List, [], ◌++◌, length, drop, get_or, sym, ap, ◌∙◌}
 use Rattle.std.proofs.lemmas.List.{drop_more, drop_all}
-use Rattle.sec_base.specs.declared.program.Segment.{Segment}
+use Rattle.sec_base.specs.declared.segment.Segment.{Segment}
 use Rattle.rv32_listing.specs.Listing.{bytes_lines, listing_of}
 
 pub segment_first : (items segments : List Segment) (i : ℕ) (segment : Segment) (bytes : List ℕ) → items ≡ segments → i < length items → segment ≡ get_or items i segment → bytes ≡ segment.bytes →

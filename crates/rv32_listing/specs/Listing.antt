@@ -2,21 +2,18 @@
 use Rattle.std.specs.Prelude.{ℕ, ◌+◌, ◌-◌, List, [], ◌∷◌, ◌++◌, length, replicate, codes, false}
 use Rattle.std.specs.Fmt.{digits}
 use Rattle.std.specs.Int.{w32, from_le_bytes}
-use Rattle.sec_base.specs.declared.program.Segment.{Segment}
-use Rattle.rv32_text.specs.Text.{hex8, text_of_word}
-
--- two hexadecimal digits, with their leading zero
-unfoldable pub hex2 : ℕ → List ℕ
-hex2 n = replicate (2 - length (digits 16 false n)) 48 ++ digits 16 false n
+use Rattle.sec_base.specs.declared.segment.Segment.{Segment}
+use Rattle.rv32_text.specs.Text.{text_of_word}
+use Rattle.sec_base.specs.Hexadecimal.{hex_digits}
 
 -- a word at an address: the address, the word, and its text there
 unfoldable pub word_line : ℕ → ℕ → List ℕ
 word_line address word =
-    hex8 address ++ codes " " ++ hex8 word ++ codes " " ++ text_of_word word address ++ codes "\n"
+    hex_digits 8 address ++ codes " " ++ hex_digits 8 word ++ codes " " ++ text_of_word word address ++ codes "\n"
 
 -- a byte at an address: the address, the byte, and the byte as data
 unfoldable pub byte_line : ℕ → ℕ → List ℕ
-byte_line address byte = hex8 address ++ codes " " ++ hex2 byte ++ codes " .byte 0x" ++ hex2 byte ++ codes "\n"
+byte_line address byte = hex_digits 8 address ++ codes " " ++ hex_digits 2 byte ++ codes " .byte 0x" ++ hex_digits 2 byte ++ codes "\n"
 
 -- bytes from an address on: their words, four bytes at a time and the lowest byte first, and then the bytes that
 -- are left over

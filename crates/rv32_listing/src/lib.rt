@@ -3,7 +3,7 @@
 
 ghost use Rattle.std.specs.Prelude.{◌≤◌};
 ghost use Rattle.rv32_listing.specs.Listing.{listing_of};
-ghost use Rattle.sec_base.specs.Writing.{IsWritten};
+ghost use Rattle.sec_base.specs.Sink.{IsWritten};
 
 mod lines;
 #[cfg(test)]

@@ -2,8 +2,8 @@
 ghost use Rattle.std.specs.Prelude.{◌≡◌, ◌+◌, ◌<◌, ◌≤◌, ◌^◌, ◌++◌, IfOk, codes, length, string_bytes};
 ghost use Rattle.rv32_listing.specs.Listing.{bytes_lines};
 ghost use Rattle.rv32_listing.specs.Listing as spec;
-ghost use Rattle.rv32_text.specs.Text.{hex8};
-ghost use Rattle.sec_base.specs.Writing.{IsWritten};
+ghost use Rattle.sec_base.specs.Hexadecimal.{hex_digits};
+ghost use Rattle.sec_base.specs.Sink.{IsWritten};
 
 use rv32_text::write_word;
 use sec_base::{NoMemory, Sink, SinkStop, write_all};
@@ -76,7 +76,7 @@ fn word_line(alloc: Global, address: u32, word: u32) -> Result<Vec<u8>, NoMemory
 }
 
 fn word_start(alloc: Global, address: u32, word: u32) -> Result<String, NoMemory>
-    ensures { IfOk result (λ start. string_bytes start ≡ hex8 address ++ codes " " ++ hex8 word ++ codes " ") }
+    ensures { IfOk result (λ start. string_bytes start ≡ hex_digits 8 address ++ codes " " ++ hex_digits 8 word ++ codes " ") }
 {
     Ok(format!(in alloc; "{address:08x} {word:08x} ")?)
 }

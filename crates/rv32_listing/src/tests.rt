@@ -1,7 +1,8 @@
 // The words are LLVM's for riscv32 with M, and so are their texts but for addresses. The lines were put together by
 // hand.
 ghost use Rattle.std.specs.Prelude.{◌≡◌, ◌+◌, ◌≤◌, [], IfOk, length};
-ghost use Rattle.sec_base.specs.Program.{IsImage, IsSegment};
+ghost use Rattle.sec_base.specs.Image.{IsImage};
+ghost use Rattle.sec_base.specs.Segment.{IsSegment};
 
 use crate::write_listing;
 use sec_base::{Bytes, Image, MemorySink, Segment, Segments, SinkStop};

@@ -4,8 +4,8 @@ use Rattle.std.proofs.lemmas.List.{append-nil, take-append-drop, take_all, drop_
 use Rattle.std.proofs.lemmas.List.Sums.{fold_more}
 use Rattle.std.proofs.lemmas.List.Edits.{sets-eq}
 use Rattle.std.proofs.Math.Seq.{sets, length-sets, take-add}
-use Rattle.sec_base.specs.declared.memory.Width.TheVariants.{Four}
-use Rattle.sec_base.specs.declared.program.Segment.{Segment}
+use Rattle.sec_base.specs.declared.width.Width.TheVariants.{Four}
+use Rattle.sec_base.specs.declared.segment.Segment.{Segment}
 use Rattle.sec_base.specs.Opening.{segment_memory, laid_over, opening_memory}
 use Rattle.sec_base.specs.Width.{with_number}
 use Rattle.rv32_core.specs.State.{with_bytes}

@@ -1,9 +1,9 @@
 -- The memories that a run went through.
 use Rattle.std.proofs.Common.{◌≡◌, ◌<◌, ◌⊎◌, inl, inr, ℕ, suc, ◌+◌, List, [], Option, Some, None, Result, Ok, refl, sym, ap, ◌∙◌, subst, arith}
 use Rattle.std.specs.Prelude.{OnOk}
-use Rattle.sec_base.specs.declared.answers.Ending.{Ending}
-use Rattle.sec_base.specs.declared.answers.Ending.TheVariants.{Halted, Trapped, OutOfSteps, Tampered, Spent, WriteFault, NoMemory}
-use Rattle.sec_base.specs.declared.answers.MemStop.{MemStop}
+use Rattle.sec_base.specs.declared.ending.Ending.{Ending}
+use Rattle.sec_base.specs.declared.ending.Ending.TheVariants.{Halted, Trapped, OutOfSteps, Tampered, Spent, WriteFault, NoMemory}
+use Rattle.sec_base.specs.declared.stop.MemStop.{MemStop}
 use Rattle.rv32_core.specs.declared.hart.Step.{Step}
 use Rattle.rv32_core.specs.declared.hart.StepStop.{StepStop}
 use Rattle.rv32_core.specs.State.{State}

@@ -8,10 +8,10 @@ use Rattle.std.proofs.lemmas.Bool.{leb-true}
 use Rattle.std.proofs.lemmas.List.FromFn.{length-map-range_with_len, get_or-map-range_with_len}
 use Rattle.std.proofs.lemmas.List.Elements.{Contains-append_cases, Contains-append_left, Contains-append_right}
 use Rattle.std.proofs.lemmas.Map.Views.{list_any-from_Contains}
-use Rattle.sec_base.specs.declared.answers.MemStop.{MemStop}
+use Rattle.sec_base.specs.declared.stop.MemStop.{MemStop}
 use Rattle.sec_base.specs.Count.{Rose, RoseBy}
 use Rattle.sec_base.specs.Gain.{Gain}
-use Rattle.sec_base.specs.Layout.{line_of}
+use Rattle.sec_base.specs.Geometry.{line_of}
 use Rattle.sec_base.proofs.Gains.{gain_none, gain_one, gain_on}
 use Rattle.rv32_core.specs.Machine.{Machine, plain, one_more}
 use Rattle.rv32_core.proofs.Plain.{plain_more}

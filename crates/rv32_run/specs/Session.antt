@@ -1,9 +1,9 @@
 -- What a session's turns are, seen from the plain machine.
 use Rattle.std.specs.Prelude.{◌≡◌, ℕ, ◌+◌, List, Option, Some, None}
-use Rattle.sec_base.specs.declared.answers.Ending.{Ending}
-use Rattle.sec_base.specs.declared.answers.Ending.TheVariants.{Halted, Trapped, OutOfSteps, Tampered, Spent, WriteFault, NoMemory}
-use Rattle.sec_base.specs.declared.answers.MemStop.{MemStop}
-use Rattle.sec_base.specs.declared.answers.MemStop.TheVariants.{Tampered as tampered, Spent as spent, NoMemory as no_memory}
+use Rattle.sec_base.specs.declared.ending.Ending.{Ending}
+use Rattle.sec_base.specs.declared.ending.Ending.TheVariants.{Halted, Trapped, OutOfSteps, Tampered, Spent, WriteFault, NoMemory}
+use Rattle.sec_base.specs.declared.stop.MemStop.{MemStop}
+use Rattle.sec_base.specs.declared.stop.MemStop.TheVariants.{Tampered as tampered, Spent as spent, NoMemory as no_memory}
 use Rattle.rv32_core.specs.State.{Hart, CallState}
 use Rattle.rv32_core.specs.Machine.{Machine, plain}
 use Rattle.rv32_core.specs.Follows.{Follows}

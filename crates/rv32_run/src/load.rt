@@ -1,7 +1,7 @@
 // How a program is stored in memory.
 ghost use Rattle.std.specs.Prelude.{◌≡◌, ◌+◌, ◌<◌, ◌≤◌, ◌^◌, ℕ, List, None, Some, IfOk, IfErr, OnOk, length, slice_index, replicate};
 ghost use Rattle.sec_base.specs.Opening.{segment_memory, laid_over, opening_memory};
-ghost use Rattle.sec_base.specs.Program.{IsSegment};
+ghost use Rattle.sec_base.specs.Segment.{IsSegment};
 ghost use Rattle.rv32_core.specs.State.{with_bytes};
 ghost use Rattle.rv32_run.specs.Loading.{part, word_bytes};
 

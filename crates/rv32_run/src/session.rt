@@ -1,8 +1,8 @@
 // A run that is under way.
 ghost use Rattle.std.specs.Prelude.{◌≡◌, ◌↔◌, ◌<◌, ◌≤◌, ◌++◌, ℕ, List, None, Some, IfSome, length};
-ghost use Rattle.sec_base.specs.declared.answers.Ending.TheVariants.{OutOfSteps, WriteFault};
+ghost use Rattle.sec_base.specs.declared.ending.Ending.TheVariants.{OutOfSteps, WriteFault};
 ghost use Rattle.sec_base.specs.Count.{Rose};
-ghost use Rattle.sec_base.specs.Writing.{Gains};
+ghost use Rattle.sec_base.specs.Sink.{Gains};
 ghost use Rattle.rv32_core.specs.State.{opening_hart};
 ghost use Rattle.rv32_core.specs.Effect.{next};
 ghost use Rattle.rv32_core.specs.Outcome.{prints_of};

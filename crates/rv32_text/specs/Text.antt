@@ -109,13 +109,9 @@ mnemonic_of FenceI = mnemonic (codes "fence.i") Fence
 mnemonic_of Ecall = mnemonic (codes "ecall") Bare
 mnemonic_of Ebreak = mnemonic (codes "ebreak") Bare
 
--- eight hexadecimal digits, with their leading zeros
-unfoldable pub hex8 : ℕ → List ℕ
-hex8 n = replicate (8 - length (digits 16 false n)) 48 ++ digits 16 false n
-
 -- a word as data
 unfoldable pub data_text : ℕ → List ℕ
-data_text word = codes ".word 0x" ++ hex8 word
+data_text word = codes ".word 0x" ++ hex_digits 8 word
 
 -- the address that a branch or a jump at `pc` leads to
 abbrev pub target_of : Inst → ℕ → ℕ
@@ -126,7 +122,7 @@ unfoldable pub place_text : Inst → List ℕ
 place_text i = signed_decimal i.imm ++ (codes "(" ++ (register_name i.rs1 ++ codes ")"))
 
 unfoldable pub target_text : Inst → ℕ → List ℕ
-target_text i pc = codes "0x" ++ hex8 (target_of i pc)
+target_text i pc = codes "0x" ++ hex_digits 8 (target_of i pc)
 
 unfoldable pub upper_text : Inst → List ℕ
 upper_text i = codes "0x" ++ digits 16 false (imm_bits i 12 20)

@@ -1,7 +1,8 @@
 //! Texts put together: an instruction's name, and its operands with a comma and a blank between them.
 
 ghost use Rattle.rv32_decode.specs.Table.{IsInst, word_of};
-ghost use Rattle.rv32_text.specs.Text.{data_text, hex8, is_unnamed_fence, place_text, statement, target_of, target_text, text_of, upper_text};
+ghost use Rattle.rv32_text.specs.Text.{data_text, is_unnamed_fence, place_text, statement, target_of, target_text, text_of, upper_text};
+ghost use Rattle.sec_base.specs.Hexadecimal.{hex_digits};
 ghost use Rattle.rv32_text.specs.declared.names.Style.TheVariants.{Fence};
 ghost use Rattle.std.specs.Prelude.{IfOk, [], if◌then◌else◌, string_bytes, ◌<◌, ◌≡◌, ◌∷◌};
 
@@ -44,9 +45,9 @@ fn target(inst: &Inst, pc: u32) -> u32
     pc.wrapping_add(inst.imm.cast_unsigned())
 }
 
-#[tactic(auto, using(crate::proofs::Digits::padded_is_hex8))]
+#[tactic(auto, using(sec_base::proofs::Digits::padded_is_hex_8))]
 fn eight_digits(alloc: Global, number: u32) -> Result<String, AllocError>
-    ensures { IfOk result (λ text. string_bytes text ≡ hex8 number) }
+    ensures { IfOk result (λ text. string_bytes text ≡ hex_digits 8 number) }
 {
     format!(in alloc; "{number:08x}")
 }

@@ -4,7 +4,7 @@ use Rattle.std.proofs.lemmas.List.Sums.{fold-append}
 use Rattle.std.proofs.lemmas.Slice.Eq.{bytes_eq-Decides}
 use Rattle.std.specs.Str.{bytes_eq}
 use Rattle.sec_base.specs.MemoryFiles.{content_of, content_with}
-use Rattle.sec_base.specs.declared.reading.NamedFile.{NamedFile}
+use Rattle.sec_base.specs.declared.memory_files.NamedFile.{NamedFile}
 
 content_of-append : (files : List NamedFile) (file : NamedFile) (name : List ℕ) →
     content_of (files ++ file ∷ []) name ≡ content_with name (content_of files name) file

@@ -1,7 +1,7 @@
 -- The sizes of the memories that there are.
 use Rattle.std.proofs.Common.{ℕ, zero, suc, ◌≤◌, ◌^◌, refl, arith}
 use Rattle.std.proofs.Math.Nat.{pow-le-pow_right}
-use Rattle.sec_base.specs.Layout.{memory_size, IsMemorySize, line_count}
+use Rattle.sec_base.specs.Geometry.{memory_size, IsMemorySize, line_count}
 use Rattle.sec_base.specs.Lines.{IsLineCount}
 
 -- no tree has more than 4096 pages

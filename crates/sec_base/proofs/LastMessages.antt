@@ -3,10 +3,10 @@ use Rattle.std.proofs.Common.{◌≡◌, ℕ, ◌+◌, Bool, true, false, cond, 
 use Rattle.std.specs.Option.{option_map, option_or}
 use Rattle.std.specs.List.{slice_get, filter_map}
 use Rattle.std.proofs.lemmas.List.Sums.{fold-append}
-use Rattle.sec_base.specs.declared.sealing.Counter.{Counter}
-use Rattle.sec_base.specs.declared.account.Message.{Message}
-use Rattle.sec_base.specs.declared.account.Message.TheVariants.{Line, Node}
-use Rattle.sec_base.specs.Last.{passed, last_at, last_of, last_data, last_pair, pair_of, data_part, counter_part, data_pairs, IsFresh}
+use Rattle.sec_base.specs.declared.counter.Counter.{Counter}
+use Rattle.sec_base.specs.declared.message.Message.{Message}
+use Rattle.sec_base.specs.declared.message.Message.TheVariants.{Line, Node}
+use Rattle.sec_base.specs.LastMessage.{passed, last_at, last_of, last_data, last_pair, pair_of, data_part, counter_part, data_pairs, IsFresh}
 
 -- as many items were passed as there are
 count_passed : {A B : Type 0} (part : A → Option B) (items : List A) (seen : ℕ × Option (ℕ × B)) →

@@ -9,3 +9,4 @@ pub mod SamePlaces
 pub mod JoinedLines
 pub mod LineNumbers
 pub mod Gains
+pub mod Digits

@@ -2,9 +2,9 @@
 use Rattle.std.proofs.Common.{◌≡◌, ◌≢◌, Bool, true, false, cond, nat_eq, ◌&&◌, refl, ap, ◌∙◌, sym}
 use Rattle.std.specs.Bool.{Decides}
 use Rattle.std.proofs.lemmas.Bool.Decides.{Decides-eqb, Decides-and, Decides-like}
-use Rattle.sec_base.specs.declared.layout.Place.{Place}
-use Rattle.sec_base.specs.declared.layout.Place.TheVariants.{Line, Node}
-use Rattle.sec_base.specs.Places.{place_eq, at_place}
+use Rattle.sec_base.specs.declared.place.Place.{Place}
+use Rattle.sec_base.specs.declared.place.Place.TheVariants.{Line, Node}
+use Rattle.sec_base.specs.Place.{place_eq, at_place}
 
 -- the test tells places apart
 pub place_eq-Decides : (first second : Place) → Decides (place_eq first second) (first ≡ second)

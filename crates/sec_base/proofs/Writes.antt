@@ -2,8 +2,8 @@
 use Rattle.std.proofs.Common.{◌≡◌, ◌≤◌, ℕ, List, [], ◌++◌, take, drop, refl, sym, ap, ◌∙◌, Option, Some, None, arith, append_assoc}
 use Rattle.std.proofs.lemmas.List.{append-nil, take-append-drop}
 use Rattle.sec_base.specs.Count.{Rose}
-use Rattle.sec_base.specs.Lists.{IsPrefix}
-use Rattle.sec_base.specs.Writing.{SinkState, gained, Gains, Silent}
+use Rattle.sec_base.specs.Prefix.{IsPrefix}
+use Rattle.sec_base.specs.Sink.{SinkState, gained, Gains, Silent}
 
 pub gained-append : (a b : List ℕ) (o : Option (List ℕ)) → gained (a ++ b) o ≡ gained b (gained a o)
 gained-append a b None = refl

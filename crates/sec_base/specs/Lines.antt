@@ -1,7 +1,7 @@
 -- The lines of 64 bytes of a memory.
 use Rattle.std.specs.Prelude.{◌==◌, ℕ, ◌+◌, ◌*◌, zero, suc, List, [], ◌++◌, take, drop, Bool, IsTrue}
 use Rattle.std.specs.List.{list_any}
-use Rattle.sec_base.specs.Layout.{all_levels, line_count}
+use Rattle.sec_base.specs.Geometry.{all_levels, line_count}
 
 -- the number of lines of some tree's memory
 abbrev pub is_line_count : ℕ → Bool

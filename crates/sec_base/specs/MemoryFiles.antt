@@ -2,11 +2,11 @@
 use Rattle.std.specs.Prelude.{ℕ, ◌+◌, List, [], ◌∷◌, ◌++◌, length, fold, nat_lt, if◌then◌else◌, Option, Some, None, Result, Ok, Err}
 use Rattle.std.specs.Str.{bytes_eq}
 use Rattle.sec_base.specs.Count.{more_by}
-use Rattle.sec_base.specs.Calls.{next_fails}
-use Rattle.sec_base.specs.Reading.{FilesState}
-use Rattle.sec_base.specs.declared.reading.NamedFile.{NamedFile}
-use Rattle.sec_base.specs.declared.reading.ReadStop.{ReadStop}
-use Rattle.sec_base.specs.declared.reading.ReadStop.TheVariants.{Failed, Long, NoMemory as no_memory}
+use Rattle.sec_base.specs.FailingCalls.{next_fails}
+use Rattle.sec_base.specs.Files.{FilesState}
+use Rattle.sec_base.specs.declared.memory_files.NamedFile.{NamedFile}
+use Rattle.sec_base.specs.declared.files.ReadStop.{ReadStop}
+use Rattle.sec_base.specs.declared.files.ReadStop.TheVariants.{Failed, Long, NoMemory as no_memory}
 
 -- the files in the order in which they were added, the numbers of the calls that are to fail, how many calls
 -- and faults there were and how many bytes were taken, and the names that were asked for

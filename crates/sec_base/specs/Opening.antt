@@ -1,6 +1,6 @@
 -- The memory as a program finds it, and where its segments end.
 use Rattle.std.specs.Prelude.{ℕ, ◌+◌, ◌-◌, ◌*◌, ◌/◌, List, ◌++◌, length, take, drop, replicate, fold, max}
-use Rattle.sec_base.specs.declared.program.Segment.{Segment}
+use Rattle.sec_base.specs.declared.segment.Segment.{Segment}
 
 -- a segment's memory: its bytes, then zeros
 abbrev pub segment_memory : Segment → List ℕ

@@ -1,7 +1,7 @@
 -- Numbers of one, two or four bytes in a list of bytes, the lowest byte first.
 use Rattle.std.specs.Prelude.{ℕ, ◌+◌, ◌*◌, ◌/◌, ◌%◌, ◌^◌, List, slice_index, slice_set}
-use Rattle.sec_base.specs.declared.memory.Width.{Width}
-use Rattle.sec_base.specs.declared.memory.Width.TheVariants.{One, Two, Four}
+use Rattle.sec_base.specs.declared.width.Width.{Width}
+use Rattle.sec_base.specs.declared.width.Width.TheVariants.{One, Two, Four}
 
 -- how many bytes
 abbrev pub width_bytes : Width → ℕ

@@ -1,7 +1,7 @@
 // Each public call once with ample memory. The numbers of the geometry are those of Python: 4 ** levels pages of
 // 4096 bytes, and so on.
 ghost use Rattle.std.specs.Prelude.{IfOk, replicate, refl};
-ghost use Rattle.sec_base.specs.Program.{IsImage};
+ghost use Rattle.sec_base.specs.Image.{IsImage};
 
 use crate::{
     Bytes, Counter, Files, Geometry, Image, MemoryFiles, MemorySink, Message, Messages, Pads,

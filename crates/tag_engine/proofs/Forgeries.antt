@@ -2,13 +2,13 @@
 use Rattle.std.proofs.Common.{◌≡◌, ℕ, zero, suc, Bool, true, false, cond, not, true≢false, List, [], ◌∷◌, ◌++◌, length, take, Option, Some, None, IfSome, Contains, refl, ap, ◌∙◌, sym, arith, length-append}
 use Rattle.std.specs.List.{slice_get}
 use Rattle.std.proofs.lemmas.List.{take_all, take-append-le}
-use Rattle.sec_base.specs.declared.sealing.Counter.{Counter}
-use Rattle.sec_base.specs.declared.sealing.Sealed.{Sealed}
-use Rattle.sec_base.specs.declared.account.Message.{Message}
-use Rattle.sec_base.specs.declared.account.Message.TheVariants.{Line, Node}
-use Rattle.sec_base.specs.declared.account.Evidence.{Evidence}
-use Rattle.sec_base.specs.declared.account.Evidence.TheVariants.{Forgery, Collision}
-use Rattle.sec_base.specs.Messages.{has_message}
+use Rattle.sec_base.specs.declared.counter.Counter.{Counter}
+use Rattle.sec_base.specs.declared.sealed.Sealed.{Sealed}
+use Rattle.sec_base.specs.declared.message.Message.{Message}
+use Rattle.sec_base.specs.declared.message.Message.TheVariants.{Line, Node}
+use Rattle.sec_base.specs.declared.evidence.Evidence.{Evidence}
+use Rattle.sec_base.specs.declared.evidence.Evidence.TheVariants.{Forgery, Collision}
+use Rattle.sec_base.specs.Message.{has_message}
 use Rattle.sec_base.specs.Evidence.{IsEvidence}
 use Rattle.sec_base.proofs.SameMessages.{has_message-Decides}
 use Rattle.tag_engine.specs.Engine.{forgery_of}

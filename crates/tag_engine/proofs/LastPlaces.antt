@@ -3,10 +3,10 @@ use Rattle.std.proofs.Common.{◌≡◌, ◌≢◌, ℕ, ◌<◌, Bool, true, fa
 use Rattle.std.specs.Option.{option_map}
 use Rattle.std.proofs.lemmas.Option.{slice_get_within}
 use Rattle.std.proofs.lemmas.Bool.Decides.{Decides-eqb}
-use Rattle.sec_base.specs.declared.sealing.Counter.{Counter}
-use Rattle.sec_base.specs.declared.account.Message.{Message}
-use Rattle.sec_base.specs.declared.account.Message.TheVariants.{Line}
-use Rattle.sec_base.specs.Last.{data_part, last_at}
+use Rattle.sec_base.specs.declared.counter.Counter.{Counter}
+use Rattle.sec_base.specs.declared.message.Message.{Message}
+use Rattle.sec_base.specs.declared.message.Message.TheVariants.{Line}
+use Rattle.sec_base.specs.LastMessage.{data_part, last_at}
 use Rattle.sec_base.proofs.LastMessages.{last_at_same, last_at_other, linked, HasPart}
 use Rattle.tag_engine.specs.Kept.{last_place}
 

@@ -1,13 +1,13 @@
 -- What contracts see of a tag engine, and what its calls make of it.
 use Rattle.std.specs.Prelude.{ℕ, ◌-◌, max, List, [], ◌∷◌, ◌++◌, length, Bool, ◌&&◌, not, if◌then◌else◌, Option, Some, None}
 use Rattle.std.specs.Option.{option_or}
-use Rattle.sec_base.specs.declared.sealing.Counter.{Counter}
-use Rattle.sec_base.specs.declared.sealing.Sealed.{Sealed}
-use Rattle.sec_base.specs.declared.account.Message.{Message}
-use Rattle.sec_base.specs.declared.account.Message.TheVariants.{Line}
-use Rattle.sec_base.specs.declared.account.Evidence.{Evidence}
-use Rattle.sec_base.specs.declared.account.Evidence.TheVariants.{Forgery}
-use Rattle.sec_base.specs.Messages.{has_message}
+use Rattle.sec_base.specs.declared.counter.Counter.{Counter}
+use Rattle.sec_base.specs.declared.sealed.Sealed.{Sealed}
+use Rattle.sec_base.specs.declared.message.Message.{Message}
+use Rattle.sec_base.specs.declared.message.Message.TheVariants.{Line}
+use Rattle.sec_base.specs.declared.evidence.Evidence.{Evidence}
+use Rattle.sec_base.specs.declared.evidence.Evidence.TheVariants.{Forgery}
+use Rattle.sec_base.specs.Message.{has_message}
 use Rattle.tag_engine.specs.Tag.{engine_tag}
 
 -- the tagger, the levels of the memory's tree, the messages that were tagged, in order, what passed a check and was

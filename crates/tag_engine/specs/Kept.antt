@@ -1,9 +1,9 @@
 -- What a tag engine keeps.
 use Rattle.std.specs.Prelude.{◌≡◌, ℕ, ◌+◌, ◌<◌, ◌≤◌, List, length, Option, None, IfSome, slice_index_or}
 use Rattle.std.specs.Option.{option_map}
-use Rattle.sec_base.specs.declared.account.Message.{Message}
-use Rattle.sec_base.specs.Layout.{line_count}
-use Rattle.sec_base.specs.Last.{data_part, last_at}
+use Rattle.sec_base.specs.declared.message.Message.{Message}
+use Rattle.sec_base.specs.Geometry.{line_count}
+use Rattle.sec_base.specs.LastMessage.{data_part, last_at}
 use Rattle.sec_base.specs.Evidence.{IsEvidence}
 use Rattle.tag_engine.specs.declared.engine.TagEngine.TheInside.{Inside}
 use Rattle.tag_engine.specs.Engine.{Engine}

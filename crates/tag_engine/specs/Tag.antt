@@ -1,8 +1,8 @@
 -- The tag that a tag engine gives to a message. It is defined here alone: all that speaks of an engine's tags cites this.
 use Rattle.std.specs.Prelude.{ℕ, List}
-use Rattle.sec_base.specs.declared.account.Message.{Message}
-use Rattle.sec_base.specs.declared.account.Message.TheVariants.{Line, Node}
-use Rattle.sec_base.specs.Encoding.{data_bytes, node_bytes}
+use Rattle.sec_base.specs.declared.message.Message.{Message}
+use Rattle.sec_base.specs.declared.message.Message.TheVariants.{Line, Node}
+use Rattle.sec_base.specs.Message.{data_bytes, node_bytes}
 
 -- a message's tag, by what the tagger gives for the bytes of each kind of message, in a memory of so many levels
 unfoldable pub engine_tag : (List ℕ → List ℕ) → (List ℕ → List ℕ) → ℕ → Message → List ℕ

@@ -1,6 +1,6 @@
 ghost use Rattle.std.specs.Prelude.{true, ◌≡◌, ◌↔◌, ◌<◌, ℕ, List, Option, IsTrue, IsOk, IfOk, IfSome, OnOk, OnErr, Contains, length};
-ghost use Rattle.sec_base.specs.declared.account.Message.TheVariants.{Line};
-ghost use Rattle.sec_base.specs.Layout.{line_count};
+ghost use Rattle.sec_base.specs.declared.message.Message.TheVariants.{Line};
+ghost use Rattle.sec_base.specs.Geometry.{line_count};
 ghost use Rattle.sec_base.specs.Evidence.{IsEvidence};
 ghost use Rattle.tag_engine.specs.Tag.{engine_tag};
 ghost use Rattle.tag_engine.specs.Engine.{Engine, new_engine, with_room, after_make, after_check, forgery_of, tags_of};

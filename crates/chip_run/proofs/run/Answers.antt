@@ -1,6 +1,6 @@
 use Rattle.std.proofs.Common.{◌≡◌, [], None, sym, ap, ◌∙◌, subst, arith, rules}
-use Rattle.sec_base.specs.declared.answers.MemStop.TheVariants.{NoMemory}
-use Rattle.sec_base.specs.Layout.{line_count}
+use Rattle.sec_base.specs.declared.stop.MemStop.TheVariants.{NoMemory}
+use Rattle.sec_base.specs.Geometry.{line_count}
 use Rattle.sec_base.specs.Opening.{opening_memory}
 use Rattle.sec_base.proofs.Writes.{gained-nil}
 use Rattle.rv32_core.specs.Machine.{opening}
@@ -8,7 +8,7 @@ use Rattle.tag_engine.specs.Engine.{tags_of}
 use Rattle.chip_run.specs.Contents.{contents_of}
 use Rattle.chip_run.specs.Protected.{Protected, new_protected}
 use Rattle.rv32_run.specs.Session.{IsStop, FollowsWith}
-use Rattle.sec_base.specs.declared.layout.Place.TheVariants.{Line}
+use Rattle.sec_base.specs.declared.place.Place.TheVariants.{Line}
 use Rattle.chip_run.specs.declared.ram.LineRam.{LineRam}
 use Rattle.rv32_run.proofs.Runs.{opening_begins, opening_follows, nothing_follows, budget_ends}
 use Rattle.chip_run.proofs.Runs.{opening_zeros, levels_stay, key_stays, no_repeat, nothing_rising, nothing_paired, nothing_numbered, nothing_consecutive, limit_stays, limit_stored, limited_by, never_limited, reads_stay, reads_stored, written_out, honest_run}

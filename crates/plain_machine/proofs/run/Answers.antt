@@ -1,5 +1,5 @@
 use Rattle.std.proofs.Common.{◌<◌, ℕ, [], length, inr, refl, sym, ◌∙◌, subst, arith}
-use Rattle.sec_base.specs.declared.answers.MemStop.TheVariants.{NoMemory}
+use Rattle.sec_base.specs.declared.stop.MemStop.TheVariants.{NoMemory}
 use Rattle.sec_base.proofs.Writes.{gained-nil}
 use Rattle.rv32_core.specs.Effect.{next}
 use Rattle.rv32_core.specs.Outcome.{prints_of}

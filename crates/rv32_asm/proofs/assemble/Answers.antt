@@ -1,6 +1,6 @@
 use Rattle.std.proofs.Common.{◌≡◌, ◌∙◌, Err, ap, refl, sym}
 use Rattle.std.proofs.lemmas.Result.{err_from_is_err_and}
-use Rattle.sec_base.specs.Program.{from_zero}
+use Rattle.sec_base.specs.Segment.{from_zero}
 use Rattle.rv32_asm.specs.Course.{entry_at}
 use Rattle.rv32_asm.specs.declared.fault.AsmError.TheVariants.{Fault}
 use Rattle.rv32_asm.proofs.Assembling.{end_is, no_bytes, no_entry, no_labels, program_is}

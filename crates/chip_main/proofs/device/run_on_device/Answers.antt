@@ -1,5 +1,5 @@
-use Rattle.sec_base.specs.Layout.{line_count}
-use Rattle.sec_base.specs.declared.layout.Place.TheVariants.{Line}
+use Rattle.sec_base.specs.Geometry.{line_count}
+use Rattle.sec_base.specs.declared.place.Place.TheVariants.{Line}
 use Rattle.chip_main.proofs.DeviceRuns.{read_from_none, device_tag_is, enc_key_is, nothing_written, opening_is}
 use Rattle.chip_main.proofs.device.run_on_device.Goals as goal
 

@@ -1,5 +1,5 @@
 use Rattle.std.proofs.Common.{◌≡◌, Err}
-use Rattle.sec_base.specs.declared.reading.ReadStop.TheVariants.{Failed, Long, NoMemory}
+use Rattle.sec_base.specs.declared.files.ReadStop.TheVariants.{Failed, Long, NoMemory}
 use Rattle.chip_main.specs.declared.refusal.Refusal.TheVariants.{Unread, TooLong}
 use Rattle.chip_main.proofs.Takings.{runs_out_here, stops_here}
 use Rattle.chip_main.proofs.taking.read_file.Goals as goal

@@ -1,5 +1,5 @@
 use Rattle.std.proofs.Common.{◌+◌, [], ◌∷◌, ◌++◌, ◌∙◌, refl, sym, arith, inl, inr}
-use Rattle.sec_base.specs.Layout.{line_of}
+use Rattle.sec_base.specs.Geometry.{line_of}
 use Rattle.rv32_core.proofs.Loading.{no_lines, lines_more}
 use Rattle.rv32_core.proofs.Storing.{nothing_stored, one_more_stored}
 use Rattle.rv32_core.proofs.input.store_bytes.Goals as goal

@@ -1,5 +1,5 @@
 use Rattle.std.proofs.Common.{◌≡◌, ◌+◌, [], ◌∷◌, ◌++◌, length, ◌∙◌, arith, subst, ℕ, take, drop}
-use Rattle.sec_base.specs.Layout.{line_of}
+use Rattle.sec_base.specs.Geometry.{line_of}
 use Rattle.rv32_core.proofs.Loading.{IsLoading, lines_more, loading_more, loading_all}
 use Rattle.rv32_core.proofs.print.load_piece.Goals as goal
 

@@ -1,6 +1,6 @@
 use Rattle.std.proofs.Common.{◌-◌, List, ◌++◌, ◌∙◌, ap, arith, subst, ℕ}
 use Rattle.rv32_core.specs.Printing.{bytes_at}
-use Rattle.sec_base.specs.Lists.{IsPrefix}
+use Rattle.sec_base.specs.Prefix.{IsPrefix}
 use Rattle.rv32_core.proofs.Printed.{gains_both, bytes_both, lines_both, prefix_both, none_from_ok}
 use Rattle.rv32_core.proofs.print.print.Goals as goal
 

@@ -1,5 +1,5 @@
 use Rattle.std.proofs.Common.{◌≡◌, ◌+◌, ◌-◌, ◌≤◌, ℕ, List, None}
-use Rattle.sec_base.specs.Writing.{Gains}
+use Rattle.sec_base.specs.Sink.{Gains}
 use Rattle.rv32_core.specs.Touch.{HasLinesOf}
 use Rattle.rv32_core.specs.Printing.{bytes_at}
 use Rattle.rv32_core.proofs.print.print.Given as goal

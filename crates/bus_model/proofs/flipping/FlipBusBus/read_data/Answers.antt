@@ -1,6 +1,6 @@
 use Rattle.std.proofs.Common.{refl}
 use Rattle.sec_base.specs.Evidence.{sealed_bytes}
-use Rattle.sec_base.specs.declared.layout.Place.TheVariants.{Line}
+use Rattle.sec_base.specs.declared.place.Place.TheVariants.{Line}
 use Rattle.bus_model.proofs.FlipSteps.{flip_read, flip_lied, alike, unlike, lie_at}
 use Rattle.bus_model.proofs.flipping.FlipBusBus.read_data.Goals as goal
 

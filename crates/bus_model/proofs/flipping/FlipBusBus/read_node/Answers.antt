@@ -1,5 +1,5 @@
 use Rattle.std.proofs.Common.{refl}
-use Rattle.sec_base.specs.declared.layout.Place.TheVariants.{Node}
+use Rattle.sec_base.specs.declared.place.Place.TheVariants.{Node}
 use Rattle.bus_model.proofs.FlipSteps.{flip_read, flip_lied, alike, unlike, lie_at}
 use Rattle.bus_model.proofs.flipping.FlipBusBus.read_node.Goals as goal
 

@@ -1,5 +1,5 @@
 use Rattle.sec_base.specs.Evidence.{sealed_bytes}
-use Rattle.sec_base.specs.declared.layout.Place.TheVariants.{Line}
+use Rattle.sec_base.specs.declared.place.Place.TheVariants.{Line}
 use Rattle.bus_model.proofs.FlipSteps.{flip_wrote, flip_refused, if_err}
 use Rattle.bus_model.proofs.flipping.FlipBusBus.write_data.Goals as goal
 

@@ -1,4 +1,4 @@
-use Rattle.sec_base.specs.declared.layout.Place.TheVariants.{Node}
+use Rattle.sec_base.specs.declared.place.Place.TheVariants.{Node}
 use Rattle.bus_model.proofs.FlipSteps.{flip_wrote, flip_refused, if_err}
 use Rattle.bus_model.proofs.flipping.FlipBusBus.write_node.Goals as goal
 

@@ -1,11 +1,11 @@
 use Rattle.std.proofs.Common.{◌≡◌, ◌<◌, None, Some, Err, sym, ap, ◌∙◌, subst}
-use Rattle.sec_base.specs.Layout.{line_count}
-use Rattle.sec_base.specs.declared.sealing.Counter.{Counter}
-use Rattle.sec_base.specs.declared.answers.MemStop.{MemStop}
-use Rattle.sec_base.specs.declared.answers.MemStop.TheVariants.{Tampered}
+use Rattle.sec_base.specs.Geometry.{line_count}
+use Rattle.sec_base.specs.declared.counter.Counter.{Counter}
+use Rattle.sec_base.specs.declared.stop.MemStop.{MemStop}
+use Rattle.sec_base.specs.declared.stop.MemStop.TheVariants.{Tampered}
 use Rattle.pad_stream.specs.Pad.{enciphered}
 use Rattle.tag_engine.specs.Engine.{Engine, tags_of}
-use Rattle.sec_base.specs.Last.{last_pair}
+use Rattle.sec_base.specs.LastMessage.{last_pair}
 use Rattle.chip_run.specs.Protected.{Protected, ReadMoved, IsCheckedRead, lasting_stop}
 use Rattle.chip_run.specs.Contents.{writes_by}
 use Rattle.chip_run.proofs.LineMessages.{counter_read, writes_same}

@@ -1,11 +1,11 @@
 use Rattle.std.proofs.Common.{◌≡◌, ◌+◌, ◌/◌, ◌<◌, ◌++◌, ◌∷◌, [], ℕ, List, None, Some, inl, inr, slice_set, refl, sym, ap, ◌∙◌, subst}
-use Rattle.sec_base.specs.Layout.{line_count}
+use Rattle.sec_base.specs.Geometry.{line_count}
 use Rattle.sec_base.specs.Lines.{with_line}
-use Rattle.sec_base.specs.declared.layout.Place.TheVariants.{Line as line_place}
-use Rattle.sec_base.specs.declared.sealing.Counter.{Counter}
-use Rattle.sec_base.specs.declared.account.Message.{Message}
-use Rattle.sec_base.specs.declared.account.Message.TheVariants.{Line}
-use Rattle.sec_base.specs.declared.answers.MemStop.TheVariants.{Spent, NoMemory}
+use Rattle.sec_base.specs.declared.place.Place.TheVariants.{Line as line_place}
+use Rattle.sec_base.specs.declared.counter.Counter.{Counter}
+use Rattle.sec_base.specs.declared.message.Message.{Message}
+use Rattle.sec_base.specs.declared.message.Message.TheVariants.{Line}
+use Rattle.sec_base.specs.declared.stop.MemStop.TheVariants.{Spent, NoMemory}
 use Rattle.bus_model.specs.Told.{Told, after_write}
 use Rattle.tag_engine.specs.Engine.{Engine, tags_of, after_make, with_room}
 use Rattle.pad_stream.specs.Pad.{enciphered}

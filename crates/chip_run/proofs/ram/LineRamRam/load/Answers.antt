@@ -1,7 +1,6 @@
 use Rattle.std.proofs.Common.{◌∷◌, [], sym, ◌∙◌}
-use Rattle.sec_base.specs.Layout.{line_of}
+use Rattle.sec_base.specs.Geometry.{line_of, line_count}
 use Rattle.chip_run.proofs.LineMoves.{stopped_unmoved}
-use Rattle.sec_base.specs.Layout.{line_count}
 use Rattle.chip_run.specs.Contents.{contents_of}
 use Rattle.sec_base.proofs.LineNumbers.{number_read}
 use Rattle.chip_run.proofs.ram.LineRamRam.load.Goals as goal

@@ -1,12 +1,12 @@
 use Rattle.std.proofs.Common.{◌≡◌, ◌≤◌, ◌+◌, ◌++◌, [], sym, ◌∙◌, subst, refl, length, Result, Err, ℕ, List}
 use Rattle.std.specs.Result.{OnOk}
 use Rattle.sec_base.specs.Width.{number_at}
-use Rattle.sec_base.specs.declared.memory.Width.TheVariants.{Four}
+use Rattle.sec_base.specs.declared.width.Width.TheVariants.{Four}
 use Rattle.rv32_core.specs.State.{Hart, State}
 use Rattle.rv32_core.specs.Fetching.{IsFetched}
 use Rattle.rv32_core.specs.Touch.{HasLinesOf, HasLinesOfAll, data_touches}
 use Rattle.sec_base.proofs.Writes.{gained-nil}
-use Rattle.sec_base.specs.declared.answers.Cause.{Cause}
+use Rattle.sec_base.specs.declared.ending.Cause.{Cause}
 use Rattle.rv32_core.specs.After.{After}
 use Rattle.rv32_core.specs.Effect.{next, effect}
 use Rattle.rv32_core.specs.Outcome.{IsSinkStop}

@@ -1,5 +1,5 @@
 use Rattle.std.proofs.Common.{◌≡◌, ◌≤◌, ◌++◌, ◌-◌, ℕ, List, None}
-use Rattle.sec_base.specs.Writing.{Gains}
+use Rattle.sec_base.specs.Sink.{Gains}
 use Rattle.rv32_core.specs.Machine.{Machine}
 use Rattle.rv32_run.specs.Session.{Reaches}
 use Rattle.rv32_run.proofs.Trails.{IsWalked}

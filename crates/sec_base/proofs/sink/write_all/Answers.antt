@@ -1,0 +1,7 @@
+use Rattle.std.proofs.lemmas.List.{take_rest}
+use Rattle.sec_base.proofs.Writes.{part_goes_on}
+use Rattle.sec_base.proofs.sink.write_all.Goals as goal
+
+pub loop-rest-preserved : goal.loop-rest-preserved
+loop-rest-preserved g c =
+    rw take_rest (part_goes_on _ _ _ _ _ _ c.loop-rest.invariant c.in-Ok.ensures.taken c.write.ensures.faults)

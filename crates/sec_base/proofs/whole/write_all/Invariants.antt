@@ -1,9 +1,0 @@
-use Rattle.std.proofs.Common.{length}
-use Rattle.sec_base.proofs.Writes.{IsPart}
-use Rattle.sec_base.proofs.whole.write_all.Given as goal
-
-abbrev pub invariant-loop-rest : goal.invariant-loop-rest
-invariant-loop-rest g l = IsPart (g.S.Sink.state l.fn.out) (g.S.Sink.state l.out) l.fn.piece l.rest
-
-abbrev pub decreases-loop-rest : goal.decreases-loop-rest
-decreases-loop-rest g l = length l.rest

@@ -1,0 +1,25 @@
+-- How causes of traps and endings are told.
+use Rattle.std.specs.Prelude.{ℕ, List, ◌++◌, codes}
+use Rattle.std.specs.Fmt.{decimal}
+use Rattle.sec_base.specs.Hexadecimal.{hex_digits}
+use Rattle.sec_base.specs.Place.{place_text}
+use Rattle.sec_base.specs.declared.ending.Cause.{Cause}
+use Rattle.sec_base.specs.declared.ending.Cause.TheVariants.{Illegal, MisalignedTarget, MisalignedData, OutsideMemory, Breakpoint}
+use Rattle.sec_base.specs.declared.ending.Ending.{Ending}
+use Rattle.sec_base.specs.declared.ending.Ending.TheVariants.{Halted, Trapped, OutOfSteps, Tampered, Spent, WriteFault, NoMemory}
+
+abbrev pub cause_text : Cause → List ℕ
+cause_text Illegal = codes "illegal"
+cause_text MisalignedTarget = codes "misaligned target"
+cause_text MisalignedData = codes "misaligned data"
+cause_text OutsideMemory = codes "outside memory"
+cause_text Breakpoint = codes "breakpoint"
+
+abbrev pub ending_text : Ending → List ℕ
+ending_text (Halted code) = codes "halted " ++ decimal code
+ending_text (Trapped cause pc) = codes "trapped " ++ cause_text cause ++ codes " pc " ++ hex_digits 8 pc
+ending_text OutOfSteps = codes "out of steps"
+ending_text (Tampered place) = codes "tampered " ++ place_text place
+ending_text (Spent page) = codes "spent page " ++ decimal page
+ending_text WriteFault = codes "write fault"
+ending_text NoMemory = codes "no memory"

@@ -1,0 +1,36 @@
+-- The places outside the chip: which there are, which of them are the same, how much each holds, and how it is named.
+use Rattle.std.specs.Prelude.{◌==◌, ℕ, ◌<◌, List, ◌++◌, Bool, false, ◌&&◌, if◌then◌else◌, replicate, codes}
+use Rattle.std.specs.Fmt.{decimal}
+use Rattle.sec_base.specs.Geometry.{IsNode, line_count}
+use Rattle.sec_base.specs.declared.place.Place.{Place}
+use Rattle.sec_base.specs.declared.place.Place.TheVariants.{Line, Node}
+
+-- the place is one of the memory's
+abbrev pub IsPlace : ℕ → Place → Type 0
+IsPlace levels (Line line) = line < line_count levels
+IsPlace levels (Node level index) = IsNode levels level index
+
+-- how it is named
+abbrev pub place_text : Place → List ℕ
+place_text (Line line) = codes "data " ++ decimal line
+place_text (Node level index) = codes "node " ++ decimal level ++ codes " " ++ decimal index
+
+-- two places are the same
+abbrev pub place_eq : Place → Place → Bool
+place_eq (Line line) (Line other) = line == other
+place_eq (Node level index) (Node other at) = (level == other) && (index == at)
+place_eq (Line line) (Node level index) = false
+place_eq (Node level index) (Line line) = false
+
+-- a place of a data line holds its 64 bytes and their tag of 16, and a place of a node its 64 bytes
+abbrev pub place_size : Place → ℕ
+place_size (Line line) = 80
+place_size (Node level index) = 64
+
+-- what a place holds that was never written
+abbrev pub zeros_of : Place → List ℕ
+zeros_of place = replicate (place_size place) 0
+
+-- the function with another value at one place
+abbrev pub at_place : {A : Type 0} → Place → A → (Place → A) → Place → A
+at_place place value f other = if place_eq other place then value else f other

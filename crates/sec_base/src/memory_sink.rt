@@ -1,0 +1,85 @@
+// A sink in memory, for tests.
+ghost use Rattle.std.specs.Prelude.{◌≡◌, ◌↔◌, ◌≤◌, [], Ok, Err, length, IsTrue, IfOk, OnOk};
+ghost use Rattle.sec_base.specs.MemorySink.{new_sink, sink_state, sink_fails, sink_wrote, sink_failed, sink_refused};
+ghost use Rattle.sec_base.specs.declared.sink.SinkStop.TheVariants.{Failed, NoMemory as no_memory};
+
+use crate::failing_calls::contains_number;
+use crate::sink::{Sink, SinkStop};
+use crate::stop::NoMemory;
+use std::alloc::Global;
+use std::marker::Model;
+
+/// A sink in memory, which keeps what is written, and some of whose writes fail.
+#[derive(Debug, Drop)]
+pub struct MemorySink {
+    bytes: Vec<u8>,
+    fails: Vec<u64>,
+    calls: u64,
+    faults: u64,
+}
+
+impl Model for MemorySink {
+    ghost use Rattle.sec_base.specs.MemorySink.{SinkSeen};
+
+    ghost Value = { SinkSeen };
+
+    ghost view = { λ sink. record {
+      bytes = sink.bytes.items;
+      fails = sink.fails.items;
+      calls = sink.calls;
+      faults = sink.faults;
+    } };
+}
+
+impl MemorySink {
+    /// Nothing written yet. `fails` are the numbers of the calls that are to fail, from 1. Only want of memory
+    /// refuses it.
+    pub fn new(alloc: Global, fails: &[u64]) -> Result<MemorySink, NoMemory>
+        ensures { IfOk result (λ sink. sink ≡ new_sink fails.now) }
+    {
+        Ok(MemorySink {
+            bytes: Vec::new(alloc),
+            fails: Vec::from_slice(alloc, fails)?,
+            calls: 0,
+            faults: 0,
+        })
+    }
+
+    /// What was written.
+    pub fn bytes(&self) -> &[u8]
+        ensures { result.now ≡ self.now.bytes }
+    {
+        self.bytes.as_slice()
+    }
+}
+
+impl Sink for MemorySink {
+    ghost state = { sink_state };
+
+    /// Writes a whole piece, where the call isn't one that is to fail. An empty piece is no call.
+    fn write(&mut self, piece: &[u8]) -> Result<usize, SinkStop>
+        ensures failed { (result ≡ Err Failed) ↔ IsTrue (sink_fails self.old piece.now) }
+        ensures whole { IfOk result (λ n. n ≡ length piece.now) }
+
+        ensures wrote { OnOk result (self.new ≡ sink_wrote piece.now self.old) }
+        ensures after_failed { result ≡ Err Failed → self.new ≡ sink_failed self.old }
+        ensures after_no_memory { result ≡ Err no_memory → self.new ≡ sink_refused self.old }
+
+        ensures empty { piece.now ≡ [] → result ≡ Ok 0 }
+        ensures idle { piece.now ≡ [] → self.new ≡ self.old }
+        ensures faults { self.old.faults ≤ self.new.faults }
+    {
+        if piece.is_empty() {
+            return Ok(0);
+        }
+        self.calls = self.calls.saturating_add(1);
+        if contains_number(&self.fails, self.calls) {
+            self.faults = self.faults.saturating_add(1);
+            return Err(SinkStop::Failed);
+        }
+        if self.bytes.extend_from_slice(piece).is_err() {
+            return Err(SinkStop::NoMemory);
+        }
+        Ok(piece.len())
+    }
+}
