@@ -10,60 +10,60 @@ use Rattle.sec_base.specs.Count.{more_by}
 use Rattle.sec_base.specs.declared.place.Place.{Place}
 use Rattle.bus_model.specs.declared.lies.FalseAnswer.{FalseAnswer}
 use Rattle.bus_model.specs.declared.lies.Lies.{Lies}
-use Rattle.bus_model.specs.declared.flipping.Flip.{Flip}
-use Rattle.bus_model.specs.Told.{Told, Lie, after_read, after_write, after_answer, first_lie}
-use Rattle.bus_model.specs.Honest.{Kept, honest_told}
-use Rattle.bus_model.specs.Flipping.{flip_told, lie_of, flipped}
+use Rattle.bus_model.specs.declared.flip_bus.Flip.{Flip}
+use Rattle.bus_model.specs.BusHistory.{BusHistory, Lie, after_read, after_write, after_answer, first_lie}
+use Rattle.bus_model.specs.HonestBus.{HonestBusView, honest_history}
+use Rattle.bus_model.specs.FlipBus.{flip_history, lie_of, flipped}
 use Rattle.bus_model.proofs.Steps.{answered, lied}
 
 -- with these lies in place of its own
-with_lies : ℕ → Option Lie → Told → Told
-with_lies lies lie told = record told { lies = lies; lie = lie }
+with_lies : ℕ → Option Lie → BusHistory → BusHistory
+with_lies lies lie history = record history { lies = lies; lie = lie }
 
-pub flip_wrote : (kept kept' : Kept) (flip : Flip) (lies : Lies) (place : Place) (bytes : List ℕ) →
-    honest_told kept' ≡ after_write place bytes (honest_told kept) →
-    flip_told (record { kept = kept'; flip = flip; lies = lies }) ≡ after_write place bytes (flip_told (record { kept = kept; flip = flip; lies = lies }))
+pub flip_wrote : (kept kept' : HonestBusView) (flip : Flip) (lies : Lies) (place : Place) (bytes : List ℕ) →
+    honest_history kept' ≡ after_write place bytes (honest_history kept) →
+    flip_history (record { kept = kept'; flip = flip; lies = lies }) ≡ after_write place bytes (flip_history (record { kept = kept; flip = flip; lies = lies }))
 unfolding with_lies after_write
 flip_wrote kept kept' flip lies place bytes wrote = ap (with_lies lies.count (option_map lie_of lies.first)) wrote
 
 -- a call that changes nothing
-pub flip_refused : (kept kept' : Kept) (flip : Flip) (lies : Lies) → honest_told kept' ≡ honest_told kept →
-    flip_told (record { kept = kept'; flip = flip; lies = lies }) ≡ flip_told (record { kept = kept; flip = flip; lies = lies })
+pub flip_refused : (kept kept' : HonestBusView) (flip : Flip) (lies : Lies) → honest_history kept' ≡ honest_history kept →
+    flip_history (record { kept = kept'; flip = flip; lies = lies }) ≡ flip_history (record { kept = kept; flip = flip; lies = lies })
 unfolding with_lies
 flip_refused kept kept' flip lies same = ap (with_lies lies.count (option_map lie_of lies.first)) same
 
-pub flip_read : (kept kept' : Kept) (flip : Flip) (lies : Lies) (place : Place) (bytes answer : List ℕ) →
-    honest_told kept' ≡ after_read place bytes (honest_told kept) → bytes ≡ (honest_told kept).written place → answer ≡ bytes →
-    flip_told (record { kept = kept'; flip = flip; lies = lies }) ≡ after_read place answer (flip_told (record { kept = kept; flip = flip; lies = lies }))
+pub flip_read : (kept kept' : HonestBusView) (flip : Flip) (lies : Lies) (place : Place) (bytes answer : List ℕ) →
+    honest_history kept' ≡ after_read place bytes (honest_history kept) → bytes ≡ (honest_history kept).written place → answer ≡ bytes →
+    flip_history (record { kept = kept'; flip = flip; lies = lies }) ≡ after_read place answer (flip_history (record { kept = kept; flip = flip; lies = lies }))
 unfolding with_lies
 flip_read kept kept' flip lies place bytes answer read true_bytes same =
-    ap (with_lies lies.count (option_map lie_of lies.first)) (read ∙ answered place bytes (honest_told kept) true_bytes)
-    ∙ sym (answered place answer (flip_told (record { kept = kept; flip = flip; lies = lies })) (same ∙ true_bytes))
+    ap (with_lies lies.count (option_map lie_of lies.first)) (read ∙ answered place bytes (honest_history kept) true_bytes)
+    ∙ sym (answered place answer (flip_history (record { kept = kept; flip = flip; lies = lies })) (same ∙ true_bytes))
 
 first_of : (b : Bool) (answer : FalseAnswer) (first : Option FalseAnswer) →
     option_map lie_of (cond b (Some answer) first) ≡ cond b (Some (lie_of answer)) (option_map lie_of first)
 first_of true answer first = refl
 first_of false answer first = refl
 
-pub flip_lied : (kept kept' : Kept) (flip : Flip) (lies lies' : Lies) (place : Place) (bytes answer : List ℕ) (told_lie : FalseAnswer) →
-    honest_told kept' ≡ after_read place bytes (honest_told kept) → bytes ≡ (honest_told kept).written place → answer ≢ bytes →
+pub flip_lied : (kept kept' : HonestBusView) (flip : Flip) (lies lies' : Lies) (place : Place) (bytes answer : List ℕ) (told_lie : FalseAnswer) →
+    honest_history kept' ≡ after_read place bytes (honest_history kept) → bytes ≡ (honest_history kept).written place → answer ≢ bytes →
     lies'.count ≡ more_by 1 lies.count → lies'.first ≡ cond (nat_eq lies.count 0) (Some told_lie) lies.first →
-    lie_of told_lie ≡ record { access = (honest_told kept').accesses; place = place; bytes = answer } →
-    flip_told (record { kept = kept'; flip = flip; lies = lies' }) ≡ after_read place answer (flip_told (record { kept = kept; flip = flip; lies = lies }))
+    lie_of told_lie ≡ record { access = (honest_history kept').accesses; place = place; bytes = answer } →
+    flip_history (record { kept = kept'; flip = flip; lies = lies' }) ≡ after_read place answer (flip_history (record { kept = kept; flip = flip; lies = lies }))
 unfolding with_lies
 flip_lied kept kept' flip lies lies' place bytes answer told_lie read true_bytes differs count first is =
-    let truly : honest_told kept' ≡ after_answer place (honest_told kept) = read ∙ answered place bytes (honest_told kept) true_bytes in
-    let access : (honest_told kept').accesses ≡ more_by 1 kept.accesses = ap (λ (t : Told). t.accesses) truly in
+    let truly : honest_history kept' ≡ after_answer place (honest_history kept) = read ∙ answered place bytes (honest_history kept) true_bytes in
+    let access : (honest_history kept').accesses ≡ more_by 1 kept.accesses = ap (λ (t : BusHistory). t.accesses) truly in
     let here : Lie = record { access = more_by 1 kept.accesses; place = place; bytes = answer } in
     let lie_is : lie_of told_lie ≡ here = is ∙ ap (λ (n : ℕ). record { access = n; place = place; bytes = answer }) access in
     let was : Option Lie = option_map lie_of lies.first in
     let lie : option_map lie_of lies'.first ≡ first_lie lies.count was here =
     ap (option_map lie_of) first ∙ first_of (nat_eq lies.count 0) told_lie lies.first
     ∙ ap (λ (l : Lie). cond (nat_eq lies.count 0) (Some l) was) lie_is in
-    ap (λ (n : ℕ). with_lies n (option_map lie_of lies'.first) (honest_told kept')) count
-    ∙ ap (λ (l : Option Lie). with_lies (more_by 1 lies.count) l (honest_told kept')) lie
+    ap (λ (n : ℕ). with_lies n (option_map lie_of lies'.first) (honest_history kept')) count
+    ∙ ap (λ (l : Option Lie). with_lies (more_by 1 lies.count) l (honest_history kept')) lie
     ∙ ap (with_lies (more_by 1 lies.count) (first_lie lies.count was here)) truly
-    ∙ sym (lied place answer (flip_told (record { kept = kept; flip = flip; lies = lies })) (λ (same : answer ≡ (honest_told kept).written place). differs (same ∙ sym true_bytes)))
+    ∙ sym (lied place answer (flip_history (record { kept = kept; flip = flip; lies = lies })) (λ (same : answer ≡ (honest_history kept).written place). differs (same ∙ sym true_bytes)))
 
 -- what holds, holds of an error
 pub if_err : {T E P : Type 0} (r : Result T E) → P → OnErr r P

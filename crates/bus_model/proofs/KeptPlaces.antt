@@ -11,9 +11,9 @@ use Rattle.sec_base.specs.declared.place.Place.{Place}
 use Rattle.sec_base.specs.declared.place.Place.TheVariants.{Line, Node}
 use Rattle.sec_base.proofs.Numbers.{number_inside, numbers_apart}
 use Rattle.sec_base.proofs.SamePlaces.{functions_same, false_from}
-use Rattle.bus_model.specs.declared.honest.DataPlace.{DataPlace}
-use Rattle.bus_model.specs.declared.honest.NodePlace.{NodePlace}
-use Rattle.bus_model.specs.Honest.{Kept, kept_line, kept_node, kept_bytes, kept_reads, is_node, empty_line, empty_node}
+use Rattle.bus_model.specs.declared.honest_bus.DataPlace.{DataPlace}
+use Rattle.bus_model.specs.declared.honest_bus.NodePlace.{NodePlace}
+use Rattle.bus_model.specs.HonestBus.{HonestBusView, kept_line, kept_node, kept_bytes, kept_reads, is_node, empty_line, empty_node}
 
 -- one item changed
 item_set : {A : Type 0} (items : List A) (at other : ℕ) (item none : A) → at < length items →
@@ -39,7 +39,7 @@ true_false true holds fails = absurd (cc)
 true_false false holds fails = absurd (cc)
 
 -- a line's place changed
-line_set : (kept : Kept) (line other accesses : ℕ) (item : DataPlace) →
+line_set : (kept : HonestBusView) (line other accesses : ℕ) (item : DataPlace) →
     line < line_count kept.levels → length kept.lines ≡ line_count kept.levels →
     kept_line (record kept { lines = slice_set kept.lines line item; accesses = accesses }) other ≡ cond (nat_eq other line) item (kept_line kept other)
 line_set kept line other accesses item inside whole =
@@ -49,7 +49,7 @@ line_set kept line other accesses item inside whole =
     (λ (h : nat_lt other (line_count kept.levels) ≡ false). false_from (nat_eq other line) (Decides-eqb other line)
     (λ (same : other ≡ line). true_false (nat_lt other (line_count kept.levels)) ((Decides-ltb other (line_count kept.levels)).1 (omega arith)) h))
 
-line_bytes_at : (kept : Kept) (line accesses : ℕ) (item : DataPlace) →
+line_bytes_at : (kept : HonestBusView) (line accesses : ℕ) (item : DataPlace) →
     line < line_count kept.levels → length kept.lines ≡ line_count kept.levels → (place : Place) →
     kept_bytes (record kept { lines = slice_set kept.lines line item; accesses = accesses }) place
     ≡ at_place (Line line) (sealed_bytes item.sealed) (kept_bytes kept) place
@@ -58,7 +58,7 @@ line_bytes_at kept line accesses item inside whole (Line other) =
     ∙ of_chosen (λ (x : DataPlace). sealed_bytes x.sealed) (nat_eq other line) item (kept_line kept other)
 line_bytes_at kept line accesses item inside whole (Node level index) = refl
 
-line_reads_at : (kept : Kept) (line accesses : ℕ) (item : DataPlace) →
+line_reads_at : (kept : HonestBusView) (line accesses : ℕ) (item : DataPlace) →
     line < line_count kept.levels → length kept.lines ≡ line_count kept.levels → (place : Place) →
     kept_reads (record kept { lines = slice_set kept.lines line item; accesses = accesses }) place
     ≡ at_place (Line line) item.reads (kept_reads kept) place
@@ -67,14 +67,14 @@ line_reads_at kept line accesses item inside whole (Line other) =
     ∙ of_chosen (λ (x : DataPlace). x.reads) (nat_eq other line) item (kept_line kept other)
 line_reads_at kept line accesses item inside whole (Node level index) = refl
 
-pub line_bytes : (kept : Kept) (line accesses : ℕ) (item : DataPlace) →
+pub line_bytes : (kept : HonestBusView) (line accesses : ℕ) (item : DataPlace) →
     line < line_count kept.levels → length kept.lines ≡ line_count kept.levels →
     kept_bytes (record kept { lines = slice_set kept.lines line item; accesses = accesses })
     ≡ at_place (Line line) (sealed_bytes item.sealed) (kept_bytes kept)
 line_bytes kept line accesses item inside whole =
     functions_same _ _ (λ (place : Place). line_bytes_at kept line accesses item inside whole place)
 
-pub line_reads : (kept : Kept) (line accesses : ℕ) (item : DataPlace) →
+pub line_reads : (kept : HonestBusView) (line accesses : ℕ) (item : DataPlace) →
     line < line_count kept.levels → length kept.lines ≡ line_count kept.levels →
     kept_reads (record kept { lines = slice_set kept.lines line item; accesses = accesses })
     ≡ at_place (Line line) item.reads (kept_reads kept)
@@ -105,7 +105,7 @@ moved_node : (levels level index other at : ℕ) → other ≡ level → at ≡ 
 moved_node levels level index other at same same' node = rw (same, same') node
 
 -- a node's place changed
-node_set : (kept : Kept) (level index other at accesses : ℕ) (item : NodePlace) →
+node_set : (kept : HonestBusView) (level index other at accesses : ℕ) (item : NodePlace) →
     IsNode kept.levels level index → length kept.nodes ≡ node_end kept.levels →
     kept_node (record kept { nodes = slice_set kept.nodes (node_number kept.levels level index) item; accesses = accesses }) other at
     ≡ cond (nat_eq other level && nat_eq at index) item (kept_node kept other at)
@@ -123,7 +123,7 @@ node_set kept level index other at accesses item node whole =
     (λ (same : (other ≡ level) × (at ≡ index)). true_false (is_node kept.levels other at)
     ((is_node-Decides kept.levels other at).1 (moved_node kept.levels level index other at same.0 same.1 node)) h))
 
-node_bytes_at : (kept : Kept) (level index accesses : ℕ) (item : NodePlace) →
+node_bytes_at : (kept : HonestBusView) (level index accesses : ℕ) (item : NodePlace) →
     IsNode kept.levels level index → length kept.nodes ≡ node_end kept.levels → (place : Place) →
     kept_bytes (record kept { nodes = slice_set kept.nodes (node_number kept.levels level index) item; accesses = accesses }) place
     ≡ at_place (Node level index) item.block (kept_bytes kept) place
@@ -132,7 +132,7 @@ node_bytes_at kept level index accesses item node whole (Node other at) =
     ap (λ (x : NodePlace). x.block) (node_set kept level index other at accesses item node whole)
     ∙ of_chosen (λ (x : NodePlace). x.block) (nat_eq other level && nat_eq at index) item (kept_node kept other at)
 
-node_reads_at : (kept : Kept) (level index accesses : ℕ) (item : NodePlace) →
+node_reads_at : (kept : HonestBusView) (level index accesses : ℕ) (item : NodePlace) →
     IsNode kept.levels level index → length kept.nodes ≡ node_end kept.levels → (place : Place) →
     kept_reads (record kept { nodes = slice_set kept.nodes (node_number kept.levels level index) item; accesses = accesses }) place
     ≡ at_place (Node level index) item.reads (kept_reads kept) place
@@ -141,14 +141,14 @@ node_reads_at kept level index accesses item node whole (Node other at) =
     ap (λ (x : NodePlace). x.reads) (node_set kept level index other at accesses item node whole)
     ∙ of_chosen (λ (x : NodePlace). x.reads) (nat_eq other level && nat_eq at index) item (kept_node kept other at)
 
-pub node_bytes : (kept : Kept) (level index accesses : ℕ) (item : NodePlace) →
+pub node_bytes : (kept : HonestBusView) (level index accesses : ℕ) (item : NodePlace) →
     IsNode kept.levels level index → length kept.nodes ≡ node_end kept.levels →
     kept_bytes (record kept { nodes = slice_set kept.nodes (node_number kept.levels level index) item; accesses = accesses })
     ≡ at_place (Node level index) item.block (kept_bytes kept)
 node_bytes kept level index accesses item node whole =
     functions_same _ _ (λ (place : Place). node_bytes_at kept level index accesses item node whole place)
 
-pub node_reads : (kept : Kept) (level index accesses : ℕ) (item : NodePlace) →
+pub node_reads : (kept : HonestBusView) (level index accesses : ℕ) (item : NodePlace) →
     IsNode kept.levels level index → length kept.nodes ≡ node_end kept.levels →
     kept_reads (record kept { nodes = slice_set kept.nodes (node_number kept.levels level index) item; accesses = accesses })
     ≡ at_place (Node level index) item.reads (kept_reads kept)
@@ -156,13 +156,13 @@ node_reads kept level index accesses item node whole =
     functions_same _ _ (λ (place : Place). node_reads_at kept level index accesses item node whole place)
 
 -- what stands at a place inside
-pub line_there : (kept : Kept) (line : ℕ) (item : DataPlace) → line < line_count kept.levels →
+pub line_there : (kept : HonestBusView) (line : ℕ) (item : DataPlace) → line < line_count kept.levels →
     length kept.lines ≡ line_count kept.levels → item ≡ slice_index_or kept.lines line item → kept_line kept line ≡ item
 line_there kept line item inside whole read =
     let yes_inside : nat_lt line (line_count kept.levels) ≡ true = (Decides-ltb line (line_count kept.levels)).1 inside in
     rw yes_inside (get_or_default kept.lines line empty_line item (omega arith) ∙ sym read)
 
-pub node_there : (kept : Kept) (level index : ℕ) (item : NodePlace) → IsNode kept.levels level index →
+pub node_there : (kept : HonestBusView) (level index : ℕ) (item : NodePlace) → IsNode kept.levels level index →
     length kept.nodes ≡ node_end kept.levels → item ≡ slice_index_or kept.nodes (node_number kept.levels level index) item →
     kept_node kept level index ≡ item
 node_there kept level index item node whole read =

@@ -7,104 +7,104 @@ use Rattle.sec_base.specs.Count.{more_by, Rose}
 use Rattle.sec_base.specs.Place.{at_place}
 use Rattle.sec_base.proofs.SamePlaces.{at_place-same, at_place-here, false_from}
 use Rattle.sec_base.specs.declared.place.Place.{Place}
-use Rattle.bus_model.specs.Told.{Told, Lie, NothingWritten, nothing_told, after_read, after_write, after_answer, after_lie, is_false}
+use Rattle.bus_model.specs.BusHistory.{BusHistory, Lie, NothingWritten, new_history, after_read, after_write, after_answer, after_lie, is_false}
 
 -- two with the same functions are one
-pub told_same : (told : Told) (levels accesses lies : ℕ) (lie : Option Lie) (written written' : Place → List ℕ) (reads reads' : Place → ℕ) →
-    written' ≡ written → reads' ≡ reads → told ≡ record { levels = levels; written = written; reads = reads; accesses = accesses; lies = lies; lie = lie } →
-    record { levels = levels; written = written'; reads = reads'; accesses = accesses; lies = lies; lie = lie } ≡ told
-told_same told levels accesses lies lie written written' reads reads' w r is =
+pub told_same : (history : BusHistory) (levels accesses lies : ℕ) (lie : Option Lie) (written written' : Place → List ℕ) (reads reads' : Place → ℕ) →
+    written' ≡ written → reads' ≡ reads → history ≡ record { levels = levels; written = written; reads = reads; accesses = accesses; lies = lies; lie = lie } →
+    record { levels = levels; written = written'; reads = reads'; accesses = accesses; lies = lies; lie = lie } ≡ history
+told_same history levels accesses lies lie written written' reads reads' w r is =
     ap (λ (f : Place → List ℕ). record { levels = levels; written = f; reads = reads'; accesses = accesses; lies = lies; lie = lie }) w
     ∙ ap (λ (f : Place → ℕ). record { levels = levels; written = written; reads = f; accesses = accesses; lies = lies; lie = lie }) r
     ∙ sym is
 
 -- where the place's bytes change, and its count of reads stays, and one more access is counted, there was a write
-pub was_write : (place : Place) (bytes : List ℕ) (told : Told) (written : Place → List ℕ) (reads : Place → ℕ) (accesses : ℕ) →
-    written ≡ at_place place bytes told.written → reads ≡ at_place place (told.reads place) told.reads → accesses ≡ more_by 1 told.accesses →
-    record told { written = written; reads = reads; accesses = accesses } ≡ after_write place bytes told
+pub was_write : (place : Place) (bytes : List ℕ) (history : BusHistory) (written : Place → List ℕ) (reads : Place → ℕ) (accesses : ℕ) →
+    written ≡ at_place place bytes history.written → reads ≡ at_place place (history.reads place) history.reads → accesses ≡ more_by 1 history.accesses →
+    record history { written = written; reads = reads; accesses = accesses } ≡ after_write place bytes history
 unfolding after_write
-was_write place bytes told written reads accesses w r n =
-    let stays : reads ≡ told.reads = r ∙ at_place-same place (told.reads place) told.reads refl in
-    rw n (told_same (after_write place bytes told) told.levels (more_by 1 told.accesses) told.lies told.lie
-    (at_place place bytes told.written) written told.reads reads w stays refl)
+was_write place bytes history written reads accesses w r n =
+    let stays : reads ≡ history.reads = r ∙ at_place-same place (history.reads place) history.reads refl in
+    rw n (told_same (after_write place bytes history) history.levels (more_by 1 history.accesses) history.lies history.lie
+    (at_place place bytes history.written) written history.reads reads w stays refl)
 
 -- an answer that is what was written is not false
-pub true_answer : (place : Place) (bytes : List ℕ) (told : Told) → bytes ≡ told.written place → is_false place bytes told ≡ false
+pub true_answer : (place : Place) (bytes : List ℕ) (history : BusHistory) → bytes ≡ history.written place → is_false place bytes history ≡ false
 unfolding is_false
-true_answer place bytes told same =
-    let equal : bytes_eq bytes (told.written place) ≡ true = (bytes_eq-Decides bytes (told.written place)).1 same in rw equal refl
+true_answer place bytes history same =
+    let equal : bytes_eq bytes (history.written place) ≡ true = (bytes_eq-Decides bytes (history.written place)).1 same in rw equal refl
 
 -- where the place's count of reads rises, and its bytes stay, and one more access is counted, there was a read, which
 -- was answered by what was written
-pub was_read : (place : Place) (bytes : List ℕ) (told : Told) (written : Place → List ℕ) (reads : Place → ℕ) (accesses : ℕ) →
-    written ≡ at_place place (told.written place) told.written → reads ≡ at_place place (more_by 1 (told.reads place)) told.reads →
-    accesses ≡ more_by 1 told.accesses → bytes ≡ told.written place →
-    record told { written = written; reads = reads; accesses = accesses } ≡ after_read place bytes told
+pub was_read : (place : Place) (bytes : List ℕ) (history : BusHistory) (written : Place → List ℕ) (reads : Place → ℕ) (accesses : ℕ) →
+    written ≡ at_place place (history.written place) history.written → reads ≡ at_place place (more_by 1 (history.reads place)) history.reads →
+    accesses ≡ more_by 1 history.accesses → bytes ≡ history.written place →
+    record history { written = written; reads = reads; accesses = accesses } ≡ after_read place bytes history
 unfolding after_read
-was_read place bytes told written reads accesses w r n same =
-    let stays : written ≡ told.written = w ∙ at_place-same place (told.written place) told.written refl in
-    let honest : is_false place bytes told ≡ false = true_answer place bytes told same in
-    rw (n, honest) (told_same (after_answer place told) told.levels (more_by 1 told.accesses) told.lies told.lie
-    told.written written (at_place place (more_by 1 (told.reads place)) told.reads) reads stays r refl)
+was_read place bytes history written reads accesses w r n same =
+    let stays : written ≡ history.written = w ∙ at_place-same place (history.written place) history.written refl in
+    let honest : is_false place bytes history ≡ false = true_answer place bytes history same in
+    rw (n, honest) (told_same (after_answer place history) history.levels (more_by 1 history.accesses) history.lies history.lie
+    history.written written (at_place place (more_by 1 (history.reads place)) history.reads) reads stays r refl)
 
 -- after a true answer
-pub answered : (place : Place) (bytes : List ℕ) (told : Told) → bytes ≡ told.written place → after_read place bytes told ≡ after_answer place told
+pub answered : (place : Place) (bytes : List ℕ) (history : BusHistory) → bytes ≡ history.written place → after_read place bytes history ≡ after_answer place history
 unfolding after_read
-answered place bytes told same =
-    let honest : is_false place bytes told ≡ false = true_answer place bytes told same in rw honest refl
+answered place bytes history same =
+    let honest : is_false place bytes history ≡ false = true_answer place bytes history same in rw honest refl
 
 -- and after a false one
-pub lied : (place : Place) (bytes : List ℕ) (told : Told) → bytes ≢ told.written place → after_read place bytes told ≡ after_lie place bytes (after_answer place told)
+pub lied : (place : Place) (bytes : List ℕ) (history : BusHistory) → bytes ≢ history.written place → after_read place bytes history ≡ after_lie place bytes (after_answer place history)
 unfolding after_read is_false
-lied place bytes told differs =
-    let unlike : bytes_eq bytes (told.written place) ≡ false = false_from (bytes_eq bytes (told.written place)) (bytes_eq-Decides bytes (told.written place)) differs in
+lied place bytes history differs =
+    let unlike : bytes_eq bytes (history.written place) ≡ false = false_from (bytes_eq bytes (history.written place)) (bytes_eq-Decides bytes (history.written place)) differs in
     rw unlike refl
 
-by_test : (b : Bool) (place : Place) (bytes : List ℕ) (told : Told) → Decides b (bytes ≡ told.written place) →
-    ((bytes ≡ told.written place) × (after_read place bytes told ≡ after_answer place told))
-    ⊎ ((bytes ≢ told.written place) × (after_read place bytes told ≡ after_lie place bytes (after_answer place told)))
-by_test true place bytes told tells = inl (tells.0 refl, answered place bytes told (tells.0 refl))
-by_test false place bytes told tells =
-    let differs : bytes ≢ told.written place = λ (same : bytes ≡ told.written place). let wrong : false ≡ true = tells.1 same in absurd (cc) in
-    inr (differs, lied place bytes told differs)
+by_test : (b : Bool) (place : Place) (bytes : List ℕ) (history : BusHistory) → Decides b (bytes ≡ history.written place) →
+    ((bytes ≡ history.written place) × (after_read place bytes history ≡ after_answer place history))
+    ⊎ ((bytes ≢ history.written place) × (after_read place bytes history ≡ after_lie place bytes (after_answer place history)))
+by_test true place bytes history tells = inl (tells.0 refl, answered place bytes history (tells.0 refl))
+by_test false place bytes history tells =
+    let differs : bytes ≢ history.written place = λ (same : bytes ≡ history.written place). let wrong : false ≡ true = tells.1 same in absurd (cc) in
+    inr (differs, lied place bytes history differs)
 
 -- an answer is what was written, or it is false
-pub true_or_false : (place : Place) (bytes : List ℕ) (told : Told) →
-    ((bytes ≡ told.written place) × (after_read place bytes told ≡ after_answer place told))
-    ⊎ ((bytes ≢ told.written place) × (after_read place bytes told ≡ after_lie place bytes (after_answer place told)))
-true_or_false place bytes told =
-    by_test (bytes_eq bytes (told.written place)) place bytes told (bytes_eq-Decides bytes (told.written place))
+pub true_or_false : (place : Place) (bytes : List ℕ) (history : BusHistory) →
+    ((bytes ≡ history.written place) × (after_read place bytes history ≡ after_answer place history))
+    ⊎ ((bytes ≢ history.written place) × (after_read place bytes history ≡ after_lie place bytes (after_answer place history)))
+true_or_false place bytes history =
+    by_test (bytes_eq bytes (history.written place)) place bytes history (bytes_eq-Decides bytes (history.written place))
 
-of_either : {A : Type 0} (part : Told → A) (place : Place) (bytes : List ℕ) (told : Told) →
-    part (after_lie place bytes (after_answer place told)) ≡ part (after_answer place told) →
-    part (after_read place bytes told) ≡ part (after_answer place told)
-of_either part place bytes told same =
-    elim (true_or_false place bytes told) [
+of_either : {A : Type 0} (part : BusHistory → A) (place : Place) (bytes : List ℕ) (history : BusHistory) →
+    part (after_lie place bytes (after_answer place history)) ≡ part (after_answer place history) →
+    part (after_read place bytes history) ≡ part (after_answer place history)
+of_either part place bytes history same =
+    elim (true_or_false place bytes history) [
       | inl truly ↦ ap part truly.1
       | inr falsely ↦ ap part falsely.1 ∙ same
     ]
 
 -- of either answer: what was written stays, and one more read and one more access are counted
-pub read_levels : (place : Place) (bytes : List ℕ) (told : Told) → (after_read place bytes told).levels ≡ told.levels
-read_levels place bytes told = of_either (λ (t : Told). t.levels) place bytes told refl
+pub read_levels : (place : Place) (bytes : List ℕ) (history : BusHistory) → (after_read place bytes history).levels ≡ history.levels
+read_levels place bytes history = of_either (λ (t : BusHistory). t.levels) place bytes history refl
 
-pub read_written : (place : Place) (bytes : List ℕ) (told : Told) → (after_read place bytes told).written ≡ told.written
-read_written place bytes told = of_either (λ (t : Told). t.written) place bytes told refl
+pub read_written : (place : Place) (bytes : List ℕ) (history : BusHistory) → (after_read place bytes history).written ≡ history.written
+read_written place bytes history = of_either (λ (t : BusHistory). t.written) place bytes history refl
 
-pub read_reads : (place : Place) (bytes : List ℕ) (told : Told) →
-    (after_read place bytes told).reads ≡ at_place place (more_by 1 (told.reads place)) told.reads
-read_reads place bytes told = of_either (λ (t : Told). t.reads) place bytes told refl
+pub read_reads : (place : Place) (bytes : List ℕ) (history : BusHistory) →
+    (after_read place bytes history).reads ≡ at_place place (more_by 1 (history.reads place)) history.reads
+read_reads place bytes history = of_either (λ (t : BusHistory). t.reads) place bytes history refl
 
-pub read_accesses : (place : Place) (bytes : List ℕ) (told : Told) → (after_read place bytes told).accesses ≡ more_by 1 told.accesses
-read_accesses place bytes told = of_either (λ (t : Told). t.accesses) place bytes told refl
+pub read_accesses : (place : Place) (bytes : List ℕ) (history : BusHistory) → (after_read place bytes history).accesses ≡ more_by 1 history.accesses
+read_accesses place bytes history = of_either (λ (t : BusHistory). t.accesses) place bytes history refl
 
 -- the reads of the place rose
-pub read_rose : (place : Place) (bytes : List ℕ) (told : Told) → Rose (told.reads place) ((after_read place bytes told).reads place)
-read_rose place bytes told =
-    let here : (after_read place bytes told).reads place ≡ more_by 1 (told.reads place) =
-    ap (λ (f : Place → ℕ). f place) (read_reads place bytes told) ∙ at_place-here place (more_by 1 (told.reads place)) told.reads in
+pub read_rose : (place : Place) (bytes : List ℕ) (history : BusHistory) → Rose (history.reads place) ((after_read place bytes history).reads place)
+read_rose place bytes history =
+    let here : (after_read place bytes history).reads place ≡ more_by 1 (history.reads place) =
+    ap (λ (f : Place → ℕ). f place) (read_reads place bytes history) ∙ at_place-here place (more_by 1 (history.reads place)) history.reads in
     rw here (omega arith)
 
 -- where nothing was asked yet, nothing was written
-pub nothing_written : (levels : ℕ) (told : Told) → told ≡ nothing_told levels → NothingWritten told
-nothing_written levels told is = rw is (record { zeros = λ place inside. refl })
+pub nothing_written : (levels : ℕ) (history : BusHistory) → history ≡ new_history levels → NothingWritten history
+nothing_written levels history is = rw is (record { zeros = λ place inside. refl })

@@ -1,3 +1,4 @@
-pub mod Told
-pub mod Honest
-pub mod Flipping
+pub mod BusHistory
+pub mod HonestBus
+pub mod FlipBus
+pub mod FirstLie

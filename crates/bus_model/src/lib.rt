@@ -3,12 +3,12 @@
 #![tactic(auto)]
 
 mod bus;
-mod flipping;
-mod honest;
+mod flip_bus;
+mod honest_bus;
 mod lies;
 #[cfg(test)]
 mod tests;
 
 pub use bus::Bus;
-pub use flipping::FlipBus;
-pub use honest::HonestBus;
+pub use flip_bus::FlipBus;
+pub use honest_bus::HonestBus;

@@ -3,8 +3,8 @@
 ghost use Rattle.std.specs.Prelude.{◌≡◌};
 ghost use Rattle.sec_base.specs.Place.{IsPlace};
 ghost use Rattle.sec_base.specs.declared.place.Place.TheVariants.{Line, Node};
-ghost use Rattle.bus_model.specs.Honest.{honest_told};
-ghost use Rattle.bus_model.specs.Flipping.{flip_told};
+ghost use Rattle.bus_model.specs.HonestBus.{honest_history};
+ghost use Rattle.bus_model.specs.FlipBus.{flip_history};
 
 use crate::{Bus, FlipBus, HonestBus};
 use sec_base::{Geometry, NoMemory, Place, Sealed};
@@ -53,8 +53,8 @@ fn an_honest_bus_keeps_nodes_apart(rt: HostRuntime) -> Result<(), Fail> {
 
 // What is read at a line and at a node of level 0, once they were written.
 fn written_places(mut bus: HonestBus, line: u32, index: u32) -> Result<(Sealed, [u8; 64]), NoMemory>
-    requires line { IsPlace (honest_told bus).levels (Line line) }
-    requires node { IsPlace (honest_told bus).levels (Node 0 index) }
+    requires line { IsPlace (honest_history bus).levels (Line line) }
+    requires node { IsPlace (honest_history bus).levels (Node 0 index) }
 {
     bus.write_data(line, &ONES)?;
     bus.write_node(0, index, &[3; 64])?;
@@ -83,7 +83,7 @@ fn each_size_has_its_last_line_and_node(rt: HostRuntime) -> Result<(), Fail> {
 
 // What is read at line 64 at each of three reads, once ONES were written there.
 fn three_reads(mut bus: FlipBus) -> Result<([Sealed; 3], u64), NoMemory>
-    requires { (flip_told bus).levels ≡ 1 }
+    requires { (flip_history bus).levels ≡ 1 }
 {
     bus.write_data(64, &ONES)?;
     let first = bus.read_data(64)?;
@@ -151,7 +151,7 @@ fn some_flips_are_no_lie(rt: HostRuntime) -> Result<(), Fail> {
 
 // What is read at node 3 of level 0 at each of three reads, once sevens were written there.
 fn three_node_reads(mut bus: FlipBus) -> Result<([[u8; 64]; 3], u64), NoMemory>
-    requires { (flip_told bus).levels ≡ 1 }
+    requires { (flip_history bus).levels ≡ 1 }
 {
     bus.write_node(0, 3, &[7; 64])?;
     let first = bus.read_node(0, 3)?;

@@ -5,7 +5,7 @@ use Rattle.sec_base.specs.Gain.{Gain}
 use Rattle.sec_base.proofs.Gains.{gain_none, gain_on}
 use Rattle.sec_base.specs.Geometry.{memory_size}
 use Rattle.sec_base.specs.declared.image.Image.{Image}
-use Rattle.bus_model.specs.Told.{Told, NothingWritten, nothing_told}
+use Rattle.bus_model.specs.BusHistory.{BusHistory, NothingWritten, new_history}
 use Rattle.hmac_tag.specs.DeviceKeys.{keys_of}
 use Rattle.hmac_tag.specs.Tags.{TagKeys, tag_of}
 use Rattle.hmac_tag.specs.declared.derivation.Keys.{Keys}
@@ -15,8 +15,8 @@ use Rattle.chip_main.specs.Device.{device_enc_key, device_key, device_tag}
 use Rattle.chip_main.specs.Program.{IsImageOf, Program, opening}
 
 -- a new bus has nothing written
-pub nothing_written : (told : Told) (levels : ℕ) → told ≡ nothing_told levels → NothingWritten told
-nothing_written told levels new = record { zeros = λ place inside. ap (λ (t : Told). t.written place) new }
+pub nothing_written : (told : BusHistory) (levels : ℕ) → told ≡ new_history levels → NothingWritten told
+nothing_written told levels new = record { zeros = λ place inside. ap (λ (t : BusHistory). t.written place) new }
 
 -- the tags are the device's
 pub device_tag_is : (tagger : TagKeys) (keys : Keys) (levels : ℕ) → tagger ≡ record { line_key = keys.line_key; tree_key = keys.tree_key } → keys ≡ keys_of device_key →

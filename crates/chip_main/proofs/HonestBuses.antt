@@ -1,6 +1,6 @@
 -- A run's bus is honest.
 use Rattle.std.proofs.Common.{◌≡◌, refl}
-use Rattle.bus_model.specs.Honest.{Kept}
+use Rattle.bus_model.specs.HonestBus.{Kept}
 use Rattle.chip_main.specs.declared.run_bus.RunBus.{RunBus}
 use Rattle.chip_main.specs.declared.run_bus.RunBus.TheVariants.{Honest}
 

@@ -19,7 +19,7 @@ use Rattle.chip_main.specs.World.{World}
 use Rattle.chip_main.specs.Needs.{needs_of}
 use Rattle.chip_main.specs.Causes.{IsRefused, Stops}
 use Rattle.chip_main.specs.Statuses.{Telling, ending_status, evidence_status, refusal_status, run_status, status_with, text_status, untold_ending_status}
-use Rattle.chip_main.specs.Buses.{lies_of, run_told}
+use Rattle.chip_main.specs.Buses.{lies_of, run_history}
 use Rattle.chip_main.specs.Answer.{FileRefused, TellsEnding, TellsPlain, TellsRun}
 use Rattle.chip_main.specs.Texts.{plain_text, record_text}
 use Rattle.chip_main.specs.Course.{CameAbout, Outcome, TellsCourse, course_bus, course_run, course_status, status_of, untold_status}
@@ -234,7 +234,7 @@ told_run (RanPlain run) telling note note' tells = tt
 told_run (Written written) telling note note' tells = tt
 told_run (Ran run bus) (Ok _) note note' tells = inl (tells, refl)
 told_run (Ran run bus) (Err Failed) note note' tells =
-    untold_ending (record_text run (run_told bus).lies) (run_status run) run.ending note note' tells.0 tells.1
+    untold_ending (record_text run (run_history bus).lies) (run_status run) run.ending note note' tells.0 tells.1
 told_run (Ran run bus) (Err no_memory) note note' tells = inr (tells, inr refl)
 
 pub told_plain : (run : PlainRecord) (telling : Telling) (note note' : SinkState) → TellsCourse (RanPlain run) note note' telling → TellsPlain (status_of (RanPlain run) telling) run note note'

@@ -4,7 +4,7 @@ use Rattle.sec_base.specs.Files.{FilesState, HasBytes}
 use Rattle.sec_base.specs.Sink.{SinkState}
 use Rattle.sec_base.specs.declared.image.Image.{Image}
 use Rattle.sec_base.specs.declared.sink.SinkStop.TheVariants.{Failed, NoMemory as no_memory}
-use Rattle.bus_model.specs.Told.{Told}
+use Rattle.bus_model.specs.BusHistory.{BusHistory}
 use Rattle.plain_machine.specs.declared.PlainRecord.{PlainRecord}
 use Rattle.chip_run.specs.declared.RunRecord.{RunRecord}
 use Rattle.chip_words.specs.Request.{Asked, AssemblyAsked, ExecutionAsked, InspectionAsked, to_assemble, to_disassemble, to_measure, to_run, to_run_plain}
@@ -44,7 +44,7 @@ some_needs (to_measure inspection) none = cc
 all_taken : (asked : Asked) (files files' : FilesState) → Asks (asked_needs asked) files files' → AreAccepted files (asked_needs asked) → AllTaken (Some asked) files files'
 all_taken asked files files' asks accepted = record { some = some_needs asked; asked = asks; accepted = accepted }
 
-ran_taken : (request : Option Asked) (files files' : FilesState) (out out' : SinkState) (run : RunRecord) (told : Told) → RunsRequest request files files' out out' run told → AllTaken request files files'
+ran_taken : (request : Option Asked) (files files' : FilesState) (out out' : SinkState) (run : RunRecord) (told : BusHistory) → RunsRequest request files files' out out' run told → AllTaken request files files'
 ran_taken None files files' out out' run told came = absurd came
 ran_taken (Some (to_run execution)) files files' out out' run told came =
     all_taken (to_run execution) files files' came.2.asked (execution_accepted execution files files' came.0 came.1 came.2)

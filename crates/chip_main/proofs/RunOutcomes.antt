@@ -8,7 +8,7 @@ use Rattle.sec_base.specs.declared.ending.Ending.{Ending}
 use Rattle.sec_base.specs.declared.ending.Ending.TheVariants.{Halted, Trapped, OutOfSteps, Tampered, Spent, WriteFault, NoMemory as memory_ended}
 use Rattle.sec_base.specs.declared.image.Image.{Image}
 use Rattle.sec_base.specs.declared.sink.SinkStop.TheVariants.{Failed, NoMemory as no_memory}
-use Rattle.bus_model.specs.Told.{Told}
+use Rattle.bus_model.specs.BusHistory.{BusHistory}
 use Rattle.plain_machine.specs.declared.PlainRecord.{PlainRecord}
 use Rattle.sec_base.specs.Sink.{IsWritten as IsTold}
 use Rattle.chip_run.specs.declared.RunRecord.{RunRecord}
@@ -25,7 +25,7 @@ use Rattle.chip_main.specs.Program.{ProgramFile}
 use Rattle.chip_main.specs.Needs.{assembly_file, inspection_file}
 use Rattle.chip_main.specs.Texts.{elf_file, listing, measurement_line}
 use Rattle.chip_main.specs.Statuses.{Telling, ending_status, evidence_status, refusal_status, run_status, status_with, text_status}
-use Rattle.chip_main.specs.Buses.{AreBothAnd, IsRunAnd, lies_of, run_told}
+use Rattle.chip_main.specs.Buses.{AreBothAnd, IsRunAnd, lies_of, run_history}
 use Rattle.chip_main.specs.Endings.{EndedWithoutEvidence, IsHalted, IsTrapped, IsOutOfSteps, EndedTampered, EndedSpent, EndedWithEvidence}
 use Rattle.chip_main.specs.Requests.{ByCommand, PlainlyRuns, PlainlyRunsRequest, RunsExecution, RunsRequest, Writes, WritesRequest}
 use Rattle.chip_main.specs.Answer.{Ended, IsDone, PlainlyEnded, RanAnd}
@@ -58,14 +58,14 @@ honest o = o.lies ∙ none_false o.course
 -- ---- what a status says of what was done, by the command
 
 -- what a status says of a run on protected memory, of one on the plain machine, and of a text
-pub record Says (status : ℕ) (Run : RunRecord → Told → Type 0) (Plain : ExecutionAsked → Type 0) (Text : ProgramFile → (Image → List ℕ) → Type 0) (files files' : FilesState) (out out' : SinkState) : Type 0 where
+pub record Says (status : ℕ) (Run : RunRecord → BusHistory → Type 0) (Plain : ExecutionAsked → Type 0) (Text : ProgramFile → (Image → List ℕ) → Type 0) (files files' : FilesState) (out out' : SinkState) : Type 0 where
   pub refuses : (refusal : Refusal) → refusal_status refusal ≢ status
   pub low : status < 9
-  pub of_run : (execution : ExecutionAsked) (run : RunRecord) (told : Told) → RunsExecution execution files files' out out' run told → run_status run ≡ status → Run run told
+  pub of_run : (execution : ExecutionAsked) (run : RunRecord) (told : BusHistory) → RunsExecution execution files files' out out' run told → run_status run ≡ status → Run run told
   pub of_plain : (execution : ExecutionAsked) (run : PlainRecord) → PlainlyRuns execution files files' out out' run → ending_status run.ending ≡ status → Plain execution
   pub of_text : (file : ProgramFile) (text : Image → List ℕ) (telling : Telling) → Writes file text files files' out out' telling → text_status telling ≡ status → Text file text
 
-said_of_run : (request : Option Asked) (run : RunRecord) (told : Told) (status : ℕ) (Run : RunRecord → Told → Type 0) (Plain : ExecutionAsked → Type 0) (Text : ProgramFile → (Image → List ℕ) → Type 0) (files files' : FilesState) (out out' : SinkState) →
+said_of_run : (request : Option Asked) (run : RunRecord) (told : BusHistory) (status : ℕ) (Run : RunRecord → BusHistory → Type 0) (Plain : ExecutionAsked → Type 0) (Text : ProgramFile → (Image → List ℕ) → Type 0) (files files' : FilesState) (out out' : SinkState) →
     Says status Run Plain Text files files' out out' → RunsRequest request files files' out out' run told → run_status run ≡ status → ByCommand request (λ _. Run run told) Plain Text
 said_of_run None run told status Run Plain Text files files' out out' says came is = absurd came
 said_of_run (Some (to_run execution)) run told status Run Plain Text files files' out out' says came is = says.of_run execution run told came is
@@ -74,7 +74,7 @@ said_of_run (Some (to_assemble assembly)) run told status Run Plain Text files f
 said_of_run (Some (to_disassemble inspection)) run told status Run Plain Text files files' out out' says came is = absurd came
 said_of_run (Some (to_measure inspection)) run told status Run Plain Text files files' out out' says came is = absurd came
 
-said_of_plain : (request : Option Asked) (run : PlainRecord) (status : ℕ) (Run : RunRecord → Told → Type 0) (Plain : ExecutionAsked → Type 0) (Text : ProgramFile → (Image → List ℕ) → Type 0) (files files' : FilesState) (out out' : SinkState) →
+said_of_plain : (request : Option Asked) (run : PlainRecord) (status : ℕ) (Run : RunRecord → BusHistory → Type 0) (Plain : ExecutionAsked → Type 0) (Text : ProgramFile → (Image → List ℕ) → Type 0) (files files' : FilesState) (out out' : SinkState) →
     Says status Run Plain Text files files' out out' → PlainlyRunsRequest request files files' out out' run → ending_status run.ending ≡ status → ByCommand request (λ _. ⊥) Plain Text
 said_of_plain None run status Run Plain Text files files' out out' says came is = absurd came
 said_of_plain (Some (to_run execution)) run status Run Plain Text files files' out out' says came is = absurd came
@@ -83,7 +83,7 @@ said_of_plain (Some (to_assemble assembly)) run status Run Plain Text files file
 said_of_plain (Some (to_disassemble inspection)) run status Run Plain Text files files' out out' says came is = absurd came
 said_of_plain (Some (to_measure inspection)) run status Run Plain Text files files' out out' says came is = absurd came
 
-said_of_text : (request : Option Asked) (telling : Telling) (status : ℕ) (Run : RunRecord → Told → Type 0) (Plain : ExecutionAsked → Type 0) (Text : ProgramFile → (Image → List ℕ) → Type 0) (files files' : FilesState) (out out' : SinkState) →
+said_of_text : (request : Option Asked) (telling : Telling) (status : ℕ) (Run : RunRecord → BusHistory → Type 0) (Plain : ExecutionAsked → Type 0) (Text : ProgramFile → (Image → List ℕ) → Type 0) (files files' : FilesState) (out out' : SinkState) →
     Says status Run Plain Text files files' out out' → WritesRequest request files files' out out' telling → text_status telling ≡ status → ByCommand request (λ _. ⊥) Plain Text
 said_of_text None telling status Run Plain Text files files' out out' says came is = absurd came
 said_of_text (Some (to_run execution)) telling status Run Plain Text files files' out out' says came is = absurd came
@@ -92,19 +92,19 @@ said_of_text (Some (to_assemble assembly)) telling status Run Plain Text files f
 said_of_text (Some (to_disassemble inspection)) telling status Run Plain Text files files' out out' says came is = says.of_text (inspection_file inspection) listing telling came is
 said_of_text (Some (to_measure inspection)) telling status Run Plain Text files files' out out' says came is = says.of_text (inspection_file inspection) measurement_line telling came is
 
-said : (course : Course) (request : Option Asked) (status : ℕ) (Run : RunRecord → Told → Type 0) (Plain : ExecutionAsked → Type 0) (Text : ProgramFile → (Image → List ℕ) → Type 0) (files files' : FilesState) (out out' : SinkState) →
+said : (course : Course) (request : Option Asked) (status : ℕ) (Run : RunRecord → BusHistory → Type 0) (Plain : ExecutionAsked → Type 0) (Text : ProgramFile → (Image → List ℕ) → Type 0) (files files' : FilesState) (out out' : SinkState) →
     Says status Run Plain Text files files' out out' → CameAbout course request files files' out out' → course_status course ≡ status →
     ByCommand request (λ _. AreBothAnd (course_run course) (course_bus course) Run) Plain Text
 said (Refused refusal) request status Run Plain Text files files' out out' says came is = absurd (says.refuses refusal is)
 said NoMemory request status Run Plain Text files files' out out' says came is = absurd (omega (arith, says.low))
 said (Ran run bus) request status Run Plain Text files files' out out' says came is =
-    said_of_run request run (run_told bus) status Run Plain Text files files' out out' says came is
+    said_of_run request run (run_history bus) status Run Plain Text files files' out out' says came is
 said (RanPlain run) request status Run Plain Text files files' out out' says came is =
     said_of_plain request run status Run Plain Text files files' out out' says came is
 said (Written telling) request status Run Plain Text files files' out out' says came is =
     said_of_text request telling status Run Plain Text files files' out out' says came is
 
-by_command : (status : ℕ) (Run : RunRecord → Told → Type 0) (Plain : ExecutionAsked → Type 0) (Text : ProgramFile → (Image → List ℕ) → Type 0) {request : Option Asked} {old new : World} {done : Done} →
+by_command : (status : ℕ) (Run : RunRecord → BusHistory → Type 0) (Plain : ExecutionAsked → Type 0) (Text : ProgramFile → (Image → List ℕ) → Type 0) {request : Option Asked} {old new : World} {done : Done} →
     Says status Run Plain Text old.files new.files old.out new.out → Outcome request old new done → done.status ≡ status → ByCommand request (λ _. IsRunAnd done Run) Plain Text
 by_command status Run Plain Text {request} {old} {new} says o is =
     rw (o.run, o.bus) (said o.course request status Run Plain Text old.files new.files old.out new.out says o.came (own_status o status says.low is))

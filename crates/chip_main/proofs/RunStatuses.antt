@@ -7,9 +7,9 @@ use Rattle.sec_base.specs.declared.message.Message.{Message}
 use Rattle.sec_base.specs.declared.ending.Ending.{Ending}
 use Rattle.sec_base.specs.declared.ending.Ending.TheVariants.{Halted, Trapped, OutOfSteps, Tampered, Spent, WriteFault, NoMemory}
 use Rattle.sec_base.specs.declared.place.Place.{Place}
-use Rattle.bus_model.specs.Told.{Told}
+use Rattle.bus_model.specs.BusHistory.{BusHistory}
 use Rattle.chip_run.specs.declared.RunRecord.{RunRecord}
-use Rattle.chip_run.specs.Account.{HonestOrCaught, IsCaught, IsOfFirstLie}
+use Rattle.bus_model.specs.FirstLie.{HonestOrCaught, IsCaught, IsOfFirstLie}
 use Rattle.chip_main.specs.Device.{device_tag}
 use Rattle.chip_main.specs.Program.{Program}
 use Rattle.chip_main.specs.Statuses.{ending_status, evidence_status, status_with, run_status}
@@ -120,28 +120,28 @@ if_some : {A : Type 0} (P : A → Type 0) (o : Option A) (x : A) → o ≡ Some 
 if_some P o x is holds = subst (λ (v : Option _). IfSome v P) is holds
 
 -- where it ended as tampering, the one false answer was caught
-caught : (tag_of : Message → List ℕ) (run : RunRecord) (told : Told) (place : Place) → run.ending ≡ Tampered place → HonestOrCaught tag_of run.used run.made told (λ p. run.ending ≡ Tampered p) →
+caught : (tag_of : Message → List ℕ) (run : RunRecord) (told : BusHistory) (place : Place) → run.ending ≡ Tampered place → HonestOrCaught tag_of run.used run.made told (λ p. run.ending ≡ Tampered p) →
     IsCaught tag_of run.used run.made told (λ p. run.ending ≡ Tampered p)
 caught tag_of run told place ended (inl honest) = absurd (honest.untampered place ended)
 caught tag_of run told place ended (inr is) = is
 
 -- the causes of the statuses
-pub halted_cause : {levels steps : ℕ} {program : Program} {input : List ℕ} {old new : SinkState} {run : RunRecord} {told : Told} → RunsProtected levels steps program input old new run told → run_status run ≡ 0 → EndedWithoutEvidence IsHalted run told
+pub halted_cause : {levels steps : ℕ} {program : Program} {input : List ℕ} {old new : SinkState} {run : RunRecord} {told : BusHistory} → RunsProtected levels steps program input old new run told → run_status run ≡ 0 → EndedWithoutEvidence IsHalted run told
 unfolding HasNoEvidence
 halted_cause {run = run} runs is =
     let low = low_status run 0 is (omega arith) in record { no_evidence = low.0; ended = halted_of run.ending low.1 }
 
-pub trapped_cause : {levels steps : ℕ} {program : Program} {input : List ℕ} {old new : SinkState} {run : RunRecord} {told : Told} → RunsProtected levels steps program input old new run told → run_status run ≡ 1 → EndedWithoutEvidence IsTrapped run told
+pub trapped_cause : {levels steps : ℕ} {program : Program} {input : List ℕ} {old new : SinkState} {run : RunRecord} {told : BusHistory} → RunsProtected levels steps program input old new run told → run_status run ≡ 1 → EndedWithoutEvidence IsTrapped run told
 unfolding HasNoEvidence
 trapped_cause {run = run} runs is =
     let low = low_status run 1 is (omega arith) in record { no_evidence = low.0; ended = trapped_of run.ending low.1 }
 
-pub out_of_steps_cause : {levels steps : ℕ} {program : Program} {input : List ℕ} {old new : SinkState} {run : RunRecord} {told : Told} → RunsProtected levels steps program input old new run told → run_status run ≡ 4 → EndedWithoutEvidence IsOutOfSteps run told
+pub out_of_steps_cause : {levels steps : ℕ} {program : Program} {input : List ℕ} {old new : SinkState} {run : RunRecord} {told : BusHistory} → RunsProtected levels steps program input old new run told → run_status run ≡ 4 → EndedWithoutEvidence IsOutOfSteps run told
 unfolding HasNoEvidence
 out_of_steps_cause {run = run} runs is =
     let low = low_status run 4 is (omega arith) in record { no_evidence = low.0; ended = out_of_steps_of run.ending low.1 }
 
-pub tampered_cause : {levels steps : ℕ} {program : Program} {input : List ℕ} {old new : SinkState} {run : RunRecord} {told : Told} → RunsProtected levels steps program input old new run told → run_status run ≡ 5 → EndedTampered run told
+pub tampered_cause : {levels steps : ℕ} {program : Program} {input : List ℕ} {old new : SinkState} {run : RunRecord} {told : BusHistory} → RunsProtected levels steps program input old new run told → run_status run ≡ 5 → EndedTampered run told
 unfolding HasNoEvidence
 tampered_cause {levels = levels} {run = run} {told = told} runs is =
     let low = low_status run 5 is (omega arith) in
@@ -152,14 +152,14 @@ tampered_cause {levels = levels} {run = run} {told = told} runs is =
           (caught (device_tag levels) run told ending.0 ending.1 (runs.answers low.0));
     }
 
-pub spent_cause : {levels steps : ℕ} {program : Program} {input : List ℕ} {old new : SinkState} {run : RunRecord} {told : Told} → RunsProtected levels steps program input old new run told → run_status run ≡ 6 → EndedSpent run told
+pub spent_cause : {levels steps : ℕ} {program : Program} {input : List ℕ} {old new : SinkState} {run : RunRecord} {told : BusHistory} → RunsProtected levels steps program input old new run told → run_status run ≡ 6 → EndedSpent run told
 unfolding HasNoEvidence
 spent_cause {run = run} runs is =
     let low = low_status run 6 is (omega arith) in
     let ending = spent_of run.ending low.1 in
     record { no_evidence = low.0; page = ending.0; ended = ending.1; used_up = rw runs.bus_levels (runs.spent ending.0 low.0 ending.1) }
 
-pub evidence_cause : {levels steps : ℕ} {program : Program} {input : List ℕ} {old new : SinkState} {run : RunRecord} {told : Told} → RunsProtected levels steps program input old new run told → run_status run ≡ 7 → EndedWithEvidence run told
+pub evidence_cause : {levels steps : ℕ} {program : Program} {input : List ℕ} {old new : SinkState} {run : RunRecord} {told : BusHistory} → RunsProtected levels steps program input old new run told → run_status run ≡ 7 → EndedWithEvidence run told
 evidence_cause {levels = levels} {run = run} {told = told} runs is =
     let found = evidence_of run.evidence run.ending is in
     record {
@@ -172,9 +172,9 @@ evidence_cause {levels = levels} {run = run} {told = told} runs is =
     }
 
 -- evidence is of a false answer
-none_without_lie : (evidence : Option Evidence) (run : RunRecord) (told : Told) → IfSome evidence (IsOfFirstLie run.made told) → told.lies ≡ 0 → evidence ≡ None
+none_without_lie : (evidence : Option Evidence) (run : RunRecord) (told : BusHistory) → IfSome evidence (IsOfFirstLie run.made told) → told.lies ≡ 0 → evidence ≡ None
 none_without_lie None run told first none = refl
 none_without_lie (Some evidence) run told first none = let some : 0 < told.lies = first.lies in absurd (omega arith)
 
-pub honest_without_evidence : {levels steps : ℕ} {program : Program} {input : List ℕ} {old new : SinkState} {run : RunRecord} {told : Told} → RunsProtected levels steps program input old new run told → told.lies ≡ 0 → run.evidence ≡ None
+pub honest_without_evidence : {levels steps : ℕ} {program : Program} {input : List ℕ} {old new : SinkState} {run : RunRecord} {told : BusHistory} → RunsProtected levels steps program input old new run told → told.lies ≡ 0 → run.evidence ≡ None
 honest_without_evidence {run = run} {told = told} runs none = none_without_lie run.evidence run told runs.first_lie none

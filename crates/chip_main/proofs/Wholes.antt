@@ -7,7 +7,7 @@ use Rattle.sec_base.specs.declared.ending.Ending.{Ending}
 use Rattle.sec_base.specs.declared.ending.Ending.TheVariants.{Halted, Trapped, OutOfSteps, Tampered, Spent, WriteFault, NoMemory as memory_ended}
 use Rattle.sec_base.specs.declared.image.Image.{Image}
 use Rattle.sec_base.specs.declared.sink.SinkStop.TheVariants.{Failed, NoMemory as no_memory}
-use Rattle.bus_model.specs.Told.{Told}
+use Rattle.bus_model.specs.BusHistory.{BusHistory}
 use Rattle.rv32_core.specs.Follows.{IsWhole}
 use Rattle.plain_machine.specs.declared.PlainRecord.{PlainRecord}
 use Rattle.chip_run.specs.declared.RunRecord.{RunRecord}
@@ -26,7 +26,7 @@ use Rattle.chip_main.specs.Needs.{Need, AreAccepted, HasTold, IsAccepted, asked_
 use Rattle.chip_main.specs.Causes.{IsCause, IsMisformed, IsRefused, Stops}
 use Rattle.chip_main.specs.Taken.{IsInput, IsProgram, Tell}
 use Rattle.chip_main.specs.Statuses.{Telling, ending_status, run_status}
-use Rattle.chip_main.specs.Buses.{AreBothAnd, lies_of, run_told}
+use Rattle.chip_main.specs.Buses.{AreBothAnd, lies_of, run_history}
 use Rattle.chip_main.specs.Whole.{Faultless, RanWhole, Ready, plain_status, whole_statuses}
 use Rattle.chip_main.specs.Requests.{PlainlyRuns, RunsExecution, Writes}
 use Rattle.chip_main.specs.Course.{CameAbout, Outcome, TellsCourse, course_bus, course_run, status_of}
@@ -109,7 +109,7 @@ memory_cases memory_ended = inl refl
 -- ---- a run on protected memory
 
 -- it is the run over the whole budget
-abbrev pub IsRunWhole : ExecutionAsked → Program → List ℕ → ℕ → RunRecord → Told → Type 0
+abbrev pub IsRunWhole : ExecutionAsked → Program → List ℕ → ℕ → RunRecord → BusHistory → Type 0
 IsRunWhole execution program input status run told =
     IsWhole (opening execution.levels program input) execution.steps run.retired run.ending × (status ≡ ending_status run.ending)
 
@@ -122,7 +122,7 @@ other status is = subst (λ (n : ℕ). Contains other_statuses n) (sym is) (1, o
 used_up : (status : ℕ) → status ≡ 6 → Contains other_statuses status
 used_up status is = subst (λ (n : ℕ). Contains other_statuses n) (sym is) (0, omega arith, refl)
 
-ran_whole : (execution : ExecutionAsked) (program : Program) (input : List ℕ) (out out' : SinkState) (run : RunRecord) (told : Told) → RunsProtected execution.levels execution.steps program input out out' run told → told.lies ≡ 0 → ¬ Rose out.faults out'.faults →
+ran_whole : (execution : ExecutionAsked) (program : Program) (input : List ℕ) (out out' : SinkState) (run : RunRecord) (told : BusHistory) → RunsProtected execution.levels execution.steps program input out out' run told → told.lies ≡ 0 → ¬ Rose out.faults out'.faults →
     Contains other_statuses (run_status run) ⊎ IsRunWhole execution program input (run_status run) run told
 ran_whole execution program input out out' run told runs none quiet =
     let ending_is = run_status_without_evidence run (honest_without_evidence runs none) in
@@ -134,7 +134,7 @@ ran_whole execution program input out out' run told runs none quiet =
       ]
     ]
 
-ran_ready : (execution : ExecutionAsked) (program : Program) (input : List ℕ) (files files' : FilesState) (out out' : SinkState) (run : RunRecord) (told : Told) → Ready (to_run execution) files program input → RunsExecution execution files files' out out' run told →
+ran_ready : (execution : ExecutionAsked) (program : Program) (input : List ℕ) (files files' : FilesState) (out out' : SinkState) (run : RunRecord) (told : BusHistory) → Ready (to_run execution) files program input → RunsExecution execution files files' out out' run told →
     told.lies ≡ 0 → ¬ Rose out.faults out'.faults → Contains other_statuses (run_status run) ⊎ IsRunWhole execution program input (run_status run) run told
 ran_ready execution program input files files' out out' run told ready came none quiet =
     let same = same_program files (execution_file execution) program came.0 ready.tells ready.program_is came.2.program_is in
@@ -151,7 +151,7 @@ whole_of (Refused refusal) (Err Failed) execution program input files files' out
 whole_of NoMemory (Ok _) execution program input files files' out out' note note' came tells ready none quiet_files quiet_out quiet_note = inl (other 10 refl)
 whole_of NoMemory (Err Failed) execution program input files files' out out' note note' came tells ready none quiet_files quiet_out quiet_note = inl (other 10 refl)
 whole_of (Ran run bus) (Ok _) execution program input files files' out out' note note' came tells ready none quiet_files quiet_out quiet_note =
-    ran_ready execution program input files files' out out' run (run_told bus) ready came none quiet_out
+    ran_ready execution program input files files' out out' run (run_history bus) ready came none quiet_out
 whole_of (Ran run bus) (Err Failed) execution program input files files' out out' note note' came tells ready none quiet_files quiet_out quiet_note = absurd (quiet_note tells.1)
 whole_of (RanPlain run) (Ok _) execution program input files files' out out' note note' came tells ready none quiet_files quiet_out quiet_note = absurd came
 whole_of (RanPlain run) (Err Failed) execution program input files files' out out' note note' came tells ready none quiet_files quiet_out quiet_note = absurd came

@@ -6,7 +6,7 @@ use Rattle.sec_base.specs.Sink.{SinkState, Gains, GainsFront, Silent}
 use Rattle.sec_base.specs.declared.ending.Ending.{Ending}
 use Rattle.sec_base.specs.declared.ending.Ending.TheVariants.{NoMemory}
 use Rattle.sec_base.specs.declared.image.Image.{Image}
-use Rattle.bus_model.specs.Told.{Told}
+use Rattle.bus_model.specs.BusHistory.{BusHistory}
 use Rattle.plain_machine.specs.declared.PlainRecord.{PlainRecord}
 use Rattle.chip_run.specs.declared.RunRecord.{RunRecord}
 use Rattle.chip_words.specs.Request.{Asked, ExecutionAsked, to_run, to_run_plain}
@@ -40,7 +40,7 @@ IsDone request old new done = Ended IsHalted request old new done
     ⊎ WritesRequest request old.files new.files old.out new.out (Ok tt)
 
 -- the request is for a run on protected memory, and this holds of that run and of what its bus was told
-abbrev pub RanAnd : (RunRecord → Told → Type 0) → Option Asked → Done → Type 0
+abbrev pub RanAnd : (RunRecord → BusHistory → Type 0) → Option Asked → Done → Type 0
 RanAnd P request done = ByCommand request (λ _. IsRunAnd done P) (λ _. ⊥) (λ _ _. ⊥)
 
 -- one of the files was refused, with this status
@@ -97,7 +97,7 @@ pub record Undone (request : Option Asked) (old new : World) (done : Done) : Typ
   pub silent : Silent old.out new.out
 
 -- the request's program ran on protected memory, and that was told
-pub record RanAndTold (execution : ExecutionAsked) (old new : World) (done : Done) (run : RunRecord) (told : Told) : Type 0 where
+pub record RanAndTold (execution : ExecutionAsked) (old new : World) (done : Done) (run : RunRecord) (told : BusHistory) : Type 0 where
   pub runs : RunsExecution execution old.files new.files old.out new.out run told
   pub tells : TellsRun done.status run done.lies old.note new.note
 

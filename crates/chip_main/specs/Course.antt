@@ -15,13 +15,13 @@ use Rattle.chip_main.specs.Causes.{IsRefused, RunsOut}
 use Rattle.chip_main.specs.Requests.{RunsRequest, PlainlyRunsRequest, WritesRequest}
 use Rattle.chip_main.specs.Texts.{plain_text, record_text, refusal_text}
 use Rattle.chip_main.specs.Statuses.{Telling, ending_status, refusal_status, run_status, text_status, untold_ending_status}
-use Rattle.chip_main.specs.Buses.{run_told, lies_of}
+use Rattle.chip_main.specs.Buses.{run_history, lies_of}
 
 -- how each course came about, from the request, the files and the sink for what is printed
 abbrev pub CameAbout : Course → Option Asked → FilesState → FilesState → SinkState → SinkState → Type 0
 CameAbout (Refused refusal) request files files' out out' = IsRefused refusal request files files' × Silent out out'
 CameAbout NoMemory request files files' out out' = RunsOut (needs_of request) files files' × Silent out out'
-CameAbout (Ran run bus) request files files' out out' = RunsRequest request files files' out out' run (run_told bus)
+CameAbout (Ran run bus) request files files' out out' = RunsRequest request files files' out out' run (run_history bus)
 CameAbout (RanPlain run) request files files' out out' = PlainlyRunsRequest request files files' out out' run
 CameAbout (Written telling) request files files' out out' = WritesRequest request files files' out out' telling
 
@@ -33,7 +33,7 @@ TellsNothing old new telling = Silent old new × (telling ≡ Ok tt)
 abbrev pub TellsCourse : Course → SinkState → SinkState → Telling → Type 0
 TellsCourse (Refused refusal) old new telling = IsTold (refusal_text refusal) old new telling
 TellsCourse NoMemory old new telling = TellsNothing old new telling
-TellsCourse (Ran run bus) old new telling = IsTold (record_text run (run_told bus).lies) old new telling
+TellsCourse (Ran run bus) old new telling = IsTold (record_text run (run_history bus).lies) old new telling
 TellsCourse (RanPlain run) old new telling = IsTold (plain_text run) old new telling
 TellsCourse (Written written) old new telling = TellsNothing old new telling
 

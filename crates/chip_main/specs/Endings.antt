@@ -6,9 +6,9 @@ use Rattle.sec_base.specs.declared.evidence.Evidence.{Evidence}
 use Rattle.sec_base.specs.declared.ending.Cause.{Cause}
 use Rattle.sec_base.specs.declared.ending.Ending.{Ending}
 use Rattle.sec_base.specs.declared.ending.Ending.TheVariants.{Halted, Trapped, OutOfSteps, Tampered, Spent, WriteFault, NoMemory}
-use Rattle.bus_model.specs.Told.{Told}
+use Rattle.bus_model.specs.BusHistory.{BusHistory}
 use Rattle.chip_run.specs.declared.RunRecord.{RunRecord}
-use Rattle.chip_run.specs.Account.{IsCaught, IsOfFirstLie}
+use Rattle.bus_model.specs.FirstLie.{IsCaught, IsOfFirstLie}
 use Rattle.chip_run.specs.Contents.{IsSpent}
 use Rattle.chip_main.specs.Device.{device_tag, page_limit}
 
@@ -22,24 +22,24 @@ abbrev pub IsOutOfSteps : Ending → Type 0
 IsOutOfSteps ending = ending ≡ OutOfSteps
 
 -- it ended so, and there is no evidence
-pub record EndedWithoutEvidence (P : Ending → Type 0) (run : RunRecord) (told : Told) : Type 0 where
+pub record EndedWithoutEvidence (P : Ending → Type 0) (run : RunRecord) (told : BusHistory) : Type 0 where
   pub no_evidence : run.evidence ≡ None
   pub ended : P run.ending
 
 -- The one false answer of the bus failed its check, was the last access, and ended the run as tampering of its place.
-pub record EndedTampered (run : RunRecord) (told : Told) : Type 0 where
+pub record EndedTampered (run : RunRecord) (told : BusHistory) : Type 0 where
   pub no_evidence : run.evidence ≡ None
   pub caught : IsCaught (device_tag told.levels) run.used run.made told (λ place. run.ending ≡ Tampered place)
 
 -- Some line of the page was written as often as the limit allows.
-pub record EndedSpent (run : RunRecord) (told : Told) : Type 0 where
+pub record EndedSpent (run : RunRecord) (told : BusHistory) : Type 0 where
   pub no_evidence : run.evidence ≡ None
   pub page : ℕ
   pub ended : run.ending ≡ Spent page
   pub used_up : IsSpent (line_count told.levels) page_limit run.used page
 
 -- There is evidence of the first false answer, and neither the sink nor want of memory ended the run.
-pub record EndedWithEvidence (run : RunRecord) (told : Told) : Type 0 where
+pub record EndedWithEvidence (run : RunRecord) (told : BusHistory) : Type 0 where
   pub evidence : Evidence
   pub there : run.evidence ≡ Some evidence
   pub genuine : IsEvidence (device_tag told.levels) run.made evidence

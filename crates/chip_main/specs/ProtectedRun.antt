@@ -9,12 +9,12 @@ use Rattle.sec_base.specs.LastMessage.{data_pairs}
 use Rattle.sec_base.specs.Geometry.{line_count}
 use Rattle.sec_base.specs.Sink.{SinkState, Gains}
 use Rattle.sec_base.specs.declared.ending.Ending.TheVariants.{OutOfSteps, Tampered, Spent, WriteFault, NoMemory}
-use Rattle.bus_model.specs.Told.{Told}
-use Rattle.pad_stream.specs.Used.{AreRising, NoRepeat, of_lines}
+use Rattle.bus_model.specs.BusHistory.{BusHistory}
+use Rattle.pad_stream.specs.Pads.{AreRising, NoRepeat, of_lines}
 use Rattle.rv32_core.specs.Machine.{plain}
 use Rattle.rv32_core.specs.Follows.{Follows, IsWhole}
 use Rattle.chip_run.specs.declared.RunRecord.{RunRecord}
-use Rattle.chip_run.specs.Account.{HonestOrCaught, IsOfFirstLie}
+use Rattle.bus_model.specs.FirstLie.{HonestOrCaught, IsOfFirstLie}
 use Rattle.chip_run.specs.Contents.{AreConsecutive, AreNumbered, HoldsLast, HoldsSealed, IsSpent, IsWrittenOut, NodesAreZeros, line_writes}
 use Rattle.rv32_run.specs.Session.{IsMemoryEnding, IsStop}
 use Rattle.chip_main.specs.Device.{device_enc_key, device_tag, page_limit}
@@ -22,7 +22,7 @@ use Rattle.chip_main.specs.Program.{Program, opening}
 
 -- a run of a program on an input, in the memory below a tree of so many levels and within a budget of steps; it
 -- prints to a sink, over a bus that was told this
-pub record RunsProtected (levels steps : ℕ) (program : Program) (input : List ℕ) (old new : SinkState) (run : RunRecord) (told : Told) : Type 0 where
+pub record RunsProtected (levels steps : ℕ) (program : Program) (input : List ℕ) (old new : SinkState) (run : RunRecord) (told : BusHistory) : Type 0 where
   -- the sink gained what was printed, and without evidence the run follows the plain machine so far
   pub follows : (printed : List ℕ) × Gains old printed new
       × (run.evidence ≡ None → Follows (opening levels program input) steps run.retired run.ending printed)

@@ -4,7 +4,7 @@ use Rattle.sec_base.specs.Files.{FilesState}
 use Rattle.sec_base.specs.Geometry.{memory_size}
 use Rattle.sec_base.specs.Sink.{SinkState, IsWritten as IsTold}
 use Rattle.sec_base.specs.declared.image.Image.{Image}
-use Rattle.bus_model.specs.Told.{Told}
+use Rattle.bus_model.specs.BusHistory.{BusHistory}
 use Rattle.plain_machine.specs.declared.PlainRecord.{PlainRecord}
 use Rattle.chip_run.specs.declared.RunRecord.{RunRecord}
 use Rattle.chip_words.specs.Request.{Asked, ExecutionAsked, to_assemble, to_disassemble, to_measure, to_run, to_run_plain}
@@ -27,7 +27,7 @@ ByCommand (Some (to_disassemble inspection)) run plain writes = writes (inspecti
 ByCommand (Some (to_measure inspection)) run plain writes = writes (inspection_file inspection) measurement_line
 
 -- the run's program and input are those that the request names
-abbrev pub RunsExecution : ExecutionAsked → FilesState → FilesState → SinkState → SinkState → RunRecord → Told → Type 0
+abbrev pub RunsExecution : ExecutionAsked → FilesState → FilesState → SinkState → SinkState → RunRecord → BusHistory → Type 0
 RunsExecution execution files files' out out' run told =
     (program : Program) × (input : List ℕ) × Takes execution files files' program input
     × RunsProtected execution.levels execution.steps program input out out' run told
@@ -46,7 +46,7 @@ pub record Writes (file : ProgramFile) (text : Image → List ℕ) (files files'
   pub written : IsTold (text image) out out' telling
 
 -- the request is for a run on protected memory, for one on the plain machine, or for a text; and that was done
-abbrev pub RunsRequest : Option Asked → FilesState → FilesState → SinkState → SinkState → RunRecord → Told → Type 0
+abbrev pub RunsRequest : Option Asked → FilesState → FilesState → SinkState → SinkState → RunRecord → BusHistory → Type 0
 RunsRequest request files files' out out' run told =
     ByCommand request (λ execution. RunsExecution execution files files' out out' run told) (λ _. ⊥) (λ _ _. ⊥)
 

@@ -1,5 +1,5 @@
 ghost use Rattle.std.specs.Prelude.{◌≡◌};
-ghost use Rattle.chip_main.specs.Buses.{run_told};
+ghost use Rattle.chip_main.specs.Buses.{run_history};
 
 use bus_model::{Bus, HonestBus};
 use sec_base::{NoMemory, Sealed};
@@ -14,7 +14,7 @@ pub enum RunBus {
 impl RunBus {
     /// How many answers were false.
     pub fn lies(&self) -> u64
-        ensures { result ≡ (run_told self.now).lies }
+        ensures { result ≡ (run_history self.now).lies }
     {
         match self {
             RunBus::Honest(_) => 0,
@@ -23,7 +23,7 @@ impl RunBus {
 }
 
 impl Bus for RunBus {
-    ghost told = { run_told };
+    ghost told = { run_history };
 
     fn read_data(&mut self, line: u32) -> Result<Sealed, NoMemory> {
         match self {

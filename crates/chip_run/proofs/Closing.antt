@@ -8,13 +8,13 @@ use Rattle.sec_base.specs.declared.ending.Ending.{Ending}
 use Rattle.sec_base.specs.declared.ending.Ending.TheVariants.{Tampered, Spent}
 use Rattle.sec_base.specs.declared.stop.MemStop.{MemStop}
 use Rattle.sec_base.specs.declared.stop.MemStop.TheVariants.{Tampered as tampered, Spent as spent, NoMemory as no_memory}
-use Rattle.bus_model.specs.Told.{Told}
-use Rattle.tag_engine.specs.Engine.{Engine}
-use Rattle.chip_run.specs.Account.{HonestOrCaught}
+use Rattle.bus_model.specs.BusHistory.{BusHistory}
+use Rattle.tag_engine.specs.TagEngine.{TagEngineView}
+use Rattle.bus_model.specs.FirstLie.{HonestOrCaught}
 use Rattle.chip_run.specs.Contents.{AreNumbered, IsSpent, line_writes}
-use Rattle.chip_run.specs.Protected.{Protected, IsKept}
+use Rattle.chip_run.specs.LineMemory.{LineMemoryView, IsLineMemory}
 use Rattle.rv32_run.specs.Session.{CarriesEnding}
-use Rattle.pad_stream.specs.Used.{of_lines}
+use Rattle.pad_stream.specs.Pads.{of_lines}
 use Rattle.chip_run.proofs.LineMessages.{writes_same}
 use Rattle.chip_run.proofs.Pairs.{pairs_numbered, all_of_lines}
 use Rattle.sec_base.specs.declared.counter.Counter.{Counter}
@@ -41,41 +41,41 @@ stopped_spent (Some no_memory) ending page carries is = cc
 
 -- What was taken for tampering may be said by another word
 
-answers_map : (tag_of : Message → List ℕ) (used : List (ℕ × Counter)) (made : List Message) (told : Told) (P Q : Place → Type 0) → ((place : Place) → P place → Q place) → ((place : Place) → Q place → P place) → HonestOrCaught tag_of used made told P → HonestOrCaught tag_of used made told Q
-answers_map tag_of used made told P Q there back (inl honest) = inl (record { lies = honest.lies; untampered = λ place q. honest.untampered place (back place q) })
-answers_map tag_of used made told P Q there back (inr caught) =
+answers_map : (tag_of : Message → List ℕ) (used : List (ℕ × Counter)) (made : List Message) (history : BusHistory) (P Q : Place → Type 0) → ((place : Place) → P place → Q place) → ((place : Place) → Q place → P place) → HonestOrCaught tag_of used made history P → HonestOrCaught tag_of used made history Q
+answers_map tag_of used made history P Q there back (inl honest) = inl (record { lies = honest.lies; untampered = λ place q. honest.untampered place (back place q) })
+answers_map tag_of used made history P Q there back (inr caught) =
     inr (record { lies = caught.lies; lie = caught.lie; first = caught.first; last = caught.last; fails = caught.fails; ended = there caught.lie.place caught.ended })
 
 -- What is kept of a memory, said of a run that it ended
 
-pub ended_answers : {B T : Type 0} (tags : Engine T → Message → List ℕ) (told : B → Told) (given lines : Protected B T) (ending : Ending) → given ≡ lines → CarriesEnding lines.stopped (Some ending) → IsKept (tags given.engine) (told given.bus) given → lines.engine.evidence ≡ None → HonestOrCaught (tags lines.engine) lines.pads.used lines.engine.made (told lines.bus) (λ place. ending ≡ Tampered place)
-ended_answers {B} {T} tags told given lines ending same carries kept quiet =
-    let kept_lines = subst (λ (memory : Protected B T). IsKept (tags memory.engine) (told memory.bus) memory) same kept in
-    answers_map (tags lines.engine) lines.pads.used lines.engine.made (told lines.bus) (λ place. lines.stopped ≡ Some (tampered place)) (λ place. ending ≡ Tampered place)
+pub ended_answers : {B T : Type 0} (tags : TagEngineView T → Message → List ℕ) (history : B → BusHistory) (given lines : LineMemoryView B T) (ending : Ending) → given ≡ lines → CarriesEnding lines.stopped (Some ending) → IsLineMemory (tags given.engine) (history given.bus) given → lines.engine.evidence ≡ None → HonestOrCaught (tags lines.engine) lines.pads.used lines.engine.made (history lines.bus) (λ place. ending ≡ Tampered place)
+ended_answers {B} {T} tags history given lines ending same carries kept quiet =
+    let kept_lines = subst (λ (memory : LineMemoryView B T). IsLineMemory (tags memory.engine) (history memory.bus) memory) same kept in
+    answers_map (tags lines.engine) lines.pads.used lines.engine.made (history lines.bus) (λ place. lines.stopped ≡ Some (tampered place)) (λ place. ending ≡ Tampered place)
     (λ place is. ended_tampered lines.stopped ending place carries is) (λ place is. stopped_tampered lines.stopped ending place carries is)
     (kept_lines.answers quiet)
 
-pub ended_spent : {B T : Type 0} (tags : Engine T → Message → List ℕ) (told : B → Told) (given lines : Protected B T) (ending : Ending) (page : ℕ) → given ≡ lines → CarriesEnding lines.stopped (Some ending) → IsKept (tags given.engine) (told given.bus) given → ending ≡ Spent page → IsSpent (line_count lines.engine.levels) lines.limit lines.pads.used page
-ended_spent {B} {T} tags told given lines ending page same carries kept is =
-    let kept_lines = subst (λ (memory : Protected B T). IsKept (tags memory.engine) (told memory.bus) memory) same kept in
+pub ended_spent : {B T : Type 0} (tags : TagEngineView T → Message → List ℕ) (history : B → BusHistory) (given lines : LineMemoryView B T) (ending : Ending) (page : ℕ) → given ≡ lines → CarriesEnding lines.stopped (Some ending) → IsLineMemory (tags given.engine) (history given.bus) given → ending ≡ Spent page → IsSpent (line_count lines.engine.levels) lines.limit lines.pads.used page
+ended_spent {B} {T} tags history given lines ending page same carries kept is =
+    let kept_lines = subst (λ (memory : LineMemoryView B T). IsLineMemory (tags memory.engine) (history memory.bus) memory) same kept in
     kept_lines.spent page (stopped_spent lines.stopped ending page carries is)
 
-pub ended_limited : {B T : Type 0} (tags : Engine T → Message → List ℕ) (told : B → Told) (given lines : Protected B T) (line : ℕ) → given ≡ lines → IsKept (tags given.engine) (told given.bus) given → line_writes lines.pads.used line ≤ lines.limit
-ended_limited {B} {T} tags told given lines line same kept =
-    let kept_lines = subst (λ (memory : Protected B T). IsKept (tags memory.engine) (told memory.bus) memory) same kept in
+pub ended_limited : {B T : Type 0} (tags : TagEngineView T → Message → List ℕ) (history : B → BusHistory) (given lines : LineMemoryView B T) (line : ℕ) → given ≡ lines → IsLineMemory (tags given.engine) (history given.bus) given → line_writes lines.pads.used line ≤ lines.limit
+ended_limited {B} {T} tags history given lines line same kept =
+    let kept_lines = subst (λ (memory : LineMemoryView B T). IsLineMemory (tags memory.engine) (history memory.bus) memory) same kept in
     let writes = writes_same lines.engine.made lines.pads.used line kept_lines.paired in
     omega (arith, writes, kept_lines.counted.limited line)
 
-pub ended_kept : {B T : Type 0} (tags : Engine T → Message → List ℕ) (told : B → Told) (given lines : Protected B T) → given ≡ lines → IsKept (tags given.engine) (told given.bus) given → IsKept (tags lines.engine) (told lines.bus) lines
-ended_kept {B} {T} tags told given lines same kept =
-    subst (λ (memory : Protected B T). IsKept (tags memory.engine) (told memory.bus) memory) same kept
+pub ended_kept : {B T : Type 0} (tags : TagEngineView T → Message → List ℕ) (history : B → BusHistory) (given lines : LineMemoryView B T) → given ≡ lines → IsLineMemory (tags given.engine) (history given.bus) given → IsLineMemory (tags lines.engine) (history lines.bus) lines
+ended_kept {B} {T} tags history given lines same kept =
+    subst (λ (memory : LineMemoryView B T). IsLineMemory (tags memory.engine) (history memory.bus) memory) same kept
 
-pub ended_numbered : {B T : Type 0} (tags : Engine T → Message → List ℕ) (told : B → Told) (given lines : Protected B T) → given ≡ lines → IsKept (tags given.engine) (told given.bus) given → AreNumbered (line_count lines.engine.levels) lines.pads.used
-ended_numbered {B} {T} tags told given lines same kept =
-    let kept_lines = ended_kept tags told given lines same kept in
+pub ended_numbered : {B T : Type 0} (tags : TagEngineView T → Message → List ℕ) (history : B → BusHistory) (given lines : LineMemoryView B T) → given ≡ lines → IsLineMemory (tags given.engine) (history given.bus) given → AreNumbered (line_count lines.engine.levels) lines.pads.used
+ended_numbered {B} {T} tags history given lines same kept =
+    let kept_lines = ended_kept tags history given lines same kept in
     pairs_numbered (line_count lines.engine.levels) lines.limit lines.engine.made lines.pads.used lines.counters kept_lines.counted kept_lines.paired
 
-pub ended_paired : {B T : Type 0} (tags : Engine T → Message → List ℕ) (told : B → Told) (given lines : Protected B T) → given ≡ lines → IsKept (tags given.engine) (told given.bus) given → data_pairs lines.engine.made ≡ of_lines (line_count lines.engine.levels) lines.pads.used
-ended_paired {B} {T} tags told given lines same kept =
-    (ended_kept tags told given lines same kept).paired
-    ∙ sym (all_of_lines (line_count lines.engine.levels) lines.pads.used (ended_numbered tags told given lines same kept))
+pub ended_paired : {B T : Type 0} (tags : TagEngineView T → Message → List ℕ) (history : B → BusHistory) (given lines : LineMemoryView B T) → given ≡ lines → IsLineMemory (tags given.engine) (history given.bus) given → data_pairs lines.engine.made ≡ of_lines (line_count lines.engine.levels) lines.pads.used
+ended_paired {B} {T} tags history given lines same kept =
+    (ended_kept tags history given lines same kept).paired
+    ∙ sym (all_of_lines (line_count lines.engine.levels) lines.pads.used (ended_numbered tags history given lines same kept))

@@ -12,7 +12,7 @@ use Rattle.sec_base.specs.declared.message.Message.{Message}
 use Rattle.sec_base.specs.declared.message.Message.TheVariants.{Line, Node}
 use Rattle.sec_base.specs.LastMessage.{data_part, last_at, last_data, last_pair, data_pairs}
 use Rattle.sec_base.specs.Lines.{with_line}
-use Rattle.pad_stream.specs.Used.{IsBefore}
+use Rattle.pad_stream.specs.Pads.{IsBefore}
 use Rattle.pad_stream.specs.Pad.{enciphered}
 use Rattle.sec_base.proofs.LastMessages.{last_of_same, last_of_other, linked, HasPart, last_pair-data_pairs}
 use Rattle.chip_run.proofs.Pairs.{pair_made, data_pairs-append}
@@ -20,7 +20,7 @@ use Rattle.sec_base.proofs.SamePlaces.{false_from}
 use Rattle.sec_base.proofs.JoinedLines.{with_line-joined_lines}
 use Rattle.chip_run.specs.Contents.{bytes_of, line_bytes, contents_of, writes_by, line_writes}
 use Rattle.chip_run.specs.LineLengths.{length-line_bytes}
-use Rattle.chip_run.specs.Protected.{IsNumbered, AreCounted, writes_of, times_tagged}
+use Rattle.chip_run.specs.LineMemory.{IsNumbered, AreCounted, writes_of, times_tagged}
 
 -- a message more of the line itself
 pub last_data-same : (made : List Message) (line : ℕ) (counter : Counter) (cipher : List ℕ) →

@@ -16,14 +16,14 @@ use Rattle.sec_base.specs.declared.stop.MemStop.{MemStop}
 use Rattle.sec_base.specs.declared.stop.MemStop.TheVariants.{Tampered, Spent, NoMemory}
 use Rattle.sec_base.proofs.SamePlaces.{place_eq-Decides}
 use Rattle.sec_base.proofs.JoinedLines.{line_at-joined_lines}
-use Rattle.bus_model.specs.Told.{Told, after_read}
+use Rattle.bus_model.specs.BusHistory.{BusHistory, after_read}
 use Rattle.bus_model.proofs.Steps.{read_reads, read_rose}
-use Rattle.tag_engine.specs.Engine.{Engine, forgery_of, after_make, with_room}
-use Rattle.pad_stream.specs.Stream.{Stream, after_encrypt, with_room as pads_with_room}
+use Rattle.tag_engine.specs.TagEngine.{TagEngineView, forgery_of, after_make, with_room}
+use Rattle.pad_stream.specs.PadEngine.{PadEngineView, after_encrypt, with_room as pads_with_room}
 use Rattle.chip_run.specs.Contents.{bytes_of, line_bytes, contents_of}
 use Rattle.chip_run.specs.LineLengths.{length-line_bytes}
 use Rattle.chip_run.specs.Moving.{moves_not}
-use Rattle.chip_run.specs.Protected.{Protected, Moves, WereRead, ReadMoved, IsMoved, Passed, IsCheckedRead, AreCounted, writes_of, lasting_stop}
+use Rattle.chip_run.specs.LineMemory.{LineMemoryView, Moves, WereRead, ReadMoved, IsMoved, Passed, IsCheckedRead, AreCounted, writes_of, lasting_stop}
 use Rattle.chip_run.proofs.LineMessages.{last_made}
 
 -- Counts of reads
@@ -33,12 +33,12 @@ risen_by : (same : Bool) (place other : Place) (reads : Place → ℕ) → (same
 risen_by true place other reads tells = let here : reads other ≡ reads place = ap reads (tells refl) in omega (arith, here)
 risen_by false place other reads tells = omega arith
 
-reads_kept : (place other : Place) (bytes : List ℕ) (told : Told) → RoseBy 0 (told.reads other) ((after_read place bytes told).reads other)
-reads_kept place other bytes told =
-    let is : (after_read place bytes told).reads other ≡ at_place place (more_by 1 (told.reads place)) told.reads other =
-    ap (λ (f : Place → ℕ). f other) (read_reads place bytes told) in
-    subst (λ (n : ℕ). RoseBy 0 (told.reads other) n) (sym is)
-    (risen_by (place_eq other place) place other told.reads (place_eq-Decides other place).0)
+reads_kept : (place other : Place) (bytes : List ℕ) (history : BusHistory) → RoseBy 0 (history.reads other) ((after_read place bytes history).reads other)
+reads_kept place other bytes history =
+    let is : (after_read place bytes history).reads other ≡ at_place place (more_by 1 (history.reads place)) history.reads other =
+    ap (λ (f : Place → ℕ). f other) (read_reads place bytes history) in
+    subst (λ (n : ℕ). RoseBy 0 (history.reads other) n) (sym is)
+    (risen_by (place_eq other place) place other history.reads (place_eq-Decides other place).0)
 
 only_line : (line other : ℕ) → Contains (line ∷ []) other → other ≡ line
 only_line line other (zero, below, at) = sym at
@@ -48,40 +48,40 @@ first_stays : (before : Option Evidence) (shown : Option Evidence) (evidence : E
 first_stays None shown evidence is = absurd (cc)
 first_stays (Some first) shown evidence is = is
 
-module _ {B T : Type 0} (told : B → Told) (old : Protected B T) (line : ℕ) where
+module _ {B T : Type 0} (history : B → BusHistory) (old : LineMemoryView B T) (line : ℕ) where
   -- an answer of the line's place
-  pub answer_moves : (bus : B) (engine : Engine T) (counters : List ℕ) (stopped : Option MemStop) (bytes : List ℕ) (shown : Option Evidence) →
-      told bus ≡ after_read (line_place line) bytes (told old.bus) → engine ≡ record old.engine { evidence = option_or old.engine.evidence shown } →
-      Moves told old (record { bus = bus; engine = engine; pads = old.pads; counters = counters; limit = old.limit; stopped = stopped })
+  pub answer_moves : (bus : B) (engine : TagEngineView T) (counters : List ℕ) (stopped : Option MemStop) (bytes : List ℕ) (shown : Option Evidence) →
+      history bus ≡ after_read (line_place line) bytes (history old.bus) → engine ≡ record old.engine { evidence = option_or old.engine.evidence shown } →
+      Moves history old (record { bus = bus; engine = engine; pads = old.pads; counters = counters; limit = old.limit; stopped = stopped })
   answer_moves bus engine counters stopped bytes shown answered checked = record {
-    tagger = ap (λ (e : Engine T). e.tagger) checked;
-    levels = ap (λ (e : Engine T). e.levels) checked;
+    tagger = ap (λ (e : TagEngineView T). e.tagger) checked;
+    levels = ap (λ (e : TagEngineView T). e.levels) checked;
     key = refl;
     limit = refl;
     more = [];
-    made = ap (λ (e : Engine T). e.made) checked ∙ sym (append-nil old.engine.made);
+    made = ap (λ (e : TagEngineView T). e.made) checked ∙ sym (append-nil old.engine.made);
     more_used = [];
     used = sym (append-nil old.pads.used);
-    reads = λ place. subst (λ (t : Told). RoseBy 0 ((told old.bus).reads place) (t.reads place)) (sym answered)
-        (reads_kept (line_place line) place bytes (told old.bus));
-    evidence = λ evidence is. ap (λ (e : Engine T). e.evidence) checked ∙ first_stays old.engine.evidence shown evidence is;
+    reads = λ place. subst (λ (t : BusHistory). RoseBy 0 ((history old.bus).reads place) (t.reads place)) (sym answered)
+        (reads_kept (line_place line) place bytes (history old.bus));
+    evidence = λ evidence is. ap (λ (e : TagEngineView T). e.evidence) checked ∙ first_stays old.engine.evidence shown evidence is;
   }
 
-  was_read : (bus : B) (engine : Engine T) (counters : List ℕ) (stopped : Option MemStop) (bytes : List ℕ) →
-      told bus ≡ after_read (line_place line) bytes (told old.bus) →
-      WereRead told old (line ∷ []) (record { bus = bus; engine = engine; pads = old.pads; counters = counters; limit = old.limit; stopped = stopped })
+  was_read : (bus : B) (engine : TagEngineView T) (counters : List ℕ) (stopped : Option MemStop) (bytes : List ℕ) →
+      history bus ≡ after_read (line_place line) bytes (history old.bus) →
+      WereRead history old (line ∷ []) (record { bus = bus; engine = engine; pads = old.pads; counters = counters; limit = old.limit; stopped = stopped })
   was_read bus engine counters stopped bytes answered = record {
     read = λ going quiet other listed.
         let here : other ≡ line = only_line line other listed in
-        let rose : Rose ((told old.bus).reads (line_place line)) ((told bus).reads (line_place line)) =
-        subst (λ (t : Told). Rose ((told old.bus).reads (line_place line)) (t.reads (line_place line))) (sym answered) (read_rose (line_place line) bytes (told old.bus)) in
-        inr (subst (λ (l : ℕ). Rose ((told old.bus).reads (line_place l)) ((told bus).reads (line_place l))) (sym here) rose);
+        let rose : Rose ((history old.bus).reads (line_place line)) ((history bus).reads (line_place line)) =
+        subst (λ (t : BusHistory). Rose ((history old.bus).reads (line_place line)) (t.reads (line_place line))) (sym answered) (read_rose (line_place line) bytes (history old.bus)) in
+        inr (subst (λ (l : ℕ). Rose ((history old.bus).reads (line_place l)) ((history bus).reads (line_place l))) (sym here) rose);
   }
 
   -- a line that passed its check
-  pub passed_moved : (tag_of : Message → List ℕ) (counter : Counter) (bus : B) (engine : Engine T) (cipher : List ℕ) →
-      Passed tag_of line counter (told old.bus) (told bus) old.engine engine cipher →
-      ReadMoved told old line (record { bus = bus; engine = engine; pads = old.pads; counters = old.counters; limit = old.limit; stopped = old.stopped })
+  pub passed_moved : (tag_of : Message → List ℕ) (counter : Counter) (bus : B) (engine : TagEngineView T) (cipher : List ℕ) →
+      Passed tag_of line counter (history old.bus) (history bus) old.engine engine cipher →
+      ReadMoved history old line (record { bus = bus; engine = engine; pads = old.pads; counters = old.counters; limit = old.limit; stopped = old.stopped })
   passed_moved tag_of counter bus engine cipher passed = record {
     moves = answer_moves bus engine old.counters old.stopped (cipher ++ passed.tag)
         (forgery_of old.engine.made line counter (record { cipher = cipher; tag = passed.tag }) true) passed.answered passed.checked;
@@ -89,10 +89,10 @@ module _ {B T : Type 0} (told : B → Told) (old : Protected B T) (line : ℕ) w
   }
 
   -- nothing but a stop
-  pub stop_moves : (bus : B) (engine : Engine T) (pads : Stream) (stopped : Option MemStop) → told bus ≡ told old.bus →
+  pub stop_moves : (bus : B) (engine : TagEngineView T) (pads : PadEngineView) (stopped : Option MemStop) → history bus ≡ history old.bus →
       engine.tagger ≡ old.engine.tagger → engine.levels ≡ old.engine.levels → engine.made ≡ old.engine.made → engine.evidence ≡ old.engine.evidence →
       pads.key ≡ old.pads.key → pads.used ≡ old.pads.used →
-      Moves told old (record { bus = bus; engine = engine; pads = pads; counters = old.counters; limit = old.limit; stopped = stopped })
+      Moves history old (record { bus = bus; engine = engine; pads = pads; counters = old.counters; limit = old.limit; stopped = stopped })
   stop_moves bus engine pads stopped same tagger levels made evidence key used = record {
     tagger = tagger;
     levels = levels;
@@ -102,27 +102,27 @@ module _ {B T : Type 0} (told : B → Told) (old : Protected B T) (line : ℕ) w
     made = made ∙ sym (append-nil old.engine.made);
     more_used = [];
     used = used ∙ sym (append-nil old.pads.used);
-    reads = λ place. let is : (told bus).reads place ≡ (told old.bus).reads place = ap (λ (t : Told). t.reads place) same in omega (arith, is);
+    reads = λ place. let is : (history bus).reads place ≡ (history old.bus).reads place = ap (λ (t : BusHistory). t.reads place) same in omega (arith, is);
     evidence = λ shown is. evidence ∙ is;
   }
 
-  unread : (bus : B) (engine : Engine T) (stop : MemStop) →
-      WereRead told old (line ∷ []) (record { bus = bus; engine = engine; pads = old.pads; counters = old.counters; limit = old.limit; stopped = Some stop })
+  unread : (bus : B) (engine : TagEngineView T) (stop : MemStop) →
+      WereRead history old (line ∷ []) (record { bus = bus; engine = engine; pads = old.pads; counters = old.counters; limit = old.limit; stopped = Some stop })
   unread bus engine stop = record { read = λ going quiet other listed. absurd (cc) }
 
-  nothing_shown : (engine : Engine T) → engine ≡ old.engine → (evidence : Option Evidence) → old.engine.evidence ≡ evidence →
+  nothing_shown : (engine : TagEngineView T) → engine ≡ old.engine → (evidence : Option Evidence) → old.engine.evidence ≡ evidence →
       engine ≡ record old.engine { evidence = option_or evidence None }
   nothing_shown engine unchanged None is = unchanged ∙ ap (λ (e : Option Evidence). record old.engine { evidence = e }) is
   nothing_shown engine unchanged (Some first) is = unchanged ∙ ap (λ (e : Option Evidence). record old.engine { evidence = e }) is
 
   -- a line that stopped the memory
-  pub stopped_moved : (tag_of : Message → List ℕ) (counter : Counter) (bus : B) (engine : Engine T) (stop : MemStop) →
-      IsCheckedRead tag_of line counter (told old.bus) (told bus) old.engine engine (Err stop) →
-      ReadMoved told old line (record { bus = bus; engine = engine; pads = old.pads; counters = old.counters; limit = old.limit; stopped = Some stop })
+  pub stopped_moved : (tag_of : Message → List ℕ) (counter : Counter) (bus : B) (engine : TagEngineView T) (stop : MemStop) →
+      IsCheckedRead tag_of line counter (history old.bus) (history bus) old.engine engine (Err stop) →
+      ReadMoved history old line (record { bus = bus; engine = engine; pads = old.pads; counters = old.counters; limit = old.limit; stopped = Some stop })
   stopped_moved tag_of counter bus engine (Spent page) result = absurd result
   stopped_moved tag_of counter bus engine NoMemory result = record {
-    moves = stop_moves bus engine old.pads (Some NoMemory) result.0 (ap (λ (e : Engine T). e.tagger) result.1) (ap (λ (e : Engine T). e.levels) result.1)
-        (ap (λ (e : Engine T). e.made) result.1) (ap (λ (e : Engine T). e.evidence) result.1) refl refl;
+    moves = stop_moves bus engine old.pads (Some NoMemory) result.0 (ap (λ (e : TagEngineView T). e.tagger) result.1) (ap (λ (e : TagEngineView T). e.levels) result.1)
+        (ap (λ (e : TagEngineView T). e.made) result.1) (ap (λ (e : TagEngineView T). e.evidence) result.1) refl refl;
     read = unread bus engine NoMemory;
   }
   stopped_moved tag_of counter bus engine (Tampered place) result = record {
@@ -132,9 +132,9 @@ module _ {B T : Type 0} (told : B → Told) (old : Protected B T) (line : ℕ) w
   }
 
   -- a line that was never written
-  pub fresh_moved : last_data line old.engine.made ≡ None → ReadMoved told old line old
+  pub fresh_moved : last_data line old.engine.made ≡ None → ReadMoved history old line old
   fresh_moved fresh = record {
-    moves = moves_not told old;
+    moves = moves_not history old;
     read = record {
       read = λ going quiet other listed.
           inl (subst (λ (l : ℕ). last_data l old.engine.made ≡ None) (sym (only_line line other listed)) fresh);
@@ -142,21 +142,21 @@ module _ {B T : Type 0} (told : B → Told) (old : Protected B T) (line : ℕ) w
   }
 
   -- a line that was enciphered and tagged, and written or not
-  pub tagged_moves : (counter : Counter) (cipher : List ℕ) (bus : B) (engine : Engine T) (pads : Stream) (counters : List ℕ) (stopped : Option MemStop) →
+  pub tagged_moves : (counter : Counter) (cipher : List ℕ) (bus : B) (engine : TagEngineView T) (pads : PadEngineView) (counters : List ℕ) (stopped : Option MemStop) →
       engine ≡ after_make (Line line counter cipher) (with_room 1 old.engine) → pads ≡ after_encrypt line counter (pads_with_room 1 old.pads) →
-      (told bus).reads ≡ (told old.bus).reads →
-      Moves told old (record { bus = bus; engine = engine; pads = pads; counters = counters; limit = old.limit; stopped = stopped })
+      (history bus).reads ≡ (history old.bus).reads →
+      Moves history old (record { bus = bus; engine = engine; pads = pads; counters = counters; limit = old.limit; stopped = stopped })
   tagged_moves counter cipher bus engine pads counters stopped tagged enciphered_is same = record {
-    tagger = ap (λ (e : Engine T). e.tagger) tagged;
-    levels = ap (λ (e : Engine T). e.levels) tagged;
-    key = ap (λ (p : Stream). p.key) enciphered_is;
+    tagger = ap (λ (e : TagEngineView T). e.tagger) tagged;
+    levels = ap (λ (e : TagEngineView T). e.levels) tagged;
+    key = ap (λ (p : PadEngineView). p.key) enciphered_is;
     limit = refl;
     more = Line line counter cipher ∷ [];
-    made = ap (λ (e : Engine T). e.made) tagged;
+    made = ap (λ (e : TagEngineView T). e.made) tagged;
     more_used = (line, counter) ∷ [];
-    used = ap (λ (p : Stream). p.used) enciphered_is;
-    reads = λ place. let is : (told bus).reads place ≡ (told old.bus).reads place = ap (λ (f : Place → ℕ). f place) same in omega (arith, is);
-    evidence = λ evidence is. ap (λ (e : Engine T). e.evidence) tagged ∙ is;
+    used = ap (λ (p : PadEngineView). p.used) enciphered_is;
+    reads = λ place. let is : (history bus).reads place ≡ (history old.bus).reads place = ap (λ (f : Place → ℕ). f place) same in omega (arith, is);
+    evidence = λ evidence is. ap (λ (e : TagEngineView T). e.evidence) tagged ∙ is;
   }
 
 -- a stop that lasts, answered again
@@ -164,10 +164,10 @@ stopped_already : (stopped : Option MemStop) (stop : MemStop) → lasting_stop s
 stopped_already None stop lasting going = cc
 stopped_already (Some other) stop lasting going = cc
 
-pub lasting_read : {B T : Type 0} (told : B → Told) (memory : Protected B T) (line : ℕ) (stop : MemStop) → lasting_stop memory.stopped ≡ Some stop →
-    ReadMoved told memory line memory
-lasting_read told memory line stop lasting = record {
-  moves = moves_not told memory;
+pub lasting_read : {B T : Type 0} (history : B → BusHistory) (memory : LineMemoryView B T) (line : ℕ) (stop : MemStop) → lasting_stop memory.stopped ≡ Some stop →
+    ReadMoved history memory line memory
+lasting_read history memory line stop lasting = record {
+  moves = moves_not history memory;
   read = record { read = λ going quiet other listed. absurd (stopped_already memory.stopped stop lasting going) };
 }
 
@@ -192,17 +192,17 @@ line_there key lines made line last inside is =
     line_at-joined_lines (line_bytes key made) lines line (length-line_bytes key made) inside ∙ ap (bytes_of key line) is
 
 -- the geometry stays
-pub stopped_levels : {T : Type 0} (tag_of : Message → List ℕ) (line : ℕ) (counter : Counter) (told told' : Told) (engine engine' : Engine T) (stop : MemStop) →
-    IsCheckedRead tag_of line counter told told' engine engine' (Err stop) → engine'.levels ≡ engine.levels
-stopped_levels {T} tag_of line counter told told' engine engine' (Spent page) result = absurd result
-stopped_levels {T} tag_of line counter told told' engine engine' NoMemory result = ap (λ (e : Engine T). e.levels) result.1
-stopped_levels {T} tag_of line counter told told' engine engine' (Tampered place) result = ap (λ (e : Engine T). e.levels) result.1.unchanged
+pub stopped_levels : {T : Type 0} (tag_of : Message → List ℕ) (line : ℕ) (counter : Counter) (history history' : BusHistory) (engine engine' : TagEngineView T) (stop : MemStop) →
+    IsCheckedRead tag_of line counter history history' engine engine' (Err stop) → engine'.levels ≡ engine.levels
+stopped_levels {T} tag_of line counter history history' engine engine' (Spent page) result = absurd result
+stopped_levels {T} tag_of line counter history history' engine engine' NoMemory result = ap (λ (e : TagEngineView T). e.levels) result.1
+stopped_levels {T} tag_of line counter history history' engine engine' (Tampered place) result = ap (λ (e : TagEngineView T). e.levels) result.1.unchanged
 
 -- a memory that answers its stop again
-pub stopped_unmoved : {B T : Type 0} (told : B → Told) (memory : Protected B T) (lines : List ℕ) (stop : MemStop) → memory.stopped ≡ Some stop →
-    IsMoved told memory lines memory
-stopped_unmoved told memory lines stop stopped = record {
-  moves = moves_not told memory;
+pub stopped_unmoved : {B T : Type 0} (history : B → BusHistory) (memory : LineMemoryView B T) (lines : List ℕ) (stop : MemStop) → memory.stopped ≡ Some stop →
+    IsMoved history memory lines memory
+stopped_unmoved history memory lines stop stopped = record {
+  moves = moves_not history memory;
   stays = λ other is. is;
   read = record { read = λ going quiet other listed. absurd (cc) };
 }

@@ -11,9 +11,9 @@ use Rattle.std.proofs.lemmas.Bool.{cases_eq, lt-ltb}
 use Rattle.std.proofs.lemmas.Bool.Decides.{Decides-eqb}
 use Rattle.std.proofs.lemmas.List.{length-append}
 use Rattle.std.proofs.lemmas.List.Elements.{filter-append}
-use Rattle.pad_stream.specs.Used.{of_lines}
+use Rattle.pad_stream.specs.Pads.{of_lines}
 use Rattle.chip_run.specs.Contents.{AreNumbered, AreConsecutive, entries_of, line_writes, writes_by}
-use Rattle.chip_run.specs.Protected.{AreCounted}
+use Rattle.chip_run.specs.LineMemory.{AreCounted}
 
 Contains-skip : {A : Type 0} (first : A) (rest : List A) (item : A) → Contains rest item → Contains (first ∷ rest) item
 Contains-skip first rest item listed = (suc listed.0, omega (arith, listed.1), listed.2)

@@ -12,7 +12,7 @@ use Rattle.sec_base.specs.Gain.{Gain}
 use Rattle.sec_base.specs.LastMessage.{last_data}
 use Rattle.sec_base.specs.Geometry.{line_count}
 use Rattle.sec_base.proofs.Gains.{gain_none, gain_on}
-use Rattle.bus_model.specs.Told.{Told}
+use Rattle.bus_model.specs.BusHistory.{BusHistory}
 use Rattle.sec_base.specs.declared.segment.Segment.{Segment}
 use Rattle.sec_base.specs.Opening.{opening_memory}
 use Rattle.rv32_core.specs.Machine.{Machine, opening_of}
@@ -22,7 +22,7 @@ use Rattle.rv32_run.proofs.Windows.{Chip, turnover_begun}
 use Rattle.chip_run.specs.Contents.{contents_of}
 use Rattle.chip_run.specs.LineLengths.{length-contents_of}
 use Rattle.chip_run.specs.Moving.{unmoved, moved_on, was_none}
-use Rattle.chip_run.specs.Protected.{Protected, IsMoved}
+use Rattle.chip_run.specs.LineMemory.{LineMemoryView, IsMoved}
 use Rattle.chip_run.proofs.LineMoves.{line_there}
 
 -- a line past the end has no bytes, and one that was never tagged has zeros
@@ -40,8 +40,8 @@ old_is_inside key lines made line old =
     ]
 
 -- an old line was read
-old_was_read : {B T : Type 0} (told : B → Told) (old new : Protected B T) (lines : List ℕ) (line : ℕ) → IsMoved told old lines new → new.stopped ≡ None → new.engine.evidence ≡ None → Contains lines line → is_old (contents_of old.pads.key (line_count old.engine.levels) old.engine.made) line ≡ true → Rose ((told old.bus).reads (line_place line)) ((told new.bus).reads (line_place line))
-old_was_read told old new lines line moved going quiet listed is =
+old_was_read : {B T : Type 0} (history : B → BusHistory) (old new : LineMemoryView B T) (lines : List ℕ) (line : ℕ) → IsMoved history old lines new → new.stopped ≡ None → new.engine.evidence ≡ None → Contains lines line → is_old (contents_of old.pads.key (line_count old.engine.levels) old.engine.made) line ≡ true → Rose ((history old.bus).reads (line_place line)) ((history new.bus).reads (line_place line))
+old_was_read history old new lines line moved going quiet listed is =
     let inside = old_is_inside old.pads.key (line_count old.engine.levels) old.engine.made line is in
     elim (moved.read.read going quiet line listed) [
       | inl untagged ↦ absurd (false≢true (sym (untagged_is_blank old.pads.key (line_count old.engine.levels) old.engine.made line inside untagged) ∙ is))
@@ -49,28 +49,28 @@ old_was_read told old new lines line moved going quiet listed is =
     ]
 
 -- the protected memory holds no line
-chip_of : {M B T : Type 0} → (M → Protected B T) → (B → Told) → ℕ → Chip
-chip_of {M} {B} {T} lines told levels = record {
+chip_of : {M B T : Type 0} → (M → LineMemoryView B T) → (B → BusHistory) → ℕ → Chip
+chip_of {M} {B} {T} lines history levels = record {
   M = M;
   contents = λ m. contents_of (lines m).pads.key (line_count (lines m).engine.levels) (lines m).engine.made;
   stopped = λ m. (lines m).stopped;
-  moved = λ a xs b. IsMoved told (lines a) xs (lines b);
+  moved = λ a xs b. IsMoved history (lines a) xs (lines b);
   quiet = λ m. (lines m).engine.evidence ≡ None;
   fits = λ m. (lines m).engine.levels ≡ levels;
-  reads = λ m line. (told (lines m).bus).reads (line_place line);
+  reads = λ m line. (history (lines m).bus).reads (line_place line);
   kept = λ m. [];
   group = λ line. line;
   places = line_count levels;
   bound = 129;
-  unmoved = λ m. unmoved told (lines m);
-  moved_on = λ a b c xs ys first second. moved_on told (lines a) (lines b) (lines c) xs ys first second;
+  unmoved = λ m. unmoved history (lines m);
+  moved_on = λ a b c xs ys first second. moved_on history (lines a) (lines b) (lines c) xs ys first second;
   sooner = λ a b xs moved quiet. was_none (lines a).engine.evidence (lines b).engine.evidence moved.moves.evidence quiet;
   later = λ a b xs moved fits. moved.moves.levels ∙ fits;
   rises = λ a b xs moved line. moved.moves.reads (line_place line);
   few = λ m fits. omega arith;
   inside = λ m line fits old.
       subst (λ (n : ℕ). line < line_count n) fits (old_is_inside (lines m).pads.key (line_count (lines m).engine.levels) (lines m).engine.made line old);
-  paid = λ a b xs moved going quiet line listed old. inr (old_was_read told (lines a) (lines b) xs line moved going quiet listed old);
+  paid = λ a b xs moved going quiet line listed old. inr (old_was_read history (lines a) (lines b) xs line moved going quiet listed old);
 }
 
 -- a run of which nothing is known but that no count of reads fell
@@ -80,14 +80,14 @@ nothing_turned start places n old new none rises =
     subst (λ (k : ℕ). Gain places old new (turnover start k)) (sym none) (gain_none places old new rises)
 
 -- a whole run
-pub run_turned : {M B T : Type 0} (lines : M → Protected B T) (told : B → Told) (levels from n count : ℕ) (start : Machine) (bus closed : B) (first end : M) (listed : List ℕ) → IsMoved told (lines first) listed (lines end) → from ≡ 0 → contents_of (lines first).pads.key (line_count (lines first).engine.levels) (lines first).engine.made ≡ start.state.memory → (lines first).engine.levels ≡ levels → (lines end).engine.evidence ≡ None → HasTrail (λ m. (lines m).stopped) (λ m. contents_of (lines m).pads.key (line_count (lines m).engine.levels) (lines m).engine.made) (λ a xs b. IsMoved told (lines a) xs (lines b)) start from n first end → count ≡ n → ((place : Place) → RoseBy 0 ((told bus).reads place) ((told (lines first).bus).reads place)) → closed ≡ (lines end).bus → Gain (line_count levels) (λ line. (told bus).reads (line_place line)) (λ line. (told closed).reads (line_place line)) (turnover start count)
+pub run_turned : {M B T : Type 0} (lines : M → LineMemoryView B T) (history : B → BusHistory) (levels from n count : ℕ) (start : Machine) (bus closed : B) (first end : M) (listed : List ℕ) → IsMoved history (lines first) listed (lines end) → from ≡ 0 → contents_of (lines first).pads.key (line_count (lines first).engine.levels) (lines first).engine.made ≡ start.state.memory → (lines first).engine.levels ≡ levels → (lines end).engine.evidence ≡ None → HasTrail (λ m. (lines m).stopped) (λ m. contents_of (lines m).pads.key (line_count (lines m).engine.levels) (lines m).engine.made) (λ a xs b. IsMoved history (lines a) xs (lines b)) start from n first end → count ≡ n → ((place : Place) → RoseBy 0 ((history bus).reads place) ((history (lines first).bus).reads place)) → closed ≡ (lines end).bus → Gain (line_count levels) (λ line. (history bus).reads (line_place line)) (λ line. (history closed).reads (line_place line)) (turnover start count)
 unfolding chip_of
-run_turned {M} {B} {T} lines told levels from n count start bus closed first end listed moved begun same fits quiet went as_many before is =
-    let reads : B → ℕ → ℕ = λ b line. (told b).reads (line_place line) in
+run_turned {M} {B} {T} lines history levels from n count start bus closed first end listed moved begun same fits quiet went as_many before is =
+    let reads : B → ℕ → ℕ = λ b line. (history b).reads (line_place line) in
     let places = line_count levels in
     let turned = turnover start n in
     let ran : Gain places (reads (lines first).bus) (reads (lines end).bus) turned =
-    turnover_begun (chip_of lines told levels) start from n first end begun same fits quiet went in
+    turnover_begun (chip_of lines history levels) start from n first end begun same fits quiet went in
     let stored : Gain places (reads bus) (reads (lines first).bus) 0 = gain_none places (reads bus) (reads (lines first).bus) (λ line. before (line_place line)) in
     let whole : Gain places (reads bus) (reads (lines end).bus) (0 + turned) =
     gain_on places (reads bus) (reads (lines first).bus) (reads (lines end).bus) 0 turned (λ line. moved.moves.reads (line_place line)) stored ran in

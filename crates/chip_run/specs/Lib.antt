@@ -1,5 +1,4 @@
 pub mod Contents
-pub mod Account
-pub mod Protected
+pub mod LineMemory
 pub mod LineLengths
 pub mod Moving

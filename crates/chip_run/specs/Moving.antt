@@ -7,12 +7,12 @@ use Rattle.sec_base.specs.LastMessage.{last_data, data_part}
 use Rattle.sec_base.specs.declared.counter.Counter.{Counter}
 use Rattle.sec_base.specs.declared.place.Place.TheVariants.{Line as line_place}
 use Rattle.sec_base.specs.declared.message.Message.{Message}
-use Rattle.bus_model.specs.Told.{Told}
-use Rattle.chip_run.specs.Protected.{Protected, Moves, IsMoved}
+use Rattle.bus_model.specs.BusHistory.{BusHistory}
+use Rattle.chip_run.specs.LineMemory.{LineMemoryView, Moves, IsMoved}
 use Rattle.sec_base.proofs.LastMessages.{none_front}
 
-pub moves_not : {B T : Type 0} (told : B → Told) (memory : Protected B T) → Moves told memory memory
-moves_not told memory = record {
+pub moves_not : {B T : Type 0} (history : B → BusHistory) (memory : LineMemoryView B T) → Moves history memory memory
+moves_not history memory = record {
   tagger = refl;
   levels = refl;
   key = refl;
@@ -25,8 +25,8 @@ moves_not told memory = record {
   evidence = λ evidence is. is;
 }
 
-pub moves_on : {B T : Type 0} (told : B → Told) (first second third : Protected B T) → Moves told first second → Moves told second third → Moves told first third
-moves_on told first second third a b = record {
+pub moves_on : {B T : Type 0} (history : B → BusHistory) (first second third : LineMemoryView B T) → Moves history first second → Moves history second third → Moves history first third
+moves_on history first second third a b = record {
   tagger = b.tagger ∙ a.tagger;
   levels = b.levels ∙ a.levels;
   key = b.key ∙ a.key;
@@ -43,9 +43,9 @@ none_contained : {A : Type 0} (x : A) → Contains [] x → ⊥
 none_contained x (k, below, at) = omega arith
 
 -- no call makes nothing of it
-pub unmoved : {B T : Type 0} (told : B → Told) (memory : Protected B T) → IsMoved told memory [] memory
-unmoved told memory = record {
-  moves = moves_not told memory;
+pub unmoved : {B T : Type 0} (history : B → BusHistory) (memory : LineMemoryView B T) → IsMoved history memory [] memory
+unmoved history memory = record {
+  moves = moves_not history memory;
   stays = λ stop is. is;
   read = record { read = λ going quiet line listed. absurd (none_contained line listed) };
 }
@@ -56,37 +56,37 @@ was_none None new kept none = refl
 was_none (Some x) new kept none = let still = kept x refl in absurd (cc)
 
 -- a line that was never tagged was not tagged before
-untagged_before : {B T : Type 0} (told : B → Told) (first second : Protected B T) (line : ℕ) → Moves told first second →
+untagged_before : {B T : Type 0} (history : B → BusHistory) (first second : LineMemoryView B T) (line : ℕ) → Moves history first second →
     last_data line second.engine.made ≡ None → last_data line first.engine.made ≡ None
-untagged_before told first second line moves fresh =
+untagged_before history first second line moves fresh =
     none_front (data_part line) first.engine.made moves.more (subst (λ (made : List Message). last_data line made ≡ None) moves.made fresh)
 
 -- lines that were read, after other calls
-read_later : {B T : Type 0} (told : B → Told) (first second third : Protected B T) (line : ℕ) → Moves told first second →
-    (last_data line second.engine.made ≡ None) ⊎ Rose ((told second.bus).reads (line_place line)) ((told third.bus).reads (line_place line)) →
-    (last_data line first.engine.made ≡ None) ⊎ Rose ((told first.bus).reads (line_place line)) ((told third.bus).reads (line_place line))
-read_later told first second third line moves (inl fresh) = inl (untagged_before told first second line moves fresh)
-read_later told first second third line moves (inr rose) = inr (omega (arith, moves.reads (line_place line)))
+read_later : {B T : Type 0} (history : B → BusHistory) (first second third : LineMemoryView B T) (line : ℕ) → Moves history first second →
+    (last_data line second.engine.made ≡ None) ⊎ Rose ((history second.bus).reads (line_place line)) ((history third.bus).reads (line_place line)) →
+    (last_data line first.engine.made ≡ None) ⊎ Rose ((history first.bus).reads (line_place line)) ((history third.bus).reads (line_place line))
+read_later history first second third line moves (inl fresh) = inl (untagged_before history first second line moves fresh)
+read_later history first second third line moves (inr rose) = inr (omega (arith, moves.reads (line_place line)))
 
 -- and before others
-read_sooner : {B T : Type 0} (told : B → Told) (first second third : Protected B T) (line : ℕ) → Moves told second third →
-    (last_data line first.engine.made ≡ None) ⊎ Rose ((told first.bus).reads (line_place line)) ((told second.bus).reads (line_place line)) →
-    (last_data line first.engine.made ≡ None) ⊎ Rose ((told first.bus).reads (line_place line)) ((told third.bus).reads (line_place line))
-read_sooner told first second third line moves (inl fresh) = inl fresh
-read_sooner told first second third line moves (inr rose) = inr (omega (arith, moves.reads (line_place line)))
+read_sooner : {B T : Type 0} (history : B → BusHistory) (first second third : LineMemoryView B T) (line : ℕ) → Moves history second third →
+    (last_data line first.engine.made ≡ None) ⊎ Rose ((history first.bus).reads (line_place line)) ((history second.bus).reads (line_place line)) →
+    (last_data line first.engine.made ≡ None) ⊎ Rose ((history first.bus).reads (line_place line)) ((history third.bus).reads (line_place line))
+read_sooner history first second third line moves (inl fresh) = inl fresh
+read_sooner history first second third line moves (inr rose) = inr (omega (arith, moves.reads (line_place line)))
 
 -- what calls make after others, they make together
-pub moved_on : {B T : Type 0} (told : B → Told) (first second third : Protected B T) (before after : List ℕ) →
-    IsMoved told first before second → IsMoved told second after third → IsMoved told first (before ++ after) third
-moved_on told first second third before after a b = record {
-  moves = moves_on told first second third a.moves b.moves;
+pub moved_on : {B T : Type 0} (history : B → BusHistory) (first second third : LineMemoryView B T) (before after : List ℕ) →
+    IsMoved history first before second → IsMoved history second after third → IsMoved history first (before ++ after) third
+moved_on history first second third before after a b = record {
+  moves = moves_on history first second third a.moves b.moves;
   stays = λ stop is. b.stays stop (a.stays stop is);
   read = record {
     read = λ going quiet line listed.
         elim (Contains-append_cases before after line listed) [
-          | inl early ↦ read_sooner told first second third line b.moves
+          | inl early ↦ read_sooner history first second third line b.moves
               (a.read.read (was_none second.stopped third.stopped b.stays going) (was_none second.engine.evidence third.engine.evidence b.moves.evidence quiet) line early)
-          | inr late ↦ read_later told first second third line a.moves (b.read.read going quiet line late)
+          | inr late ↦ read_later history first second third line a.moves (b.read.read going quiet line late)
         ];
   };
 }

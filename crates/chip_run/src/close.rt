@@ -3,15 +3,15 @@ ghost use Rattle.std.specs.Prelude.{◌≡◌, ◌≤◌, [], ℕ, None, Some, I
 ghost use Rattle.sec_base.specs.Evidence.{IsEvidence};
 ghost use Rattle.sec_base.specs.LastMessage.{data_pairs};
 ghost use Rattle.sec_base.specs.Geometry.{line_count};
-ghost use Rattle.pad_stream.specs.Used.{AreRising, of_lines};
+ghost use Rattle.pad_stream.specs.Pads.{AreRising, of_lines};
 ghost use Rattle.sec_base.specs.declared.ending.Ending.TheVariants.{Tampered, Spent, NoMemory as memory_ended};
-ghost use Rattle.tag_engine.specs.Engine.{tags_of};
-ghost use Rattle.chip_run.specs.Account.{HonestOrCaught, IsOfFirstLie};
+ghost use Rattle.tag_engine.specs.TagEngine.{tags_of};
+ghost use Rattle.bus_model.specs.FirstLie.{HonestOrCaught, IsOfFirstLie};
 ghost use Rattle.chip_run.specs.Contents.{AreConsecutive, AreNumbered, HoldsLast, HoldsSealed, IsSpent, NodesAreZeros, line_writes};
 ghost use Rattle.rv32_run.specs.Session.{CarriesEnding, IsMemoryEnding};
 
 use crate::account::Account;
-use crate::ram::LineRam;
+use crate::line_ram::LineRam;
 use crate::record::RunRecord;
 use bus_model::Bus;
 use sec_base::{Ending, Messages, Pads, Tagger};
@@ -35,13 +35,13 @@ pub(crate) fn close<B: Bus, T: Tagger>(
 
     ensures answers { memory.lines.engine.evidence ≡ None →
         HonestOrCaught (tags_of T.data_tag_of T.node_tag_of memory.lines.engine)
-        memory.lines.pads.used memory.lines.engine.made (B.told memory.lines.bus) (λ place. ending ≡ Tampered place) }
+        memory.lines.pads.used memory.lines.engine.made (B.history memory.lines.bus) (λ place. ending ≡ Tampered place) }
     ensures genuine { IfSome memory.lines.engine.evidence
         (IsEvidence (tags_of T.data_tag_of T.node_tag_of memory.lines.engine) memory.lines.engine.made) }
-    ensures first_lie { IfSome memory.lines.engine.evidence (IsOfFirstLie memory.lines.engine.made (B.told memory.lines.bus)) }
+    ensures first_lie { IfSome memory.lines.engine.evidence (IsOfFirstLie memory.lines.engine.made (B.history memory.lines.bus)) }
     ensures holds_last { memory.lines.engine.evidence ≡ None → ¬ IsMemoryEnding ending →
         HoldsLast (tags_of T.data_tag_of T.node_tag_of memory.lines.engine)
-        (line_count memory.lines.engine.levels) memory.lines.engine.made (B.told memory.lines.bus).written }
+        (line_count memory.lines.engine.levels) memory.lines.engine.made (B.history memory.lines.bus).written }
     ensures spent { (page : ℕ) → ending ≡ Spent page →
         IsSpent (line_count memory.lines.engine.levels) memory.lines.limit memory.lines.pads.used page }
     ensures paired { data_pairs memory.lines.engine.made ≡ of_lines (line_count memory.lines.engine.levels) memory.lines.pads.used }
@@ -49,10 +49,10 @@ pub(crate) fn close<B: Bus, T: Tagger>(
     ensures rising { AreRising memory.lines.pads.used }
     ensures counted { AreConsecutive memory.lines.pads.used }
     ensures sealed { HoldsSealed (tags_of T.data_tag_of T.node_tag_of memory.lines.engine)
-        (line_count memory.lines.engine.levels) memory.lines.engine.made memory.lines.pads.used (B.told memory.lines.bus).written }
-    ensures nodes { NodesAreZeros memory.lines.engine.levels (B.told memory.lines.bus).written }
+        (line_count memory.lines.engine.levels) memory.lines.engine.made memory.lines.pads.used (B.history memory.lines.bus).written }
+    ensures nodes { NodesAreZeros memory.lines.engine.levels (B.history memory.lines.bus).written }
     ensures limited { (line : ℕ) → line_writes memory.lines.pads.used line ≤ memory.lines.limit }
-    ensures levels { (B.told memory.lines.bus).levels ≡ memory.lines.engine.levels }
+    ensures levels { (B.history memory.lines.bus).levels ≡ memory.lines.engine.levels }
 {
     let (account, bus) = memory.into_lines().finish();
     let Account {

@@ -8,31 +8,31 @@ ghost use Rattle.sec_base.specs.declared.place.Place.TheVariants.{Line};
 ghost use Rattle.rv32_core.specs.Turnover.{turnover};
 ghost use Rattle.sec_base.specs.LastMessage.{data_pairs};
 ghost use Rattle.sec_base.specs.Geometry.{line_count, memory_size};
-ghost use Rattle.pad_stream.specs.Used.{AreRising, NoRepeat, of_lines};
+ghost use Rattle.pad_stream.specs.Pads.{AreRising, NoRepeat, of_lines};
 ghost use Rattle.sec_base.specs.Evidence.{IsEvidence};
 ghost use Rattle.sec_base.specs.Sink.{Gains};
 ghost use Rattle.sec_base.specs.declared.place.Place.{Place};
 ghost use Rattle.sec_base.specs.declared.ending.Ending.TheVariants.{OutOfSteps, Tampered, Spent, WriteFault, NoMemory};
-ghost use Rattle.bus_model.specs.Told.{NothingWritten};
+ghost use Rattle.bus_model.specs.BusHistory.{NothingWritten};
 ghost use Rattle.tag_engine.specs.Tag.{engine_tag};
 ghost use Rattle.rv32_core.specs.Machine.{opening, plain};
 ghost use Rattle.rv32_core.specs.Follows.{Follows, IsWhole};
-ghost use Rattle.chip_run.specs.Account.{HonestOrCaught, IsOfFirstLie};
+ghost use Rattle.bus_model.specs.FirstLie.{HonestOrCaught, IsOfFirstLie};
 ghost use Rattle.chip_run.specs.Contents.{AreConsecutive, AreNumbered, HoldsLast, HoldsSealed, IsSpent, IsWrittenOut, NodesAreZeros, line_writes};
 ghost use Rattle.rv32_run.specs.Session.{IsMemoryEnding, IsStop};
 
 mod account;
 mod close;
-mod lines;
-mod ram;
+mod line_memory;
+mod line_ram;
 mod record;
 #[cfg(test)]
 mod tests;
 
 use bus_model::Bus;
 use close::{close, no_run};
-use lines::LineMemory;
-use ram::LineRam;
+use line_memory::LineMemory;
+use line_ram::LineRam;
 pub use record::{RunRecord, Setup};
 use rv32_run::{Session, ending_of, store_image};
 use sec_base::{Image, NoMemoryWith, Sink, Tagger};
@@ -50,9 +50,9 @@ pub fn run<B: Bus, T: Tagger, S: Sink>(
     out: &mut S,
 ) -> (RunRecord, B)
     requires size { image.now.size ≡ memory_size setup.now.geometry }
-    requires levels { (B.told bus).levels ≡ setup.now.geometry }
-    requires no_lie { (B.told bus).lies ≡ 0 }
-    requires nothing_written { NothingWritten (B.told bus) }
+    requires levels { (B.history bus).levels ≡ setup.now.geometry }
+    requires no_lie { (B.history bus).lies ≡ 0 }
+    requires nothing_written { NothingWritten (B.history bus) }
 
     // However it ended, the sink gained what it printed, and without evidence it follows the plain machine so far.
     ensures follows { (printed : List ℕ) × Gains (S.state out.old) printed (S.state out.new)
@@ -63,12 +63,12 @@ pub fn run<B: Bus, T: Tagger, S: Sink>(
     // was the last access, and the run ended as tampering of its place.
     ensures answers { result.0.evidence ≡ None →
         HonestOrCaught (engine_tag (T.data_tag_of tagger) (T.node_tag_of tagger) setup.now.geometry)
-        result.0.used result.0.made (B.told result.1) (λ place. result.0.ending ≡ Tampered place) }
+        result.0.used result.0.made (B.history result.1) (λ place. result.0.ending ≡ Tampered place) }
 
     // Evidence is what it says, and is of the first false answer.
     ensures genuine { IfSome result.0.evidence
         (IsEvidence (engine_tag (T.data_tag_of tagger) (T.node_tag_of tagger) setup.now.geometry) result.0.made) }
-    ensures first_lie { IfSome result.0.evidence (IsOfFirstLie result.0.made (B.told result.1)) }
+    ensures first_lie { IfSome result.0.evidence (IsOfFirstLie result.0.made (B.history result.1)) }
 
     // No line was enciphered twice under one counter. A line's counters are (n, 0) with n from 1 on, one more each time
     // that it was enciphered, and each line of the memory was tagged under the same, in the same order.
@@ -81,8 +81,8 @@ pub fn run<B: Bus, T: Tagger, S: Sink>(
 
     // Each line's place that isn't zeros holds what was enciphered and tagged for it, and a node's place holds zeros.
     ensures sealed { HoldsSealed (engine_tag (T.data_tag_of tagger) (T.node_tag_of tagger) setup.now.geometry)
-        (line_count setup.now.geometry) result.0.made result.0.used (B.told result.1).written }
-    ensures nodes { NodesAreZeros setup.now.geometry (B.told result.1).written }
+        (line_count setup.now.geometry) result.0.made result.0.used (B.history result.1).written }
+    ensures nodes { NodesAreZeros setup.now.geometry (B.history result.1).written }
 
     // Where the memory did not end it, the memory outside has what the plain machine's has.
     ensures written_out { result.0.evidence ≡ None → ¬ IsMemoryEnding result.0.ending →
@@ -90,7 +90,7 @@ pub fn run<B: Bus, T: Tagger, S: Sink>(
         (plain (opening image.now input.now) result.0.retired).state.memory }
     ensures holds_last { result.0.evidence ≡ None → ¬ IsMemoryEnding result.0.ending →
         HoldsLast (engine_tag (T.data_tag_of tagger) (T.node_tag_of tagger) setup.now.geometry)
-        (line_count setup.now.geometry) result.0.made (B.told result.1).written }
+        (line_count setup.now.geometry) result.0.made (B.history result.1).written }
 
     // The budget ends a run exactly where it is used up by a program that goes on.
     ensures out_of_steps { result.0.evidence ≡ None → ¬ IsMemoryEnding result.0.ending →
@@ -104,7 +104,7 @@ pub fn run<B: Bus, T: Tagger, S: Sink>(
 
     // Where no answer was false and the sink had no fault, it is the plain machine's run over the whole budget, or a
     // page was used up, or memory was not to be had.
-    ensures whole { ¬ (Rose (S.state out.old).faults (S.state out.new).faults) → (B.told result.1).lies ≡ 0 →
+    ensures whole { ¬ (Rose (S.state out.old).faults (S.state out.new).faults) → (B.history result.1).lies ≡ 0 →
         result.0.ending ≢ NoMemory →
         IsWhole (opening image.now input.now) setup.now.budget result.0.retired result.0.ending
         ⊎ ((page : ℕ) × (result.0.ending ≡ Spent page)) }
@@ -117,14 +117,14 @@ pub fn run<B: Bus, T: Tagger, S: Sink>(
     ensures faults { (S.state out.old).faults ≤ (S.state out.new).faults }
 
     // The bus is the one that was given, with more reads.
-    ensures reads { (place : Place) → RoseBy 0 ((B.told bus).reads place) ((B.told result.1).reads place) }
+    ensures reads { (place : Place) → RoseBy 0 ((B.history bus).reads place) ((B.history result.1).reads place) }
 
     // Without evidence the places of the lines were read together at least as often as the run turned over what the
     // chip can hold.
     ensures turnover { result.0.evidence ≡ None →
-        Gain (line_count setup.now.geometry) (λ line. (B.told bus).reads (Line line))
-        (λ line. (B.told result.1).reads (Line line)) (turnover (opening image.now input.now) result.0.retired) }
-    ensures bus_levels { (B.told result.1).levels ≡ setup.now.geometry }
+        Gain (line_count setup.now.geometry) (λ line. (B.history bus).reads (Line line))
+        (λ line. (B.history result.1).reads (Line line)) (turnover (opening image.now input.now) result.0.retired) }
+    ensures bus_levels { (B.history result.1).levels ≡ setup.now.geometry }
     ensures report { result.0.report ≡ None }
 {
     let lines = match LineMemory::boot(

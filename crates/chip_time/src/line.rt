@@ -1,8 +1,8 @@
 // One line of a memory outside the chip, written and read as a run does it.
 ghost use Rattle.std.specs.Prelude.{◌≡◌, ◌+◌, IfOk, OnOk};
 ghost use Rattle.sec_base.specs.declared.place.Place.TheVariants.{Line};
-ghost use Rattle.bus_model.specs.Told.{after_write};
-ghost use Rattle.bus_model.specs.Honest.{honest_told};
+ghost use Rattle.bus_model.specs.BusHistory.{after_write};
+ghost use Rattle.bus_model.specs.HonestBus.{honest_history};
 ghost use Rattle.chip_time.specs.Outside.{counter_of, outside, tagged};
 
 use bus_model::{Bus, HonestBus};
@@ -20,7 +20,7 @@ pub(crate) struct TimedLine {
     pads: PadEngine,
     writes: u64,
     bytes: [u8; 64],
-    ghost one_level: { ((honest_told bus).levels ≡ 1) × (tags.levels ≡ 1) },
+    ghost one_level: { ((honest_history bus).levels ≡ 1) × (tags.levels ≡ 1) },
 }
 
 const LINE: u32 = 0;
@@ -40,9 +40,9 @@ impl TimedLine {
 
     /// Writes the bytes under the next counter.
     pub(crate) fn write(&mut self) -> Result<(), MemStop>
-        ensures outside { OnOk result (honest_told self.new.bus ≡ after_write (Line 0)
+        ensures outside { OnOk result (honest_history self.new.bus ≡ after_write (Line 0)
             (outside self.old.pads.key self.old.tags.tagger self.old.tags.levels (counter_of self.new.writes) self.old.bytes)
-            (honest_told self.old.bus)) }
+            (honest_history self.old.bus)) }
         ensures writes { OnOk result (self.new.writes ≡ self.old.writes + 1) }
     {
         if self.writes == u64::MAX {
@@ -60,9 +60,9 @@ impl TimedLine {
 
     // Enciphers the bytes, tags them and puts them outside.
     fn seal(&mut self) -> Result<(), NoMemory>
-        ensures outside { OnOk result (honest_told self.new.bus ≡ after_write (Line 0)
+        ensures outside { OnOk result (honest_history self.new.bus ≡ after_write (Line 0)
             (outside self.old.pads.key self.old.tags.tagger self.old.tags.levels (counter_of self.old.writes) self.old.bytes)
-            (honest_told self.old.bus)) }
+            (honest_history self.old.bus)) }
         ensures writes { self.new.writes ≡ self.old.writes }
     {
         let counter = self.counter();
@@ -75,7 +75,7 @@ impl TimedLine {
 
     /// Reads the bytes, which are those whose cipher and tag stand outside.
     pub(crate) fn read(&mut self) -> Result<(), MemStop>
-        ensures bytes { OnOk result ((honest_told self.old.bus).written (Line 0)
+        ensures bytes { OnOk result ((honest_history self.old.bus).written (Line 0)
             ≡ outside self.old.pads.key self.old.tags.tagger self.old.tags.levels (counter_of self.old.writes) self.new.bytes) }
     {
         let counter = self.counter();
@@ -86,7 +86,7 @@ impl TimedLine {
 
     // The cipher that stands outside, with the tag of its message beside it.
     fn fetch(&mut self, counter: Counter) -> Result<[u8; 64], MemStop>
-        ensures cipher { IfOk result (λ cipher. (honest_told self.old.bus).written (Line 0)
+        ensures cipher { IfOk result (λ cipher. (honest_history self.old.bus).written (Line 0)
             ≡ tagged self.old.tags.tagger self.old.tags.levels counter cipher) }
         ensures pads { self.new.pads ≡ self.old.pads }
     {

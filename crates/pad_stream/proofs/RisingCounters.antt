@@ -4,7 +4,7 @@ use Rattle.std.specs.List.{slice_get}
 use Rattle.std.proofs.lemmas.Option.{slice_get_within}
 use Rattle.std.proofs.lemmas.Bool.{cases_lt, cases_eq}
 use Rattle.sec_base.specs.declared.counter.Counter.{Counter}
-use Rattle.pad_stream.specs.Used.{NoRepeat, IsBefore, AreRising}
+use Rattle.pad_stream.specs.Pads.{NoRepeat, IsBefore, AreRising}
 
 -- an item stays where it is
 get_front : {A : Type 0} (items more : List A) (at : ℕ) → at < length items → slice_get (items ++ more) at ≡ slice_get items at

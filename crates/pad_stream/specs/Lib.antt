@@ -1,3 +1,3 @@
 pub mod Pad
-pub mod Stream
-pub mod Used
+pub mod PadEngine
+pub mod Pads

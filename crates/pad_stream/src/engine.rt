@@ -1,6 +1,6 @@
 ghost use Rattle.std.specs.Prelude.{◌≡◌, ◌<◌, IsOk, IfOk, OnOk, OnErr};
 ghost use Rattle.pad_stream.specs.Pad.{enciphered};
-ghost use Rattle.pad_stream.specs.Stream.{Stream, new_stream, with_room, after_encrypt};
+ghost use Rattle.pad_stream.specs.PadEngine.{PadEngineView, new_pads, with_room, after_encrypt};
 
 use crate::pad::mixed_line;
 use aes128_block::Key;
@@ -20,9 +20,9 @@ pub struct PadEngine {
 impl Model for PadEngine {
     ghost use Rattle.std.specs.Prelude.{length, ◌+◌, ◌≤◌};
     ghost use Rattle.std.specs.Vec.{vec_capacity};
-    ghost use Rattle.pad_stream.specs.Stream.{Stream};
+    ghost use Rattle.pad_stream.specs.PadEngine.{PadEngineView};
 
-    ghost Value = { Stream };
+    ghost Value = { PadEngineView };
 
     ghost view = { λ inside. record { key = inside.key; used = inside.used.items; room = inside.room } };
 
@@ -33,7 +33,7 @@ impl Model for PadEngine {
 impl PadEngine {
     /// An engine with this key that enciphered nothing.
     pub fn new(alloc: Global, enc_key: &[u8; 16]) -> Result<PadEngine, NoMemory>
-        ensures fresh { IfOk result (λ engine. engine ≡ new_stream enc_key.now) }
+        ensures fresh { IfOk result (λ engine. engine ≡ new_pads enc_key.now) }
     {
         Ok(PadEngine {
             key: Key::new(enc_key),

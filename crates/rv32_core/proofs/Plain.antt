@@ -119,7 +119,7 @@ halted_follows start budget n state printed code here within =
     }
 
 -- a run that traps
-pub trapped_follows : (start : Machine) (budget n : ℕ) (state : State) (before printed : List ℕ) (cause : Cause) (pc : ℕ) → plain start n ≡ going_on state before n → n < budget → next state ≡ Err cause → pc ≡ state.hart.pc → printed ≡ [] → Follows start budget n (Trapped cause pc) (before ++ printed)
+pub trapped_follows : (start : Machine) (budget n : ℕ) (state : State) (before printed : List ℕ) (cause : Cause) (pc : ℕ) → plain start n ≡ going_on state before n → n < budget → next state ≡ Err cause → pc ≡ state.core.pc → printed ≡ [] → Follows start budget n (Trapped cause pc) (before ++ printed)
 trapped_follows start budget n state before printed cause pc here below trap at nothing =
     stopped_follows start budget n state before printed (Trapped cause pc) here (omega arith) (prints_of (next state), nothing_before (prints_of (next state)) printed nothing)
     (below, record { going = refl; trap = trap; at = sym at }, ap (λ (xs : List ℕ). before ++ xs) nothing ∙ append-nil before)
@@ -145,7 +145,7 @@ step_halts start budget n old new before printed result code here below outcome 
     (omega arith)
 
 -- it trapped
-pub step_traps : (start : Machine) (budget n : ℕ) (old new : State) (before printed : List ℕ) (result : Result Step StepStop) (cause : Cause) (pc : ℕ) → plain start n ≡ going_on old before n → n < budget → IsOutcome (next old) result old new printed → result ≡ Err (Trap cause) → pc ≡ old.hart.pc → Follows start budget n (Trapped cause pc) (before ++ printed)
+pub step_traps : (start : Machine) (budget n : ℕ) (old new : State) (before printed : List ℕ) (result : Result Step StepStop) (cause : Cause) (pc : ℕ) → plain start n ≡ going_on old before n → n < budget → IsOutcome (next old) result old new printed → result ≡ Err (Trap cause) → pc ≡ old.core.pc → Follows start budget n (Trapped cause pc) (before ++ printed)
 step_traps start budget n old new before printed result cause pc here below outcome is at =
     let trap = subst (λ (r : Result Step StepStop). IsOutcome (next old) r old new printed) is outcome in
     trapped_follows start budget n old before printed cause pc here below trap.0 at trap.2
@@ -171,14 +171,14 @@ standing_ended machine budget code ended = ap (λ (exit : Option ℕ). standing_
 standing_trapped : (machine : Machine) (budget n : ℕ) (cause : Cause) (pc : ℕ) → Traps machine cause pc → machine.retired ≡ n → n < budget → Trapped cause pc ≡ standing machine budget
 standing_trapped machine budget n cause pc traps count below =
     ap (Trapped cause) (sym traps.at)
-    ∙ cond_below machine.retired budget (Trapped cause machine.state.hart.pc) OutOfSteps (omega arith)
+    ∙ cond_below machine.retired budget (Trapped cause machine.state.core.pc) OutOfSteps (omega arith)
     ∙ ap (λ (result : Result After Cause). standing_as None result machine budget) (sym traps.trap)
     ∙ ap (λ (exit : Option ℕ). standing_as exit (next machine.state) machine budget) (sym traps.going)
 
 -- and of one that made all instructions of the budget
 out_of_steps_as : (result : Result After Cause) (machine : Machine) (budget : ℕ) → budget ≤ machine.retired → OutOfSteps ≡ standing_as None result machine budget
 out_of_steps_as (Ok after) machine budget h = refl
-out_of_steps_as (Err cause) machine budget h = cond_above machine.retired budget (Trapped cause machine.state.hart.pc) OutOfSteps OutOfSteps h refl
+out_of_steps_as (Err cause) machine budget h = cond_above machine.retired budget (Trapped cause machine.state.core.pc) OutOfSteps OutOfSteps h refl
 
 standing_out_of_steps : (machine : Machine) (budget : ℕ) → machine.exit ≡ None → budget ≤ machine.retired → OutOfSteps ≡ standing machine budget
 standing_out_of_steps machine budget going h =

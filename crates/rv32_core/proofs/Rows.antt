@@ -7,7 +7,7 @@ use Rattle.sec_base.proofs.Writes.{gained-nil}
 use Rattle.rv32_core.specs.declared.hart.Step.{Step}
 use Rattle.rv32_core.specs.declared.hart.Step.TheVariants.{Retired}
 use Rattle.rv32_core.specs.declared.hart.StepStop.{StepStop}
-use Rattle.rv32_core.specs.State.{State, Hart, written_hart, with_hart}
+use Rattle.rv32_core.specs.State.{State, CoreView, written_core, with_core}
 use Rattle.rv32_core.specs.After.{After, quietly, written}
 use Rattle.rv32_core.specs.Outcome.{IsOutcome}
 
@@ -17,9 +17,9 @@ IsQuiet None Sound sink next result old new =
     (printed : List ℕ) × Gains sink printed sink × (None → Sound → IsOutcome next result old new printed)
 
 -- a computation
-pub computed : {None Sound : Type 0} (sink : SinkState) (next : Result After Cause) (result : Result Step StepStop) (state : State) (hart : Hart) (number value : ℕ) →
-    result ≡ Ok Retired → hart ≡ written_hart state.hart number value → next ≡ Ok (quietly (written state number value)) →
-    IsQuiet None Sound sink next result state (with_hart state hart)
+pub computed : {None Sound : Type 0} (sink : SinkState) (next : Result After Cause) (result : Result Step StepStop) (state : State) (core : CoreView) (number value : ℕ) →
+    result ≡ Ok Retired → hart ≡ written_core state.core number value → next ≡ Ok (quietly (written state number value)) →
+    IsQuiet None Sound sink next result state (with_core state hart)
 computed sink next result state hart number value retired is made = (
   [],
   sym (gained-nil sink.written),

@@ -5,7 +5,7 @@ use Rattle.std.proofs.lemmas.List.{length-take, take_min}
 use Rattle.rv32_core.specs.declared.hart.Step.{Step}
 use Rattle.rv32_core.specs.declared.hart.Step.TheVariants.{Retired}
 use Rattle.rv32_core.specs.declared.hart.StepStop.{StepStop}
-use Rattle.rv32_core.specs.State.{State, Hart, written_hart, with_bytes}
+use Rattle.rv32_core.specs.State.{State, CoreView, written_core, with_bytes}
 use Rattle.rv32_core.specs.After.{After, quietly}
 use Rattle.rv32_core.specs.Services.{service, read_service, write_service, reads, answered, next_input, is_output, is_inside, a0, a1, a2, a7}
 use Rattle.rv32_core.specs.Touch.{Range, HasLinesOf, HasLinesOfAll, service_touches, read_touches, write_touches}
@@ -41,10 +41,10 @@ pub inside_as : (state : State) (from count size : ℕ) (answer : Bool) → from
 inside_as state from count size answer e f s h = rw (sym e, sym f, sym s) h
 
 -- An answer in a0 and nothing else
-pub answer_outcome : (after : After) (result : Result Step StepStop) (state : State) (hart : Hart) (value : ℕ) → result ≡ Ok Retired → hart ≡ written_hart state.hart 10 value → after ≡ quietly (answered state value) →
-    IsOutcome (Ok after) result state (record { hart = hart; calls = state.calls; memory = state.memory }) []
+pub answer_outcome : (after : After) (result : Result Step StepStop) (state : State) (core : CoreView) (value : ℕ) → result ≡ Ok Retired → hart ≡ written_core state.core 10 value → after ≡ quietly (answered state value) →
+    IsOutcome (Ok after) result state (record { core = hart; calls = state.calls; memory = state.memory }) []
 answer_outcome after result state hart value retired is made =
-    rw retired (ap (λ (a : After). Ok a) made ∙ ap (λ (h : Hart). Ok (quietly (record { hart = h; calls = state.calls; memory = state.memory }))) (sym is))
+    rw retired (ap (λ (a : After). Ok a) made ∙ ap (λ (h : CoreView). Ok (quietly (record { core = h; calls = state.calls; memory = state.memory }))) (sym is))
 
 -- Reading
 

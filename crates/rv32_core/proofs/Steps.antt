@@ -9,7 +9,7 @@ use Rattle.rv32_decode.specs.Table.{instruction_of}
 use Rattle.rv32_core.specs.declared.hart.Step.{Step}
 use Rattle.rv32_core.specs.declared.hart.StepStop.{StepStop}
 use Rattle.rv32_core.specs.declared.hart.StepStop.TheVariants.{Trap, Mem, WriteFault}
-use Rattle.rv32_core.specs.State.{State, Hart, CallState}
+use Rattle.rv32_core.specs.State.{State, CoreView, CallsView}
 use Rattle.rv32_core.specs.After.{After}
 use Rattle.rv32_core.specs.Effect.{next, effect, fetched}
 use Rattle.rv32_core.specs.Touch.{Range, HasLinesOf, HasLinesOfAll, touches, data_touches}
@@ -28,28 +28,28 @@ half_done_same (Ok after) old new same = inl same
 half_done_same (Err cause) old new same = same
 
 -- a fetch that stops
-pub fetch_stopped : (stop : StepStop) (hart : Hart) (calls : CallState) (memory memory' : List ℕ) →
+pub fetch_stopped : (stop : StepStop) (core : CoreView) (calls : CallsView) (memory memory' : List ℕ) →
     IsFetched memory hart.pc (Err stop) → memory' ≡ memory →
-    IsOutcome (next (record { hart = hart; calls = calls; memory = memory })) (Err stop) (record { hart = hart; calls = calls; memory = memory }) (record { hart = hart; calls = calls; memory = memory' }) []
+    IsOutcome (next (record { core = hart; calls = calls; memory = memory })) (Err stop) (record { core = hart; calls = calls; memory = memory }) (record { core = hart; calls = calls; memory = memory' }) []
 unfolding next
 fetch_stopped (Trap cause) hart calls memory memory' h same = (outside, same, refl)
   where
-    outside : next (record { hart = hart; calls = calls; memory = memory }) ≡ Err cause
+    outside : next (record { core = hart; calls = calls; memory = memory }) ≡ Err cause
     outside = rw (lt-ltb _ _ h.0) (ap (λ (x : Cause). Err x) (sym h.1))
 fetch_stopped (Mem stop) hart calls memory memory' h same =
-    let old : State = record { hart = hart; calls = calls; memory = memory } in
+    let old : State = record { core = hart; calls = calls; memory = memory } in
     ((_, refl), half_done_same (next old) old memory' same)
 fetch_stopped WriteFault hart calls memory memory' h same = absurd h
 
 -- a word that is no instruction
-pub illegal : (state : State) (word : ℕ) → state.hart.pc + 4 ≤ length state.memory → word ≡ fetched state → instruction_of word ≡ None → next state ≡ Err Illegal
+pub illegal : (state : State) (word : ℕ) → state.core.pc + 4 ≤ length state.memory → word ≡ fetched state → instruction_of word ≡ None → next state ≡ Err Illegal
 unfolding next
 illegal state word inside is none =
     let found : instruction_of (fetched state) ≡ None = ap instruction_of (sym is) ∙ none in
     rw (le-ltb _ _ inside, found) refl
 
 -- a word that is an instruction
-pub found : (state : State) (word : ℕ) (inst : Inst) → state.hart.pc + 4 ≤ length state.memory → word ≡ fetched state → instruction_of word ≡ Some inst → next state ≡ effect inst.op inst state
+pub found : (state : State) (word : ℕ) (inst : Inst) → state.core.pc + 4 ≤ length state.memory → word ≡ fetched state → instruction_of word ≡ Some inst → next state ≡ effect inst.op inst state
 unfolding next
 found state word inst inside is row =
     let row' : instruction_of (fetched state) ≡ Some inst = ap instruction_of (sym is) ∙ row in
@@ -68,7 +68,7 @@ lines_right lines more (range ∷ ranges) h = (λ k below. Contains-append_right
 
 -- what an instruction touches, its own word first
 pub touches_found : (first second : List ℕ) (state : State) (word : ℕ) (inst : Inst) → word ≡ fetched state → instruction_of word ≡ Some inst →
-    HasLinesOf first (record { from = state.hart.pc; count = 4 }) → HasLinesOfAll second (data_touches inst.op inst state) → HasLinesOfAll (first ++ second) (touches state)
+    HasLinesOf first (record { from = state.core.pc; count = 4 }) → HasLinesOfAll second (data_touches inst.op inst state) → HasLinesOfAll (first ++ second) (touches state)
 unfolding touches
 touches_found first second state word inst is found fetch more =
     let found' : instruction_of (fetched state) ≡ Some inst = ap instruction_of (sym is) ∙ found in

@@ -1,7 +1,7 @@
 -- What an instruction makes of a state.
 use Rattle.std.specs.Prelude.{ℕ, List, [], Option, Some, None, Result, Ok, Err}
 use Rattle.sec_base.specs.declared.ending.Cause.{Cause}
-use Rattle.rv32_core.specs.State.{State, next_hart, written_hart, with_hart}
+use Rattle.rv32_core.specs.State.{State, next_core, written_core, with_core}
 
 -- the state after an instruction, what it prints, and the code with which it ends the program, if it does
 pub record After : Type 0 where
@@ -15,11 +15,11 @@ quietly state = record { state = state; prints = []; exit = None }
 
 -- the state at the next instruction in order
 abbrev pub passed : State → State
-passed state = with_hart state (next_hart state.hart)
+passed state = with_core state (next_core state.core)
 
 -- the same, with a value in a register
 abbrev pub written : State → ℕ → ℕ → State
-written state number value = with_hart state (written_hart state.hart number value)
+written state number value = with_core state (written_core state.core number value)
 
 -- a trap, where there is a cause
 abbrev pub unless : Option Cause → After → Result After Cause

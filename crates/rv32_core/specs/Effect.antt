@@ -10,7 +10,7 @@ use Rattle.rv32_decode.specs.declared.Op.{Op}
 use Rattle.rv32_decode.specs.declared.Op.TheVariants.{Lui, Auipc, Jal, Jalr, Beq, Bne, Blt, Bge, Bltu, Bgeu, Lb, Lh, Lw, Lbu, Lhu, Sb, Sh, Sw, Addi, Slti, Sltiu, Xori, Ori, Andi, Slli, Srli, Srai, Add, Sub, Sll, Slt, Sltu, Xor, Srl, Sra, Or, And, Mul, Mulh, Mulhsu, Mulhu, Div, Divu, Rem, Remu, Fence, FenceI, Ecall, Ebreak}
 use Rattle.rv32_decode.specs.declared.Inst.{Inst}
 use Rattle.rv32_decode.specs.Table.{instruction_of}
-use Rattle.rv32_core.specs.State.{State, Hart, word, sum_of, register, with_register, next_hart, with_hart}
+use Rattle.rv32_core.specs.State.{State, CoreView, word, sum_of, register, with_register, next_core, with_core}
 use Rattle.rv32_core.specs.Arithmetic.{sign_extended, difference_of, truth, is_less_signed, shift_left, shift_right, shift_right_signed, product_of, high_product, high_product_mixed, high_product_unsigned, quotient, quotient_unsigned, remainder, remainder_unsigned}
 use Rattle.rv32_core.specs.After.{After, quietly, passed, written, unless}
 use Rattle.rv32_core.specs.Services.{service}
@@ -20,35 +20,35 @@ abbrev pub target_fault : ℕ → Option Cause
 target_fault target = if target % 4 == 0 then None else Some MisalignedTarget
 
 -- the address of the next instruction in order goes to a register
-abbrev pub jumped : Hart → ℕ → ℕ → Hart
+abbrev pub jumped : CoreView → ℕ → ℕ → CoreView
 jumped hart target link = record { pc = target; registers = with_register hart.registers link (sum_of hart.pc 4) }
 
 abbrev pub jumps : ℕ → Inst → State → Result After Cause
-jumps target inst state = unless (target_fault target) (quietly (with_hart state (jumped state.hart target inst.rd)))
+jumps target inst state = unless (target_fault target) (quietly (with_core state (jumped state.core target inst.rd)))
 
 -- where JAL and branches lead
-abbrev pub relative_target : Inst → Hart → ℕ
-relative_target inst hart = sum_of hart.pc (word inst.imm)
+abbrev pub relative_target : Inst → CoreView → ℕ
+relative_target inst core = sum_of hart.pc (word inst.imm)
 
 -- where JALR leads: bit 0 is cleared
-abbrev pub absolute_target : Inst → Hart → ℕ
-absolute_target inst hart =
+abbrev pub absolute_target : Inst → CoreView → ℕ
+absolute_target inst core =
     let sum = sum_of (register hart inst.rs1) (word inst.imm) in
     sum - sum % 2
 
 abbrev pub branches : Bool → Inst → State → Result After Cause
 branches taken inst state =
-    let target = relative_target inst state.hart in
-    if taken then unless (target_fault target) (quietly (with_hart state (record { pc = target; registers = state.hart.registers })))
+    let target = relative_target inst state.core in
+    if taken then unless (target_fault target) (quietly (with_core state (record { pc = target; registers = state.core.registers })))
     else Ok (quietly (passed state))
 
 -- a branch compares two registers
 abbrev pub branches_where : (ℕ → ℕ → Bool) → Inst → State → Result After Cause
-branches_where test inst state = branches (test (register state.hart inst.rs1) (register state.hart inst.rs2)) inst state
+branches_where test inst state = branches (test (register state.core inst.rs1) (register state.core inst.rs2)) inst state
 
 -- Loads and stores, section 2.6.
-abbrev pub data_address : Inst → Hart → ℕ
-data_address inst hart = sum_of (register hart inst.rs1) (word inst.imm)
+abbrev pub data_address : Inst → CoreView → ℕ
+data_address inst core = sum_of (register hart inst.rs1) (word inst.imm)
 
 -- why a load or a store of this width at this address traps
 abbrev pub data_fault : ℕ → Width → ℕ → Option Cause
@@ -62,18 +62,18 @@ zero_extended n = n
 
 abbrev pub loads : Width → (ℕ → ℕ) → Inst → State → Result After Cause
 loads width extended inst state =
-    let address = data_address inst state.hart in
+    let address = data_address inst state.core in
     unless (data_fault address width (length state.memory))
     (quietly (written state inst.rd (extended (number_at state.memory address width))))
 
 abbrev pub stores : Width → Inst → State → Result After Cause
 stores width inst state =
-    let address = data_address inst state.hart in
+    let address = data_address inst state.core in
     unless (data_fault address width (length state.memory))
     (quietly (record {
-      hart = next_hart state.hart;
+      core = next_core state.core;
       calls = state.calls;
-      memory = with_number state.memory address width (register state.hart inst.rs2);
+      memory = with_number state.memory address width (register state.core inst.rs2);
     }))
 
 -- Computations, section 2.4 and M: from a register and the immediate, or from two registers.
@@ -81,17 +81,17 @@ abbrev pub computes : ℕ → Inst → State → Result After Cause
 computes value inst state = Ok (quietly (written state inst.rd value))
 
 abbrev pub immediate : (ℕ → ℕ → ℕ) → Inst → State → Result After Cause
-immediate operation inst state = computes (operation (register state.hart inst.rs1) (word inst.imm)) inst state
+immediate operation inst state = computes (operation (register state.core inst.rs1) (word inst.imm)) inst state
 
 abbrev pub registers : (ℕ → ℕ → ℕ) → Inst → State → Result After Cause
-registers operation inst state = computes (operation (register state.hart inst.rs1) (register state.hart inst.rs2)) inst state
+registers operation inst state = computes (operation (register state.core inst.rs1) (register state.core inst.rs2)) inst state
 
 -- what each instruction does
 abbrev pub effect : Op → Inst → State → Result After Cause
 effect Lui inst state = computes (word inst.imm) inst state
-effect Auipc inst state = computes (relative_target inst state.hart) inst state
-effect Jal inst state = jumps (relative_target inst state.hart) inst state
-effect Jalr inst state = jumps (absolute_target inst state.hart) inst state
+effect Auipc inst state = computes (relative_target inst state.core) inst state
+effect Jal inst state = jumps (relative_target inst state.core) inst state
+effect Jalr inst state = jumps (absolute_target inst state.core) inst state
 effect Beq inst state = branches_where (λ a b. a == b) inst state
 effect Bne inst state = branches_where (λ a b. not (a == b)) inst state
 effect Blt inst state = branches_where is_less_signed inst state
@@ -144,10 +144,10 @@ executed (Some inst) state = effect inst.op inst state
 
 -- the word at the program counter
 abbrev pub fetched : State → ℕ
-fetched state = number_at state.memory state.hart.pc Four
+fetched state = number_at state.memory state.core.pc Four
 
 -- one instruction: it is fetched, decoded and done
 unfoldable pub next : State → Result After Cause
 next state =
-    if nat_lt (length state.memory) (state.hart.pc + 4) then Err OutsideMemory
+    if nat_lt (length state.memory) (state.core.pc + 4) then Err OutsideMemory
     else executed (instruction_of (fetched state)) state

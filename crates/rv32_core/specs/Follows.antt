@@ -12,7 +12,7 @@ use Rattle.rv32_core.specs.Machine.{Machine, plain}
 pub record Traps (machine : Machine) (cause : Cause) (pc : ℕ) : Type 0 where
   pub going : machine.exit ≡ None
   pub trap : next machine.state ≡ Err cause
-  pub at : machine.state.hart.pc ≡ pc
+  pub at : machine.state.core.pc ≡ pc
 
 -- what an ending says of the machine at which it came
 abbrev pub EndsAs : Ending → Machine → ℕ → ℕ → List ℕ → Type 0
@@ -38,7 +38,7 @@ pub record Follows (start : Machine) (budget retired : ℕ) (ending : Ending) (p
 abbrev pub standing_as : Option ℕ → Result After Cause → Machine → ℕ → Ending
 standing_as (Some code) result machine budget = Halted code
 standing_as None (Err cause) machine budget =
-    if nat_lt machine.retired budget then Trapped cause machine.state.hart.pc else OutOfSteps
+    if nat_lt machine.retired budget then Trapped cause machine.state.core.pc else OutOfSteps
 standing_as None (Ok after) machine budget = OutOfSteps
 
 abbrev pub standing : Machine → ℕ → Ending

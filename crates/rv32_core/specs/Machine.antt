@@ -4,7 +4,7 @@ use Rattle.sec_base.specs.declared.ending.Cause.{Cause}
 use Rattle.sec_base.specs.declared.image.Image.{Image}
 use Rattle.sec_base.specs.declared.segment.Segment.{Segment}
 use Rattle.sec_base.specs.Opening.{opening_memory, first_break}
-use Rattle.rv32_core.specs.State.{State, CallState, opening_hart}
+use Rattle.rv32_core.specs.State.{State, CallsView, opening_core}
 use Rattle.rv32_core.specs.After.{After}
 use Rattle.rv32_core.specs.Effect.{next}
 
@@ -38,7 +38,7 @@ unfoldable pub plain : Machine → ℕ → Machine
 plain machine zero = machine
 plain machine (suc n) = one_more (plain machine n)
 
-abbrev pub opening_calls : List Segment → List ℕ → CallState
+abbrev pub opening_calls : List Segment → List ℕ → CallsView
 opening_calls segments input = record {
   input = input;
   position = 0;
@@ -50,7 +50,7 @@ opening_calls segments input = record {
 unfoldable pub opening_of : ℕ → ℕ → List Segment → List ℕ → Machine
 opening_of entry size segments input = record {
   state = record {
-    hart = opening_hart entry size;
+    core = opening_core entry size;
     calls = opening_calls segments input;
     memory = opening_memory size segments;
   };

@@ -1,19 +1,19 @@
 -- The services of ECALL: the number stands in a7, the arguments in a0 to a2, the answer comes in a0.
 use Rattle.std.specs.Prelude.{ℕ, ◌+◌, ◌-◌, ◌^◌, ◌==◌, nat_le, ◌||◌, ◌&&◌, not, if◌then◌else◌, Bool, List, [], length, take, drop, Some, None}
-use Rattle.rv32_core.specs.State.{State, CallState, register, written_hart, with_bytes}
+use Rattle.rv32_core.specs.State.{State, CallsView, register, written_core, with_bytes}
 use Rattle.rv32_core.specs.After.{After, quietly, passed, written}
 
 abbrev pub a0 : State → ℕ
-a0 state = register state.hart 10
+a0 state = register state.core 10
 
 abbrev pub a1 : State → ℕ
-a1 state = register state.hart 11
+a1 state = register state.core 11
 
 abbrev pub a2 : State → ℕ
-a2 state = register state.hart 12
+a2 state = register state.core 12
 
 abbrev pub a7 : State → ℕ
-a7 state = register state.hart 17
+a7 state = register state.core 17
 
 abbrev pub answered : State → ℕ → State
 answered state value = written state 10 value
@@ -34,10 +34,10 @@ abbrev pub is_input : ℕ → Bool
 is_input descriptor = descriptor == 0
 
 -- the next bytes of the input, at most so many
-abbrev pub next_input : CallState → ℕ → List ℕ
+abbrev pub next_input : CallsView → ℕ → List ℕ
 next_input calls count = take count (drop calls.position calls.input)
 
-abbrev pub at_position : CallState → ℕ → CallState
+abbrev pub at_position : CallsView → ℕ → CallsView
 at_position calls position = record {
   input = calls.input;
   position = position;
@@ -45,7 +45,7 @@ at_position calls position = record {
   brk = calls.brk;
 }
 
-abbrev pub with_break : CallState → ℕ → CallState
+abbrev pub with_break : CallsView → ℕ → CallsView
 with_break calls brk = record {
   input = calls.input;
   position = calls.position;
@@ -56,7 +56,7 @@ with_break calls brk = record {
 -- 63, read: the next bytes of the input, a2 or what is left, are stored from a1 on
 abbrev pub reads : State → List ℕ → After
 reads state bytes = quietly (record {
-  hart = written_hart state.hart 10 (length bytes);
+  core = written_core state.core 10 (length bytes);
   calls = at_position state.calls (state.calls.position + length bytes);
   memory = with_bytes state.memory (a1 state) bytes;
 })
@@ -83,7 +83,7 @@ abbrev pub exit_service : State → After
 exit_service state = record { state = passed state; prints = []; exit = Some (a0 state) }
 
 -- 214, brk: the break moves to a0 where that is no lower than it was at first and leaves the stack a page
-abbrev pub is_break : CallState → ℕ → ℕ → Bool
+abbrev pub is_break : CallsView → ℕ → ℕ → Bool
 is_break calls size address = nat_le calls.first_break address && nat_le (address + 4096) size
 
 abbrev pub new_break : State → ℕ
@@ -91,7 +91,7 @@ new_break state = if is_break state.calls (length state.memory) (a0 state) then 
 
 abbrev pub brk_service : State → After
 brk_service state = quietly (record {
-  hart = written_hart state.hart 10 (new_break state);
+  core = written_core state.core 10 (new_break state);
   calls = with_break state.calls (new_break state);
   memory = state.memory;
 })

@@ -3,24 +3,24 @@ use Rattle.std.specs.Prelude.{ℕ, ◌+◌, ◌-◌, ◌%◌, ◌^◌, List, ◌
 use Rattle.std.specs.Int.{w32, cast_unsigned}
 
 -- the hart: its program counter and its 32 registers
-pub record Hart : Type 0 where
+pub record CoreView : Type 0 where
   pub pc : ℕ
   pub registers : List ℕ
 
 -- what the services know: the input, how much of it was read, and the program's break, now and at first
-pub record CallState : Type 0 where
+pub record CallsView : Type 0 where
   pub input : List ℕ
   pub position : ℕ
   pub first_break : ℕ
   pub brk : ℕ
 
 pub record State : Type 0 where
-  pub hart : Hart
-  pub calls : CallState
+  pub core : CoreView
+  pub calls : CallsView
   pub memory : List ℕ
 
-abbrev pub state_of : Hart → CallState → List ℕ → State
-state_of hart calls memory = record { hart = hart; calls = calls; memory = memory }
+abbrev pub state_of : CoreView → CallsView → List ℕ → State
+state_of hart calls memory = record { core = hart; calls = calls; memory = memory }
 
 -- a signed number as a word: modulo 2 ^ 32
 abbrev pub word : ℤ → ℕ
@@ -31,7 +31,7 @@ abbrev pub sum_of : ℕ → ℕ → ℕ
 sum_of a b = (a + b) % 2 ^ 32
 
 -- what a register has; register 0 reads 0
-abbrev pub register : Hart → ℕ → ℕ
+abbrev pub register : CoreView → ℕ → ℕ
 register hart number = if number == 0 then 0 else slice_index hart.registers number
 
 -- the registers after a write; a write to register 0 is dropped
@@ -39,20 +39,20 @@ abbrev pub with_register : List ℕ → ℕ → ℕ → List ℕ
 with_register registers number value = if number == 0 then registers else slice_set registers number value
 
 -- the next instruction in order
-abbrev pub next_hart : Hart → Hart
-next_hart hart = record { pc = sum_of hart.pc 4; registers = hart.registers }
+abbrev pub next_core : CoreView → CoreView
+next_core core = record { pc = sum_of hart.pc 4; registers = hart.registers }
 
 -- the next instruction in order, with a value in a register
-abbrev pub written_hart : Hart → ℕ → ℕ → Hart
-written_hart hart number value = record { pc = sum_of hart.pc 4; registers = with_register hart.registers number value }
+abbrev pub written_core : CoreView → ℕ → ℕ → CoreView
+written_core hart number value = record { pc = sum_of hart.pc 4; registers = with_register hart.registers number value }
 
-abbrev pub with_hart : State → Hart → State
-with_hart state hart = record { hart = hart; calls = state.calls; memory = state.memory }
+abbrev pub with_core : State → CoreView → State
+with_core state core = record { core = hart; calls = state.calls; memory = state.memory }
 
 -- the memory with these bytes from an address on
 unfoldable pub with_bytes : List ℕ → ℕ → List ℕ → List ℕ
 with_bytes memory address bytes = take address memory ++ bytes ++ drop (address + length bytes) memory
 
 -- a program begins at its entry with its stack pointer, register 2, 64 bytes below the memory's end
-abbrev pub opening_hart : ℕ → ℕ → Hart
-opening_hart entry size = record { pc = entry; registers = slice_set (replicate 32 0) 2 (size - 64) }
+abbrev pub opening_core : ℕ → ℕ → CoreView
+opening_core entry size = record { pc = entry; registers = slice_set (replicate 32 0) 2 (size - 64) }

@@ -35,7 +35,7 @@ service_touches state =
 
 -- a load or a store of this width
 abbrev pub data_range : Width → Inst → State → List Range
-data_range width inst state = record { from = data_address inst state.hart; count = width_bytes width } ∷ []
+data_range width inst state = record { from = data_address inst state.core; count = width_bytes width } ∷ []
 
 abbrev pub data_touches : Op → Inst → State → List Range
 data_touches Lb inst state = data_range One inst state
@@ -55,7 +55,7 @@ executed_touches (Some inst) state = data_touches inst.op inst state
 
 -- the instruction's own word, and what it loads or stores
 unfoldable pub touches : State → List Range
-touches state = record { from = state.hart.pc; count = 4 } ∷ executed_touches (instruction_of (fetched state)) state
+touches state = record { from = state.core.pc; count = 4 } ∷ executed_touches (instruction_of (fetched state)) state
 
 -- each line of the range is among the lines
 abbrev pub HasLinesOf : List ℕ → Range → Type 0

@@ -3,7 +3,7 @@ ghost use Rattle.std.specs.Prelude.{◌≡◌, ◌≢◌, ◌+◌, ◌*◌, ◌%
 ghost use Rattle.sec_base.specs.Width.{number_at, width_bytes};
 ghost use Rattle.sec_base.specs.declared.width.Width.TheVariants.{Four};
 ghost use Rattle.rv32_decode.specs.Table.{IsInst};
-ghost use Rattle.rv32_core.specs.State.{CallState};
+ghost use Rattle.rv32_core.specs.State.{CallsView};
 ghost use Rattle.rv32_core.specs.Effect.{data_fault, data_address, loads, stores};
 ghost use Rattle.rv32_core.specs.Touch.{HasLinesOf};
 ghost use Rattle.rv32_core.specs.declared.hart.StepStop.TheVariants.{WriteFault};
@@ -62,11 +62,11 @@ impl Core {
     ) -> Result<Step, StepStop>
         requires { IsInst inst.now }
 
-        ensures outcome { M.stopped ram.old ≡ None → M.sound ram.new → (calls : CallState) → IsOutcome
-            (loads width (extended_by extension width) inst.now (record { hart = self.old; calls = calls; memory = M.contents ram.old }))
+        ensures outcome { M.stopped ram.old ≡ None → M.sound ram.new → (calls : CallsView) → IsOutcome
+            (loads width (extended_by extension width) inst.now (record { core = self.old; calls = calls; memory = M.contents ram.old }))
             result
-            (record { hart = self.old; calls = calls; memory = M.contents ram.old })
-            (record { hart = self.new; calls = calls; memory = M.contents ram.new })
+            (record { core = self.old; calls = calls; memory = M.contents ram.old })
+            (record { core = self.new; calls = calls; memory = M.contents ram.new })
             [] }
         ensures stays { OnErr result (self.new ≡ self.old) }
 
@@ -99,11 +99,11 @@ impl Core {
     ) -> Result<Step, StepStop>
         requires { IsInst inst.now }
 
-        ensures outcome { M.stopped ram.old ≡ None → M.sound ram.new → (calls : CallState) → IsOutcome
-            (stores width inst.now (record { hart = self.old; calls = calls; memory = M.contents ram.old }))
+        ensures outcome { M.stopped ram.old ≡ None → M.sound ram.new → (calls : CallsView) → IsOutcome
+            (stores width inst.now (record { core = self.old; calls = calls; memory = M.contents ram.old }))
             result
-            (record { hart = self.old; calls = calls; memory = M.contents ram.old })
-            (record { hart = self.new; calls = calls; memory = M.contents ram.new })
+            (record { core = self.old; calls = calls; memory = M.contents ram.old })
+            (record { core = self.new; calls = calls; memory = M.contents ram.new })
             [] }
         ensures stays { OnErr result (self.new ≡ self.old) }
 

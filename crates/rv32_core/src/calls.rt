@@ -16,9 +16,9 @@ pub struct Calls<'a> {
 
 impl<'a> Model for Calls<'a> {
     ghost use Rattle.std.specs.Prelude.{◌≤◌, length};
-    ghost use Rattle.rv32_core.specs.State.{CallState};
+    ghost use Rattle.rv32_core.specs.State.{CallsView};
 
-    ghost Value = { CallState };
+    ghost Value = { CallsView };
 
     ghost view = { λ calls. record {
       input = calls.input.now;

@@ -52,16 +52,16 @@ impl Core {
 
         ensures outcome { (printed : List ℕ) × Gains (S.state out.old) printed (S.state out.new)
             × (M.stopped ram.old ≡ None → M.sound ram.new → IsOutcome
-            (effect inst.now.op inst.now (record { hart = self.old; calls = calls.old; memory = M.contents ram.old }))
+            (effect inst.now.op inst.now (record { core = self.old; calls = calls.old; memory = M.contents ram.old }))
             result
-            (record { hart = self.old; calls = calls.old; memory = M.contents ram.old })
-            (record { hart = self.new; calls = calls.new; memory = M.contents ram.new })
+            (record { core = self.old; calls = calls.old; memory = M.contents ram.old })
+            (record { core = self.new; calls = calls.new; memory = M.contents ram.new })
             printed) }
         ensures stays { OnErr result ((self.new ≡ self.old) × (calls.new ≡ calls.old)) }
 
         ensures mem { M.stopped ram.old ≡ None → CarriesStop (M.stopped ram.new) result }
         ensures sink_stop { M.stopped ram.old ≡ None → M.sound ram.new → M.stopped ram.new ≡ None → IsSinkStop result
-            (effect inst.now.op inst.now (record { hart = self.old; calls = calls.old; memory = M.contents ram.old })) }
+            (effect inst.now.op inst.now (record { core = self.old; calls = calls.old; memory = M.contents ram.old })) }
         ensures write_fault { result ≡ Err WriteFault → Rose (S.state out.old).faults (S.state out.new).faults }
         ensures faults { (S.state out.old).faults ≤ (S.state out.new).faults }
 
@@ -69,7 +69,7 @@ impl Core {
         ensures lost { M.sound ram.new → M.sound ram.old }
         ensures moved { (lines : List ℕ) × M.moved ram.old lines ram.new
             × (M.stopped ram.old ≡ None → M.sound ram.new → OnOk result (HasLinesOfAll lines
-            (data_touches inst.now.op inst.now (record { hart = self.old; calls = calls.old; memory = M.contents ram.old })))) }
+            (data_touches inst.now.op inst.now (record { core = self.old; calls = calls.old; memory = M.contents ram.old })))) }
     {
         match inst.op {
             Op::Lui => self.retire(inst.rd, immediate(inst)),

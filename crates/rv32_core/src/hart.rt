@@ -2,7 +2,7 @@ ghost use Rattle.std.specs.Prelude.{◌≡◌, ◌%◌, ◌<◌, ◌≤◌, ℕ,
 ghost use Rattle.sec_base.specs.Count.{Rose};
 ghost use Rattle.sec_base.specs.Geometry.{IsMemorySize};
 ghost use Rattle.sec_base.specs.Sink.{Gains};
-ghost use Rattle.rv32_core.specs.State.{state_of, opening_hart, register, with_register, next_hart, written_hart};
+ghost use Rattle.rv32_core.specs.State.{state_of, opening_core, register, with_register, next_core, written_core};
 ghost use Rattle.rv32_core.specs.Effect.{next};
 ghost use Rattle.rv32_core.specs.Touch.{touches, HasLinesOfAll};
 
@@ -41,9 +41,9 @@ pub struct Core {
 
 impl Model for Core {
     ghost use Rattle.std.specs.Prelude.{◌≡◌, ◌%◌, slice_index};
-    ghost use Rattle.rv32_core.specs.State.{Hart};
+    ghost use Rattle.rv32_core.specs.State.{CoreView};
 
-    ghost Value = { Hart };
+    ghost Value = { CoreView };
 
     ghost view = { λ core. record { pc = core.pc; registers = core.registers } };
 
@@ -61,7 +61,7 @@ impl Core {
     pub fn new(entry: u32, size: u32) -> Core
         requires aligned { entry % 4 ≡ 0 }
         requires size { IsMemorySize size }
-        ensures { result ≡ opening_hart entry size }
+        ensures { result ≡ opening_core entry size }
     {
         let mut registers = [0; 32];
         registers[2] = size - 64;
@@ -152,7 +152,7 @@ impl Core {
     // The next instruction in order is next.
     #[inline]
     pub(crate) fn pass(&mut self)
-        ensures { self.new ≡ next_hart self.old }
+        ensures { self.new ≡ next_core self.old }
     {
         self.pc = self.pc.wrapping_add(4);
     }
@@ -161,7 +161,7 @@ impl Core {
     #[inline]
     pub(crate) fn retire(&mut self, number: u8, value: u32) -> Result<Step, StepStop>
         requires { number < 32 }
-        ensures hart { self.new ≡ written_hart self.old number value }
+        ensures hart { self.new ≡ written_core self.old number value }
         ensures retired { result ≡ Ok Retired }
     {
         self.set_reg(number, value);

@@ -2,7 +2,7 @@
 ghost use Rattle.std.specs.Prelude.{◌≡◌, ◌≢◌, ◌≤◌, ℕ, List, [], None, Ok, Err, OnErr, OnOk};
 ghost use Rattle.sec_base.specs.Count.{Rose};
 ghost use Rattle.sec_base.specs.Sink.{Gains};
-ghost use Rattle.rv32_core.specs.State.{CallState, word, register, next_hart, written_hart};
+ghost use Rattle.rv32_core.specs.State.{CallsView, word, register, next_core, written_core};
 ghost use Rattle.rv32_core.specs.Services.{service, read_service, write_service, brk_service, is_inside, is_output};
 ghost use Rattle.rv32_core.specs.Touch.{service_touches, read_touches, write_touches, HasLinesOfAll};
 ghost use Rattle.rv32_core.specs.declared.hart.Step.TheVariants.{Retired, Halted};
@@ -50,16 +50,16 @@ impl Core {
     ) -> Result<Step, StepStop>
         ensures outcome { (printed : List ℕ) × Gains (S.state out.old) printed (S.state out.new)
             × (M.stopped ram.old ≡ None → M.sound ram.new → IsOutcome
-            (Ok (service (record { hart = self.old; calls = calls.old; memory = M.contents ram.old })))
+            (Ok (service (record { core = self.old; calls = calls.old; memory = M.contents ram.old })))
             result
-            (record { hart = self.old; calls = calls.old; memory = M.contents ram.old })
-            (record { hart = self.new; calls = calls.new; memory = M.contents ram.new })
+            (record { core = self.old; calls = calls.old; memory = M.contents ram.old })
+            (record { core = self.new; calls = calls.new; memory = M.contents ram.new })
             printed) }
         ensures stays { OnErr result ((self.new ≡ self.old) × (calls.new ≡ calls.old)) }
 
         ensures mem { M.stopped ram.old ≡ None → CarriesStop (M.stopped ram.new) result }
         ensures sink_stop { M.stopped ram.old ≡ None → M.sound ram.new → M.stopped ram.new ≡ None → IsSinkStop result
-            (Ok (service (record { hart = self.old; calls = calls.old; memory = M.contents ram.old }))) }
+            (Ok (service (record { core = self.old; calls = calls.old; memory = M.contents ram.old }))) }
         ensures write_fault { result ≡ Err WriteFault → Rose (S.state out.old).faults (S.state out.new).faults }
         ensures faults { (S.state out.old).faults ≤ (S.state out.new).faults }
 
@@ -67,7 +67,7 @@ impl Core {
         ensures lost { M.sound ram.new → M.sound ram.old }
         ensures moved { (lines : List ℕ) × M.moved ram.old lines ram.new
             × (M.stopped ram.old ≡ None → M.sound ram.new → OnOk result (HasLinesOfAll lines
-            (service_touches (record { hart = self.old; calls = calls.old; memory = M.contents ram.old })))) }
+            (service_touches (record { core = self.old; calls = calls.old; memory = M.contents ram.old })))) }
     {
         let number = self.reg(A7);
         if number == READ {
@@ -88,10 +88,10 @@ impl Core {
     // The next a2 bytes of the input, or what is left of it, are stored from a1 on.
     fn read_input<M: Ram>(&mut self, ram: &mut M, calls: &mut Calls) -> Result<Step, StepStop>
         ensures outcome { M.stopped ram.old ≡ None → M.sound ram.new → IsOutcome
-            (Ok (read_service (record { hart = self.old; calls = calls.old; memory = M.contents ram.old })))
+            (Ok (read_service (record { core = self.old; calls = calls.old; memory = M.contents ram.old })))
             result
-            (record { hart = self.old; calls = calls.old; memory = M.contents ram.old })
-            (record { hart = self.new; calls = calls.new; memory = M.contents ram.new })
+            (record { core = self.old; calls = calls.old; memory = M.contents ram.old })
+            (record { core = self.new; calls = calls.new; memory = M.contents ram.new })
             [] }
         ensures stays { OnErr result ((self.new ≡ self.old) × (calls.new ≡ calls.old)) }
 
@@ -103,7 +103,7 @@ impl Core {
         ensures lost { M.sound ram.new → M.sound ram.old }
         ensures moved { (lines : List ℕ) × M.moved ram.old lines ram.new
             × (M.stopped ram.old ≡ None → M.sound ram.new → OnOk result (HasLinesOfAll lines
-            (read_touches (record { hart = self.old; calls = calls.old; memory = M.contents ram.old })))) }
+            (read_touches (record { core = self.old; calls = calls.old; memory = M.contents ram.old })))) }
     {
         let from = self.reg(A1);
         let count = self.reg(A2);
@@ -127,25 +127,25 @@ impl Core {
     // Prints the a2 bytes from a1 on to the descriptor in a0.
     fn write_output<M: Ram, S: Sink>(&mut self, ram: &mut M, out: &mut S) -> Result<Step, StepStop>
         ensures outcome { (printed : List ℕ) × Gains (S.state out.old) printed (S.state out.new)
-            × (M.stopped ram.old ≡ None → M.sound ram.new → (calls : CallState) → IsOutcome
-            (Ok (write_service (record { hart = self.old; calls = calls; memory = M.contents ram.old })))
+            × (M.stopped ram.old ≡ None → M.sound ram.new → (calls : CallsView) → IsOutcome
+            (Ok (write_service (record { core = self.old; calls = calls; memory = M.contents ram.old })))
             result
-            (record { hart = self.old; calls = calls; memory = M.contents ram.old })
-            (record { hart = self.new; calls = calls; memory = M.contents ram.new })
+            (record { core = self.old; calls = calls; memory = M.contents ram.old })
+            (record { core = self.new; calls = calls; memory = M.contents ram.new })
             printed) }
         ensures stays { OnErr result (self.new ≡ self.old) }
 
         ensures mem { M.stopped ram.old ≡ None → CarriesStop (M.stopped ram.new) result }
-        ensures sink_stop { M.stopped ram.old ≡ None → M.sound ram.new → M.stopped ram.new ≡ None → (calls : CallState) →
-            IsSinkStop result (Ok (write_service (record { hart = self.old; calls = calls; memory = M.contents ram.old }))) }
+        ensures sink_stop { M.stopped ram.old ≡ None → M.sound ram.new → M.stopped ram.new ≡ None → (calls : CallsView) →
+            IsSinkStop result (Ok (write_service (record { core = self.old; calls = calls; memory = M.contents ram.old }))) }
         ensures write_fault { result ≡ Err WriteFault → Rose (S.state out.old).faults (S.state out.new).faults }
         ensures faults { (S.state out.old).faults ≤ (S.state out.new).faults }
 
         ensures extent { M.extent ram.new ≡ M.extent ram.old }
         ensures lost { M.sound ram.new → M.sound ram.old }
         ensures moved { (lines : List ℕ) × M.moved ram.old lines ram.new
-            × (M.stopped ram.old ≡ None → M.sound ram.new → (calls : CallState) → OnOk result (HasLinesOfAll lines
-            (write_touches (record { hart = self.old; calls = calls; memory = M.contents ram.old })))) }
+            × (M.stopped ram.old ≡ None → M.sound ram.new → (calls : CallsView) → OnOk result (HasLinesOfAll lines
+            (write_touches (record { core = self.old; calls = calls; memory = M.contents ram.old })))) }
     {
         let from = self.reg(A1);
         let count = self.reg(A2);
@@ -163,7 +163,7 @@ impl Core {
 
     // Ends the program with the code in a0.
     fn exit(&mut self) -> Result<Step, StepStop>
-        ensures hart { self.new ≡ next_hart self.old }
+        ensures hart { self.new ≡ next_core self.old }
         ensures halted { result ≡ Ok (Halted (register self.old 10)) }
     {
         let code = self.reg(A0);
@@ -174,10 +174,10 @@ impl Core {
     // Moves the program's break to the address in a0, where it may stand there.
     fn move_break<M: Ram>(&mut self, ram: &M, calls: &mut Calls) -> Result<Step, StepStop>
         ensures outcome { IsOutcome
-            (Ok (brk_service (record { hart = self.old; calls = calls.old; memory = M.contents ram.now })))
+            (Ok (brk_service (record { core = self.old; calls = calls.old; memory = M.contents ram.now })))
             result
-            (record { hart = self.old; calls = calls.old; memory = M.contents ram.now })
-            (record { hart = self.new; calls = calls.new; memory = M.contents ram.now })
+            (record { core = self.old; calls = calls.old; memory = M.contents ram.now })
+            (record { core = self.new; calls = calls.new; memory = M.contents ram.now })
             [] }
         ensures retired { result ≡ Ok Retired }
     {
@@ -187,7 +187,7 @@ impl Core {
 
     // Answers a negative number.
     fn refuse(&mut self, answer: i32) -> Result<Step, StepStop>
-        ensures hart { self.new ≡ written_hart self.old 10 (word answer) }
+        ensures hart { self.new ≡ written_core self.old 10 (word answer) }
         ensures retired { result ≡ Ok Retired }
     {
         self.retire(A0, answer.cast_unsigned())

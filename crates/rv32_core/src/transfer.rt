@@ -1,7 +1,7 @@
 // Jumps and branches (RISC-V unprivileged manual, section 2.5).
 ghost use Rattle.std.specs.Prelude.{◌≡◌, ◌-◌, ◌%◌, ℕ, List, [], OnErr};
 ghost use Rattle.rv32_decode.specs.Table.{IsInst};
-ghost use Rattle.rv32_core.specs.State.{CallState};
+ghost use Rattle.rv32_core.specs.State.{CallsView};
 ghost use Rattle.rv32_core.specs.Effect.{target_fault, jumps, branches};
 ghost use Rattle.rv32_core.specs.Outcome.{IsOutcome, OnlyTraps};
 
@@ -16,11 +16,11 @@ impl Core {
     pub(crate) fn jump(&mut self, target: u32, inst: &Inst) -> Result<Step, StepStop>
         requires { IsInst inst.now }
 
-        ensures outcome { (calls : CallState) (memory : List ℕ) → IsOutcome
-            (jumps target inst.now (record { hart = self.old; calls = calls; memory = memory }))
+        ensures outcome { (calls : CallsView) (memory : List ℕ) → IsOutcome
+            (jumps target inst.now (record { core = self.old; calls = calls; memory = memory }))
             result
-            (record { hart = self.old; calls = calls; memory = memory })
-            (record { hart = self.new; calls = calls; memory = memory })
+            (record { core = self.old; calls = calls; memory = memory })
+            (record { core = self.new; calls = calls; memory = memory })
             [] }
         ensures stays { OnErr result (self.new ≡ self.old) }
         ensures only_traps { OnlyTraps result }
@@ -37,11 +37,11 @@ impl Core {
     // A branch, where it is taken or not.
     #[inline]
     pub(crate) fn branch(&mut self, taken: bool, inst: &Inst) -> Result<Step, StepStop>
-        ensures outcome { (calls : CallState) (memory : List ℕ) → IsOutcome
-            (branches taken inst.now (record { hart = self.old; calls = calls; memory = memory }))
+        ensures outcome { (calls : CallsView) (memory : List ℕ) → IsOutcome
+            (branches taken inst.now (record { core = self.old; calls = calls; memory = memory }))
             result
-            (record { hart = self.old; calls = calls; memory = memory })
-            (record { hart = self.new; calls = calls; memory = memory })
+            (record { core = self.old; calls = calls; memory = memory })
+            (record { core = self.new; calls = calls; memory = memory })
             [] }
         ensures stays { OnErr result (self.new ≡ self.old) }
         ensures only_traps { OnlyTraps result }

@@ -7,7 +7,7 @@ use Rattle.sec_base.specs.declared.stop.MemStop.TheVariants.{Tampered as tampere
 use Rattle.sec_base.specs.declared.place.Place.{Place}
 use Rattle.sec_base.specs.declared.segment.Segment.{Segment}
 use Rattle.sec_base.specs.Opening.{opening_memory}
-use Rattle.rv32_core.specs.State.{State, Hart, CallState, opening_hart}
+use Rattle.rv32_core.specs.State.{State, CoreView, CallsView, opening_core}
 use Rattle.rv32_core.specs.Effect.{next}
 use Rattle.rv32_core.specs.Outcome.{prints_of}
 use Rattle.rv32_core.specs.Machine.{Machine, plain, opening_calls, opening_of}
@@ -18,20 +18,20 @@ use Rattle.rv32_run.proofs.Turns.{stop_ends}
 
 -- A program as it begins
 
-opening_reaches : (entry size : ℕ) (segments : List Segment) (input : List ℕ) (hart : Hart) (calls : CallState) (memory : List ℕ) → hart ≡ opening_hart entry size → calls ≡ opening_calls segments input → memory ≡ opening_memory size segments → Reaches (opening_of entry size segments input) 0 hart calls memory []
+opening_reaches : (entry size : ℕ) (segments : List Segment) (input : List ℕ) (core : CoreView) (calls : CallsView) (memory : List ℕ) → hart ≡ opening_core entry size → calls ≡ opening_calls segments input → memory ≡ opening_memory size segments → Reaches (opening_of entry size segments input) 0 hart calls memory []
 unfolding plain opening_of
 opening_reaches entry size segments input hart calls memory core services bytes = sym (
-    ap (λ (h : Hart). going_on (record { hart = h; calls = calls; memory = memory }) [] 0) core
-    ∙ ap (λ (s : CallState). going_on (record { hart = opening_hart entry size; calls = s; memory = memory }) [] 0) services
-    ∙ ap (λ (m : List ℕ). going_on (record { hart = opening_hart entry size; calls = opening_calls segments input; memory = m }) [] 0) bytes)
+    ap (λ (h : CoreView). going_on (record { core = h; calls = calls; memory = memory }) [] 0) core
+    ∙ ap (λ (s : CallsView). going_on (record { core = opening_core entry size; calls = s; memory = memory }) [] 0) services
+    ∙ ap (λ (m : List ℕ). going_on (record { core = opening_core entry size; calls = opening_calls segments input; memory = m }) [] 0) bytes)
 
-pub opening_begins : (entry size : ℕ) (segments : List Segment) (input : List ℕ) (hart : Hart) (calls : CallState) (memory : List ℕ) (n : ℕ) → hart ≡ opening_hart entry size → calls ≡ opening_calls segments input → memory ≡ opening_memory size segments → n ≡ 0 → Reaches (opening_of entry size segments input) n hart calls memory []
+pub opening_begins : (entry size : ℕ) (segments : List Segment) (input : List ℕ) (core : CoreView) (calls : CallsView) (memory : List ℕ) (n : ℕ) → hart ≡ opening_core entry size → calls ≡ opening_calls segments input → memory ≡ opening_memory size segments → n ≡ 0 → Reaches (opening_of entry size segments input) n hart calls memory []
 opening_begins entry size segments input hart calls memory n core services bytes none =
     subst (λ (m : ℕ). Reaches (opening_of entry size segments input) m hart calls memory []) (sym none)
     (opening_reaches entry size segments input hart calls memory core services bytes)
 
 -- a session that began so follows it
-pub opening_follows : (entry size : ℕ) (segments : List Segment) (input : List ℕ) (hart : Hart) (calls : CallState) (opened memory : List ℕ) (n budget allowance finished retired : ℕ) (ended ending : Ending) (printed : List ℕ) → hart ≡ opening_hart entry size → calls ≡ opening_calls segments input → opened ≡ opening_memory size segments → n ≡ 0 → budget ≡ allowance → retired ≡ finished → ending ≡ ended → ((start : Machine) (before : List ℕ) → Reaches start n hart calls opened before → FollowsWith start budget finished ended memory (before ++ printed)) → FollowsWith (opening_of entry size segments input) allowance retired ending memory printed
+pub opening_follows : (entry size : ℕ) (segments : List Segment) (input : List ℕ) (core : CoreView) (calls : CallsView) (opened memory : List ℕ) (n budget allowance finished retired : ℕ) (ended ending : Ending) (printed : List ℕ) → hart ≡ opening_core entry size → calls ≡ opening_calls segments input → opened ≡ opening_memory size segments → n ≡ 0 → budget ≡ allowance → retired ≡ finished → ending ≡ ended → ((start : Machine) (before : List ℕ) → Reaches start n hart calls opened before → FollowsWith start budget finished ended memory (before ++ printed)) → FollowsWith (opening_of entry size segments input) allowance retired ending memory printed
 opening_follows entry size segments input hart calls opened memory n budget allowance finished retired ended ending printed core services bytes none same count is follows =
     let start = opening_of entry size segments input in
     let here = opening_begins entry size segments input hart calls opened n core services bytes none in
@@ -42,10 +42,10 @@ opening_follows entry size segments input hart calls opened memory n budget allo
 -- a run that the memory stops before its first instruction
 pub nothing_follows : (entry size : ℕ) (segments : List Segment) (input : List ℕ) (budget retired : ℕ) (stop : MemStop) (ending : Ending) → retired ≡ 0 → ending ≡ stop_ending stop → Follows (opening_of entry size segments input) budget retired ending []
 nothing_follows entry size segments input budget retired stop ending none e =
-    let state : State = record { hart = opening_hart entry size; calls = opening_calls segments input; memory = opening_memory size segments } in
+    let state : State = record { core = opening_core entry size; calls = opening_calls segments input; memory = opening_memory size segments } in
     subst (λ (n : ℕ). Follows (opening_of entry size segments input) budget n ending []) (sym none)
     (stopped_follows (opening_of entry size segments input) budget 0 state [] [] ending
-    (opening_reaches entry size segments input (opening_hart entry size) (opening_calls segments input) (opening_memory size segments) refl refl refl)
+    (opening_reaches entry size segments input (opening_core entry size) (opening_calls segments input) (opening_memory size segments) refl refl refl)
     (omega arith) (prints_of (next state), refl) (stop_ends stop ending state [] [] 0 budget e))
 
 -- A run whose memory did not stop ended neither as tampering nor as a page that is used up

@@ -11,13 +11,13 @@ use Rattle.rv32_core.specs.declared.hart.Step.{Step}
 use Rattle.rv32_core.specs.declared.hart.Step.TheVariants.{Halted as Halted_step}
 use Rattle.rv32_core.specs.declared.hart.StepStop.{StepStop}
 use Rattle.rv32_core.specs.declared.hart.StepStop.TheVariants.{Trap, Mem, WriteFault as WriteFault_step}
-use Rattle.rv32_core.specs.State.{State, Hart, CallState}
+use Rattle.rv32_core.specs.State.{State, CoreView, CallsView}
 use Rattle.rv32_core.specs.Effect.{next}
 use Rattle.rv32_core.specs.Outcome.{IsOutcome, prints_of}
 use Rattle.rv32_core.specs.Machine.{Machine, plain}
 use Rattle.rv32_core.specs.Follows.{EndsAs}
 use Rattle.rv32_core.proofs.Plain.{going_on, plain_stepped, out_of_steps_follows, step_halts, step_traps, step_stops, step_fails}
-use Rattle.rv32_run.specs.Running.{Running}
+use Rattle.rv32_run.specs.SessionView.{SessionView}
 use Rattle.rv32_run.specs.Session.{Reaches, IsMemoryEnding, IsStop, FollowsWith, retired_after, stop_ending, CarriesEnding}
 
 -- a stop of the memory ends a program that goes on
@@ -32,16 +32,16 @@ stop_ends stop ending state before printed n budget e =
 
 -- A session as it begins, and the parts that it is made of
 
-pub begun_reaches : {M : Type 0} (contents : M → List ℕ) (parts session : Running M) (start : Machine) (before : List ℕ) → parts ≡ session → Reaches start session.retired session.core session.calls (contents session.memory) before → Reaches start parts.retired parts.core parts.calls (contents parts.memory) (before ++ [])
+pub begun_reaches : {M : Type 0} (contents : M → List ℕ) (parts session : SessionView M) (start : Machine) (before : List ℕ) → parts ≡ session → Reaches start session.retired session.core session.calls (contents session.memory) before → Reaches start parts.retired parts.core parts.calls (contents parts.memory) (before ++ [])
 begun_reaches {M} contents parts session start before same here =
-    subst (λ (r : Running M). Reaches start r.retired r.core r.calls (contents r.memory) (before ++ [])) (sym same)
+    subst (λ (r : SessionView M). Reaches start r.retired r.core r.calls (contents r.memory) (before ++ [])) (sym same)
     (subst (λ (xs : List ℕ). Reaches start session.retired session.core session.calls (contents session.memory) xs) (sym (append-nil before)) here)
 
-pub begun_going : {M : Type 0} (stopped : M → Option MemStop) (parts session : Running M) → parts ≡ session → stopped session.memory ≡ None → stopped parts.memory ≡ None
-begun_going {M} stopped parts session same going = subst (λ (r : Running M). stopped r.memory ≡ None) (sym same) going
+pub begun_going : {M : Type 0} (stopped : M → Option MemStop) (parts session : SessionView M) → parts ≡ session → stopped session.memory ≡ None → stopped parts.memory ≡ None
+begun_going {M} stopped parts session same going = subst (λ (r : SessionView M). stopped r.memory ≡ None) (sym same) going
 
-pub begun_within : {M : Type 0} (parts session : Running M) → parts ≡ session → session.retired ≤ session.budget → parts.retired ≤ parts.budget
-begun_within {M} parts session same within = subst (λ (r : Running M). r.retired ≤ r.budget) (sym same) within
+pub begun_within : {M : Type 0} (parts session : SessionView M) → parts ≡ session → session.retired ≤ session.budget → parts.retired ≤ parts.budget
+begun_within {M} parts session same within = subst (λ (r : SessionView M). r.retired ≤ r.budget) (sym same) within
 
 -- A turn that ends a run
 
@@ -62,7 +62,7 @@ turn_halts start budget n old new before printed result code here below outcome 
 }
 
 -- it trapped
-pub turn_traps : (start : Machine) (budget n : ℕ) (old new : State) (before printed : List ℕ) (result : Result Step StepStop) (cause : Cause) (pc : ℕ) → plain start n ≡ going_on old before n → n < budget → IsOutcome (next old) result old new printed → result ≡ Err (Trap cause) → pc ≡ old.hart.pc → FollowsWith start budget n (Trapped cause pc) new.memory (before ++ printed)
+pub turn_traps : (start : Machine) (budget n : ℕ) (old new : State) (before printed : List ℕ) (result : Result Step StepStop) (cause : Cause) (pc : ℕ) → plain start n ≡ going_on old before n → n < budget → IsOutcome (next old) result old new printed → result ≡ Err (Trap cause) → pc ≡ old.core.pc → FollowsWith start budget n (Trapped cause pc) new.memory (before ++ printed)
 turn_traps start budget n old new before printed result cause pc here below outcome is at = record {
   follows = step_traps start budget n old new before printed result cause pc here below outcome is at;
   leaves = λ quiet.
@@ -124,9 +124,9 @@ pub gains_on : (old mid new : SinkState) (first second : List ℕ) → Gains old
 gains_on old mid new first second before after =
     after ∙ ap (gained second) before ∙ sym (gained-append first second old.written)
 
-pub reaches_on : (start : Machine) (n : ℕ) (hart : Hart) (calls : CallState) (memory before first second : List ℕ) → Reaches start n hart calls memory (before ++ first ++ second) → Reaches start n hart calls memory (before ++ (first ++ second))
+pub reaches_on : (start : Machine) (n : ℕ) (core : CoreView) (calls : CallsView) (memory before first second : List ℕ) → Reaches start n hart calls memory (before ++ first ++ second) → Reaches start n hart calls memory (before ++ (first ++ second))
 reaches_on start n hart calls memory before first second here =
-    here ∙ ap (λ (xs : List ℕ). going_on (record { hart = hart; calls = calls; memory = memory }) xs n) (append_assoc before first second)
+    here ∙ ap (λ (xs : List ℕ). going_on (record { core = hart; calls = calls; memory = memory }) xs n) (append_assoc before first second)
 
 pub follows_on : (start : Machine) (budget allowance n : ℕ) (ending : Ending) (memory before first second : List ℕ) → budget ≡ allowance → FollowsWith start budget n ending memory (before ++ first ++ second) → FollowsWith start allowance n ending memory (before ++ (first ++ second))
 follows_on start budget allowance n ending memory before first second same follows =

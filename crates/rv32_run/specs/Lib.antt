@@ -1,4 +1,4 @@
 pub mod Loading
-pub mod Running
+pub mod SessionView
 pub mod Session
 pub mod Trail

@@ -4,14 +4,14 @@ use Rattle.sec_base.specs.declared.ending.Ending.{Ending}
 use Rattle.sec_base.specs.declared.ending.Ending.TheVariants.{Halted, Trapped, OutOfSteps, Tampered, Spent, WriteFault, NoMemory}
 use Rattle.sec_base.specs.declared.stop.MemStop.{MemStop}
 use Rattle.sec_base.specs.declared.stop.MemStop.TheVariants.{Tampered as tampered, Spent as spent, NoMemory as no_memory}
-use Rattle.rv32_core.specs.State.{Hart, CallState}
+use Rattle.rv32_core.specs.State.{CoreView, CallsView}
 use Rattle.rv32_core.specs.Machine.{Machine, plain}
 use Rattle.rv32_core.specs.Follows.{Follows}
 
 -- after n instructions the plain machine is in this state, has printed this, and goes on
-abbrev pub Reaches : Machine → ℕ → Hart → CallState → List ℕ → List ℕ → Type 0
+abbrev pub Reaches : Machine → ℕ → CoreView → CallsView → List ℕ → List ℕ → Type 0
 Reaches start n hart calls memory printed = plain start n ≡ record {
-  state = record { hart = hart; calls = calls; memory = memory };
+  state = record { core = hart; calls = calls; memory = memory };
   output = printed;
   retired = n;
   exit = None;
@@ -33,7 +33,7 @@ pub record FollowsWith (start : Machine) (budget retired : ℕ) (ending : Ending
   pub leaves : ¬ IsMemoryEnding ending → memory ≡ (plain start retired).state.memory
 
 -- a turn leads on to what the plain machine reaches, or ends as a run that follows it
-abbrev pub Turns : Machine → ℕ → Option Ending → ℕ → Hart → CallState → List ℕ → List ℕ → Type 0
+abbrev pub Turns : Machine → ℕ → Option Ending → ℕ → CoreView → CallsView → List ℕ → List ℕ → Type 0
 Turns start budget None retired hart calls memory printed = Reaches start retired hart calls memory printed
 Turns start budget (Some ending) retired hart calls memory printed = FollowsWith start budget retired ending memory printed
 

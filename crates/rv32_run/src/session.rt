@@ -3,7 +3,7 @@ ghost use Rattle.std.specs.Prelude.{◌≡◌, ◌↔◌, ◌<◌, ◌≤◌, �
 ghost use Rattle.sec_base.specs.declared.ending.Ending.TheVariants.{OutOfSteps, WriteFault};
 ghost use Rattle.sec_base.specs.Count.{Rose};
 ghost use Rattle.sec_base.specs.Sink.{Gains};
-ghost use Rattle.rv32_core.specs.State.{opening_hart};
+ghost use Rattle.rv32_core.specs.State.{opening_core};
 ghost use Rattle.rv32_core.specs.Effect.{next};
 ghost use Rattle.rv32_core.specs.Outcome.{prints_of};
 ghost use Rattle.rv32_core.specs.Machine.{Machine, plain, opening_calls};
@@ -24,9 +24,9 @@ pub struct Session<'a, M: Ram> {
 }
 
 impl<'a, M: Ram> Model for Session<'a, M> {
-    ghost use Rattle.rv32_run.specs.Running.{Running};
+    ghost use Rattle.rv32_run.specs.SessionView.{SessionView};
 
-    ghost Value = { Running M };
+    ghost Value = { SessionView M };
 
     ghost view = { λ session. record {
       core = session.core;
@@ -40,7 +40,7 @@ impl<'a, M: Ram> Model for Session<'a, M> {
 impl<'a, M: Ram> Session<'a, M> {
     /// A program in its memory, before its first instruction.
     pub fn new(image: &Image, input: &'a [u8], memory: M, budget: u64) -> Session<'a, M>
-        ensures core { result.core ≡ opening_hart image.now.entry image.now.size }
+        ensures core { result.core ≡ opening_core image.now.entry image.now.size }
         ensures calls { result.calls ≡ opening_calls image.now.segments input.now }
         ensures memory { result.memory ≡ memory }
         ensures retired { result.retired ≡ 0 }
@@ -152,7 +152,7 @@ fn turn<M: Ram, S: Sink>(
     // Where the memory did not stop, only an instruction that prints is stopped.
     ensures sink_stop { M.stopped memory.new ≡ None → M.sound memory.new → IfSome result (λ ending.
         IsStop ending → 0 < length (prints_of (next
-        (record { hart = core.old; calls = calls.old; memory = M.contents memory.old })))) }
+        (record { core = core.old; calls = calls.old; memory = M.contents memory.old })))) }
 
     ensures mem { CarriesEnding (M.stopped memory.new) result }
     ensures write_fault { result ≡ Some WriteFault → Rose (S.state out.old).faults (S.state out.new).faults }

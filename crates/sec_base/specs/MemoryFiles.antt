@@ -10,7 +10,7 @@ use Rattle.sec_base.specs.declared.files.ReadStop.TheVariants.{Failed, Long, NoM
 
 -- the files in the order in which they were added, the numbers of the calls that are to fail, how many calls
 -- and faults there were and how many bytes were taken, and the names that were asked for
-pub record FilesSeen : Type 0 where
+pub record MemoryFilesView : Type 0 where
   pub files : List NamedFile
   pub fails : List ℕ
   pub calls : ℕ
@@ -19,7 +19,7 @@ pub record FilesSeen : Type 0 where
   pub asked : List (List ℕ)
 
 -- no file, and no call yet
-abbrev pub new_files : List ℕ → FilesSeen
+abbrev pub new_files : List ℕ → MemoryFilesView
 new_files fails = record { files = []; fails = fails; calls = 0; faults = 0; taken = 0; asked = [] }
 
 -- what a name has with one more file
@@ -31,12 +31,12 @@ unfoldable pub content_of : List NamedFile → List ℕ → Option (List ℕ)
 content_of files name = fold (content_with name) None files
 
 -- they tell the bytes of each name
-abbrev pub files_state : FilesSeen → FilesState
+abbrev pub files_state : MemoryFilesView → FilesState
 files_state seen =
     record { held = Some (content_of seen.files); faults = seen.faults; taken = seen.taken; asked = seen.asked }
 
 -- one more file
-abbrev pub with_file : List ℕ → List ℕ → FilesSeen → FilesSeen
+abbrev pub with_file : List ℕ → List ℕ → MemoryFilesView → MemoryFilesView
 with_file name bytes seen = record seen { files = seen.files ++ record { name = name; bytes = bytes } ∷ [] }
 
 -- a file's bytes, where there are no more than the limit
@@ -45,25 +45,25 @@ within_limit limit None = Err Failed
 within_limit limit (Some bytes) = if nat_lt limit (length bytes) then Err Long else Ok bytes
 
 -- what the next read answers, where there is memory for it
-abbrev pub next_answer : FilesSeen → List ℕ → ℕ → Result (List ℕ) ReadStop
+abbrev pub next_answer : MemoryFilesView → List ℕ → ℕ → Result (List ℕ) ReadStop
 next_answer seen name limit =
     if next_fails seen.fails seen.calls then Err Failed else within_limit limit (content_of seen.files name)
 
 -- a call, for whose name there was no memory
-abbrev pub files_refused : FilesSeen → FilesSeen
+abbrev pub files_refused : MemoryFilesView → MemoryFilesView
 files_refused seen = record seen { calls = more_by 1 seen.calls }
 
 -- a call that asked for the name
-abbrev pub files_asked : List ℕ → FilesSeen → FilesSeen
+abbrev pub files_asked : List ℕ → MemoryFilesView → MemoryFilesView
 files_asked name seen = record seen { calls = more_by 1 seen.calls; asked = seen.asked ++ name ∷ [] }
 
 -- an answer is counted: the bytes of a file, one more than the limit of a file that is longer, or a fault
-abbrev pub counted : ℕ → Result (List ℕ) ReadStop → FilesSeen → FilesSeen
+abbrev pub counted : ℕ → Result (List ℕ) ReadStop → MemoryFilesView → MemoryFilesView
 counted limit (Ok bytes) seen = record seen { taken = more_by (length bytes) seen.taken }
 counted limit (Err Failed) seen = record seen { faults = more_by 1 seen.faults }
 counted limit (Err Long) seen = record seen { taken = more_by (limit + 1) seen.taken }
 counted limit (Err no_memory) seen = seen
 
 -- a call that asked for the name and got as far as its answer
-abbrev pub after_read : List ℕ → ℕ → FilesSeen → FilesSeen
+abbrev pub after_read : List ℕ → ℕ → MemoryFilesView → MemoryFilesView
 after_read name limit seen = counted limit (next_answer seen name limit) (files_asked name seen)

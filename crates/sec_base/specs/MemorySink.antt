@@ -5,18 +5,18 @@ use Rattle.sec_base.specs.Count.{more_by}
 use Rattle.sec_base.specs.Sink.{SinkState}
 
 -- the bytes written so far, the numbers of the calls that are to fail, and how many calls and faults there were
-pub record SinkSeen : Type 0 where
+pub record MemorySinkView : Type 0 where
   pub bytes : List ℕ
   pub fails : List ℕ
   pub calls : ℕ
   pub faults : ℕ
 
 -- nothing written, and no call yet
-abbrev pub new_sink : List ℕ → SinkSeen
+abbrev pub new_sink : List ℕ → MemorySinkView
 new_sink fails = record { bytes = []; fails = fails; calls = 0; faults = 0 }
 
 -- it tells what was written
-abbrev pub sink_state : SinkSeen → SinkState
+abbrev pub sink_state : MemorySinkView → SinkState
 sink_state seen = record { written = Some seen.bytes; faults = seen.faults }
 
 -- how many calls there were after a piece: an empty piece is no call
@@ -24,17 +24,17 @@ abbrev pub calls_after : ℕ → List ℕ → ℕ
 calls_after calls piece = if length piece == 0 then calls else more_by 1 calls
 
 -- the piece makes a call that is to fail
-abbrev pub sink_fails : SinkSeen → List ℕ → Bool
+abbrev pub sink_fails : MemorySinkView → List ℕ → Bool
 sink_fails seen piece = not (length piece == 0) && next_fails seen.fails seen.calls
 
 -- the piece was written
-abbrev pub sink_wrote : List ℕ → SinkSeen → SinkSeen
+abbrev pub sink_wrote : List ℕ → MemorySinkView → MemorySinkView
 sink_wrote piece seen = record seen { bytes = seen.bytes ++ piece; calls = calls_after seen.calls piece }
 
 -- a call failed
-abbrev pub sink_failed : SinkSeen → SinkSeen
+abbrev pub sink_failed : MemorySinkView → MemorySinkView
 sink_failed seen = record seen { calls = more_by 1 seen.calls; faults = more_by 1 seen.faults }
 
 -- a call found no memory
-abbrev pub sink_refused : SinkSeen → SinkSeen
+abbrev pub sink_refused : MemorySinkView → MemorySinkView
 sink_refused seen = record seen { calls = more_by 1 seen.calls }

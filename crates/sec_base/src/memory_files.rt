@@ -33,9 +33,9 @@ pub struct MemoryFiles {
 }
 
 impl Model for MemoryFiles {
-    ghost use Rattle.sec_base.specs.MemoryFiles.{FilesSeen};
+    ghost use Rattle.sec_base.specs.MemoryFiles.{MemoryFilesView};
 
-    ghost Value = { FilesSeen };
+    ghost Value = { MemoryFilesView };
 
     ghost view = { λ memory. record {
       files = memory.files.items;

@@ -19,9 +19,9 @@ pub struct MemorySink {
 }
 
 impl Model for MemorySink {
-    ghost use Rattle.sec_base.specs.MemorySink.{SinkSeen};
+    ghost use Rattle.sec_base.specs.MemorySink.{MemorySinkView};
 
-    ghost Value = { SinkSeen };
+    ghost Value = { MemorySinkView };
 
     ghost view = { λ sink. record {
       bytes = sink.bytes.items;

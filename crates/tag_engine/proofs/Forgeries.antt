@@ -11,7 +11,7 @@ use Rattle.sec_base.specs.declared.evidence.Evidence.TheVariants.{Forgery, Colli
 use Rattle.sec_base.specs.Message.{has_message}
 use Rattle.sec_base.specs.Evidence.{IsEvidence}
 use Rattle.sec_base.proofs.SameMessages.{has_message-Decides}
-use Rattle.tag_engine.specs.Engine.{forgery_of}
+use Rattle.tag_engine.specs.TagEngine.{forgery_of}
 
 shown : ℕ → Counter → Sealed → ℕ → Bool → Option Evidence
 shown line counter sealed count known = cond (not known) (Some (Forgery line counter sealed count)) None

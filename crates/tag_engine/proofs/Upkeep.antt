@@ -10,14 +10,14 @@ use Rattle.sec_base.specs.declared.message.Message.{Message}
 use Rattle.sec_base.specs.declared.message.Message.TheVariants.{Line}
 use Rattle.sec_base.specs.declared.evidence.Evidence.{Evidence}
 use Rattle.sec_base.specs.Geometry.{line_count}
-use Rattle.tag_engine.specs.Engine.{Engine, new_engine, after_check, forgery_of}
-use Rattle.tag_engine.specs.Kept.{IsKept, last_place}
+use Rattle.tag_engine.specs.TagEngine.{TagEngineView, new_engine, after_check_data, forgery_of}
+use Rattle.tag_engine.specs.Kept.{IsTagEngine, last_place}
 use Rattle.tag_engine.proofs.LastPlaces.{last_place-nothing, last_place-within, last_place-same, last_place-other}
 use Rattle.tag_engine.proofs.Forgeries.{forgery_of-failed, known, genuine, still_genuine}
 
 -- nothing was made
 pub kept_new : {T : Type 0} (tag_of : Message → List ℕ) (places : List (Option ℕ)) (capacity count levels : ℕ) (tagger : T) →
-    places ≡ replicate count None → count ≡ line_count levels → IsKept tag_of places capacity (new_engine tagger levels)
+    places ≡ replicate count None → count ≡ line_count levels → IsTagEngine tag_of places capacity (new_engine tagger levels)
 kept_new tag_of places capacity count levels tagger is enough =
     let none : Option ℕ = None in
     record {
@@ -51,12 +51,12 @@ place_after places places' made line at counter cipher inside here stored lines 
     ]
 
 -- a message of a data line was made
-pub kept_made : {T : Type 0} (tag_of : Message → List ℕ) (places places' : List (Option ℕ)) (capacity capacity' : ℕ) (engine : Engine T)
+pub kept_made : {T : Type 0} (tag_of : Message → List ℕ) (places places' : List (Option ℕ)) (capacity capacity' : ℕ) (engine : TagEngineView T)
     (line at room : ℕ) (counter : Counter) (cipher : List ℕ) (made : List Message) →
-    IsKept tag_of places capacity engine → line < line_count engine.levels → at ≡ length engine.made →
+    IsTagEngine tag_of places capacity engine → line < line_count engine.levels → at ≡ length engine.made →
     places' ≡ slice_set places line (Some at) → made ≡ engine.made ++ Line line counter cipher ∷ [] → room ≡ engine.room - 1 →
     length engine.made + 1 + (engine.room - 1) ≤ capacity' →
-    IsKept tag_of places' capacity' (record { tagger = engine.tagger; levels = engine.levels; made = made; evidence = engine.evidence; room = room })
+    IsTagEngine tag_of places' capacity' (record { tagger = engine.tagger; levels = engine.levels; made = made; evidence = engine.evidence; room = room })
 kept_made tag_of places places' capacity capacity' engine line at room counter cipher made kept inside here stored grown left enough =
     rw (grown, left) (record {
       long = ap length stored ∙ length-set places line (Some at) ∙ kept.long;
@@ -67,11 +67,11 @@ kept_made tag_of places places' capacity capacity' engine line at room counter c
     })
 
 -- a check passed, and nothing had been shown before
-pub kept_shown : {T : Type 0} (tag_of : Message → List ℕ) (places : List (Option ℕ)) (capacity : ℕ) (engine : Engine T)
+pub kept_shown : {T : Type 0} (tag_of : Message → List ℕ) (places : List (Option ℕ)) (capacity : ℕ) (engine : TagEngineView T)
     (line : ℕ) (counter : Counter) (sealed : Sealed) (made : List Message) (shown : Option Evidence) →
-    IsKept tag_of places capacity engine → sealed.tag ≡ tag_of (Line line counter sealed.cipher) →
+    IsTagEngine tag_of places capacity engine → sealed.tag ≡ tag_of (Line line counter sealed.cipher) →
     made ≡ engine.made → shown ≡ forgery_of made line counter sealed true →
-    IsKept tag_of places capacity (record engine { evidence = shown })
+    IsTagEngine tag_of places capacity (record engine { evidence = shown })
 kept_shown tag_of places capacity engine line counter sealed made shown kept tagged same is = record {
   long = kept.long;
   last = kept.last;
@@ -85,23 +85,23 @@ nothing_shown made line counter sealed None = sym (forgery_of-failed made line c
 nothing_shown made line counter sealed (Some first) = refl
 
 -- a check that failed changes nothing
-pub failed_check : {T : Type 0} (engine : Engine T) (line : ℕ) (counter : Counter) (sealed : Sealed) →
-    engine ≡ after_check line counter sealed false engine
+pub failed_check : {T : Type 0} (engine : TagEngineView T) (line : ℕ) (counter : Counter) (sealed : Sealed) →
+    engine ≡ after_check_data line counter sealed false engine
 failed_check {T} engine line counter sealed =
     ap (λ (e : Option Evidence). record engine { evidence = e }) (nothing_shown engine.made line counter sealed engine.evidence)
 
 -- what passed and showed nothing was made
-pub known_before : {T : Type 0} (seen engine : Engine T) (made : List Message) (line : ℕ) (counter : Counter) (sealed : Sealed) (shown : Option Evidence) →
+pub known_before : {T : Type 0} (seen engine : TagEngineView T) (made : List Message) (line : ℕ) (counter : Counter) (sealed : Sealed) (shown : Option Evidence) →
     seen ≡ engine → made ≡ seen.made → shown ≡ forgery_of made line counter sealed true → shown ≡ None →
     Contains engine.made (Line line counter sealed.cipher)
 known_before {T} seen engine made line counter sealed shown same here is none =
-    let whole : made ≡ engine.made = here ∙ ap (λ (e : Engine T). e.made) same in
+    let whole : made ≡ engine.made = here ∙ ap (λ (e : TagEngineView T). e.made) same in
     rw whole at (known made line counter sealed (sym is ∙ none))
 
 -- the place that was read is that of a message
-pub place_within : {T : Type 0} (tag_of : Message → List ℕ) (places : List (Option ℕ)) (capacity : ℕ) (engine : Engine T)
+pub place_within : {T : Type 0} (tag_of : Message → List ℕ) (places : List (Option ℕ)) (capacity : ℕ) (engine : TagEngineView T)
     (line : ℕ) (place : Option ℕ) (made : List Message) →
-    IsKept tag_of places capacity engine → line < line_count engine.levels → place ≡ slice_index_or places line place → made ≡ engine.made →
+    IsTagEngine tag_of places capacity engine → line < line_count engine.levels → place ≡ slice_index_or places line place → made ≡ engine.made →
     IfSome place (λ at. at < length made)
 place_within tag_of places capacity engine line place made kept inside read same =
     let below : line < length places = omega (arith, kept.long) in

@@ -3,7 +3,7 @@ ghost use Rattle.sec_base.specs.declared.message.Message.TheVariants.{Line};
 ghost use Rattle.sec_base.specs.Geometry.{line_count};
 ghost use Rattle.sec_base.specs.Evidence.{IsEvidence};
 ghost use Rattle.tag_engine.specs.Tag.{engine_tag};
-ghost use Rattle.tag_engine.specs.Engine.{Engine, new_engine, with_room, after_make, after_check, forgery_of, tags_of};
+ghost use Rattle.tag_engine.specs.TagEngine.{TagEngineView, new_engine, with_room, after_make, after_check_data, forgery_of, tags_of};
 
 use sec_base::{
     Counter, Evidence, Geometry, Message, Messages, NoMemory, Sealed, Tagger, data_message,
@@ -24,16 +24,16 @@ pub struct TagEngine<T: Tagger> {
 
 impl<T: Tagger> Model for TagEngine<T> {
     ghost use Rattle.std.specs.Vec.{vec_capacity};
-    ghost use Rattle.tag_engine.specs.Engine.{Engine, tags_of};
+    ghost use Rattle.tag_engine.specs.TagEngine.{TagEngineView, tags_of};
 
-    ghost Value = { Engine T };
+    ghost Value = { TagEngineView T };
 
-    ghost use Rattle.tag_engine.specs.Kept.{seen_engine, IsKept};
+    ghost use Rattle.tag_engine.specs.Kept.{engine_view, IsTagEngine};
 
-    ghost view = { seen_engine };
+    ghost view = { engine_view };
 
-    ghost invariant = { λ inside. IsKept (tags_of T.data_tag_of T.node_tag_of (seen_engine inside))
-        inside.places.items (vec_capacity inside.made) (seen_engine inside) };
+    ghost invariant = { λ inside. IsTagEngine (tags_of T.data_tag_of T.node_tag_of (engine_view inside))
+        inside.places.items (vec_capacity inside.made) (engine_view inside) };
 }
 
 impl<T: Tagger> TagEngine<T> {
@@ -96,7 +96,7 @@ impl<T: Tagger> TagEngine<T> {
 
         ensures passes { IsTrue result ↔ (sealed.now.tag
             ≡ tags_of T.data_tag_of T.node_tag_of self.old (Line line counter sealed.now.cipher)) }
-        ensures state { self.new ≡ after_check line counter sealed.now result self.old }
+        ensures state { self.new ≡ after_check_data line counter sealed.now result self.old }
 
         // What passes and leaves no evidence was made.
         ensures known { IsTrue result → self.new.evidence ≡ None →

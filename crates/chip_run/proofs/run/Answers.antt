@@ -4,12 +4,12 @@ use Rattle.sec_base.specs.Geometry.{line_count}
 use Rattle.sec_base.specs.Opening.{opening_memory}
 use Rattle.sec_base.proofs.Writes.{gained-nil}
 use Rattle.rv32_core.specs.Machine.{opening}
-use Rattle.tag_engine.specs.Engine.{tags_of}
+use Rattle.tag_engine.specs.TagEngine.{tags_of}
 use Rattle.chip_run.specs.Contents.{contents_of}
-use Rattle.chip_run.specs.Protected.{Protected, new_protected}
+use Rattle.chip_run.specs.LineMemory.{LineMemoryView, new_line_memory}
 use Rattle.rv32_run.specs.Session.{IsStop, FollowsWith}
 use Rattle.sec_base.specs.declared.place.Place.TheVariants.{Line}
-use Rattle.chip_run.specs.declared.ram.LineRam.{LineRam}
+use Rattle.chip_run.specs.declared.line_ram.LineRam.{LineRam}
 use Rattle.rv32_run.proofs.Runs.{opening_begins, opening_follows, nothing_follows, budget_ends}
 use Rattle.chip_run.proofs.Runs.{opening_zeros, levels_stay, key_stays, no_repeat, nothing_rising, nothing_paired, nothing_numbered, nothing_consecutive, limit_stays, limit_stored, limited_by, never_limited, reads_stay, reads_stored, written_out, honest_run}
 use Rattle.chip_run.proofs.Turned.{nothing_turned, run_turned, opening_bytes}
@@ -42,7 +42,7 @@ returns-in-Err-store_image-clause-follows g c =
     )
 
 -- no line of the memory was written
-booted : (g : Over) (c : goal.After-close-2 g) → c.new-memory.result.lines ≡ new_protected c.args.bus c.args.tagger c.args.setup.now.keys.enc_key c.args.setup.now.geometry c.args.setup.now.page_limit
+booted : (g : Over) (c : goal.After-close-2 g) → c.new-memory.result.lines ≡ new_line_memory c.args.bus c.args.tagger c.args.setup.now.keys.enc_key c.args.setup.now.geometry c.args.setup.now.page_limit
 booted g c = c.new-memory.ensures ∙ c.in-Ok.ensures.new
 
 -- what the run was, where there is no evidence
@@ -67,11 +67,11 @@ returns-clause-follows g c = (c.finish-ending.ensures.follows.0, c.finish-ending
 pub returns-clause-written_out : goal.returns-clause-written_out
 returns-clause-written_out g c = λ quiet going.
     let left = (follows g c quiet).leaves going in
-    let levels = levels_stay g.B.Bus.told c.args.bus c.args.tagger c.args.setup.now.keys.enc_key c.args.setup.now.geometry c.args.setup.now.page_limit
+    let levels = levels_stay g.B.Bus.history c.args.bus c.args.tagger c.args.setup.now.keys.enc_key c.args.setup.now.geometry c.args.setup.now.page_limit
     c.new-memory.result.lines c.store_image.new.ram.lines c.new-session.result.memory.lines c.finish-ending.new.self.memory.lines _ _
     (booted g c) c.in_default.ensures.moved.1 (ap (λ memory. memory.lines) c.new-session.ensures.memory) c.finish-ending.ensures.moved.1 in
     let made : c.close-2.result.0.made ≡ c.finish-ending.new.self.memory.lines.engine.made = c.close-2.ensures.made ∙ ap (λ memory. memory.lines.engine.made) c.into_memory.ensures in
-    let key = key_stays g.B.Bus.told c.args.bus c.args.tagger c.args.setup.now.keys.enc_key c.args.setup.now.geometry c.args.setup.now.page_limit
+    let key = key_stays g.B.Bus.history c.args.bus c.args.tagger c.args.setup.now.keys.enc_key c.args.setup.now.geometry c.args.setup.now.page_limit
     c.new-memory.result.lines c.store_image.new.ram.lines c.new-session.result.memory.lines c.finish-ending.new.self.memory.lines _ _
     (booted g c) c.in_default.ensures.moved.1 (ap (λ memory. memory.lines) c.new-session.ensures.memory) c.finish-ending.ensures.moved.1 in
     written_out c.args.setup.now.keys.enc_key c.args.setup.now.geometry c.close-2.result.0.made _ c.finish-ending.new.self.memory.lines.pads.key c.finish-ending.new.self.memory.lines.engine.levels c.finish-ending.new.self.memory.lines.engine.made key levels made left
@@ -86,8 +86,8 @@ pub returns-clause-whole : goal.returns-clause-whole
 returns-clause-whole g c = λ faultless honest memory.
     let closed = c.into_memory.result.lines in
     honest_run (opening c.args.image.now c.args.input.now) c.args.setup.now.budget c.close-2.result.0.retired c.finish-ending.result c.close-2.result.0.ending c.finish-ending.ensures.follows.0
-    (tags_of g.T.Tagger.data_tag_of g.T.Tagger.node_tag_of closed.engine) closed.pads.used closed.engine.made (g.B.Bus.told closed.bus) closed.engine.evidence
-    c.close-2.ensures.ending (ap (λ bus. (g.B.Bus.told bus).lies) (sym c.close-2.ensures.bus) ∙ honest) c.close-2.ensures.first_lie c.close-2.ensures.answers
+    (tags_of g.T.Tagger.data_tag_of g.T.Tagger.node_tag_of closed.engine) closed.pads.used closed.engine.made (g.B.Bus.history closed.bus) closed.engine.evidence
+    c.close-2.ensures.ending (ap (λ bus. (g.B.Bus.history bus).lies) (sym c.close-2.ensures.bus) ∙ honest) c.close-2.ensures.first_lie c.close-2.ensures.answers
     (λ quiet. (follows g c (c.close-2.ensures.evidence ∙ quiet)).follows)
     (λ fault. faultless (c.finish-ending.ensures.write_fault (sym c.close-2.ensures.ending ∙ fault))) memory
 
@@ -97,14 +97,14 @@ returns-clause-early g c = λ stops some.
 
 pub returns-clause-reads : goal.returns-clause-reads
 returns-clause-reads g c =
-    reads_stay g.B.Bus.told c.args.bus c.close-2.result.1 c.args.tagger c.args.setup.now.keys.enc_key c.args.setup.now.geometry c.args.setup.now.page_limit
+    reads_stay g.B.Bus.history c.args.bus c.close-2.result.1 c.args.tagger c.args.setup.now.keys.enc_key c.args.setup.now.geometry c.args.setup.now.page_limit
     c.new-memory.result.lines c.store_image.new.ram.lines c.new-session.result.memory.lines c.finish-ending.new.self.memory.lines _ _
     (booted g c) c.in_default.ensures.moved.1 (ap (λ memory. memory.lines) c.new-session.ensures.memory) c.finish-ending.ensures.moved.1
     (c.close-2.ensures.bus ∙ ap (λ memory. memory.lines.bus) c.into_memory.ensures)
 
 pub returns-in-Err-store_image-clause-reads : goal.returns-in-Err-store_image-clause-reads
 returns-in-Err-store_image-clause-reads g c =
-    reads_stored g.B.Bus.told c.args.bus c.close.result.1 c.args.tagger c.args.setup.now.keys.enc_key c.args.setup.now.geometry c.args.setup.now.page_limit
+    reads_stored g.B.Bus.history c.args.bus c.close.result.1 c.args.tagger c.args.setup.now.keys.enc_key c.args.setup.now.geometry c.args.setup.now.page_limit
     c.new-memory.result.lines c.store_image.new.ram.lines _ (c.new-memory.ensures ∙ c.in-Ok.ensures.new) c.in-Err-store_image.ensures.moved.1 c.close.ensures.bus
 
 pub returns-in-Err-clause-limited : goal.returns-in-Err-clause-limited
@@ -113,7 +113,7 @@ returns-in-Err-clause-limited g c = λ line. never_limited c.no_run.result.used 
 pub returns-in-Err-store_image-clause-limited : goal.returns-in-Err-store_image-clause-limited
 returns-in-Err-store_image-clause-limited g c = λ line.
     limited_by c.close.result.0.used c.store_image.new.ram.lines.pads.used line c.args.setup.now.page_limit c.store_image.new.ram.lines.limit c.close.ensures.used
-    (limit_stored g.B.Bus.told c.args.bus c.args.tagger c.args.setup.now.keys.enc_key c.args.setup.now.geometry c.args.setup.now.page_limit
+    (limit_stored g.B.Bus.history c.args.bus c.args.tagger c.args.setup.now.keys.enc_key c.args.setup.now.geometry c.args.setup.now.page_limit
     c.new-memory.result.lines c.store_image.new.ram.lines _ (c.new-memory.ensures ∙ c.in-Ok.ensures.new) c.in-Err-store_image.ensures.moved.1)
     (c.close.ensures.limited line)
 
@@ -122,7 +122,7 @@ returns-clause-limited g c = λ line.
     let memory = c.finish-ending.new.self.memory in
     limited_by c.close-2.result.0.used memory.lines.pads.used line c.args.setup.now.page_limit memory.lines.limit
     (c.close-2.ensures.used ∙ ap (λ memory. memory.lines.pads.used) c.into_memory.ensures)
-    (limit_stays g.B.Bus.told c.args.bus c.args.tagger c.args.setup.now.keys.enc_key c.args.setup.now.geometry c.args.setup.now.page_limit
+    (limit_stays g.B.Bus.history c.args.bus c.args.tagger c.args.setup.now.keys.enc_key c.args.setup.now.geometry c.args.setup.now.page_limit
     c.new-memory.result.lines c.store_image.new.ram.lines c.new-session.result.memory.lines memory.lines _ _
     (booted g c) c.in_default.ensures.moved.1 (ap (λ memory. memory.lines) c.new-session.ensures.memory) c.finish-ending.ensures.moved.1)
     (rw (← c.into_memory.ensures) (c.close-2.ensures.limited line))
@@ -155,7 +155,7 @@ returns-in-Err-clause-turnover g c = λ quiet.
 pub returns-in-Err-store_image-clause-turnover : goal.returns-in-Err-store_image-clause-turnover
 returns-in-Err-store_image-clause-turnover g c = λ quiet.
     nothing_turned _ _ _ _ _ c.close.ensures.retired
-    (λ line. reads_stored g.B.Bus.told c.args.bus c.close.result.1 c.args.tagger c.args.setup.now.keys.enc_key c.args.setup.now.geometry c.args.setup.now.page_limit
+    (λ line. reads_stored g.B.Bus.history c.args.bus c.close.result.1 c.args.tagger c.args.setup.now.keys.enc_key c.args.setup.now.geometry c.args.setup.now.page_limit
     c.new-memory.result.lines c.store_image.new.ram.lines _ (c.new-memory.ensures ∙ c.in-Ok.ensures.new) c.in-Err-store_image.ensures.moved.1 c.close.ensures.bus (Line line))
 
 pub returns-clause-turnover : goal.returns-clause-turnover
@@ -169,13 +169,13 @@ returns-clause-turnover g c = λ quiet.
     ∙ c.in_default.ensures.stored (ap (λ memory. memory.lines.engine.evidence) (sym began.memory) ∙ c.finish-ending.ensures.lost sound) in
     let levels : session.memory.lines.engine.levels ≡ c.args.setup.now.geometry =
     ap (λ memory. memory.lines.engine.levels) began.memory ∙ c.in_default.ensures.moved.1.moves.levels
-    ∙ ap (λ (m : Protected g.row.B.Denot g.row.T.Denot). m.engine.levels) (booted g c) in
-    run_turned {M = LineRam g.row.B.Denot g.row.T.Denot} (λ memory. memory.lines) g.B.Bus.told c.args.setup.now.geometry session.retired c.finish-ending.new.self.retired
+    ∙ ap (λ (m : LineMemoryView g.row.B.Denot g.row.T.Denot). m.engine.levels) (booted g c) in
+    run_turned {M = LineRam g.row.B.Denot g.row.T.Denot} (λ memory. memory.lines) g.B.Bus.history c.args.setup.now.geometry session.retired c.finish-ending.new.self.retired
     c.close-2.result.0.retired (opening image c.args.input.now) c.args.bus c.close-2.result.1 session.memory c.finish-ending.new.self.memory
     c.finish-ending.ensures.moved.0 c.finish-ending.ensures.moved.1 began.retired (opening_bytes image.entry image.size image.segments c.args.input.now _ opened) levels sound
     (c.finish-ending.ensures.trail sound (opening image c.args.input.now) []
     (opening_begins image.entry image.size image.segments c.args.input.now session.core session.calls _ session.retired began.core began.calls opened began.retired))
     (c.close-2.ensures.retired ∙ c.retired-retired.ensures)
-    (reads_stored g.B.Bus.told c.args.bus session.memory.lines.bus c.args.tagger c.args.setup.now.keys.enc_key c.args.setup.now.geometry c.args.setup.now.page_limit
+    (reads_stored g.B.Bus.history c.args.bus session.memory.lines.bus c.args.tagger c.args.setup.now.keys.enc_key c.args.setup.now.geometry c.args.setup.now.page_limit
     c.new-memory.result.lines c.store_image.new.ram.lines _ (booted g c) c.in_default.ensures.moved.1 (ap (λ memory. memory.lines.bus) began.memory))
     (c.close-2.ensures.bus ∙ ap (λ memory. memory.lines.bus) c.into_memory.ensures)

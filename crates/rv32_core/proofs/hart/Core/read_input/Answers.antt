@@ -7,7 +7,7 @@ use Rattle.rv32_core.proofs.hart.Core.read_input.Goals as goal
 pub returns-in-Ok-clause-moved : goal.returns-in-Ok-clause-moved
 returns-in-Ok-clause-moved g c =
     let moved = c.in-Ok.ensures.moved in
-    let before : State = record { hart = c.args.self.now; calls = c.args.calls.now; memory = g.M.Ram.contents c.args.ram.now } in
+    let before : State = record { core = c.args.self.now; calls = c.args.calls.now; memory = g.M.Ram.contents c.args.ram.now } in
     let bytes : c.next_bytes-bytes.result.now ≡ next_input before.calls (a2 before) =
     c.next_bytes-bytes.ensures.bytes ∙ ap (λ (n : ℕ). next_input before.calls n) c.reg-count.ensures in (
       moved.0,
@@ -18,7 +18,7 @@ returns-in-Ok-clause-moved g c =
 
 pub returns-in-Err-clause-outcome : goal.returns-in-Err-clause-outcome
 returns-in-Err-clause-outcome g c = λ none sound.
-    let before : State = record { hart = c.args.self.now; calls = c.args.calls.now; memory = g.M.Ram.contents c.args.ram.now } in
+    let before : State = record { core = c.args.self.now; calls = c.args.calls.now; memory = g.M.Ram.contents c.args.ram.now } in
     let input : a0 before ≡ 0 = sym c.reg.ensures ∙ c.if-reg-ne0.false in
     let inside : is_inside (a1 before) (a2 before) (length before.memory) ≡ true =
     inside_as before c.reg-from.result c.reg-count.result c.size.result true c.reg-from.ensures c.reg-count.ensures (c.size.ensures ∙ sym (g.met.M.Ram.sized c.args.ram.now)) (sym c.reaches_inside.ensures ∙ c.if-not-reaches_inside.false) in

@@ -1,4 +1,4 @@
-use Rattle.tag_engine.specs.Kept.{seen_engine}
+use Rattle.tag_engine.specs.Kept.{engine_view}
 use Rattle.tag_engine.proofs.Upkeep.{place_within, kept_shown, failed_check, known_before}
 use Rattle.tag_engine.proofs.engine.TagEngine.check_data.Goals as goal
 
@@ -12,12 +12,12 @@ forgery-self-inside-requires g c =
 
 pub invariant_of-self : goal.invariant_of-self
 invariant_of-self g c =
-    kept_shown _ _ _ (seen_engine c.self.inside) c.args.line c.args.counter c.args.sealed.now c.deref.result.now _
+    kept_shown _ _ _ (engine_view c.self.inside) c.args.line c.args.counter c.args.sealed.now c.deref.result.now _
     c.self.invariant ((c.is_tagged.ensures c.self.inside.geometry).0 c.if-not-is_tagged.false) c.deref.ensures.value c.forgery-self-inside.ensures
 
 pub returns-then-is_none-clause-known : goal.returns-then-is_none-clause-known
 returns-then-is_none-clause-known g c = λ _ none.
-    known_before (seen_engine c.self.inside) c.args.self.now c.deref.result.now
+    known_before (engine_view c.self.inside) c.args.self.now c.deref.result.now
     c.args.line c.args.counter c.args.sealed.now c.forgery-self-inside.result
     c.self.view_is c.deref.ensures.value c.forgery-self-inside.ensures none
 

@@ -1,6 +1,6 @@
 use Rattle.std.proofs.Common.{rules}
 use Rattle.std.specs.Vec.{vec_capacity}
-use Rattle.tag_engine.specs.Engine.{tags_of, new_engine}
+use Rattle.tag_engine.specs.TagEngine.{tags_of, new_engine}
 use Rattle.tag_engine.proofs.Upkeep.{kept_new}
 use Rattle.tag_engine.proofs.engine.TagEngine.new.Goals as goal
 

@@ -1,0 +1,225 @@
+// A bus that is honest but for one answer.
+ghost use Rattle.std.specs.Prelude.{◌≡◌, ◌<◌, not, IsOk, IfOk, OnOk, OnErr};
+ghost use Rattle.std.specs.Str.{bytes_eq};
+ghost use Rattle.sec_base.specs.Place.{IsPlace, place_size};
+ghost use Rattle.sec_base.specs.Evidence.{sealed_bytes};
+ghost use Rattle.sec_base.specs.declared.place.Place.TheVariants.{Line, Node};
+ghost use Rattle.bus_model.specs.BusHistory.{new_history, after_read, after_write};
+ghost use Rattle.bus_model.specs.FlipBus.{flip_history, is_due, flipped, next_answer};
+
+use crate::bus::Bus;
+use crate::honest_bus::HonestBus;
+use crate::lies::{FalseAnswer, Lies};
+use sec_base::{Geometry, NoMemory, Place, Sealed};
+use std::alloc::Global;
+use std::marker::Model;
+
+// The read of a place, from 1 on, whose answer is xored with the mask at the offset.
+#[derive(Clone, Copy, Debug)]
+struct Flip {
+    place: Place,
+    read: u64,
+    offset: u8,
+    mask: u8,
+}
+
+/// An honest bus but for one read of one place. What is stored there stays.
+#[derive(Debug, Drop)]
+pub struct FlipBus {
+    bus: HonestBus,
+    flip: Flip,
+    lies: Lies,
+}
+
+impl Model for FlipBus {
+    ghost use Rattle.bus_model.specs.FlipBus.{FlipBusView};
+
+    ghost Value = { FlipBusView };
+
+    ghost view = { λ bus. record { kept = bus.bus; flip = bus.flip; lies = bus.lies } };
+}
+
+impl FlipBus {
+    /// A memory of zeros for this tree, whose `k`-th read of the place, from 1, is to be xored with the mask at
+    /// the offset. Only want of memory refuses it.
+    pub fn new(
+        alloc: Global,
+        geometry: Geometry,
+        place: Place,
+        k: u64,
+        offset: u8,
+        mask: u8,
+    ) -> Result<FlipBus, NoMemory>
+        requires inside { offset < place_size place }
+
+        ensures history { IfOk result (λ bus. flip_history bus ≡ new_history geometry) }
+        ensures flip { IfOk result (λ bus. bus.flip ≡ record { place = place; read = k; offset = offset; mask = mask }) }
+    {
+        Ok(FlipBus {
+            bus: HonestBus::new(alloc, geometry)?,
+            flip: Flip {
+                place,
+                read: k,
+                offset,
+                mask,
+            },
+            lies: Lies {
+                count: 0,
+                first: None,
+            },
+        })
+    }
+
+    /// How many answers were false.
+    pub fn lies(&self) -> u64
+        ensures { result ≡ (flip_history self.now).lies }
+    {
+        self.lies.count
+    }
+}
+
+impl Bus for FlipBus {
+    ghost history = { flip_history };
+
+    ghost moved = { λ _ _. Unit {0} };
+
+    ghost unmoved = { λ _. tt };
+
+    ghost moved_on = { λ _ _ _ _ _. tt };
+
+    /// What was written at the line's place, but for the one read.
+    fn read_data(&mut self, line: u32) -> Result<Sealed, NoMemory>
+        requires inside { IsPlace (flip_history self.old).levels (Line line) }
+
+        ensures is_ok { IsOk result }
+        ensures answer { IfOk result (λ sealed. sealed_bytes sealed ≡ next_answer self.old.flip (flip_history self.old) (Line line)) }
+        ensures flip { self.new.flip ≡ self.old.flip }
+
+        ensures ok { IfOk result (λ sealed. flip_history self.new ≡ after_read (Line line) (sealed_bytes sealed) (flip_history self.old)) }
+        ensures err { OnErr result (flip_history self.new ≡ flip_history self.old) }
+        ensures levels { (flip_history self.new).levels ≡ (flip_history self.old).levels }
+        ensures moved { Unit {0} }
+    {
+        let due = is_due(&self.flip, Place::Line(line), self.bus.line_reads(line));
+        let sealed = self.bus.read_data(line)?;
+        if !due {
+            return Ok(sealed);
+        }
+        let answer = flip_sealed(&sealed, self.flip.offset, self.flip.mask);
+        if differs(answer, sealed) {
+            let access = self.bus.accesses();
+            self.lies.tell(FalseAnswer::Sealed {
+                access,
+                line,
+                sealed: answer,
+            });
+        }
+        Ok(answer)
+    }
+
+    fn write_data(&mut self, line: u32, sealed: &Sealed) -> Result<(), NoMemory>
+        requires inside { IsPlace (flip_history self.old).levels (Line line) }
+
+        ensures flip { self.new.flip ≡ self.old.flip }
+        ensures ok { OnOk result (flip_history self.new ≡ after_write (Line line) (sealed_bytes sealed.now) (flip_history self.old)) }
+        ensures err { OnErr result (flip_history self.new ≡ flip_history self.old) }
+        ensures levels { (flip_history self.new).levels ≡ (flip_history self.old).levels }
+        ensures moved { Unit {0} }
+    {
+        self.bus.write_data(line, sealed)?;
+        Ok(())
+    }
+
+    /// What was written at the node's place, but for the one read.
+    fn read_node(&mut self, level: u8, index: u32) -> Result<[u8; 64], NoMemory>
+        requires inside { IsPlace (flip_history self.old).levels (Node level index) }
+
+        ensures is_ok { IsOk result }
+        ensures answer { IfOk result (λ block. block ≡ next_answer self.old.flip (flip_history self.old) (Node level index)) }
+        ensures flip { self.new.flip ≡ self.old.flip }
+
+        ensures ok { IfOk result (λ block. flip_history self.new ≡ after_read (Node level index) block (flip_history self.old)) }
+        ensures err { OnErr result (flip_history self.new ≡ flip_history self.old) }
+        ensures levels { (flip_history self.new).levels ≡ (flip_history self.old).levels }
+        ensures moved { Unit {0} }
+    {
+        let due = is_due(
+            &self.flip,
+            Place::Node { level, index },
+            self.bus.node_reads(level, index),
+        );
+        let block = self.bus.read_node(level, index)?;
+        if !due {
+            return Ok(block);
+        }
+        let changed = flip_block(&block, self.flip.offset, self.flip.mask);
+        if changed != block {
+            let number = self.bus.accesses();
+            self.lies.tell(FalseAnswer::Block {
+                access: number,
+                level,
+                index,
+                block: changed,
+            });
+        }
+        Ok(changed)
+    }
+
+    fn write_node(&mut self, level: u8, index: u32, block: &[u8; 64]) -> Result<(), NoMemory>
+        requires inside { IsPlace (flip_history self.old).levels (Node level index) }
+
+        ensures flip { self.new.flip ≡ self.old.flip }
+        ensures ok { OnOk result (flip_history self.new ≡ after_write (Node level index) block.now (flip_history self.old)) }
+        ensures err { OnErr result (flip_history self.new ≡ flip_history self.old) }
+        ensures levels { (flip_history self.new).levels ≡ (flip_history self.old).levels }
+        ensures moved { Unit {0} }
+    {
+        self.bus.write_node(level, index, block)?;
+        Ok(())
+    }
+}
+
+// Whether the next read of a place is the one that is changed, after so many reads of it.
+fn is_due(flip: &Flip, place: Place, reads: u64) -> bool
+    ensures { result ≡ is_due flip.now place reads }
+{
+    place == flip.place && flip.read > 0 && reads == flip.read - 1
+}
+
+// Xors the byte at an offset, where there is one.
+#[tactic(auto, unfolding(crate::specs::FlipBus::flipped))]
+fn flip_byte(bytes: &mut [u8], offset: usize, mask: u8)
+    ensures { bytes.new ≡ flipped offset mask bytes.old }
+{
+    if offset < bytes.len() {
+        bytes[offset] ^= mask;
+    }
+}
+
+fn flip_block(block: &[u8; 64], offset: u8, mask: u8) -> [u8; 64]
+    ensures { result ≡ flipped offset mask block.now }
+{
+    let mut answer = *block;
+    flip_byte(&mut answer, offset as usize, mask);
+    answer
+}
+
+fn differs(first: Sealed, second: Sealed) -> bool
+    ensures { result ≡ not (bytes_eq (sealed_bytes first) (sealed_bytes second)) }
+{
+    first != second
+}
+
+// The tag stands behind the 64 bytes of the line.
+fn flip_sealed(sealed: &Sealed, offset: u8, mask: u8) -> Sealed
+    ensures { sealed_bytes result ≡ flipped offset mask (sealed_bytes sealed.now) }
+{
+    let mut cipher = sealed.cipher;
+    let mut tag = sealed.tag;
+    if offset < 64 {
+        flip_byte(&mut cipher, offset as usize, mask);
+    } else {
+        flip_byte(&mut tag, offset as usize - 64, mask);
+    }
+    Sealed { cipher, tag }
+}

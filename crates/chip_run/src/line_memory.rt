@@ -1,0 +1,363 @@
+// The lines of the protected memory: they stand outside the chip, enciphered, each with a tag beside it and a counter
+// on the chip.
+ghost use Rattle.std.specs.Prelude.{◌≡◌, ◌≢◌, ◌↔◌, ◌+◌, ◌/◌, ◌<◌, ◌⊎◌, ◌∷◌, [], ℕ, None, Some, Ok, Err, IfOk, IfErr, OnOk, OnErr, IfSome, replicate};
+ghost use Rattle.sec_base.specs.Count.{Rose};
+ghost use Rattle.sec_base.specs.Geometry.{line_count};
+ghost use Rattle.sec_base.specs.Place.{IsPlace};
+ghost use Rattle.sec_base.specs.LastMessage.{IsFresh};
+ghost use Rattle.sec_base.specs.Lines.{line_at, with_line};
+ghost use Rattle.sec_base.specs.Evidence.{IsEvidence};
+ghost use Rattle.sec_base.specs.declared.place.Place.{Place};
+ghost use Rattle.sec_base.specs.declared.place.Place.TheVariants.{Line as line_place};
+ghost use Rattle.sec_base.specs.declared.stop.MemStop.{MemStop};
+ghost use Rattle.sec_base.specs.declared.stop.MemStop.TheVariants.{Tampered, Spent};
+ghost use Rattle.sec_base.specs.declared.message.Message.TheVariants.{Line};
+ghost use Rattle.bus_model.specs.BusHistory.{NothingWritten, after_write};
+ghost use Rattle.pad_stream.specs.Pad.{enciphered};
+ghost use Rattle.pad_stream.specs.PadEngine.{after_encrypt};
+ghost use Rattle.tag_engine.specs.TagEngine.{tags_of, after_make};
+ghost use Rattle.chip_run.specs.Contents.{contents_of, line_writes, sealed_line};
+ghost use Rattle.chip_run.specs.LineMemory.{new_line_memory, lasting_stop, IsLineMemory, Moves, ReadMoved, IsCheckedRead};
+
+use crate::account::Account;
+use bus_model::Bus;
+use pad_stream::PadEngine;
+use sec_base::{
+    Counter, Geometry, LineStore, MemStop, NoMemory, NoMemoryWith, Place, Sealed, Tagger,
+};
+use std::alloc::Global;
+use std::marker::Model;
+use tag_engine::TagEngine;
+
+// A line that was written n times has the counter (n, 0).
+pub(crate) struct LineMemory<B: Bus, T: Tagger> {
+    bus: B,
+    tags: TagEngine<T>,
+    pads: PadEngine,
+    geometry: Geometry,
+    counters: Vec<u64>,
+    page_limit: u64,
+    stopped: Option<MemStop>,
+}
+
+impl<B: Bus, T: Tagger> Model for LineMemory<B, T> {
+    ghost use Rattle.std.specs.Prelude.{◌≡◌};
+    ghost use Rattle.tag_engine.specs.TagEngine.{tags_of};
+    ghost use Rattle.chip_run.specs.LineMemory.{LineMemoryView, IsLineMemory};
+
+    ghost Value = { LineMemoryView B T };
+
+    ghost view = { λ memory. record {
+      bus = memory.bus;
+      engine = memory.tags;
+      pads = memory.pads;
+      counters = memory.counters.items;
+      limit = memory.page_limit;
+      stopped = memory.stopped;
+    } };
+
+    ghost invariant = { λ memory. (memory.geometry ≡ memory.tags.levels)
+        × IsLineMemory {B = B} {T = T} (tags_of T.data_tag_of T.node_tag_of memory.tags) (B.history memory.bus) (record {
+          bus = memory.bus;
+          engine = memory.tags;
+          pads = memory.pads;
+          counters = memory.counters.items;
+          limit = memory.page_limit;
+          stopped = memory.stopped;
+        }) };
+}
+
+impl<B: Bus, T: Tagger> LineMemory<B, T> {
+    // A memory that was never written, over a bus that was not false so far. Where memory is wanting, the tagger is let
+    // go, and the bus comes back.
+    pub(crate) fn boot(
+        alloc: Global,
+        bus: B,
+        tagger: T,
+        enc_key: &[u8; 16],
+        geometry: Geometry,
+        page_limit: u64,
+    ) -> Result<LineMemory<B, T>, NoMemoryWith<B>>
+        requires levels { (B.history bus).levels ≡ geometry }
+        requires honest { (B.history bus).lies ≡ 0 }
+        requires nothing_written { NothingWritten (B.history bus) }
+
+        ensures new { IfOk result (λ memory. memory ≡ new_line_memory bus tagger enc_key.now geometry page_limit) }
+        ensures refused { IfErr result (λ refusal. refusal.0 ≡ bus) }
+    {
+        let Ok(tags) = TagEngine::new(alloc, tagger, geometry) else {
+            return Err(NoMemoryWith(bus));
+        };
+        let Ok(pads) = PadEngine::new(alloc, enc_key) else {
+            return Err(NoMemoryWith(bus));
+        };
+        let Ok(counters) = no_writes(alloc, geometry) else {
+            return Err(NoMemoryWith(bus));
+        };
+        Ok(LineMemory {
+            bus,
+            tags,
+            pads,
+            geometry,
+            counters,
+            page_limit,
+            stopped: None,
+        })
+    }
+
+    // The stop that it answered, if it did.
+    pub(crate) fn stopped(&self) -> Option<MemStop>
+        ensures { result ≡ self.now.stopped }
+    {
+        self.stopped
+    }
+
+    // Lets the tagger go, and hands back what can be shown, and the bus.
+    pub(crate) fn finish(self) -> (Account, B)
+        ensures made { result.0.made ≡ self.engine.made }
+        ensures used { result.0.used ≡ self.pads.used }
+        ensures evidence { result.0.evidence ≡ self.engine.evidence }
+        ensures bus { result.1 ≡ self.bus }
+
+        ensures genuine { IfSome result.0.evidence (IsEvidence (tags_of T.data_tag_of T.node_tag_of self.engine) result.0.made) }
+        ensures kept { IsLineMemory (tags_of T.data_tag_of T.node_tag_of self.engine) (B.history self.bus) self }
+    {
+        let LineMemory {
+            bus,
+            tags,
+            pads,
+            geometry: _,
+            counters: _counters,
+            page_limit: _,
+            stopped: _,
+        } = self;
+        let (made, evidence) = tags.finish();
+        let account = Account {
+            made,
+            used: pads.finish(),
+            evidence,
+        };
+        (account, bus)
+    }
+}
+
+impl<B: Bus, T: Tagger> LineStore for LineMemory<B, T> {
+    ghost contents = { λ memory. contents_of memory.pads.key (line_count memory.engine.levels) memory.engine.made };
+
+    ghost extent = { λ memory. line_count memory.engine.levels };
+
+    ghost sound = { λ memory. memory.engine.evidence ≡ None };
+
+    ghost stopped = { λ memory. memory.stopped };
+
+    ghost read_moved = { λ before line after. ReadMoved B.history before line after };
+
+    ghost write_moved = { λ before line after. Moves B.history before after };
+
+    fn lines(&self) -> u32 {
+        self.geometry.lines()
+    }
+
+    // A line that was never written is zeros, without an access.
+    fn read_line(&mut self, line: u32) -> Result<[u8; 64], MemStop>
+        requires inside { line < line_count self.old.engine.levels }
+
+        ensures value { self.old.stopped ≡ None → self.new.engine.evidence ≡ None →
+            IfOk result (λ bytes. bytes ≡ line_at (contents_of self.old.pads.key (line_count self.old.engine.levels) self.old.engine.made) line) }
+        ensures contents { self.old.stopped ≡ None → self.new.engine.evidence ≡ None →
+            contents_of self.new.pads.key (line_count self.new.engine.levels) self.new.engine.made
+            ≡ contents_of self.old.pads.key (line_count self.old.engine.levels) self.old.engine.made }
+
+        ensures goes_on { OnOk result (self.new.stopped ≡ self.old.stopped) }
+        ensures stops { self.old.stopped ≡ None → IfErr result (λ stop. self.new.stopped ≡ Some stop) }
+
+        ensures extent { line_count self.new.engine.levels ≡ line_count self.old.engine.levels }
+        ensures lost { self.new.engine.evidence ≡ None → self.old.engine.evidence ≡ None }
+        ensures moved { ReadMoved B.history self.old line self.new }
+
+        // A lasting stop is answered again, and nothing is done.
+        ensures kept { (stop : MemStop) → lasting_stop self.old.stopped ≡ Some stop → (result ≡ Err stop) × (self.new ≡ self.old) }
+
+        // A line that was never written is read without an access, and nothing changes.
+        ensures fresh { IsFresh line self.old.pads.used → self.new ≡ self.old }
+
+        // Tampering comes only of this line, and where an answer was false.
+        ensures tampered { (place : Place) → lasting_stop self.old.stopped ≡ None → self.old.engine.evidence ≡ None →
+            result ≡ Err (Tampered place) → (place ≡ line_place line)
+            × Rose (B.history self.old.bus).lies (B.history self.new.bus).lies }
+        ensures unspent { (page : ℕ) → result ≢ Err (Spent page) }
+    {
+        if let Some(stop) = lasting(self.stopped) {
+            return Err(stop);
+        }
+        let writes = self.counters[line as usize];
+        if writes == 0 {
+            return Ok([0; 64]);
+        }
+        let counter = counter_of(writes);
+        match read_checked(&mut self.bus, &mut self.tags, line, counter) {
+            Ok(cipher) => Ok(self.pads.decrypt(line, counter, &cipher)),
+            Err(stop) => {
+                self.stopped = Some(stop);
+                Err(stop)
+            }
+        }
+    }
+
+    fn write_line(&mut self, line: u32, bytes: &[u8; 64]) -> Result<(), MemStop>
+        requires inside { line < line_count self.old.engine.levels }
+
+        ensures stored { self.old.stopped ≡ None → self.new.engine.evidence ≡ None →
+            OnOk result (contents_of self.new.pads.key (line_count self.new.engine.levels) self.new.engine.made
+            ≡ with_line (contents_of self.old.pads.key (line_count self.old.engine.levels) self.old.engine.made) line bytes.now) }
+        ensures refused { self.old.stopped ≡ None → self.new.engine.evidence ≡ None → OnErr result (
+            (contents_of self.new.pads.key (line_count self.new.engine.levels) self.new.engine.made
+            ≡ contents_of self.old.pads.key (line_count self.old.engine.levels) self.old.engine.made)
+            ⊎ (contents_of self.new.pads.key (line_count self.new.engine.levels) self.new.engine.made
+            ≡ with_line (contents_of self.old.pads.key (line_count self.old.engine.levels) self.old.engine.made) line bytes.now)) }
+
+        ensures goes_on { OnOk result (self.new.stopped ≡ self.old.stopped) }
+        ensures stops { self.old.stopped ≡ None → IfErr result (λ stop. self.new.stopped ≡ Some stop) }
+
+        ensures extent { line_count self.new.engine.levels ≡ line_count self.old.engine.levels }
+        ensures lost { self.new.engine.evidence ≡ None → self.old.engine.evidence ≡ None }
+        ensures moved { Moves B.history self.old self.new }
+
+        // A lasting stop is answered again, and nothing is done.
+        ensures kept { (stop : MemStop) → lasting_stop self.old.stopped ≡ Some stop → (result ≡ Err stop) × (self.new ≡ self.old) }
+
+        // A line that was written as often as the limit allows is not written again, and nothing else is refused so.
+        ensures spent { lasting_stop self.old.stopped ≡ None →
+            ((result ≡ Err (Spent (line / 64))) ↔ (line_writes self.old.pads.used line ≡ self.old.limit)) }
+        ensures spent_stays { (page : ℕ) → result ≡ Err (Spent page) → (page ≡ line / 64)
+            × (self.new ≡ record self.old { stopped = Some (Spent page) }) }
+        // The line's counter is raised by one.
+        ensures raised { OnOk result (line_writes self.new.pads.used line ≡ line_writes self.old.pads.used line + 1) }
+        ensures untampered { (place : Place) → lasting_stop self.old.stopped ≡ None → result ≢ Err (Tampered place) }
+    {
+        if let Some(stop) = lasting(self.stopped) {
+            return Err(stop);
+        }
+        let writes = self.counters[line as usize];
+        if writes >= self.page_limit {
+            self.stopped = Some(MemStop::Spent(line / 64));
+            return Err(MemStop::Spent(line / 64));
+        }
+        match self.tags.reserve(1) {
+            Ok(()) => {}
+            Err(_) => {
+                self.stopped = Some(MemStop::NoMemory);
+                return Err(MemStop::NoMemory);
+            }
+        }
+        match self.pads.reserve(1) {
+            Ok(()) => {}
+            Err(_) => {
+                self.stopped = Some(MemStop::NoMemory);
+                return Err(MemStop::NoMemory);
+            }
+        }
+        let counter = counter_of(writes + 1);
+        self.counters[line as usize] = writes + 1;
+        match write_sealed(
+            &mut self.bus,
+            &mut self.tags,
+            &mut self.pads,
+            line,
+            counter,
+            bytes,
+        ) {
+            Ok(()) => Ok(()),
+            Err(_) => {
+                self.stopped = Some(MemStop::NoMemory);
+                Err(MemStop::NoMemory)
+            }
+        }
+    }
+
+    ghost use Rattle.chip_run.specs.LineLengths.{length-contents_of};
+
+    ghost sized = { λ memory. length-contents_of memory.pads.key (line_count memory.engine.levels) memory.engine.made };
+}
+
+// No line of the memory was written.
+fn no_writes(alloc: Global, geometry: Geometry) -> Result<Vec<u64>, NoMemory>
+    ensures { IfOk result (λ counters. counters.items ≡ replicate (line_count geometry) 0) }
+{
+    Ok(vec![in alloc; 0; geometry.lines() as usize]?)
+}
+
+// The counter of a line that was written so often.
+fn counter_of(writes: u64) -> Counter
+    ensures { result ≡ record { page = writes; line = 0 } }
+{
+    Counter {
+        page: writes,
+        line: 0,
+    }
+}
+
+// The stop that is answered from then on, if there was one.
+fn lasting(stopped: Option<MemStop>) -> Option<MemStop>
+    ensures { result ≡ lasting_stop stopped }
+{
+    match stopped {
+        None | Some(MemStop::Spent(_)) => None,
+        Some(MemStop::Tampered(place)) => Some(MemStop::Tampered(place)),
+        Some(MemStop::NoMemory) => Some(MemStop::NoMemory),
+    }
+}
+
+// Reads a line from its place, and checks that it has the tag of its message.
+fn read_checked<B: Bus, T: Tagger>(
+    bus: &mut B,
+    tags: &mut TagEngine<T>,
+    line: u32,
+    counter: Counter,
+) -> Result<[u8; 64], MemStop>
+    requires place { IsPlace (B.history bus.old).levels (line_place line) }
+    requires line { line < line_count tags.old.levels }
+
+    ensures { IsCheckedRead (tags_of T.data_tag_of T.node_tag_of tags.old) line counter
+        (B.history bus.old) (B.history bus.new) tags.old tags.new result }
+{
+    let sealed = match bus.read_data(line) {
+        Ok(sealed) => sealed,
+        Err(_) => return Err(MemStop::NoMemory),
+    };
+    if tags.check_data(line, counter, &sealed) {
+        Ok(sealed.cipher)
+    } else {
+        Err(MemStop::Tampered(Place::Line(line)))
+    }
+}
+
+// Enciphers a line under its counter, tags its message and writes both to the line's place. There is memory for the
+// message and for the counter.
+fn write_sealed<B: Bus, T: Tagger>(
+    bus: &mut B,
+    tags: &mut TagEngine<T>,
+    pads: &mut PadEngine,
+    line: u32,
+    counter: Counter,
+    bytes: &[u8; 64],
+) -> Result<(), NoMemory>
+    requires place { IsPlace (B.history bus.old).levels (line_place line) }
+    requires line { line < line_count tags.old.levels }
+    requires room { 0 < tags.old.room }
+    requires pad_room { 0 < pads.old.room }
+
+    ensures tags { tags.new ≡ after_make (Line line counter (enciphered pads.old.key line counter bytes.now)) tags.old }
+    ensures pads { pads.new ≡ after_encrypt line counter pads.old }
+    ensures undone { enciphered pads.old.key line counter (enciphered pads.old.key line counter bytes.now) ≡ bytes.now }
+    ensures ok { OnOk result (B.history bus.new ≡ after_write (line_place line)
+        (sealed_line (tags_of T.data_tag_of T.node_tag_of tags.old) line counter (enciphered pads.old.key line counter bytes.now))
+        (B.history bus.old)) }
+    ensures err { OnErr result (B.history bus.new ≡ B.history bus.old) }
+{
+    let cipher = pads.encrypt(line, counter, bytes)?;
+    let tag = tags.make_data(line, counter, &cipher)?;
+    let sealed = Sealed { cipher, tag };
+    bus.write_data(line, &sealed)?;
+    Ok(())
+}

@@ -1,0 +1,47 @@
+-- What contracts see of a tag engine, and what its calls make of it.
+use Rattle.std.specs.Prelude.{ℕ, ◌-◌, max, List, [], ◌∷◌, ◌++◌, length, Bool, ◌&&◌, not, if◌then◌else◌, Option, Some, None}
+use Rattle.std.specs.Option.{option_or}
+use Rattle.sec_base.specs.declared.counter.Counter.{Counter}
+use Rattle.sec_base.specs.declared.sealed.Sealed.{Sealed}
+use Rattle.sec_base.specs.declared.message.Message.{Message}
+use Rattle.sec_base.specs.declared.message.Message.TheVariants.{Line}
+use Rattle.sec_base.specs.declared.evidence.Evidence.{Evidence}
+use Rattle.sec_base.specs.declared.evidence.Evidence.TheVariants.{Forgery}
+use Rattle.sec_base.specs.Message.{has_message}
+use Rattle.tag_engine.specs.Tag.{engine_tag}
+
+-- the tagger, the levels of the memory's tree, the messages that were tagged, in order, what passed a check and was
+-- never tagged, and how many messages more are sure to find memory
+pub record TagEngineView (T : Type 0) : Type 0 where
+  pub tagger : T
+  pub levels : ℕ
+  pub made : List Message
+  pub evidence : Option Evidence
+  pub room : ℕ
+
+-- the tags that it gives, by those of its tagger
+abbrev pub tags_of : {T : Type 0} → (T → List ℕ → List ℕ) → (T → List ℕ → List ℕ) → TagEngineView T → Message → List ℕ
+tags_of data_tag_of node_tag_of engine = engine_tag (data_tag_of engine.tagger) (node_tag_of engine.tagger) engine.levels
+
+-- nothing was tagged
+abbrev pub new_engine : {T : Type 0} → T → ℕ → TagEngineView T
+new_engine tagger levels = record { tagger = tagger; levels = levels; made = []; evidence = None; room = 0 }
+
+-- the next n messages are sure to find memory
+abbrev pub with_room : {T : Type 0} → ℕ → TagEngineView T → TagEngineView T
+with_room n engine = record engine { room = max engine.room n }
+
+-- one message more was tagged
+abbrev pub after_make : {T : Type 0} → Message → TagEngineView T → TagEngineView T
+after_make message engine = record engine { made = engine.made ++ message ∷ []; room = engine.room - 1 }
+
+-- what a check of a sealed line shows: that it passed, and its message is none of those made
+unfoldable pub forgery_of : List Message → ℕ → Counter → Sealed → Bool → Option Evidence
+forgery_of made line counter sealed passed =
+    if passed && not (has_message made (Line line counter sealed.cipher))
+    then Some (Forgery line counter sealed (length made)) else None
+
+-- a sealed line was checked, and the first evidence stays
+abbrev pub after_check_data : {T : Type 0} → ℕ → Counter → Sealed → Bool → TagEngineView T → TagEngineView T
+after_check_data line counter sealed passed engine =
+    record engine { evidence = option_or engine.evidence (forgery_of engine.made line counter sealed passed) }
