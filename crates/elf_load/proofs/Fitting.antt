@@ -85,8 +85,10 @@ image_fits file size header headers segments memory few headers_are none segment
     let entry = neither (not (header.entry % 4 == 0)) (nat_lt size (header.entry + 4)) rows.1 in
     record {
       memory = memory;
-      aligned = eqb-true (header.entry % 4) 0 (not_false (header.entry % 4 == 0) entry.0);
-      inside = ltb-false size (header.entry + 4) entry.1;
+      begins = record {
+        aligned = eqb-true (header.entry % 4) 0 (not_false (header.entry % 4 == 0) entry.0);
+        inside = ltb-false size (header.entry + 4) entry.1;
+      };
       few = omega (arith, ap length segments_are, length-loaded file headers, ap length headers_are, length-headers_from file header.table header.count);
       each = rw segments_are (segments_fit file size headers rows.0);
     }

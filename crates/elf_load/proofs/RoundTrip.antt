@@ -34,7 +34,7 @@ parts_back entry size count offset segments file image count_is offset_is file_i
     let behind_header : file ≡ head ++ (table ++ bytes) = file_is ∙ append_assoc head table bytes in
     let before_bytes : file ≡ (head ++ table) ++ (bytes ++ []) = file_is ∙ ap (λ t. (head ++ table) ++ t) (sym (append-nil bytes)) in
     let header : file_header file ≡ header_back entry count =
-    rw behind_header (file_header-spelled entry count (table ++ bytes) (omega (arith, image.inside)) (omega arith)) in
+    rw behind_header (file_header-spelled entry count (table ++ bytes) (omega (arith, image.begins.inside)) (omega arith)) in
     let headers : headers_from file 52 (length segments) ≡ headers_back offset segments =
     table_at head bytes file 52 offset size segments small (omega arith) image.each behind_header (sym head_long) in
     let headers_are : headers_back offset segments ≡ headers_from file 52 count = rw count_is (sym headers) in
@@ -45,7 +45,7 @@ parts_back entry size count offset segments file image count_is offset_is file_i
       first_fault-program file size (header_back entry count) (headers_back offset segments) None
           (no_header_fault file (table ++ bytes) entry count behind_header header few (omega arith))
           (sym header) headers_are
-          (no_program_fault (length file) size entry count offset segments (omega arith) image.each image.aligned image.inside),
+          (no_program_fault (length file) size entry count offset segments (omega arith) image.each image.begins.aligned image.begins.inside),
       ap (λ (h : FileHeader). h.entry) header,
       segments_are file (header_back entry count) (headers_back offset segments) segments (sym header) headers_are loaded,
     )
