@@ -1,6 +1,5 @@
 -- The listing of a program: a line of text for each word of its segments, and for each byte that is left over.
-use Rattle.std.specs.Prelude.{ℕ, ◌+◌, ◌-◌, List, [], ◌∷◌, ◌++◌, length, replicate, codes, false}
-use Rattle.std.specs.Fmt.{digits}
+use Rattle.std.specs.Prelude.{ℕ, ◌+◌, List, [], ◌∷◌, ◌++◌, codes}
 use Rattle.std.specs.Int.{w32, from_le_bytes}
 use Rattle.sec_base.specs.declared.segment.Segment.{Segment}
 use Rattle.rv32_text.specs.Text.{text_of_word}
