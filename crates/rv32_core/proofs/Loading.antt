@@ -5,7 +5,10 @@ use Rattle.std.proofs.Math.Seq.{take-append_seam}
 use Rattle.std.proofs.lemmas.Bool.{cases_lt}
 use Rattle.std.proofs.lemmas.List.Prefix.{at_from_reads}
 use Rattle.std.proofs.lemmas.List.Elements.{Contains-append_left, Contains-push}
+use Rattle.sec_base.specs.declared.width.Width.TheVariants.{One}
 use Rattle.sec_base.specs.Geometry.{line_of}
+use Rattle.sec_base.specs.Width.{number_at}
+use Rattle.sec_base.proofs.NumberBytes.{number_at_one}
 use Rattle.rv32_core.specs.Touch.{HasLinesOf}
 
 -- the memory is as it was, and the first bytes of the piece are its
@@ -27,12 +30,12 @@ lines_more lines from i h = λ k below.
     ]
 
 -- one byte more is loaded
-pub loading_more : (before now now' : List ℕ) (from i byte : ℕ) (piece : List ℕ) → IsLoading before now from i piece → now' ≡ now → byte ≡ get_or now (from + i) 0 → i < length piece → IsLoading before now' from (i + 1) (set piece i byte)
+pub loading_more : (before now now' : List ℕ) (from i byte : ℕ) (piece : List ℕ) → IsLoading before now from i piece → now' ≡ now → byte ≡ number_at now (from + i) One → i < length piece → IsLoading before now' from (i + 1) (set piece i byte)
 loading_more before now now' from i byte piece h same is inside = record {
   same = same ∙ h.same;
   loaded = below_more _ i
       (λ k less. let apart : k ≢ i = omega arith in rw get_or-set_other (h.loaded k less))
-      (rw (get_or-set_same) (is ∙ ap (λ (m : List ℕ). get_or m (from + i) 0) h.same));
+      (rw (get_or-set_same) (is ∙ number_at_one now (from + i) ∙ ap (λ (m : List ℕ). get_or m (from + i) 0) h.same));
 }
 
 -- all bytes are loaded

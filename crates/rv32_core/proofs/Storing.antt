@@ -2,7 +2,10 @@
 use Rattle.std.proofs.Common.{◌≡◌, ◌≤◌, ◌<◌, ℕ, suc, ◌+◌, ◌%◌, ◌^◌, List, [], ◌∷◌, ◌++◌, length, take, drop, get_or, set, sym, ap, ◌∙◌, arith, add-zero, length-append}
 use Rattle.std.proofs.lemmas.List.{append-nil, take-append-drop, take_all, take_more, length-take}
 use Rattle.std.proofs.lemmas.List.Edits.{sets-eq}
-use Rattle.std.proofs.Math.Seq.{sets}
+use Rattle.std.proofs.Math.Seq.{sets, length-sets}
+use Rattle.sec_base.specs.declared.width.Width.TheVariants.{One}
+use Rattle.sec_base.specs.Width.{with_number}
+use Rattle.sec_base.proofs.NumberBytes.{with_number_one}
 use Rattle.rv32_core.specs.State.{with_bytes}
 
 with-sets : (memory : List ℕ) (address : ℕ) (bytes : List ℕ) → address + length bytes ≤ length memory → with_bytes memory address bytes ≡ sets memory address bytes
@@ -23,15 +26,18 @@ nothing_stored memory address =
     ∙ take-append-drop address memory
 
 -- one byte more
-pub one_more_stored : (memory now new bytes : List ℕ) (address i byte : ℕ) → i < length bytes → address + length bytes ≤ length memory → now ≡ with_bytes memory address (take i bytes) → byte ≡ get_or bytes i 0 → byte < 2 ^ 8 → new ≡ set now (address + i) (byte % 2 ^ 8) → new ≡ with_bytes memory address (take (i + 1) bytes)
+pub one_more_stored : (memory now new bytes : List ℕ) (address i byte : ℕ) → i < length bytes → address + length bytes ≤ length memory → now ≡ with_bytes memory address (take i bytes) → byte ≡ get_or bytes i 0 → byte < 2 ^ 8 → new ≡ with_number now (address + i) One byte → new ≡ with_bytes memory address (take (i + 1) bytes)
 one_more_stored memory now new bytes address i byte below inside before is small stored =
     let front = take i bytes in
     let long : length front ≡ i = omega (arith, length-take i bytes) in
     let whole : byte % 2 ^ 8 ≡ get_or bytes i 0 = omega arith in
     let more = take_more bytes i 0 below in
     let fits : address + length (front ++ get_or bytes i 0 ∷ []) ≤ length memory = omega (arith, length-append front (get_or bytes i 0 ∷ [])) in
+    let as_set : now ≡ sets memory address front = before ∙ with-sets memory address front (omega arith) in
+    let there : address + i < length now = omega (arith, ap length as_set, length-sets front memory address) in
     stored
-    ∙ ap (λ (xs : List ℕ). set xs (address + i) (byte % 2 ^ 8)) (before ∙ with-sets memory address front (omega arith))
+    ∙ with_number_one now (address + i) byte there
+    ∙ ap (λ (xs : List ℕ). set xs (address + i) (byte % 2 ^ 8)) as_set
     ∙ ap (λ (n : ℕ). set (sets memory address front) (address + n) (byte % 2 ^ 8)) (sym long)
     ∙ ap (λ (b : ℕ). set (sets memory address front) (address + length front) b) whole
     ∙ sets-push memory address front (get_or bytes i 0)

@@ -4,12 +4,14 @@ use Rattle.std.proofs.lemmas.List.{append-nil, take-append-drop, take_all, drop_
 use Rattle.std.proofs.lemmas.List.Sums.{fold_more}
 use Rattle.std.proofs.lemmas.List.Edits.{sets-eq}
 use Rattle.std.proofs.Math.Seq.{sets, length-sets, take-add}
-use Rattle.sec_base.specs.declared.width.Width.TheVariants.{Four}
+use Rattle.sec_base.specs.declared.width.Width.{Width}
+use Rattle.sec_base.specs.declared.width.Width.TheVariants.{One, Four}
 use Rattle.sec_base.specs.declared.segment.Segment.{Segment}
 use Rattle.sec_base.specs.Opening.{segment_memory, laid_over, opening_memory}
-use Rattle.sec_base.specs.Width.{with_number}
+use Rattle.sec_base.specs.Width.{number_bytes, with_number}
+use Rattle.sec_base.proofs.NumberBytes.{length-number_bytes}
 use Rattle.rv32_core.specs.State.{with_bytes}
-use Rattle.rv32_run.specs.Loading.{part, word_bytes}
+use Rattle.rv32_run.specs.Loading.{part}
 
 laid-sets : (m : List ℕ) (a : ℕ) (p : List ℕ) → a + length p ≤ length m → with_bytes m a p ≡ sets m a p
 unfolding with_bytes
@@ -21,15 +23,9 @@ sets-append m a (x ∷ p) q =
     let e : a + suc (length p) ≡ suc a + length p = omega arith in
     ap (λ (n : ℕ). sets (sets (set m a x) (suc a) p) n q) e ∙ sets-append (set m a x) (suc a) p q
 
-pub laid_byte : (m : List ℕ) (a b : ℕ) → a < length m → set m a b ≡ with_bytes m a (b ∷ [])
-laid_byte m a b h = sym (laid-sets m a (b ∷ []) (omega arith))
-
-pub laid_word : (m : List ℕ) (a n : ℕ) → a + 4 ≤ length m → with_number m a Four n ≡ with_bytes m a (word_bytes n)
-laid_word m a n h =
-    let second : a + 1 ≡ suc a = omega arith in
-    let third : a + 2 ≡ suc (suc a) = omega arith in
-    let fourth : a + 3 ≡ suc (suc (suc a)) = omega arith in
-    rw (second, third, fourth) (sym (laid-sets m a (word_bytes n) h))
+pub laid_number : (m : List ℕ) (a : ℕ) (width : Width) (n : ℕ) → with_number m a width n ≡ with_bytes m a (number_bytes width n)
+unfolding with_bytes
+laid_number m a width n = ap (λ (count : ℕ). take a m ++ number_bytes width n ++ drop (a + count) m) (sym (length-number_bytes width n))
 
 pub laid_nothing : (m : List ℕ) (a : ℕ) → with_bytes m a [] ≡ m
 unfolding with_bytes
@@ -79,7 +75,7 @@ laid_more m now new a at count bytes h inside before after =
     ∙ ap (with_bytes m a) (part_more bytes at count)
 
 -- a word that is made of four bytes has these bytes
-pub made_of : (a b c d n : ℕ) → a < 2 ^ 8 → b < 2 ^ 8 → c < 2 ^ 8 → d < 2 ^ 8 → n ≡ a + b * 2 ^ 8 + c * 2 ^ 16 + d * 2 ^ 24 → word_bytes n ≡ a ∷ b ∷ c ∷ d ∷ []
+pub made_of : (a b c d n : ℕ) → a < 2 ^ 8 → b < 2 ^ 8 → c < 2 ^ 8 → d < 2 ^ 8 → n ≡ a + b * 2 ^ 8 + c * 2 ^ 16 + d * 2 ^ 24 → number_bytes Four n ≡ a ∷ b ∷ c ∷ d ∷ []
 made_of a b c d n ha hb hc hd e =
     let first : n % 2 ^ 8 ≡ a = omega arith in
     let second : n / 2 ^ 8 % 2 ^ 8 ≡ b = omega arith in
@@ -88,13 +84,13 @@ made_of a b c d n ha hb hc hd e =
     rw (first, second, third, fourth) refl
 
 -- a word, or a byte, of a list that was stored
-pub word_stored : (old new : List ℕ) (address n : ℕ) (bytes : List ℕ) (at : ℕ) → address + 4 ≤ length old → word_bytes n ≡ part bytes at 4 → new ≡ with_number old address Four n → new ≡ with_bytes old address (part bytes at 4)
-word_stored old new address n bytes at h e stored = stored ∙ laid_word old address n h ∙ ap (with_bytes old address) e
+pub word_stored : (old new : List ℕ) (address n : ℕ) (bytes : List ℕ) (at : ℕ) → number_bytes Four n ≡ part bytes at 4 → new ≡ with_number old address Four n → new ≡ with_bytes old address (part bytes at 4)
+word_stored old new address n bytes at e stored = stored ∙ laid_number old address Four n ∙ ap (with_bytes old address) e
 
-pub byte_stored : (old new : List ℕ) (address n : ℕ) (bytes : List ℕ) (at : ℕ) → address < length old → at < length bytes → n < 2 ^ 8 → n ≡ get_or bytes at 0 → new ≡ set old address (n % 2 ^ 8) → new ≡ with_bytes old address (part bytes at 1)
-byte_stored old new address n bytes at h inside small e stored =
+pub byte_stored : (old new : List ℕ) (address n : ℕ) (bytes : List ℕ) (at : ℕ) → at < length bytes → n < 2 ^ 8 → n ≡ get_or bytes at 0 → new ≡ with_number old address One n → new ≡ with_bytes old address (part bytes at 1)
+byte_stored old new address n bytes at inside small e stored =
     let whole : n % 2 ^ 8 ≡ get_or bytes at 0 = omega arith in
-    stored ∙ laid_byte old address (n % 2 ^ 8) h ∙ ap (λ (b : ℕ). with_bytes old address (b ∷ [])) whole
+    stored ∙ laid_number old address One n ∙ ap (λ (b : ℕ). with_bytes old address (b ∷ [])) whole
     ∙ ap (with_bytes old address) (sym (part_byte bytes at inside))
 
 -- all of a segment

@@ -2,8 +2,10 @@
 ghost use Rattle.std.specs.Prelude.{◌≡◌, ◌+◌, ◌<◌, ◌≤◌, ◌^◌, ℕ, List, None, Some, IfOk, IfErr, OnOk, length, slice_index, replicate};
 ghost use Rattle.sec_base.specs.Opening.{segment_memory, laid_over, opening_memory};
 ghost use Rattle.sec_base.specs.Segment.{IsSegment};
+ghost use Rattle.sec_base.specs.Width.{number_bytes};
+ghost use Rattle.sec_base.specs.declared.width.Width.TheVariants.{Four};
 ghost use Rattle.rv32_core.specs.State.{with_bytes};
-ghost use Rattle.rv32_run.specs.Loading.{part, word_bytes};
+ghost use Rattle.rv32_run.specs.Loading.{part};
 
 use sec_base::{Image, MemStop, Ram, Segment, Width};
 
@@ -86,7 +88,7 @@ fn word_at(segment: &Segment, at: u32) -> u32
     requires bytes { length segment.now.bytes ≤ segment.now.length }
     requires inside { at + 4 ≤ segment.now.length }
     requires small { at + 4 < 2 ^ 32 }
-    ensures { word_bytes result ≡ part (segment_memory segment.now) at 4 }
+    ensures { number_bytes Four result ≡ part (segment_memory segment.now) at 4 }
 {
     u32::from_le_bytes([
         byte_at(segment, at),

@@ -7,6 +7,7 @@ pub mod LastMessages
 pub mod SameMessages
 pub mod SamePlaces
 pub mod JoinedLines
+pub mod NumberBytes
 pub mod LineNumbers
 pub mod Gains
 pub mod Digits

@@ -33,7 +33,7 @@ impl Width {
     {
         match self {
             Width::One => u32::from(bytes[at]),
-            Width::Two => u32::from(bytes[at]) + (u32::from(bytes[at + 1]) << 8),
+            Width::Two => u32::from(u16::from_le_bytes([bytes[at], bytes[at + 1]])),
             Width::Four => {
                 u32::from_le_bytes([bytes[at], bytes[at + 1], bytes[at + 2], bytes[at + 3]])
             }
@@ -49,15 +49,10 @@ impl Width {
         match self {
             Width::One => bytes[at] = (value & 0xff) as u8,
             Width::Two => {
-                bytes[at] = (value & 0xff) as u8;
-                bytes[at + 1] = (value >> 8 & 0xff) as u8;
+                let half = (value & 0xffff) as u16;
+                bytes[at..at + 2].copy_from_slice(&half.to_le_bytes());
             }
-            Width::Four => {
-                bytes[at] = (value & 0xff) as u8;
-                bytes[at + 1] = (value >> 8 & 0xff) as u8;
-                bytes[at + 2] = (value >> 16 & 0xff) as u8;
-                bytes[at + 3] = (value >> 24 & 0xff) as u8;
-            }
+            Width::Four => bytes[at..at + 4].copy_from_slice(&value.to_le_bytes()),
         }
     }
 }

@@ -2,7 +2,6 @@ use Rattle.sec_base.specs.Geometry.{line_of, line_count}
 use Rattle.chip_run.proofs.LineMoves.{stopped_unmoved}
 use Rattle.std.proofs.Common.{◌∷◌, [], sym, ◌∙◌}
 use Rattle.chip_run.specs.Contents.{contents_of}
-use Rattle.chip_run.specs.LineLengths.{length-contents_of}
 use Rattle.sec_base.proofs.LineNumbers.{number_written, number_refused}
 use Rattle.chip_run.proofs.line_ram.LineRamRam.store.Goals as goal
 
@@ -15,8 +14,7 @@ returns-in-Ok-write_line-clause-stored g c = λ going sound.
     number_written (contents_of key lines made)
     (contents_of c.read_line.new.self.pads.key (line_count c.read_line.new.self.engine.levels) c.read_line.new.self.engine.made)
     (contents_of c.write_line.new.self.pads.key (line_count c.write_line.new.self.engine.levels) c.write_line.new.self.engine.made)
-    c.in-Ok.line c.write.new.bytes c.args.addr c.args.value lines c.args.width
-    (length-contents_of key lines made) c.requires.inside c.requires.aligned
+    c.in-Ok.line c.write.new.bytes c.args.addr c.args.value c.args.width c.requires.aligned
     (c.in-Ok.ensures.value going was_sound) (c.in-Ok.ensures.contents going was_sound) c.write.ensures
     (c.in-Ok-write_line.ensures.stored (c.in-Ok.ensures.goes_on ∙ going) sound)
 
@@ -29,8 +27,7 @@ returns-in-Err-write_line-clause-refused g c = λ going sound.
     number_refused (contents_of key lines made)
     (contents_of c.read_line.new.self.pads.key (line_count c.read_line.new.self.engine.levels) c.read_line.new.self.engine.made)
     (contents_of c.write_line.new.self.pads.key (line_count c.write_line.new.self.engine.levels) c.write_line.new.self.engine.made)
-    c.in-Ok.line c.write.new.bytes c.args.addr c.args.value lines c.args.width
-    (length-contents_of key lines made) c.requires.inside c.requires.aligned
+    c.in-Ok.line c.write.new.bytes c.args.addr c.args.value c.args.width c.requires.aligned
     (c.in-Ok.ensures.value going was_sound) (c.in-Ok.ensures.contents going was_sound) c.write.ensures
     (c.in-Err-write_line.ensures.refused (c.in-Ok.ensures.goes_on ∙ going) sound)
 
