@@ -1,10 +1,10 @@
 -- A text that is written a line at a time.
 use Rattle.std.proofs.Common.{◌≡◌, ◌≤◌, ℕ, List, ◌++◌, sym, ap, subst, ◌∙◌, Err, arith, append_assoc}
 use Rattle.sec_base.specs.Count.{Rose}
-use Rattle.sec_base.specs.Sink.{SinkState, gained, Gains}
+use Rattle.sec_base.specs.Sink.{SinkState, written_after, Gains}
 use Rattle.sec_base.specs.declared.sink.SinkStop.{SinkStop}
 use Rattle.sec_base.specs.declared.sink.SinkStop.TheVariants.{Failed, NoMemory}
-use Rattle.sec_base.proofs.Writes.{IsPart, gained-append}
+use Rattle.sec_base.proofs.Writes.{IsPart, written_after-append}
 use Rattle.sec_base.specs.Sink.{GainsFront, IsWritten}
 
 -- the next line was written
@@ -12,7 +12,7 @@ line_written : (old mid new : SinkState) (whole line rest : List ℕ) → IsPart
 line_written old mid new whole line rest part gains grows = record {
   front = part.front ++ line;
   parts = part.parts ∙ sym (append_assoc part.front line rest);
-  gains = gains ∙ ap (gained line) part.gains ∙ sym (gained-append part.front line old.written);
+  gains = gains ∙ ap (written_after line) part.gains ∙ sym (written_after-append part.front line old.written);
   faults = omega arith;
 }
 
@@ -25,7 +25,7 @@ front_of_whole old mid new whole line rest part written =
     parts = part.parts ∙ rw (written.1).1 (simp append_assoc)
 
     gains : Gains old (part.front ++ written.0) new
-    gains = written.2 ∙ ap (gained written.0) part.gains ∙ sym (gained-append part.front written.0 old.written)
+    gains = written.2 ∙ ap (written_after written.0) part.gains ∙ sym (written_after-append part.front written.0 old.written)
 
 -- it stopped in the next line
 line_stopped : (old mid new : SinkState) (whole line rest : List ℕ) (stop : SinkStop) → IsPart old mid whole (line ++ rest) → IsWritten line mid new (Err stop) → IsWritten whole old new (Err stop)

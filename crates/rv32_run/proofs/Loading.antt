@@ -7,7 +7,7 @@ use Rattle.std.proofs.Math.Seq.{sets, length-sets, take-add}
 use Rattle.sec_base.specs.declared.width.Width.{Width}
 use Rattle.sec_base.specs.declared.width.Width.TheVariants.{One, Four}
 use Rattle.sec_base.specs.declared.segment.Segment.{Segment}
-use Rattle.sec_base.specs.Opening.{segment_memory, laid_over, opening_memory}
+use Rattle.sec_base.specs.Opening.{segment_memory, with_segment, opening_memory}
 use Rattle.sec_base.specs.Width.{number_bytes, with_number}
 use Rattle.sec_base.proofs.NumberBytes.{length-number_bytes}
 use Rattle.rv32_core.specs.State.{with_bytes}
@@ -62,7 +62,7 @@ part_more bytes at count = sym (take-add at count bytes)
 pub length-segment_memory : (segment : Segment) → length segment.bytes ≤ segment.length → length (segment_memory segment) ≡ segment.length
 length-segment_memory segment h = simp (length-append, length-replicate) (omega arith)
 
-pub laid_whole : (m : List ℕ) (segment : Segment) → length segment.bytes ≤ segment.length → with_bytes m segment.addr (segment_memory segment) ≡ laid_over m segment
+pub laid_whole : (m : List ℕ) (segment : Segment) → length segment.bytes ≤ segment.length → with_bytes m segment.addr (segment_memory segment) ≡ with_segment m segment
 unfolding with_bytes
 laid_whole m segment h =
     ap (λ (n : ℕ). take segment.addr m ++ segment_memory segment ++ drop (segment.addr + n) m) (length-segment_memory segment h)
@@ -94,20 +94,20 @@ byte_stored old new address n bytes at inside small e stored =
     ∙ ap (with_bytes old address) (sym (part_byte bytes at inside))
 
 -- all of a segment
-pub laid_all : (m now : List ℕ) (segment : Segment) (at : ℕ) → length segment.bytes ≤ segment.length → segment.length ≤ at → now ≡ with_bytes m segment.addr (take at (segment_memory segment)) → now ≡ laid_over m segment
+pub laid_all : (m now : List ℕ) (segment : Segment) (at : ℕ) → length segment.bytes ≤ segment.length → segment.length ≤ at → now ≡ with_bytes m segment.addr (take at (segment_memory segment)) → now ≡ with_segment m segment
 laid_all m now segment at h past e =
     e ∙ ap (with_bytes m segment.addr) (take_all at (segment_memory segment) (omega (arith, length-segment_memory segment h)))
     ∙ laid_whole m segment h
 
 -- one more segment
-pub segment_more : (start now new : List ℕ) (segments : List Segment) (i : ℕ) (segment : Segment) → i < length segments → segment ≡ get_or segments i segment → now ≡ fold laid_over start (take i segments) → new ≡ laid_over now segment → new ≡ fold laid_over start (take (i + 1) segments)
+pub segment_more : (start now new : List ℕ) (segments : List Segment) (i : ℕ) (segment : Segment) → i < length segments → segment ≡ get_or segments i segment → now ≡ fold with_segment start (take i segments) → new ≡ with_segment now segment → new ≡ fold with_segment start (take (i + 1) segments)
 segment_more start now new segments i segment h item before after =
-    after ∙ ap (λ (xs : List ℕ). laid_over xs segment) before
-    ∙ ap (laid_over (fold laid_over start (take i segments))) item
-    ∙ sym (fold_more laid_over start segments i segment h)
+    after ∙ ap (λ (xs : List ℕ). with_segment xs segment) before
+    ∙ ap (with_segment (fold with_segment start (take i segments))) item
+    ∙ sym (fold_more with_segment start segments i segment h)
 
 -- all segments
-pub segments_all : (start now : List ℕ) (segments all : List Segment) (size i : ℕ) → length segments ≤ i → now ≡ fold laid_over start (take i segments) → start ≡ replicate size 0 → segments ≡ all → now ≡ opening_memory size all
+pub segments_all : (start now : List ℕ) (segments all : List Segment) (size i : ℕ) → length segments ≤ i → now ≡ fold with_segment start (take i segments) → start ≡ replicate size 0 → segments ≡ all → now ≡ opening_memory size all
 unfolding opening_memory
 segments_all start now segments all size i h e zeros same =
-    e ∙ ap (fold laid_over start) (take_all i segments h ∙ same) ∙ ap (λ (xs : List ℕ). fold laid_over xs all) zeros
+    e ∙ ap (fold with_segment start) (take_all i segments h ∙ same) ∙ ap (λ (xs : List ℕ). fold with_segment xs all) zeros

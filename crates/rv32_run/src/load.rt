@@ -1,6 +1,6 @@
 // How a program is stored in memory.
 ghost use Rattle.std.specs.Prelude.{◌≡◌, ◌+◌, ◌<◌, ◌≤◌, ◌^◌, ℕ, List, None, Some, IfOk, IfErr, OnOk, length, slice_index, replicate};
-ghost use Rattle.sec_base.specs.Opening.{segment_memory, laid_over, opening_memory};
+ghost use Rattle.sec_base.specs.Opening.{segment_memory, with_segment, opening_memory};
 ghost use Rattle.sec_base.specs.Segment.{IsSegment};
 ghost use Rattle.sec_base.specs.Width.{number_bytes};
 ghost use Rattle.sec_base.specs.declared.width.Width.TheVariants.{Four};
@@ -38,7 +38,7 @@ fn store_segment<M: Ram>(ram: &mut M, segment: &Segment) -> Result<(), MemStop>
     requires small { M.extent ram.old < 2 ^ 32 }
     requires going { M.stopped ram.old ≡ None }
 
-    ensures stored { M.sound ram.new → OnOk result (M.contents ram.new ≡ laid_over (M.contents ram.old) segment.now) }
+    ensures stored { M.sound ram.new → OnOk result (M.contents ram.new ≡ with_segment (M.contents ram.old) segment.now) }
 
     ensures goes_on { OnOk result (M.stopped ram.new ≡ None) }
     ensures stops { IfErr result (λ stop. M.stopped ram.new ≡ Some stop) }

@@ -6,13 +6,13 @@ use Rattle.std.proofs.lemmas.List.Sums.{fold-append}
 use Rattle.sec_base.specs.declared.counter.Counter.{Counter}
 use Rattle.sec_base.specs.declared.message.Message.{Message}
 use Rattle.sec_base.specs.declared.message.Message.TheVariants.{Line, Node}
-use Rattle.sec_base.specs.LastMessage.{passed, last_at, last_of, last_data, last_pair, pair_of, data_part, counter_part, data_pairs, IsFresh}
+use Rattle.sec_base.specs.LastMessage.{after_item, last_at, last_of, last_data, last_pair, pair_of, data_part, counter_part, data_pairs, IsFresh}
 
--- as many items were passed as there are
-count_passed : {A B : Type 0} (part : A → Option B) (items : List A) (seen : ℕ × Option (ℕ × B)) →
-    (fold (passed part) seen items).0 ≡ seen.0 + length items
-count_passed part [] seen = omega arith
-count_passed part (item ∷ items) seen = omega (arith, count_passed part items (passed part seen item))
+-- the items are counted
+count_after : {A B : Type 0} (part : A → Option B) (items : List A) (seen : ℕ × Option (ℕ × B)) →
+    (fold (after_item part) seen items).0 ≡ seen.0 + length items
+count_after part [] seen = omega arith
+count_after part (item ∷ items) seen = omega (arith, count_after part items (after_item part seen item))
 
 -- one more item
 pub last_at_more : {A B : Type 0} (part : A → Option B) (items : List A) (item : A) →
@@ -20,11 +20,11 @@ pub last_at_more : {A B : Type 0} (part : A → Option B) (items : List A) (item
 unfolding last_at
 last_at_more {A} {B} part items item =
     let start : ℕ × Option (ℕ × B) = (0, None) in
-    let e : fold (passed part) start (items ++ item ∷ []) ≡ passed part (fold (passed part) start items) item =
-    fold-append (passed part) start items (item ∷ []) in
-    let n : (fold (passed part) start items).0 ≡ length items = omega (arith, count_passed part items start) in
+    let e : fold (after_item part) start (items ++ item ∷ []) ≡ after_item part (fold (after_item part) start items) item =
+    fold-append (after_item part) start items (item ∷ []) in
+    let n : (fold (after_item part) start items).0 ≡ length items = omega (arith, count_after part items start) in
     ap (λ (seen : ℕ × Option (ℕ × B)). seen.1) e
-    ∙ ap (λ (at : ℕ). option_or (option_map (λ (found : B). (at, found)) (part item)) (fold (passed part) start items).1) n
+    ∙ ap (λ (at : ℕ). option_or (option_map (λ (found : B). (at, found)) (part item)) (fold (after_item part) start items).1) n
 
 -- one more item, which has a part
 pub last_at_same : {A B : Type 0} (part : A → Option B) (items : List A) (item : A) (found : B) →
@@ -82,10 +82,10 @@ part_after {A} {B} part front seen item (Some x) is count known at found e =
 
 linked_on : {A B : Type 0} (part : A → Option B) (items front : List A) (seen : ℕ × Option (ℕ × B)) →
     seen.0 ≡ length front → ((at : ℕ) (found : B) → seen.1 ≡ Some (at, found) → HasPart part front at found) →
-    (at : ℕ) (found : B) → (fold (passed part) seen items).1 ≡ Some (at, found) → HasPart part (front ++ items) at found
+    (at : ℕ) (found : B) → (fold (after_item part) seen items).1 ≡ Some (at, found) → HasPart part (front ++ items) at found
 linked_on part [] front seen count known at found e = rw append-nil (known at found e)
 linked_on part (item ∷ items) front seen count known at found e =
-    rw append_assoc at (linked_on part items (front ++ item ∷ []) (passed part seen item)
+    rw append_assoc at (linked_on part items (front ++ item ∷ []) (after_item part seen item)
     (omega (arith, length-append front (item ∷ [])))
     (part_after part front seen item (part item) refl count known) at found e)
 
@@ -125,18 +125,18 @@ pair_after false counter cipher entries messages same = same
 
 -- what has a part keeps one
 kept_none : {A B : Type 0} (part : A → Option B) (items : List A) (seen : ℕ × Option (ℕ × B)) →
-    (fold (passed part) seen items).1 ≡ None → seen.1 ≡ None
+    (fold (after_item part) seen items).1 ≡ None → seen.1 ≡ None
 kept_none part [] seen e = e
 kept_none part (item ∷ items) seen e =
-    none_before part seen item (part item) (kept_none part items (passed part seen item) e)
+    none_before part seen item (part item) (kept_none part items (after_item part seen item) e)
 
 none_parts : {A B : Type 0} (part : A → Option B) (items : List A) (seen : ℕ × Option (ℕ × B)) →
-    (fold (passed part) seen items).1 ≡ None → (at : ℕ) (item : A) → slice_get items at ≡ Some item → part item ≡ None
+    (fold (after_item part) seen items).1 ≡ None → (at : ℕ) (item : A) → slice_get items at ≡ Some item → part item ≡ None
 none_parts part [] seen e at item there = absurd (cc)
 none_parts part (x ∷ items) seen e zero item there =
     let same : x ≡ item = cc in
-    rw (← same) (none_here part seen x (part x) (kept_none part items (passed part seen x) e))
-none_parts part (x ∷ items) seen e (suc at) item there = none_parts part items (passed part seen x) e at item there
+    rw (← same) (none_here part seen x (part x) (kept_none part items (after_item part seen x) e))
+none_parts part (x ∷ items) seen e (suc at) item there = none_parts part items (after_item part seen x) e at item there
 
 -- where no item was the last with a part, none has one
 pub no_part : {A B : Type 0} (part : A → Option B) (items : List A) → last_of part items ≡ None →
@@ -149,8 +149,8 @@ no_part {A} {B} part items e at item there =
 -- the counter of a line's last message is that of the line's last entry among the messages' lines and counters
 pairs_on : (line : ℕ) (made : List Message) (entries : ℕ × Option (ℕ × Counter)) (messages : ℕ × Option (ℕ × (Counter × List ℕ))) →
     option_map (λ found. found.1) entries.1 ≡ option_map (λ found. found.1.0) messages.1 →
-    option_map (λ found. found.1) (fold (passed (counter_part line)) entries (filter_map pair_of made)).1
-    ≡ option_map (λ found. found.1.0) (fold (passed (data_part line)) messages made).1
+    option_map (λ found. found.1) (fold (after_item (counter_part line)) entries (filter_map pair_of made)).1
+    ≡ option_map (λ found. found.1.0) (fold (after_item (data_part line)) messages made).1
 pairs_on line [] entries messages same = same
 pairs_on line (Node level index block ∷ made) entries messages same = pairs_on line made entries _ same
 pairs_on line (Line other counter cipher ∷ made) entries messages same = pairs_on line made _ _ (pair_after (nat_eq other line) counter cipher entries messages same)
@@ -165,12 +165,12 @@ pub none_front : {A B : Type 0} (part : A → Option B) (front more : List A) �
 unfolding last_at
 none_front {A} {B} part front more e =
     let start : ℕ × Option (ℕ × B) = (0, None) in
-    let none : (fold (passed part) start (front ++ more)).1 ≡ None =
+    let none : (fold (after_item part) start (front ++ more)).1 ≡ None =
     none_mapped (λ (found : ℕ × B). found.1) (last_at part (front ++ more)) e in
-    let whole : fold (passed part) start (front ++ more) ≡ fold (passed part) (fold (passed part) start front) more =
-    fold-append (passed part) start front more in
-    let front_none : (fold (passed part) start front).1 ≡ None =
-    kept_none part more (fold (passed part) start front) (sym (ap (λ (seen : ℕ × Option (ℕ × B)). seen.1) whole) ∙ none) in
+    let whole : fold (after_item part) start (front ++ more) ≡ fold (after_item part) (fold (after_item part) start front) more =
+    fold-append (after_item part) start front more in
+    let front_none : (fold (after_item part) start front).1 ≡ None =
+    kept_none part more (fold (after_item part) start front) (sym (ap (λ (seen : ℕ × Option (ℕ × B)). seen.1) whole) ∙ none) in
     ap (λ (found : Option (ℕ × B)). option_map (λ (x : ℕ × B). x.1) found) front_none
 
 pairs-append : (front more : List Message) → data_pairs (front ++ more) ≡ data_pairs front ++ data_pairs more

@@ -7,7 +7,7 @@ top = 18446744073709551615
 
 -- the count after k more
 abbrev pub more_by : ℕ → ℕ → ℕ
-more_by k n = min (n + k) 18446744073709551615
+more_by k n = min (n + k) top
 
 -- it rose by at least k, or stands at its end
 abbrev pub RoseBy : ℕ → ℕ → ℕ → Type 0

@@ -2,6 +2,7 @@
 -- that the chip gives.
 use Rattle.std.specs.Prelude.{◌≡◌, ◌≢◌, ℕ, ◌≤◌, List, ◌++◌, length, take, drop, Some, Contains}
 use Rattle.std.specs.List.{slice_get}
+use Rattle.sec_base.specs.declared.geometry.TheConstants.{LINE_LEN}
 use Rattle.sec_base.specs.declared.counter.Counter.{Counter}
 use Rattle.sec_base.specs.declared.sealed.Sealed.{Sealed}
 use Rattle.sec_base.specs.declared.place.Place.{Place}
@@ -12,13 +13,13 @@ use Rattle.sec_base.specs.declared.evidence.Evidence.{Evidence}
 use Rattle.sec_base.specs.declared.evidence.Evidence.TheVariants.{Forgery, Collision}
 use Rattle.sec_base.specs.LastMessage.{last_pair, last_node, data_pairs}
 
--- the 80 bytes of a data place: the 64 bytes of the line, and then their tag
+-- the bytes of a data place: those of the line, and then their tag
 abbrev pub sealed_bytes : Sealed → List ℕ
 sealed_bytes sealed = sealed.cipher ++ sealed.tag
 
 -- what such a place holds
 abbrev pub sealed_of : List ℕ → Sealed
-sealed_of bytes = record { cipher = take 64 bytes; tag = drop 64 bytes }
+sealed_of bytes = record { cipher = take LINE_LEN bytes; tag = drop LINE_LEN bytes }
 
 -- the tag of a sealed line isn't that of its bytes under the line's last counter
 pub record LineFails (tag_of : Message → List ℕ) (pairs : List (ℕ × Counter)) (line : ℕ) (sealed : Sealed) : Type 0 where

@@ -16,13 +16,13 @@ abbrev pub node_part : ℕ → ℕ → Message → Option (List ℕ)
 node_part level index (Line line counter cipher) = None
 node_part level index (Node at_level at block) = if (at_level == level) && (at == index) then Some block else None
 
--- how many items were passed, and the place and the part of the last one that has a part
-abbrev pub passed : {A B : Type 0} → (A → Option B) → ℕ × Option (ℕ × B) → A → ℕ × Option (ℕ × B)
-passed part seen item = (seen.0 + 1, option_or (option_map (λ found. (seen.0, found)) (part item)) seen.1)
+-- how many items there were, and the place and the part of the last one that has a part, after one more item
+abbrev pub after_item : {A B : Type 0} → (A → Option B) → ℕ × Option (ℕ × B) → A → ℕ × Option (ℕ × B)
+after_item part seen item = (seen.0 + 1, option_or (option_map (λ found. (seen.0, found)) (part item)) seen.1)
 
 -- the place and the part of the last item that has a part
 unfoldable pub last_at : {A B : Type 0} → (A → Option B) → List A → Option (ℕ × B)
-last_at part items = (fold (passed part) (0, None) items).1
+last_at part items = (fold (after_item part) (0, None) items).1
 
 -- the part of the last item that has one
 abbrev pub last_of : {A B : Type 0} → (A → Option B) → List A → Option B

@@ -1,7 +1,8 @@
--- The lines of 64 bytes of a memory.
+-- The lines of a memory.
 use Rattle.std.specs.Prelude.{◌==◌, ℕ, ◌+◌, ◌*◌, zero, suc, List, [], ◌++◌, take, drop, Bool, IsTrue}
 use Rattle.std.specs.List.{list_any}
 use Rattle.sec_base.specs.Geometry.{all_levels, line_count}
+use Rattle.sec_base.specs.declared.geometry.TheConstants.{LINE_LEN}
 
 -- the number of lines of some tree's memory
 abbrev pub is_line_count : ℕ → Bool
@@ -12,11 +13,11 @@ IsLineCount lines = IsTrue (is_line_count lines)
 
 -- the bytes of a line
 abbrev pub line_at : List ℕ → ℕ → List ℕ
-line_at contents line = take 64 (drop (64 * line) contents)
+line_at contents line = take LINE_LEN (drop (LINE_LEN * line) contents)
 
 -- the memory with these bytes in a line
 abbrev pub with_line : List ℕ → ℕ → List ℕ → List ℕ
-with_line contents line bytes = take (64 * line) contents ++ bytes ++ drop (64 * line + 64) contents
+with_line contents line bytes = take (LINE_LEN * line) contents ++ bytes ++ drop (LINE_LEN * line + LINE_LEN) contents
 
 -- the lines that f gives, from the first on, one after another
 unfoldable pub joined_lines : (ℕ → List ℕ) → ℕ → List ℕ

@@ -44,26 +44,26 @@ abbrev pub within_limit : ℕ → Option (List ℕ) → Result (List ℕ) ReadSt
 within_limit limit None = Err Failed
 within_limit limit (Some bytes) = if nat_lt limit (length bytes) then Err Long else Ok bytes
 
--- what the next read answers, where there is memory for it
-abbrev pub next_answer : MemoryFilesView → List ℕ → ℕ → Result (List ℕ) ReadStop
-next_answer seen name limit =
+-- the answer of the next read, where there is memory for it
+abbrev pub read_answer : MemoryFilesView → List ℕ → ℕ → Result (List ℕ) ReadStop
+read_answer seen name limit =
     if next_fails seen.fails seen.calls then Err Failed else within_limit limit (content_of seen.files name)
 
--- a call, for whose name there was no memory
-abbrev pub files_refused : MemoryFilesView → MemoryFilesView
-files_refused seen = record seen { calls = more_by 1 seen.calls }
+-- a call that found no memory for its name
+abbrev pub files_after_call : MemoryFilesView → MemoryFilesView
+files_after_call seen = record seen { calls = more_by 1 seen.calls }
 
 -- a call that asked for the name
-abbrev pub files_asked : List ℕ → MemoryFilesView → MemoryFilesView
-files_asked name seen = record seen { calls = more_by 1 seen.calls; asked = seen.asked ++ name ∷ [] }
+abbrev pub files_after_asking : List ℕ → MemoryFilesView → MemoryFilesView
+files_after_asking name seen = record seen { calls = more_by 1 seen.calls; asked = seen.asked ++ name ∷ [] }
 
--- an answer is counted: the bytes of a file, one more than the limit of a file that is longer, or a fault
-abbrev pub counted : ℕ → Result (List ℕ) ReadStop → MemoryFilesView → MemoryFilesView
-counted limit (Ok bytes) seen = record seen { taken = more_by (length bytes) seen.taken }
-counted limit (Err Failed) seen = record seen { faults = more_by 1 seen.faults }
-counted limit (Err Long) seen = record seen { taken = more_by (limit + 1) seen.taken }
-counted limit (Err no_memory) seen = seen
+-- an answer counts: the bytes of a file, one more than the limit of a file that is longer, or a fault
+abbrev pub files_after_answer : ℕ → Result (List ℕ) ReadStop → MemoryFilesView → MemoryFilesView
+files_after_answer limit (Ok bytes) seen = record seen { taken = more_by (length bytes) seen.taken }
+files_after_answer limit (Err Failed) seen = record seen { faults = more_by 1 seen.faults }
+files_after_answer limit (Err Long) seen = record seen { taken = more_by (limit + 1) seen.taken }
+files_after_answer limit (Err no_memory) seen = seen
 
 -- a call that asked for the name and got as far as its answer
-abbrev pub after_read : List ℕ → ℕ → MemoryFilesView → MemoryFilesView
-after_read name limit seen = counted limit (next_answer seen name limit) (files_asked name seen)
+abbrev pub files_after_read : List ℕ → ℕ → MemoryFilesView → MemoryFilesView
+files_after_read name limit seen = files_after_answer limit (read_answer seen name limit) (files_after_asking name seen)

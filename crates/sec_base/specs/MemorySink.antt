@@ -28,13 +28,13 @@ abbrev pub sink_fails : MemorySinkView → List ℕ → Bool
 sink_fails seen piece = not (length piece == 0) && next_fails seen.fails seen.calls
 
 -- the piece was written
-abbrev pub sink_wrote : List ℕ → MemorySinkView → MemorySinkView
-sink_wrote piece seen = record seen { bytes = seen.bytes ++ piece; calls = calls_after seen.calls piece }
+abbrev pub sink_after_write : List ℕ → MemorySinkView → MemorySinkView
+sink_after_write piece seen = record seen { bytes = seen.bytes ++ piece; calls = calls_after seen.calls piece }
 
 -- a call failed
-abbrev pub sink_failed : MemorySinkView → MemorySinkView
-sink_failed seen = record seen { calls = more_by 1 seen.calls; faults = more_by 1 seen.faults }
+abbrev pub sink_after_failure : MemorySinkView → MemorySinkView
+sink_after_failure seen = record seen { calls = more_by 1 seen.calls; faults = more_by 1 seen.faults }
 
 -- a call found no memory
-abbrev pub sink_refused : MemorySinkView → MemorySinkView
-sink_refused seen = record seen { calls = more_by 1 seen.calls }
+abbrev pub sink_after_call : MemorySinkView → MemorySinkView
+sink_after_call seen = record seen { calls = more_by 1 seen.calls }

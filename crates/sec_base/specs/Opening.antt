@@ -6,14 +6,14 @@ use Rattle.sec_base.specs.declared.segment.Segment.{Segment}
 abbrev pub segment_memory : Segment → List ℕ
 segment_memory segment = segment.bytes ++ replicate (segment.length - length segment.bytes) 0
 
--- the memory with a segment laid over it
-abbrev pub laid_over : List ℕ → Segment → List ℕ
-laid_over memory segment =
+-- the memory with a segment in its place
+abbrev pub with_segment : List ℕ → Segment → List ℕ
+with_segment memory segment =
     take segment.addr memory ++ segment_memory segment ++ drop (segment.addr + segment.length) memory
 
--- zeros, with the segments laid over them in order
+-- zeros, with each segment in its place, one after another
 unfoldable pub opening_memory : ℕ → List Segment → List ℕ
-opening_memory size segments = fold laid_over (replicate size 0) segments
+opening_memory size segments = fold with_segment (replicate size 0) segments
 
 -- the greatest end of a segment, 0 where there is none
 abbrev pub segments_end : List Segment → ℕ

@@ -1,7 +1,9 @@
 -- The places outside the chip: which there are, which of them are the same, how much each holds, and how it is named.
-use Rattle.std.specs.Prelude.{◌==◌, ℕ, ◌<◌, List, ◌++◌, Bool, false, ◌&&◌, if◌then◌else◌, replicate, codes}
+use Rattle.std.specs.Prelude.{◌==◌, ℕ, ◌+◌, ◌<◌, List, ◌++◌, Bool, false, ◌&&◌, if◌then◌else◌, replicate, codes}
 use Rattle.std.specs.Fmt.{decimal}
 use Rattle.sec_base.specs.Geometry.{IsNode, line_count}
+use Rattle.sec_base.specs.declared.geometry.TheConstants.{LINE_LEN}
+use Rattle.sec_base.specs.declared.sealed.TheConstants.{TAG_LEN}
 use Rattle.sec_base.specs.declared.place.Place.{Place}
 use Rattle.sec_base.specs.declared.place.Place.TheVariants.{Line, Node}
 
@@ -22,10 +24,10 @@ place_eq (Node level index) (Node other at) = (level == other) && (index == at)
 place_eq (Line line) (Node level index) = false
 place_eq (Node level index) (Line line) = false
 
--- a place of a data line holds its 64 bytes and their tag of 16, and a place of a node its 64 bytes
+-- a place of a data line holds its bytes and their tag, and a place of a node as many bytes as a line has
 abbrev pub place_size : Place → ℕ
-place_size (Line line) = 80
-place_size (Node level index) = 64
+place_size (Line line) = LINE_LEN + TAG_LEN
+place_size (Node level index) = LINE_LEN
 
 -- what a place holds that was never written
 abbrev pub zeros_of : Place → List ℕ

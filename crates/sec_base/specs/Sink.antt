@@ -10,24 +10,24 @@ pub record SinkState : Type 0 where
   pub written : Option (List ℕ)
   pub faults : ℕ
 
--- what was written, and then more
-abbrev pub gained : List ℕ → Option (List ℕ) → Option (List ℕ)
-gained more None = None
-gained more (Some bytes) = Some (bytes ++ more)
+-- what is written after more
+abbrev pub written_after : List ℕ → Option (List ℕ) → Option (List ℕ)
+written_after more None = None
+written_after more (Some bytes) = Some (bytes ++ more)
 
--- the sink gained these bytes and nothing else
+-- the sink written_after these bytes and nothing else
 abbrev pub Gains : SinkState → List ℕ → SinkState → Type 0
-Gains old more new = new.written ≡ gained more old.written
+Gains old more new = new.written ≡ written_after more old.written
 
 -- nothing that it tells changed
 abbrev pub Silent : SinkState → SinkState → Type 0
 Silent old new = new.written ≡ old.written
 
--- the sink gained a front part of the bytes and nothing else
+-- the sink written_after a front part of the bytes and nothing else
 abbrev pub GainsFront : SinkState → List ℕ → SinkState → Type 0
 GainsFront old bytes new = (front : List ℕ) × IsPrefix front bytes × Gains old front new
 
--- the bytes were written whole; or a front part of them, where a write failed or memory was not to be had
+-- the bytes were written whole; or a front part of them, where a write failed or the emulator is out of memory
 abbrev pub IsWritten : List ℕ → SinkState → SinkState → Result (Unit {0}) SinkStop → Type 0
 IsWritten bytes old new (Ok _) = Gains old bytes new
 IsWritten bytes old new (Err Failed) = GainsFront old bytes new × Rose old.faults new.faults

@@ -1,6 +1,7 @@
 // Lists of bytes.
-ghost use Rattle.std.specs.Prelude.{◌≡◌, ◌↔◌, ◌+◌, ◌≤◌, ◌++◌, [], length, take, drop, IsTrue};
+ghost use Rattle.std.specs.Prelude.{◌≡◌, ◌↔◌, ◌+◌, ◌≤◌, ◌++◌, [], length, take, drop, IsTrue, IfOk};
 
+use crate::stop::NoMemory;
 use std::alloc::Global;
 use std::marker::Model;
 
@@ -33,6 +34,15 @@ impl Bytes {
         ensures { result ≡ items.items }
     {
         Bytes { items }
+    }
+
+    /// A copy of a slice. Fails only if out of memory.
+    pub fn from_slice(alloc: Global, items: &[u8]) -> Result<Self, NoMemory>
+        ensures { IfOk result (λ bytes. bytes ≡ items.now) }
+    {
+        Ok(Bytes {
+            items: Vec::from_slice(alloc, items)?,
+        })
     }
 
     /// The vector, which takes no memory.

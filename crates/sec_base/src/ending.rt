@@ -32,7 +32,7 @@ pub enum Ending {
     Spent(u32),
     /// The program's output could not be written.
     WriteFault,
-    /// Memory for the emulator itself was not to be had.
+    /// The emulator itself is out of memory.
     NoMemory,
 }
 

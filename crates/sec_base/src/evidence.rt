@@ -1,4 +1,4 @@
-// What a run hands out where tampering passed its check.
+// What a run returns where tampering passed its check.
 use crate::counter::Counter;
 use crate::sealed::Sealed;
 

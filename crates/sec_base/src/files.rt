@@ -15,7 +15,7 @@ pub enum ReadStop {
     Failed,
     /// The file has more bytes than the limit.
     Long,
-    /// Memory for the emulator itself was not to be had.
+    /// The emulator itself is out of memory.
     NoMemory,
 }
 

@@ -3,7 +3,7 @@ ghost use Rattle.std.specs.Prelude.{◌≡◌, ◌≢◌, ◌≤◌, ◌+◌, �
 ghost use Rattle.std.specs.Option.{option_copied};
 ghost use Rattle.sec_base.specs.Count.{more_by};
 ghost use Rattle.sec_base.specs.FailingCalls.{next_fails};
-ghost use Rattle.sec_base.specs.MemoryFiles.{new_files, content_of, files_state, with_file, next_answer, files_refused, files_asked, after_read};
+ghost use Rattle.sec_base.specs.MemoryFiles.{new_files, content_of, files_state, with_file, read_answer, files_after_call, files_after_asking, files_after_read};
 ghost use Rattle.sec_base.specs.declared.files.ReadStop.TheVariants.{Failed, Long, NoMemory as no_memory};
 
 use crate::bytes::Bytes;
@@ -48,7 +48,7 @@ impl Model for MemoryFiles {
 }
 
 impl MemoryFiles {
-    /// No file yet. `fails` are the numbers of the reads that are to fail, from 1. Only want of memory refuses it.
+    /// No file yet. `fails` are the numbers of the reads that are to fail, from 1. Fails only if out of memory.
     pub fn new(alloc: Global, fails: &[u64]) -> Result<MemoryFiles, NoMemory>
         ensures { IfOk result (λ files. files ≡ new_files fails.now) }
     {
@@ -63,7 +63,7 @@ impl MemoryFiles {
         })
     }
 
-    /// Adds a file. A name that is there gets the new bytes. Only want of memory refuses it.
+    /// Adds a file. A name that is there gets the new bytes. Fails only if out of memory.
     pub fn add(&mut self, name: &str, bytes: &[u8]) -> Result<(), NoMemory>
         ensures added { OnOk result (self.new ≡ with_file name.now bytes.now self.old) }
         ensures err { OnErr result (self.new ≡ self.old) }
@@ -80,11 +80,11 @@ impl MemoryFiles {
     // Counts a call, and answers whether it is to fail.
     fn ask(&mut self, name: &str) -> Result<bool, NoMemory>
         ensures fails { IfOk result (λ failing. failing ≡ next_fails self.old.fails self.old.calls) }
-        ensures ok { OnOk result (self.new ≡ files_asked name.now self.old) }
-        ensures err { OnErr result (self.new ≡ files_refused self.old) }
+        ensures ok { OnOk result (self.new ≡ files_after_asking name.now self.old) }
+        ensures err { OnErr result (self.new ≡ files_after_call self.old) }
     {
         self.calls = self.calls.saturating_add(1);
-        let name = Bytes::from_vec(Vec::from_slice(self.alloc, name.as_bytes())?);
+        let name = Bytes::from_slice(self.alloc, name.as_bytes())?;
         self.asked.push(name)?;
         Ok(contains_number(&self.fails, self.calls))
     }
@@ -113,18 +113,16 @@ impl Files for MemoryFiles {
 
     /// A copy of a file, where the call isn't one that is to fail. A name that isn't there is a fault.
     fn read(&mut self, alloc: Global, name: &str, limit: u64) -> Result<Bytes, ReadStop>
-        ensures answer { result ≢ Err no_memory → result ≡ next_answer self.old name.now limit }
-        ensures after { result ≢ Err no_memory → self.new ≡ after_read name.now limit self.old }
-        ensures in_vain { result ≡ Err no_memory → (self.new ≡ files_refused self.old)
-            ⊎ (IsOk (next_answer self.old name.now limit) × (self.new ≡ after_read name.now limit self.old)) }
+        ensures answer { result ≢ Err no_memory → result ≡ read_answer self.old name.now limit }
+        ensures after { result ≢ Err no_memory → self.new ≡ files_after_read name.now limit self.old }
+        ensures in_vain { result ≡ Err no_memory → (self.new ≡ files_after_call self.old)
+            ⊎ (IsOk (read_answer self.old name.now limit) × (self.new ≡ files_after_read name.now limit self.old)) }
 
         ensures faults { self.old.faults ≤ self.new.faults }
         ensures taken { self.old.taken ≤ self.new.taken }
     {
-        match self.ask(name) {
-            Ok(false) => {}
-            Ok(true) => return Err(self.fault()),
-            Err(_) => return Err(ReadStop::NoMemory),
+        if self.ask(name)? {
+            return Err(self.fault());
         }
         let Some(bytes) = found(&self.files, name.as_bytes()) else {
             return Err(self.fault());
@@ -134,12 +132,9 @@ impl Files for MemoryFiles {
             self.take(limit + 1);
             return Err(ReadStop::Long);
         }
-        let copy = Vec::from_slice(alloc, bytes.as_slice());
+        let copy = Bytes::from_slice(alloc, bytes.as_slice());
         self.take(length);
-        match copy {
-            Ok(items) => Ok(Bytes::from_vec(items)),
-            Err(_) => Err(ReadStop::NoMemory),
-        }
+        Ok(copy?)
     }
 }
 
@@ -148,8 +143,8 @@ fn named_file(alloc: Global, name: &str, bytes: &[u8]) -> Result<NamedFile, NoMe
     ensures { IfOk result (λ file. file ≡ record { name = name.now; bytes = bytes.now }) }
 {
     Ok(NamedFile {
-        name: Bytes::from_vec(Vec::from_slice(alloc, name.as_bytes())?),
-        bytes: Bytes::from_vec(Vec::from_slice(alloc, bytes)?),
+        name: Bytes::from_slice(alloc, name.as_bytes())?,
+        bytes: Bytes::from_slice(alloc, bytes)?,
     })
 }
 

@@ -1,6 +1,6 @@
 // A sink in memory, for tests.
 ghost use Rattle.std.specs.Prelude.{◌≡◌, ◌↔◌, ◌≤◌, [], Ok, Err, length, IsTrue, IfOk, OnOk};
-ghost use Rattle.sec_base.specs.MemorySink.{new_sink, sink_state, sink_fails, sink_wrote, sink_failed, sink_refused};
+ghost use Rattle.sec_base.specs.MemorySink.{new_sink, sink_state, sink_fails, sink_after_write, sink_after_failure, sink_after_call};
 ghost use Rattle.sec_base.specs.declared.sink.SinkStop.TheVariants.{Failed, NoMemory as no_memory};
 
 use crate::failing_calls::contains_number;
@@ -32,8 +32,8 @@ impl Model for MemorySink {
 }
 
 impl MemorySink {
-    /// Nothing written yet. `fails` are the numbers of the calls that are to fail, from 1. Only want of memory
-    /// refuses it.
+    /// Nothing written yet. `fails` are the numbers of the calls that are to fail, from 1. Fails only if out of
+    /// memory.
     pub fn new(alloc: Global, fails: &[u64]) -> Result<MemorySink, NoMemory>
         ensures { IfOk result (λ sink. sink ≡ new_sink fails.now) }
     {
@@ -61,9 +61,9 @@ impl Sink for MemorySink {
         ensures failed { (result ≡ Err Failed) ↔ IsTrue (sink_fails self.old piece.now) }
         ensures whole { IfOk result (λ n. n ≡ length piece.now) }
 
-        ensures wrote { OnOk result (self.new ≡ sink_wrote piece.now self.old) }
-        ensures after_failed { result ≡ Err Failed → self.new ≡ sink_failed self.old }
-        ensures after_no_memory { result ≡ Err no_memory → self.new ≡ sink_refused self.old }
+        ensures wrote { OnOk result (self.new ≡ sink_after_write piece.now self.old) }
+        ensures after_failed { result ≡ Err Failed → self.new ≡ sink_after_failure self.old }
+        ensures after_no_memory { result ≡ Err no_memory → self.new ≡ sink_after_call self.old }
 
         ensures empty { piece.now ≡ [] → result ≡ Ok 0 }
         ensures idle { piece.now ≡ [] → self.new ≡ self.old }

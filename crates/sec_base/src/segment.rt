@@ -40,7 +40,7 @@ impl Segments {
         Segments { items }
     }
 
-    /// One segment, which has these bytes from address 0 on. Only want of memory refuses it.
+    /// One segment, which has these bytes from address 0 on. Fails only if out of memory.
     pub fn from_zero(alloc: Global, bytes: Bytes) -> Result<Self, NoMemory>
         requires { length bytes < 2 ^ 32 }
         ensures { IfOk result (λ segments. segments ≡ from_zero bytes) }

@@ -11,7 +11,7 @@ use crate::stop::NoMemory;
 pub enum SinkStop {
     /// The write failed.
     Failed,
-    /// Memory for the emulator itself was not to be had.
+    /// The emulator itself is out of memory.
     NoMemory,
 }
 
@@ -48,10 +48,8 @@ pub fn write_all<S: Sink>(out: &mut S, piece: &[u8]) -> Result<(), SinkStop>
 {
     let mut rest = piece;
     while !rest.is_empty() {
-        match out.write(rest) {
-            Ok(taken) => rest = &rest[taken..],
-            Err(stop) => return Err(stop),
-        }
+        let taken = out.write(rest)?;
+        rest = &rest[taken..];
     }
     Ok(())
 }

@@ -5,7 +5,7 @@ ghost use Rattle.sec_base.specs.declared.stop.MemStop.TheVariants.{NoMemory as n
 use crate::place::Place;
 use std::alloc::{AllocError, AllocFailed};
 
-/// Memory for the emulator itself was not to be had.
+/// The emulator itself is out of memory.
 #[derive(Clone, Copy, Debug, PartialEq, Eq)]
 pub struct NoMemory;
 
@@ -21,7 +21,7 @@ impl<T: Drop> From<AllocFailed<T>> for NoMemory {
     }
 }
 
-/// Memory for the emulator itself was not to be had, and this is handed back.
+/// The emulator itself is out of memory; what was passed in comes back.
 #[derive(Debug, Drop)]
 pub struct NoMemoryWith<X>(pub X);
 
@@ -32,7 +32,7 @@ pub enum MemStop {
     Tampered(Place),
     /// A line of this page can't be written any more: its counters are used up.
     Spent(u32),
-    /// Memory for the emulator itself was not to be had.
+    /// The emulator itself is out of memory.
     NoMemory,
 }
 

@@ -4,4 +4,4 @@ use Rattle.sec_base.proofs.sink.write_all.Goals as goal
 
 pub loop-rest-preserved : goal.loop-rest-preserved
 loop-rest-preserved g c =
-    rw take_rest (part_goes_on _ _ _ _ _ _ c.loop-rest.invariant c.in-Ok.ensures.taken c.write.ensures.faults)
+    rw take_rest (part_goes_on _ _ _ _ _ _ c.loop-rest.invariant c.in_ok-taken.ensures.taken c.write.ensures.faults)
