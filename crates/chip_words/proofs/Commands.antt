@@ -16,7 +16,7 @@ use Rattle.clap.specs.declared.builder.value_parser.ValueParser.TheVariants.{Uns
 use Rattle.clap.proofs.ValueTestLemmas.{accepts-Accepts}
 use Rattle.std.proofs.lemmas.Slice.Eq.{bytes_eq-Decides}
 use Rattle.chip_words.specs.App.{chip_app, file_rule, levels_rule, steps_rule}
-use Rattle.chip_words.specs.Request.{number_of, value_of}
+use Rattle.chip_words.specs.Request.{numeral_value, value_of}
 use Rattle.chip_words.specs.Commands.{HasExecution, HasItsValues, HasNumber, HasProgram, HasValue, IfCommand}
 use Rattle.chip_words.proofs.Walks.{IsNoHelp, both_empty}
 use Rattle.chip_words.proofs.Fits.{AllFit, HasSome, IsIn, Owns, defaults_have, finished_fits, first_passes, row_found, walk_fits}
@@ -92,12 +92,12 @@ value_there : (id v : Text) (rows : List Row) → first_of id rows ≡ Some v �
 value_there id v rows is = ap is_some is
 
 number_there : (least most : ℕ) (id v : Text) (rows : List Row) → first_of id rows ≡ Some v → accepts false (Unsigned least most) v ≡ true
-    → HasNumber id rows × ((least ≤ number_of (value_of id rows)) × (number_of (value_of id rows) ≤ most))
+    → HasNumber id rows × ((least ≤ numeral_value (value_of id rows)) × (numeral_value (value_of id rows) ≤ most))
 number_there least most id v rows is passed =
     let within = accepts-Accepts false (Unsigned least most) v passed in
     let same : Some v ≡ first_of id rows = sym is in
-    subst (λ (o : Option Text). ((is_some o ≡ true) × (IsNumeral 10 (without_leading_plus (unwrap_or o [])) × (number_of (unwrap_or o []) < 2 ^ 64)))
-    × ((least ≤ number_of (unwrap_or o [])) × (number_of (unwrap_or o []) ≤ most))) same
+    subst (λ (o : Option Text). ((is_some o ≡ true) × (IsNumeral 10 (without_leading_plus (unwrap_or o [])) × (numeral_value (unwrap_or o []) < 2 ^ 64)))
+    × ((least ≤ numeral_value (unwrap_or o [])) × (numeral_value (unwrap_or o []) ≤ most))) same
     ((refl, (within.0, within.1)), (within.2, within.3))
 
 -- ---- the commands

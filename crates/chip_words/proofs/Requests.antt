@@ -14,7 +14,7 @@ use Rattle.clap.specs.declared.parser.matches.ArgMatches.{ArgMatches}
 use Rattle.clap.proofs.OnLiterals.{clap_on_literals}
 use Rattle.clap.proofs.SimpleLemmas.{is_nil}
 use Rattle.chip_words.specs.App.{chip_app}
-use Rattle.chip_words.specs.Request.{Asked, asked_in, assembly_of, execution_of, inspection_of, levels_asked, request_of, to_assemble, to_disassemble, to_measure, to_run, to_run_plain}
+use Rattle.chip_words.specs.Request.{Asked, asked_file, asked_in, execution_of, program_of, request_of, text_of, to_assemble, to_disassemble, to_measure, to_run, to_run_plain}
 use Rattle.chip_words.specs.Words.{IfUsage}
 use Rattle.chip_words.specs.declared.request.WordsError.{WordsError}
 use Rattle.chip_words.specs.declared.request.WordsError.TheVariants.{Usage, NoMemory}
@@ -138,7 +138,7 @@ refusal_asks a words e is fails kept =
 asked_keeps : (P : Asked → Type 0) (o : Option (Text × List Row)) (r : Asked)
     → ((values : List Row) → HasExecution values → P (to_run (execution_of values)) × P (to_run_plain (execution_of values)))
     → ((values : List Row) → HasProgram values
-    → P (to_assemble (assembly_of values)) × P (to_disassemble (inspection_of values)) × P (to_measure (inspection_of values)))
+    → P (to_assemble (text_of values)) × P (to_disassemble (program_of values)) × P (to_measure (program_of values)))
     → IfCommand o → asked_in o ≡ Some r → P r
 asked_keeps P None r executes writes has e = absurd cc
 asked_keeps P (Some p) r executes writes has e =
@@ -153,22 +153,22 @@ asked_keeps P (Some p) r executes writes has e =
         → (m : Bool) → bytes_eq p.0 (codes "measure") ≡ m → P r
     go true x b y c z d u m v = at (to_run (execution_of p.1)) (executes p.1 (has.run x)).0 (rw x at e)
     go false x true y c z d u m v = at (to_run_plain (execution_of p.1)) (executes p.1 (has.plain y)).1 (rw (x, y) at e)
-    go false x false y true z d u m v = at (to_assemble (assembly_of p.1)) (writes p.1 has.program).0 (rw (x, y, z) at e)
-    go false x false y false z true u m v = at (to_disassemble (inspection_of p.1)) (writes p.1 has.program).1 (rw (x, y, z, u) at e)
-    go false x false y false z false u true v = at (to_measure (inspection_of p.1)) (writes p.1 has.program).2 (rw (x, y, z, u, v) at e)
+    go false x false y true z d u m v = at (to_assemble (text_of p.1)) (writes p.1 has.program).0 (rw (x, y, z) at e)
+    go false x false y false z true u m v = at (to_disassemble (program_of p.1)) (writes p.1 has.program).1 (rw (x, y, z, u) at e)
+    go false x false y false z false u true v = at (to_measure (program_of p.1)) (writes p.1 has.program).2 (rw (x, y, z, u, v) at e)
     go false x false y false z false u false v = absurd (let bad : None ≡ Some r = rw (x, y, z, u, v) at e in cc)
 
 request_keeps : (P : Asked → Type 0) (words : List Text) (r : Asked)
     → ((values : List Row) → HasExecution values → P (to_run (execution_of values)) × P (to_run_plain (execution_of values)))
     → ((values : List Row) → HasProgram values
-    → P (to_assemble (assembly_of values)) × P (to_disassemble (inspection_of values)) × P (to_measure (inspection_of values)))
+    → P (to_assemble (text_of values)) × P (to_disassemble (program_of values)) × P (to_measure (program_of values)))
     → request_of words ≡ Some r → P r
 request_keeps P words r executes writes e =
     let none = (request_is_there words).0 (ap is_some e) in
     asked_keeps P (subcommand_of chip_app words) r executes writes (asks words none).1 (sym (request_of-taken words none) ∙ e)
 
-pub request_of-levels : (words : List Text) (r : Asked) → request_of words ≡ Some r → (1 ≤ levels_asked r) × (levels_asked r ≤ 6)
-request_of-levels words r e = request_keeps (λ x. (1 ≤ levels_asked x) × (levels_asked x ≤ 6)) words r
+pub request_of-levels : (words : List Text) (r : Asked) → request_of words ≡ Some r → (1 ≤ (asked_file r).levels) × ((asked_file r).levels ≤ 6)
+request_of-levels words r e = request_keeps (λ x. (1 ≤ (asked_file x).levels) × ((asked_file x).levels ≤ 6)) words r
     (λ values has. (has.program.bounds, has.program.bounds)) (λ values has. (has.bounds, has.bounds, has.bounds)) e
 
 -- ---- errors

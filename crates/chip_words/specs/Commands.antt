@@ -3,7 +3,7 @@ use Rattle.std.specs.Prelude.{◌≡◌, ◌<◌, ◌≤◌, ◌^◌, List, Opti
 use Rattle.std.specs.Str.{bytes_eq}
 use Rattle.std.specs.Str.Parse.{IsNumeral, without_leading_plus}
 use Rattle.clap.specs.Walk.{Row, Text, first_of}
-use Rattle.chip_words.specs.Request.{levels_of, number_of, value_of}
+use Rattle.chip_words.specs.Request.{levels_of, numeral_value, value_of}
 
 abbrev pub HasValue : Text → List Row → Type 0
 HasValue id values = IsSome (first_of id values)
@@ -11,7 +11,7 @@ HasValue id values = IsSome (first_of id values)
 -- the value is a number of 64 bits
 abbrev pub HasNumber : Text → List Row → Type 0
 HasNumber id values = HasValue id values
-    × (IsNumeral 10 (without_leading_plus (value_of id values)) × (number_of (value_of id values) < 2 ^ 64))
+    × (IsNumeral 10 (without_leading_plus (value_of id values)) × (numeral_value (value_of id values) < 2 ^ 64))
 
 -- which program, and for how large a memory
 pub record HasProgram (values : List Row) : Type 0 where

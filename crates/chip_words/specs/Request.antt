@@ -6,32 +6,36 @@ use Rattle.clap.specs.Walk.{Row, Text, first_of, is_empty, one_of}
 use Rattle.clap.specs.Simple.{subcommand_of}
 use Rattle.clap.specs.Faults.{fault_of}
 use Rattle.chip_words.specs.App.{chip_app}
+use Rattle.chip_words.specs.declared.request.ProgramForm.{ProgramForm}
+use Rattle.chip_words.specs.declared.request.ProgramForm.TheVariants.{ElfFile, FlatFile, AssemblyText}
+
+-- a program's file: its name, its form, and the levels of the tree whose memory the program is for
+pub record FileAsked : Type 0 where
+  pub name : Text
+  pub form : ProgramForm
+  pub levels : ℕ
 
 -- what is to be run, and how
 pub record ExecutionAsked : Type 0 where
-  pub file : Text
-  pub flat : Bool
+  pub file : FileAsked
   pub input : Option Text
-  pub levels : ℕ
   pub steps : ℕ
 
--- what is to be assembled, and for how large a memory
-pub record AssemblyAsked : Type 0 where
-  pub file : Text
-  pub levels : ℕ
-
--- which program is to be looked at without running it
-pub record InspectionAsked : Type 0 where
-  pub file : Text
-  pub flat : Bool
-  pub levels : ℕ
-
+-- what is to be done, and with which file
 pub data Asked : Type 0 where
   to_run : ExecutionAsked → Asked
   to_run_plain : ExecutionAsked → Asked
-  to_assemble : AssemblyAsked → Asked
-  to_disassemble : InspectionAsked → Asked
-  to_measure : InspectionAsked → Asked
+  to_assemble : FileAsked → Asked
+  to_disassemble : FileAsked → Asked
+  to_measure : FileAsked → Asked
+
+-- the file of a request's program
+abbrev pub asked_file : Asked → FileAsked
+asked_file (to_run execution) = execution.file
+asked_file (to_run_plain execution) = execution.file
+asked_file (to_assemble file) = file
+asked_file (to_disassemble file) = file
+asked_file (to_measure file) = file
 
 -- ---- the values of a command
 
@@ -40,38 +44,40 @@ abbrev pub value_of : Text → List Row → Text
 value_of id values = unwrap_or (first_of id values) []
 
 -- the number that the digits write, where a plus may stand before them
-abbrev pub number_of : Text → ℕ
-number_of text = digits_value 10 (without_leading_plus text)
+abbrev pub numeral_value : Text → ℕ
+numeral_value text = digits_value 10 (without_leading_plus text)
 
-abbrev pub file_of : List Row → Text
-file_of values = value_of (codes "file") values
+-- `--flat` is given
+abbrev pub is_flat : List Row → Bool
+is_flat values = bytes_eq (unwrap_or (one_of (codes "flat") values) []) (codes "true")
 
-abbrev pub flat_of : List Row → Bool
-flat_of values = bytes_eq (unwrap_or (one_of (codes "flat") values) []) (codes "true")
+-- the form of a program that isn't assembled
+abbrev pub form_of : List Row → ProgramForm
+form_of values = if is_flat values then FlatFile else ElfFile
 
 abbrev pub input_of : List Row → Option Text
 input_of values = first_of (codes "input") values
 
 abbrev pub levels_of : List Row → ℕ
-levels_of values = number_of (value_of (codes "levels") values)
+levels_of values = numeral_value (value_of (codes "levels") values)
 
 abbrev pub steps_of : List Row → ℕ
-steps_of values = number_of (value_of (codes "steps") values)
+steps_of values = numeral_value (value_of (codes "steps") values)
+
+-- the file that is named, as one of this form
+abbrev pub file_of : ProgramForm → List Row → FileAsked
+file_of form values =
+    record { name = value_of (codes "file") values; form = form; levels = levels_of values }
+
+abbrev pub program_of : List Row → FileAsked
+program_of values = file_of (form_of values) values
+
+abbrev pub text_of : List Row → FileAsked
+text_of values = file_of AssemblyText values
 
 abbrev pub execution_of : List Row → ExecutionAsked
-execution_of values = record {
-  file = file_of values;
-  flat = flat_of values;
-  input = input_of values;
-  levels = levels_of values;
-  steps = steps_of values;
-}
-
-abbrev pub assembly_of : List Row → AssemblyAsked
-assembly_of values = record { file = file_of values; levels = levels_of values }
-
-abbrev pub inspection_of : List Row → InspectionAsked
-inspection_of values = record { file = file_of values; flat = flat_of values; levels = levels_of values }
+execution_of values =
+    record { file = program_of values; input = input_of values; steps = steps_of values }
 
 -- ---- the request
 
@@ -79,9 +85,9 @@ inspection_of values = record { file = file_of values; flat = flat_of values; le
 abbrev pub asked_by : Text → List Row → Option Asked
 asked_by name values = if bytes_eq name (codes "run") then Some (to_run (execution_of values))
     else (if bytes_eq name (codes "plain") then Some (to_run_plain (execution_of values))
-    else (if bytes_eq name (codes "asm") then Some (to_assemble (assembly_of values))
-    else (if bytes_eq name (codes "dis") then Some (to_disassemble (inspection_of values))
-    else (if bytes_eq name (codes "measure") then Some (to_measure (inspection_of values)) else None))))
+    else (if bytes_eq name (codes "asm") then Some (to_assemble (text_of values))
+    else (if bytes_eq name (codes "dis") then Some (to_disassemble (program_of values))
+    else (if bytes_eq name (codes "measure") then Some (to_measure (program_of values)) else None))))
 
 -- what a command asks for, where there is one
 abbrev pub asked_in : Option (Text × List Row) → Option Asked
@@ -92,11 +98,3 @@ asked_in command = option_and_then (λ c. asked_by c.0 c.1) command
 abbrev pub request_of : List Text → Option Asked
 request_of words =
     if is_empty (fault_of chip_app words) then asked_in (subcommand_of chip_app words) else None
-
--- the levels of a request
-abbrev pub levels_asked : Asked → ℕ
-levels_asked (to_run execution) = execution.levels
-levels_asked (to_run_plain execution) = execution.levels
-levels_asked (to_assemble assembly) = assembly.levels
-levels_asked (to_disassemble inspection) = inspection.levels
-levels_asked (to_measure inspection) = inspection.levels

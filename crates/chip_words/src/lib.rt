@@ -6,7 +6,7 @@ ghost use Rattle.clap.specs.Values.{kind_of};
 ghost use Rattle.clap.specs.declared.error.kind.ErrorKind.TheVariants.{OutOfMemory};
 ghost use Rattle.clap.specs.Faults.{fault_of};
 ghost use Rattle.chip_words.specs.App.{chip_app};
-ghost use Rattle.chip_words.specs.Request.{request_of, levels_asked};
+ghost use Rattle.chip_words.specs.Request.{asked_file, request_of};
 ghost use Rattle.chip_words.specs.Words.{asked, texts, IfUsage};
 
 mod app;
@@ -17,7 +17,7 @@ mod values;
 
 use clap::Error;
 use clap::error::ErrorKind;
-pub use request::{Assembly, Execution, Inspection, Request, WordsError};
+pub use request::{Execution, ProgramFile, ProgramForm, Request, WordsError};
 use std::alloc::Global;
 
 /// What the words of the process ask for, the program's name first. A question for help is refused too, and its answer is
@@ -26,15 +26,13 @@ use std::alloc::Global;
 pub fn read_words<'a>(alloc: Global, words: &'a [&'a str]) -> Result<Request<'a>, WordsError>
     ensures taken { IfOk result (λ request. request_of (texts words.now) ≡ Some (asked request)) }
     ensures refused { IfErr result (λ error. IfUsage error (request_of (texts words.now) ≡ None)) }
-    ensures levels { IfOk result (λ request. (1 ≤ levels_asked (asked request)) × (levels_asked (asked request) ≤ 6)) }
+    ensures levels { IfOk result (λ request.
+        (1 ≤ (asked_file (asked request)).levels) × ((asked_file (asked request)).levels ≤ 6)) }
 
     // Words ask for something just where clap has no fault to find in them.
     ensures faultless { IsSome (request_of (texts words.now)) ↔ (fault_of chip_app (texts words.now) ≡ []) }
 {
-    let app = match app::app(alloc) {
-        Ok(app) => app,
-        Err(_) => return Err(WordsError::NoMemory),
-    };
+    let app = app::app(alloc)?;
     match app.try_get_matches_from(words) {
         Ok(matches) => Ok(values::requested(&matches)),
         Err(error) => Err(refusal(alloc, &error)),

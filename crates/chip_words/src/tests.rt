@@ -1,41 +1,40 @@
 // Lines of words. What each asks for is worked out by hand from the commands' arguments and from clap's rules: an option
 // stands anywhere behind its command, its value stands in the next word or behind `=`, after `--` no word is an option,
 // and no option stands twice.
-use super::{Execution, Inspection, Request, WordsError, read_words};
+use super::ProgramForm::{AssemblyText, ElfFile, FlatFile};
+use super::{Execution, ProgramFile, ProgramForm, Request, WordsError, read_words};
 use std::alloc::{AllocError, Global};
 use std::test::Fail;
 
-// The command, the file, whether it is flat, the input's file, the levels and the steps, which are 0 where nothing is
+// The command, the program's file, its form, the input's file, the levels and the steps, which are 0 where nothing is
 // run.
-type Parts<'a> = (&'a str, &'a str, bool, Option<&'a str>, u8, u64);
+type Parts<'a> = (&'a str, &'a str, ProgramForm, Option<&'a str>, u8, u64);
 
 fn parts<'a>(request: &Request<'a>) -> Parts<'a> {
     match request {
         Request::Run(execution) => execution_parts("run", execution),
         Request::Plain(execution) => execution_parts("plain", execution),
-        Request::Asm(assembly) => {
-            let levels = assembly.geometry.levels();
-            ("asm", assembly.file, false, None, levels, 0)
-        }
-        Request::Dis(inspection) => inspection_parts("dis", inspection),
-        Request::Measure(inspection) => inspection_parts("measure", inspection),
+        Request::Asm(file) => file_parts("asm", file),
+        Request::Dis(file) => file_parts("dis", file),
+        Request::Measure(file) => file_parts("measure", file),
     }
 }
 
 fn execution_parts<'a>(command: &'a str, execution: &Execution<'a>) -> Parts<'a> {
+    let (command, name, form, _, levels, _) = file_parts(command, &execution.file);
     (
         command,
-        execution.file,
-        execution.flat,
+        name,
+        form,
         execution.input,
-        execution.geometry.levels(),
+        levels,
         execution.steps,
     )
 }
 
-fn inspection_parts<'a>(command: &'a str, inspection: &Inspection<'a>) -> Parts<'a> {
-    let levels = inspection.geometry.levels();
-    (command, inspection.file, inspection.flat, None, levels, 0)
+fn file_parts<'a>(command: &'a str, file: &ProgramFile<'a>) -> Parts<'a> {
+    let levels = file.geometry.levels();
+    (command, file.name, file.form, None, levels, 0)
 }
 
 fn asks_for(alloc: Global, line: &str, expected: Parts<'_>) -> Result<bool, AllocError> {
@@ -63,50 +62,56 @@ fn is_refused(alloc: Global, line: &str) -> Result<bool, AllocError> {
 #[test]
 fn requests(rt: HostRuntime) -> Result<(), Fail> {
     let rows: [(&str, Parts<'_>); 18] = [
-        ("chip run p", ("run", "p", false, None, 4, 10000000)),
-        ("chip run p --flat", ("run", "p", true, None, 4, 10000000)),
-        ("chip run --flat p", ("run", "p", true, None, 4, 10000000)),
+        ("chip run p", ("run", "p", ElfFile, None, 4, 10_000_000)),
+        (
+            "chip run p --flat",
+            ("run", "p", FlatFile, None, 4, 10_000_000),
+        ),
+        (
+            "chip run --flat p",
+            ("run", "p", FlatFile, None, 4, 10_000_000),
+        ),
         (
             "other run p --input i --steps 3 --levels 2 --flat",
-            ("run", "p", true, Some("i"), 2, 3),
+            ("run", "p", FlatFile, Some("i"), 2, 3),
         ),
         (
             "chip run --flat --levels=2 --steps=3 --input=i p",
-            ("run", "p", true, Some("i"), 2, 3),
+            ("run", "p", FlatFile, Some("i"), 2, 3),
         ),
         (
             "chip run help --levels 1",
-            ("run", "help", false, None, 1, 10000000),
+            ("run", "help", ElfFile, None, 1, 10_000_000),
         ),
         (
             "chip run -- --flat",
-            ("run", "--flat", false, None, 4, 10000000),
+            ("run", "--flat", ElfFile, None, 4, 10_000_000),
         ),
-        ("chip run p --steps +5", ("run", "p", false, None, 4, 5)),
-        ("chip run --steps 007 p", ("run", "p", false, None, 4, 7)),
+        ("chip run p --steps +5", ("run", "p", ElfFile, None, 4, 5)),
+        ("chip run --steps 007 p", ("run", "p", ElfFile, None, 4, 7)),
         (
             "chip run p --steps 18446744073709551615 --levels 6",
-            ("run", "p", false, None, 6, u64::MAX),
+            ("run", "p", ElfFile, None, 6, u64::MAX),
         ),
-        ("chip plain p", ("plain", "p", false, None, 4, 10000000)),
+        ("chip plain p", ("plain", "p", ElfFile, None, 4, 10_000_000)),
         (
             "chip plain --levels 2 p --input i --flat --steps 3",
-            ("plain", "p", true, Some("i"), 2, 3),
+            ("plain", "p", FlatFile, Some("i"), 2, 3),
         ),
-        ("chip dis p", ("dis", "p", false, None, 4, 0)),
+        ("chip dis p", ("dis", "p", ElfFile, None, 4, 0)),
         (
             "chip dis --flat p --levels +06",
-            ("dis", "p", true, None, 6, 0),
+            ("dis", "p", FlatFile, None, 6, 0),
         ),
-        ("chip measure p", ("measure", "p", false, None, 4, 0)),
+        ("chip measure p", ("measure", "p", ElfFile, None, 4, 0)),
         (
             "chip measure --levels=1 --flat p",
-            ("measure", "p", true, None, 1, 0),
+            ("measure", "p", FlatFile, None, 1, 0),
         ),
-        ("chip asm p", ("asm", "p", false, None, 4, 0)),
+        ("chip asm p", ("asm", "p", AssemblyText, None, 4, 0)),
         (
             "chip asm --levels 2 measure",
-            ("asm", "measure", false, None, 2, 0),
+            ("asm", "measure", AssemblyText, None, 2, 0),
         ),
     ];
     for (line, expected) in rows {

@@ -2,12 +2,11 @@
 ghost use Rattle.std.specs.Prelude.{◌≡◌, IsSome, Some, option_map};
 ghost use Rattle.clap.specs.Walk.{first_of, rows_of};
 ghost use Rattle.clap.specs.Words.{found_of, subcommand_rows_of};
-ghost use Rattle.chip_words.specs.Request.{asked_in, assembly_of, execution_of, flat_of, inspection_of, levels_of};
-ghost use Rattle.chip_words.specs.Request.{number_of, value_of};
 ghost use Rattle.chip_words.specs.Commands.{HasExecution, HasNumber, HasProgram, HasValue, IfCommand};
-ghost use Rattle.chip_words.specs.Words.{asked, assembly, execution, inspection};
+ghost use Rattle.chip_words.specs.Request.{asked_in, execution_of, file_of, form_of, is_flat as is_flat_in, levels_of, numeral_value, program_of, value_of};
+ghost use Rattle.chip_words.specs.Words.{asked, execution_asked, file_asked};
 
-use crate::request::{Assembly, Execution, Inspection, Request};
+use crate::request::{Execution, ProgramFile, ProgramForm, Request};
 use clap::ArgMatches;
 use sec_base::Geometry;
 
@@ -21,49 +20,55 @@ pub(crate) fn requested<'a>(matches: &ArgMatches<'a>) -> Request<'a>
     match name {
         "run" => Request::Run(execution(values)),
         "plain" => Request::Plain(execution(values)),
-        "asm" => Request::Asm(assembly(values)),
-        "dis" => Request::Dis(inspection(values)),
-        "measure" => Request::Measure(inspection(values)),
+        "asm" => Request::Asm(file(values, ProgramForm::AssemblyText)),
+        "dis" => Request::Dis(program(values)),
+        "measure" => Request::Measure(program(values)),
         _ => unreachable!(),
     }
 }
 
 fn execution<'a>(values: &ArgMatches<'a>) -> Execution<'a>
     requires { HasExecution (rows_of (found_of values.now)) }
-    ensures { execution result ≡ execution_of (rows_of (found_of values.now)) }
+    ensures { execution_asked result ≡ execution_of (rows_of (found_of values.now)) }
 {
     Execution {
-        file: value(values, "file"),
-        flat: is_flat(values),
+        file: program(values),
         input: text(values, "input"),
-        geometry: geometry(values),
         steps: number(values, "steps"),
     }
 }
 
-fn assembly<'a>(values: &ArgMatches<'a>) -> Assembly<'a>
+// A program that isn't assembled.
+fn program<'a>(values: &ArgMatches<'a>) -> ProgramFile<'a>
     requires { HasProgram (rows_of (found_of values.now)) }
-    ensures { assembly result ≡ assembly_of (rows_of (found_of values.now)) }
+    ensures { file_asked result ≡ program_of (rows_of (found_of values.now)) }
 {
-    Assembly {
-        file: value(values, "file"),
+    file(values, form(values))
+}
+
+fn file<'a>(values: &ArgMatches<'a>, form: ProgramForm) -> ProgramFile<'a>
+    requires { HasProgram (rows_of (found_of values.now)) }
+    ensures { file_asked result ≡ file_of form (rows_of (found_of values.now)) }
+{
+    ProgramFile {
+        name: value(values, "file"),
+        form,
         geometry: geometry(values),
     }
 }
 
-fn inspection<'a>(values: &ArgMatches<'a>) -> Inspection<'a>
-    requires { HasProgram (rows_of (found_of values.now)) }
-    ensures { inspection result ≡ inspection_of (rows_of (found_of values.now)) }
+fn form(values: &ArgMatches<'_>) -> ProgramForm
+    ensures { result ≡ form_of (rows_of (found_of values.now)) }
 {
-    Inspection {
-        file: value(values, "file"),
-        flat: is_flat(values),
-        geometry: geometry(values),
+    if is_flat(values) {
+        ProgramForm::FlatFile
+    } else {
+        ProgramForm::ElfFile
     }
 }
 
 fn is_flat(values: &ArgMatches<'_>) -> bool
-    ensures { result ≡ flat_of (rows_of (found_of values.now)) }
+    ensures { result ≡ is_flat_in (rows_of (found_of values.now)) }
 {
     values.get_one::<bool>("flat").unwrap_or(false)
 }
@@ -77,7 +82,7 @@ fn geometry(values: &ArgMatches<'_>) -> Geometry
 
 fn number(values: &ArgMatches<'_>, id: &str) -> u64
     requires { HasNumber id.now (rows_of (found_of values.now)) }
-    ensures { result ≡ number_of (value_of id.now (rows_of (found_of values.now))) }
+    ensures { result ≡ numeral_value (value_of id.now (rows_of (found_of values.now))) }
 {
     value(values, id).parse::<u64>().unwrap()
 }
@@ -93,6 +98,5 @@ fn value<'a>(values: &ArgMatches<'a>, id: &str) -> &'a str
 fn text<'a>(values: &ArgMatches<'a>, id: &str) -> Option<&'a str>
     ensures { option_map (λ text. text.now) result ≡ first_of id.now (rows_of (found_of values.now)) }
 {
-    let text = values.get_str(id);
-    text
+    values.get_str(id)
 }

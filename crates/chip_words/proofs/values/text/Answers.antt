@@ -4,4 +4,4 @@ use Rattle.clap.proofs.WalkLemmas.{first_value-rows}
 use Rattle.chip_words.proofs.values.text.Goals as goal
 
 pub returns : goal.returns
-returns c = c.get_str-text.ensures ∙ first_value-rows (found_of c.args.values.now) c.args.id.now
+returns c = c.get_str.ensures ∙ first_value-rows (found_of c.args.values.now) c.args.id.now
