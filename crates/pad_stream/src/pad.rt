@@ -1,9 +1,9 @@
 // The pad of a line, and lines mixed with it.
-ghost use Rattle.std.specs.Prelude.{◌≡◌, ◌+◌, ◌≤◌, ◌++◌, length, take};
+ghost use Rattle.std.specs.Prelude.{◌≡◌};
 ghost use Rattle.pad_stream.specs.Pad.{pad_input, pad_of, xored, enciphered};
 
 use aes128_block::Key;
-use sec_base::Counter;
+use sec_base::{Counter, put};
 
 /// A line mixed with the pad of its number and its counter, which is its cipher, or the line again where it was a
 /// cipher.
@@ -48,12 +48,4 @@ fn mixed(pad: &[u8; 64], bytes: &[u8; 64]) -> [u8; 64]
         mixed[place] = pad[place] ^ bytes[place];
     }
     mixed
-}
-
-// Puts a piece at a place of some bytes.
-fn put(bytes: &mut [u8], at: usize, piece: &[u8])
-    requires { at + length piece.now ≤ length bytes.old }
-    ensures { take (at + length piece.now) bytes.new ≡ take at bytes.old ++ piece.now }
-{
-    bytes[at..at + piece.len()].copy_from_slice(piece);
 }

@@ -1,4 +1,4 @@
--- Where the last messages of lines stand.
+-- Where the last messages of lines and of nodes stand.
 use Rattle.std.proofs.Common.{◌≡◌, ◌≢◌, ℕ, ◌<◌, Bool, true, false, cond, nat_eq, List, [], ◌∷◌, ◌++◌, length, Option, Some, None, IfSome, refl, ap, sym}
 use Rattle.std.specs.Option.{option_map}
 use Rattle.std.proofs.lemmas.Option.{slice_get_within}
@@ -6,21 +6,24 @@ use Rattle.std.proofs.lemmas.Bool.Decides.{Decides-eqb}
 use Rattle.sec_base.specs.declared.counter.Counter.{Counter}
 use Rattle.sec_base.specs.declared.message.Message.{Message}
 use Rattle.sec_base.specs.declared.message.Message.TheVariants.{Line}
-use Rattle.sec_base.specs.LastMessage.{data_part, last_at}
+use Rattle.sec_base.specs.LastMessage.{data_part, node_part, last_at}
 use Rattle.sec_base.proofs.LastMessages.{last_at_same, last_at_other, linked, HasPart}
-use Rattle.tag_engine.specs.Kept.{last_place}
+use Rattle.tag_engine.specs.Invariant.{last_place}
 
 -- nothing was made
-pub last_place-nothing : (line : ℕ) → last_place line [] ≡ None
+pub last_place-nothing : {B : Type 0} (part : Message → Option B) → last_place part [] ≡ None
 unfolding last_at
-last_place-nothing line = refl
+last_place-nothing part = refl
 
-first_part : {A B : Type 0} → Option (A × B) → Option A
-first_part o = option_map (λ found. found.0) o
+-- a message more that has no part
+last_place-without : {B : Type 0} (part : Message → Option B) (made : List Message) (message : Message) →
+    part message ≡ None → last_place part (made ++ message ∷ []) ≡ last_place part made
+last_place-without {B} part made message has =
+    ap (λ (o : Option (ℕ × B)). option_map (λ found. found.0) o) (last_at_other part made message has)
 
 -- a message of the line
 pub last_place-same : (line : ℕ) (counter : Counter) (cipher : List ℕ) (made : List Message) →
-    last_place line (made ++ Line line counter cipher ∷ []) ≡ Some (length made)
+    last_place (data_part line) (made ++ Line line counter cipher ∷ []) ≡ Some (length made)
 last_place-same line counter cipher made =
     let same : nat_eq line line ≡ true = (Decides-eqb line line).1 refl in
     let has : data_part line (Line line counter cipher) ≡ Some (counter, cipher) =
@@ -34,22 +37,27 @@ fails false tells not_so = refl
 
 -- a message of another line
 pub last_place-other : (line other : ℕ) (counter : Counter) (cipher : List ℕ) (made : List Message) → line ≢ other →
-    last_place line (made ++ Line other counter cipher ∷ []) ≡ last_place line made
+    last_place (data_part line) (made ++ Line other counter cipher ∷ []) ≡ last_place (data_part line) made
 last_place-other line other counter cipher made differs =
     let not_same : nat_eq other line ≡ false =
     fails (nat_eq other line) (Decides-eqb other line).0 (λ (e : other ≡ line). differs (sym e)) in
     let has : data_part line (Line other counter cipher) ≡ None =
     ap (λ (b : Bool). cond b (Some (counter, cipher)) None) not_same in
-    ap (λ (o : Option (ℕ × (Counter × List ℕ))). option_map (λ found. found.0) o)
-    (last_at_other (data_part line) made (Line other counter cipher) has)
+    last_place-without (data_part line) made (Line other counter cipher) has
 
-within : (line : ℕ) (made : List Message) (o : Option (ℕ × (Counter × List ℕ))) → last_at (data_part line) made ≡ o →
+-- a message of a line is none of a node
+pub last_place-node : (level index line : ℕ) (counter : Counter) (cipher : List ℕ) (made : List Message) →
+    last_place (node_part level index) (made ++ Line line counter cipher ∷ []) ≡ last_place (node_part level index) made
+last_place-node level index line counter cipher made =
+    last_place-without (node_part level index) made (Line line counter cipher) refl
+
+within : {B : Type 0} (part : Message → Option B) (made : List Message) (o : Option (ℕ × B)) → last_at part made ≡ o →
     IfSome (option_map (λ found. found.0) o) (λ at. at < length made)
-within line made None is = tt
-within line made (Some found) is =
-    let there : HasPart (data_part line) made found.0 found.1 = linked (data_part line) made found.0 found.1 is in
+within part made None is = tt
+within part made (Some found) is =
+    let there : HasPart part made found.0 found.1 = linked part made found.0 found.1 is in
     slice_get_within made found.0 there.item there.there
 
 -- it is one of those made
-pub last_place-within : (line : ℕ) (made : List Message) → IfSome (last_place line made) (λ at. at < length made)
-last_place-within line made = within line made (last_at (data_part line) made) refl
+pub last_place-within : {B : Type 0} (part : Message → Option B) (made : List Message) → IfSome (last_place part made) (λ at. at < length made)
+last_place-within part made = within part made (last_at part made) refl

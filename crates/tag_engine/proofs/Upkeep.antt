@@ -9,32 +9,43 @@ use Rattle.sec_base.specs.declared.sealed.Sealed.{Sealed}
 use Rattle.sec_base.specs.declared.message.Message.{Message}
 use Rattle.sec_base.specs.declared.message.Message.TheVariants.{Line}
 use Rattle.sec_base.specs.declared.evidence.Evidence.{Evidence}
-use Rattle.sec_base.specs.Geometry.{line_count}
+use Rattle.sec_base.specs.Geometry.{IsNode, line_count, node_end, node_number}
+use Rattle.sec_base.specs.LastMessage.{data_part, node_part}
+use Rattle.sec_base.proofs.Numbers.{number_inside}
 use Rattle.tag_engine.specs.TagEngine.{TagEngineView, new_engine, after_check_data, forgery_of}
-use Rattle.tag_engine.specs.Kept.{IsTagEngine, last_place}
-use Rattle.tag_engine.proofs.LastPlaces.{last_place-nothing, last_place-within, last_place-same, last_place-other}
+use Rattle.tag_engine.specs.Invariant.{HasPlaces, IsTagEngine, last_place}
+use Rattle.tag_engine.proofs.LastPlaces.{last_place-nothing, last_place-within, last_place-same, last_place-other, last_place-node}
 use Rattle.tag_engine.proofs.Forgeries.{forgery_of-failed, known, genuine, still_genuine}
 
 -- nothing was made
-pub kept_new : {T : Type 0} (tag_of : Message → List ℕ) (places : List (Option ℕ)) (capacity count levels : ℕ) (tagger : T) →
-    places ≡ replicate count None → count ≡ line_count levels → IsTagEngine tag_of places capacity (new_engine tagger levels)
-kept_new tag_of places capacity count levels tagger is enough =
+none_at : (places : List (Option ℕ)) (count at : ℕ) → places ≡ replicate count None → at < count → slice_index_or places at None ≡ None
+none_at places count at is below =
+    let none : Option ℕ = None in
+    ap (λ (xs : List (Option ℕ)). slice_index_or xs at none) is ∙ get_or-replicate count at none none below
+
+pub kept_new : {T : Type 0} (tag_of : Message → List ℕ) (lines nodes : List (Option ℕ)) (capacity lines_long nodes_long levels : ℕ) (tagger : T) →
+    lines ≡ replicate lines_long None → lines_long ≡ line_count levels → nodes ≡ replicate nodes_long None → nodes_long ≡ node_end levels →
+    IsTagEngine tag_of lines nodes capacity (new_engine tagger levels)
+kept_new tag_of lines nodes capacity lines_long nodes_long levels tagger are all_lines node_is all_nodes =
     let none : Option ℕ = None in
     record {
-      long = ap length is ∙ length-replicate count none ∙ enough;
-      last = λ line inside.
-          let below : line < count = omega arith in
-          ap (λ (xs : List (Option ℕ)). slice_index_or xs line none) is
-          ∙ get_or-replicate count line none none below
-          ∙ sym (last_place-nothing line);
+      places = record {
+        all_lines = ap length are ∙ length-replicate lines_long none ∙ all_lines;
+        last_data = λ line inside. none_at lines lines_long line are (omega (arith, inside, all_lines)) ∙ sym (last_place-nothing (data_part line));
+        all_nodes = ap length node_is ∙ length-replicate nodes_long none ∙ all_nodes;
+        last_node = λ level index node.
+            let inside = number_inside levels level index node in
+            none_at nodes nodes_long (node_number levels level index) node_is (omega (arith, inside, all_nodes))
+            ∙ sym (last_place-nothing (node_part level index));
+      };
       room = omega arith;
       evidence = tt;
     }
 
 place_after : (places places' : List (Option ℕ)) (made : List Message) (line at : ℕ) (counter : Counter) (cipher : List ℕ) →
     line < length places → at ≡ length made → places' ≡ slice_set places line (Some at) →
-    (lines : ℕ) → ((other : ℕ) → other < lines → slice_index_or places other None ≡ last_place other made) →
-    (other : ℕ) → other < lines → slice_index_or places' other None ≡ last_place other (made ++ Line line counter cipher ∷ [])
+    (lines : ℕ) → ((other : ℕ) → other < lines → slice_index_or places other None ≡ last_place (data_part other) made) →
+    (other : ℕ) → other < lines → slice_index_or places' other None ≡ last_place (data_part other) (made ++ Line line counter cipher ∷ [])
 place_after places places' made line at counter cipher inside here stored lines was other below =
     let none : Option ℕ = None in
     let moved : slice_index_or places' other none ≡ slice_index_or (slice_set places line (Some at)) other none =
@@ -43,7 +54,7 @@ place_after places places' made line at counter cipher inside here stored lines 
       | inl same ↦ moved
           ∙ get_or-set_at places line other (Some at) none same inside
           ∙ ap Some here
-          ∙ sym (ap (λ (l : ℕ). last_place l (made ++ Line line counter cipher ∷ [])) same ∙ last_place-same line counter cipher made)
+          ∙ sym (ap (λ (l : ℕ). last_place (data_part l) (made ++ Line line counter cipher ∷ [])) same ∙ last_place-same line counter cipher made)
       | inr differs ↦ moved
           ∙ get_or-set_other places line other (Some at) none differs
           ∙ was other below
@@ -51,30 +62,33 @@ place_after places places' made line at counter cipher inside here stored lines 
     ]
 
 -- a message of a data line was made
-pub kept_made : {T : Type 0} (tag_of : Message → List ℕ) (places places' : List (Option ℕ)) (capacity capacity' : ℕ) (engine : TagEngineView T)
+pub kept_made : {T : Type 0} (tag_of : Message → List ℕ) (lines lines' nodes : List (Option ℕ)) (capacity capacity' : ℕ) (engine : TagEngineView T)
     (line at room : ℕ) (counter : Counter) (cipher : List ℕ) (made : List Message) →
-    IsTagEngine tag_of places capacity engine → line < line_count engine.levels → at ≡ length engine.made →
-    places' ≡ slice_set places line (Some at) → made ≡ engine.made ++ Line line counter cipher ∷ [] → room ≡ engine.room - 1 →
+    IsTagEngine tag_of lines nodes capacity engine → line < line_count engine.levels → at ≡ length engine.made →
+    lines' ≡ slice_set lines line (Some at) → made ≡ engine.made ++ Line line counter cipher ∷ [] → room ≡ engine.room - 1 →
     length engine.made + 1 + (engine.room - 1) ≤ capacity' →
-    IsTagEngine tag_of places' capacity' (record { tagger = engine.tagger; levels = engine.levels; made = made; evidence = engine.evidence; room = room })
-kept_made tag_of places places' capacity capacity' engine line at room counter cipher made kept inside here stored grown left enough =
+    IsTagEngine tag_of lines' nodes capacity' (record { tagger = engine.tagger; levels = engine.levels; made = made; evidence = engine.evidence; room = room })
+kept_made tag_of lines lines' nodes capacity capacity' engine line at room counter cipher made kept inside here stored grown left enough =
     rw (grown, left) (record {
-      long = ap length stored ∙ length-set places line (Some at) ∙ kept.long;
-      last = place_after places places' engine.made line at counter cipher (omega (arith, kept.long)) here stored
-          (line_count engine.levels) kept.last;
+      places = record {
+        all_lines = ap length stored ∙ length-set lines line (Some at) ∙ kept.places.all_lines;
+        last_data = place_after lines lines' engine.made line at counter cipher (omega (arith, kept.places.all_lines)) here stored
+            (line_count engine.levels) kept.places.last_data;
+        all_nodes = kept.places.all_nodes;
+        last_node = λ level index node. kept.places.last_node level index node ∙ sym (last_place-node level index line counter cipher engine.made);
+      };
       room = omega (arith, length-append engine.made (Line line counter cipher ∷ []));
       evidence = still_genuine tag_of engine.made (Line line counter cipher ∷ []) engine.evidence kept.evidence;
     })
 
 -- a check passed, and nothing had been shown before
-pub kept_shown : {T : Type 0} (tag_of : Message → List ℕ) (places : List (Option ℕ)) (capacity : ℕ) (engine : TagEngineView T)
+pub kept_shown : {T : Type 0} (tag_of : Message → List ℕ) (lines nodes : List (Option ℕ)) (capacity : ℕ) (engine : TagEngineView T)
     (line : ℕ) (counter : Counter) (sealed : Sealed) (made : List Message) (shown : Option Evidence) →
-    IsTagEngine tag_of places capacity engine → sealed.tag ≡ tag_of (Line line counter sealed.cipher) →
+    IsTagEngine tag_of lines nodes capacity engine → sealed.tag ≡ tag_of (Line line counter sealed.cipher) →
     made ≡ engine.made → shown ≡ forgery_of made line counter sealed true →
-    IsTagEngine tag_of places capacity (record engine { evidence = shown })
-kept_shown tag_of places capacity engine line counter sealed made shown kept tagged same is = record {
-  long = kept.long;
-  last = kept.last;
+    IsTagEngine tag_of lines nodes capacity (record engine { evidence = shown })
+kept_shown tag_of lines nodes capacity engine line counter sealed made shown kept tagged same is = record {
+  places = kept.places;
   room = kept.room;
   evidence = rw (is, same) (genuine tag_of engine.made line counter sealed tagged);
 }
@@ -99,11 +113,11 @@ known_before {T} seen engine made line counter sealed shown same here is none =
     rw whole at (known made line counter sealed (sym is ∙ none))
 
 -- the place that was read is that of a message
-pub place_within : {T : Type 0} (tag_of : Message → List ℕ) (places : List (Option ℕ)) (capacity : ℕ) (engine : TagEngineView T)
+pub place_within : {T : Type 0} (tag_of : Message → List ℕ) (lines nodes : List (Option ℕ)) (capacity : ℕ) (engine : TagEngineView T)
     (line : ℕ) (place : Option ℕ) (made : List Message) →
-    IsTagEngine tag_of places capacity engine → line < line_count engine.levels → place ≡ slice_index_or places line place → made ≡ engine.made →
+    IsTagEngine tag_of lines nodes capacity engine → line < line_count engine.levels → place ≡ slice_index_or lines line place → made ≡ engine.made →
     IfSome place (λ at. at < length made)
-place_within tag_of places capacity engine line place made kept inside read same =
-    let below : line < length places = omega (arith, kept.long) in
-    let is : place ≡ last_place line engine.made = get_or_read places line place below read None ∙ kept.last line inside in
-    rw (is, same) (last_place-within line engine.made)
+place_within tag_of lines nodes capacity engine line place made kept inside read same =
+    let below : line < length lines = omega (arith, kept.places.all_lines) in
+    let is : place ≡ last_place (data_part line) engine.made = get_or_read lines line place below read None ∙ kept.places.last_data line inside in
+    rw (is, same) (last_place-within (data_part line) engine.made)

@@ -1,3 +1,3 @@
 pub mod Tag
 pub mod TagEngine
-pub mod Kept
+pub mod Invariant

@@ -1,9 +1,9 @@
-ghost use Rattle.std.specs.Prelude.{true, ◌≡◌, ◌↔◌, ◌<◌, ℕ, List, Option, IsTrue, IsOk, IfOk, IfSome, OnOk, OnErr, Contains, length};
-ghost use Rattle.sec_base.specs.declared.message.Message.TheVariants.{Line};
-ghost use Rattle.sec_base.specs.Geometry.{line_count};
+// The engine that tags and checks the messages of one memory.
+ghost use Rattle.std.specs.Prelude.{true, ◌≡◌, ◌↔◌, ◌<◌, IsTrue, IsOk, IfOk, IfSome, None, OnOk, OnErr, Contains, length};
 ghost use Rattle.sec_base.specs.Evidence.{IsEvidence};
-ghost use Rattle.tag_engine.specs.Tag.{engine_tag};
-ghost use Rattle.tag_engine.specs.TagEngine.{TagEngineView, new_engine, with_room, after_make, after_check_data, forgery_of, tags_of};
+ghost use Rattle.sec_base.specs.Geometry.{line_count};
+ghost use Rattle.sec_base.specs.declared.message.Message.TheVariants.{Line};
+ghost use Rattle.tag_engine.specs.TagEngine.{after_check_data, after_make, forgery_of, new_engine, tags_of, with_room};
 
 use sec_base::{
     Counter, Evidence, Geometry, Message, Messages, NoMemory, Sealed, Tagger, data_message,
@@ -17,7 +17,9 @@ pub struct TagEngine<T: Tagger> {
     tagger: T,
     geometry: Geometry,
     made: Vec<Message>,
-    places: Vec<Option<usize>>,
+    // Where the last message of each line stands, and that of each node, by the node's number.
+    line_places: Vec<Option<usize>>,
+    node_places: Vec<Option<usize>>,
     evidence: Option<Evidence>,
     room: u64,
 }
@@ -28,16 +30,16 @@ impl<T: Tagger> Model for TagEngine<T> {
 
     ghost Value = { TagEngineView T };
 
-    ghost use Rattle.tag_engine.specs.Kept.{engine_view, IsTagEngine};
+    ghost use Rattle.tag_engine.specs.Invariant.{engine_view, IsTagEngine};
 
     ghost view = { engine_view };
 
     ghost invariant = { λ inside. IsTagEngine (tags_of T.data_tag_of T.node_tag_of (engine_view inside))
-        inside.places.items (vec_capacity inside.made) (engine_view inside) };
+        inside.line_places.items inside.node_places.items (vec_capacity inside.made) (engine_view inside) };
 }
 
 impl<T: Tagger> TagEngine<T> {
-    /// An engine for a memory of this geometry that tagged nothing. Where memory is wanting the tagger is let go.
+    /// An engine for a memory of this geometry that tagged nothing. Out of memory, the tagger is dropped.
     pub fn new(alloc: Global, tagger: T, geometry: Geometry) -> Result<TagEngine<T>, NoMemory>
         ensures { IfOk result (λ engine. engine ≡ new_engine tagger geometry) }
     {
@@ -45,7 +47,8 @@ impl<T: Tagger> TagEngine<T> {
             tagger,
             geometry,
             made: Vec::new(alloc),
-            places: vec![in alloc; None; geometry.lines() as usize]?,
+            line_places: vec![in alloc; None; geometry.lines() as usize]?,
+            node_places: vec![in alloc; None; geometry.node_end() as usize]?,
             evidence: None,
             room: 0,
         })
@@ -61,7 +64,7 @@ impl<T: Tagger> TagEngine<T> {
         Ok(())
     }
 
-    /// Puts the message of a data line in the list of those that were tagged, and gives its tag.
+    /// Puts the message of a data line in the list of those that were tagged, and returns its tag.
     pub fn make_data(
         &mut self,
         line: u32,
@@ -77,6 +80,7 @@ impl<T: Tagger> TagEngine<T> {
         ensures sure { 0 < self.old.room → IsOk result }
         ensures refused { OnErr result (self.new ≡ self.old) }
     {
+        let tag = self.line_tag(line, counter, cipher);
         let message = Message::Line {
             line,
             counter,
@@ -84,9 +88,9 @@ impl<T: Tagger> TagEngine<T> {
         };
         let at = self.made.len();
         self.made.push(message)?;
-        self.places[line as usize] = Some(at);
+        self.line_places[line as usize] = Some(at);
         self.room = self.room.saturating_sub(1);
-        Ok(line_tag(&self.tagger, line, counter, cipher))
+        Ok(tag)
     }
 
     /// Whether a data line has the tag of its message. The first that has it and was never tagged is kept. A check
@@ -104,13 +108,13 @@ impl<T: Tagger> TagEngine<T> {
         ensures genuine { IfSome self.new.evidence
             (IsEvidence (tags_of T.data_tag_of T.node_tag_of self.new) self.new.made) }
     {
-        if !is_tagged(&self.tagger, line, counter, sealed) {
+        if self.line_tag(line, counter, &sealed.cipher) != sealed.tag {
             return false;
         }
         if self.evidence.is_none() {
             self.evidence = forgery(
                 &self.made,
-                self.places[line as usize],
+                self.line_places[line as usize],
                 line,
                 counter,
                 sealed,
@@ -119,8 +123,8 @@ impl<T: Tagger> TagEngine<T> {
         true
     }
 
-    /// Lets the tagger go, and tells the messages that were tagged, in order, and the first that passed a check and
-    /// was never tagged.
+    /// Drops the tagger, and returns the messages that were tagged, in order, and the first that passed a check and was
+    /// never tagged.
     pub fn finish(self) -> (Messages, Option<Evidence>)
         ensures made { result.0 ≡ self.made }
         ensures evidence { result.1 ≡ self.evidence }
@@ -131,30 +135,21 @@ impl<T: Tagger> TagEngine<T> {
             tagger: _tagger,
             geometry: _,
             made,
-            places: _places,
+            line_places: _line_places,
+            node_places: _node_places,
             evidence,
             room: _,
         } = self;
         (Messages::from_vec(made), evidence)
     }
-}
 
-// The tag of a data line's message, the same in every memory.
-#[tactic(auto, unfolding(crate::specs::Tag::engine_tag))]
-fn line_tag<T: Tagger>(tagger: &T, line: u32, counter: Counter, cipher: &[u8; 64]) -> [u8; 16]
-    ensures { (levels : ℕ) → result ≡ engine_tag (T.data_tag_of tagger.now) (T.node_tag_of tagger.now)
-        levels (Line line counter cipher.now) }
-{
-    tagger.data_tag(&data_message(line, counter, cipher))
-}
-
-// Whether a sealed line has the tag of its message.
-fn is_tagged<T: Tagger>(tagger: &T, line: u32, counter: Counter, sealed: &Sealed) -> bool
-    ensures { (levels : ℕ) → IsTrue result ↔ (sealed.now.tag
-        ≡ engine_tag (T.data_tag_of tagger.now) (T.node_tag_of tagger.now)
-        levels (Line line counter sealed.now.cipher)) }
-{
-    line_tag(tagger, line, counter, &sealed.cipher) == sealed.tag
+    // The tag of a data line's message.
+    #[tactic(auto, unfolding(crate::specs::Tag::engine_tag))]
+    fn line_tag(&self, line: u32, counter: Counter, cipher: &[u8; 64]) -> [u8; 16]
+        ensures { result ≡ tags_of T.data_tag_of T.node_tag_of self.now (Line line counter cipher.now) }
+    {
+        self.tagger.data_tag(&data_message(line, counter, cipher))
+    }
 }
 
 // What a check shows that a sealed line passed: that its message is none of those made.

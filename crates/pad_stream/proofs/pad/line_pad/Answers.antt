@@ -11,4 +11,4 @@ returns c =
     (block_put _ _ _ _ _ _ c.encrypt-3.ensures.value c.input_block-3.ensures)
     (block_put _ _ _ _ _ _ c.encrypt-4.ensures.value c.input_block-4.ensures)
     (search rules) (search rules) (search rules) (search rules) (search rules)
-    c.put.ensures c.put-2.ensures c.put-3.ensures c.put-4.ensures
+    c.put.ensures.front c.put-2.ensures.front c.put-3.ensures.front c.put-4.ensures.front

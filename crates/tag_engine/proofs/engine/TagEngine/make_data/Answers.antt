@@ -1,12 +1,12 @@
 use Rattle.std.proofs.Common.{refl, arith, length, ◌+◌, ◌≤◌}
 use Rattle.std.specs.Vec.{vec_capacity}
-use Rattle.tag_engine.specs.Kept.{engine_view}
+use Rattle.tag_engine.specs.Invariant.{engine_view}
 use Rattle.tag_engine.proofs.Upkeep.{kept_made}
 use Rattle.tag_engine.proofs.engine.TagEngine.make_data.Goals as goal
 
 pub invariant_of-self-2 : goal.invariant_of-self-2
 invariant_of-self-2 g c =
-    kept_made _ _ _ _ _ (engine_view c.self.inside) c.args.line _ _ c.args.counter c.args.cipher.now _
+    kept_made _ _ _ _ _ _ (engine_view c.self.inside) c.args.line _ _ c.args.counter c.args.cipher.now _
     c.self.invariant (rw (← c.self.view_is) at c.requires.inside) (omega arith) refl c.in_ok-push.ensures.items
     c.saturating_sub-self-inside.ensures
     (let was : length c.self.inside.made.items + c.self.inside.room ≤ vec_capacity c.self.inside.made = c.self.invariant.room in
