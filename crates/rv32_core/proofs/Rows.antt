@@ -18,9 +18,9 @@ IsQuiet None Sound sink next result old new =
 
 -- a computation
 pub computed : {None Sound : Type 0} (sink : SinkState) (next : Result After Cause) (result : Result Step StepStop) (state : State) (core : CoreView) (number value : ℕ) →
-    result ≡ Ok Retired → hart ≡ written_core state.core number value → next ≡ Ok (quietly (written state number value)) →
-    IsQuiet None Sound sink next result state (with_core state hart)
-computed sink next result state hart number value retired is made = (
+    result ≡ Ok Retired → core ≡ written_core state.core number value → next ≡ Ok (quietly (written state number value)) →
+    IsQuiet None Sound sink next result state (with_core state core)
+computed sink next result state core number value retired is made = (
   [],
   sym (gained-nil sink.written),
   λ none sound. rw (retired, is) made,

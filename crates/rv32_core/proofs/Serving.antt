@@ -41,9 +41,9 @@ pub inside_as : (state : State) (from count size : ℕ) (answer : Bool) → from
 inside_as state from count size answer e f s h = rw (sym e, sym f, sym s) h
 
 -- An answer in a0 and nothing else
-pub answer_outcome : (after : After) (result : Result Step StepStop) (state : State) (core : CoreView) (value : ℕ) → result ≡ Ok Retired → hart ≡ written_core state.core 10 value → after ≡ quietly (answered state value) →
-    IsOutcome (Ok after) result state (record { core = hart; calls = state.calls; memory = state.memory }) []
-answer_outcome after result state hart value retired is made =
+pub answer_outcome : (after : After) (result : Result Step StepStop) (state : State) (core : CoreView) (value : ℕ) → result ≡ Ok Retired → core ≡ written_core state.core 10 value → after ≡ quietly (answered state value) →
+    IsOutcome (Ok after) result state (record { core = core; calls = state.calls; memory = state.memory }) []
+answer_outcome after result state core value retired is made =
     rw retired (ap (λ (a : After). Ok a) made ∙ ap (λ (h : CoreView). Ok (quietly (record { core = h; calls = state.calls; memory = state.memory }))) (sym is))
 
 -- Reading

@@ -29,17 +29,17 @@ half_done_same (Err cause) old new same = same
 
 -- a fetch that stops
 pub fetch_stopped : (stop : StepStop) (core : CoreView) (calls : CallsView) (memory memory' : List ℕ) →
-    IsFetched memory hart.pc (Err stop) → memory' ≡ memory →
-    IsOutcome (next (record { core = hart; calls = calls; memory = memory })) (Err stop) (record { core = hart; calls = calls; memory = memory }) (record { core = hart; calls = calls; memory = memory' }) []
+    IsFetched memory core.pc (Err stop) → memory' ≡ memory →
+    IsOutcome (next (record { core = core; calls = calls; memory = memory })) (Err stop) (record { core = core; calls = calls; memory = memory }) (record { core = core; calls = calls; memory = memory' }) []
 unfolding next
-fetch_stopped (Trap cause) hart calls memory memory' h same = (outside, same, refl)
+fetch_stopped (Trap cause) core calls memory memory' h same = (outside, same, refl)
   where
-    outside : next (record { core = hart; calls = calls; memory = memory }) ≡ Err cause
+    outside : next (record { core = core; calls = calls; memory = memory }) ≡ Err cause
     outside = rw (lt-ltb _ _ h.0) (ap (λ (x : Cause). Err x) (sym h.1))
-fetch_stopped (Mem stop) hart calls memory memory' h same =
-    let old : State = record { core = hart; calls = calls; memory = memory } in
+fetch_stopped (Mem stop) core calls memory memory' h same =
+    let old : State = record { core = core; calls = calls; memory = memory } in
     ((_, refl), half_done_same (next old) old memory' same)
-fetch_stopped WriteFault hart calls memory memory' h same = absurd h
+fetch_stopped WriteFault core calls memory memory' h same = absurd h
 
 -- a word that is no instruction
 pub illegal : (state : State) (word : ℕ) → state.core.pc + 4 ≤ length state.memory → word ≡ fetched state → instruction_of word ≡ None → next state ≡ Err Illegal

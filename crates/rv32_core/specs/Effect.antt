@@ -21,19 +21,19 @@ target_fault target = if target % 4 == 0 then None else Some MisalignedTarget
 
 -- the address of the next instruction in order goes to a register
 abbrev pub jumped : CoreView → ℕ → ℕ → CoreView
-jumped hart target link = record { pc = target; registers = with_register hart.registers link (sum_of hart.pc 4) }
+jumped core target link = record { pc = target; registers = with_register core.registers link (sum_of core.pc 4) }
 
 abbrev pub jumps : ℕ → Inst → State → Result After Cause
 jumps target inst state = unless (target_fault target) (quietly (with_core state (jumped state.core target inst.rd)))
 
 -- where JAL and branches lead
 abbrev pub relative_target : Inst → CoreView → ℕ
-relative_target inst core = sum_of hart.pc (word inst.imm)
+relative_target inst core = sum_of core.pc (word inst.imm)
 
 -- where JALR leads: bit 0 is cleared
 abbrev pub absolute_target : Inst → CoreView → ℕ
 absolute_target inst core =
-    let sum = sum_of (register hart inst.rs1) (word inst.imm) in
+    let sum = sum_of (register core inst.rs1) (word inst.imm) in
     sum - sum % 2
 
 abbrev pub branches : Bool → Inst → State → Result After Cause
@@ -48,7 +48,7 @@ branches_where test inst state = branches (test (register state.core inst.rs1) (
 
 -- Loads and stores, section 2.6.
 abbrev pub data_address : Inst → CoreView → ℕ
-data_address inst core = sum_of (register hart inst.rs1) (word inst.imm)
+data_address inst core = sum_of (register core inst.rs1) (word inst.imm)
 
 -- why a load or a store of this width at this address traps
 abbrev pub data_fault : ℕ → Width → ℕ → Option Cause

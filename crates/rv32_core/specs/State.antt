@@ -20,7 +20,7 @@ pub record State : Type 0 where
   pub memory : List ℕ
 
 abbrev pub state_of : CoreView → CallsView → List ℕ → State
-state_of hart calls memory = record { core = hart; calls = calls; memory = memory }
+state_of core calls memory = record { core = core; calls = calls; memory = memory }
 
 -- a signed number as a word: modulo 2 ^ 32
 abbrev pub word : ℤ → ℕ
@@ -32,7 +32,7 @@ sum_of a b = (a + b) % 2 ^ 32
 
 -- what a register has; register 0 reads 0
 abbrev pub register : CoreView → ℕ → ℕ
-register hart number = if number == 0 then 0 else slice_index hart.registers number
+register core number = if number == 0 then 0 else slice_index core.registers number
 
 -- the registers after a write; a write to register 0 is dropped
 abbrev pub with_register : List ℕ → ℕ → ℕ → List ℕ
@@ -40,14 +40,14 @@ with_register registers number value = if number == 0 then registers else slice_
 
 -- the next instruction in order
 abbrev pub next_core : CoreView → CoreView
-next_core core = record { pc = sum_of hart.pc 4; registers = hart.registers }
+next_core core = record { pc = sum_of core.pc 4; registers = core.registers }
 
 -- the next instruction in order, with a value in a register
 abbrev pub written_core : CoreView → ℕ → ℕ → CoreView
-written_core hart number value = record { pc = sum_of hart.pc 4; registers = with_register hart.registers number value }
+written_core core number value = record { pc = sum_of core.pc 4; registers = with_register core.registers number value }
 
 abbrev pub with_core : State → CoreView → State
-with_core state core = record { core = hart; calls = state.calls; memory = state.memory }
+with_core state core = record { core = core; calls = state.calls; memory = state.memory }
 
 -- the memory with these bytes from an address on
 unfoldable pub with_bytes : List ℕ → ℕ → List ℕ → List ℕ

@@ -161,7 +161,7 @@ impl Core {
     #[inline]
     pub(crate) fn retire(&mut self, number: u8, value: u32) -> Result<Step, StepStop>
         requires { number < 32 }
-        ensures hart { self.new ≡ written_core self.old number value }
+        ensures core { self.new ≡ written_core self.old number value }
         ensures retired { result ≡ Ok Retired }
     {
         self.set_reg(number, value);

@@ -163,7 +163,7 @@ impl Core {
 
     // Ends the program with the code in a0.
     fn exit(&mut self) -> Result<Step, StepStop>
-        ensures hart { self.new ≡ next_core self.old }
+        ensures core { self.new ≡ next_core self.old }
         ensures halted { result ≡ Ok (Halted (register self.old 10)) }
     {
         let code = self.reg(A0);
@@ -187,7 +187,7 @@ impl Core {
 
     // Answers a negative number.
     fn refuse(&mut self, answer: i32) -> Result<Step, StepStop>
-        ensures hart { self.new ≡ written_core self.old 10 (word answer) }
+        ensures core { self.new ≡ written_core self.old 10 (word answer) }
         ensures retired { result ≡ Ok Retired }
     {
         self.retire(A0, answer.cast_unsigned())

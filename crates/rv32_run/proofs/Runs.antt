@@ -18,23 +18,23 @@ use Rattle.rv32_run.proofs.Turns.{stop_ends}
 
 -- A program as it begins
 
-opening_reaches : (entry size : ℕ) (segments : List Segment) (input : List ℕ) (core : CoreView) (calls : CallsView) (memory : List ℕ) → hart ≡ opening_core entry size → calls ≡ opening_calls segments input → memory ≡ opening_memory size segments → Reaches (opening_of entry size segments input) 0 hart calls memory []
+opening_reaches : (entry size : ℕ) (segments : List Segment) (input : List ℕ) (core : CoreView) (calls : CallsView) (memory : List ℕ) → core ≡ opening_core entry size → calls ≡ opening_calls segments input → memory ≡ opening_memory size segments → Reaches (opening_of entry size segments input) 0 core calls memory []
 unfolding plain opening_of
-opening_reaches entry size segments input hart calls memory core services bytes = sym (
-    ap (λ (h : CoreView). going_on (record { core = h; calls = calls; memory = memory }) [] 0) core
+opening_reaches entry size segments input core calls memory is_core services bytes = sym (
+    ap (λ (h : CoreView). going_on (record { core = h; calls = calls; memory = memory }) [] 0) is_core
     ∙ ap (λ (s : CallsView). going_on (record { core = opening_core entry size; calls = s; memory = memory }) [] 0) services
     ∙ ap (λ (m : List ℕ). going_on (record { core = opening_core entry size; calls = opening_calls segments input; memory = m }) [] 0) bytes)
 
-pub opening_begins : (entry size : ℕ) (segments : List Segment) (input : List ℕ) (core : CoreView) (calls : CallsView) (memory : List ℕ) (n : ℕ) → hart ≡ opening_core entry size → calls ≡ opening_calls segments input → memory ≡ opening_memory size segments → n ≡ 0 → Reaches (opening_of entry size segments input) n hart calls memory []
-opening_begins entry size segments input hart calls memory n core services bytes none =
-    subst (λ (m : ℕ). Reaches (opening_of entry size segments input) m hart calls memory []) (sym none)
-    (opening_reaches entry size segments input hart calls memory core services bytes)
+pub opening_begins : (entry size : ℕ) (segments : List Segment) (input : List ℕ) (core : CoreView) (calls : CallsView) (memory : List ℕ) (n : ℕ) → core ≡ opening_core entry size → calls ≡ opening_calls segments input → memory ≡ opening_memory size segments → n ≡ 0 → Reaches (opening_of entry size segments input) n core calls memory []
+opening_begins entry size segments input core calls memory n is_core services bytes none =
+    subst (λ (m : ℕ). Reaches (opening_of entry size segments input) m core calls memory []) (sym none)
+    (opening_reaches entry size segments input core calls memory is_core services bytes)
 
 -- a session that began so follows it
-pub opening_follows : (entry size : ℕ) (segments : List Segment) (input : List ℕ) (core : CoreView) (calls : CallsView) (opened memory : List ℕ) (n budget allowance finished retired : ℕ) (ended ending : Ending) (printed : List ℕ) → hart ≡ opening_core entry size → calls ≡ opening_calls segments input → opened ≡ opening_memory size segments → n ≡ 0 → budget ≡ allowance → retired ≡ finished → ending ≡ ended → ((start : Machine) (before : List ℕ) → Reaches start n hart calls opened before → FollowsWith start budget finished ended memory (before ++ printed)) → FollowsWith (opening_of entry size segments input) allowance retired ending memory printed
-opening_follows entry size segments input hart calls opened memory n budget allowance finished retired ended ending printed core services bytes none same count is follows =
+pub opening_follows : (entry size : ℕ) (segments : List Segment) (input : List ℕ) (core : CoreView) (calls : CallsView) (opened memory : List ℕ) (n budget allowance finished retired : ℕ) (ended ending : Ending) (printed : List ℕ) → core ≡ opening_core entry size → calls ≡ opening_calls segments input → opened ≡ opening_memory size segments → n ≡ 0 → budget ≡ allowance → retired ≡ finished → ending ≡ ended → ((start : Machine) (before : List ℕ) → Reaches start n core calls opened before → FollowsWith start budget finished ended memory (before ++ printed)) → FollowsWith (opening_of entry size segments input) allowance retired ending memory printed
+opening_follows entry size segments input core calls opened memory n budget allowance finished retired ended ending printed is_core services bytes none same count is follows =
     let start = opening_of entry size segments input in
-    let here = opening_begins entry size segments input hart calls opened n core services bytes none in
+    let here = opening_begins entry size segments input core calls opened n is_core services bytes none in
     subst (λ (e : Ending). FollowsWith start allowance retired e memory printed) (sym is)
     (subst (λ (m : ℕ). FollowsWith start allowance m ended memory printed) (sym count)
     (subst (λ (b : ℕ). FollowsWith start b finished ended memory printed) same (follows start [] here)))

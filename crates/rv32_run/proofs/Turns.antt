@@ -124,9 +124,9 @@ pub gains_on : (old mid new : SinkState) (first second : List ℕ) → Gains old
 gains_on old mid new first second before after =
     after ∙ ap (written_after second) before ∙ sym (written_after-append first second old.written)
 
-pub reaches_on : (start : Machine) (n : ℕ) (core : CoreView) (calls : CallsView) (memory before first second : List ℕ) → Reaches start n hart calls memory (before ++ first ++ second) → Reaches start n hart calls memory (before ++ (first ++ second))
-reaches_on start n hart calls memory before first second here =
-    here ∙ ap (λ (xs : List ℕ). going_on (record { core = hart; calls = calls; memory = memory }) xs n) (append_assoc before first second)
+pub reaches_on : (start : Machine) (n : ℕ) (core : CoreView) (calls : CallsView) (memory before first second : List ℕ) → Reaches start n core calls memory (before ++ first ++ second) → Reaches start n core calls memory (before ++ (first ++ second))
+reaches_on start n core calls memory before first second here =
+    here ∙ ap (λ (xs : List ℕ). going_on (record { core = core; calls = calls; memory = memory }) xs n) (append_assoc before first second)
 
 pub follows_on : (start : Machine) (budget allowance n : ℕ) (ending : Ending) (memory before first second : List ℕ) → budget ≡ allowance → FollowsWith start budget n ending memory (before ++ first ++ second) → FollowsWith start allowance n ending memory (before ++ (first ++ second))
 follows_on start budget allowance n ending memory before first second same follows =

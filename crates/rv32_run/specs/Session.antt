@@ -10,8 +10,8 @@ use Rattle.rv32_core.specs.Follows.{Follows}
 
 -- after n instructions the plain machine is in this state, has printed this, and goes on
 abbrev pub Reaches : Machine → ℕ → CoreView → CallsView → List ℕ → List ℕ → Type 0
-Reaches start n hart calls memory printed = plain start n ≡ record {
-  state = record { core = hart; calls = calls; memory = memory };
+Reaches start n core calls memory printed = plain start n ≡ record {
+  state = record { core = core; calls = calls; memory = memory };
   output = printed;
   retired = n;
   exit = None;
@@ -34,8 +34,8 @@ pub record FollowsWith (start : Machine) (budget retired : ℕ) (ending : Ending
 
 -- a turn leads on to what the plain machine reaches, or ends as a run that follows it
 abbrev pub Turns : Machine → ℕ → Option Ending → ℕ → CoreView → CallsView → List ℕ → List ℕ → Type 0
-Turns start budget None retired hart calls memory printed = Reaches start retired hart calls memory printed
-Turns start budget (Some ending) retired hart calls memory printed = FollowsWith start budget retired ending memory printed
+Turns start budget None retired core calls memory printed = Reaches start retired core calls memory printed
+Turns start budget (Some ending) retired core calls memory printed = FollowsWith start budget retired ending memory printed
 
 -- a turn without an ending retires an instruction, and so does an exit
 abbrev pub retired_after : Option Ending → ℕ → ℕ

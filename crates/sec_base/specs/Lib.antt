@@ -11,6 +11,7 @@ pub mod Image
 pub mod Program
 pub mod Opening
 pub mod Ending
+pub mod Ram
 pub mod Sink
 pub mod MemorySink
 pub mod Files

@@ -55,7 +55,7 @@ returns-in-Err-Trap-clause-turns g c =
           (record { core = c.args.core.now; calls = c.args.calls.now; memory = g.M.Ram.contents c.args.memory.now })
           (record { core = c.step.new.self; calls = c.step.new.calls; memory = g.M.Ram.contents c.step.new.ram })
           before outcome.0 c.step.result c.in-Err-Trap.cause c.pc.result here (omega arith) (outcome.2 c.requires.going sound) is
-          (c.pc.ensures ∙ ap (λ (core : CoreView). hart.pc) c.in-Err-Trap.ensures.stays.0),
+          (c.pc.ensures ∙ ap (λ (core : CoreView). core.pc) c.in-Err-Trap.ensures.stays.0),
     )
 
 pub returns-in-Err-Mem-clause-turns : goal.returns-in-Err-Mem-clause-turns
