@@ -5,6 +5,7 @@ ghost use Rattle.sec_base.specs.Sink.{SinkState, Gains, Silent, IsWritten};
 ghost use Rattle.sec_base.specs.declared.sink.SinkStop.TheVariants.{Failed, NoMemory as no_memory};
 
 use crate::stop::NoMemory;
+use std::alloc::AllocError;
 
 /// Why a sink took nothing.
 #[derive(Clone, Copy, Debug, PartialEq, Eq)]
@@ -19,6 +20,14 @@ impl From<NoMemory> for SinkStop {
     ghost from_gives = { λ _ stop. stop ≡ no_memory };
 
     fn from(_: NoMemory) -> Self {
+        SinkStop::NoMemory
+    }
+}
+
+impl From<AllocError> for SinkStop {
+    ghost from_gives = { λ _ stop. stop ≡ no_memory };
+
+    fn from(_: AllocError) -> Self {
         SinkStop::NoMemory
     }
 }
