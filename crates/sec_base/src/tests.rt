@@ -1,11 +1,13 @@
 // Each public call once with ample memory. The numbers of the geometry are those of Python: 4 ** levels pages of
-// 4096 bytes, and so on.
+// 4096 bytes, divmod(index, 4) for a parent and a slot, divmod(line, 64) for a page. The texts of endings are those of
+// docs/FORMATS.md, with hexadecimal digits of Python's format(pc, '08x').
 ghost use Rattle.std.specs.Prelude.{IfOk, replicate, refl};
 ghost use Rattle.sec_base.specs.Image.{IsImage};
 
 use crate::{
-    Bytes, Counter, Files, Geometry, Image, MemoryFiles, MemorySink, Message, Messages, Pads,
-    Place, ReadStop, Segment, Segments, Sink, SinkStop, Tagger, data_message, node_message,
+    Bytes, Cause, Counter, Ending, Files, Geometry, Image, MemoryFiles, MemorySink, Message,
+    Messages, Pads, Place, ReadStop, Segment, Segments, Sink, SinkStop, Tagger, Width,
+    data_message, is_entry, node_message, page_of, put, write_all,
 };
 use std::alloc::{AllocError, Global};
 use std::test::Fail;
@@ -82,6 +84,52 @@ fn places_end_at_the_borders(rt: HostRuntime) -> Result<(), Fail> {
 }
 
 #[test]
+fn a_line_stands_in_its_page(rt: HostRuntime) {
+    for (line, page) in [(0, 0), (63, 0), (64, 1), (16383, 255), (262143, 4095)] {
+        assert_eq!(rt; page_of(line), page, "at {line}");
+    }
+}
+
+#[test]
+fn an_entry_is_a_word_inside_the_memory(rt: HostRuntime) {
+    let rows = [
+        (0, true),
+        (2, false),
+        (16380, true),
+        (16381, false),
+        (16384, false),
+        (0xffff_fffc, false),
+    ];
+    for (address, fits) in rows {
+        assert_eq!(rt; is_entry(16384, address), fits, "at {address}");
+    }
+}
+
+#[test]
+fn numbers_stand_lowest_byte_first(rt: HostRuntime) {
+    let mut bytes = [9; 6];
+    Width::Four.write(&mut bytes, 1, 0x1122_3344);
+    assert_eq!(rt; bytes, [9, 0x44, 0x33, 0x22, 0x11, 9]);
+    assert_eq!(rt; Width::One.read(&bytes, 1), 0x44);
+    assert_eq!(rt; Width::Two.read(&bytes, 1), 0x3344);
+    assert_eq!(rt; Width::Four.read(&bytes, 1), 0x1122_3344);
+    Width::Two.write(&mut bytes, 4, 0x5566_7788);
+    assert_eq!(rt; bytes, [9, 0x44, 0x33, 0x22, 0x88, 0x77]);
+    Width::One.write(&mut bytes, 0, 0x99aa_bbcc);
+    assert_eq!(rt; bytes, [0xcc, 0x44, 0x33, 0x22, 0x88, 0x77]);
+    for (width, len) in [(Width::One, 1), (Width::Two, 2), (Width::Four, 4)] {
+        assert_eq!(rt; width.bytes(), len, "at {width:?}");
+    }
+}
+
+#[test]
+fn a_piece_is_put_at_its_place(rt: HostRuntime) {
+    let mut bytes = [0; 6];
+    put(&mut bytes, 2, &[7, 8]);
+    assert_eq!(rt; bytes, [0, 0, 7, 8, 0, 0]);
+}
+
+#[test]
 fn bytes_keep_their_items(rt: HostRuntime) -> Result<(), Fail> {
     let none = Bytes::new(rt.alloc());
     assert!(rt; none.is_empty());
@@ -89,6 +137,8 @@ fn bytes_keep_their_items(rt: HostRuntime) -> Result<(), Fail> {
     assert_eq!(rt; bytes.len(), 3);
     assert!(rt; !bytes.is_empty());
     assert_eq!(rt; bytes.as_slice(), [7, 8, 9].as_slice());
+    let copy = Bytes::from_slice(rt.alloc(), bytes.as_slice())?;
+    assert_eq!(rt; copy.as_slice(), [7, 8, 9].as_slice());
     assert_eq!(rt; bytes.into_vec().as_slice(), [7, 8, 9].as_slice());
     Ok(())
 }
@@ -165,6 +215,15 @@ fn a_sink_fails_at_its_calls(rt: HostRuntime) -> Result<(), Fail> {
     Ok(())
 }
 
+#[test]
+fn a_piece_is_written_whole(rt: HostRuntime) -> Result<(), Fail> {
+    let mut sink = MemorySink::new(rt.alloc(), &[2])?;
+    assert_eq!(rt; write_all(&mut sink, b"abc"), Ok(()));
+    assert_eq!(rt; write_all(&mut sink, b"d"), Err(SinkStop::Failed));
+    assert_eq!(rt; sink.bytes(), b"abc".as_slice());
+    Ok(())
+}
+
 fn answer_of<F: Files>(
     files: &mut F,
     alloc: Global,
@@ -207,6 +266,22 @@ fn files_answer_as_they_are(rt: HostRuntime) -> Result<(), Fail> {
 }
 
 #[test]
+fn nodes_have_parents_and_children(rt: HostRuntime) -> Result<(), Fail> {
+    let geometry = Geometry::new(2).ok_or("no geometry")?;
+    assert_eq!(rt; geometry.arity(), 4);
+    assert_eq!(rt; geometry.width(0), 16);
+    assert_eq!(rt; geometry.width(1), 4);
+    assert_eq!(rt; geometry.width(2), 1);
+    assert_eq!(rt; geometry.parent(0, 13), (1, 3));
+    assert_eq!(rt; geometry.slot(13), 1);
+    assert_eq!(rt; geometry.child(1, 3, 1), 13);
+    assert_eq!(rt; geometry.parent(1, 3), (2, 0));
+    assert_eq!(rt; geometry.slot(3), 3);
+    assert_eq!(rt; geometry.child(2, 0, 3), 3);
+    Ok(())
+}
+
+#[test]
 fn nodes_stand_apart_in_one_list(rt: HostRuntime) -> Result<(), Fail> {
     let geometry = Geometry::new(2).ok_or("no geometry")?;
     assert_eq!(rt; geometry.node_end(), 32);
@@ -215,6 +290,44 @@ fn nodes_stand_apart_in_one_list(rt: HostRuntime) -> Result<(), Fail> {
     assert_eq!(rt; geometry.node_number(1, 3), 7);
     assert_eq!(rt; geometry.node_number(0, 0), 16);
     assert_eq!(rt; geometry.node_number(0, 15), 31);
+    Ok(())
+}
+
+#[test]
+fn causes_have_their_words(rt: HostRuntime) -> Result<(), Fail> {
+    let rows = [
+        (Cause::Illegal, "illegal"),
+        (Cause::MisalignedTarget, "misaligned target"),
+        (Cause::MisalignedData, "misaligned data"),
+        (Cause::OutsideMemory, "outside memory"),
+        (Cause::Breakpoint, "breakpoint"),
+    ];
+    for (cause, words) in rows {
+        assert_eq!(rt; format!(in rt.alloc(); "{cause}")?.as_str(), words);
+    }
+    Ok(())
+}
+
+#[test]
+fn endings_have_their_words(rt: HostRuntime) -> Result<(), Fail> {
+    let trap = Ending::Trapped {
+        cause: Cause::MisalignedData,
+        pc: 0xfc,
+    };
+    let node = Place::Node { level: 2, index: 3 };
+    let rows = [
+        (Ending::Halted(7), "halted 7"),
+        (trap, "trapped misaligned data pc 000000fc"),
+        (Ending::OutOfSteps, "out of steps"),
+        (Ending::Tampered(Place::Line(16)), "tampered data 16"),
+        (Ending::Tampered(node), "tampered node 2 3"),
+        (Ending::Spent(5), "spent page 5"),
+        (Ending::WriteFault, "write fault"),
+        (Ending::NoMemory, "no memory"),
+    ];
+    for (ending, words) in rows {
+        assert_eq!(rt; format!(in rt.alloc(); "{ending}")?.as_str(), words);
+    }
     Ok(())
 }
 
