@@ -4,6 +4,7 @@
 #
 # Prints `AB` and no line feed: `halted 1`, `retired 11`.
 
+        .globl _start
 _start: la   a1, text
         li   a2, 1
         li   a0, 1

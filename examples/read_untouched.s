@@ -3,7 +3,8 @@
 #
 # Prints nothing: `halted 64` (the lowest byte of 0x140), `retired 15`.
 
-        li   t0, 0x140
+        .globl _start
+_start: li   t0, 0x140
         lui  t1, 0x1
         add  t1, t1, t0
         lui  t2, 0x2

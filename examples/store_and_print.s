@@ -3,6 +3,7 @@
 #
 # Prints `A` and no line feed: `halted 65`, `retired 20`.
 
+        .globl _start
 _start: li   t0, 0x140
         lui  t1, 0x1
         add  t1, t1, t0

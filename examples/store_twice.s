@@ -3,6 +3,7 @@
 #
 # Prints nothing: `halted 66`, `retired 22`.
 
+        .globl _start
 _start: li   t0, 0x140
         lui  t1, 0x1
         add  t1, t1, t0

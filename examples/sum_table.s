@@ -3,6 +3,8 @@
 #
 # Prints `sum 1057` and a line feed: `halted 0`, `retired 108`.
 
+        .globl _start
+
 table:  .word 1000, 0x20, -5, 30
 behind: .ascii "sum "
 digits: .asciz "    \n"

@@ -4,7 +4,8 @@
 # Prints nothing: `halted 0`, `retired 605`. Of these 3 come before the loop
 # (`li` of 0x1000 is two instructions), 600 are the loop's and 2 come after it.
 
-        li   t0, 0x1000
+        .globl _start
+_start: li   t0, 0x1000
         li   t1, 200
 again:  sw   t1, 0(t0)
         addi t1, t1, -1
