@@ -3,7 +3,7 @@ use Rattle.std.proofs.Common.{◌≡◌, ℕ, List, [], sym, refl, Result, Ok, n
 use Rattle.std.proofs.lemmas.Bool.{cases_lt, le-leb, lt-leb}
 use Rattle.sec_base.specs.declared.ending.Cause.{Cause}
 use Rattle.sec_base.specs.Sink.{SinkState, Gains}
-use Rattle.sec_base.proofs.Writes.{gained-nil}
+use Rattle.sec_base.proofs.Writes.{written_after-nil}
 use Rattle.rv32_core.specs.declared.hart.Step.{Step}
 use Rattle.rv32_core.specs.declared.hart.Step.TheVariants.{Retired}
 use Rattle.rv32_core.specs.declared.hart.StepStop.{StepStop}
@@ -22,7 +22,7 @@ pub computed : {None Sound : Type 0} (sink : SinkState) (next : Result After Cau
     IsQuiet None Sound sink next result state (with_core state core)
 computed sink next result state core number value retired is made = (
   [],
-  sym (gained-nil sink.written),
+  sym (written_after-nil sink.written),
   λ none sound. rw (retired, is) made,
 )
 

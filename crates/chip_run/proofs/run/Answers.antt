@@ -2,7 +2,7 @@ use Rattle.std.proofs.Common.{◌≡◌, [], None, sym, ap, ◌∙◌, subst, ar
 use Rattle.sec_base.specs.declared.stop.MemStop.TheVariants.{NoMemory}
 use Rattle.sec_base.specs.Geometry.{line_count}
 use Rattle.sec_base.specs.Opening.{opening_memory}
-use Rattle.sec_base.proofs.Writes.{gained-nil}
+use Rattle.sec_base.proofs.Writes.{written_after-nil}
 use Rattle.rv32_core.specs.Machine.{opening}
 use Rattle.tag_engine.specs.TagEngine.{tags_of}
 use Rattle.chip_run.specs.Contents.{contents_of}
@@ -25,7 +25,7 @@ pub returns-in-Err-clause-follows : goal.returns-in-Err-clause-follows
 returns-in-Err-clause-follows g c =
     let image = c.args.image.now in (
       [],
-      sym (gained-nil _),
+      sym (written_after-nil _),
       λ quiet.
           nothing_follows image.entry image.size image.segments c.args.input.now c.args.setup.now.budget c.no_run.result.retired NoMemory c.no_run.result.ending
           c.no_run.ensures.retired c.no_run.ensures.ending,
@@ -35,7 +35,7 @@ pub returns-in-Err-store_image-clause-follows : goal.returns-in-Err-store_image-
 returns-in-Err-store_image-clause-follows g c =
     let image = c.args.image.now in (
       [],
-      sym (gained-nil _),
+      sym (written_after-nil _),
       λ quiet.
           nothing_follows image.entry image.size image.segments c.args.input.now c.args.setup.now.budget c.close.result.0.retired c.in-Err-store_image.stop c.close.result.0.ending
           c.close.ensures.retired (c.close.ensures.ending ∙ c.ending_of.ensures),

@@ -1,6 +1,6 @@
 use Rattle.std.proofs.Common.{◌<◌, ℕ, [], length, inr, refl, sym, ◌∙◌, subst, arith}
 use Rattle.sec_base.specs.declared.stop.MemStop.TheVariants.{NoMemory}
-use Rattle.sec_base.proofs.Writes.{gained-nil}
+use Rattle.sec_base.proofs.Writes.{written_after-nil}
 use Rattle.rv32_core.specs.Effect.{next}
 use Rattle.rv32_core.specs.Outcome.{prints_of}
 use Rattle.rv32_core.specs.Machine.{opening, plain}
@@ -14,7 +14,7 @@ pub returns-in_default-clause-follows : goal.returns-in_default-clause-follows
 returns-in_default-clause-follows g c =
     let image = c.args.image.now in (
       [],
-      sym (gained-nil _),
+      sym (written_after-nil _),
       nothing_follows image.entry image.size image.segments c.args.input.now c.args.budget 0 NoMemory _ refl refl,
     )
 

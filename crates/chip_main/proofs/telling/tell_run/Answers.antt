@@ -1,6 +1,6 @@
 use Rattle.std.proofs.Common.{◌∙◌, ◌++◌, [], Err, refl, sym}
 use Rattle.std.proofs.lemmas.Result.{err_from_is_err_and}
-use Rattle.sec_base.proofs.Writes.{gained-nil}
+use Rattle.sec_base.proofs.Writes.{written_after-nil}
 use Rattle.chip_main.specs.Texts.{ending_line, lies_line, record_text, retired_line}
 use Rattle.chip_main.proofs.Lines.{told_first, told_then, told_last}
 use Rattle.chip_main.proofs.telling.tell_run.Goals as goal
@@ -8,7 +8,7 @@ use Rattle.chip_main.proofs.telling.tell_run.Goals as goal
 pub returns-in_err-lies-clause-told : goal.returns-in_err-lies-clause-told
 returns-in_err-lies-clause-told g c =
     let p = err_from_is_err_and c.from_residual-in_err-lies.result c.from_residual-in_err-lies.ensures.1 in
-    rw (p.1, p.2) ([], (record_text c.args.run.now c.args.lies, refl), sym (gained-nil _))
+    rw (p.1, p.2) ([], (record_text c.args.run.now c.args.lies, refl), sym (written_after-nil _))
 
 pub returns-in_err-write_line-clause-told : goal.returns-in_err-write_line-clause-told
 returns-in_err-write_line-clause-told g c =

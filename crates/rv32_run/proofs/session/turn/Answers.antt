@@ -3,7 +3,7 @@ use Rattle.rv32_core.specs.declared.hart.Step.TheVariants.{Retired, Halted}
 use Rattle.rv32_core.specs.declared.hart.StepStop.TheVariants.{Trap, Mem, WriteFault}
 use Rattle.rv32_core.specs.State.{CoreView}
 use Rattle.rv32_core.proofs.Plain.{step_reaches}
-use Rattle.sec_base.proofs.Writes.{gained-nil}
+use Rattle.sec_base.proofs.Writes.{written_after-nil}
 use Rattle.rv32_run.proofs.Turns.{turn_ends, turn_halts, turn_traps, turn_stops, turn_fails}
 use Rattle.rv32_run.proofs.Trails.{step_instruction}
 use Rattle.rv32_run.proofs.session.turn.Goals as goal
@@ -11,7 +11,7 @@ use Rattle.rv32_run.proofs.session.turn.Goals as goal
 pub returns-then-retired-budget-clause-turns : goal.returns-then-retired-budget-clause-turns
 returns-then-retired-budget-clause-turns g c = (
   [],
-  sym (gained-nil _),
+  sym (written_after-nil _),
   λ sound start before here.
       turn_ends start c.args.budget c.args.retired.now
       (record { core = c.args.core.now; calls = c.args.calls.now; memory = g.M.Ram.contents c.args.memory.now })

@@ -1,5 +1,5 @@
 use Rattle.std.proofs.Common.{◌*◌, ◌%◌, ◌^◌, [], refl, sym, bit_or, bit_xor}
-use Rattle.sec_base.proofs.Writes.{gained-nil}
+use Rattle.sec_base.proofs.Writes.{written_after-nil}
 use Rattle.rv32_core.proofs.Rows.{computed, not_below}
 use Rattle.rv32_core.proofs.hart.Core.execute.Goals as goal
 
@@ -104,52 +104,52 @@ returns-in-Remu-clause-outcome g c =
     c.retire-in-Remu.ensures.retired c.retire-in-Remu.ensures.core (rw (c.in-Remu.is, c.remainder_unsigned.ensures, c.rs1-in-Remu.ensures, c.rs2-in-Remu.ensures) refl)
 
 pub returns-in-Jal-clause-outcome : goal.returns-in-Jal-clause-outcome
-returns-in-Jal-clause-outcome g c = ([], sym (gained-nil _), λ none sound. rw c.in-Jal.is (rw (c.pc-in-Jal.ensures, c.immediate-in-Jal.ensures) at (c.jump.ensures.outcome c.args.calls.now (g.M.Ram.contents c.args.ram.now))))
+returns-in-Jal-clause-outcome g c = ([], sym (written_after-nil _), λ none sound. rw c.in-Jal.is (rw (c.pc-in-Jal.ensures, c.immediate-in-Jal.ensures) at (c.jump.ensures.outcome c.args.calls.now (g.M.Ram.contents c.args.ram.now))))
 
 pub returns-in-Jalr-clause-outcome : goal.returns-in-Jalr-clause-outcome
-returns-in-Jalr-clause-outcome g c = ([], sym (gained-nil _), λ none sound. rw c.in-Jalr.is (rw (c.without_bit_0.ensures, c.rs1.ensures, c.immediate-in-Jalr.ensures) at (c.jump-in-Jalr.ensures.outcome c.args.calls.now (g.M.Ram.contents c.args.ram.now))))
+returns-in-Jalr-clause-outcome g c = ([], sym (written_after-nil _), λ none sound. rw c.in-Jalr.is (rw (c.without_bit_0.ensures, c.rs1.ensures, c.immediate-in-Jalr.ensures) at (c.jump-in-Jalr.ensures.outcome c.args.calls.now (g.M.Ram.contents c.args.ram.now))))
 
 pub returns-in-Beq-clause-outcome : goal.returns-in-Beq-clause-outcome
-returns-in-Beq-clause-outcome g c = ([], sym (gained-nil _), λ none sound. rw c.in-Beq.is (rw (c.rs1-in-Beq.ensures, c.rs2.ensures) at (c.branch-self.ensures.outcome c.args.calls.now (g.M.Ram.contents c.args.ram.now))))
+returns-in-Beq-clause-outcome g c = ([], sym (written_after-nil _), λ none sound. rw c.in-Beq.is (rw (c.rs1-in-Beq.ensures, c.rs2.ensures) at (c.branch-self.ensures.outcome c.args.calls.now (g.M.Ram.contents c.args.ram.now))))
 
 pub returns-in-Bne-clause-outcome : goal.returns-in-Bne-clause-outcome
-returns-in-Bne-clause-outcome g c = ([], sym (gained-nil _), λ none sound. rw c.in-Bne.is (rw (c.rs1-in-Bne.ensures, c.rs2-in-Bne.ensures) at (c.branch-self-in-Bne.ensures.outcome c.args.calls.now (g.M.Ram.contents c.args.ram.now))))
+returns-in-Bne-clause-outcome g c = ([], sym (written_after-nil _), λ none sound. rw c.in-Bne.is (rw (c.rs1-in-Bne.ensures, c.rs2-in-Bne.ensures) at (c.branch-self-in-Bne.ensures.outcome c.args.calls.now (g.M.Ram.contents c.args.ram.now))))
 
 pub returns-in-Blt-clause-outcome : goal.returns-in-Blt-clause-outcome
-returns-in-Blt-clause-outcome g c = ([], sym (gained-nil _), λ none sound. rw c.in-Blt.is (rw (c.is_less_signed.ensures, c.rs1-in-Blt.ensures, c.rs2-in-Blt.ensures) at (c.branch-self-in-Blt.ensures.outcome c.args.calls.now (g.M.Ram.contents c.args.ram.now))))
+returns-in-Blt-clause-outcome g c = ([], sym (written_after-nil _), λ none sound. rw c.in-Blt.is (rw (c.is_less_signed.ensures, c.rs1-in-Blt.ensures, c.rs2-in-Blt.ensures) at (c.branch-self-in-Blt.ensures.outcome c.args.calls.now (g.M.Ram.contents c.args.ram.now))))
 
 pub returns-in-Bge-clause-outcome : goal.returns-in-Bge-clause-outcome
-returns-in-Bge-clause-outcome g c = ([], sym (gained-nil _), λ none sound. rw c.in-Bge.is (rw (c.is_less_signed-in-Bge.ensures, c.rs1-in-Bge.ensures, c.rs2-in-Bge.ensures) at (c.branch-self-in-Bge.ensures.outcome c.args.calls.now (g.M.Ram.contents c.args.ram.now))))
+returns-in-Bge-clause-outcome g c = ([], sym (written_after-nil _), λ none sound. rw c.in-Bge.is (rw (c.is_less_signed-in-Bge.ensures, c.rs1-in-Bge.ensures, c.rs2-in-Bge.ensures) at (c.branch-self-in-Bge.ensures.outcome c.args.calls.now (g.M.Ram.contents c.args.ram.now))))
 
 pub returns-in-Bltu-clause-outcome : goal.returns-in-Bltu-clause-outcome
-returns-in-Bltu-clause-outcome g c = ([], sym (gained-nil _), λ none sound. rw c.in-Bltu.is (rw (c.rs1-in-Bltu.ensures, c.rs2-in-Bltu.ensures) at (c.branch-self-in-Bltu.ensures.outcome c.args.calls.now (g.M.Ram.contents c.args.ram.now))))
+returns-in-Bltu-clause-outcome g c = ([], sym (written_after-nil _), λ none sound. rw c.in-Bltu.is (rw (c.rs1-in-Bltu.ensures, c.rs2-in-Bltu.ensures) at (c.branch-self-in-Bltu.ensures.outcome c.args.calls.now (g.M.Ram.contents c.args.ram.now))))
 
 pub returns-in-Bgeu-clause-outcome : goal.returns-in-Bgeu-clause-outcome
-returns-in-Bgeu-clause-outcome g c = ([], sym (gained-nil _), λ none sound. rw c.in-Bgeu.is (rw (not_below c.rs1-in-Bgeu.result c.rs2-in-Bgeu.result, c.rs1-in-Bgeu.ensures, c.rs2-in-Bgeu.ensures) at (c.branch-self-in-Bgeu.ensures.outcome c.args.calls.now (g.M.Ram.contents c.args.ram.now))))
+returns-in-Bgeu-clause-outcome g c = ([], sym (written_after-nil _), λ none sound. rw c.in-Bgeu.is (rw (not_below c.rs1-in-Bgeu.result c.rs2-in-Bgeu.result, c.rs1-in-Bgeu.ensures, c.rs2-in-Bgeu.ensures) at (c.branch-self-in-Bgeu.ensures.outcome c.args.calls.now (g.M.Ram.contents c.args.ram.now))))
 
 pub returns-in-Lb-clause-outcome : goal.returns-in-Lb-clause-outcome
-returns-in-Lb-clause-outcome g c = ([], sym (gained-nil _), λ none sound. rw c.in-Lb.is (c.load.ensures.outcome none sound c.args.calls.now))
+returns-in-Lb-clause-outcome g c = ([], sym (written_after-nil _), λ none sound. rw c.in-Lb.is (c.load.ensures.outcome none sound c.args.calls.now))
 
 pub returns-in-Lh-clause-outcome : goal.returns-in-Lh-clause-outcome
-returns-in-Lh-clause-outcome g c = ([], sym (gained-nil _), λ none sound. rw c.in-Lh.is (c.load-in-Lh.ensures.outcome none sound c.args.calls.now))
+returns-in-Lh-clause-outcome g c = ([], sym (written_after-nil _), λ none sound. rw c.in-Lh.is (c.load-in-Lh.ensures.outcome none sound c.args.calls.now))
 
 pub returns-in-Lw-clause-outcome : goal.returns-in-Lw-clause-outcome
-returns-in-Lw-clause-outcome g c = ([], sym (gained-nil _), λ none sound. rw c.in-Lw.is (c.load-in-Lw.ensures.outcome none sound c.args.calls.now))
+returns-in-Lw-clause-outcome g c = ([], sym (written_after-nil _), λ none sound. rw c.in-Lw.is (c.load-in-Lw.ensures.outcome none sound c.args.calls.now))
 
 pub returns-in-Lbu-clause-outcome : goal.returns-in-Lbu-clause-outcome
-returns-in-Lbu-clause-outcome g c = ([], sym (gained-nil _), λ none sound. rw c.in-Lbu.is (c.load-in-Lbu.ensures.outcome none sound c.args.calls.now))
+returns-in-Lbu-clause-outcome g c = ([], sym (written_after-nil _), λ none sound. rw c.in-Lbu.is (c.load-in-Lbu.ensures.outcome none sound c.args.calls.now))
 
 pub returns-in-Lhu-clause-outcome : goal.returns-in-Lhu-clause-outcome
-returns-in-Lhu-clause-outcome g c = ([], sym (gained-nil _), λ none sound. rw c.in-Lhu.is (c.load-in-Lhu.ensures.outcome none sound c.args.calls.now))
+returns-in-Lhu-clause-outcome g c = ([], sym (written_after-nil _), λ none sound. rw c.in-Lhu.is (c.load-in-Lhu.ensures.outcome none sound c.args.calls.now))
 
 pub returns-in-Sb-clause-outcome : goal.returns-in-Sb-clause-outcome
-returns-in-Sb-clause-outcome g c = ([], sym (gained-nil _), λ none sound. rw c.in-Sb.is (c.store.ensures.outcome none sound c.args.calls.now))
+returns-in-Sb-clause-outcome g c = ([], sym (written_after-nil _), λ none sound. rw c.in-Sb.is (c.store.ensures.outcome none sound c.args.calls.now))
 
 pub returns-in-Sh-clause-outcome : goal.returns-in-Sh-clause-outcome
-returns-in-Sh-clause-outcome g c = ([], sym (gained-nil _), λ none sound. rw c.in-Sh.is (c.store-in-Sh.ensures.outcome none sound c.args.calls.now))
+returns-in-Sh-clause-outcome g c = ([], sym (written_after-nil _), λ none sound. rw c.in-Sh.is (c.store-in-Sh.ensures.outcome none sound c.args.calls.now))
 
 pub returns-in-Sw-clause-outcome : goal.returns-in-Sw-clause-outcome
-returns-in-Sw-clause-outcome g c = ([], sym (gained-nil _), λ none sound. rw c.in-Sw.is (c.store-in-Sw.ensures.outcome none sound c.args.calls.now))
+returns-in-Sw-clause-outcome g c = ([], sym (written_after-nil _), λ none sound. rw c.in-Sw.is (c.store-in-Sw.ensures.outcome none sound c.args.calls.now))
 
 pub returns-in-Ebreak-clause-moved : goal.returns-in-Ebreak-clause-moved
 returns-in-Ebreak-clause-moved g c = ([], g.met.M.Ram.unmoved c.args.ram.now, λ none sound. tt)

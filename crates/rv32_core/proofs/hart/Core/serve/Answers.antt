@@ -1,5 +1,5 @@
 use Rattle.std.proofs.Common.{◌≡◌, ◌≢◌, [], sym, ◌∙◌, ap, subst, Ok, List}
-use Rattle.sec_base.proofs.Writes.{gained-nil}
+use Rattle.sec_base.proofs.Writes.{written_after-nil}
 use Rattle.rv32_core.specs.State.{State}
 use Rattle.rv32_core.specs.After.{After}
 use Rattle.rv32_core.specs.Services.{a7}
@@ -12,7 +12,7 @@ use Rattle.rv32_core.proofs.hart.Core.serve.Goals as goal
 pub returns-then-number-eq-READ-clause-outcome : goal.returns-then-number-eq-READ-clause-outcome
 returns-then-number-eq-READ-clause-outcome g c = (
   [],
-  sym (gained-nil _),
+  sym (written_after-nil _),
   λ none sound.
       let before : State = record { core = c.args.self.now; calls = c.args.calls.now; memory = g.M.Ram.contents c.args.ram.now } in
       let number : a7 before ≡ 63 = sym c.reg-number.ensures ∙ c.if-number-eq-READ.true in
@@ -33,7 +33,7 @@ returns-then-number-eq-WRITE-clause-moved g c =
 pub returns-clause-outcome : goal.returns-clause-outcome
 returns-clause-outcome g c = (
   [],
-  sym (gained-nil _),
+  sym (written_after-nil _),
   λ none sound.
       let before : State = record { core = c.args.self.now; calls = c.args.calls.now; memory = g.M.Ram.contents c.args.ram.now } in
       let read : a7 before ≢ 63 = λ e. c.if-number-eq-READ.false (c.reg-number.ensures ∙ e) in

@@ -5,7 +5,7 @@ use Rattle.sec_base.specs.declared.width.Width.TheVariants.{Four}
 use Rattle.rv32_core.specs.State.{CoreView, State}
 use Rattle.rv32_core.specs.Fetching.{IsFetched}
 use Rattle.rv32_core.specs.Touch.{HasLinesOf, HasLinesOfAll, data_touches}
-use Rattle.sec_base.proofs.Writes.{gained-nil}
+use Rattle.sec_base.proofs.Writes.{written_after-nil}
 use Rattle.sec_base.specs.declared.ending.Cause.{Cause}
 use Rattle.rv32_core.specs.After.{After}
 use Rattle.rv32_core.specs.Effect.{next, effect}
@@ -16,7 +16,7 @@ use Rattle.rv32_core.proofs.hart.Core.step.Goals as goal
 pub returns-in-Err-clause-outcome : goal.returns-in-Err-clause-outcome
 returns-in-Err-clause-outcome g c = (
   [],
-  sym (gained-nil _),
+  sym (written_after-nil _),
   λ none sound. fetch_stopped c.in-Err.stop c.args.self.now c.args.calls.now _ _ (subst (λ (h : CoreView). IsFetched (g.M.Ram.contents c.args.ram.now) h.pc (Err c.in-Err.stop)) c.self.view_is (c.in-Err.ensures.fetched none sound)) (c.fetch.ensures.contents none sound),
 )
 
@@ -43,7 +43,7 @@ returns-in-Some-clause-moved g c =
 pub returns-in-None-clause-outcome : goal.returns-in-None-clause-outcome
 returns-in-None-clause-outcome g c = (
   [],
-  sym (gained-nil _),
+  sym (written_after-nil _),
   λ none sound. (
     illegal (record { core = c.args.self.now; calls = c.args.calls.now; memory = g.M.Ram.contents c.args.ram.now }) c.in-Ok.word
         (subst (λ (h : CoreView). h.pc + 4 ≤ length (g.M.Ram.contents c.args.ram.now)) c.self.view_is (c.in-Ok.ensures.fetched none sound).0)

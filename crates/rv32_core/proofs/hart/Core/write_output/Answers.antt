@@ -1,5 +1,5 @@
 use Rattle.std.proofs.Common.{◌≡◌, false, true, [], length, sym, ◌∙◌, ap}
-use Rattle.sec_base.proofs.Writes.{gained-nil}
+use Rattle.sec_base.proofs.Writes.{written_after-nil}
 use Rattle.rv32_core.specs.State.{State}
 use Rattle.rv32_core.specs.Services.{is_output, is_inside, a0, a1, a2}
 use Rattle.rv32_core.proofs.Serving.{answer_outcome, inside_as, write_elsewhere, write_outside, lines_of_write, on_any}
@@ -8,7 +8,7 @@ use Rattle.rv32_core.proofs.hart.Core.write_output.Goals as goal
 pub returns-then-not-names_output-clause-outcome : goal.returns-then-not-names_output-clause-outcome
 returns-then-not-names_output-clause-outcome g c = (
   [],
-  sym (gained-nil _),
+  sym (written_after-nil _),
   λ none sound calls.
       let before : State = record { core = c.args.self.now; calls = calls; memory = g.M.Ram.contents c.args.ram.now } in
       let elsewhere : is_output (a0 before) ≡ false = ap is_output (sym c.reg.ensures) ∙ sym c.names_output.ensures ∙ c.if-not-names_output.true in
@@ -18,7 +18,7 @@ returns-then-not-names_output-clause-outcome g c = (
 pub returns-then-not-reaches_inside-clause-outcome : goal.returns-then-not-reaches_inside-clause-outcome
 returns-then-not-reaches_inside-clause-outcome g c = (
   [],
-  sym (gained-nil _),
+  sym (written_after-nil _),
   λ none sound calls.
       let before : State = record { core = c.args.self.now; calls = calls; memory = g.M.Ram.contents c.args.ram.now } in
       let output : is_output (a0 before) ≡ true = ap is_output (sym c.reg.ensures) ∙ sym c.names_output.ensures ∙ c.if-not-names_output.false in

@@ -1,12 +1,12 @@
 use Rattle.std.proofs.Common.{[], ◌++◌, sym, ap, ◌∙◌, arith}
-use Rattle.sec_base.proofs.Writes.{gained-nil}
+use Rattle.sec_base.proofs.Writes.{written_after-nil}
 use Rattle.rv32_run.proofs.Turns.{begun_reaches, begun_within, begun_going, carries_on, allowed, gains_on, reaches_on, follows_on, stop_prints}
 use Rattle.rv32_run.proofs.Trails.{walk_begins, walked_on, walk_ends}
 use Rattle.rv32_run.proofs.session.Session.finish.Goals as goal
 
 pub loop-ending-init : goal.loop-ending-init
 loop-ending-init g c = record {
-  turns = ([], sym (gained-nil _), λ sound start before here. begun_reaches g.M.Ram.contents _ c.args.self.now start before c.self.view_is here);
+  turns = ([], sym (written_after-nil _), λ sound start before here. begun_reaches g.M.Ram.contents _ c.args.self.now start before c.self.view_is here);
   within = begun_within _ c.args.self.now c.self.view_is c.requires.within;
   budget = ap (λ session. session.budget) c.self.view_is;
   going = begun_going g.M.Ram.stopped _ c.args.self.now c.self.view_is c.requires.going;
