@@ -2,7 +2,7 @@
 use Rattle.std.proofs.Common.{◌≡◌, ℕ, List, [], ◌∷◌, ◌++◌, Option, Some, None, refl, sym, ◌∙◌, arith, append-nil, subst}
 use Rattle.sec_base.specs.Geometry.{memory_size}
 use Rattle.sec_base.specs.Files.{FilesState}
-use Rattle.sec_base.specs.Sink.{SinkState, Silent}
+use Rattle.sec_base.specs.Sink.{SinkState, IsSilent}
 use Rattle.sec_base.specs.declared.image.Image.{Image}
 use Rattle.sec_base.specs.Sink.{IsWritten as IsTold}
 use Rattle.chip_words.specs.Request.{Asked, ExecutionAsked, to_run}
@@ -28,7 +28,7 @@ refused (Elf fault) request old new stops = stops
 refused (Asm line fault) request old new stops = stops
 
 -- the files were not taken
-pub came_stopped : (stop : Stop) (asked : Asked) (files files' : FilesState) (out out' : SinkState) → StopsAs stop (asked_needs asked) files files' → Silent out out' →
+pub came_stopped : (stop : Stop) (asked : Asked) (files files' : FilesState) (out out' : SinkState) → StopsAs stop (asked_needs asked) files files' → IsSilent out out' →
     CameAbout (stopped_course stop) (Some asked) files files' out out'
 came_stopped (Refused refusal) asked files files' out out' stops silent = (refused refusal (Some asked) files files' stops, silent)
 came_stopped NoMemory asked files files' out out' stops silent = (stops, silent)

@@ -2,7 +2,7 @@
 use Rattle.std.specs.Prelude.{◌≡◌, ◌≢◌, ◌⊎◌, List, [], ◌∷◌, ℕ, Option, Some, None, Ok, Contains}
 use Rattle.sec_base.specs.Count.{Rose}
 use Rattle.sec_base.specs.Files.{FilesState}
-use Rattle.sec_base.specs.Sink.{SinkState, Gains, GainsFront, Silent}
+use Rattle.sec_base.specs.Sink.{SinkState, Gains, GainsFront, IsSilent}
 use Rattle.sec_base.specs.declared.ending.Ending.{Ending}
 use Rattle.sec_base.specs.declared.ending.Ending.TheVariants.{NoMemory}
 use Rattle.sec_base.specs.declared.image.Image.{Image}
@@ -81,7 +81,7 @@ pub record TellsRefusal (request : Option Asked) (old new : World) (status : ℕ
 -- memory was not to be had, and nothing was told
 pub record LacksMemory (request : Option Asked) (old new : World) (status : ℕ) : Type 0 where
   pub runs_out : RunsOut (needs_of request) old.files new.files
-  pub silent : Silent old.note new.note
+  pub silent : IsSilent old.note new.note
   pub status_is : status ≡ 10
 
 -- the statuses where nothing was done
@@ -94,7 +94,7 @@ pub record Undone (request : Option Asked) (old new : World) (done : Done) : Typ
   pub told : TellsRefusal request old new done.status ⊎ LacksMemory request old new done.status
   pub status_is : Contains (undone_statuses request) done.status
   pub no_run : done.run ≡ None
-  pub silent : Silent old.out new.out
+  pub silent : IsSilent old.out new.out
 
 -- the request's program ran on protected memory, and that was told
 pub record RanAndTold (execution : ExecutionAsked) (old new : World) (done : Done) (run : RunRecord) (told : BusHistory) : Type 0 where
@@ -114,7 +114,7 @@ pub record Delivers (file : ProgramFile) (text : Image → List ℕ) (old new : 
   pub writes : Writes file text old.files new.files old.out new.out telling
   pub status_is : done.status ≡ text_status telling
   pub no_run : done.run ≡ None
-  pub silent : Silent old.note new.note
+  pub silent : IsSilent old.note new.note
 
 -- what each command gives, or nothing was done
 abbrev pub GivesRun : ExecutionAsked → World → World → Done → Type 0

@@ -1,7 +1,7 @@
 -- What a call came to, how that came about, and what is made of it.
 use Rattle.std.specs.Prelude.{◌≡◌, ℕ, Option, Some, None, Ok, Err}
 use Rattle.sec_base.specs.Files.{FilesState}
-use Rattle.sec_base.specs.Sink.{SinkState, Silent, IsWritten as IsTold}
+use Rattle.sec_base.specs.Sink.{SinkState, IsSilent, IsWritten as IsTold}
 use Rattle.sec_base.specs.declared.sink.SinkStop.TheVariants.{Failed, NoMemory as no_memory}
 use Rattle.chip_run.specs.declared.RunRecord.{RunRecord}
 use Rattle.chip_words.specs.Request.{Asked}
@@ -19,15 +19,15 @@ use Rattle.chip_main.specs.Buses.{run_history, lies_of}
 
 -- how each course came about, from the request, the files and the sink for what is printed
 abbrev pub CameAbout : Course → Option Asked → FilesState → FilesState → SinkState → SinkState → Type 0
-CameAbout (Refused refusal) request files files' out out' = IsRefused refusal request files files' × Silent out out'
-CameAbout NoMemory request files files' out out' = RunsOut (needs_of request) files files' × Silent out out'
+CameAbout (Refused refusal) request files files' out out' = IsRefused refusal request files files' × IsSilent out out'
+CameAbout NoMemory request files files' out out' = RunsOut (needs_of request) files files' × IsSilent out out'
 CameAbout (Ran run bus) request files files' out out' = RunsRequest request files files' out out' run (run_history bus)
 CameAbout (RanPlain run) request files files' out out' = PlainlyRunsRequest request files files' out out' run
 CameAbout (Written telling) request files files' out out' = WritesRequest request files files' out out' telling
 
 -- there is nothing to tell
 abbrev pub TellsNothing : SinkState → SinkState → Telling → Type 0
-TellsNothing old new telling = Silent old new × (telling ≡ Ok tt)
+TellsNothing old new telling = IsSilent old new × (telling ≡ Ok tt)
 
 -- what is told of it, and how far
 abbrev pub TellsCourse : Course → SinkState → SinkState → Telling → Type 0

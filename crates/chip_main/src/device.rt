@@ -1,6 +1,6 @@
 ghost use Rattle.std.specs.Prelude.{◌≡◌, ◌≤◌, IfOk, OnErr};
 ghost use Rattle.sec_base.specs.Geometry.{memory_size};
-ghost use Rattle.sec_base.specs.Sink.{Silent};
+ghost use Rattle.sec_base.specs.Sink.{IsSilent};
 ghost use Rattle.chip_main.specs.Buses.{run_history};
 ghost use Rattle.chip_main.specs.Program.{IsImageOf, Program};
 ghost use Rattle.chip_main.specs.ProtectedRun.{RunsProtected};
@@ -33,7 +33,7 @@ pub fn run_on_device<O: Sink>(
     requires size { image.now.size ≡ memory_size geometry }
     ensures ran { (program : Program) → IsImageOf (memory_size geometry) program image.now → IfOk result (λ done.
         RunsProtected geometry steps program input.now (O.state out.old) (O.state out.new) done.0 (run_history done.1)) }
-    ensures silent { OnErr result (Silent (O.state out.old) (O.state out.new)) }
+    ensures silent { OnErr result (IsSilent (O.state out.old) (O.state out.new)) }
     ensures faults { (O.state out.old).faults ≤ (O.state out.new).faults }
 {
     let bus = RunBus::Honest(HonestBus::new(alloc, geometry)?);

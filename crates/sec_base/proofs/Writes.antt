@@ -3,7 +3,7 @@ use Rattle.std.proofs.Common.{◌≡◌, ◌≤◌, ℕ, List, [], ◌++◌, tak
 use Rattle.std.proofs.lemmas.List.{append-nil, take-append-drop}
 use Rattle.sec_base.specs.Count.{Rose}
 use Rattle.sec_base.specs.Prefix.{IsPrefix}
-use Rattle.sec_base.specs.Sink.{SinkState, written_after, Gains, Silent}
+use Rattle.sec_base.specs.Sink.{SinkState, written_after, Gains, IsSilent}
 
 pub written_after-append : (a b : List ℕ) (o : Option (List ℕ)) → written_after (a ++ b) o ≡ written_after b (written_after a o)
 written_after-append a b None = refl
@@ -38,7 +38,7 @@ part_goes_on old mid new whole rest n p gains faults = record {
   faults = omega arith;
 }
 
-pub part_stopped : (old mid new : SinkState) (whole rest : List ℕ) → IsPart old mid whole rest → Silent mid new → (front : List ℕ) × IsPrefix front whole × Gains old front new
+pub part_stopped : (old mid new : SinkState) (whole rest : List ℕ) → IsPart old mid whole rest → IsSilent mid new → (front : List ℕ) × IsPrefix front whole × Gains old front new
 part_stopped old mid new whole rest p silent = (p.front, (rest, p.parts), silent ∙ p.gains)
 
 pub part_done : (old new : SinkState) (whole rest : List ℕ) → rest ≡ [] → IsPart old new whole rest → Gains old whole new

@@ -20,8 +20,8 @@ abbrev pub Gains : SinkState → List ℕ → SinkState → Type 0
 Gains old more new = new.written ≡ written_after more old.written
 
 -- nothing that it tells changed
-abbrev pub Silent : SinkState → SinkState → Type 0
-Silent old new = new.written ≡ old.written
+abbrev pub IsSilent : SinkState → SinkState → Type 0
+IsSilent old new = new.written ≡ old.written
 
 -- the sink written_after a front part of the bytes and nothing else
 abbrev pub GainsFront : SinkState → List ℕ → SinkState → Type 0

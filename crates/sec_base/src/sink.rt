@@ -1,7 +1,7 @@
 // Where a run writes.
 ghost use Rattle.std.specs.Prelude.{◌≡◌, ◌<◌, ◌≤◌, [], Ok, Err, length, take, IfOk, OnErr};
 ghost use Rattle.sec_base.specs.Count.{Rose};
-ghost use Rattle.sec_base.specs.Sink.{SinkState, Gains, Silent, IsWritten};
+ghost use Rattle.sec_base.specs.Sink.{SinkState, Gains, IsSilent, IsWritten};
 ghost use Rattle.sec_base.specs.declared.sink.SinkStop.TheVariants.{Failed, NoMemory as no_memory};
 
 use crate::stop::NoMemory;
@@ -43,7 +43,7 @@ pub trait Sink {
         ensures most { IfOk result (λ n. n ≤ length piece.now) }
         ensures least { IfOk result (λ n. 0 < length piece.now → 0 < n) }
         ensures empty { piece.now ≡ [] → result ≡ Ok 0 }
-        ensures err { OnErr result (Silent (state self.old) (state self.new)) }
+        ensures err { OnErr result (IsSilent (state self.old) (state self.new)) }
 
         ensures failed { result ≡ Err Failed → Rose (state self.old).faults (state self.new).faults }
         ensures faults { (state self.old).faults ≤ (state self.new).faults };
