@@ -1,6 +1,7 @@
 pub mod Both
+pub mod Finds
 pub mod Masks
-pub mod Rows
-pub mod Search
+pub mod Matches
+pub mod Names
 pub mod Signed
 pub mod Words

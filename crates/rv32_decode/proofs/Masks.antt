@@ -3,10 +3,10 @@ use Rattle.std.proofs.Common.{◌≡◌, ℕ, ◌+◌, ◌*◌, ◌/◌, ◌%◌
 use Rattle.std.proofs.lemmas.Bool.{and_parts, eqb-true, ltb-true}
 use Rattle.std.proofs.lemmas.Bool.Decides.{nat_tests}
 use Rattle.std.proofs.lemmas.Nat.{and_block, and_mask}
-use Rattle.rv32_decode.specs.Fixed.{are_fixed}
-use Rattle.rv32_decode.specs.Table.{field}
+use Rattle.rv32_decode.specs.Search.{are_fixed}
+use Rattle.rv32_decode.specs.Words.{field}
 use Rattle.rv32_decode.specs.declared.table.Format.{Format}
-use Rattle.rv32_decode.specs.declared.table.Format.TheVariants.{R, I, S, B, U, J, H, N}
+use Rattle.rv32_decode.specs.declared.table.Format.TheVariants.{R, I, S, B, U, J, Shift, Fieldless}
 
 -- the mask of a format's rows
 unfoldable pub mask_of : Format → ℕ
@@ -16,8 +16,8 @@ mask_of S = 0x0000707f
 mask_of B = 0x0000707f
 mask_of U = 0x0000007f
 mask_of J = 0x0000007f
-mask_of H = 0xfe00707f
-mask_of N = 0xffffffff
+mask_of Shift = 0xfe00707f
+mask_of Fieldless = 0xffffffff
 
 opcode_of : (w : ℕ) → bit_and w 0x0000007f ≡ w % 2 ^ 7
 opcode_of w = and_mask w 7
@@ -52,8 +52,8 @@ IsPattern S p = p ≡ field p 12 3 * 2 ^ 12 + p % 2 ^ 7
 IsPattern B p = p ≡ field p 12 3 * 2 ^ 12 + p % 2 ^ 7
 IsPattern U p = p ≡ p % 2 ^ 7
 IsPattern J p = p ≡ p % 2 ^ 7
-IsPattern H p = p ≡ field p 25 7 * 2 ^ 25 + field p 12 3 * 2 ^ 12 + p % 2 ^ 7
-IsPattern N p = p < 2 ^ 32
+IsPattern Shift p = p ≡ field p 25 7 * 2 ^ 25 + field p 12 3 * 2 ^ 12 + p % 2 ^ 7
+IsPattern Fieldless p = p < 2 ^ 32
 
 -- a row whose mask is its format's, and whose pattern has no bit outside it
 unfoldable pub is_regular : ℕ → Format → ℕ → Bool
@@ -81,8 +81,8 @@ pattern_of S p within below = within_funct3 p within
 pattern_of B p within below = within_funct3 p within
 pattern_of U p within below = within_opcode p within
 pattern_of J p within below = within_opcode p within
-pattern_of H p within below = within_funct7 p within
-pattern_of N p within below = below
+pattern_of Shift p within below = within_funct7 p within
+pattern_of Fieldless p within below = below
 
 pub is_pattern : (mask : ℕ) (format : Format) (p : ℕ) → is_regular mask format p ≡ true → IsPattern format p
 unfolding is_regular mask_of
@@ -114,5 +114,5 @@ tests_fields S w p below within = tests_funct3 w p within
 tests_fields B w p below within = tests_funct3 w p within
 tests_fields U w p below within = tests_opcode w p within
 tests_fields J w p below within = tests_opcode w p within
-tests_fields H w p below within = tests_funct7 w p within
-tests_fields N w p below within = tests_whole w p below
+tests_fields Shift w p below within = tests_funct7 w p within
+tests_fields Fieldless w p below within = tests_whole w p below

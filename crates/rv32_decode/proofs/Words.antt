@@ -5,12 +5,14 @@ use Rattle.std.proofs.lemmas.Int.{ints}
 use Rattle.std.specs.Int.{cast_unsigned, w32}
 use Rattle.rv32_decode.proofs.Masks.{IsPattern}
 use Rattle.rv32_decode.proofs.Signed.{Spells, complement_at_most, complement_range, complement_spelled, complement_word}
-use Rattle.rv32_decode.specs.Fixed.{are_fixed}
-use Rattle.rv32_decode.specs.Table.{FitsFormat, field, placed, read}
+use Rattle.rv32_decode.specs.Encoding.{FitsFormat, field_bits}
+use Rattle.rv32_decode.specs.Fields.{instruction_in}
+use Rattle.rv32_decode.specs.Search.{are_fixed}
+use Rattle.rv32_decode.specs.Words.{field}
 use Rattle.rv32_decode.specs.declared.Inst.{Inst}
 use Rattle.rv32_decode.specs.declared.Op.{Op}
 use Rattle.rv32_decode.specs.declared.table.Format.{Format}
-use Rattle.rv32_decode.specs.declared.table.Format.TheVariants.{R, I, S, B, U, J, H, N}
+use Rattle.rv32_decode.specs.declared.table.Format.TheVariants.{R, I, S, B, U, J, Shift, Fieldless}
 
 -- the bits of an instruction's immediate, gathered in a word of the format
 abbrev pub bits_i : ℕ → ℕ
@@ -46,9 +48,9 @@ fix_two a b c d e f = and_from (a == b) (c == d) (eq-eqb a b e) (eq-eqb c d f)
 fix_three : (a b c d x y : ℕ) → a ≡ b → c ≡ d → x ≡ y → ((a == b) && ((c == d) && (x == y))) ≡ true
 fix_three a b c d x y e f g = and_from (a == b) ((c == d) && (x == y)) (eq-eqb a b e) (fix_two c d x y f g)
 
--- a word is the pattern and the fields that are read from it
-pub word_read : (format : Format) (op : Op) (p w : ℕ) → w < 2 ^ 32 → IsPattern format p → are_fixed (w % 2 ^ 7) (field w 12 3) (field w 25 7) w format p ≡ true → p + placed format (read format op w) ≡ w
-unfolding placed read
+-- a word is the pattern and the fields that are instruction_in from it
+pub word_read : (format : Format) (op : Op) (p w : ℕ) → w < 2 ^ 32 → IsPattern format p → are_fixed (w % 2 ^ 7) (field w 12 3) (field w 25 7) w format p ≡ true → p + field_bits format (instruction_in format op w) ≡ w
+unfolding field_bits instruction_in
 word_read R op p w below pattern fixed =
     let parts = three_fixed (w % 2 ^ 7) (p % 2 ^ 7) (field w 12 3) (field p 12 3) (field w 25 7) (field p 25 7) fixed in
     omega arith
@@ -72,10 +74,10 @@ word_read J op p w below pattern fixed =
     let opcode = eqb-true (w % 2 ^ 7) (p % 2 ^ 7) fixed in
     let imm = complement_word 1048575 2097151 refl (bits_j w) (omega arith) (omega arith) in
     omega (arith, imm)
-word_read H op p w below pattern fixed =
+word_read Shift op p w below pattern fixed =
     let parts = three_fixed (w % 2 ^ 7) (p % 2 ^ 7) (field w 12 3) (field p 12 3) (field w 25 7) (field p 25 7) fixed in
     omega arith
-word_read N op p w below pattern fixed =
+word_read Fieldless op p w below pattern fixed =
     let parts = two_fixed (w % 2 ^ 7) (p % 2 ^ 7) w p fixed in
     omega arith
 
@@ -108,30 +110,30 @@ shift_spelled (negsuc a) n low high e = absurd (omega (arith, ints))
 
 -- the word that has the fields of a well-formed instruction
 module _ (p : ℕ) (i : Inst) (rd : i.rd < 32) (rs1 : i.rs1 < 32) (rs2 : i.rs2 < 32) where
-  pub placed_below : (format : Format) → IsPattern format p → FitsFormat format i → p + placed format i < 2 ^ 32
-  unfolding placed FitsFormat
+  pub placed_below : (format : Format) → IsPattern format p → FitsFormat format i → p + field_bits format i < 2 ^ 32
+  unfolding field_bits FitsFormat
   placed_below R pattern fields = omega arith
   placed_below I pattern fields = omega arith
   placed_below S pattern fields = omega arith
   placed_below B pattern fields = omega arith
   placed_below U pattern fields = omega arith
   placed_below J pattern fields = omega arith
-  placed_below H pattern fields = omega arith
-  placed_below N pattern fields = omega arith
+  placed_below Shift pattern fields = omega arith
+  placed_below Fieldless pattern fields = omega arith
 
-  pub placed_fixed : (format : Format) (w : ℕ) → IsPattern format p → FitsFormat format i → w ≡ p + placed format i → are_fixed (w % 2 ^ 7) (field w 12 3) (field w 25 7) w format p ≡ true
-  unfolding placed FitsFormat
+  pub placed_fixed : (format : Format) (w : ℕ) → IsPattern format p → FitsFormat format i → w ≡ p + field_bits format i → are_fixed (w % 2 ^ 7) (field w 12 3) (field w 25 7) w format p ≡ true
+  unfolding field_bits FitsFormat
   placed_fixed R w pattern fields e = fix_three (w % 2 ^ 7) (p % 2 ^ 7) (field w 12 3) (field p 12 3) (field w 25 7) (field p 25 7) (omega arith) (omega arith) (omega arith)
   placed_fixed I w pattern fields e = fix_two (w % 2 ^ 7) (p % 2 ^ 7) (field w 12 3) (field p 12 3) (omega arith) (omega arith)
   placed_fixed S w pattern fields e = fix_two (w % 2 ^ 7) (p % 2 ^ 7) (field w 12 3) (field p 12 3) (omega arith) (omega arith)
   placed_fixed B w pattern fields e = fix_two (w % 2 ^ 7) (p % 2 ^ 7) (field w 12 3) (field p 12 3) (omega arith) (omega arith)
   placed_fixed U w pattern fields e = eq-eqb (w % 2 ^ 7) (p % 2 ^ 7) (omega arith)
   placed_fixed J w pattern fields e = eq-eqb (w % 2 ^ 7) (p % 2 ^ 7) (omega arith)
-  placed_fixed H w pattern fields e = fix_three (w % 2 ^ 7) (p % 2 ^ 7) (field w 12 3) (field p 12 3) (field w 25 7) (field p 25 7) (omega arith) (omega arith) (omega arith)
-  placed_fixed N w pattern fields e = fix_two (w % 2 ^ 7) (p % 2 ^ 7) w p (omega arith) (omega arith)
+  placed_fixed Shift w pattern fields e = fix_three (w % 2 ^ 7) (p % 2 ^ 7) (field w 12 3) (field p 12 3) (field w 25 7) (field p 25 7) (omega arith) (omega arith) (omega arith)
+  placed_fixed Fieldless w pattern fields e = fix_two (w % 2 ^ 7) (p % 2 ^ 7) w p (omega arith) (omega arith)
 
-  pub read_placed : (format : Format) (w : ℕ) → IsPattern format p → FitsFormat format i → w ≡ p + placed format i → read format i.op w ≡ i
-  unfolding placed read FitsFormat
+  pub read_placed : (format : Format) (w : ℕ) → IsPattern format p → FitsFormat format i → w ≡ p + field_bits format i → instruction_in format i.op w ≡ i
+  unfolding field_bits instruction_in FitsFormat
   read_placed R w pattern fields e =
       same_inst i.op _ _ _ _ _ _ _ _ (omega arith) (omega arith) (omega arith) (sym fields)
   read_placed I w pattern fields e =
@@ -151,25 +153,25 @@ module _ (p : ℕ) (i : Inst) (rd : i.rd < 32) (rs1 : i.rs1 < 32) (rs2 : i.rs2 <
       let high : i.imm ≤ℤ pos 1048575 = omega (arith, ints) in
       let bits = spelled_21 i.imm (bits_j w) fields.2 high (omega arith) in
       same_inst i.op _ _ _ _ _ _ _ _ (omega arith) (omega arith) (omega arith) (complement_spelled 1048575 2097151 refl i.imm (bits_j w) fields.2 high bits)
-  read_placed H w pattern fields e =
+  read_placed Shift w pattern fields e =
       same_inst i.op _ _ _ _ _ _ _ _ (omega arith) (omega arith) (omega arith) (shift_spelled i.imm (field w 20 5) fields.1 fields.2 (omega arith))
-  read_placed N w pattern fields e =
+  read_placed Fieldless w pattern fields e =
       same_inst i.op _ _ _ _ _ _ _ _ (omega arith) (omega arith) (omega arith) (sym fields.3)
 
--- what is read fits the format
-pub read_registers : (format : Format) (op : Op) (w : ℕ) → let i = read format op w in ((i.op ≡ op) × (i.rd < 32) × (i.rs1 < 32) × (i.rs2 < 32))
-unfolding read
+-- what is instruction_in fits the format
+pub read_registers : (format : Format) (op : Op) (w : ℕ) → let i = instruction_in format op w in ((i.op ≡ op) × (i.rd < 32) × (i.rs1 < 32) × (i.rs2 < 32))
+unfolding instruction_in
 read_registers R op w = (refl, omega arith, omega arith, omega arith)
 read_registers I op w = (refl, omega arith, omega arith, omega arith)
 read_registers S op w = (refl, omega arith, omega arith, omega arith)
 read_registers B op w = (refl, omega arith, omega arith, omega arith)
 read_registers U op w = (refl, omega arith, omega arith, omega arith)
 read_registers J op w = (refl, omega arith, omega arith, omega arith)
-read_registers H op w = (refl, omega arith, omega arith, omega arith)
-read_registers N op w = (refl, omega arith, omega arith, omega arith)
+read_registers Shift op w = (refl, omega arith, omega arith, omega arith)
+read_registers Fieldless op w = (refl, omega arith, omega arith, omega arith)
 
-pub read_fits : (format : Format) (op : Op) (w : ℕ) → FitsFormat format (read format op w)
-unfolding read FitsFormat
+pub read_fits : (format : Format) (op : Op) (w : ℕ) → FitsFormat format (instruction_in format op w)
+unfolding instruction_in FitsFormat
 read_fits R op w = refl
 read_fits I op w =
     let range = complement_range 2047 4095 refl (bits_i w) (omega arith) in
@@ -189,5 +191,5 @@ read_fits J op w =
     let range = complement_range 1048575 2097151 refl (bits_j w) (omega arith) in
     let imm = complement_word 1048575 2097151 refl (bits_j w) (omega arith) (omega arith) in
     (refl, refl, range.0, complement_at_most 1048575 2097151 refl (bits_j w) 1048574 (omega arith) (λ h. omega arith), omega (arith, imm))
-read_fits H op w = (refl, omega (arith, ints), omega (arith, ints))
-read_fits N op w = (refl, refl, refl, refl)
+read_fits Shift op w = (refl, omega (arith, ints), omega (arith, ints))
+read_fits Fieldless op w = (refl, refl, refl, refl)

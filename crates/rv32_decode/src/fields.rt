@@ -1,7 +1,8 @@
 //! The fields of a word, read and put into their places.
 
-ghost use Rattle.rv32_decode.specs.Table.{field, signed};
-ghost use Rattle.rv32_decode.specs.Table as spec;
+ghost use Rattle.rv32_decode.specs.Encoding.{field_bits as field_bits_of};
+ghost use Rattle.rv32_decode.specs.Fields as spec;
+ghost use Rattle.rv32_decode.specs.Words.{field, signed_number};
 ghost use Rattle.std.specs.Prelude.{◌*◌, ◌+◌, ◌<◌, ◌≡◌, ◌≤◌, ◌^◌};
 
 use crate::table::Format;
@@ -22,7 +23,7 @@ pub fn bits(word: u32, low: u32, count: u32) -> u32
 fn extend(number: u32, count: u32) -> i32
     requires count { (1 ≤ count) × (count ≤ 30) }
     requires number { number < 2 ^ count }
-    ensures { result ≡ signed count number }
+    ensures { result ≡ signed_number count number }
 {
     let size: u32 = 1 << count;
     if number < size / 2 {
@@ -40,7 +41,7 @@ fn register(word: u32, low: u32) -> u8
     bits(word, low, 5) as u8
 }
 
-// The immediates (RISC-V unprivileged manual, section 2.3).
+// The immediates, section 2.3 of the manual.
 
 #[inline(always)]
 fn imm_i(word: u32) -> i32
@@ -102,11 +103,11 @@ fn inst(op: Op, rd: u8, rs1: u8, rs2: u8, imm: i32) -> Inst
     }
 }
 
-// A word's fields in a format.
+// The instruction that a word spells in a row's format.
 #[inline(always)]
-#[tactic(auto, unfolding(crate::specs::Table::read))]
-pub fn read(format: Format, op: Op, word: u32) -> Inst
-    ensures { result ≡ spec.read format op word }
+#[tactic(auto, unfolding(crate::specs::Fields::instruction_in))]
+pub fn instruction_in(format: Format, op: Op, word: u32) -> Inst
+    ensures { result ≡ spec.instruction_in format op word }
 {
     let rd = register(word, 7);
     let rs1 = register(word, 15);
@@ -118,38 +119,38 @@ pub fn read(format: Format, op: Op, word: u32) -> Inst
         Format::B => inst(op, 0, rs1, rs2, imm_b(word)),
         Format::U => inst(op, rd, 0, 0, imm_u(word)),
         Format::J => inst(op, rd, 0, 0, imm_j(word)),
-        Format::H => inst(op, rd, rs1, 0, shift(word)),
-        Format::N => inst(op, 0, 0, 0, 0),
+        Format::Shift => inst(op, rd, rs1, 0, shift(word)),
+        Format::Fieldless => inst(op, 0, 0, 0, 0),
     }
 }
 
-fn placed_s(imm: u32) -> u32
+fn imm_bits_s(imm: u32) -> u32
     ensures { result ≡ field imm 0 5 * 2 ^ 7 + field imm 5 7 * 2 ^ 25 }
 {
     bits(imm, 0, 5) * 0x80 + bits(imm, 5, 7) * 0x200_0000
 }
 
-fn placed_b(imm: u32) -> u32
+fn imm_bits_b(imm: u32) -> u32
     ensures { result ≡ field imm 11 1 * 2 ^ 7 + field imm 1 4 * 2 ^ 8 + field imm 5 6 * 2 ^ 25 + field imm 12 1 * 2 ^ 31 }
 {
     let low = bits(imm, 11, 1) * 0x80 + bits(imm, 1, 4) * 0x100;
     low + bits(imm, 5, 6) * 0x200_0000 + bits(imm, 12, 1) * 0x8000_0000
 }
 
-fn placed_j(imm: u32) -> u32
+fn imm_bits_j(imm: u32) -> u32
     ensures { result ≡ field imm 12 8 * 2 ^ 12 + field imm 11 1 * 2 ^ 20 + field imm 1 10 * 2 ^ 21 + field imm 20 1 * 2 ^ 31 }
 {
     let low = bits(imm, 12, 8) * 0x1000 + bits(imm, 11, 1) * 0x10_0000;
     low + bits(imm, 1, 10) * 0x20_0000 + bits(imm, 20, 1) * 0x8000_0000
 }
 
-// The fields in their places in a word.
-#[tactic(auto, unfolding(crate::specs::Table::placed))]
-pub fn placed(format: Format, inst: &Inst) -> u32
+// The bits of an instruction's fields, in their places in a word.
+#[tactic(auto, unfolding(crate::specs::Encoding::field_bits))]
+pub fn field_bits(format: Format, inst: &Inst) -> u32
     requires rd { inst.now.rd < 32 }
     requires rs1 { inst.now.rs1 < 32 }
     requires rs2 { inst.now.rs2 < 32 }
-    ensures { result ≡ spec.placed format inst.now }
+    ensures { result ≡ field_bits_of format inst.now }
 {
     let rd = inst.rd as u32 * 0x80;
     let rs1 = inst.rs1 as u32 * 0x8000;
@@ -158,11 +159,11 @@ pub fn placed(format: Format, inst: &Inst) -> u32
     match format {
         Format::R => rd + rs1 + rs2,
         Format::I => rd + rs1 + bits(imm, 0, 12) * 0x10_0000,
-        Format::S => placed_s(imm) + rs1 + rs2,
-        Format::B => placed_b(imm) + rs1 + rs2,
+        Format::S => imm_bits_s(imm) + rs1 + rs2,
+        Format::B => imm_bits_b(imm) + rs1 + rs2,
         Format::U => rd + bits(imm, 12, 20) * 0x1000,
-        Format::J => rd + placed_j(imm),
-        Format::H => rd + rs1 + bits(imm, 0, 5) * 0x10_0000,
-        Format::N => 0,
+        Format::J => rd + imm_bits_j(imm),
+        Format::Shift => rd + rs1 + bits(imm, 0, 5) * 0x10_0000,
+        Format::Fieldless => 0,
     }
 }

@@ -1,5 +1,5 @@
 use Rattle.rv32_decode.proofs.Both.{answer_encoded, answer_fields, answer_none}
-use Rattle.rv32_decode.proofs.Rows.{one_row}
+use Rattle.rv32_decode.proofs.Matches.{one_row}
 use Rattle.rv32_decode.proofs.decode.Goals as goal
 
 pub returns : goal.returns

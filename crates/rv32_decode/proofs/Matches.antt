@@ -5,11 +5,65 @@ use Rattle.std.proofs.lemmas.List.Elements.{All-from_recursion, recursion_from_A
 use Rattle.std.proofs.lemmas.Nat.{and_assoc, and_comm}
 use Rattle.std.specs.List.{list_all}
 use Rattle.rv32_decode.proofs.Masks.{is_pattern, is_regular, mask_is, mask_of, tests_fields}
-use Rattle.rv32_decode.proofs.Search.{each_pair, find_all, find_none, find_passes, find_same, none_found, one_found, one_passes}
-use Rattle.rv32_decode.specs.Fixed.{are_fixed, row_at}
-use Rattle.rv32_decode.specs.Table.{Row, field, is_word_of, number_of, row_for, row_of, rows}
+use Rattle.rv32_decode.proofs.Finds.{each_pair, find_all, find_none, find_passes, find_same, none_found, one_found, one_passes}
+use Rattle.rv32_decode.specs.Decoding.{is_word_of, matching_row}
+use Rattle.rv32_decode.specs.Search.{are_fixed, row_at}
+use Rattle.rv32_decode.specs.Table.{Row, ops, row_of, rows}
+use Rattle.rv32_decode.specs.Words.{field}
 use Rattle.rv32_decode.specs.declared.Op.{Op}
 use Rattle.rv32_decode.specs.declared.Op.TheVariants.{Lui, Auipc, Jal, Jalr, Beq, Bne, Blt, Bge, Bltu, Bgeu, Lb, Lh, Lw, Lbu, Lhu, Sb, Sh, Sw, Addi, Slti, Sltiu, Xori, Ori, Andi, Slli, Srli, Srai, Add, Sub, Sll, Slt, Sltu, Xor, Srl, Sra, Or, And, Mul, Mulh, Mulhsu, Mulhu, Div, Divu, Rem, Remu, Fence, FenceI, Ecall, Ebreak}
+
+-- a number for each name, that tells it from the others
+unfoldable number_of : Op → ℕ
+number_of Lui = 0
+number_of Auipc = 1
+number_of Jal = 2
+number_of Jalr = 3
+number_of Beq = 4
+number_of Bne = 5
+number_of Blt = 6
+number_of Bge = 7
+number_of Bltu = 8
+number_of Bgeu = 9
+number_of Lb = 10
+number_of Lh = 11
+number_of Lw = 12
+number_of Lbu = 13
+number_of Lhu = 14
+number_of Sb = 15
+number_of Sh = 16
+number_of Sw = 17
+number_of Addi = 18
+number_of Slti = 19
+number_of Sltiu = 20
+number_of Xori = 21
+number_of Ori = 22
+number_of Andi = 23
+number_of Slli = 24
+number_of Srli = 25
+number_of Srai = 26
+number_of Add = 27
+number_of Sub = 28
+number_of Sll = 29
+number_of Slt = 30
+number_of Sltu = 31
+number_of Xor = 32
+number_of Srl = 33
+number_of Sra = 34
+number_of Or = 35
+number_of And = 36
+number_of Mul = 37
+number_of Mulh = 38
+number_of Mulhsu = 39
+number_of Mulhu = 40
+number_of Div = 41
+number_of Divu = 42
+number_of Rem = 43
+number_of Remu = 44
+number_of Fence = 45
+number_of FenceI = 46
+number_of Ecall = 47
+number_of Ebreak = 48
 
 abbrev fits : Row → Bool
 fits r = is_regular r.mask r.format r.pattern
@@ -22,20 +76,20 @@ abbrev other_name : Row → Row → Bool
 other_name r s = not (number_of r.op == number_of s.op)
 
 rows_fit : list_all fits rows ≡ true
-unfolding rows is_regular mask_of
+unfolding rows ops row_of is_regular mask_of
 rows_fit = refl
 
 rows_apart : each_pair are_apart rows ≡ true
-unfolding rows
+unfolding rows ops row_of
 rows_apart = refl
 
 rows_named : each_pair other_name rows ≡ true
-unfolding rows number_of
+unfolding rows ops row_of number_of
 rows_named = refl
 
 -- each name has a row
-row_found : (op : Op) → find (λ r. number_of r.op == number_of op) rows ≡ Some (row_for op)
-unfolding rows number_of row_for
+row_found : (op : Op) → find (λ r. number_of r.op == number_of op) rows ≡ Some (row_of op)
+unfolding rows ops row_of number_of
 row_found Lui = refl
 row_found Auipc = refl
 row_found Jal = refl
@@ -86,8 +140,8 @@ row_found FenceI = refl
 row_found Ecall = refl
 row_found Ebreak = refl
 
-pub name_of_row : (op : Op) → (row_for op).op ≡ op
-unfolding rows number_of row_for
+pub name_of_row : (op : Op) → (row_of op).op ≡ op
+unfolding row_of
 name_of_row Lui = refl
 name_of_row Auipc = refl
 name_of_row Jal = refl
@@ -154,8 +208,8 @@ never_named op r s other e f =
     eqb-false _ _ (not-true _ other) (eqb-true _ _ e ∙ sym (eqb-true _ _ f))
 
 -- a search by masks is a search by fields
-pub row_by_fields : (w : ℕ) → w < 2 ^ 32 → row_of w ≡ row_at (w % 2 ^ 7) (field w 12 3) (field w 25 7) w
-unfolding row_of row_at
+pub row_by_fields : (w : ℕ) → w < 2 ^ 32 → matching_row w ≡ row_at (w % 2 ^ 7) (field w 12 3) (field w 25 7) w
+unfolding matching_row row_at
 row_by_fields w below =
     find_same fits (is_word_of w) (λ r. are_fixed (w % 2 ^ 7) (field w 12 3) (field w 25 7) w r.format r.pattern)
     (λ r fit. ap (λ m. bit_and w m == r.pattern) (mask_is r.mask r.format r.pattern fit)
@@ -163,45 +217,45 @@ row_by_fields w below =
     rows rows_fit
 
 -- what a search finds is the row of its name
-pub row_for_found : (p : Row → Bool) (r : Row) → find p rows ≡ Some r → row_for r.op ≡ r
-unfolding row_for
-row_for_found p r e =
+pub row_of_found : (p : Row → Bool) (r : Row) → find p rows ≡ Some r → row_of r.op ≡ r
+row_of_found p r e =
     let found : find (λ s. number_of s.op == number_of r.op) rows ≡ Some r
     = one_found other_name (λ s. number_of s.op == number_of r.op) (never_named r.op) p rows r rows_named e (eq-eqb _ _ refl) in
-    rw found refl
+    let here : find (λ s. number_of s.op == number_of r.op) rows ≡ Some (row_of r.op) = row_found r.op in
+    cc
 
 -- no other row comes between a word and the row whose pattern it has
-pub row_of_word : (w : ℕ) (op : Op) → is_word_of w (row_for op) ≡ true → row_of w ≡ Some (row_for op)
-unfolding row_of
+pub row_of_word : (w : ℕ) (op : Op) → is_word_of w (row_of op) ≡ true → matching_row w ≡ Some (row_of op)
+unfolding matching_row
 row_of_word w op passes =
-    one_found are_apart (is_word_of w) (never_both w) (λ r. number_of r.op == number_of op) rows (row_for op) rows_apart (row_found op) passes
+    one_found are_apart (is_word_of w) (never_both w) (λ r. number_of r.op == number_of op) rows (row_of op) rows_apart (row_found op) passes
 
-pub row_fits : (op : Op) → is_regular (row_for op).mask (row_for op).format (row_for op).pattern ≡ true
-row_fits op = find_all fits (λ r. number_of r.op == number_of op) rows (row_for op) rows_fit (row_found op)
+pub row_fits : (op : Op) → is_regular (row_of op).mask (row_of op).format (row_of op).pattern ≡ true
+row_fits op = find_all fits (λ r. number_of r.op == number_of op) rows (row_of op) rows_fit (row_found op)
 
-pub found_fits : (w : ℕ) (r : Row) → row_of w ≡ Some r → is_regular r.mask r.format r.pattern ≡ true
-unfolding row_of
+pub found_fits : (w : ℕ) (r : Row) → matching_row w ≡ Some r → is_regular r.mask r.format r.pattern ≡ true
+unfolding matching_row
 found_fits w r e = find_all fits (is_word_of w) rows r rows_fit e
 
-pub found_matches : (w : ℕ) (r : Row) → row_of w ≡ Some r → is_word_of w r ≡ true
-unfolding row_of
+pub found_matches : (w : ℕ) (r : Row) → matching_row w ≡ Some r → is_word_of w r ≡ true
+unfolding matching_row
 found_matches w r e = find_passes (is_word_of w) rows r e
 
-pub row_for_row_of : (w : ℕ) (r : Row) → row_of w ≡ Some r → row_for r.op ≡ r
-unfolding row_of
-row_for_row_of w r e = row_for_found (is_word_of w) r e
+pub row_of_match : (w : ℕ) (r : Row) → matching_row w ≡ Some r → row_of r.op ≡ r
+unfolding matching_row
+row_of_match w r e = row_of_found (is_word_of w) r e
 
 pub one_row : (w : ℕ) → length (filter (is_word_of w) rows) ≤ 1
 one_row w = one_passes are_apart (is_word_of w) (never_both w) rows rows_apart
 
-pub no_row : (w : ℕ) → is_some (row_of w) ≡ false → All (λ r. bit_and w r.mask ≢ r.pattern) rows
-unfolding row_of
+pub no_row : (w : ℕ) → is_some (matching_row w) ≡ false → All (λ r. bit_and w r.mask ≢ r.pattern) rows
+unfolding matching_row
 no_row w none =
     let P : Row → Type 0 = λ r. bit_and w r.mask ≢ r.pattern in
     All-from_recursion P rows (none_found (is_word_of w) P (λ r. eqb-false (bit_and w r.mask) r.pattern) rows none)
 
-pub row_missing : (w : ℕ) → All (λ r. bit_and w r.mask ≢ r.pattern) rows → is_some (row_of w) ≡ false
-unfolding row_of
+pub row_missing : (w : ℕ) → All (λ r. bit_and w r.mask ≢ r.pattern) rows → is_some (matching_row w) ≡ false
+unfolding matching_row
 row_missing w all =
     let P : Row → Type 0 = λ r. bit_and w r.mask ≢ r.pattern in
     find_none (is_word_of w) P (λ r. ne_eqb (bit_and w r.mask) r.pattern) rows (recursion_from_All P rows all)
