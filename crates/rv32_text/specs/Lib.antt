@@ -1,1 +1,4 @@
+pub mod Mnemonics
+pub mod Registers
+pub mod Style
 pub mod Text

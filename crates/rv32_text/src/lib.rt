@@ -1,7 +1,7 @@
-//! Instructions and words as text, in the assembly language of the RISC-V unprivileged manual.
+//! Instructions and words as text, in this project's assembly language (docs/FORMATS.md).
 #![tactic(auto)]
 
-ghost use Rattle.rv32_decode.specs.Table.{IsInst};
+ghost use Rattle.rv32_decode.specs.Encoding.{IsInst};
 ghost use Rattle.rv32_text.specs.Text.{text_of, text_of_word};
 ghost use Rattle.std.specs.Prelude.{IfOk, ◌≡◌};
 
@@ -9,12 +9,16 @@ use rv32_decode::{Inst, decode};
 use sec_base::{Bytes, NoMemory};
 use std::alloc::Global;
 
-mod names;
-mod styles;
+mod mnemonics;
+mod registers;
+mod style;
 #[cfg(test)]
 mod tests;
+mod text;
 
-pub use names::{Style, name_of, register_name, style_of};
+pub use mnemonics::mnemonic_of;
+pub use registers::register_name;
+pub use style::{Style, style_of};
 
 /// The text of an instruction that stands at `pc`, such as `addi a0, zero, 7`. Branches and jumps are
 /// written with the address that they lead to; FENCE and FENCE.I with other fields than those of `fence`
@@ -23,7 +27,7 @@ pub fn write_inst(alloc: Global, inst: &Inst, pc: u32) -> Result<Bytes, NoMemory
     requires { IsInst inst.now }
     ensures { IfOk result (λ text. text ≡ text_of inst.now pc) }
 {
-    let text = styles::text(alloc, inst, pc)?;
+    let text = text::text_of(alloc, inst, pc)?;
     Ok(Bytes::from_vec(text.into_bytes()))
 }
 
@@ -36,7 +40,7 @@ pub fn write_word(alloc: Global, word: u32, pc: u32) -> Result<Bytes, NoMemory>
     match decode(word) {
         Some(inst) => write_inst(alloc, &inst, pc),
         None => {
-            let text = styles::data(alloc, word)?;
+            let text = text::data_text(alloc, word)?;
             Ok(Bytes::from_vec(text.into_bytes()))
         }
     }
