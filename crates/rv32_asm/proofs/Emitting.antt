@@ -4,7 +4,7 @@ use Rattle.std.proofs.lemmas.List.{at_drop_more, append-nil, drop_all}
 use Rattle.std.specs.Int.{to_le_bytes, w32}
 use Rattle.std.specs.List.{list_any}
 use Rattle.sec_base.specs.declared.width.Width.{Width}
-use Rattle.rv32_decode.specs.Table.{word_of}
+use Rattle.rv32_decode.specs.Encoding.{word_of}
 use Rattle.rv32_asm_syntax.specs.declared.fault.AsmFault.{AsmFault}
 use Rattle.rv32_asm_syntax.specs.declared.fault.AsmFault.TheVariants.{Range}
 use Rattle.rv32_asm_syntax.specs.declared.statements.Expression.{Expression}

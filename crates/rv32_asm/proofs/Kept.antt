@@ -4,10 +4,12 @@ use Rattle.std.proofs.lemmas.Bool.{and_parts, eqb-true, leb-true}
 use Rattle.std.proofs.lemmas.Int.{ints}
 use Rattle.std.specs.Int.{cast_unsigned, w32}
 use Rattle.std.specs.Prelude.{unsigned_abs}
-use Rattle.rv32_decode.specs.Table.{FitsFormat, IsInst, field, placed, row_for, signed, word_of}
+use Rattle.rv32_decode.specs.Encoding.{FitsFormat, IsInst, field_bits, word_of}
+use Rattle.rv32_decode.specs.Table.{row_of}
+use Rattle.rv32_decode.specs.Words.{field, signed_number}
 use Rattle.rv32_decode.specs.declared.Inst.{Inst}
 use Rattle.rv32_decode.specs.declared.table.Format.{Format}
-use Rattle.rv32_decode.specs.declared.table.Format.TheVariants.{R, I, S, B, U, J, H, N}
+use Rattle.rv32_decode.specs.declared.table.Format.TheVariants.{R, I, S, B, U, J, Shift, Fieldless}
 use Rattle.rv32_asm.specs.Encoding.{distance, encoded_at, fits_at, fits_format, immediate_of, is_even}
 use Rattle.rv32_asm.specs.Fields.{immediate_in, kept}
 use Rattle.rv32_asm.specs.Labels.{Label}
@@ -25,25 +27,25 @@ op_kept S i = refl
 op_kept B i = refl
 op_kept U i = refl
 op_kept J i = refl
-op_kept H i = refl
-op_kept N i = refl
+op_kept Shift i = refl
+op_kept Fieldless i = refl
 
-placed_kept : (f : Format) (i : Inst) → placed f (kept f i) ≡ placed f i
-unfolding placed
+placed_kept : (f : Format) (i : Inst) → field_bits f (kept f i) ≡ field_bits f i
+unfolding field_bits
 placed_kept R i = refl
 placed_kept I i = refl
 placed_kept S i = refl
 placed_kept B i = refl
 placed_kept U i = refl
 placed_kept J i = refl
-placed_kept H i = refl
-placed_kept N i = refl
+placed_kept Shift i = refl
+placed_kept Fieldless i = refl
 
-pub word_kept : (i : Inst) → word_of (kept (row_for i.op).format i) ≡ word_of i
+pub word_kept : (i : Inst) → word_of (kept (row_of i.op).format i) ≡ word_of i
 unfolding word_of
 word_kept i =
-    let format = (row_for i.op).format in
-    rw (op_kept format i) (ap (λ n. (row_for i.op).pattern + n) (placed_kept format i))
+    let format = (row_of i.op).format in
+    rw (op_kept format i) (ap (λ n. (row_of i.op).pattern + n) (placed_kept format i))
 
 -- ---- the immediate
 
@@ -65,17 +67,17 @@ even_bits (negsuc a) e low high =
     let f = eqb-true (2 - 1 - a % 2) 0 e in
     omega arith
 
-upper_range : (n : ℕ) → n ≤ 1048575 → (negsuc 2147483647 ≤ℤ signed 32 (n * 2 ^ 12)) × (signed 32 (n * 2 ^ 12) ≤ℤ pos 2147483647)
+upper_range : (n : ℕ) → n ≤ 1048575 → (negsuc 2147483647 ≤ℤ signed_number 32 (n * 2 ^ 12)) × (signed_number 32 (n * 2 ^ 12) ≤ℤ pos 2147483647)
 upper_range n small = complement_range 2147483647 4294967295 refl (n * 2 ^ 12) (omega arith)
 
-upper_bits : (n : ℕ) → n ≤ 1048575 → field (cast_unsigned w32 (signed 32 (n * 2 ^ 12))) 0 12 ≡ 0
+upper_bits : (n : ℕ) → n ≤ 1048575 → field (cast_unsigned w32 (signed_number 32 (n * 2 ^ 12))) 0 12 ≡ 0
 upper_bits n small =
     elim (complement_word 2147483647 4294967295 refl (n * 2 ^ 12) (omega arith) (omega arith)) [
       | inl w ↦ omega (arith, w.1)
       | inr w ↦ omega (arith, w.1)
     ]
 
-upper_fits : (value : ℤ) → pos 0 ≤ℤ value → value ≤ℤ pos 1048575 → let imm = signed 32 (unsigned_abs value * 2 ^ 12) in
+upper_fits : (value : ℤ) → pos 0 ≤ℤ value → value ≤ℤ pos 1048575 → let imm = signed_number 32 (unsigned_abs value * 2 ^ 12) in
     (negsuc 2147483647 ≤ℤ imm) × (imm ≤ℤ pos 2147483647) × (field (cast_unsigned w32 imm) 0 12 ≡ 0)
 upper_fits (pos n) low high =
     let small : n ≤ 1048575 = omega (arith, ints) in
@@ -113,8 +115,8 @@ fits_kept U i address value fits e =
 fits_kept J i address value fits e =
     let far = far_fits (distance address value) (neg_ℤ (pos 1048576)) (pos 1048574) (omega (arith, ints)) (omega (arith, ints)) fits in
     rw e (refl, refl, far.0, far.1, far.2)
-fits_kept H i address value fits e = let range = from_between _ _ value fits in rw e (refl, range.0, range.1)
-fits_kept N i address value fits e = (refl, refl, refl, e)
+fits_kept Shift i address value fits e = let range = from_between _ _ value fits in rw e (refl, range.0, range.1)
+fits_kept Fieldless i address value fits e = (refl, refl, refl, e)
 
 -- ---- whether there is an immediate
 
@@ -133,8 +135,8 @@ rd_kept S i small = omega arith
 rd_kept B i small = omega arith
 rd_kept U i small = small
 rd_kept J i small = small
-rd_kept H i small = small
-rd_kept N i small = omega arith
+rd_kept Shift i small = small
+rd_kept Fieldless i small = omega arith
 
 rs1_kept : (f : Format) (i : Inst) → i.rs1 < 32 → (kept f i).rs1 < 32
 rs1_kept R i small = small
@@ -143,8 +145,8 @@ rs1_kept S i small = small
 rs1_kept B i small = small
 rs1_kept U i small = omega arith
 rs1_kept J i small = omega arith
-rs1_kept H i small = small
-rs1_kept N i small = omega arith
+rs1_kept Shift i small = small
+rs1_kept Fieldless i small = omega arith
 
 rs2_kept : (f : Format) (i : Inst) → i.rs2 < 32 → (kept f i).rs2 < 32
 rs2_kept R i small = small
@@ -153,34 +155,34 @@ rs2_kept S i small = small
 rs2_kept B i small = small
 rs2_kept U i small = omega arith
 rs2_kept J i small = omega arith
-rs2_kept H i small = omega arith
-rs2_kept N i small = omega arith
+rs2_kept Shift i small = omega arith
+rs2_kept Fieldless i small = omega arith
 
 module _ (labels : List Label) (address : ℕ) (i : Instruction) (value : ℤ) (valued : value ≡ immediate_value labels i.immediate) where
-  pub no_word : immediate_in (row_for i.op).format address value ≡ None →
+  pub no_word : immediate_in (row_of i.op).format address value ≡ None →
       None ≡ (if fits_at labels address i then Some (word_of (encoded_at labels address i)) else None)
   unfolding fits_at
   no_word none =
       let f = rw valued at none in
-      rw (none_taken (fits_format (row_for i.op).format address (immediate_value labels i.immediate)) _ f) refl
+      rw (none_taken (fits_format (row_of i.op).format address (immediate_value labels i.immediate)) _ f) refl
 
   -- the instruction with an immediate
   abbrev pub given : ℤ → Inst
   given imm = record { op = i.op; rd = i.rd; rs1 = i.rs1; rs2 = i.rs2; imm = imm }
 
-  module _ (imm : ℤ) (taken : immediate_in (row_for i.op).format address value ≡ Some imm) (inst : Inst)
-      (inst_is : inst ≡ kept (row_for i.op).format (given imm)) where
+  module _ (imm : ℤ) (taken : immediate_in (row_of i.op).format address value ≡ Some imm) (inst : Inst)
+      (inst_is : inst ≡ kept (row_of i.op).format (given imm)) where
     pub has_word : (word : ℕ) → word ≡ word_of inst →
         Some word ≡ (if fits_at labels address i then Some (word_of (encoded_at labels address i)) else None)
     unfolding fits_at encoded_at
     has_word word e =
         let f = rw valued at taken in
-        let t = some_taken (fits_format (row_for i.op).format address (immediate_value labels i.immediate)) _ imm f in
+        let t = some_taken (fits_format (row_of i.op).format address (immediate_value labels i.immediate)) _ imm f in
         rw (t.0) (ap Some (e ∙ (ap word_of inst_is ∙ (word_kept (given imm) ∙ ap (λ n. word_of (given n)) t.1))))
 
     pub is_formed : i.rd < 32 → i.rs1 < 32 → i.rs2 < 32 → IsInst inst
     is_formed a b c =
-        let format = (row_for i.op).format in
+        let format = (row_of i.op).format in
         let t = some_taken (fits_format format address value) _ imm taken in
         rw inst_is (record {
           rd = rd_kept format (given imm) a;

@@ -2,13 +2,17 @@
 use Rattle.std.proofs.Common.{◌≡◌, ℕ, ◌+◌, ◌%◌, ◌^◌, ◌<◌, ◌≤◌, ◌==◌, ◌||◌, Bool, true, false, List, [], ◌∷◌, Option, Some, None, if◌then◌else◌, refl, ap, sym, subst, ◌∙◌, inl, inr, ◌⊎◌, arith}
 use Rattle.std.proofs.lemmas.Bool.{cases_Bool, cases_eq, eqb-true, ne_eqb, or_cases}
 use Rattle.rv32_decode.proofs.Both.{instruction_fields, instruction_word, word_below, word_instruction}
-use Rattle.rv32_decode.specs.Table.{IsInst, instruction_of, placed, row_for, word_of}
+use Rattle.rv32_decode.specs.Decoding.{instruction_of}
+use Rattle.rv32_decode.specs.Encoding.{IsInst, field_bits, word_of}
+use Rattle.rv32_decode.specs.Table.{row_of}
 use Rattle.rv32_decode.specs.declared.Inst.{Inst}
 use Rattle.rv32_decode.specs.declared.table.Format.{Format}
-use Rattle.rv32_decode.specs.declared.table.Format.TheVariants.{N}
-use Rattle.rv32_text.specs.Text.{data_text, is_unnamed_fence, mnemonic_of, operands_of, statement, text_of, text_of_word, text_or_data}
-use Rattle.rv32_text.specs.declared.names.Style.{Style}
-use Rattle.rv32_text.specs.declared.names.Style.TheVariants.{Registers, Immediate, Offset, Store, Upper, Branch, Jump, Fence, Bare}
+use Rattle.rv32_decode.specs.declared.table.Format.TheVariants.{Fieldless}
+use Rattle.rv32_text.specs.Mnemonics.{mnemonic_of}
+use Rattle.rv32_text.specs.Style.{style_of}
+use Rattle.rv32_text.specs.Text.{data_text, instruction_text, is_unnamed_fence, operand_texts, text_of, text_of_word, text_or_data}
+use Rattle.rv32_text.specs.declared.style.Style.{Style}
+use Rattle.rv32_text.specs.declared.style.Style.TheVariants.{Registers, Immediate, Offset, Store, Upper, Branch, Jump, Fence, Bare}
 use Rattle.sec_base.specs.declared.width.Width.TheVariants.{Four}
 use Rattle.rv32_asm_syntax.specs.Expressions.{number_alone}
 use Rattle.rv32_asm_syntax.specs.Keywords.{immediate_without_operands}
@@ -44,9 +48,9 @@ bare_left : (s : Style) → is_spoken s ≡ false → is_fence s ≡ false → i
 bare_left Bare spoken fence = refl
 bare_left _ spoken fence = cc
 
-placed_bare : (s : Style) (f : Format) (i : Inst) → is_bare s ≡ true → has_format s f ≡ true → placed f i ≡ 0
-unfolding placed
-placed_bare Bare N i bare ok = refl
+placed_bare : (s : Style) (f : Format) (i : Inst) → is_bare s ≡ true → has_format s f ≡ true → field_bits f i ≡ 0
+unfolding field_bits
+placed_bare Bare Fieldless i bare ok = refl
 placed_bare _ _ i bare ok = cc
 
 module _ (size word address : ℕ) (below : word < 2 ^ 32) (aligned : address % 4 ≡ 0) (inside : address + 4 ≤ size) where
@@ -60,44 +64,44 @@ module _ (size word address : ℕ) (below : word < 2 ^ 32) (aligned : address % 
     unfolding text_of_word
     text_found = ap (λ o. text_or_data o word address) found
 
-    spoken_back : is_spoken (mnemonic_of i.op).style ≡ true → IsWordBack size word address
+    spoken_back : is_spoken (style_of i.op) ≡ true → IsWordBack size word address
     unfolding text_of
     spoken_back spoken =
-        let s = (mnemonic_of i.op).style in
-        let name = (mnemonic_of i.op).name in
+        let s = (style_of i.op) in
+        let name = (mnemonic_of i.op) in
         let fields = instruction_fields word i found in
-        let text = statement name (operands_of s i address) in
+        let text = instruction_text name (operand_texts s i address) in
         let same : text_of_word word address ≡ text
         = text_found ∙ spoken_text s (word_of i) (data_text (word_of i)) text spoken in
         let read = styled i address name (name_is_word i.op) (immediate_without_operands i.op) fields.rd fields.rs1 fields.rs2
-        s (row_for i.op).format spoken (style_format i.op) fields.format (keyword_read i.op) in
+        s (row_of i.op).format spoken (style_format i.op) fields.format (keyword_read i.op) in
         read_back size word address text (Instructions (instruction i.op read.rd read.rs1 read.rs2 read.value ∷ [])) same
         read.plain read.means inside
         (instruction_is word address i.op read.rd read.rs1 read.rs2 read.value aligned read.fits
         (ap word_of read.same ∙ instruction_word word i below found))
 
-    fence_data : is_fence (mnemonic_of i.op).style ≡ true → (word == 0x0ff0000f) ≡ false → (word == 0x0000100f) ≡ false →
+    fence_data : is_fence (style_of i.op) ≡ true → (word == 0x0ff0000f) ≡ false → (word == 0x0000100f) ≡ false →
         IsWordBack size word address
     unfolding text_of
     fence_data fence e f =
-        let s = (mnemonic_of i.op).style in
+        let s = (style_of i.op) in
         let w = sym (instruction_word word i below found) in
-        let text = statement (mnemonic_of i.op).name (operands_of s i address) in
+        let text = instruction_text (mnemonic_of i.op) (operand_texts s i address) in
         data_back (text_found
         ∙ (fence_text s (word_of i) (data_text (word_of i)) text fence (ap (λ v. v == 0x0ff0000f) (sym w) ∙ e) (ap (λ v. v == 0x0000100f) (sym w) ∙ f)
         ∙ ap data_text (sym w)))
 
-    bare_word : is_bare (mnemonic_of i.op).style ≡ true → (word ≡ 0x73) ⊎ (word ≡ 0x100073)
+    bare_word : is_bare (style_of i.op) ≡ true → (word ≡ 0x73) ⊎ (word ≡ 0x100073)
     unfolding word_of
     bare_word bare =
-        let none = placed_bare (mnemonic_of i.op).style (row_for i.op).format i bare (style_format i.op) in
+        let none = placed_bare (style_of i.op) (row_of i.op).format i bare (style_format i.op) in
         let same = instruction_word word i below found in
-        let is : word ≡ (row_for i.op).pattern = omega arith in
-        let either : ((row_for i.op).pattern == 0x73 || (row_for i.op).pattern == 0x100073) ≡ true
+        let is : word ≡ (row_of i.op).pattern = omega arith in
+        let either : ((row_of i.op).pattern == 0x73 || (row_of i.op).pattern == 0x100073) ≡ true
         = rw bare at (bare_pattern i.op) in
-        elim (or_cases ((row_for i.op).pattern == 0x73) ((row_for i.op).pattern == 0x100073) either) [
-          | inl e ↦ inl (is ∙ eqb-true (row_for i.op).pattern 0x73 e)
-          | inr e ↦ inr (is ∙ eqb-true (row_for i.op).pattern 0x100073 e)
+        elim (or_cases ((row_of i.op).pattern == 0x73) ((row_of i.op).pattern == 0x100073) either) [
+          | inl e ↦ inl (is ∙ eqb-true (row_of i.op).pattern 0x73 e)
+          | inr e ↦ inr (is ∙ eqb-true (row_of i.op).pattern 0x100073 e)
         ]
 
   text_none : instruction_of word ≡ None → text_of_word word address ≡ data_text word
@@ -113,11 +117,11 @@ module _ (size word address : ℕ) (below : word < 2 ^ 32) (aligned : address % 
   some_back : (i : Inst) → instruction_of word ≡ Some i → (word == 0x0ff0000f) ≡ false → (word == 0x0000100f) ≡ false →
       IsWordBack size word address
   some_back i found e f =
-      elim (cases_Bool (is_spoken (mnemonic_of i.op).style)) [
+      elim (cases_Bool (is_spoken (style_of i.op))) [
         | inl spoken ↦ spoken_back i found spoken
-        | inr silent ↦ elim (cases_Bool (is_fence (mnemonic_of i.op).style)) [
+        | inr silent ↦ elim (cases_Bool (is_fence (style_of i.op))) [
           | inl fence ↦ fence_data i found fence e f
-          | inr other ↦ elim (bare_word i found (bare_left (mnemonic_of i.op).style silent other)) [
+          | inr other ↦ elim (bare_word i found (bare_left (style_of i.op) silent other)) [
             | inl w ↦ at_ecall w
             | inr w ↦ at_ebreak w
           ]

@@ -5,10 +5,12 @@ use Rattle.std.proofs.lemmas.List.{append-nil}
 use Rattle.std.specs.Int.{to_le_bytes, w32}
 use Rattle.std.specs.List.{list_all}
 use Rattle.sec_base.specs.declared.width.Width.TheVariants.{Four}
-use Rattle.rv32_decode.specs.Table.{row_for, word_of}
+use Rattle.rv32_decode.specs.Encoding.{word_of}
+use Rattle.rv32_decode.specs.Table.{ops, row_of, rows}
 use Rattle.rv32_decode.specs.declared.Inst.{Inst}
 use Rattle.rv32_decode.specs.declared.Op.{Op}
-use Rattle.rv32_text.specs.Text.{data_text, statement, text_of_word}
+use Rattle.rv32_text.specs.Mnemonics.{mnemonic_of}
+use Rattle.rv32_text.specs.Text.{data_text, instruction_text, text_of_word}
 use Rattle.sec_base.specs.Hexadecimal.{hex_digits}
 use Rattle.rv32_asm.specs.Encoding.{bytes_at, encoded_at, fits_at, fits_format, fits_width, immediate_of, is_in_range, misses_label}
 use Rattle.rv32_asm_syntax.specs.Expressions.{number_alone}
@@ -22,8 +24,6 @@ use Rattle.rv32_asm.specs.Passes.{Progress, after_line, line_bytes}
 use Rattle.rv32_asm_syntax.specs.Reading.{statement_of, statement_with, with_operands}
 use Rattle.rv32_asm_syntax.specs.Statements.{Data, Instruction, Instructions, Statement, instruction}
 use Rattle.rv32_asm.specs.Values.{immediate_value, modulo}
-use Rattle.rv32_decode.specs.Table.{rows}
-use Rattle.rv32_text.specs.Text.{mnemonic_of}
 use Rattle.rv32_asm.proofs.TextImmediates.{value_alone}
 use Rattle.rv32_asm.proofs.TextKeywords.{is_word}
 use Rattle.rv32_asm.proofs.TextLines.{followed_line, is_plain, plain_labels, plain_line}
@@ -79,21 +79,21 @@ abbrev pub made : Op → ℕ → ℕ → ℕ → ℤ → Inst
 made op rd rs1 rs2 imm = record { op = op; rd = rd; rs1 = rs1; rs2 = rs2; imm = imm }
 
 fits_alone : (labels : List Label) (address : ℕ) (op : Op) (rd rs1 rs2 : ℕ) (value : ℤ) →
-    fits_at labels address (instruction op rd rs1 rs2 value) ≡ fits_format (row_for op).format address value
+    fits_at labels address (instruction op rd rs1 rs2 value) ≡ fits_format (row_of op).format address value
 unfolding fits_at immediate_value
-fits_alone labels address op rd rs1 rs2 value = ap (fits_format (row_for op).format address) (value_alone labels value)
+fits_alone labels address op rd rs1 rs2 value = ap (fits_format (row_of op).format address) (value_alone labels value)
 
 encoded_alone : (labels : List Label) (address : ℕ) (op : Op) (rd rs1 rs2 : ℕ) (value : ℤ) →
     encoded_at labels address (instruction op rd rs1 rs2 value)
-    ≡ made op rd rs1 rs2 (immediate_of (row_for op).format address value)
+    ≡ made op rd rs1 rs2 (immediate_of (row_of op).format address value)
 unfolding encoded_at immediate_value
 encoded_alone labels address op rd rs1 rs2 value =
-    ap (λ v. made op rd rs1 rs2 (immediate_of (row_for op).format address v)) (value_alone labels value)
+    ap (λ v. made op rd rs1 rs2 (immediate_of (row_of op).format address v)) (value_alone labels value)
 
 -- an instruction at an address that is a multiple of 4
 pub instruction_is : (word address : ℕ) (op : Op) (rd rs1 rs2 : ℕ) (value : ℤ) → address % 4 ≡ 0 →
-    fits_format (row_for op).format address value ≡ true →
-    word_of (made op rd rs1 rs2 (immediate_of (row_for op).format address value)) ≡ word →
+    fits_format (row_of op).format address value ≡ true →
+    word_of (made op rd rs1 rs2 (immediate_of (row_of op).format address value)) ≡ word →
     IsStatementOf word address (Instructions (instruction op rd rs1 rs2 value ∷ []))
 unfolding is_misplaced size_at misses_label is_in_range bytes_at
 instruction_is word address op rd rs1 rs2 value aligned fits e = record {
@@ -109,7 +109,7 @@ instruction_is word address op rd rs1 rs2 value aligned fits e = record {
 pub instruction_line : (name first : List ℕ) (others : List (List ℕ)) (operands : List Operand) (before after : Instruction) →
     is_word name ≡ true → keyword_of name ≡ Some (InstructionWord operands before) → is_operand first ≡ true →
     list_all is_operand others ≡ true → with_operands operands (first ∷ others) before ≡ Some after →
-    statement_of (statement name (first ∷ others)) ≡ Ok (Instructions (after ∷ []))
+    statement_of (instruction_text name (first ∷ others)) ≡ Ok (Instructions (after ∷ []))
 unfolding statement_with
 instruction_line name first others operands before after word found operand all read =
     statement_read name first others (InstructionWord operands before) word found operand all
@@ -134,13 +134,13 @@ data_is word address below = record {
 }
 
 data_keyword : keyword_of (codes ".word") ≡ Some (DataWord Four)
-unfolding keyword_of keywords row_words pseudoinstructions long_pseudoinstructions directives rows mnemonic_of
+unfolding keyword_of keywords row_words pseudoinstructions long_pseudoinstructions directives rows ops row_of mnemonic_of
 data_keyword = refl
 
 abbrev number_text : ℕ → List ℕ
 number_text word = codes "0x" ++ hex_digits 8 word
 
-data_statement : (word : ℕ) → data_text word ≡ statement (codes ".word") (number_text word ∷ [])
+data_statement : (word : ℕ) → data_text word ≡ instruction_text (codes ".word") (number_text word ∷ [])
 unfolding data_text
 data_statement word = rw append-nil refl
 

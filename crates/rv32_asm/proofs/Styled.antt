@@ -4,14 +4,17 @@ use Rattle.std.proofs.lemmas.Bool.{and_from}
 use Rattle.std.proofs.lemmas.Int.{ints}
 use Rattle.std.specs.Fmt.{digits, signed_decimal}
 use Rattle.std.specs.List.{list_all}
-use Rattle.rv32_decode.specs.Table.{FitsFormat, imm_bits, signed}
+use Rattle.rv32_decode.specs.Encoding.{FitsFormat, imm_bits}
+use Rattle.rv32_decode.specs.Target.{target_of}
+use Rattle.rv32_decode.specs.Words.{signed_number}
 use Rattle.rv32_decode.specs.declared.Inst.{Inst}
 use Rattle.rv32_decode.specs.declared.table.Format.{Format}
-use Rattle.rv32_decode.specs.declared.table.Format.TheVariants.{R, I, S, B, U, J, H}
-use Rattle.rv32_text.specs.Text.{operands_of, register_name, place_text, statement, target_of, target_text, upper_text}
+use Rattle.rv32_decode.specs.declared.table.Format.TheVariants.{R, I, S, B, U, J, Shift}
+use Rattle.rv32_text.specs.Registers.{register_name}
+use Rattle.rv32_text.specs.Text.{instruction_text, memory_operand, operand_texts, target_text, upper_text}
 use Rattle.sec_base.specs.Hexadecimal.{hex_digits}
-use Rattle.rv32_text.specs.declared.names.Style.{Style}
-use Rattle.rv32_text.specs.declared.names.Style.TheVariants.{Registers, Immediate, Offset, Store, Upper, Branch, Jump, Fence, Bare}
+use Rattle.rv32_text.specs.declared.style.Style.{Style}
+use Rattle.rv32_text.specs.declared.style.Style.TheVariants.{Registers, Immediate, Offset, Store, Upper, Branch, Jump, Fence, Bare}
 use Rattle.rv32_asm.specs.Encoding.{distance, fits_format, immediate_of, is_even}
 use Rattle.rv32_asm_syntax.specs.declared.keywords.Operand.{Operand}
 use Rattle.rv32_asm_syntax.specs.Keywords.{InstructionWord, keyword_of, operands_in}
@@ -73,7 +76,7 @@ read_line : (format : Format) (address : ℕ) (i : Inst) (name first : List ℕ)
     list_all is_operand others ≡ true →
     with_operands operands (first ∷ others) (instruction i.op 0 0 0 initial) ≡ Some (instruction i.op rd rs1 rs2 value) →
     fits_format format address value ≡ true → made i.op rd rs1 rs2 (immediate_of format address value) ≡ i →
-    IsRead format address i (statement name (first ∷ others))
+    IsRead format address i (instruction_text name (first ∷ others))
 read_line format address i name first others operands initial rd rs1 rs2 value word found operand all read fits same = record {
   rd = rd;
   rs1 = rs1;
@@ -96,8 +99,8 @@ module _ (i : Inst) (address : ℕ) (name : List ℕ) (word : is_word name ≡ t
     (a : i.rd < 32) (b : i.rs1 < 32) (c : i.rs2 < 32) where
   pub styled : (s : Style) (f : Format) → is_spoken s ≡ true → has_format s f ≡ true → FitsFormat f i →
       keyword_of name ≡ Some (InstructionWord (operands_in s) (instruction i.op 0 0 0 initial)) →
-      IsRead f address i (statement name (operands_of s i address))
-  unfolding FitsFormat place_text upper_text target_text
+      IsRead f address i (instruction_text name (operand_texts s i address))
+  unfolding FitsFormat memory_operand upper_text target_text
   styled Registers R spoken ok fields found =
       read_line R address i name (register_name i.rd) (register_name i.rs1 ∷ register_name i.rs2 ∷ []) (operands_in Registers)
       initial i.rd i.rs1 i.rs2 initial word found (register_operand i.rd a)
@@ -112,10 +115,10 @@ module _ (i : Inst) (address : ℕ) (name : List ℕ) (word : is_word name ≡ t
       (immediate_read i.op i.rd i.rs1 i.rs2 a b c initial i.imm range.0 range.1)
       (between_true (negsuc 2047) (pos 2047) i.imm fields.1 fields.2)
       (same_made i i.rd i.rs1 0 i.imm refl refl (sym fields.0) refl)
-  styled Immediate H spoken ok fields found =
+  styled Immediate Shift spoken ok fields found =
       let low : negsuc 2147483647 ≤ℤ i.imm = omega (arith, ints) in
       let high : i.imm ≤ℤ pos 2147483647 = omega (arith, ints) in
-      read_line H address i name (register_name i.rd) (register_name i.rs1 ∷ signed_decimal i.imm ∷ []) (operands_in Immediate)
+      read_line Shift address i name (register_name i.rd) (register_name i.rs1 ∷ signed_decimal i.imm ∷ []) (operands_in Immediate)
       initial i.rd i.rs1 0 i.imm word found (register_operand i.rd a)
       (two (register_name i.rs1) (signed_decimal i.imm) (register_operand i.rs1 b) (signed_operand i.imm low high))
       (immediate_read i.op i.rd i.rs1 i.rs2 a b c initial i.imm low high)
@@ -146,7 +149,7 @@ module _ (i : Inst) (address : ℕ) (name : List ℕ) (word : is_word name ≡ t
       (one (codes "0x" ++ digits 16 false n) (digits_operand n less))
       (upper_read i.op i.rd i.rs1 i.rs2 a b c initial n less)
       (upper_fits n below)
-      (same_made i i.rd 0 0 (signed 32 (n * 2 ^ 12)) refl (sym fields.0) (sym fields.1) (upper_word i.imm fields.4 fields.2 fields.3))
+      (same_made i i.rd 0 0 (signed_number 32 (n * 2 ^ 12)) refl (sym fields.0) (sym fields.1) (upper_word i.imm fields.4 fields.2 fields.3))
   styled Branch B spoken ok fields found =
       let range = wide i.imm 4095 4094 fields.1 fields.2 (omega arith) (omega arith) in
       let n = target_of i address in

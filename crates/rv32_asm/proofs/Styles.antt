@@ -6,9 +6,9 @@ use Rattle.std.proofs.lemmas.List.Folds.{list_all-append}
 use Rattle.std.specs.Fmt.{digits, signed_decimal}
 use Rattle.std.specs.List.{after_first, before_first, list_all, position_or_len}
 use Rattle.rv32_decode.specs.declared.Op.{Op}
-use Rattle.rv32_text.specs.Text.{register_name}
+use Rattle.rv32_text.specs.Registers.{register_name}
 use Rattle.sec_base.specs.Hexadecimal.{hex_digits}
-use Rattle.rv32_text.specs.declared.names.Style.TheVariants.{Registers, Immediate, Offset, Store, Upper, Branch, Jump}
+use Rattle.rv32_text.specs.declared.style.Style.TheVariants.{Registers, Immediate, Offset, Store, Upper, Branch, Jump}
 use Rattle.rv32_asm_syntax.specs.Characters.{trimmed}
 use Rattle.rv32_asm_syntax.specs.Expressions.{Expression, expression_of, number_alone}
 use Rattle.rv32_asm_syntax.specs.Keywords.{operands_in}

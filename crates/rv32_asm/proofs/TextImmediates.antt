@@ -5,7 +5,7 @@ use Rattle.std.proofs.lemmas.Bool.{and_from, eq-eqb, le-leb}
 use Rattle.std.proofs.lemmas.Int.{ints, int_rem_euclid_is}
 use Rattle.std.specs.Int.{cast_unsigned, w32}
 use Rattle.rv32_decode.proofs.Signed.{Spells, complement_spelled}
-use Rattle.rv32_decode.specs.Table.{field, signed}
+use Rattle.rv32_decode.specs.Words.{field, signed_number}
 use Rattle.rv32_asm.specs.Encoding.{distance, is_even}
 use Rattle.rv32_asm_syntax.specs.Expressions.{number_alone}
 use Rattle.rv32_asm.specs.Labels.{Label}
@@ -31,7 +31,7 @@ spelled_word (pos a) low high = refl
 spelled_word (negsuc a) low high = let below : a ≤ 2147483647 = omega (arith, ints) in omega arith
 
 -- a word read as a number with a sign is the number that it was
-pub signed_word : (z : ℤ) → negsuc 2147483647 ≤ℤ z → z ≤ℤ pos 2147483647 → signed 32 (cast_unsigned w32 z) ≡ z
+pub signed_word : (z : ℤ) → negsuc 2147483647 ≤ℤ z → z ≤ℤ pos 2147483647 → signed_number 32 (cast_unsigned w32 z) ≡ z
 signed_word z low high =
     complement_spelled 2147483647 4294967295 refl z (cast_unsigned w32 z) low high (spelled_word z low high)
 
@@ -56,7 +56,7 @@ pub distance_target : (pc : ℕ) (z : ℤ) → negsuc 2147483647 ≤ℤ z → z 
     distance pc (pos ((pc + cast_unsigned w32 z) % 2 ^ 32)) ≡ z
 distance_target pc z low high =
     let u = cast_unsigned w32 z in
-    ap (signed 32) (far_word pc ((pc + u) % 2 ^ 32) ∙ back_modulo pc u (word_below z low high)) ∙ signed_word z low high
+    ap (signed_number 32) (far_word pc ((pc + u) % 2 ^ 32) ∙ back_modulo pc u (word_below z low high)) ∙ signed_word z low high
 
 pub even_true : (z : ℤ) → field (cast_unsigned w32 z) 0 1 ≡ 0 → negsuc 2147483647 ≤ℤ z → is_even z ≡ true
 even_true (pos a) e low = eq-eqb (a % 2) 0 (omega arith)
@@ -66,9 +66,9 @@ even_true (negsuc a) e low =
 
 -- the upper twenty bits of a multiple of 4096
 pub upper_word : (z : ℤ) → field (cast_unsigned w32 z) 0 12 ≡ 0 → negsuc 2147483647 ≤ℤ z → z ≤ℤ pos 2147483647 →
-    signed 32 (field (cast_unsigned w32 z) 12 20 * 2 ^ 12) ≡ z
+    signed_number 32 (field (cast_unsigned w32 z) 12 20 * 2 ^ 12) ≡ z
 upper_word z e low high =
     let below = word_below z low high in
     let u = cast_unsigned w32 z in
     let whole : u / 2 ^ 12 % 2 ^ 20 * 2 ^ 12 ≡ u = omega arith in
-    ap (signed 32) whole ∙ signed_word z low high
+    ap (signed_number 32) whole ∙ signed_word z low high

@@ -1,20 +1,21 @@
 -- The words of the table's rows are read back.
 use Rattle.std.proofs.Common.{◌≡◌, ℕ, ◌&&◌, Bool, true, false, not, Some, List, [], ◌∷◌, refl}
 use Rattle.std.specs.List.{list_all}
-use Rattle.rv32_decode.specs.Table.{number_of, row_for, rows}
+use Rattle.rv32_decode.specs.Table.{ops, row_of, rows}
 use Rattle.rv32_decode.specs.declared.Op.{Op}
 use Rattle.rv32_decode.specs.declared.Op.TheVariants.{Lui, Auipc, Jal, Jalr, Beq, Bne, Blt, Bge, Bltu, Bgeu, Lb, Lh, Lw, Lbu, Lhu, Sb, Sh, Sw, Addi, Slti, Sltiu, Xori, Ori, Andi, Slli, Srli, Srai, Add, Sub, Sll, Slt, Sltu, Xor, Srl, Sra, Or, And, Mul, Mulh, Mulhsu, Mulhu, Div, Divu, Rem, Remu, Fence, FenceI, Ecall, Ebreak}
 use Rattle.rv32_decode.specs.declared.table.Format.{Format}
-use Rattle.rv32_decode.specs.declared.table.Format.TheVariants.{R, I, S, B, U, J, H, N}
-use Rattle.rv32_text.specs.Text.{mnemonic_of}
-use Rattle.rv32_text.specs.declared.names.Style.{Style}
-use Rattle.rv32_text.specs.declared.names.Style.TheVariants.{Registers, Immediate, Offset, Store, Upper, Branch, Jump, Fence as FenceStyle, Bare}
+use Rattle.rv32_decode.specs.declared.table.Format.TheVariants.{R, I, S, B, U, J, Shift, Fieldless}
+use Rattle.rv32_text.specs.Mnemonics.{mnemonic_of}
+use Rattle.rv32_text.specs.Style.{style_of}
+use Rattle.rv32_text.specs.declared.style.Style.{Style}
+use Rattle.rv32_text.specs.declared.style.Style.TheVariants.{Registers, Immediate, Offset, Store, Upper, Branch, Jump, Fence as FenceStyle, Bare}
 use Rattle.rv32_asm_syntax.specs.Characters.{is_in_words, is_blank}
 use Rattle.rv32_asm_syntax.specs.Keywords.{directives, keyword_of, keywords, long_pseudoinstructions, pseudoinstructions, row_keyword, row_words}
 use Rattle.rv32_asm.proofs.TextLines.{is_plain}
 
-pub keyword_read : (op : Op) → keyword_of (mnemonic_of op).name ≡ Some (row_keyword op)
-unfolding keyword_of keywords row_words pseudoinstructions long_pseudoinstructions directives rows mnemonic_of
+pub keyword_read : (op : Op) → keyword_of (mnemonic_of op) ≡ Some (row_keyword op)
+unfolding keyword_of keywords row_words pseudoinstructions long_pseudoinstructions directives rows ops row_of mnemonic_of
 keyword_read Lui = refl
 keyword_read Auipc = refl
 keyword_read Jal = refl
@@ -72,7 +73,7 @@ begins_solid (byte ∷ bytes) = not (is_blank byte)
 abbrev pub is_word : List ℕ → Bool
 is_word name = begins_solid name && (list_all is_in_words name && list_all is_plain name)
 
-pub name_is_word : (op : Op) → is_word (mnemonic_of op).name ≡ true
+pub name_is_word : (op : Op) → is_word (mnemonic_of op) ≡ true
 unfolding mnemonic_of
 name_is_word Lui = refl
 name_is_word Auipc = refl
@@ -128,18 +129,18 @@ name_is_word Ebreak = refl
 abbrev pub has_format : Style → Format → Bool
 has_format Registers R = true
 has_format Immediate I = true
-has_format Immediate H = true
+has_format Immediate Shift = true
 has_format Offset I = true
 has_format Store S = true
 has_format Upper U = true
 has_format Branch B = true
 has_format Jump J = true
 has_format FenceStyle I = true
-has_format Bare N = true
+has_format Bare Fieldless = true
 has_format _ _ = false
 
-pub style_format : (op : Op) → has_format (mnemonic_of op).style (row_for op).format ≡ true
-unfolding mnemonic_of row_for rows number_of
+pub style_format : (op : Op) → has_format (style_of op) (row_of op).format ≡ true
+unfolding style_of row_of
 style_format Lui = refl
 style_format Auipc = refl
 style_format Jal = refl

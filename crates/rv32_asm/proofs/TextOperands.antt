@@ -3,7 +3,7 @@ use Rattle.std.proofs.Common.{◌≡◌, ℕ, ◌&&◌, ◌==◌, Bool, true, fa
 use Rattle.std.proofs.lemmas.Bool.{and_parts, and_right, not-true}
 use Rattle.std.proofs.lemmas.List.{append-nil}
 use Rattle.std.specs.List.{list_all, onto_first, slice_split}
-use Rattle.rv32_text.specs.Text.{further}
+use Rattle.rv32_text.specs.Text.{more_operands}
 use Rattle.rv32_asm_syntax.specs.Characters.{drop_end_blanks, is_blank, is_empty, skip_blanks, trimmed}
 use Rattle.rv32_asm_syntax.specs.Reading.{operands_of}
 use Rattle.rv32_asm.proofs.TextLines.{is_plain}
@@ -76,18 +76,18 @@ full_append [] back full = cc
 full_append (byte ∷ bytes) back full = refl
 
 pub further_full : (first : List ℕ) (others : List (List ℕ)) → is_operand first ≡ true →
-    is_empty (first ++ further others) ≡ false
-further_full first others operand = full_append first (further others) (operand_full first operand)
+    is_empty (first ++ more_operands others) ≡ false
+further_full first others operand = full_append first (more_operands others) (operand_full first operand)
 
 pub further_end : (first : List ℕ) (others : List (List ℕ)) → is_operand first ≡ true →
-    list_all is_operand others ≡ true → drop_end_blanks (first ++ further others) ≡ first ++ further others
+    list_all is_operand others ≡ true → drop_end_blanks (first ++ more_operands others) ≡ first ++ more_operands others
 further_end first [] operand all = rw append-nil (end_solid first (operand_solid first operand))
 further_end first (other ∷ others) operand all =
     let parts = and_parts (is_operand other) (list_all is_operand others) all in
     let rest = further_end other others parts.0 parts.1 in
     let full = further_full other others parts.0 in
-    let behind = end_behind (44 ∷ 32 ∷ []) (other ++ further others) full rest in
-    end_behind first (further (other ∷ others)) refl behind
+    let behind = end_behind (44 ∷ 32 ∷ []) (other ++ more_operands others) full rest in
+    end_behind first (more_operands (other ∷ others)) refl behind
 
 pub trimmed_solid : (text : List ℕ) → is_operand text ≡ true → trimmed text ≡ text
 unfolding trimmed
@@ -118,14 +118,14 @@ onto_blank (text ∷ texts) first others e = e
 
 split_further : (first : List ℕ) (others : List (List ℕ)) → is_operand first ≡ true →
     list_all is_operand others ≡ true →
-    map trimmed (slice_split (λ each. each == 44) (first ++ further others)) ≡ first ∷ others
+    map trimmed (slice_split (λ each. each == 44) (first ++ more_operands others)) ≡ first ∷ others
 split_further first [] operand all =
     rw (append-nil, split_solid first (operand_solid first operand), trimmed_solid first operand) refl
 split_further first (other ∷ others) operand all =
     let parts = and_parts (is_operand other) (list_all is_operand others) all in
     let rest = split_further other others parts.0 parts.1 in
-    let split = split_comma first (32 ∷ (other ++ further others)) (operand_solid first operand) in
-    let behind = onto_blank (slice_split (λ each. each == 44) (other ++ further others)) other others rest in
+    let split = split_comma first (32 ∷ (other ++ more_operands others)) (operand_solid first operand) in
+    let behind = onto_blank (slice_split (λ each. each == 44) (other ++ more_operands others)) other others rest in
     rw (split, trimmed_solid first operand, behind) refl
 
 operands_full : (text : List ℕ) → is_empty text ≡ false →
@@ -135,7 +135,7 @@ operands_full [] full = cc
 operands_full (byte ∷ bytes) full = refl
 
 pub operands_read : (first : List ℕ) (others : List (List ℕ)) → is_operand first ≡ true →
-    list_all is_operand others ≡ true → operands_of (first ++ further others) ≡ first ∷ others
+    list_all is_operand others ≡ true → operands_of (first ++ more_operands others) ≡ first ∷ others
 operands_read first others operand all =
-    operands_full (first ++ further others) (further_full first others operand)
+    operands_full (first ++ more_operands others) (further_full first others operand)
     ∙ split_further first others operand all

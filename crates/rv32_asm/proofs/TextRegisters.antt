@@ -2,7 +2,7 @@
 use Rattle.std.proofs.Common.{◌≡◌, ℕ, ◌<◌, ◌==◌, ◌++◌, Bool, true, false, Option, Some, None, refl, ap}
 use Rattle.std.proofs.lemmas.Bool.{agree_below_at, eqb-true}
 use Rattle.std.specs.Prelude.{codes}
-use Rattle.rv32_text.specs.Text.{register_name, register_names}
+use Rattle.rv32_text.specs.Registers.{register_name, register_names}
 use Rattle.rv32_asm_syntax.specs.Registers.{register_of}
 use Rattle.rv32_asm_syntax.specs.Reading.{enclosed_register}
 use Rattle.rv32_asm_syntax.specs.Characters.{trimmed}

@@ -4,7 +4,7 @@ use Rattle.std.proofs.Math.Seq.{take-append_seam, drop-append_seam}
 use Rattle.std.proofs.lemmas.Bool.{and_from, and_parts, not-true}
 use Rattle.std.proofs.lemmas.List.Folds.{list_all-append}
 use Rattle.std.specs.List.{list_all, prefix_len}
-use Rattle.rv32_text.specs.Text.{further, statement}
+use Rattle.rv32_text.specs.Text.{instruction_text, more_operands}
 use Rattle.rv32_asm_syntax.specs.declared.fault.AsmFault.TheVariants.{Operand, Unknown}
 use Rattle.rv32_asm_syntax.specs.Characters.{drop_end_blanks, is_blank, is_empty, is_in_words, skip_blanks, trimmed}
 use Rattle.rv32_asm_syntax.specs.declared.lines.Standing.TheVariants.{Outside}
@@ -44,15 +44,15 @@ pub word_dropped : (name more : List ℕ) → list_all is_in_words name ≡ true
 word_dropped name more all = rw (prefix_words name more all) (drop-append_seam name (32 ∷ more))
 
 further_plain : (first : List ℕ) (others : List (List ℕ)) → is_operand first ≡ true →
-    list_all is_operand others ≡ true → list_all is_plain (first ++ further others) ≡ true
+    list_all is_operand others ≡ true → list_all is_plain (first ++ more_operands others) ≡ true
 further_plain first [] operand all =
     list_all-append is_plain first []
     ∙ and_from (list_all is_plain first) true (solid_plain first (operand_solid first operand)) refl
 further_plain first (other ∷ others) operand all =
     let parts = and_parts (is_operand other) (list_all is_operand others) all in
     let rest = further_plain other others parts.0 parts.1 in
-    list_all-append is_plain first (further (other ∷ others))
-    ∙ and_from (list_all is_plain first) (list_all is_plain (other ++ further others))
+    list_all-append is_plain first (more_operands (other ∷ others))
+    ∙ and_from (list_all is_plain first) (list_all is_plain (other ++ more_operands others))
     (solid_plain first (operand_solid first operand)) rest
 
 -- ---- blanks at the ends
@@ -82,36 +82,36 @@ outside_strings line foreign text e f = rw (e, f) refl
 module _ (name first : List ℕ) (others : List (List ℕ)) (keyword : Keyword) (word : is_word name ≡ true)
     (found : keyword_of name ≡ Some keyword) (operand : is_operand first ≡ true)
     (all : list_all is_operand others ≡ true) where
-  pub line_plain : list_all is_plain (statement name (first ∷ others)) ≡ true
+  pub line_plain : list_all is_plain (instruction_text name (first ∷ others)) ≡ true
   line_plain =
-      list_all-append is_plain name (32 ∷ (first ++ further others))
-      ∙ and_from (list_all is_plain name) (list_all is_plain (32 ∷ (first ++ further others)))
+      list_all-append is_plain name (32 ∷ (first ++ more_operands others))
+      ∙ and_from (list_all is_plain name) (list_all is_plain (32 ∷ (first ++ more_operands others)))
       ((word_parts name word).plain) (further_plain first others operand all)
 
-  line_trimmed : trimmed (statement name (first ∷ others)) ≡ statement name (first ∷ others)
+  line_trimmed : trimmed (instruction_text name (first ∷ others)) ≡ instruction_text name (first ∷ others)
   unfolding trimmed
   line_trimmed =
-      let text = first ++ further others in
+      let text = first ++ more_operands others in
       let begins = (word_parts name word).begins in
       let behind : drop_end_blanks (32 ∷ text) ≡ 32 ∷ text
       = end_behind (32 ∷ []) text (further_full first others operand) (further_end first others operand all) in
       ap drop_end_blanks (skip_word name (32 ∷ text) begins) ∙ end_behind name (32 ∷ text) refl behind
 
-  statement_in_line : statement_in (statement name (first ∷ others))
-      ≡ ok_or (statement_with keyword (first ++ further others)) Operand
+  statement_in_line : statement_in (instruction_text name (first ∷ others))
+      ≡ ok_or (statement_with keyword (first ++ more_operands others)) Operand
   statement_in_line =
-      let text = first ++ further others in
+      let text = first ++ more_operands others in
       let line = name ++ 32 ∷ text in
       let words = (word_parts name word).words in
       full_statement line (append_full name (32 ∷ text) refl)
       ∙ from_parts keyword name text (take_while is_in_words line) (drop (prefix_len is_in_words line) line)
-      (word_taken name text words) found (word_dropped name text words) (skip_solid first (further others) operand)
+      (word_taken name text words) found (word_dropped name text words) (skip_solid first (more_operands others) operand)
 
-  pub statement_read : statement_of (statement name (first ∷ others))
-      ≡ ok_or (statement_with keyword (first ++ further others)) Operand
+  pub statement_read : statement_of (instruction_text name (first ∷ others))
+      ≡ ok_or (statement_with keyword (first ++ more_operands others)) Operand
   unfolding statement_of
   statement_read =
-      let line = statement name (first ∷ others) in
+      let line = instruction_text name (first ∷ others) in
       outside_strings line (has_non_ascii Outside (without_comment line)) (statement_text line) (plain_foreign line line_plain)
       (plain_statement line line_plain ∙ line_trimmed)
       ∙ statement_in_line

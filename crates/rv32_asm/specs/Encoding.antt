@@ -5,10 +5,12 @@ use Rattle.std.specs.Int.{w8, w16, w32, to_le_bytes}
 use Rattle.sec_base.specs.Width.{width_bytes}
 use Rattle.sec_base.specs.declared.width.Width.{Width}
 use Rattle.sec_base.specs.declared.width.Width.TheVariants.{One, Two, Four}
-use Rattle.rv32_decode.specs.Table.{row_for, signed, word_of}
+use Rattle.rv32_decode.specs.Encoding.{word_of}
+use Rattle.rv32_decode.specs.Table.{row_of}
+use Rattle.rv32_decode.specs.Words.{signed_number}
 use Rattle.rv32_decode.specs.declared.Inst.{Inst}
 use Rattle.rv32_decode.specs.declared.table.Format.{Format}
-use Rattle.rv32_decode.specs.declared.table.Format.TheVariants.{R, I, S, B, U, J, H, N}
+use Rattle.rv32_decode.specs.declared.table.Format.TheVariants.{R, I, S, B, U, J, Shift, Fieldless}
 use Rattle.rv32_asm_syntax.specs.Numbers.{is_between}
 use Rattle.rv32_asm_syntax.specs.Expressions.{Expression}
 use Rattle.rv32_asm.specs.Labels.{Label}
@@ -20,7 +22,7 @@ use Rattle.rv32_asm.specs.Values.{expression_in, immediate_value, is_missing, mo
 
 -- how far it is from an address to a target, modulo 2^32, from -2^31 on
 abbrev pub distance : ℕ → ℤ → ℤ
-distance address target = signed 32 (modulo 32 (target -ℤ pos address))
+distance address target = signed_number 32 (modulo 32 (target -ℤ pos address))
 
 -- its lowest bit is 0
 abbrev pub is_even : ℤ → Bool
@@ -36,8 +38,8 @@ fits_format B address value = let far = distance address value in
 fits_format U address value = is_between (pos 0) (pos 1048575) value
 fits_format J address value = let far = distance address value in
     is_even far && is_between (neg_ℤ (pos 1048576)) (pos 1048574) far
-fits_format H address value = is_between (pos 0) (pos 31) value
-fits_format N address value = true
+fits_format Shift address value = is_between (pos 0) (pos 31) value
+fits_format Fieldless address value = true
 
 -- the immediate: the value, or the distance to it, or the upper twenty bits that it is
 abbrev pub immediate_of : Format → ℕ → ℤ → ℤ
@@ -45,13 +47,13 @@ immediate_of R address value = pos 0
 immediate_of I address value = value
 immediate_of S address value = value
 immediate_of B address value = distance address value
-immediate_of U address value = signed 32 (unsigned_abs value * 2 ^ 12)
+immediate_of U address value = signed_number 32 (unsigned_abs value * 2 ^ 12)
 immediate_of J address value = distance address value
-immediate_of H address value = value
-immediate_of N address value = pos 0
+immediate_of Shift address value = value
+immediate_of Fieldless address value = pos 0
 
 unfoldable pub fits_at : List Label → ℕ → Instruction → Bool
-fits_at labels address i = fits_format (row_for i.op).format address (immediate_value labels i.immediate)
+fits_at labels address i = fits_format (row_of i.op).format address (immediate_value labels i.immediate)
 
 -- the instruction of the table at an address
 unfoldable pub encoded_at : List Label → ℕ → Instruction → Inst
@@ -60,7 +62,7 @@ encoded_at labels address i = record {
   rd = i.rd;
   rs1 = i.rs1;
   rs2 = i.rs2;
-  imm = immediate_of (row_for i.op).format address (immediate_value labels i.immediate);
+  imm = immediate_of (row_of i.op).format address (immediate_value labels i.immediate);
 }
 
 -- each of the instructions from an address on fits

@@ -2,7 +2,7 @@
 use Rattle.std.specs.Prelude.{ℕ, ℤ, Option, Some, None, if◌then◌else◌}
 use Rattle.rv32_decode.specs.declared.Inst.{Inst}
 use Rattle.rv32_decode.specs.declared.table.Format.{Format}
-use Rattle.rv32_decode.specs.declared.table.Format.TheVariants.{R, I, S, B, U, J, H, N}
+use Rattle.rv32_decode.specs.declared.table.Format.TheVariants.{R, I, S, B, U, J, Shift, Fieldless}
 use Rattle.rv32_asm.specs.Encoding.{fits_format, immediate_of}
 
 -- the immediate of a value at an address, where it has one
@@ -18,5 +18,5 @@ kept S i = record i { rd = 0 }
 kept B i = record i { rd = 0 }
 kept U i = record i { rs1 = 0; rs2 = 0 }
 kept J i = record i { rs1 = 0; rs2 = 0 }
-kept H i = record i { rs2 = 0 }
-kept N i = record i { rd = 0; rs1 = 0; rs2 = 0 }
+kept Shift i = record i { rs2 = 0 }
+kept Fieldless i = record i { rd = 0; rs1 = 0; rs2 = 0 }

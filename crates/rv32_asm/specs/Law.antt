@@ -2,7 +2,7 @@
 use Rattle.std.specs.Prelude.{◌≡◌, ℕ, ◌+◌, ◌*◌, ◌%◌, ◌^◌, ◌<◌, ◌≤◌, pos, ◌+ℤ◌, All, List, [], ◌∷◌, ◌++◌, Ok, length}
 use Rattle.std.specs.Int.{w32, to_le_bytes}
 use Rattle.std.specs.List.{flat_map}
-use Rattle.rv32_decode.specs.Table.{IsInst, word_of}
+use Rattle.rv32_decode.specs.Encoding.{IsInst, word_of}
 use Rattle.rv32_decode.specs.declared.Inst.{Inst}
 use Rattle.rv32_text.specs.Text.{text_of, text_of_word}
 use Rattle.rv32_asm_syntax.specs.Characters.{line_feed}

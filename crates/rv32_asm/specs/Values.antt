@@ -1,7 +1,7 @@
 -- The values of expressions, and of the immediates that stand for them.
 use Rattle.std.specs.Prelude.{ℕ, ◌+◌, ◌%◌, ◌^◌, ℤ, pos, ◌+ℤ◌, List, Bool, false, not, Option, None, Some, option_map, unwrap_or, unsigned_abs}
 use Rattle.std.specs.Int.{int_rem_euclid}
-use Rattle.rv32_decode.specs.Table.{field, signed}
+use Rattle.rv32_decode.specs.Words.{field, signed_number}
 use Rattle.rv32_asm_syntax.specs.Expressions.{Expression}
 use Rattle.rv32_asm.specs.Labels.{Label, label_named, is_there}
 use Rattle.rv32_asm_syntax.specs.Statements.{Immediate, Whole, Upper, Lower}
@@ -32,7 +32,7 @@ abbrev pub upper_part : ℕ → ℕ
 upper_part word = field (word + 2048) 12 20
 
 abbrev pub lower_part : ℕ → ℤ
-lower_part word = signed 12 (word % 2 ^ 12)
+lower_part word = signed_number 12 (word % 2 ^ 12)
 
 abbrev pub expression_in : Immediate → Expression
 expression_in (Whole value) = value

@@ -4,7 +4,8 @@ ghost use Rattle.rv32_asm.specs.Encoding as spec;
 ghost use Rattle.rv32_asm.specs.Fields.{immediate_in, kept};
 ghost use Rattle.rv32_asm_syntax.specs.Numbers as numbers;
 ghost use Rattle.rv32_asm_syntax.specs.Seen as seen;
-ghost use Rattle.rv32_decode.specs.Table.{row_for, word_of};
+ghost use Rattle.rv32_decode.specs.Encoding.{word_of};
+ghost use Rattle.rv32_decode.specs.Table.{row_of};
 ghost use Rattle.std.specs.Prelude.{None, Some, if◌then◌else◌, neg_ℤ, pos, ◌&&◌, ◌^◌, ◌≡◌, ◌≤ℤ◌};
 
 use crate::labels::Labels;
@@ -68,12 +69,12 @@ fn upper(value: i64) -> Option<i32>
 fn immediate_of(op: Op, address: u32, value: i64) -> Option<i32>
     requires least { neg_ℤ (pos (2 ^ 33)) ≤ℤ value }
     requires most { value ≤ℤ pos (2 ^ 33) }
-    ensures { result ≡ immediate_in (row_for op).format address value }
+    ensures { result ≡ immediate_in (row_of op).format address value }
 {
     match format_of(op) {
-        Format::R | Format::N => Some(0),
+        Format::R | Format::Fieldless => Some(0),
         Format::I | Format::S => number_between(-2048, 2047, value),
-        Format::H => number_between(0, 31, value),
+        Format::Shift => number_between(0, 31, value),
         Format::U => upper(value),
         Format::B => distance_between(address, value, -4096, 4094),
         Format::J => distance_between(address, value, -0x10_0000, 0xf_fffe),
@@ -82,7 +83,7 @@ fn immediate_of(op: Op, address: u32, value: i64) -> Option<i32>
 
 // An instruction with an immediate, and of the registers those that its format has.
 fn with_immediate(instruction: &Instruction, imm: i32) -> Inst
-    ensures { result ≡ kept (row_for instruction.now.op).format (record {
+    ensures { result ≡ kept (row_of instruction.now.op).format (record {
       op = instruction.now.op;
       rd = instruction.now.rd;
       rs1 = instruction.now.rs1;
@@ -99,10 +100,10 @@ fn with_immediate(instruction: &Instruction, imm: i32) -> Inst
     } = *instruction;
     let (rd, rs1, rs2) = match format_of(op) {
         Format::R => (rd, rs1, rs2),
-        Format::I | Format::H => (rd, rs1, 0),
+        Format::I | Format::Shift => (rd, rs1, 0),
         Format::S | Format::B => (0, rs1, rs2),
         Format::U | Format::J => (rd, 0, 0),
-        Format::N => (0, 0, 0),
+        Format::Fieldless => (0, 0, 0),
     };
     Inst {
         op,

@@ -1,9 +1,9 @@
 -- Words are searched in tables.
-use Rattle.std.proofs.Common.{◌≡◌, ℕ, ◌++◌, Bool, true, false, List, [], ◌∷◌, refl}
+use Rattle.std.proofs.Common.{◌≡◌, ℕ, ◌++◌, Bool, true, false, List, [], ◌∷◌, refl, ◌∙◌}
 use Rattle.std.specs.Prelude.{Some, None, map}
 use Rattle.std.specs.Str.{bytes_eq}
-use Rattle.rv32_decode.specs.Table.{rows}
-use Rattle.rv32_decode.specs.declared.Op.{Op}
+use Rattle.rv32_decode.specs.Table.{ops, row_of, rows}
+use Rattle.rv32_decode.specs.declared.table.Row as code
 use Rattle.rv32_asm_syntax.specs.Keywords.{Keyword, row_words}
 use Rattle.rv32_asm_syntax.specs.Tables.{named, row_entry}
 
@@ -23,6 +23,10 @@ pub found_later : (a b : List (List ℕ × Keyword)) (word : List ℕ) → named
 found_later [] b word h = refl
 found_later (x ∷ xs) b word h = at_later (bytes_eq x.0 word) word x xs b refl h (found_later xs b word)
 
-pub rows_named : (ops : List Op) → ops ≡ map (λ row. row.op) rows → map row_entry ops ≡ row_words
-unfolding row_words rows
-rows_named ops e = rw e refl
+rows_of_names : (table : List code.Row) → map (λ row. row_entry row.op) table ≡ map row_entry (map (λ row. row.op) table)
+rows_of_names [] = refl
+rows_of_names (row ∷ table) = rw (rows_of_names table) refl
+
+pub rows_named : (table : List code.Row) → map (λ row. row.op) table ≡ map (λ row. row.op) rows → map (λ row. row_entry row.op) table ≡ row_words
+unfolding row_words rows ops row_of
+rows_named table e = rows_of_names table ∙ rw e refl

@@ -6,9 +6,10 @@ use Rattle.sec_base.specs.declared.width.Width.TheVariants.{One, Two, Four}
 use Rattle.rv32_decode.specs.Table.{rows}
 use Rattle.rv32_decode.specs.declared.Op.{Op}
 use Rattle.rv32_decode.specs.declared.Op.TheVariants.{Jal, Jalr, Beq, Bne, Addi, Sltiu, Xori, Sub, Sltu, Fence}
-use Rattle.rv32_text.specs.Text.{mnemonic_of}
-use Rattle.rv32_text.specs.declared.names.Style.{Style}
-use Rattle.rv32_text.specs.declared.names.Style.TheVariants.{Registers, Immediate, Offset, Store, Upper, Branch, Jump, Fence, Bare}
+use Rattle.rv32_text.specs.Mnemonics.{mnemonic_of}
+use Rattle.rv32_text.specs.Style.{style_of}
+use Rattle.rv32_text.specs.declared.style.Style.{Style}
+use Rattle.rv32_text.specs.declared.style.Style.TheVariants.{Registers, Immediate, Offset, Store, Upper, Branch, Jump, Fence, Bare}
 use Rattle.rv32_asm_syntax.specs.declared.keywords.Operand.{Operand}
 use Rattle.rv32_asm_syntax.specs.declared.keywords.Operand.TheVariants.{Rd, Rs1, Rs2, Value, Place}
 use Rattle.rv32_asm_syntax.specs.Statements.{Instruction, instruction}
@@ -46,11 +47,11 @@ immediate_without_operands _ = pos 0
 
 abbrev pub row_keyword : Op → Keyword
 row_keyword op =
-    InstructionWord (operands_in (mnemonic_of op).style) (instruction op 0 0 0 (immediate_without_operands op))
+    InstructionWord (operands_in (style_of op)) (instruction op 0 0 0 (immediate_without_operands op))
 
 -- the words of the table's rows
 unfoldable pub row_words : List (List ℕ × Keyword)
-row_words = map (λ row. ((mnemonic_of row.op).name, row_keyword row.op)) rows
+row_words = map (λ row. ((mnemonic_of row.op), row_keyword row.op)) rows
 
 -- pseudoinstructions for one instruction: the word, its operands, and the row with rd, rs1, rs2 and the immediate
 unfoldable pub pseudoinstructions : List (List ℕ × Keyword)

@@ -2,7 +2,7 @@
 use Rattle.std.specs.Prelude.{ℕ, List, [], ◌∷◌, ◌++◌, ◌==◌, Option, find, codes, decimal, if◌then◌else◌}
 use Rattle.std.specs.List.{list_any, range_with_len}
 use Rattle.std.specs.Str.{bytes_eq}
-use Rattle.rv32_text.specs.Text.{register_name}
+use Rattle.rv32_text.specs.Registers.{register_name}
 
 abbrev pub names_of : ℕ → List (List ℕ)
 names_of number =

@@ -3,7 +3,7 @@ use Rattle.std.specs.Prelude.{ℕ, pos, neg_ℤ, ◌^◌, List, Bool, ◌&&◌, 
 use Rattle.std.specs.Borrow.{Bor}
 use Rattle.std.specs.Str.{bytes_eq}
 use Rattle.rv32_decode.specs.declared.Op.{Op}
-use Rattle.rv32_text.specs.Text.{mnemonic_of}
+use Rattle.rv32_text.specs.Mnemonics.{mnemonic_of}
 use Rattle.rv32_asm_syntax.specs.declared.keywords.Keyword as code
 use Rattle.rv32_asm_syntax.specs.declared.keywords.Pseudoinstruction.{Pseudoinstruction}
 use Rattle.rv32_asm_syntax.specs.Keywords.{Keyword, InstructionWord, row_keyword}
@@ -15,7 +15,7 @@ abbrev pub named : List (List ℕ × Keyword) → List ℕ → Option Keyword
 named entries word = option_map (λ entry. entry.1) (find (λ entry. bytes_eq entry.0 word) entries)
 
 abbrev pub row_entry : Op → List ℕ × Keyword
-row_entry op = ((mnemonic_of op).name, row_keyword op)
+row_entry op = ((mnemonic_of op), row_keyword op)
 
 abbrev pub pseudoinstruction_entry : Pseudoinstruction → List ℕ × Keyword
 pseudoinstruction_entry p = (p.name.now, InstructionWord p.operands.now (instruction p.op p.rd p.rs1 0 p.number))

@@ -7,8 +7,8 @@ ghost use Rattle.std.specs.List.{list_all};
 ghost use Rattle.std.specs.Prelude.{map, option_map, true, ◌≡◌};
 
 use crate::statements::Instruction;
-use rv32_decode::{Op, ops};
-use rv32_text::{Style, name_of, style_of};
+use rv32_decode::{Op, rows};
+use rv32_text::{Style, mnemonic_of, style_of};
 use sec_base::Width;
 
 /// What an operand is: a register for a field of the instruction, an expression for its immediate, or a place in
@@ -146,9 +146,9 @@ fn directives() -> [(&'static str, Keyword); 9]
 fn row_word(word: &[u8]) -> Option<Keyword>
     ensures { option_map keyword result ≡ named spec.row_words word.now }
 {
-    for op in ops() {
-        if name_of(*op).as_bytes() == word {
-            return Some(row_keyword(*op));
+    for row in rows() {
+        if mnemonic_of(row.op).as_bytes() == word {
+            return Some(row_keyword(row.op));
         }
     }
     None

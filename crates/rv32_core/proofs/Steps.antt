@@ -5,7 +5,7 @@ use Rattle.std.proofs.lemmas.List.Elements.{Contains-append_left, Contains-appen
 use Rattle.sec_base.specs.declared.ending.Cause.{Cause}
 use Rattle.sec_base.specs.declared.ending.Cause.TheVariants.{Illegal}
 use Rattle.rv32_decode.specs.declared.Inst.{Inst}
-use Rattle.rv32_decode.specs.Table.{instruction_of}
+use Rattle.rv32_decode.specs.Decoding.{instruction_of}
 use Rattle.rv32_core.specs.declared.hart.Step.{Step}
 use Rattle.rv32_core.specs.declared.hart.StepStop.{StepStop}
 use Rattle.rv32_core.specs.declared.hart.StepStop.TheVariants.{Trap, Mem, WriteFault}

@@ -9,7 +9,7 @@ use Rattle.sec_base.specs.Width.{width_bytes, number_at, with_number}
 use Rattle.rv32_decode.specs.declared.Op.{Op}
 use Rattle.rv32_decode.specs.declared.Op.TheVariants.{Lui, Auipc, Jal, Jalr, Beq, Bne, Blt, Bge, Bltu, Bgeu, Lb, Lh, Lw, Lbu, Lhu, Sb, Sh, Sw, Addi, Slti, Sltiu, Xori, Ori, Andi, Slli, Srli, Srai, Add, Sub, Sll, Slt, Sltu, Xor, Srl, Sra, Or, And, Mul, Mulh, Mulhsu, Mulhu, Div, Divu, Rem, Remu, Fence, FenceI, Ecall, Ebreak}
 use Rattle.rv32_decode.specs.declared.Inst.{Inst}
-use Rattle.rv32_decode.specs.Table.{instruction_of}
+use Rattle.rv32_decode.specs.Decoding.{instruction_of}
 use Rattle.rv32_core.specs.State.{State, CoreView, word, sum_of, register, with_register, next_core, with_core}
 use Rattle.rv32_core.specs.Arithmetic.{sign_extended, difference_of, truth, is_less_signed, shift_left, shift_right, shift_right_signed, product_of, high_product, high_product_mixed, high_product_unsigned, quotient, quotient_unsigned, remainder, remainder_unsigned}
 use Rattle.rv32_core.specs.After.{After, quietly, passed, written, unless}

@@ -7,7 +7,7 @@ use Rattle.sec_base.specs.declared.width.Width.TheVariants.{One, Two, Four}
 use Rattle.rv32_decode.specs.declared.Op.{Op}
 use Rattle.rv32_decode.specs.declared.Op.TheVariants.{Lb, Lh, Lw, Lbu, Lhu, Sb, Sh, Sw, Ecall}
 use Rattle.rv32_decode.specs.declared.Inst.{Inst}
-use Rattle.rv32_decode.specs.Table.{instruction_of}
+use Rattle.rv32_decode.specs.Decoding.{instruction_of}
 use Rattle.rv32_core.specs.State.{State}
 use Rattle.rv32_core.specs.Services.{is_input, is_output, is_inside, next_input, a0, a1, a2, a7}
 use Rattle.rv32_core.specs.Effect.{data_address, fetched}

@@ -2,7 +2,7 @@
 ghost use Rattle.std.specs.Prelude.{◌≡◌, ◌≢◌, ◌+◌, ◌*◌, ◌%◌, ◌^◌, ◌<◌, ◌≤◌, ℕ, List, [], None, Ok, Err, OnErr, OnOk};
 ghost use Rattle.sec_base.specs.Width.{number_at, width_bytes};
 ghost use Rattle.sec_base.specs.declared.width.Width.TheVariants.{Four};
-ghost use Rattle.rv32_decode.specs.Table.{IsInst};
+ghost use Rattle.rv32_decode.specs.Encoding.{IsInst};
 ghost use Rattle.rv32_core.specs.State.{CallsView};
 ghost use Rattle.rv32_core.specs.Effect.{data_fault, data_address, loads, stores};
 ghost use Rattle.rv32_core.specs.Touch.{HasLinesOf};

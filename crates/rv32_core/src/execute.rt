@@ -2,7 +2,7 @@
 ghost use Rattle.std.specs.Prelude.{◌≡◌, ◌<◌, ◌≤◌, ℕ, List, None, Err, OnErr, OnOk};
 ghost use Rattle.sec_base.specs.Count.{Rose};
 ghost use Rattle.sec_base.specs.Sink.{Gains};
-ghost use Rattle.rv32_decode.specs.Table.{IsInst};
+ghost use Rattle.rv32_decode.specs.Encoding.{IsInst};
 ghost use Rattle.rv32_core.specs.State.{register, word};
 ghost use Rattle.rv32_core.specs.Effect.{effect};
 ghost use Rattle.rv32_core.specs.Touch.{data_touches, HasLinesOfAll};

@@ -1,6 +1,6 @@
 // Jumps and branches (RISC-V unprivileged manual, section 2.5).
 ghost use Rattle.std.specs.Prelude.{◌≡◌, ◌-◌, ◌%◌, ℕ, List, [], OnErr};
-ghost use Rattle.rv32_decode.specs.Table.{IsInst};
+ghost use Rattle.rv32_decode.specs.Encoding.{IsInst};
 ghost use Rattle.rv32_core.specs.State.{CallsView};
 ghost use Rattle.rv32_core.specs.Effect.{target_fault, jumps, branches};
 ghost use Rattle.rv32_core.specs.Outcome.{IsOutcome, OnlyTraps};

@@ -1,4 +1,4 @@
-//! The listing of a program: its words as lines of text, in the assembly language of the RISC-V unprivileged manual.
+//! The listing of a program: its words as lines of text, in this project's assembly language (docs/FORMATS.md).
 #![tactic(auto)]
 
 ghost use Rattle.std.specs.Prelude.{◌≤◌};
