@@ -1,14 +1,15 @@
 -- What a program is spelled as is not refused.
 use Rattle.std.proofs.Common.{◌≡◌, ℕ, ◌+◌, ◌*◌, ◌%◌, ◌≤◌, List, [], ◌∷◌, ◌++◌, length, Bool, true, false, not, ◌&&◌, ◌||◌, nat_lt, None, refl, arith, length-append}
 use Rattle.std.specs.List.{All, list_any}
-use Rattle.std.proofs.lemmas.Bool.{le-ltb, eq-eqb}
+use Rattle.std.proofs.lemmas.Bool.{le-leb, le-ltb, eq-eqb}
 use Rattle.std.proofs.lemmas.List.Elements.{All-head, All-tail}
+use Rattle.sec_base.specs.Image.{IsEntry, is_entry}
 use Rattle.sec_base.specs.Segment.{IsSegment}
 use Rattle.sec_base.specs.declared.segment.Segment.{Segment as MemorySegment}
 use Rattle.elf_load.specs.declared.fault.ElfFault.TheVariants.{Short, Magic, Class, Kind, Machine, Compressed, Table}
-use Rattle.elf_load.specs.declared.header.FileHeader.{FileHeader}
+use Rattle.elf_load.specs.Format.{FileHeader}
 use Rattle.elf_load.specs.Format.{file_header}
-use Rattle.elf_load.specs.Refusals.{first_holding, header_refusals, program_refusals, has_bad_entry, has_bad_table, has_class, has_magic, is_compressed, is_executable, is_interp, is_misfit, is_riscv, is_short}
+use Rattle.elf_load.specs.Refusals.{first_holding, header_refusals, program_refusals, has_bad_table, has_class, has_magic, is_compressed, is_executable, is_interp, is_misfit, is_riscv, is_short}
 use Rattle.elf_load.specs.Spelling.{spelled_header, joined_bytes, u16_bytes, u32_bytes}
 use Rattle.elf_load.proofs.ReadingBack.{header_back, headers_back}
 
@@ -69,13 +70,13 @@ no_misfit file_length size offset (segment ∷ segments) inside each =
     (le-ltb size (segment.addr + segment.length) here.inside)
     (no_misfit file_length size (offset + length segment.bytes) segments (omega (arith, more)) (All-tail (IsSegment size) segment segments each))
 
-no_entry_fault : (size entry count : ℕ) → entry % 4 ≡ 0 → entry + 4 ≤ size → has_bad_entry size (header_back entry count) ≡ false
-no_entry_fault size entry count aligned inside =
-    rw (eq-eqb (entry % 4) 0 aligned, le-ltb size (entry + 4) inside) refl
+no_entry_fault : (size entry : ℕ) → IsEntry size entry → not (is_entry size entry) ≡ false
+no_entry_fault size entry begins =
+    rw (eq-eqb (entry % 4) 0 begins.aligned, le-leb (entry + 4) size begins.inside) refl
 
 -- the program headers and the entry show none
 pub no_program_fault : (file_length size entry count offset : ℕ) (segments : List MemorySegment)
-    → offset + length (joined_bytes segments) ≤ file_length → All (IsSegment size) segments → entry % 4 ≡ 0 → entry + 4 ≤ size
+    → offset + length (joined_bytes segments) ≤ file_length → All (IsSegment size) segments → IsEntry size entry
     → first_holding (program_refusals file_length size (header_back entry count) (headers_back offset segments)) ≡ None
-no_program_fault file_length size entry count offset segments inside each aligned entry_inside =
-    rw (no_interp offset segments, no_misfit file_length size offset segments inside each, no_entry_fault size entry count aligned entry_inside) refl
+no_program_fault file_length size entry count offset segments inside each begins =
+    rw (no_interp offset segments, no_misfit file_length size offset segments inside each, no_entry_fault size entry begins) refl

@@ -1,23 +1,23 @@
 -- A file that isn't refused is a program that fits its memory.
-use Rattle.std.proofs.Common.{◌≡◌, ℕ, zero, suc, ◌+◌, ◌≤◌, List, [], ◌∷◌, length, drop, map, filter, cond, Bool, not, nat_lt, ◌==◌, ◌%◌, true, false, ◌&&◌, ◌||◌, Some, None, refl, ◌∙◌, ap, arith}
+use Rattle.std.proofs.Common.{◌≡◌, ℕ, zero, suc, ◌+◌, ◌≤◌, List, [], ◌∷◌, length, drop, map, filter, cond, Bool, not, nat_le, nat_lt, ◌==◌, ◌%◌, true, false, ◌&&◌, ◌||◌, Some, None, refl, ◌∙◌, ap, arith}
 use Rattle.std.specs.Bool.{if◌then◌else◌}
 use Rattle.std.specs.List.{All, list_any}
-use Rattle.std.proofs.lemmas.Bool.{ltb-false, eqb-true}
+use Rattle.std.proofs.lemmas.Bool.{leb-true, ltb-false, eqb-true}
 use Rattle.std.proofs.lemmas.List.{length-take}
 use Rattle.std.proofs.lemmas.List.Elements.{All-nil, All-cons}
 use Rattle.std.proofs.lemmas.List.Sums.{length-filter, count_by-le-length}
 use Rattle.std.proofs.lemmas.Grind.{common_steps}
 use Rattle.sec_base.specs.Geometry.{IsMemorySize}
-use Rattle.sec_base.specs.Image.{IsImage}
+use Rattle.sec_base.specs.Image.{IsEntry, IsImage, is_entry}
 use Rattle.sec_base.specs.Segment.{IsSegment}
 use Rattle.sec_base.specs.declared.segment.Segment.{Segment as MemorySegment}
 use Rattle.elf_load.specs.declared.fault.ElfFault.{ElfFault}
 use Rattle.elf_load.specs.declared.fault.ElfFault.TheVariants.{Interp, Segment, Entry}
-use Rattle.elf_load.specs.declared.header.FileHeader.{FileHeader}
-use Rattle.elf_load.specs.declared.table.ProgramHeader.{ProgramHeader}
+use Rattle.elf_load.specs.Format.{FileHeader}
+use Rattle.elf_load.specs.Format.{ProgramHeader}
 use Rattle.elf_load.specs.Format.{file_header, headers_from, program_headers}
-use Rattle.elf_load.specs.Loading.{segment_of, segments_of}
-use Rattle.elf_load.specs.Refusals.{first_holding, program_refusals, is_interp, is_load, is_misfit, has_bad_entry}
+use Rattle.elf_load.specs.Program.{segment_of, segments_of}
+use Rattle.elf_load.specs.Refusals.{first_holding, program_refusals, is_interp, is_load, is_misfit}
 
 -- none of three rows holds
 no_row : (f g h : ElfFault) (a b c : Bool) → (if a then Some f else (if b then Some g else (if c then Some h else None))) ≡ None → (b ≡ false) × (c ≡ false)
@@ -30,9 +30,15 @@ neither : (a b : Bool) → (a || b) ≡ false → (a ≡ false) × (b ≡ false)
 neither true b h = absurd (cc)
 neither false b h = (refl, h)
 
-not_false : (b : Bool) → not b ≡ false → b ≡ true
-not_false true h = refl
-not_false false h = absurd (cc)
+both_hold : (a b : Bool) → not (a && b) ≡ false → (a ≡ true) × (b ≡ true)
+both_hold true true h = (refl, refl)
+both_hold true false h = absurd (cc)
+both_hold false b h = absurd (cc)
+
+begins_there : (size address : ℕ) → not (is_entry size address) ≡ false → IsEntry size address
+begins_there size address taken =
+    let parts = both_hold (address % 4 == 0) (nat_le (address + 4) size) taken in
+    record { aligned = eqb-true (address % 4) 0 parts.0; inside = leb-true (address + 4) size parts.1 }
 
 -- a loaded segment that is no misfit
 fitting : (load a b c : Bool) → (load && (a || b || c)) ≡ false → load ≡ true → (a ≡ false) × (c ≡ false)
@@ -81,14 +87,10 @@ pub image_fits : (file : List ℕ) (size : ℕ) (header : FileHeader) (headers :
     → first_holding (program_refusals (length file) size header headers) ≡ None
     → segments ≡ map (segment_of file) (filter is_load headers) → IsImage header.entry size segments
 image_fits file size header headers segments memory few headers_are none segments_are =
-    let rows = no_row Interp Segment Entry (list_any is_interp headers) (list_any (is_misfit (length file) size) headers) (has_bad_entry size header) none in
-    let entry = neither (not (header.entry % 4 == 0)) (nat_lt size (header.entry + 4)) rows.1 in
+    let rows = no_row Interp Segment Entry (list_any is_interp headers) (list_any (is_misfit (length file) size) headers) (not (is_entry size header.entry)) none in
     record {
       memory = memory;
-      begins = record {
-        aligned = eqb-true (header.entry % 4) 0 (not_false (header.entry % 4 == 0) entry.0);
-        inside = ltb-false size (header.entry + 4) entry.1;
-      };
+      begins = begins_there size header.entry rows.1;
       few = omega (arith, ap length segments_are, length-loaded file headers, ap length headers_are, length-headers_from file header.table header.count);
       each = rw segments_are (segments_fit file size headers rows.0);
     }

@@ -1,3 +1,4 @@
+pub mod LittleEndian
 pub mod Tables
 pub mod Refusing
 pub mod Fitting
@@ -5,4 +6,5 @@ pub mod SpelledHeaders
 pub mod SpelledTables
 pub mod ReadingBack
 pub mod Accepting
+pub mod Programs
 pub mod RoundTrip

@@ -4,14 +4,14 @@ use Rattle.std.specs.List.{All}
 use Rattle.std.proofs.lemmas.List.{drop_at, take_at}
 use Rattle.std.proofs.lemmas.List.Elements.{All-head, All-tail}
 use Rattle.std.proofs.Math.Seq.{drop-append-add}
-use Rattle.byteorder.specs.Endian.{little_number}
-use Rattle.byteorder.specs.Numbers.{little_number-reads_back}
+use Rattle.std.specs.Int.{w32, from_le_bytes}
+use Rattle.std.proofs.lemmas.Nat.{from_le_bytes-to_le_bytes_2, from_le_bytes-to_le_bytes_4}
 use Rattle.sec_base.specs.Segment.{IsSegment}
 use Rattle.sec_base.specs.declared.segment.Segment.{Segment}
-use Rattle.elf_load.specs.declared.header.FileHeader.{FileHeader}
-use Rattle.elf_load.specs.declared.table.ProgramHeader.{ProgramHeader}
+use Rattle.elf_load.specs.Format.{FileHeader}
+use Rattle.elf_load.specs.Format.{ProgramHeader}
 use Rattle.elf_load.specs.Format.{u16_at, u32_at, file_header, program_header, headers_from}
-use Rattle.elf_load.specs.Loading.{segment_of}
+use Rattle.elf_load.specs.Program.{segment_of}
 use Rattle.elf_load.specs.Refusals.{is_load}
 use Rattle.elf_load.specs.Spelling.{spelled_header, spelled_segment, spelled_table, joined_bytes, u16_bytes, u32_bytes}
 
@@ -22,11 +22,11 @@ header_back entry count =
 
 u32_at-entry : (entry count : ℕ) (rest : List ℕ) → entry < 2 ^ 32 → u32_at (spelled_header entry count ++ rest) 24 ≡ entry
 unfolding u32_at spelled_header u16_bytes u32_bytes
-u32_at-entry entry count rest fits = little_number-reads_back 4 entry (drop 28 (spelled_header entry count ++ rest)) fits
+u32_at-entry entry count rest fits = from_le_bytes-to_le_bytes_4 entry fits
 
 u16_at-count : (entry count : ℕ) (rest : List ℕ) → count < 2 ^ 16 → u16_at (spelled_header entry count ++ rest) 44 ≡ count
 unfolding u16_at spelled_header u16_bytes u32_bytes
-u16_at-count entry count rest fits = little_number-reads_back 2 count (drop 46 (spelled_header entry count ++ rest)) fits
+u16_at-count entry count rest fits = from_le_bytes-to_le_bytes_2 count fits
 
 pub file_header-spelled : (entry count : ℕ) (rest : List ℕ) → entry < 2 ^ 32 → count < 2 ^ 16
     → file_header (spelled_header entry count ++ rest) ≡ header_back entry count
@@ -45,11 +45,11 @@ headers_back offset (segment ∷ segments) =
 -- a number behind a front part
 u32_at-append : (front rest : List ℕ) (at : ℕ) → u32_at (front ++ rest) (length front + at) ≡ u32_at rest at
 unfolding u32_at
-u32_at-append front rest at = ap (little_number 4) (drop-append-add front rest at)
+u32_at-append front rest at = ap (λ (bytes : List ℕ). from_le_bytes w32 (take 4 bytes)) (drop-append-add front rest at)
 
 u32_at-front : (front rest : List ℕ) → u32_at (front ++ rest) (length front) ≡ u32_at rest 0
 unfolding u32_at
-u32_at-front front rest = ap (little_number 4) (drop_at front rest (length front) refl)
+u32_at-front front rest = ap (λ (bytes : List ℕ). from_le_bytes w32 (take 4 bytes)) (drop_at front rest (length front) refl)
 
 -- the fields of a program header that is spelled
 kind_back : (offset : ℕ) (segment : Segment) (rest : List ℕ) → u32_at (spelled_segment offset segment ++ rest) 0 ≡ 1
@@ -58,21 +58,21 @@ kind_back offset segment rest = refl
 
 offset_back : (offset : ℕ) (segment : Segment) (rest : List ℕ) → offset < 2 ^ 32 → u32_at (spelled_segment offset segment ++ rest) 4 ≡ offset
 unfolding u32_at spelled_segment u32_bytes
-offset_back offset segment rest fits = little_number-reads_back 4 offset (drop 8 (spelled_segment offset segment ++ rest)) fits
+offset_back offset segment rest fits = from_le_bytes-to_le_bytes_4 offset fits
 
 address_back : (offset : ℕ) (segment : Segment) (rest : List ℕ) → segment.addr < 2 ^ 32 → u32_at (spelled_segment offset segment ++ rest) 8 ≡ segment.addr
 unfolding u32_at spelled_segment u32_bytes
-address_back offset segment rest fits = little_number-reads_back 4 segment.addr (drop 12 (spelled_segment offset segment ++ rest)) fits
+address_back offset segment rest fits = from_le_bytes-to_le_bytes_4 segment.addr fits
 
 file_length_back : (offset : ℕ) (segment : Segment) (rest : List ℕ) → length segment.bytes < 2 ^ 32
     → u32_at (spelled_segment offset segment ++ rest) 16 ≡ length segment.bytes
 unfolding u32_at spelled_segment u32_bytes
-file_length_back offset segment rest fits = little_number-reads_back 4 (length segment.bytes) (drop 20 (spelled_segment offset segment ++ rest)) fits
+file_length_back offset segment rest fits = from_le_bytes-to_le_bytes_4 (length segment.bytes) fits
 
 memory_length_back : (offset : ℕ) (segment : Segment) (rest : List ℕ) → segment.length < 2 ^ 32
     → u32_at (spelled_segment offset segment ++ rest) 20 ≡ segment.length
 unfolding u32_at spelled_segment u32_bytes
-memory_length_back offset segment rest fits = little_number-reads_back 4 segment.length (drop 24 (spelled_segment offset segment ++ rest)) fits
+memory_length_back offset segment rest fits = from_le_bytes-to_le_bytes_4 segment.length fits
 
 length-spelled_segment : (offset : ℕ) (segment : Segment) → length (spelled_segment offset segment) ≡ 32
 unfolding spelled_segment u32_bytes

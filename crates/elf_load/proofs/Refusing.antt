@@ -2,8 +2,8 @@
 use Rattle.std.proofs.Common.{◌≡◌, ℕ, List, [], ◌∷◌, ◌++◌, length, Bool, true, false, Option, Some, None, refl, sym, ◌∙◌, ap}
 use Rattle.std.specs.Bool.{if◌then◌else◌}
 use Rattle.elf_load.specs.declared.fault.ElfFault.{ElfFault}
-use Rattle.elf_load.specs.declared.header.FileHeader.{FileHeader}
-use Rattle.elf_load.specs.declared.table.ProgramHeader.{ProgramHeader}
+use Rattle.elf_load.specs.Format.{FileHeader}
+use Rattle.elf_load.specs.Format.{ProgramHeader}
 use Rattle.elf_load.specs.Format.{file_header, headers_from, program_headers}
 use Rattle.elf_load.specs.Refusals.{first_fault, first_holding, header_refusals, program_refusals}
 

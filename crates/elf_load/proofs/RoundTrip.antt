@@ -1,12 +1,14 @@
 -- A program is the program that its spelling holds.
-use Rattle.std.proofs.Common.{◌≡◌, ℕ, ◌+◌, ◌*◌, ◌^◌, ◌<◌, ◌≤◌, List, [], ◌++◌, length, map, filter, None, refl, sym, ◌∙◌, ap, arith, length-append, append_assoc}
+use Rattle.std.proofs.Common.{◌≡◌, ℕ, ◌+◌, ◌*◌, ◌^◌, ◌<◌, ◌≤◌, List, [], ◌++◌, length, map, filter, IsOkAnd, None, refl, sym, ◌∙◌, ap, arith, length-append, append_assoc}
 use Rattle.std.proofs.lemmas.List.{append-nil}
 use Rattle.sec_base.specs.Image.{IsImage}
+use Rattle.sec_base.specs.Program.{IsImageOf}
 use Rattle.sec_base.specs.declared.segment.Segment.{Segment}
 use Rattle.sec_base.specs.declared.image.Image.{Image}
-use Rattle.elf_load.specs.declared.header.FileHeader.{FileHeader}
+use Rattle.elf_load.specs.Format.{FileHeader}
 use Rattle.elf_load.specs.Format.{file_header, headers_from}
-use Rattle.elf_load.specs.Loading.{IsProgramOf, entry_of, segment_of, segments_of}
+use Rattle.elf_load.specs.Program.{elf_program, entry_of, segment_of, segments_of}
+use Rattle.elf_load.proofs.Programs.{elf_image}
 use Rattle.elf_load.specs.Refusals.{first_fault, is_load}
 use Rattle.elf_load.specs.Spelling.{spelled, spelled_header, spelled_table, joined_bytes}
 use Rattle.elf_load.proofs.Accepting.{no_header_fault, no_program_fault}
@@ -45,13 +47,13 @@ parts_back entry size count offset segments file image count_is offset_is file_i
       first_fault-program file size (header_back entry count) (headers_back offset segments) None
           (no_header_fault file (table ++ bytes) entry count behind_header header few (omega arith))
           (sym header) headers_are
-          (no_program_fault (length file) size entry count offset segments (omega arith) image.each image.begins.aligned image.begins.inside),
+          (no_program_fault (length file) size entry count offset segments (omega arith) image.each image.begins),
       ap (λ (h : FileHeader). h.entry) header,
       segments_are file (header_back entry count) (headers_back offset segments) segments (sym header) headers_are loaded,
     )
 
-pub read_back : (image : Image) → IsProgramOf (spelled image) image.size image
+pub read_back : (image : Image) → IsOkAnd (elf_program (spelled image) image.size) (λ program. IsImageOf image.size program image)
 unfolding spelled
 read_back image =
     let parts = parts_back image.entry image.size (length image.segments) (52 + 32 * length image.segments) image.segments (spelled image) image.fits refl refl refl in
-    record { accepted = parts.0; entry = sym parts.1; memory = refl; segments = parts.2 }
+    elf_image (spelled image) image.size image parts.0 (sym parts.1) refl parts.2

@@ -1,17 +1,33 @@
 -- The fields of an ELF file of 32 bits (Executable and Linking Format 1.2, "ELF Header" and "Program Header") that a
 -- program is loaded by; all others are ignored. Of a number the lowest byte stands first.
-use Rattle.std.specs.Prelude.{ℕ, ◌+◌, zero, suc, List, [], ◌∷◌, drop}
-use Rattle.byteorder.specs.Endian.{little_number}
-use Rattle.elf_load.specs.declared.header.FileHeader.{FileHeader}
-use Rattle.elf_load.specs.declared.table.ProgramHeader.{ProgramHeader}
+use Rattle.std.specs.Prelude.{ℕ, ◌+◌, zero, suc, List, [], ◌∷◌, drop, take}
+use Rattle.std.specs.Int.{w16, w32, from_le_bytes}
+
+-- the fields of a file header
+pub record FileHeader : Type 0 where
+  pub kind : ℕ
+  pub machine : ℕ
+  pub entry : ℕ
+  pub table : ℕ
+  pub flags : ℕ
+  pub header_size : ℕ
+  pub count : ℕ
+
+-- the fields of a program header
+pub record ProgramHeader : Type 0 where
+  pub kind : ℕ
+  pub offset : ℕ
+  pub address : ℕ
+  pub file_length : ℕ
+  pub memory_length : ℕ
 
 -- the number in the two bytes at a place
 unfoldable pub u16_at : List ℕ → ℕ → ℕ
-u16_at file at = little_number 2 (drop at file)
+u16_at file at = from_le_bytes w16 (take 2 (drop at file))
 
 -- the number in the four bytes at a place
 unfoldable pub u32_at : List ℕ → ℕ → ℕ
-u32_at file at = little_number 4 (drop at file)
+u32_at file at = from_le_bytes w32 (take 4 (drop at file))
 
 -- how a file begins: 7f and the letters ELF
 abbrev pub magic : List ℕ

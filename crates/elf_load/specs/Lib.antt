@@ -1,6 +1,6 @@
-pub mod Faults
+pub mod Fault
 pub mod Format
 pub mod Refusals
-pub mod Loading
+pub mod Program
 pub mod Spelling
 pub mod Measurement

@@ -4,9 +4,8 @@ use Rattle.std.specs.Prelude.{◌==◌, ℕ, ◌+◌, ◌*◌, ◌%◌, List, []
 use Rattle.std.specs.List.{list_any, starts_with}
 use Rattle.elf_load.specs.declared.fault.ElfFault.{ElfFault}
 use Rattle.elf_load.specs.declared.fault.ElfFault.TheVariants.{Short, Magic, Class, Kind, Machine, Compressed, Table, Interp, Segment, Entry}
-use Rattle.elf_load.specs.declared.header.FileHeader.{FileHeader}
-use Rattle.elf_load.specs.declared.table.ProgramHeader.{ProgramHeader}
-use Rattle.elf_load.specs.Format.{class_bytes, file_header, magic, program_headers}
+use Rattle.sec_base.specs.Image.{is_entry}
+use Rattle.elf_load.specs.Format.{FileHeader, ProgramHeader, class_bytes, file_header, magic, program_headers}
 
 -- fewer bytes than a file header has
 abbrev pub is_short : List ℕ → Bool
@@ -54,10 +53,6 @@ is_misfit file_length size header =
     || (nat_lt 0 header.file_length && nat_lt file_length (header.offset + header.file_length))
     || nat_lt size (header.address + header.memory_length))
 
--- the entry is no multiple of 4, or its word ends past the memory
-abbrev pub has_bad_entry : ℕ → FileHeader → Bool
-has_bad_entry size header = not (header.entry % 4 == 0) || nat_lt size (header.entry + 4)
-
 -- the refusals that the file header shows
 abbrev pub header_refusals : List ℕ → List (ElfFault × Bool)
 header_refusals file = let header = file_header file in
@@ -74,7 +69,7 @@ abbrev pub program_refusals : ℕ → ℕ → FileHeader → List ProgramHeader 
 program_refusals file_length size header headers =
     (Interp, list_any is_interp headers) ∷
     (Segment, list_any (is_misfit file_length size) headers) ∷
-    (Entry, has_bad_entry size header) ∷ []
+    (Entry, not (is_entry size header.entry)) ∷ []
 
 -- the first whose test holds
 abbrev pub first_holding : List (ElfFault × Bool) → Option ElfFault

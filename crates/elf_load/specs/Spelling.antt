@@ -1,17 +1,17 @@
 -- How a program is spelled as an ELF file: the file header, a program header for each segment, and the segments' bytes.
 use Rattle.std.specs.Prelude.{ℕ, ◌+◌, ◌*◌, List, [], ◌∷◌, ◌++◌, length, replicate}
 use Rattle.std.specs.List.{flat_map}
-use Rattle.byteorder.specs.Endian.{little_bytes}
+use Rattle.std.specs.Int.{w16, w32, to_le_bytes}
 use Rattle.elf_load.specs.Format.{class_bytes, magic}
 use Rattle.sec_base.specs.declared.segment.Segment.{Segment}
 use Rattle.sec_base.specs.declared.image.Image.{Image}
 
 -- a number in two bytes and in four, the lowest first
 unfoldable pub u16_bytes : ℕ → List ℕ
-u16_bytes n = little_bytes 2 n
+u16_bytes n = to_le_bytes w16 n
 
 unfoldable pub u32_bytes : ℕ → List ℕ
-u32_bytes n = little_bytes 4 n
+u32_bytes n = to_le_bytes w32 n
 
 -- how an ELF file begins, and nine zeros
 abbrev pub ident : List ℕ

@@ -1,7 +1,7 @@
-//! Why a file is refused.
+// Why a file is refused.
 
 ghost use Rattle.std.specs.Prelude.{◌≡◌};
-ghost use Rattle.elf_load.specs.Faults.{code_of, name_of};
+ghost use Rattle.elf_load.specs.Fault.{elf_fault_code, elf_fault_name};
 
 use sec_base::NoMemory;
 use std::alloc::AllocError;
@@ -36,14 +36,14 @@ pub enum ElfFault {
 impl ElfFault {
     /// The number, from 1 to 10.
     pub fn code(self) -> u8
-        ensures { result ≡ code_of self }
+        ensures { result ≡ elf_fault_code self }
     {
         self as u8
     }
 
     /// The name, as it is written here.
     pub fn name(self) -> &'static str
-        ensures { result.now ≡ name_of self }
+        ensures { result.now ≡ elf_fault_name self }
     {
         match self {
             ElfFault::Short => "Short",
@@ -62,9 +62,9 @@ impl ElfFault {
 
 impl fmt::Display for ElfFault {
     ghost use Rattle.std.specs.Prelude.{Some};
-    ghost use Rattle.elf_load.specs.Faults.{name_of};
+    ghost use Rattle.elf_load.specs.Fault.{elf_fault_name};
 
-    ghost output = { λ fault. Some (name_of fault) };
+    ghost output = { λ fault. Some (elf_fault_name fault) };
 
     fn fmt<W: fmt::Write>(&self, f: &mut fmt::Formatter<W>) -> fmt::Result {
         f.write_str(self.name())
@@ -77,7 +77,7 @@ pub enum ElfError {
     /// The file is refused.
     #[error("{0}")]
     Fault(ElfFault),
-    /// Memory for the emulator itself was not to be had.
+    /// The emulator itself is out of memory.
     #[error("no memory")]
     NoMemory,
 }

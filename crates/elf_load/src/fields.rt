@@ -1,4 +1,4 @@
-//! The numbers of a file, the lowest byte first.
+// The numbers of a file, the lowest byte first.
 
 ghost use Rattle.std.specs.Prelude.{◌≡◌, ◌+◌, ◌≤◌, ◌++◌, length, OnOk, OnErr};
 ghost use Rattle.elf_load.specs.Format.{u16_at, u32_at};
@@ -7,8 +7,8 @@ ghost use Rattle.elf_load.specs.Spelling.{u16_bytes, u32_bytes};
 use byteorder::{ByteOrder, LittleEndian};
 
 /// The number in two bytes, the lowest first.
-#[tactic(auto, unfolding(crate::specs::Format::u16_at))]
-pub(crate) fn u16_at(bytes: &[u8], at: usize) -> u16
+#[tactic(auto, using(crate::proofs::LittleEndian::little_two), unfolding(crate::specs::Format::u16_at))]
+pub fn u16_at(bytes: &[u8], at: usize) -> u16
     requires { at + 2 ≤ length bytes.now }
     ensures { result ≡ u16_at bytes.now at }
 {
@@ -16,8 +16,8 @@ pub(crate) fn u16_at(bytes: &[u8], at: usize) -> u16
 }
 
 /// The number in four bytes, the lowest first.
-#[tactic(auto, unfolding(crate::specs::Format::u32_at))]
-pub(crate) fn u32_at(bytes: &[u8], at: usize) -> u32
+#[tactic(auto, using(crate::proofs::LittleEndian::little_four), unfolding(crate::specs::Format::u32_at))]
+pub fn u32_at(bytes: &[u8], at: usize) -> u32
     requires { at + 4 ≤ length bytes.now }
     ensures { result ≡ u32_at bytes.now at }
 {
@@ -26,7 +26,7 @@ pub(crate) fn u32_at(bytes: &[u8], at: usize) -> u32
 
 /// The two bytes of a number.
 #[tactic(auto, unfolding(crate::specs::Spelling::u16_bytes))]
-pub(crate) fn u16_bytes(n: u16) -> [u8; 2]
+pub fn u16_bytes(n: u16) -> [u8; 2]
     ensures { result ≡ u16_bytes n }
 {
     let mut bytes = [0; 2];
@@ -36,7 +36,7 @@ pub(crate) fn u16_bytes(n: u16) -> [u8; 2]
 
 /// The four bytes of a number.
 #[tactic(auto, unfolding(crate::specs::Spelling::u32_bytes))]
-pub(crate) fn u32_bytes(n: u32) -> [u8; 4]
+pub fn u32_bytes(n: u32) -> [u8; 4]
     ensures { result ≡ u32_bytes n }
 {
     let mut bytes = [0; 4];

@@ -1,41 +1,39 @@
-//! The file header, and what it shows of a file.
+// The file header, and what it shows of a file.
 
 ghost use Rattle.std.specs.Prelude.{◌≡◌, ◌+◌, ◌*◌, ◌≤◌, length, IfOk};
 ghost use Rattle.std.specs.Result.{result_err};
 ghost use Rattle.elf_load.specs.Format.{file_header};
-ghost use Rattle.elf_load.specs.Refusals.{first_holding, header_refusals, has_bad_entry, has_bad_table};
+ghost use Rattle.elf_load.specs.Refusals.{first_holding, header_refusals, has_bad_table};
 
 use crate::fault::ElfFault;
 use crate::fields::{u16_at, u32_at};
 use crate::table::PROGRAM_HEADER_LEN;
+use std::marker::Model;
 
 /// The bytes of a file header.
-pub(crate) const FILE_HEADER_LEN: usize = 52;
+pub const FILE_HEADER_LEN: usize = 52;
 
 /// How an ELF file begins.
-pub(crate) const MAGIC: [u8; 4] = [0x7f, b'E', b'L', b'F'];
+pub const MAGIC: [u8; 4] = [0x7f, b'E', b'L', b'F'];
 
 /// 32 bits, lowest byte first, version 1.
-pub(crate) const CLASS: [u8; 3] = [1, 1, 1];
+pub const CLASS: [u8; 3] = [1, 1, 1];
 
 /// ET_EXEC.
-pub(crate) const EXECUTABLE: u16 = 2;
+pub const EXECUTABLE: u16 = 2;
 
 /// EM_RISCV.
-pub(crate) const RISCV: u16 = 243;
+pub const RISCV: u16 = 243;
 
-/// EF_RISCV_RVC.
+// EF_RISCV_RVC.
 const COMPRESSED: u32 = 1;
 
-/// The bytes of an entry's word.
-const WORD_LEN: u32 = 4;
-
-/// The most program headers that are taken.
+// The most program headers that are taken.
 const MOST_HEADERS: u16 = 64;
 
 /// The fields of a file header that are looked at ("ELF Header").
 #[derive(Clone, Copy)]
-pub(crate) struct FileHeader {
+pub struct FileHeader {
     /// e_type: what kind of file it is.
     pub kind: u16,
     /// e_machine: which machine it is for.
@@ -52,8 +50,34 @@ pub(crate) struct FileHeader {
     pub count: u16,
 }
 
+impl Model for FileHeader {
+    ghost use Rattle.elf_load.specs.Format as format;
+
+    ghost Value = { format.FileHeader };
+
+    ghost view = { λ h. record {
+      kind = h.kind;
+      machine = h.machine;
+      entry = h.entry;
+      table = h.table;
+      flags = h.flags;
+      header_size = h.header_size;
+      count = h.count;
+    } };
+
+    ghost inverse = { λ h. record {
+      kind = h.kind;
+      machine = h.machine;
+      entry = h.entry;
+      table = h.table;
+      flags = h.flags;
+      header_size = h.header_size;
+      count = h.count;
+    } };
+}
+
 impl FileHeader {
-    /// The header that a file begins with.
+    // The header that a file begins with.
     fn new(file: &[u8]) -> FileHeader
         requires { 52 ≤ length file.now }
         ensures { result ≡ file_header file.now }
@@ -69,7 +93,7 @@ impl FileHeader {
         }
     }
 
-    /// Whether the program headers are too many, of another size, or end past a file of so many bytes.
+    // Whether the program headers are too many, of another size, or end past a file of so many bytes.
     fn has_bad_table(&self, file_len: usize) -> bool
         ensures { result ≡ has_bad_table file_len self.now }
     {
@@ -79,15 +103,8 @@ impl FileHeader {
                 && (usize::from(self.header_size) != PROGRAM_HEADER_LEN || end > file_len as u64))
     }
 
-    /// Whether the entry is no multiple of 4, or its word ends past a memory of `size`.
-    pub(crate) fn has_bad_entry(&self, size: u32) -> bool
-        ensures { result ≡ has_bad_entry size self.now }
-    {
-        self.entry % WORD_LEN != 0 || u64::from(self.entry) + u64::from(WORD_LEN) > u64::from(size)
-    }
-
     /// The header of a file, or the first refusal that it shows.
-    pub(crate) fn read(file: &[u8]) -> Result<FileHeader, ElfFault>
+    pub fn read(file: &[u8]) -> Result<FileHeader, ElfFault>
         ensures header { IfOk result (λ header. header ≡ file_header file.now) }
         ensures few { IfOk result (λ header. header.count ≤ 64) }
         ensures inside { IfOk result (λ header. 1 ≤ header.count → header.table + 32 * header.count ≤ length file.now) }

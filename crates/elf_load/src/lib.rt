@@ -5,14 +5,14 @@
 mod fault;
 mod fields;
 mod header;
-mod loading;
 mod measurement;
+mod program;
 mod spelling;
 mod table;
 #[cfg(test)]
 mod tests;
 
 pub use fault::{ElfError, ElfFault};
-pub use loading::{flat, parse};
 pub use measurement::measure;
+pub use program::{flat, parse};
 pub use spelling::write;

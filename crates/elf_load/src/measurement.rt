@@ -1,4 +1,4 @@
-//! The measurement of a program.
+// The measurement of a program.
 
 ghost use Rattle.std.specs.Prelude.{◌≡◌, ◌<◌, ◌^◌, ◌++◌, List, ℕ, length};
 ghost use Rattle.sha2.specs.Hashers.{Holds256};
@@ -8,7 +8,7 @@ use crate::fields::u32_bytes;
 use sec_base::{Image, Segment};
 use sha2::{Digest, Sha256};
 
-/// Hashes a segment's record.
+// Hashes a segment's record.
 fn update_by_segment(hasher: &mut Sha256, segment: &Segment)
     requires { length segment.now.bytes < 2 ^ 32 }
     ensures { (message : List ℕ) → Holds256 hasher.old message → Holds256 hasher.new (message ++ segment_record segment.now) }
@@ -29,7 +29,7 @@ pub fn measure(image: &Image) -> [u8; 32]
     hasher.update(u32_bytes(image.entry));
     hasher.update(u32_bytes(image.size));
     hasher.update(u32_bytes(segments.len() as u32));
-    'segments: for segment in segments {
+    for segment in segments {
         update_by_segment(&mut hasher, segment);
     }
     hasher.finalize()

@@ -1,8 +1,9 @@
-//! The ELF file of a program.
+// The ELF file of a program.
 
-ghost use Rattle.std.specs.Prelude.{◌≡◌, ◌+◌, ◌*◌, ◌<◌, ◌^◌, ◌++◌, length, IfOk, OnOk};
+ghost use Rattle.std.specs.Prelude.{◌≡◌, ◌+◌, ◌*◌, ◌<◌, ◌^◌, ◌++◌, length, IfOk, IsOkAnd, OnOk};
 ghost use Rattle.std.specs.List.{flat_map};
-ghost use Rattle.elf_load.specs.Loading.{IsProgramOf};
+ghost use Rattle.elf_load.specs.Program.{elf_program};
+ghost use Rattle.sec_base.specs.Program.{IsImageOf};
 ghost use Rattle.elf_load.specs.Spelling.{spelled, spelled_header, spelled_segment, spelled_table, joined_bytes, u16_bytes, u32_bytes};
 
 use crate::fields::{u16_bytes, u32_bytes};
@@ -11,39 +12,39 @@ use crate::table::{LOAD, PROGRAM_HEADER_LEN};
 use sec_base::{Bytes, Image, NoMemory, Segment};
 use std::alloc::Global;
 
-/// The bytes of e_ident behind the class, which are zeros.
+// The bytes of e_ident behind the class, which are zeros.
 const IDENT_REST: [u8; 9] = [0; 9];
 
-/// EV_CURRENT.
+// EV_CURRENT.
 const VERSION: u32 = 1;
 
-/// PF_R, PF_W and PF_X.
+// PF_R, PF_W and PF_X.
 const READ_WRITE_EXECUTE: u32 = 7;
 
-/// No alignment is asked for.
+// No alignment is asked for.
 const UNALIGNED: u32 = 1;
 
-/// Appends numbers of two bytes.
+// Appends numbers of two bytes.
 fn put_halves(file: &mut Vec<u8>, halves: &[u16]) -> Result<(), NoMemory>
     ensures { OnOk result (file.new.items ≡ file.old.items ++ flat_map u16_bytes halves.now) }
 {
-    'halves: for half in halves {
+    for half in halves {
         file.extend_from_slice(&u16_bytes(*half))?;
     }
     Ok(())
 }
 
-/// Appends numbers of four bytes.
+// Appends numbers of four bytes.
 fn put_words(file: &mut Vec<u8>, words: &[u32]) -> Result<(), NoMemory>
     ensures { OnOk result (file.new.items ≡ file.old.items ++ flat_map u32_bytes words.now) }
 {
-    'words: for word in words {
+    for word in words {
         file.extend_from_slice(&u32_bytes(*word))?;
     }
     Ok(())
 }
 
-/// Appends the file header.
+// Appends the file header.
 fn put_header(file: &mut Vec<u8>, entry: u32, count: u16) -> Result<(), NoMemory>
     ensures { OnOk result (file.new.items ≡ file.old.items ++ spelled_header entry count) }
 {
@@ -66,7 +67,7 @@ fn put_header(file: &mut Vec<u8>, entry: u32, count: u16) -> Result<(), NoMemory
     Ok(())
 }
 
-/// Appends the program header of a segment whose bytes begin at `offset`.
+// Appends the program header of a segment whose bytes begin at `offset`.
 fn put_segment(file: &mut Vec<u8>, offset: u32, segment: &Segment) -> Result<(), NoMemory>
     requires { length segment.now.bytes < 2 ^ 32 }
     ensures { OnOk result (file.new.items ≡ file.old.items ++ spelled_segment offset segment.now) }
@@ -88,29 +89,29 @@ fn put_segment(file: &mut Vec<u8>, offset: u32, segment: &Segment) -> Result<(),
     Ok(())
 }
 
-/// Appends the program headers of segments whose bytes follow one another from `offset` on.
+// Appends the program headers of segments whose bytes follow one another from `offset` on.
 fn put_table(file: &mut Vec<u8>, mut offset: u32, segments: &[Segment]) -> Result<(), NoMemory>
     requires { offset + length (joined_bytes segments.now) < 2 ^ 32 }
     ensures { OnOk result (file.new.items ≡ file.old.items ++ spelled_table offset segments.now) }
 {
-    'segments: for segment in segments {
+    for segment in segments {
         put_segment(file, offset, segment)?;
         offset += segment.bytes.len() as u32;
     }
     Ok(())
 }
 
-/// Appends the bytes of segments.
+// Appends the bytes of segments.
 fn put_bytes(file: &mut Vec<u8>, segments: &[Segment]) -> Result<(), NoMemory>
     ensures { OnOk result (file.new.items ≡ file.old.items ++ joined_bytes segments.now) }
 {
-    'segments: for segment in segments {
+    for segment in segments {
         file.extend_from_slice(segment.bytes.as_slice())?;
     }
     Ok(())
 }
 
-/// The bytes of a program's ELF file.
+// The bytes of a program's ELF file.
 #[tactic(auto, unfolding(crate::specs::Spelling::spelled))]
 fn spell(alloc: Global, image: &Image) -> Result<Vec<u8>, NoMemory>
     ensures { IfOk result (λ file. file.items ≡ spelled image.now) }
@@ -124,11 +125,11 @@ fn spell(alloc: Global, image: &Image) -> Result<Vec<u8>, NoMemory>
     Ok(file)
 }
 
-/// The ELF file of a program, of which `parse` gives the same program for a memory of its size. Only want of memory
-/// refuses it.
+/// The ELF file of a program, of which `parse` gives the same program for a memory of its size. Fails only
+/// if out of memory.
 pub fn write(alloc: Global, image: &Image) -> Result<Bytes, NoMemory>
     ensures bytes { IfOk result (λ bytes. bytes ≡ spelled image.now) }
-    ensures read_back { IsProgramOf (spelled image.now) image.now.size image.now }
+    ensures read_back { IsOkAnd (elf_program (spelled image.now) image.now.size) (λ program. IsImageOf image.now.size program image.now) }
 {
     let file = spell(alloc, image)?;
     Ok(Bytes::from_vec(file))

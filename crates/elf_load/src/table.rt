@@ -1,4 +1,4 @@
-//! The program headers.
+// The program headers.
 
 ghost use Rattle.std.specs.Prelude.{◌≡◌, ◌+◌, ◌*◌, ◌≤◌, length, IfOk};
 ghost use Rattle.std.specs.List.{list_any};
@@ -9,19 +9,20 @@ use crate::fields::u32_at;
 use crate::header::FileHeader;
 use sec_base::NoMemory;
 use std::alloc::Global;
+use std::marker::Model;
 
 /// The bytes of a program header.
-pub(crate) const PROGRAM_HEADER_LEN: usize = 32;
+pub const PROGRAM_HEADER_LEN: usize = 32;
 
 /// PT_LOAD.
-pub(crate) const LOAD: u32 = 1;
+pub const LOAD: u32 = 1;
 
-/// PT_INTERP.
+// PT_INTERP.
 const INTERP: u32 = 3;
 
 /// The fields of a program header that are looked at ("Program Header").
 #[derive(Clone, Copy)]
-pub(crate) struct ProgramHeader {
+pub struct ProgramHeader {
     /// p_type: what it is the header of.
     pub kind: u32,
     /// p_offset: where its bytes begin in the file.
@@ -34,8 +35,30 @@ pub(crate) struct ProgramHeader {
     pub memory_length: u32,
 }
 
+impl Model for ProgramHeader {
+    ghost use Rattle.elf_load.specs.Format as format;
+
+    ghost Value = { format.ProgramHeader };
+
+    ghost view = { λ h. record {
+      kind = h.kind;
+      offset = h.offset;
+      address = h.address;
+      file_length = h.file_length;
+      memory_length = h.memory_length;
+    } };
+
+    ghost inverse = { λ h. record {
+      kind = h.kind;
+      offset = h.offset;
+      address = h.address;
+      file_length = h.file_length;
+      memory_length = h.memory_length;
+    } };
+}
+
 impl ProgramHeader {
-    /// The header at a place of a file.
+    // The header at a place of a file.
     fn new(file: &[u8], at: usize) -> ProgramHeader
         requires { at + 32 ≤ length file.now }
         ensures { result ≡ program_header file.now at }
@@ -50,14 +73,14 @@ impl ProgramHeader {
     }
 
     /// Whether it asks for an interpreter.
-    pub(crate) fn is_interp(&self) -> bool
+    pub fn is_interp(&self) -> bool
         ensures { result ≡ is_interp self.now }
     {
         self.kind == INTERP
     }
 
     /// Whether it is the header of a segment that is loaded.
-    pub(crate) fn is_load(&self) -> bool
+    pub fn is_load(&self) -> bool
         ensures { result ≡ is_load self.now }
     {
         self.kind == LOAD
@@ -65,7 +88,7 @@ impl ProgramHeader {
 
     /// Whether it is a segment that is loaded and has more bytes than memory, or ends past a file of so many bytes
     /// or past a memory of `size`.
-    pub(crate) fn is_misfit(&self, file_len: usize, size: u32) -> bool
+    pub fn is_misfit(&self, file_len: usize, size: u32) -> bool
         ensures { result ≡ is_misfit file_len size self.now }
     {
         let end_in_file = u64::from(self.offset) + u64::from(self.file_length);
@@ -78,14 +101,14 @@ impl ProgramHeader {
 }
 
 /// Whether one of them asks for an interpreter.
-pub(crate) fn any_interp(headers: &[ProgramHeader]) -> bool
+pub fn any_interp(headers: &[ProgramHeader]) -> bool
     ensures { result ≡ list_any is_interp headers.now }
 {
     headers.iter().any(|header| header.is_interp())
 }
 
 /// Whether one of them is a misfit.
-pub(crate) fn any_misfit(headers: &[ProgramHeader], file_len: usize, size: u32) -> bool
+pub fn any_misfit(headers: &[ProgramHeader], file_len: usize, size: u32) -> bool
     ensures { result ≡ list_any (is_misfit file_len size) headers.now }
 {
     headers
@@ -94,7 +117,7 @@ pub(crate) fn any_misfit(headers: &[ProgramHeader], file_len: usize, size: u32) 
 }
 
 /// The program headers of a file, in the order of its table.
-pub(crate) fn program_headers(
+pub fn program_headers(
     alloc: Global,
     file: &[u8],
     header: &FileHeader,
@@ -102,10 +125,10 @@ pub(crate) fn program_headers(
     requires { 1 ≤ header.now.count → header.now.table + 32 * header.now.count ≤ length file.now }
     ensures { IfOk result (λ headers. headers.items ≡ headers_from file.now header.now.table header.now.count) }
 {
+    let table = header.table as usize;
     let mut headers = Vec::new(alloc);
-    'headers: for index in 0..usize::from(header.count) {
-        let at = header.table as usize + PROGRAM_HEADER_LEN * index;
-        headers.push(ProgramHeader::new(file, at))?;
+    for index in 0..usize::from(header.count) {
+        headers.push(ProgramHeader::new(file, table + PROGRAM_HEADER_LEN * index))?;
     }
     Ok(headers)
 }

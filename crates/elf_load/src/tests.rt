@@ -199,6 +199,15 @@ fn a_file_is_taken_or_refused_by_its_first_fault(rt: HostRuntime) {
 }
 
 #[test]
+fn texts_of_errors(rt: HostRuntime) -> Result<(), Fail> {
+    let refused = ElfError::Fault(ElfFault::Machine);
+    assert_eq!(rt; format!(in rt.alloc(); "{refused}")?.as_str(), "Machine");
+    let stopped = ElfError::NoMemory;
+    assert_eq!(rt; format!(in rt.alloc(); "{stopped}")?.as_str(), "no memory");
+    Ok(())
+}
+
+#[test]
 fn flat_files_up_to_the_size(rt: HostRuntime) -> Result<(), Fail> {
     let file = [0; 16385];
     let image = flat(rt.alloc(), &file[1..], 16384)?;
