@@ -1,40 +1,38 @@
 -- The steps of the first pass, from line to line.
 use Rattle.std.proofs.Common.{◌≡◌, ℕ, ◌+◌, ◌≤◌, Bool, true, false, List, [], ◌∷◌, Option, Some, None, Result, Ok, Err, length, option_map, refl, ap, subst, ◌∙◌, inl, inr, arith, if◌then◌else◌}
-use Rattle.std.specs.Prelude.{is_some, nat_lt}
+use Rattle.std.specs.Prelude.{find, is_some, nat_lt}
 use Rattle.std.specs.Str.{bytes_eq}
 use Rattle.std.proofs.lemmas.Bool.{le-ltb}
 use Rattle.rv32_asm_syntax.specs.declared.fault.AsmFault.{AsmFault}
 use Rattle.rv32_asm_syntax.specs.declared.fault.AsmFault.TheVariants.{Range, Large, Twice}
 use Rattle.rv32_asm.specs.Course.{Gives, IsNextLine, Reaches, behind_line, end_of}
-use Rattle.rv32_asm.specs.Labels.{Label, is_there, label_named}
+use Rattle.rv32_asm.specs.Labels.{Label, Site, is_there}
 use Rattle.rv32_asm.specs.Layout.{is_misplaced, size_at}
 use Rattle.rv32_asm_syntax.specs.Parts.{parts}
 use Rattle.rv32_asm_syntax.specs.Lines.{labels_in, labels_of, lines_of, without_comment}
 use Rattle.rv32_asm.specs.Passes.{LineFault, Progress, address_after, after_line, behind, first_pass, in_line, with_names, ◌>>=◌}
 use Rattle.rv32_asm_syntax.specs.Reading.{statement_of}
-use Rattle.rv32_asm.specs.SeenLabels.{AreAlike, unnamed}
+use Rattle.rv32_asm.specs.SeenLabels.{AreAlike}
 use Rattle.rv32_asm_syntax.specs.Statements.{Statement}
 use Rattle.rv32_asm.proofs.SecondSteps.{nothing_said}
 
 -- ---- labels that are alike
 
-some_alike : (o p : Option Label) → option_map unnamed o ≡ option_map unnamed p → is_some o ≡ is_some p
-some_alike None None e = refl
-some_alike None (Some q) e = cc
-some_alike (Some p) None e = cc
-some_alike (Some p) (Some q) e = refl
+abbrev site : Label → Site
+site label = label.site
 
 pub there_alike : (a b : List Label) → AreAlike a b → (name : List ℕ) → is_there a name ≡ is_there b name
-there_alike a b alike name = some_alike (label_named a name) (label_named b name) (alike.each name)
+there_alike a b alike name = ap is_some (alike.each name)
 
-either_alike : (c : Bool) (label : Label) (o p : Option Label) → option_map unnamed o ≡ option_map unnamed p →
-    option_map unnamed (if c then Some label else o) ≡ option_map unnamed (if c then Some label else p)
+either_alike : (c : Bool) (label : Label) (o p : Option Label) → option_map site o ≡ option_map site p →
+    option_map site (if c then Some label else o) ≡ option_map site (if c then Some label else p)
 either_alike true label o p e = refl
 either_alike false label o p e = e
 
 more_alike : (label : Label) (a b : List Label) → AreAlike a b → AreAlike (label ∷ a) (label ∷ b)
 more_alike label a b alike = record {
-  each = λ name. either_alike (bytes_eq label.name name) label (label_named a name) (label_named b name) (alike.each name);
+  each = λ name.
+      either_alike (bytes_eq label.name name) label (find (λ l. bytes_eq l.name name) a) (find (λ l. bytes_eq l.name name) b) (alike.each name);
 }
 
 same_alike : (a : List Label) → AreAlike a a
@@ -66,7 +64,7 @@ module _ (address line : ℕ) where
       ListsAlike (with_names address line names a) (with_names address line names b)
   names_alike [] a b alike = alike
   names_alike (name ∷ names) a b alike =
-      let label : Label = record { name = name; address = address; line = line } in
+      let label : Label = record { name = name; site = record { address = address; line = line } } in
       rw (there_alike a b alike name)
       (refused_alike (is_there b name) _ _ (names_alike names (label ∷ a) (label ∷ b) (more_alike label a b alike)))
 
@@ -83,11 +81,11 @@ module _ (address line : ℕ) where
 
   pub one_named : (all : Result (List Label) AsmFault) (before names : List (List ℕ)) (name : List ℕ) (old new : List Label) →
       before ≡ name ∷ names → is_there old name ≡ false →
-      AreAlike (record { name = name; address = address; line = line } ∷ old) new →
+      AreAlike (record { name = name; site = record { address = address; line = line } } ∷ old) new →
       ListsAlike all (named before old) → ListsAlike all (named names new)
   one_named all before names name old new e none added alike =
       let so_far = rw (e, none) at alike in
-      lists_on all _ _ so_far (names_alike names (record { name = name; address = address; line = line } ∷ old) new added)
+      lists_on all _ _ so_far (names_alike names (record { name = name; site = record { address = address; line = line } } ∷ old) new added)
 
   pub one_twice : (all : Result (List Label) AsmFault) (before names : List (List ℕ)) (name : List ℕ) (old : List Label) →
       before ≡ name ∷ names → is_there old name ≡ true → ListsAlike all (named before old) → all ≡ Err Twice

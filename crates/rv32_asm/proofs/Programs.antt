@@ -6,7 +6,7 @@ use Rattle.std.proofs.lemmas.List.Elements.{All-head, All-tail}
 use Rattle.std.proofs.lemmas.List.{append-nil, append_assoc}
 use Rattle.rv32_text.specs.Text.{text_of_word}
 use Rattle.rv32_asm_syntax.specs.Lines.{lines_of}
-use Rattle.rv32_asm.specs.Assembly.{program_of}
+use Rattle.rv32_asm.specs.Program.{assembled_program}
 use Rattle.rv32_asm.specs.Labels.{Label}
 use Rattle.rv32_asm.specs.Law.{source, TextsAreProgram}
 use Rattle.rv32_asm.specs.Passes.{Progress, after_line, first_pass, line_bytes, second_pass}
@@ -61,7 +61,7 @@ module _ (size : ℕ) where
       ∙ ap Ok (append_assoc bytes (to_le_bytes w32 word) (bytes_of words))
 
   pub words_assembled : TextsAreProgram size
-  unfolding program_of
+  unfolding assembled_program
   words_assembled words small inside =
       let first = first_words words 1 0 small refl (omega (arith, inside)) in
       let second = second_words words [] 1 [] small refl (omega (arith, inside)) in

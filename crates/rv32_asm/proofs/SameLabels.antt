@@ -2,14 +2,12 @@
 use Rattle.std.proofs.Common.{◌≡◌, ℕ, ◌+◌, ℤ, Bool, not, List, [], ◌∷◌, ◌++◌, Option, Some, None, Result, Ok, Err, length, option_map, unwrap_or, refl, ap}
 use Rattle.std.specs.List.{list_any, list_all, flat_map}
 use Rattle.rv32_asm_syntax.specs.declared.fault.AsmFault.{AsmFault}
-use Rattle.rv32_asm.specs.Assembly.{entry_of}
-use Rattle.rv32_asm.specs.Course.{entry_at}
 use Rattle.rv32_asm.specs.Encoding.{bytes_at, code_from, encoded_at, expressions_in, fit_from, fits_at, fits_width, is_in_range, misses_label, number_bytes}
 use Rattle.rv32_asm_syntax.specs.Expressions.{Expression}
-use Rattle.rv32_asm.specs.Labels.{Label, label_named}
+use Rattle.rv32_asm.specs.Labels.{Label, Site}
 use Rattle.rv32_asm.specs.Passes.{LineFault, emitted, in_line, line_bytes, second_pass, ◌>>=◌}
 use Rattle.rv32_asm_syntax.specs.Reading.{statement_of}
-use Rattle.rv32_asm.specs.SeenLabels.{AreAlike, unnamed}
+use Rattle.rv32_asm.specs.SeenLabels.{AreAlike}
 use Rattle.rv32_asm_syntax.specs.Statements.{Immediate, Whole, Upper, Lower, Instruction, Statement, Instructions, Data, Bytes, Zeros, Aligned, Nothing}
 use Rattle.rv32_asm.specs.Values.{address_of, immediate_value, is_missing, value_of}
 use Rattle.rv32_asm.proofs.FirstSteps.{there_alike}
@@ -26,21 +24,10 @@ bytes_same : {X : Type 0} (f g : X → List ℕ) → ((x : X) → f x ≡ g x) �
 bytes_same f g same [] = refl
 bytes_same f g same (x ∷ xs) = rw (same x, bytes_same f g same xs) refl
 
-address_in : (o p : Option Label) → option_map unnamed o ≡ option_map unnamed p →
-    unwrap_or (option_map (λ label. label.address) o) 0 ≡ unwrap_or (option_map (λ label. label.address) p) 0
-address_in None None e = refl
-address_in None (Some q) e = cc
-address_in (Some p) None e = cc
-address_in (Some p) (Some q) e = let same : unnamed p ≡ unnamed q = cc in ap (λ label. label.address) same
-
-pub entry_is : (size : ℕ) (o : Option Label) → entry_of size o ≡ entry_at size (option_map unnamed o)
-entry_is size None = refl
-entry_is size (Some label) = refl
-
 module _ (a b : List Label) (alike : AreAlike a b) where
   address_same : (name : Option (List ℕ)) → address_of a name ≡ address_of b name
   address_same None = refl
-  address_same (Some name) = address_in (label_named a name) (label_named b name) (alike.each name)
+  address_same (Some name) = ap (λ (o : Option Site). unwrap_or (option_map (λ site. site.address) o) 0) (alike.each name)
 
   value_same : (e : Expression) → value_of a e ≡ value_of b e
   unfolding value_of

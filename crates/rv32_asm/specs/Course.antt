@@ -1,16 +1,13 @@
 -- The addresses that lines lead to, and what the passes reach.
-use Rattle.std.specs.Prelude.{◌≡◌, ℕ, List, [], ◌∷◌, Option, None, Some, Result, Ok, Err, if◌then◌else◌, ◌⊎◌}
+use Rattle.std.specs.Prelude.{◌≡◌, ℕ, List, [], ◌∷◌, Result, Ok, Err, ◌⊎◌}
 use Rattle.rv32_asm_syntax.specs.declared.fault.AsmFault.{AsmFault}
-use Rattle.rv32_asm_syntax.specs.declared.fault.AsmFault.TheVariants.{Range}
 use Rattle.rv32_asm.specs.declared.fault.AsmError.{AsmError}
 use Rattle.rv32_asm.specs.declared.fault.AsmError.TheVariants as error
 use Rattle.rv32_asm_syntax.specs.declared.fault.LineError.{LineError}
 use Rattle.rv32_asm_syntax.specs.declared.fault.LineError.TheVariants.{Fault, NoMemory}
 use Rattle.rv32_asm.specs.Labels.{Label}
 use Rattle.rv32_asm_syntax.specs.Lines.{lines_of}
-use Rattle.rv32_asm.specs.Passes.{LineFault, Progress, behind, ◌>>=◌}
-use Rattle.rv32_asm.specs.declared.labels.Label as place
-use Rattle.rv32_asm.specs.Assembly.{is_no_entry}
+use Rattle.rv32_asm.specs.Passes.{Progress, behind, ◌>>=◌}
 use Rattle.rv32_asm_syntax.specs.Reading.{statement_of}
 use Rattle.rv32_asm.specs.SeenLabels.{AreAlike}
 
@@ -38,14 +35,6 @@ end_of address [] = Ok address
 end_of address (line ∷ lines) = do
   next ← behind_line address line
   end_of next lines
-
--- ---- entries
-
--- where a program begins: where its label is, and else at 0
-abbrev pub entry_at : ℕ → Option place.Label → Result ℕ LineFault
-entry_at size None = Ok 0
-entry_at size (Some label) =
-    if is_no_entry size label.address then Err (record { line = label.line; code = Range }) else Ok label.address
 
 -- ---- outcomes
 

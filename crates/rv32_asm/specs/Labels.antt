@@ -1,16 +1,19 @@
--- Labels and their addresses.
-use Rattle.std.specs.Prelude.{ℕ, List, Bool, Option, find, is_some}
+-- Labels and where they stand.
+use Rattle.std.specs.Prelude.{ℕ, List, Bool, Option, find, is_some, option_map}
 use Rattle.std.specs.Str.{bytes_eq}
 
--- a label, the address where it stands, and the number of its line
-pub record Label : Type 0 where
-  pub name : List ℕ
+-- where a label stands: its address, and the number of its line
+pub record Site : Type 0 where
   pub address : ℕ
   pub line : ℕ
 
--- the label of this name
-abbrev pub label_named : List Label → List ℕ → Option Label
-label_named labels name = find (λ label. bytes_eq label.name name) labels
+pub record Label : Type 0 where
+  pub name : List ℕ
+  pub site : Site
+
+-- where the label of this name stands
+abbrev pub site_of : List Label → List ℕ → Option Site
+site_of labels name = option_map (λ label. label.site) (find (λ label. bytes_eq label.name name) labels)
 
 abbrev pub is_there : List Label → List ℕ → Bool
-is_there labels name = is_some (label_named labels name)
+is_there labels name = is_some (site_of labels name)

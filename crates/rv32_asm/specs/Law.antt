@@ -8,7 +8,8 @@ use Rattle.rv32_text.specs.Text.{text_of, text_of_word}
 use Rattle.rv32_asm_syntax.specs.Characters.{line_feed}
 use Rattle.rv32_asm_syntax.specs.Lines.{lines_of}
 use Rattle.rv32_asm.specs.Labels.{Label}
-use Rattle.rv32_asm.specs.Assembly.{program_of}
+use Rattle.rv32_asm.specs.Program.{assembled_program}
+use Rattle.sec_base.specs.Segment.{from_zero}
 use Rattle.rv32_asm.specs.Passes.{Progress, after_line, line_bytes}
 use Rattle.rv32_asm.specs.Values.{lower_part, modulo, upper_part}
 
@@ -39,7 +40,7 @@ source address (word ∷ words) = text_of_word word address ++ line_feed ∷ sou
 -- the program of that text is the words, as many as the memory holds
 abbrev pub TextsAreProgram : ℕ → Type 0
 TextsAreProgram size = (words : List ℕ) → All (λ word. word < 2 ^ 32) words → 4 * length words ≤ size →
-    program_of (source 0 words) size ≡ Ok (record { entry = 0; bytes = flat_map (to_le_bytes w32) words })
+    assembled_program (source 0 words) size ≡ Ok (record { entry = 0; segments = from_zero (flat_map (to_le_bytes w32) words) })
 
 -- what LUI loads of a word and what ADDI adds to it make the word, modulo 2^32
 abbrev pub PartsMakeWord : ℕ → Type 0

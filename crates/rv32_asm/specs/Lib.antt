@@ -3,7 +3,7 @@ pub mod Values
 pub mod Encoding
 pub mod Labels
 pub mod Passes
-pub mod Assembly
+pub mod Program
 pub mod Law
 pub mod SeenLabels
 pub mod Fields

@@ -40,7 +40,7 @@ abbrev pub with_names : ℕ → ℕ → List (List ℕ) → List Label → Resul
 with_names address line [] labels = Ok labels
 with_names address line (name ∷ names) labels =
     if is_there labels name then Err Twice
-    else with_names address line names (record { name = name; address = address; line = line } ∷ labels)
+    else with_names address line names (record { name = name; site = record { address = address; line = line } } ∷ labels)
 
 -- the address behind a statement, if it may stand there
 abbrev pub behind : ℕ → Statement → Result ℕ AsmFault

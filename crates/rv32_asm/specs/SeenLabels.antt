@@ -1,22 +1,19 @@
--- What the code's labels say, as the definitions see them.
-use Rattle.std.specs.Prelude.{◌≡◌, ℕ, List, map, option_map}
+-- The labels of a map by names, for contracts inside the crate alone.
+use Rattle.std.specs.Prelude.{◌≡◌, ℕ, List, map}
 use Rattle.std.specs.Borrow.{Bor}
-use Rattle.rv32_asm.specs.declared.labels.Label.{Label}
-use Rattle.rv32_asm.specs.Labels as meant
-use Rattle.rv32_asm.specs.Labels.{label_named}
+use Rattle.rv32_asm.specs.Labels.{Label, Site, site_of}
 
--- a name and what it names, as a label
-abbrev pub label : Bor (List ℕ) × Label → meant.Label
-label entry = record { name = entry.0.now; address = entry.1.address; line = entry.1.line }
+-- an address and the number of a line
+abbrev pub site : ℕ × ℕ → Site
+site pair = record { address = pair.0; line = pair.1 }
 
-abbrev pub labels : List (Bor (List ℕ) × Label) → List meant.Label
+-- a name and where its label stands
+abbrev pub label : Bor (List ℕ) × (ℕ × ℕ) → Label
+label entry = record { name = entry.0.now; site = site entry.1 }
+
+abbrev pub labels : List (Bor (List ℕ) × (ℕ × ℕ)) → List Label
 labels entries = map label entries
 
--- a label without its name
-abbrev pub unnamed : meant.Label → Label
-unnamed label = record { address = label.address; line = label.line }
-
--- the same names stand for the same places, in whatever order
-pub record AreAlike (old new : List meant.Label) : Type 0 where
-  pub each : (name : List ℕ) →
-      option_map unnamed (label_named old name) ≡ option_map unnamed (label_named new name)
+-- the same names stand at the same places, in whatever order
+pub record AreAlike (old new : List Label) : Type 0 where
+  pub each : (name : List ℕ) → site_of old name ≡ site_of new name

@@ -3,7 +3,7 @@ use Rattle.std.specs.Prelude.{ℕ, ◌+◌, ◌%◌, ◌^◌, ℤ, pos, ◌+ℤ�
 use Rattle.std.specs.Int.{int_rem_euclid}
 use Rattle.rv32_decode.specs.Words.{field, signed_number}
 use Rattle.rv32_asm_syntax.specs.Expressions.{Expression}
-use Rattle.rv32_asm.specs.Labels.{Label, label_named, is_there}
+use Rattle.rv32_asm.specs.Labels.{Label, site_of, is_there}
 use Rattle.rv32_asm_syntax.specs.Statements.{Immediate, Whole, Upper, Lower}
 
 -- the expression names a label that isn't there
@@ -17,7 +17,7 @@ is_missing labels value = names_missing labels value.label
 -- where a label is, or 0 without one
 abbrev pub address_of : List Label → Option (List ℕ) → ℕ
 address_of labels None = 0
-address_of labels (Some name) = unwrap_or (option_map (λ label. label.address) (label_named labels name)) 0
+address_of labels (Some name) = unwrap_or (option_map (λ site. site.address) (site_of labels name)) 0
 
 unfoldable pub value_of : List Label → Expression → ℤ
 value_of labels value = pos (address_of labels value.label) +ℤ value.number

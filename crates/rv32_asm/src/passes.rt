@@ -12,7 +12,7 @@ ghost use Rattle.rv32_asm_syntax.specs.declared.fault.LineError.TheVariants.{Fau
 ghost use Rattle.std.specs.Prelude.{Err, IfOk, IsOkAnd, Ok, OnOk, [], length, ℕ, ◌+◌, ◌<◌, ◌^◌, ◌≡◌, ◌≤◌};
 
 use crate::fault::AsmError;
-use crate::labels::{Label, Labels};
+use crate::labels::{Labels, Site};
 use crate::{emission, layout};
 use rv32_asm_syntax::{LineError, first_label, first_line, statement_of, without_comment};
 use std::alloc::Global;
@@ -46,16 +46,16 @@ pub struct Progress<'a> {
 }
 
 // Adds the labels of a line without its comment.
-fn add_labels<'a>(labels: &mut Labels<'a>, text: &'a [u8], label: Label) -> Result<(), LineError>
+fn add_labels<'a>(labels: &mut Labels<'a>, text: &'a [u8], site: Site) -> Result<(), LineError>
     ensures added { OnOk result (Gives
-        (spec.with_names label.address label.line (labels_in (parts text.now)) labels.old)
+        (spec.with_names site.address site.line (labels_in (parts text.now)) labels.old)
         labels.new) }
     ensures refused { (fault : AsmFault) → result ≡ Err (Fault fault) →
-        spec.with_names label.address label.line (labels_in (parts text.now)) labels.old ≡ Err fault }
+        spec.with_names site.address site.line (labels_in (parts text.now)) labels.old ≡ Err fault }
 {
     let mut rest = text;
     while let Some((name, behind)) = first_label(rest) {
-        labels.add(name, label)?;
+        labels.add(name, site)?;
         rest = behind;
     }
     Ok(())
@@ -81,11 +81,11 @@ fn after_line<'a>(
         address,
         mut labels,
     } = progress;
-    let label = Label {
+    let site = Site {
         address,
         line: number,
     };
-    add_labels(&mut labels, without_comment(line), label)?;
+    add_labels(&mut labels, without_comment(line), site)?;
     let statement = statement_of(alloc, line)?;
     match layout::address_after(size, address, &statement) {
         Ok(address) => Ok(Progress { address, labels }),

@@ -23,7 +23,7 @@ fn address_of(labels: &Labels, name: Option<&[u8]>) -> u32
 {
     match name {
         Some(name) => match labels.get(name) {
-            Some(label) => label.address,
+            Some(site) => site.address,
             None => 0,
         },
         None => 0,

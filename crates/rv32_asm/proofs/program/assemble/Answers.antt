@@ -1,10 +1,10 @@
 use Rattle.std.proofs.Common.{◌≡◌, ◌∙◌, Err, ap, refl, sym}
 use Rattle.std.proofs.lemmas.Result.{err_from_is_err_and}
 use Rattle.sec_base.specs.Segment.{from_zero}
-use Rattle.rv32_asm.specs.Course.{entry_at}
+use Rattle.rv32_asm.specs.Program.{entry_at}
 use Rattle.rv32_asm.specs.declared.fault.AsmError.TheVariants.{Fault}
 use Rattle.rv32_asm.proofs.Assembling.{end_is, no_bytes, no_entry, no_labels, program_is}
-use Rattle.rv32_asm.proofs.assemble.Goals as goal
+use Rattle.rv32_asm.proofs.program.assemble.Goals as goal
 
 pub returns-in_err-layout-clause-refused : goal.returns-in_err-layout-clause-refused
 returns-in_err-layout-clause-refused c =
@@ -37,13 +37,8 @@ returns-in_err-entry-clause-refused c =
     (sym (ap (entry_at c.args.size) c.get.ensures) ∙ c.in_err-entry.ensures.refused line code (ap Err same)))
 
 pub returns-clause-program : goal.returns-clause-program
-returns-clause-program c = record {
-  program = record { entry = c.in_ok-entry.entry; bytes = c.in_ok-bytes.bytes.items };
-  assembled =
-      program_is c.args.text.now c.args.size c.in_ok-layout.layout.address c.in_ok-layout.layout.labels
-      c.in_ok-bytes.bytes.items c.in_ok-entry.entry c.in_ok-layout.ensures.reached c.in_ok-bytes.ensures.bytes
-      (sym (ap (entry_at c.args.size) c.get.ensures) ∙ c.in_ok-entry.ensures.entry);
-  entry = refl;
-  memory = refl;
-  segments = c.in_ok-segments.ensures ∙ ap from_zero c.from_vec.ensures;
-}
+returns-clause-program c =
+    rw (program_is c.args.text.now c.args.size c.in_ok-layout.layout.address c.in_ok-layout.layout.labels
+    c.in_ok-bytes.bytes.items c.in_ok-entry.entry c.in_ok-layout.ensures.reached c.in_ok-bytes.ensures.bytes
+    (sym (ap (entry_at c.args.size) c.get.ensures) ∙ c.in_ok-entry.ensures.entry))
+    (record { entry = refl; memory = refl; segments = c.in_ok-segments.ensures ∙ ap from_zero c.from_vec.ensures })
