@@ -1,17 +1,12 @@
 -- Files that are taken one after another, as far as one stops it.
-use Rattle.std.proofs.Common.{◌≡◌, ◌≤◌, ◌⊎◌, inl, inr, ℕ, List, [], ◌∷◌, ◌++◌, length, Option, Some, None, IfSome, Result, Ok, Err, ◌+◌, refl, sym, ap, ◌∙◌, subst, arith, append-nil, append_assoc}
+use Rattle.std.proofs.Common.{◌≡◌, ◌≤◌, ◌⊎◌, inl, inr, ℕ, List, [], ◌∷◌, ◌++◌, length, Option, Some, None, IfSome, IsOkAnd, Result, Ok, Err, ◌+◌, refl, sym, ap, ◌∙◌, subst, arith, append-nil, append_assoc}
 use Rattle.std.specs.Result.{result_err, IfErr}
 use Rattle.sec_base.specs.Count.{Rose, RoseBy}
 use Rattle.sec_base.specs.Geometry.{memory_size}
-use Rattle.sec_base.specs.Segment.{from_zero}
 use Rattle.sec_base.specs.Files.{FilesState, HasBytes, HasOver}
 use Rattle.sec_base.specs.declared.image.Image.{Image}
-use Rattle.elf_load.specs.Loading.{IsProgramOf, entry_of, segments_of}
-use Rattle.elf_load.specs.Refusals.{first_fault, flat_fault}
-use Rattle.elf_load.specs.declared.fault.ElfFault.{ElfFault}
-use Rattle.rv32_asm.specs.Assembly.{IsAssembled, program_of}
-use Rattle.rv32_asm.specs.Assembly.{Program as Assembled}
-use Rattle.rv32_asm.specs.Passes.{LineFault}
+use Rattle.elf_load.specs.Program.{elf_program, flat_program}
+use Rattle.rv32_asm.specs.Program.{assembled_program}
 use Rattle.chip_words.specs.Request.{ExecutionAsked}
 use Rattle.chip_main.specs.declared.program.ProgramForm.{ProgramForm}
 use Rattle.chip_main.specs.declared.program.ProgramForm.TheVariants.{ElfFile, FlatFile, AssemblyText}
@@ -19,7 +14,7 @@ use Rattle.chip_main.specs.declared.refusal.Refusal.{Refusal}
 use Rattle.chip_main.specs.declared.refusal.Refusal.TheVariants.{Usage, Unread, TooLong, Elf, Asm}
 use Rattle.chip_main.specs.declared.taking.Stop.{Stop}
 use Rattle.chip_main.specs.declared.taking.Stop.TheVariants.{Refused, NoMemory}
-use Rattle.chip_main.specs.Program.{IsImageIn, Program, ProgramFile, assembled, unless_faulty, limit_of, program_in, program_of_file}
+use Rattle.chip_main.specs.Program.{IsImageIn, IsImageOf, Program, ProgramFile, limit_of, or_refusal, program_in, program_of_file}
 use Rattle.chip_main.specs.Needs.{Need, AreAccepted, IsAccepted, execution_file, input_needs, names, program_need}
 use Rattle.chip_main.specs.Causes.{Asks, IsCause, IsMisformed}
 use Rattle.chip_main.specs.Stopping.{StopsAs}
@@ -75,18 +70,16 @@ as_refused : (refusal other : Refusal) → IsOfBytes refusal → ◌≡◌ {A = 
 as_refused refusal other is same =
     let both : Some refusal ≡ Some other = ap result_err same in subst (λ (o : Option Refusal). IfSome o IsOfBytes) both is
 
-elf_refused : (fault : Option ElfFault) (program : Program) (refusal : Refusal) → unless_faulty fault program ≡ Err refusal → IsOfBytes refusal
-elf_refused None program refusal is = absurd cc
-elf_refused (Some fault) program refusal is = as_refused (Elf fault) refusal tt is
-
-text_refused : (result : Result Assembled LineFault) (refusal : Refusal) → assembled result ≡ Err refusal → IsOfBytes refusal
-text_refused (Ok program) refusal is = absurd cc
-text_refused (Err fault) refusal is = as_refused (Asm fault.line fault.code) refusal tt is
+fault_refused : {E : Type 0} (refused : E → Refusal) (read : Result Program E) (refusal : Refusal) → ((fault : E) → IsOfBytes (refused fault)) →
+    or_refusal refused read ≡ Err refusal → IsOfBytes refusal
+fault_refused refused (Ok program) refusal of_bytes is = absurd cc
+fault_refused refused (Err fault) refusal of_bytes is = as_refused (refused fault) refusal (of_bytes fault) is
 
 file_refused : (form : ProgramForm) (size : ℕ) (bytes : List ℕ) (refusal : Refusal) → program_in form size bytes ≡ Err refusal → IsOfBytes refusal
-file_refused ElfFile size bytes refusal is = elf_refused (first_fault bytes size) _ refusal is
-file_refused FlatFile size bytes refusal is = elf_refused (flat_fault bytes size) _ refusal is
-file_refused AssemblyText size bytes refusal is = text_refused (program_of bytes size) refusal is
+file_refused ElfFile size bytes refusal is = fault_refused Elf (elf_program bytes size) refusal (λ fault. tt) is
+file_refused FlatFile size bytes refusal is = fault_refused Elf (flat_program bytes size) refusal (λ fault. tt) is
+file_refused AssemblyText size bytes refusal is =
+    fault_refused (λ fault. Asm fault.line fault.code) (assembled_program bytes size) refusal (λ fault. tt) is
 
 is_cause : (refusal : Refusal) (need : Need) (old new : FilesState) → IsOfBytes refusal → IsMisformed refusal need old → IsCause refusal need old new
 is_cause (Usage text) need old new of_bytes bad = absurd of_bytes
@@ -105,26 +98,20 @@ untold (Refused refusal) file bytes old new told within asked refused =
 untold NoMemory file bytes old new told within asked refused = runs_out_here (program_need file) old new (inr asked)
 
 -- the image that was made of a file
-pub elf_image : (size : ℕ) (file : List ℕ) (image : Image) → IsProgramOf file size image → IsImageIn ElfFile size file image
-elf_image size file image is = record {
-  program = record { entry = entry_of file; segments = segments_of file };
-  is = rw is.accepted refl;
-  is_image = record { entry = is.entry; memory = is.memory; segments = is.segments };
-}
+image_in : {E : Type 0} (refused : E → Refusal) (form : ProgramForm) (size : ℕ) (file : List ℕ) (image : Image) (read : Result Program E) →
+    program_in form size file ≡ or_refusal refused read → IsOkAnd read (λ program. IsImageOf size program image) → IsImageIn form size file image
+image_in refused form size file image (Ok program) same is = record { program = program; is = same; is_image = is }
+image_in refused form size file image (Err fault) same is = absurd is
 
-pub flat_image : (size : ℕ) (file : List ℕ) (image : Image) → flat_fault file size ≡ None → image.entry ≡ 0 → image.size ≡ size → image.segments ≡ from_zero file → IsImageIn FlatFile size file image
-flat_image size file image accepted entry memory segments = record {
-  program = record { entry = 0; segments = from_zero file };
-  is = rw accepted refl;
-  is_image = record { entry = entry; memory = memory; segments = segments };
-}
+pub elf_image : (size : ℕ) (file : List ℕ) (image : Image) → IsOkAnd (elf_program file size) (λ program. IsImageOf size program image) → IsImageIn ElfFile size file image
+elf_image size file image is = image_in Elf ElfFile size file image (elf_program file size) refl is
 
-pub text_image : (size : ℕ) (text : List ℕ) (image : Image) → IsAssembled text size image → IsImageIn AssemblyText size text image
-text_image size text image is = record {
-  program = record { entry = is.program.entry; segments = from_zero is.program.bytes };
-  is = rw is.assembled refl;
-  is_image = record { entry = is.entry; memory = is.memory; segments = is.segments };
-}
+pub flat_image : (size : ℕ) (file : List ℕ) (image : Image) → IsOkAnd (flat_program file size) (λ program. IsImageOf size program image) → IsImageIn FlatFile size file image
+flat_image size file image is = image_in Elf FlatFile size file image (flat_program file size) refl is
+
+pub text_image : (size : ℕ) (text : List ℕ) (image : Image) → IsOkAnd (assembled_program text size) (λ program. IsImageOf size program image) → IsImageIn AssemblyText size text image
+text_image size text image is =
+    image_in (λ fault. Asm fault.line fault.code) AssemblyText size text image (assembled_program text size) refl is
 
 -- ---- one file and then others
 

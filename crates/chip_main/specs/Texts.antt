@@ -9,13 +9,13 @@ use Rattle.sec_base.specs.declared.ending.Ending.{Ending}
 use Rattle.sec_base.specs.declared.ending.Ending.TheVariants.{Halted, Trapped, OutOfSteps, Tampered, Spent, WriteFault, NoMemory}
 use Rattle.sec_base.specs.declared.image.Image.{Image}
 use Rattle.hex.specs.Hex.{encode_lower}
-use Rattle.elf_load.specs.Faults.{code_of as elf_code, name_of as elf_name}
+use Rattle.elf_load.specs.Fault.{elf_fault_code as elf_code, elf_fault_name as elf_name}
 use Rattle.elf_load.specs.Measurement.{measurement_of}
 use Rattle.elf_load.specs.Spelling.{spelled}
 use Rattle.elf_load.specs.declared.fault.ElfFault.{ElfFault}
 use Rattle.sec_base.specs.Hexadecimal.{hex_digits}
 use Rattle.rv32_listing.specs.Listing.{listing_of}
-use Rattle.rv32_asm_syntax.specs.Faults.{code_of as asm_code, name_of as asm_name}
+use Rattle.rv32_asm_syntax.specs.Fault.{asm_fault_code as asm_code, asm_fault_name as asm_name}
 use Rattle.rv32_asm_syntax.specs.declared.fault.AsmFault.{AsmFault}
 use Rattle.plain_machine.specs.declared.PlainRecord.{PlainRecord}
 use Rattle.chip_run.specs.declared.RunRecord.{RunRecord}

@@ -1,4 +1,4 @@
-pub mod Faults
+pub mod Fault
 pub mod Characters
 pub mod Lines
 pub mod Registers

@@ -1,5 +1,5 @@
 ghost use Rattle.std.specs.Prelude.{◌≡◌};
-ghost use Rattle.rv32_asm_syntax.specs.Faults.{code_of, name_of};
+ghost use Rattle.rv32_asm_syntax.specs.Fault.{asm_fault_code, asm_fault_name};
 
 use sec_base::NoMemory;
 use std::fmt;
@@ -24,14 +24,14 @@ pub enum AsmFault {
 impl AsmFault {
     /// The number, from 1 to 6.
     pub fn code(self) -> u8
-        ensures { result ≡ code_of self }
+        ensures { result ≡ asm_fault_code self }
     {
         self as u8
     }
 
     /// The name, as it is written here.
     pub fn name(self) -> &'static str
-        ensures { result.now ≡ name_of self }
+        ensures { result.now ≡ asm_fault_name self }
     {
         match self {
             AsmFault::Unknown => "Unknown",
@@ -46,9 +46,9 @@ impl AsmFault {
 
 impl fmt::Display for AsmFault {
     ghost use Rattle.std.specs.Prelude.{Some};
-    ghost use Rattle.rv32_asm_syntax.specs.Faults.{name_of};
+    ghost use Rattle.rv32_asm_syntax.specs.Fault.{asm_fault_name};
 
-    ghost output = { λ fault. Some (name_of fault) };
+    ghost output = { λ fault. Some (asm_fault_name fault) };
 
     fn fmt<W: fmt::Write>(&self, f: &mut fmt::Formatter<W>) -> fmt::Result {
         f.write_str(self.name())

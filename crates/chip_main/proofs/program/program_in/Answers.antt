@@ -7,8 +7,7 @@ returns-in-Ok-clause-program c =
 
 pub returns-in-Ok-flat-clause-program : goal.returns-in-Ok-flat-clause-program
 returns-in-Ok-flat-clause-program c =
-    let is = c.in-Ok-flat.ensures in
-    rw c.in-FlatFile.is (flat_image c.args.size c.args.bytes.now c.in-Ok-flat.image is.accepted is.entry is.size is.segments)
+    rw c.in-FlatFile.is (flat_image c.args.size c.args.bytes.now c.in-Ok-flat.image c.in-Ok-flat.ensures.program)
 
 pub returns-in-Ok-assemble-clause-program : goal.returns-in-Ok-assemble-clause-program
 returns-in-Ok-assemble-clause-program c =
