@@ -1,5 +1,9 @@
-/* The program stands at the start of memory; the heap begins behind it, and
-   the stack comes down from the end of memory. */
+/* The program stands at 0x10000, the stack below it, the heap behind it. A call
+   through a null pointer and a stack that is too deep then end as a trap at
+   once, and qemu-riscv32 takes the same file.
+
+   -Wl,--defsym=__base=0x1000 puts the program at 0x1000, for a memory of one or
+   two levels. That leaves 4,096 bytes to the stack. */
 
 ENTRY(_start)
 
@@ -11,7 +15,8 @@ PHDRS
 
 SECTIONS
 {
-    . = 0;
+    . = DEFINED(__base) ? __base : 0x10000;
+    __stack = .;
 
     .text : {
         KEEP(*(.text.start))
@@ -22,7 +27,7 @@ SECTIONS
         *(.rodata .rodata.* .srodata .srodata.*)
     } :code
 
-    . = ALIGN(64);
+    . = ALIGN(CONSTANT(MAXPAGESIZE));
 
     .data : {
         *(.data .data.*)

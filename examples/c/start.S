@@ -1,5 +1,5 @@
-# Where a program begins. The machine has set sp, and the loader has filled
-# .data and cleared .bss, so only gp is left to set.
+# Where a program begins, on the chip and on qemu-riscv32. The loader has filled
+# .data and cleared .bss, so only sp and gp are left to set.
 
         .section .text.start, "ax"
         .globl  _start
@@ -8,6 +8,9 @@ _start:
         .option norelax
         la      gp, __global_pointer$
         .option pop
-        call    main
-        li      a7, 93                  # exit, with what main answered
+        srli    t0, sp, 24              # QEMU's stack is above 16 MiB: it stays
+        bnez    t0, 1f
+        la      sp, __stack             # the chip's ends at 0, below the program
+1:      call    main
+        li      a7, 93                  # exit, with what main returned
         ecall
