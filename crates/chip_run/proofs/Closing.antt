@@ -1,19 +1,19 @@
 -- How a run ends, by the stop that its memory keeps.
-use Rattle.std.proofs.Common.{◌≡◌, ◌≤◌, inl, inr, ℕ, List, Option, Some, None, ap, sym, ◌∙◌, subst, arith}
+use Rattle.std.proofs.Common.{◌≡◌, ◌≢◌, ◌≤◌, inl, inr, ℕ, List, Option, Some, None, ap, refl, sym, ◌∙◌, subst, arith}
 use Rattle.sec_base.specs.LastMessage.{data_pairs}
 use Rattle.sec_base.specs.Geometry.{line_count}
 use Rattle.sec_base.specs.declared.place.Place.{Place}
 use Rattle.sec_base.specs.declared.message.Message.{Message}
 use Rattle.sec_base.specs.declared.ending.Ending.{Ending}
-use Rattle.sec_base.specs.declared.ending.Ending.TheVariants.{Tampered, Spent}
+use Rattle.sec_base.specs.declared.ending.Ending.TheVariants.{Spent, Tampered, WriteFault}
 use Rattle.sec_base.specs.declared.stop.MemStop.{MemStop}
 use Rattle.sec_base.specs.declared.stop.MemStop.TheVariants.{Tampered as tampered, Spent as spent, NoMemory as no_memory}
 use Rattle.bus_model.specs.BusHistory.{BusHistory}
 use Rattle.tag_engine.specs.TagEngine.{TagEngineView}
-use Rattle.bus_model.specs.FirstLie.{HonestOrCaught}
+use Rattle.bus_model.specs.FirstLie.{AccountsForLies, HonestOrCaught}
 use Rattle.chip_run.specs.Contents.{AreNumbered, IsSpent, line_writes}
-use Rattle.chip_run.specs.LineMemory.{LineMemoryView, IsLineMemory}
-use Rattle.rv32_run.specs.Session.{CarriesEnding}
+use Rattle.chip_run.specs.LineMemory.{LineMemoryView, IsAccountedFor, IsLineMemory}
+use Rattle.rv32_run.specs.Session.{CarriesEnding, stop_ending}
 use Rattle.pad_stream.specs.Pads.{of_lines}
 use Rattle.chip_run.proofs.LineMessages.{writes_same}
 use Rattle.chip_run.proofs.Pairs.{pairs_numbered, all_of_lines}
@@ -39,6 +39,19 @@ stopped_spent (Some (tampered place)) ending page carries is = cc
 stopped_spent (Some (spent other)) ending page carries is = cc
 stopped_spent (Some no_memory) ending page carries is = cc
 
+-- A write fault comes where it did not stop
+
+pub going_on_fault : (stopped : Option MemStop) (ending : Ending) → CarriesEnding stopped (Some ending) → ending ≡ WriteFault → stopped ≡ None
+going_on_fault None ending carries is = refl
+going_on_fault (Some (tampered place)) ending carries is = absurd (cc)
+going_on_fault (Some (spent page)) ending carries is = absurd (cc)
+going_on_fault (Some no_memory) ending carries is = absurd (cc)
+
+pub no_fault : (stop : MemStop) → stop_ending stop ≢ WriteFault
+no_fault (tampered place) is = cc
+no_fault (spent page) is = cc
+no_fault no_memory is = cc
+
 -- What was taken for tampering may be said by another word
 
 answers_map : (tag_of : Message → List ℕ) (used : List (ℕ × Counter)) (made : List Message) (history : BusHistory) (P Q : Place → Type 0) → ((place : Place) → P place → Q place) → ((place : Place) → Q place → P place) → HonestOrCaught tag_of used made history P → HonestOrCaught tag_of used made history Q
@@ -48,12 +61,16 @@ answers_map tag_of used made history P Q there back (inr caught) =
 
 -- What is kept of a memory, said of a run that it ended
 
-pub ended_answers : {B T : Type 0} (tags : TagEngineView T → Message → List ℕ) (history : B → BusHistory) (given lines : LineMemoryView B T) (ending : Ending) → given ≡ lines → CarriesEnding lines.stopped (Some ending) → IsLineMemory (tags given.engine) (history given.bus) given → lines.engine.evidence ≡ None → HonestOrCaught (tags lines.engine) lines.pads.used lines.engine.made (history lines.bus) (λ place. ending ≡ Tampered place)
-ended_answers {B} {T} tags history given lines ending same carries kept quiet =
-    let kept_lines = subst (λ (memory : LineMemoryView B T). IsLineMemory (tags memory.engine) (history memory.bus) memory) same kept in
-    answers_map (tags lines.engine) lines.pads.used lines.engine.made (history lines.bus) (λ place. lines.stopped ≡ Some (tampered place)) (λ place. ending ≡ Tampered place)
-    (λ place is. ended_tampered lines.stopped ending place carries is) (λ place is. stopped_tampered lines.stopped ending place carries is)
-    (kept_lines.answers quiet)
+pub ended_account : {B T : Type 0} (tags : TagEngineView T → Message → List ℕ) (history : B → BusHistory) (lines : LineMemoryView B T) (ending : Ending) →
+    CarriesEnding lines.stopped (Some ending) → IsAccountedFor tags history lines →
+    AccountsForLies (tags lines.engine) lines.pads.used lines.engine.made (history lines.bus) (λ place. ending ≡ Tampered place) lines.engine.evidence
+ended_account tags history lines ending carries account = record {
+  answers = λ quiet.
+      answers_map (tags lines.engine) lines.pads.used lines.engine.made (history lines.bus) (λ place. lines.stopped ≡ Some (tampered place)) (λ place. ending ≡ Tampered place)
+      (λ place is. ended_tampered lines.stopped ending place carries is) (λ place is. stopped_tampered lines.stopped ending place carries is)
+      (account.answers quiet);
+  shown = account.shown;
+}
 
 pub ended_spent : {B T : Type 0} (tags : TagEngineView T → Message → List ℕ) (history : B → BusHistory) (given lines : LineMemoryView B T) (ending : Ending) (page : ℕ) → given ≡ lines → CarriesEnding lines.stopped (Some ending) → IsLineMemory (tags given.engine) (history given.bus) given → ending ≡ Spent page → IsSpent (line_count lines.engine.levels) lines.limit lines.pads.used page
 ended_spent {B} {T} tags history given lines ending page same carries kept is =

@@ -1,10 +1,11 @@
 -- What a protected memory keeps over a read and a write of a line.
-use Rattle.std.proofs.Common.{◌≡◌, ◌≢◌, ℕ, ◌+◌, ◌/◌, ◌<◌, ◌⊎◌, inl, inr, Bool, true, false, cond, nat_eq, List, [], ◌∷◌, ◌++◌, length, take, drop, Option, Some, None, IfSome, Contains, Err, slice_index, slice_set, replicate, refl, ap, sym, ◌∙◌, subst, arith}
+use Rattle.std.proofs.Common.{◌≡◌, ◌≢◌, ℕ, ◌+◌, ◌<◌, ◌≤◌, ◌⊎◌, inl, inr, Bool, true, false, cond, nat_eq, List, [], ◌∷◌, ◌++◌, length, take, drop, Option, Some, None, IfSome, Contains, Result, Ok, Err, slice_index, slice_set, replicate, refl, ap, sym, ◌∙◌, subst, arith}
 use Rattle.std.specs.Option.{option_or}
+use Rattle.std.specs.Result.{result_err}
 use Rattle.std.proofs.lemmas.Bool.{cases_eq}
 use Rattle.std.proofs.lemmas.Bool.Decides.{Decides-eqb}
 use Rattle.std.proofs.lemmas.List.Elements.{Contains-append_left, Contains-push}
-use Rattle.std.proofs.lemmas.List.{take_at, drop_at, take-append-le, take_all}
+use Rattle.std.proofs.lemmas.List.{take_at, drop_at, take-append-le, take_all, set-get_or}
 use Rattle.sec_base.specs.Count.{more_by, Rose}
 use Rattle.sec_base.specs.Place.{at_place, IsPlace, zeros_of}
 use Rattle.sec_base.specs.declared.place.Place.{Place}
@@ -19,7 +20,7 @@ use Rattle.sec_base.specs.declared.stop.MemStop.{MemStop}
 use Rattle.sec_base.specs.declared.stop.MemStop.TheVariants.{Tampered, Spent, NoMemory}
 use Rattle.sec_base.specs.Evidence.{sealed_bytes, sealed_of, LineFails, IsEvidence, HasLastCounter}
 use Rattle.sec_base.specs.LastMessage.{last_at, last_data, last_pair, data_pairs}
-use Rattle.sec_base.specs.Geometry.{line_count}
+use Rattle.sec_base.specs.Geometry.{line_count, page_of}
 use Rattle.sec_base.specs.Message.{has_message}
 use Rattle.sec_base.proofs.SameMessages.{has_message-Decides}
 use Rattle.sec_base.proofs.SamePlaces.{at_place-here, at_place-there, false_from}
@@ -31,10 +32,12 @@ use Rattle.pad_stream.specs.Pads.{AreRising}
 use Rattle.pad_stream.proofs.RisingCounters.{rising_nothing, rising_more}
 use Rattle.chip_run.proofs.Pairs.{consecutive_nothing, consecutive_more, data_pairs-append}
 use Rattle.pad_stream.specs.PadEngine.{PadEngineView, new_pads, after_encrypt, with_room as pads_with_room}
-use Rattle.chip_run.specs.Contents.{AreConsecutive, line_writes, sealed_line, IsSpent, IsSealed, HoldsSealed, HoldsLast, NodesAreZeros}
-use Rattle.bus_model.specs.FirstLie.{HonestOrCaught, IsOfFirstLie}
-use Rattle.chip_run.specs.LineMemory.{IsLineMemory, AreCounted, Passed, IsCheckedRead, lasting_stop, after_line, writes_of, times_tagged}
-use Rattle.chip_run.proofs.LineMessages.{some_same, last_data-same, last_data-other, last_made, last_pair-some, counted_new, counted_more, writes_same, behind}
+use Rattle.pad_stream.specs.Pad.{enciphered}
+use Rattle.pad_stream.proofs.Enciphering.{enciphered_long}
+use Rattle.chip_run.specs.Contents.{AreConsecutive, counter_of, line_writes, sealed_line, IsSpent, IsSealed, HoldsSealed, HoldsLast, NodesAreZeros}
+use Rattle.bus_model.specs.FirstLie.{AccountsForLies, HonestOrCaught, IsOfFirstLie}
+use Rattle.chip_run.specs.LineMemory.{LineMemoryView, new_line_memory, IsLineMemory, AreCounted, Passed, IsCheckedRead, lasting_stop, after_line, writes_of, times_tagged}
+use Rattle.chip_run.proofs.LineMessages.{some_same, last_data-same, last_data-other, last_made, last_pair-some, counted_new, counted_more, used_up, writes_same, behind}
 
 -- Sealed lines
 
@@ -51,10 +54,10 @@ same_tag cipher cipher' tag tag' long long' same =
 
 pub record LastOf (made : List Message) (line writes : ℕ) : Type 0 where
   pub cipher : List ℕ
-  pub last : last_data line made ≡ Some (record { page = writes; line = 0 }, cipher)
+  pub last : last_data line made ≡ Some (counter_of writes, cipher)
   pub long : length cipher ≡ 64
 
-counter_is : (counter : Counter) (writes : ℕ) → counter.page ≡ writes → counter.line ≡ 0 → counter ≡ record { page = writes; line = 0 }
+counter_is : (counter : Counter) (writes : ℕ) → counter.page ≡ writes → counter.line ≡ 0 → counter ≡ counter_of writes
 counter_is counter writes page own =
     ap (λ (p : ℕ). record counter { page = p }) page ∙ ap (λ (l : ℕ). let c : Counter = record { page = writes; line = l } in c) own
 
@@ -63,7 +66,7 @@ last_by : (lines limit : ℕ) (made : List Message) (counters : List ℕ) (line 
 last_by lines limit made counters line writes None counted is count some = absurd (some (sym count))
 last_by lines limit made counters line writes (Some last) counted is count some =
     let numbered = counted.numbered line last.0 last.1 (last_made made line last.0 last.1 is) in
-    let counter : last.0 ≡ record { page = writes; line = 0 } = counter_is last.0 writes count numbered.own in
+    let counter : last.0 ≡ counter_of writes = counter_is last.0 writes count numbered.own in
     record {
       cipher = last.1;
       last = is ∙ ap (λ (c : Counter). Some (c, last.1)) counter;
@@ -77,10 +80,10 @@ last_of_written lines limit made counters line writes counted inside read some =
 
 -- a message under the last counter is the last
 pub is_last : (lines limit : ℕ) (made : List Message) (counters : List ℕ) (line writes : ℕ) (cipher : List ℕ) → AreCounted lines limit made counters →
-    line < lines → writes ≡ slice_index counters line → Contains made (Line line (record { page = writes; line = 0 }) cipher) →
-    last_data line made ≡ Some (record { page = writes; line = 0 }, cipher)
+    line < lines → writes ≡ slice_index counters line → Contains made (Line line (counter_of writes) cipher) →
+    last_data line made ≡ Some (counter_of writes, cipher)
 is_last lines limit made counters line writes cipher counted inside read listed =
-    (counted.numbered line (record { page = writes; line = 0 }) cipher listed).last (read ∙ counted.counts line inside)
+    (counted.numbered line (counter_of writes) cipher listed).last (read ∙ counted.counts line inside)
 
 -- What was false
 
@@ -141,6 +144,13 @@ lie_comes history place bytes none differs =
       first = is_first history.lies history.lie (record { access = (after_answer place history).accesses; place = place; bytes = bytes }) none;
     })
 
+-- a false answer is counted
+lie_rises : (history : BusHistory) (place : Place) (bytes : List ℕ) → bytes ≢ history.written place →
+    Rose history.lies (after_read place bytes history).lies
+lie_rises history place bytes differs =
+    let more : (after_read place bytes history).lies ≡ more_by 1 history.lies = ap (λ (t : BusHistory). t.lies) (lied place bytes history differs) in
+    omega (arith, more)
+
 -- Evidence
 
 -- of a first false answer, when more answers came
@@ -195,13 +205,21 @@ shown_is : (made : List Message) (line : ℕ) (counter : Counter) (sealed : Seal
 shown_is made line counter sealed evidence shown =
     shown_by made line counter sealed evidence (has_message made (Line line counter sealed.cipher)) refl shown
 
--- a stop of the memory, and nothing else
-pub ended_kept : {B T : Type 0} (d n : T → List ℕ → List ℕ) (history : BusHistory) (bus bus' : B) (engine : TagEngineView T) (pads : PadEngineView) (counters : List ℕ) (limit : ℕ) (stopped : Option MemStop) (stop : MemStop) →
-    IsLineMemory (tags_of d n engine) history (record { bus = bus; engine = engine; pads = pads; counters = counters; limit = limit; stopped = stopped }) → lasting_stop stopped ≡ None →
-    ((page : ℕ) → stop ≡ Spent page → IsSpent (line_count engine.levels) limit pads.used page) → ((place : Place) → stop ≢ Tampered place) →
-    (lasting_stop (Some stop) ≡ None → lasting_stop stopped ≡ None) →
-    IsLineMemory (tags_of d n engine) history (record { bus = bus'; engine = engine; pads = pads; counters = counters; limit = limit; stopped = Some stop })
-ended_kept d n history bus bus' engine pads counters limit stopped stop kept going spent untampered goes = record {
+some_holds : {A : Type 0} (o : Option A) (x : A) (P : A → Type 0) → o ≡ Some x → IfSome o P → P x
+some_holds None x P is holds = absurd (cc)
+some_holds (Some y) x P is holds = let same : y ≡ x = cc in subst P same holds
+
+-- A stop of the memory, and nothing else
+
+abbrev pub tampered : Option MemStop → Place → Type 0
+tampered stopped place = stopped ≡ Some (Tampered place)
+
+pub ended_kept : {B T : Type 0} (tag_of : Message → List ℕ) (history : BusHistory) (m : LineMemoryView B T) (bus' : B) (stop : MemStop) →
+    IsLineMemory tag_of history m →
+    ((page : ℕ) → stop ≡ Spent page → IsSpent (line_count m.engine.levels) m.limit m.pads.used page) →
+    (lasting_stop (Some stop) ≡ None → lasting_stop m.stopped ≡ None) →
+    IsLineMemory tag_of history (record m { bus = bus'; stopped = Some stop })
+ended_kept tag_of history m bus' stop kept spent goes = record {
   levels = kept.levels;
   paired = kept.paired;
   rising = kept.rising;
@@ -210,59 +228,19 @@ ended_kept d n history bus bus' engine pads counters limit stopped stop kept goi
   nodes = kept.nodes;
   counted = kept.counted;
   stored = λ quiet goes_on. kept.stored quiet (goes goes_on);
-  answers = λ quiet. honest_with (tags_of d n engine) pads.used engine.made history (Some stop)
-      (honest_by history (tags_of d n engine) pads.used engine.made stopped going (kept.answers quiet)) (λ place is. untampered place (some_same stop (Tampered place) is));
   genuine = kept.genuine;
-  shown = kept.shown;
   spent = λ page is. spent page (some_same stop (Spent page) is);
 }
 
-some_holds : {A : Type 0} (o : Option A) (x : A) (P : A → Type 0) → o ≡ Some x → IfSome o P → P x
-some_holds None x P is holds = absurd (cc)
-some_holds (Some y) x P is holds = let same : y ≡ x = cc in subst P same holds
-
--- a line whose counters are used up
-pub spent_kept : {B T : Type 0} (d n : T → List ℕ → List ℕ) (history : BusHistory) (bus bus' : B) (engine : TagEngineView T) (pads : PadEngineView) (counters : List ℕ) (limit : ℕ) (stopped : Option MemStop) (line : ℕ) →
-    IsLineMemory (tags_of d n engine) history (record { bus = bus; engine = engine; pads = pads; counters = counters; limit = limit; stopped = stopped }) → lasting_stop stopped ≡ None →
-    line < line_count engine.levels → line_writes pads.used line ≡ limit →
-    IsLineMemory (tags_of d n engine) history (record { bus = bus'; engine = engine; pads = pads; counters = counters; limit = limit; stopped = Some (Spent (line / 64)) })
-spent_kept d n history bus bus' engine pads counters limit stopped line kept going inside full =
-    ended_kept d n history bus bus' engine pads counters limit stopped (Spent (line / 64)) kept going
-    (λ page is. let of_page : line / 64 ≡ page = cc in record { line = line; inside = inside; of_page = of_page; used_up = full })
-    (λ place is. absurd (cc)) (λ goes_on. going)
-
--- no memory, and nothing else
-pub memory_kept : {B T : Type 0} (d n : T → List ℕ → List ℕ) (history : BusHistory) (bus bus' : B) (engine : TagEngineView T) (pads : PadEngineView) (counters : List ℕ) (limit : ℕ) (stopped : Option MemStop) (engine' : TagEngineView T) →
-    IsLineMemory (tags_of d n engine) history (record { bus = bus; engine = engine; pads = pads; counters = counters; limit = limit; stopped = stopped }) → lasting_stop stopped ≡ None →
-    engine' ≡ engine →
-    IsLineMemory (tags_of d n engine') history (record { bus = bus'; engine = engine'; pads = pads; counters = counters; limit = limit; stopped = Some NoMemory })
-memory_kept {B} {T} d n history bus bus' engine pads counters limit stopped engine' kept going same =
-    subst (λ (e : TagEngineView T). IsLineMemory (tags_of d n e) history (record { bus = bus'; engine = e; pads = pads; counters = counters; limit = limit; stopped = Some NoMemory })) (sym same)
-    (ended_kept d n history bus bus' engine pads counters limit stopped NoMemory kept going (λ page is. absurd (cc)) (λ place is. absurd (cc)) (λ goes_on. absurd (cc)))
-
--- the same where there is room for one more message
-pub roomed_kept : {B T : Type 0} (d n : T → List ℕ → List ℕ) (history : BusHistory) (bus bus' : B) (engine : TagEngineView T) (pads : PadEngineView) (counters : List ℕ) (limit : ℕ) (stopped : Option MemStop) (engine' : TagEngineView T) (pads' : PadEngineView) →
-    IsLineMemory (tags_of d n engine) history (record { bus = bus; engine = engine; pads = pads; counters = counters; limit = limit; stopped = stopped }) → lasting_stop stopped ≡ None →
-    engine' ≡ with_room 1 engine → pads' ≡ pads →
-    IsLineMemory (tags_of d n engine') history (record { bus = bus'; engine = engine'; pads = pads'; counters = counters; limit = limit; stopped = Some NoMemory })
-roomed_kept {B} {T} d n history bus bus' engine pads counters limit stopped engine' pads' kept going more same =
-    let ended = memory_kept d n history bus bus' engine pads counters limit stopped engine kept going refl in
-    subst (λ (p : PadEngineView). IsLineMemory (tags_of d n engine') history (record { bus = bus'; engine = engine'; pads = p; counters = counters; limit = limit; stopped = Some NoMemory })) (sym same)
-    (subst (λ (e : TagEngineView T). IsLineMemory (tags_of d n e) history (record { bus = bus'; engine = e; pads = pads; counters = counters; limit = limit; stopped = Some NoMemory })) (sym more)
-    (record {
-      levels = ended.levels;
-      paired = ended.paired;
-      rising = ended.rising;
-      consecutive = ended.consecutive;
-      sealed = ended.sealed;
-      nodes = ended.nodes;
-      counted = ended.counted;
-      stored = ended.stored;
-      answers = ended.answers;
-      genuine = ended.genuine;
-      shown = ended.shown;
-      spent = ended.spent;
-    }))
+-- it is no tampering
+pub ended_accounted : (tag_of : Message → List ℕ) (used : List (ℕ × Counter)) (made : List Message) (history : BusHistory) (stopped : Option MemStop) (stop : MemStop) (evidence : Option Evidence) →
+    lasting_stop stopped ≡ None → ((place : Place) → stop ≢ Tampered place) →
+    AccountsForLies tag_of used made history (tampered stopped) evidence → AccountsForLies tag_of used made history (tampered (Some stop)) evidence
+ended_accounted tag_of used made history stopped stop evidence going untampered account = record {
+  answers = λ quiet. honest_with tag_of used made history (Some stop)
+      (honest_by history tag_of used made stopped going (account.answers quiet)) (λ place is. untampered place (some_same stop (Tampered place) is));
+  shown = account.shown;
+}
 
 or_none : {A : Type 0} (first second : Option A) → option_or first second ≡ None → second ≡ None
 or_none None second none = none
@@ -273,16 +251,16 @@ or_none (Some x) second none = absurd (cc)
 -- a line's place holds its last message
 held_there : (tag_of : Message → List ℕ) (lines line writes : ℕ) (made : List Message) (written : Place → List ℕ) (last : LastOf made line writes) →
     HoldsLast tag_of lines made written → line < lines →
-    written (line_place line) ≡ last.cipher ++ tag_of (Line line (record { page = writes; line = 0 }) last.cipher)
+    written (line_place line) ≡ last.cipher ++ tag_of (Line line (counter_of writes) last.cipher)
 held_there tag_of lines line writes made written last stored inside =
-    stored.holds line (record { page = writes; line = 0 }) last.cipher inside last.last
+    stored.holds line (counter_of writes) last.cipher inside last.last
 
 -- a line without its tag is not what was written
 failed_differs : (tag_of : Message → List ℕ) (lines line writes : ℕ) (made : List Message) (written : Place → List ℕ) (last : LastOf made line writes) (sealed : Sealed) →
     HoldsLast tag_of lines made written → line < lines → length sealed.cipher ≡ 64 →
-    sealed.tag ≢ tag_of (Line line (record { page = writes; line = 0 }) sealed.cipher) → sealed_bytes sealed ≢ written (line_place line)
+    sealed.tag ≢ tag_of (Line line (counter_of writes) sealed.cipher) → sealed_bytes sealed ≢ written (line_place line)
 failed_differs tag_of lines line writes made written last sealed stored inside long untagged = λ same.
-    let counter : Counter = record { page = writes; line = 0 } in
+    let counter : Counter = counter_of writes in
     let whole : sealed.cipher ++ sealed.tag ≡ last.cipher ++ tag_of (Line line counter last.cipher) =
     same ∙ held_there tag_of lines line writes made written last stored inside in
     let cipher : sealed.cipher ≡ last.cipher = same_cipher sealed.cipher last.cipher sealed.tag (tag_of (Line line counter last.cipher)) long last.long whole in
@@ -293,9 +271,9 @@ failed_differs tag_of lines line writes made written last sealed stored inside l
 -- nor is a line with the tag of a message that was never made
 forged_differs : (tag_of : Message → List ℕ) (lines line writes : ℕ) (made : List Message) (written : Place → List ℕ) (last : LastOf made line writes) (sealed : Sealed) →
     HoldsLast tag_of lines made written → line < lines → length sealed.cipher ≡ 64 →
-    (Contains made (Line line (record { page = writes; line = 0 }) sealed.cipher) → ⊥) → sealed_bytes sealed ≢ written (line_place line)
+    (Contains made (Line line (counter_of writes) sealed.cipher) → ⊥) → sealed_bytes sealed ≢ written (line_place line)
 forged_differs tag_of lines line writes made written last sealed stored inside long never = λ same.
-    let counter : Counter = record { page = writes; line = 0 } in
+    let counter : Counter = counter_of writes in
     let whole : sealed.cipher ++ sealed.tag ≡ last.cipher ++ tag_of (Line line counter last.cipher) =
     same ∙ held_there tag_of lines line writes made written last stored inside in
     let cipher : sealed.cipher ≡ last.cipher = same_cipher sealed.cipher last.cipher sealed.tag (tag_of (Line line counter last.cipher)) long last.long whole in
@@ -303,10 +281,10 @@ forged_differs tag_of lines line writes made written last sealed stored inside l
 
 -- a line with the tag of a message that was made under its last counter is what was written
 passed_same : (tag_of : Message → List ℕ) (lines line writes : ℕ) (made : List Message) (written : Place → List ℕ) (cipher tag : List ℕ) →
-    HoldsLast tag_of lines made written → line < lines → tag ≡ tag_of (Line line (record { page = writes; line = 0 }) cipher) →
-    last_data line made ≡ Some (record { page = writes; line = 0 }, cipher) → cipher ++ tag ≡ written (line_place line)
+    HoldsLast tag_of lines made written → line < lines → tag ≡ tag_of (Line line (counter_of writes) cipher) →
+    last_data line made ≡ Some (counter_of writes, cipher) → cipher ++ tag ≡ written (line_place line)
 passed_same tag_of lines line writes made written cipher tag stored inside tagged last =
-    ap (λ (t : List ℕ). cipher ++ t) tagged ∙ sym (stored.holds line (record { page = writes; line = 0 }) cipher inside last)
+    ap (λ (t : List ℕ). cipher ++ t) tagged ∙ sym (stored.holds line (counter_of writes) cipher inside last)
 
 -- a line without its tag fails its check
 line_fails : (tag_of : Message → List ℕ) (made : List Message) (used : List (ℕ × Counter)) (line : ℕ) (counter : Counter) (cipher : List ℕ) (sealed : Sealed) → data_pairs made ≡ used → length sealed.cipher ≡ 64 →
@@ -320,30 +298,29 @@ line_fails tag_of made used line counter cipher sealed paired long last untagged
     subst (λ (x : List ℕ). LineFails tag_of used line (record { cipher = x; tag = drop 64 (sealed.cipher ++ sealed.tag) })) (sym cipher_is)
     (subst (λ (y : List ℕ). LineFails tag_of used line (record { cipher = sealed.cipher; tag = y })) (sym tag_is) fails)
 
-module _ {B T : Type 0} (d n : T → List ℕ → List ℕ) (history : BusHistory) (bus bus' : B) (engine : TagEngineView T) (pads : PadEngineView) (counters : List ℕ) (limit : ℕ) (stopped : Option MemStop) (line writes : ℕ)
-    (kept : IsLineMemory (tags_of d n engine) history (record { bus = bus; engine = engine; pads = pads; counters = counters; limit = limit; stopped = stopped }))
-    (going : lasting_stop stopped ≡ None) (inside : line < line_count engine.levels) (read : writes ≡ slice_index counters line) (some : writes ≢ 0) where
-  none_lied : engine.evidence ≡ None → history.lies ≡ 0
-  none_lied quiet = honest_by history (tags_of d n engine) pads.used engine.made stopped going (kept.answers quiet)
+module _ {B T : Type 0} (d n : T → List ℕ → List ℕ) (history : BusHistory) (m : LineMemoryView B T) (line writes : ℕ)
+    (kept : IsLineMemory (tags_of d n m.engine) history m)
+    (going : lasting_stop m.stopped ≡ None) (inside : line < line_count m.engine.levels) (read : writes ≡ slice_index m.counters line) (some : writes ≢ 0) where
+  last_there : LastOf m.engine.made line writes
+  last_there = last_of_written (line_count m.engine.levels) m.limit m.engine.made m.counters line writes kept.counted inside read some
 
-  last_there : LastOf engine.made line writes
-  last_there = last_of_written (line_count engine.levels) limit engine.made counters line writes kept.counted inside read some
+  -- no answer was false so far
+  none_lied : (before : Option Evidence) → before ≡ None → AccountsForLies (tags_of d n m.engine) m.pads.used m.engine.made history (tampered m.stopped) before → history.lies ≡ 0
+  none_lied before quiet account = honest_by history (tags_of d n m.engine) m.pads.used m.engine.made m.stopped going (account.answers quiet)
 
   -- the memory after an answer
-  answered_kept : (bytes : List ℕ) (evidence : Option Evidence) (stopped' : Option MemStop) →
-      (evidence ≡ None → engine.evidence ≡ None) → (lasting_stop stopped' ≡ None → stopped' ≡ stopped) →
-      ((page : ℕ) → stopped' ≡ Some (Spent page) → stopped ≡ Some (Spent page)) →
-      (evidence ≡ None → HonestOrCaught (tags_of d n engine) pads.used engine.made (after_read (line_place line) bytes history) (λ place. stopped' ≡ Some (Tampered place))) →
-      IfSome evidence (IsEvidence (tags_of d n engine) engine.made) →
-      ((e : Evidence) → evidence ≡ Some e → IsOfFirstLie engine.made (after_read (line_place line) bytes history) e) →
-      IsLineMemory (tags_of d n engine) (after_read (line_place line) bytes history) (record { bus = bus'; engine = record engine { evidence = evidence }; pads = pads; counters = counters; limit = limit; stopped = stopped' })
-  answered_kept bytes evidence stopped' quiet goes spent answers genuine shown = record {
+  answered_kept : (bus' : B) (bytes : List ℕ) (evidence : Option Evidence) (stopped' : Option MemStop) →
+      (evidence ≡ None → m.engine.evidence ≡ None) → (lasting_stop stopped' ≡ None → stopped' ≡ m.stopped) →
+      ((page : ℕ) → stopped' ≡ Some (Spent page) → m.stopped ≡ Some (Spent page)) →
+      IfSome evidence (IsEvidence (tags_of d n m.engine) m.engine.made) →
+      IsLineMemory (tags_of d n m.engine) (after_read (line_place line) bytes history) (record m { bus = bus'; engine = record m.engine { evidence = evidence }; stopped = stopped' })
+  answered_kept bus' bytes evidence stopped' quiet goes spent genuine = record {
     levels = read_levels (line_place line) bytes history ∙ kept.levels;
     paired = kept.paired;
     rising = kept.rising;
     consecutive = kept.consecutive;
-    sealed = subst (λ (written : Place → List ℕ). HoldsSealed (tags_of d n engine) (line_count engine.levels) engine.made pads.used written) (sym (read_written (line_place line) bytes history)) kept.sealed;
-    nodes = subst (NodesAreZeros engine.levels) (sym (read_written (line_place line) bytes history)) kept.nodes;
+    sealed = subst (λ (written : Place → List ℕ). HoldsSealed (tags_of d n m.engine) (line_count m.engine.levels) m.engine.made m.pads.used written) (sym (read_written (line_place line) bytes history)) kept.sealed;
+    nodes = subst (NodesAreZeros m.engine.levels) (sym (read_written (line_place line) bytes history)) kept.nodes;
     counted = kept.counted;
     stored = λ none goes_on.
         let was = kept.stored (quiet none) (ap lasting_stop (sym (goes goes_on)) ∙ goes_on) in
@@ -351,150 +328,166 @@ module _ {B T : Type 0} (d n : T → List ℕ → List ℕ) (history : BusHistor
           holds = λ l counter cipher below last.
               ap (λ (written : Place → List ℕ). written (line_place l)) (read_written (line_place line) bytes history) ∙ was.holds l counter cipher below last;
         };
-    answers = answers;
     genuine = genuine;
-    shown = shown;
     spent = λ page is. kept.spent page (spent page is);
   }
 
-  -- where it was false and fails its check
+  -- Where an answer was false and fails its check
+
+  differs_failed : (sealed : Sealed) → length sealed.cipher ≡ 64 → sealed.tag ≢ tags_of d n m.engine (Line line (counter_of writes) sealed.cipher) →
+      m.engine.evidence ≡ None → sealed_bytes sealed ≢ history.written (line_place line)
+  differs_failed sealed long untagged quiet =
+      failed_differs (tags_of d n m.engine) (line_count m.engine.levels) line writes m.engine.made history.written last_there sealed (kept.stored quiet going) inside long untagged
+
   failed_answers : (sealed : Sealed) → length sealed.cipher ≡ 64 →
-      sealed.tag ≢ tags_of d n engine (Line line (record { page = writes; line = 0 }) sealed.cipher) → engine.evidence ≡ None →
-      HonestOrCaught (tags_of d n engine) pads.used engine.made (after_line line sealed history) (λ place. Some (Tampered (line_place line)) ≡ Some (Tampered place))
-  failed_answers sealed long untagged quiet =
-      let counter : Counter = record { page = writes; line = 0 } in
-      let differs = failed_differs (tags_of d n engine) (line_count engine.levels) line writes engine.made history.written last_there sealed (kept.stored quiet going) inside long untagged in
-      let lie = lie_comes history (line_place line) (sealed_bytes sealed) (none_lied quiet) differs in
+      sealed.tag ≢ tags_of d n m.engine (Line line (counter_of writes) sealed.cipher) → m.engine.evidence ≡ None → history.lies ≡ 0 →
+      HonestOrCaught (tags_of d n m.engine) m.pads.used m.engine.made (after_line line sealed history) (tampered (Some (Tampered (line_place line))))
+  failed_answers sealed long untagged quiet none =
+      let lie = lie_comes history (line_place line) (sealed_bytes sealed) none (differs_failed sealed long untagged quiet) in
       inr (record {
         lies = lie.lies;
         lie = record { access = (after_line line sealed history).accesses; place = line_place line; bytes = sealed_bytes sealed };
         first = lie.first;
         last = refl;
-        fails = line_fails (tags_of d n engine) engine.made pads.used line counter last_there.cipher sealed kept.paired long last_there.last untagged;
+        fails = line_fails (tags_of d n m.engine) m.engine.made m.pads.used line (counter_of writes) last_there.cipher sealed kept.paired long last_there.last untagged;
         ended = refl;
       })
 
-  failed_kept : (sealed : Sealed) → length sealed.cipher ≡ 64 →
-      sealed.tag ≢ tags_of d n engine (Line line (record { page = writes; line = 0 }) sealed.cipher) →
-      IsLineMemory (tags_of d n engine) (after_line line sealed history) (record { bus = bus'; engine = engine; pads = pads; counters = counters; limit = limit; stopped = Some (Tampered (line_place line)) })
-  failed_kept sealed long untagged =
-      answered_kept (sealed_bytes sealed) engine.evidence (Some (Tampered (line_place line)))
-      (λ none. none) (λ goes_on. absurd (cc)) (λ page is. absurd (cc))
-      (failed_answers sealed long untagged) kept.genuine
-      (λ e is. first_lie_stays history engine.made (line_place line) (sealed_bytes sealed) e (kept.shown e is))
+  failed_kept : (bus' : B) (sealed : Sealed) →
+      IsLineMemory (tags_of d n m.engine) (after_line line sealed history) (record m { bus = bus'; stopped = Some (Tampered (line_place line)) })
+  failed_kept bus' sealed =
+      answered_kept bus' (sealed_bytes sealed) m.engine.evidence (Some (Tampered (line_place line)))
+      (λ none. none) (λ goes_on. absurd (cc)) (λ page is. absurd (cc)) kept.genuine
+
+  failed_accounted : (sealed : Sealed) → length sealed.cipher ≡ 64 → sealed.tag ≢ tags_of d n m.engine (Line line (counter_of writes) sealed.cipher) →
+      AccountsForLies (tags_of d n m.engine) m.pads.used m.engine.made history (tampered m.stopped) m.engine.evidence →
+      AccountsForLies (tags_of d n m.engine) m.pads.used m.engine.made (after_line line sealed history) (tampered (Some (Tampered (line_place line)))) m.engine.evidence
+  failed_accounted sealed long untagged account = record {
+    answers = λ quiet. failed_answers sealed long untagged quiet (none_lied m.engine.evidence quiet account);
+    shown = λ e is. first_lie_stays history m.engine.made (line_place line) (sealed_bytes sealed) e (account.shown e is);
+  }
 
   -- it comes where an answer was false
-  pub tampered_lied : (history' : BusHistory) (engine' : TagEngineView T) (place : Place) → engine.evidence ≡ None →
-      IsCheckedRead (tags_of d n engine) line (record { page = writes; line = 0 }) history history' engine engine' (Err (Tampered place)) →
+  pub tampered_lied : (key : List ℕ) (history' : BusHistory) (engine' : TagEngineView T) (place : Place) → m.engine.evidence ≡ None →
+      IsCheckedRead (tags_of d n m.engine) key line (counter_of writes) history history' m.engine engine' (Err (Tampered place)) →
       (place ≡ line_place line) × Rose history.lies history'.lies
-  tampered_lied history' engine' place quiet result =
-      let sealed = result.1.sealed in
-      let differs = failed_differs (tags_of d n engine) (line_count engine.levels) line writes engine.made history.written last_there sealed (kept.stored quiet going) inside result.1.long result.1.untagged in
-      let lie = lie_comes history (line_place line) (sealed_bytes sealed) (none_lied quiet) differs in
-      let more : history'.lies ≡ 1 = ap (λ (t : BusHistory). t.lies) result.1.answered ∙ lie.lies in
-      (result.0, omega (arith, more, none_lied quiet))
+  tampered_lied key history' engine' place quiet result =
+      let rose = lie_rises history (line_place line) (sealed_bytes result.1.sealed) (differs_failed result.1.sealed result.1.long result.1.untagged quiet) in
+      (result.0, subst (λ (t : BusHistory). Rose history.lies t.lies) (sym result.1.answered) rose)
 
-  -- where it passes, and shows nothing
-  passed_answers : (cipher tag : List ℕ) → tag ≡ tags_of d n engine (Line line (record { page = writes; line = 0 }) cipher) → engine.evidence ≡ None →
-      Contains engine.made (Line line (record { page = writes; line = 0 }) cipher) →
-      HonestOrCaught (tags_of d n engine) pads.used engine.made (after_read (line_place line) (cipher ++ tag) history) (λ place. stopped ≡ Some (Tampered place))
-  passed_answers cipher tag tagged quiet listed =
-      let last = is_last (line_count engine.levels) limit engine.made counters line writes cipher kept.counted inside read listed in
-      let same = passed_same (tags_of d n engine) (line_count engine.levels) line writes engine.made history.written cipher tag (kept.stored quiet going) inside tagged last in
-      let is : after_read (line_place line) (cipher ++ tag) history ≡ after_answer (line_place line) history = answered (line_place line) (cipher ++ tag) history same in
-      honest_with (tags_of d n engine) pads.used engine.made (after_read (line_place line) (cipher ++ tag) history) stopped
-      (ap (λ (t : BusHistory). t.lies) is ∙ none_lied quiet) (λ place tampered. untampered_by stopped place going tampered)
+  -- Where it passes
 
-  -- where it passes, and shows a forgery
-  shown_first : (cipher tag : List ℕ) (evidence : Evidence) → length cipher ≡ 64 → engine.evidence ≡ None →
-      forgery_of engine.made line (record { page = writes; line = 0 }) (record { cipher = cipher; tag = tag }) true ≡ Some evidence →
-      IsOfFirstLie engine.made (after_read (line_place line) (cipher ++ tag) history) evidence
-  shown_first cipher tag evidence long quiet shown =
-      let counter : Counter = record { page = writes; line = 0 } in
-      let sealed : Sealed = record { cipher = cipher; tag = tag } in
-      let is = shown_is engine.made line counter sealed evidence shown in
-      let differs = forged_differs (tags_of d n engine) (line_count engine.levels) line writes engine.made history.written last_there sealed (kept.stored quiet going) inside long is.1 in
-      let lie = lie_comes history (line_place line) (cipher ++ tag) (none_lied quiet) differs in
-      let history' : BusHistory = after_read (line_place line) (cipher ++ tag) history in
-      let whole : take (length engine.made) engine.made ≡ engine.made = take_all (length engine.made) engine.made (omega arith) in
-      subst (λ (e : Evidence). IsOfFirstLie engine.made history' e) (sym is.0) (record {
+  -- and shows nothing
+  passed_answers : (sealed : Sealed) → sealed.tag ≡ tags_of d n m.engine (Line line (counter_of writes) sealed.cipher) → m.engine.evidence ≡ None → history.lies ≡ 0 →
+      forgery_of m.engine.made line (counter_of writes) sealed true ≡ None →
+      HonestOrCaught (tags_of d n m.engine) m.pads.used m.engine.made (after_line line sealed history) (tampered m.stopped)
+  passed_answers sealed tagged quiet none unshown =
+      let listed = known m.engine.made line (counter_of writes) sealed unshown in
+      let last = is_last (line_count m.engine.levels) m.limit m.engine.made m.counters line writes sealed.cipher kept.counted inside read listed in
+      let same = passed_same (tags_of d n m.engine) (line_count m.engine.levels) line writes m.engine.made history.written sealed.cipher sealed.tag (kept.stored quiet going) inside tagged last in
+      let is : after_line line sealed history ≡ after_answer (line_place line) history = answered (line_place line) (sealed_bytes sealed) history same in
+      honest_with (tags_of d n m.engine) m.pads.used m.engine.made (after_line line sealed history) m.stopped
+      (ap (λ (t : BusHistory). t.lies) is ∙ none) (λ place taken. untampered_by m.stopped place going taken)
+
+  -- and shows a forgery
+  shown_first : (sealed : Sealed) (evidence : Evidence) → length sealed.cipher ≡ 64 → m.engine.evidence ≡ None → history.lies ≡ 0 →
+      forgery_of m.engine.made line (counter_of writes) sealed true ≡ Some evidence →
+      IsOfFirstLie m.engine.made (after_line line sealed history) evidence
+  shown_first sealed evidence long quiet none shown =
+      let is = shown_is m.engine.made line (counter_of writes) sealed evidence shown in
+      let differs = forged_differs (tags_of d n m.engine) (line_count m.engine.levels) line writes m.engine.made history.written last_there sealed (kept.stored quiet going) inside long is.1 in
+      let lie = lie_comes history (line_place line) (sealed_bytes sealed) none differs in
+      let history' : BusHistory = after_line line sealed history in
+      let whole : take (length m.engine.made) m.engine.made ≡ m.engine.made = take_all (length m.engine.made) m.engine.made (omega arith) in
+      subst (λ (e : Evidence). IsOfFirstLie m.engine.made history' e) (sym is.0) (record {
         lies = omega (arith, lie.lies);
-        lie = record { access = history'.accesses; place = line_place line; bytes = cipher ++ tag };
+        lie = record { access = history'.accesses; place = line_place line; bytes = sealed_bytes sealed };
         first = lie.first;
         place = refl;
         bytes = refl;
-        counter = ap (λ (xs : List Message). last_pair line (data_pairs xs)) whole ∙ last_pair-some engine.made line counter last_there.cipher last_there.last;
+        counter = ap (λ (xs : List Message). last_pair line (data_pairs xs)) whole ∙ last_pair-some m.engine.made line (counter_of writes) last_there.cipher last_there.last;
       })
 
-  passed_quiet : (cipher tag : List ℕ) → tag ≡ tags_of d n engine (Line line (record { page = writes; line = 0 }) cipher) → engine.evidence ≡ None →
-      forgery_of engine.made line (record { page = writes; line = 0 }) (record { cipher = cipher; tag = tag }) true ≡ None →
-      HonestOrCaught (tags_of d n engine) pads.used engine.made (after_read (line_place line) (cipher ++ tag) history) (λ place. stopped ≡ Some (Tampered place))
-  passed_quiet cipher tag tagged quiet none =
-      passed_answers cipher tag tagged quiet (known engine.made line (record { page = writes; line = 0 }) (record { cipher = cipher; tag = tag }) none)
+  passed_kept : (bus' : B) (sealed : Sealed) (before : Option Evidence) → m.engine.evidence ≡ before →
+      IfSome (option_or before (forgery_of m.engine.made line (counter_of writes) sealed true)) (IsEvidence (tags_of d n m.engine) m.engine.made) →
+      IsLineMemory (tags_of d n m.engine) (after_line line sealed history)
+      (record m { bus = bus'; engine = record m.engine { evidence = option_or before (forgery_of m.engine.made line (counter_of writes) sealed true) } })
+  passed_kept bus' sealed None was genuine =
+      answered_kept bus' (sealed_bytes sealed) (forgery_of m.engine.made line (counter_of writes) sealed true) m.stopped
+      (λ none. was) (λ goes_on. refl) (λ page is. is) genuine
+  passed_kept bus' sealed (Some first) was genuine =
+      answered_kept bus' (sealed_bytes sealed) (Some first) m.stopped
+      (λ none. absurd (cc)) (λ goes_on. refl) (λ page is. is) genuine
 
-  passed_by : (cipher tag : List ℕ) (before : Option Evidence) → length cipher ≡ 64 → tag ≡ tags_of d n engine (Line line (record { page = writes; line = 0 }) cipher) →
-      engine.evidence ≡ before →
-      IfSome (option_or before (forgery_of engine.made line (record { page = writes; line = 0 }) (record { cipher = cipher; tag = tag }) true)) (IsEvidence (tags_of d n engine) engine.made) →
-      IsLineMemory (tags_of d n engine) (after_read (line_place line) (cipher ++ tag) history) (record {
-        bus = bus';
-        engine = record engine { evidence = option_or before (forgery_of engine.made line (record { page = writes; line = 0 }) (record { cipher = cipher; tag = tag }) true) };
-        pads = pads;
-        counters = counters;
-        limit = limit;
-        stopped = stopped;
-      })
-  passed_by cipher tag None long tagged was genuine =
-      answered_kept (cipher ++ tag) (forgery_of engine.made line (record { page = writes; line = 0 }) (record { cipher = cipher; tag = tag }) true) stopped
-      (λ none. was) (λ goes_on. refl) (λ page is. is)
-      (λ none. passed_quiet cipher tag tagged was none) genuine
-      (λ e is. shown_first cipher tag e long was is)
-  passed_by cipher tag (Some first) long tagged was genuine =
-      answered_kept (cipher ++ tag) (Some first) stopped
-      (λ none. absurd (cc)) (λ goes_on. refl) (λ page is. is) (λ none. absurd (cc)) genuine
-      (λ e is. first_lie_stays history engine.made (line_place line) (cipher ++ tag) e (kept.shown e (was ∙ is)))
+  passed_accounted : (sealed : Sealed) (before : Option Evidence) → length sealed.cipher ≡ 64 → sealed.tag ≡ tags_of d n m.engine (Line line (counter_of writes) sealed.cipher) →
+      m.engine.evidence ≡ before → AccountsForLies (tags_of d n m.engine) m.pads.used m.engine.made history (tampered m.stopped) before →
+      AccountsForLies (tags_of d n m.engine) m.pads.used m.engine.made (after_line line sealed history) (tampered m.stopped)
+      (option_or before (forgery_of m.engine.made line (counter_of writes) sealed true))
+  passed_accounted sealed None long tagged was account =
+      let none = none_lied None refl account in
+      record {
+        answers = λ unshown. passed_answers sealed tagged was none unshown;
+        shown = λ e is. shown_first sealed e long was none is;
+      }
+  passed_accounted sealed (Some first) long tagged was account = record {
+    answers = λ quiet. absurd (cc);
+    shown = λ e is. first_lie_stays history m.engine.made (line_place line) (sealed_bytes sealed) e (account.shown e is);
+  }
 
-  -- a line that passed its check
-  pub passed_kept : (history' : BusHistory) (engine' : TagEngineView T) (cipher : List ℕ) →
-      Passed (tags_of d n engine) line (record { page = writes; line = 0 }) history history' engine engine' cipher →
-      IsLineMemory (tags_of d n engine') history' (record { bus = bus'; engine = engine'; pads = pads; counters = counters; limit = limit; stopped = stopped })
-  passed_kept history' engine' cipher passed =
-      let genuine = subst (λ (e : TagEngineView T). IfSome e.evidence (IsEvidence (tags_of d n engine) engine.made)) passed.checked passed.genuine in
-      subst (λ (t : BusHistory). IsLineMemory (tags_of d n engine') t (record { bus = bus'; engine = engine'; pads = pads; counters = counters; limit = limit; stopped = stopped })) (sym passed.answered)
-      (subst (λ (e : TagEngineView T). IsLineMemory (tags_of d n e) (after_read (line_place line) (cipher ++ passed.tag) history) (record { bus = bus'; engine = e; pads = pads; counters = counters; limit = limit; stopped = stopped }))
-      (sym passed.checked) (passed_by cipher passed.tag engine.evidence passed.long passed.tagged refl genuine))
+  -- Whatever was read
 
-  -- and gave its last bytes, where nothing is shown
-  pub passed_bytes : (history' : BusHistory) (engine' : TagEngineView T) (cipher : List ℕ) →
-      Passed (tags_of d n engine) line (record { page = writes; line = 0 }) history history' engine engine' cipher → engine'.evidence ≡ None →
-      last_data line engine.made ≡ Some (record { page = writes; line = 0 }, cipher)
-  passed_bytes history' engine' cipher passed quiet =
-      let counter : Counter = record { page = writes; line = 0 } in
-      let none : option_or engine.evidence (forgery_of engine.made line counter (record { cipher = cipher; tag = passed.tag }) true) ≡ None =
-      ap (λ (e : TagEngineView T). e.evidence) (sym passed.checked) ∙ quiet in
-      is_last (line_count engine.levels) limit engine.made counters line writes cipher kept.counted inside read
-      (known engine.made line counter (record { cipher = cipher; tag = passed.tag }) (or_none engine.evidence (forgery_of engine.made line counter (record { cipher = cipher; tag = passed.tag }) true) none))
+  module _ (key : List ℕ) (bus' : B) (history' : BusHistory) (engine' : TagEngineView T) where
+    -- the bytes are the last ones, where nothing is shown
+    pub passed_bytes : (bytes : List ℕ) (passed : Passed (tags_of d n m.engine) key line (counter_of writes) history history' m.engine engine' bytes) → engine'.evidence ≡ None →
+        last_data line m.engine.made ≡ Some (counter_of writes, passed.sealed.cipher)
+    passed_bytes bytes passed quiet =
+        let none : option_or m.engine.evidence (forgery_of m.engine.made line (counter_of writes) passed.sealed true) ≡ None =
+        ap (λ (e : TagEngineView T). e.evidence) (sym passed.checked) ∙ quiet in
+        is_last (line_count m.engine.levels) m.limit m.engine.made m.counters line writes passed.sealed.cipher kept.counted inside read
+        (known m.engine.made line (counter_of writes) passed.sealed (or_none m.engine.evidence (forgery_of m.engine.made line (counter_of writes) passed.sealed true) none))
 
-  -- a line that stopped the memory
-  pub stopped_kept : (history' : BusHistory) (engine' : TagEngineView T) (stop : MemStop) →
-      IsCheckedRead (tags_of d n engine) line (record { page = writes; line = 0 }) history history' engine engine' (Err stop) →
-      IsLineMemory (tags_of d n engine') history' (record { bus = bus'; engine = engine'; pads = pads; counters = counters; limit = limit; stopped = Some stop })
-  stopped_kept history' engine' (Spent page) result = absurd result
-  stopped_kept history' engine' NoMemory result =
-      subst (λ (t : BusHistory). IsLineMemory (tags_of d n engine') t (record { bus = bus'; engine = engine'; pads = pads; counters = counters; limit = limit; stopped = Some NoMemory })) (sym result.0)
-      (subst (λ (e : TagEngineView T). IsLineMemory (tags_of d n e) history (record { bus = bus'; engine = e; pads = pads; counters = counters; limit = limit; stopped = Some NoMemory })) (sym result.1)
-      (ended_kept d n history bus bus' engine pads counters limit stopped NoMemory kept going (λ page is. absurd (cc)) (λ place is. absurd (cc)) (λ goes_on. absurd (cc))))
-  stopped_kept history' engine' (Tampered place) result =
-      subst (λ (p : Place). IsLineMemory (tags_of d n engine') history' (record { bus = bus'; engine = engine'; pads = pads; counters = counters; limit = limit; stopped = Some (Tampered p) })) (sym result.0)
-      (subst (λ (t : BusHistory). IsLineMemory (tags_of d n engine') t (record { bus = bus'; engine = engine'; pads = pads; counters = counters; limit = limit; stopped = Some (Tampered (line_place line)) })) (sym result.1.answered)
-      (subst (λ (e : TagEngineView T). IsLineMemory (tags_of d n e) (after_line line result.1.sealed history) (record { bus = bus'; engine = e; pads = pads; counters = counters; limit = limit; stopped = Some (Tampered (line_place line)) })) (sym result.1.unchanged)
-      (failed_kept result.1.sealed result.1.long result.1.untagged)))
+    pub read_kept : (result : Result (List ℕ) MemStop) → IsCheckedRead (tags_of d n m.engine) key line (counter_of writes) history history' m.engine engine' result →
+        IsLineMemory (tags_of d n engine') history' (record m { bus = bus'; engine = engine'; stopped = option_or (result_err result) m.stopped })
+    read_kept (Ok bytes) passed =
+        let genuine = subst (λ (e : TagEngineView T). IfSome e.evidence (IsEvidence (tags_of d n m.engine) m.engine.made)) passed.checked passed.genuine in
+        subst (λ (t : BusHistory). IsLineMemory (tags_of d n engine') t (record m { bus = bus'; engine = engine' })) (sym passed.answered)
+        (subst (λ (e : TagEngineView T). IsLineMemory (tags_of d n e) (after_line line passed.sealed history) (record m { bus = bus'; engine = e }))
+        (sym passed.checked) (passed_kept bus' passed.sealed m.engine.evidence refl genuine))
+    read_kept (Err (Spent page)) result = absurd result
+    read_kept (Err NoMemory) result =
+        subst (λ (t : BusHistory). IsLineMemory (tags_of d n engine') t (record m { bus = bus'; engine = engine'; stopped = Some NoMemory })) (sym result.0)
+        (subst (λ (e : TagEngineView T). IsLineMemory (tags_of d n e) history (record m { bus = bus'; engine = e; stopped = Some NoMemory })) (sym result.1)
+        (ended_kept (tags_of d n m.engine) history m bus' NoMemory kept (λ page is. absurd (cc)) (λ goes_on. absurd (cc))))
+    read_kept (Err (Tampered place)) result =
+        subst (λ (p : Place). IsLineMemory (tags_of d n engine') history' (record m { bus = bus'; engine = engine'; stopped = Some (Tampered p) })) (sym result.0)
+        (subst (λ (t : BusHistory). IsLineMemory (tags_of d n engine') t (record m { bus = bus'; engine = engine'; stopped = Some (Tampered (line_place line)) })) (sym result.1.answered)
+        (subst (λ (e : TagEngineView T). IsLineMemory (tags_of d n e) (after_line line result.1.sealed history) (record m { bus = bus'; engine = e; stopped = Some (Tampered (line_place line)) })) (sym result.1.unchanged)
+        (failed_kept bus' result.1.sealed)))
+
+    pub read_accounted : (result : Result (List ℕ) MemStop) → IsCheckedRead (tags_of d n m.engine) key line (counter_of writes) history history' m.engine engine' result →
+        AccountsForLies (tags_of d n m.engine) m.pads.used m.engine.made history (tampered m.stopped) m.engine.evidence →
+        AccountsForLies (tags_of d n engine') m.pads.used engine'.made history' (tampered (option_or (result_err result) m.stopped)) engine'.evidence
+    read_accounted (Ok bytes) passed account =
+        subst (λ (t : BusHistory). AccountsForLies (tags_of d n engine') m.pads.used engine'.made t (tampered m.stopped) engine'.evidence) (sym passed.answered)
+        (subst (λ (e : TagEngineView T). AccountsForLies (tags_of d n e) m.pads.used e.made (after_line line passed.sealed history) (tampered m.stopped) e.evidence)
+        (sym passed.checked) (passed_accounted passed.sealed m.engine.evidence passed.long passed.tagged refl account))
+    read_accounted (Err (Spent page)) result account = absurd result
+    read_accounted (Err NoMemory) result account =
+        subst (λ (t : BusHistory). AccountsForLies (tags_of d n engine') m.pads.used engine'.made t (tampered (Some NoMemory)) engine'.evidence) (sym result.0)
+        (subst (λ (e : TagEngineView T). AccountsForLies (tags_of d n e) m.pads.used e.made history (tampered (Some NoMemory)) e.evidence) (sym result.1)
+        (ended_accounted (tags_of d n m.engine) m.pads.used m.engine.made history m.stopped NoMemory m.engine.evidence going (λ place is. absurd (cc)) account))
+    read_accounted (Err (Tampered place)) result account =
+        subst (λ (p : Place). AccountsForLies (tags_of d n engine') m.pads.used engine'.made history' (tampered (Some (Tampered p))) engine'.evidence) (sym result.0)
+        (subst (λ (t : BusHistory). AccountsForLies (tags_of d n engine') m.pads.used engine'.made t (tampered (Some (Tampered (line_place line)))) engine'.evidence) (sym result.1.answered)
+        (subst (λ (e : TagEngineView T). AccountsForLies (tags_of d n e) m.pads.used e.made (after_line line result.1.sealed history) (tampered (Some (Tampered (line_place line)))) e.evidence) (sym result.1.unchanged)
+        (failed_accounted result.1.sealed result.1.long result.1.untagged account)))
 
 -- a memory that was never written
 pub kept_new : {B T : Type 0} (d n : T → List ℕ → List ℕ) (history : BusHistory) (bus : B) (tagger : T) (key : List ℕ) (levels limit : ℕ) (engine : TagEngineView T) (pads : PadEngineView) (counters : List ℕ) →
-    engine ≡ new_engine tagger levels → pads ≡ new_pads key → counters ≡ replicate (line_count levels) 0 → history.levels ≡ levels → history.lies ≡ 0 → NothingWritten history →
+    engine ≡ new_engine tagger levels → pads ≡ new_pads key → counters ≡ replicate (line_count levels) 0 → history.levels ≡ levels → NothingWritten history →
     IsLineMemory (tags_of d n engine) history (record { bus = bus; engine = engine; pads = pads; counters = counters; limit = limit; stopped = None })
 unfolding last_at data_pairs
-kept_new {B} {T} d n history bus tagger key levels limit engine pads counters new none_used zeros same none empty =
+kept_new {B} {T} d n history bus tagger key levels limit engine pads counters new none_used zeros same empty =
     subst (λ (e : TagEngineView T). IsLineMemory (tags_of d n e) history (record { bus = bus; engine = e; pads = pads; counters = counters; limit = limit; stopped = None })) (sym new)
     (subst (λ (p : PadEngineView). IsLineMemory (tags_of d n (new_engine tagger levels)) history (record { bus = bus; engine = new_engine tagger levels; pads = p; counters = counters; limit = limit; stopped = None })) (sym none_used)
     (record {
@@ -506,9 +499,7 @@ kept_new {B} {T} d n history bus tagger key levels limit engine pads counters ne
       nodes = record { zeros = λ level index inside. empty.zeros (Node level index) (subst (λ (l : ℕ). IsPlace l (Node level index)) (sym same) inside) };
       counted = subst (λ (xs : List ℕ). AreCounted (line_count levels) limit [] xs) (sym zeros) (counted_new (line_count levels) limit);
       stored = λ quiet goes_on. record { holds = λ line counter cipher inside last. absurd (cc) };
-      answers = λ quiet. inl (record { lies = none; untampered = λ place is. absurd (cc) });
       genuine = tt;
-      shown = λ evidence is. absurd (cc);
       spent = λ page is. absurd (cc);
     }))
 
@@ -535,182 +526,184 @@ holds_more tag_of lines made more used more_used written was = record {
       ];
 }
 
-module _ {B T : Type 0} (d n : T → List ℕ → List ℕ) (history : BusHistory) (bus bus' : B) (engine engine' : TagEngineView T) (pads pads' : PadEngineView) (counters counters' : List ℕ) (limit : ℕ) (stopped : Option MemStop) (line writes : ℕ) (cipher : List ℕ)
-    (kept : IsLineMemory (tags_of d n engine) history (record { bus = bus; engine = engine; pads = pads; counters = counters; limit = limit; stopped = stopped }))
-    (going : lasting_stop stopped ≡ None) (inside : line < line_count engine.levels) (read : writes ≡ slice_index counters line)
-    (below : writes < limit) (long : length cipher ≡ 64) (set : counters' ≡ slice_set counters line (writes + 1))
-    (tagged : engine' ≡ after_make (Line line (record { page = writes + 1; line = 0 }) cipher) (with_room 1 engine))
-    (enciphered_is : pads' ≡ after_encrypt line (record { page = writes + 1; line = 0 }) (pads_with_room 1 pads)) where
-  abbrev counter : Counter
-  counter = record { page = writes + 1; line = 0 }
+-- A line's next message
 
-  abbrev made_after : List Message
-  made_after = engine.made ++ Line line (record { page = writes + 1; line = 0 }) cipher ∷ []
-
-  abbrev used_after : List (ℕ × Counter)
-  used_after = pads.used ++ (line, record { page = writes + 1; line = 0 }) ∷ []
-
-  count : writes ≡ times_tagged engine.made line
+module _ {B T : Type 0} (d n : T → List ℕ → List ℕ) (history : BusHistory) (m : LineMemoryView B T) (line writes : ℕ) (cipher : List ℕ)
+    (kept : IsLineMemory (tags_of d n m.engine) history m)
+    (going : lasting_stop m.stopped ≡ None) (inside : line < line_count m.engine.levels) (read : writes ≡ slice_index m.counters line)
+    (below : writes < m.limit) (long : length cipher ≡ 64) where
+  count : writes ≡ times_tagged m.engine.made line
   count = read ∙ kept.counted.counts line inside
 
-  write_counted : AreCounted (line_count engine.levels) limit made_after counters'
-  write_counted = counted_more (line_count engine.levels) limit engine.made counters counters' line writes cipher kept.counted inside count below long set
-
-  write_paired : data_pairs made_after ≡ used_after
+  next_paired : data_pairs (m.engine.made ++ Line line (counter_of (writes + 1)) cipher ∷ []) ≡ m.pads.used ++ (line, counter_of (writes + 1)) ∷ []
   unfolding data_pairs
-  write_paired =
-      data_pairs-append engine.made (Line line (record { page = writes + 1; line = 0 }) cipher ∷ [])
-      ∙ ap (λ (xs : List (ℕ × Counter)). xs ++ (line, record { page = writes + 1; line = 0 }) ∷ []) kept.paired
+  next_paired =
+      data_pairs-append m.engine.made (Line line (counter_of (writes + 1)) cipher ∷ [])
+      ∙ ap (λ (xs : List (ℕ × Counter)). xs ++ (line, counter_of (writes + 1)) ∷ []) kept.paired
 
-  write_rising : AreRising used_after
-  write_rising = rising_more pads.used line (record { page = writes + 1; line = 0 }) kept.rising
-      (behind (line_count engine.levels) limit engine.made pads.used counters line writes kept.counted kept.paired count)
-
-  write_consecutive : AreConsecutive used_after
-  write_consecutive = consecutive_more pads.used line writes kept.consecutive (count ∙ sym (writes_same engine.made pads.used line kept.paired))
+  next_rising : AreRising (m.pads.used ++ (line, counter_of (writes + 1)) ∷ [])
+  next_rising = rising_more m.pads.used line (counter_of (writes + 1)) kept.rising
+      (behind (line_count m.engine.levels) m.limit m.engine.made m.pads.used m.counters line writes kept.counted kept.paired count)
 
   -- a line whose counters are used up is not this one
-  spent_stays : (page : ℕ) → IsSpent (line_count engine.levels) limit pads.used page → IsSpent (line_count engine.levels) limit used_after page
-  spent_stays page spent =
-      let full : times_tagged engine.made spent.line ≡ limit = sym (writes_same engine.made pads.used spent.line kept.paired) ∙ spent.used_up in
-      let differs : spent.line ≢ line = λ same. let here = ap (times_tagged engine.made) same in omega (arith, below, full, count, here) in
+  spent_before : (page : ℕ) → IsSpent (line_count m.engine.levels) m.limit m.pads.used page →
+      IsSpent (line_count m.engine.levels) m.limit (m.pads.used ++ (line, counter_of (writes + 1)) ∷ []) page
+  spent_before page spent =
+      let full : times_tagged m.engine.made spent.line ≡ m.limit = sym (writes_same m.engine.made m.pads.used spent.line kept.paired) ∙ spent.used_up in
+      let differs : spent.line ≢ line = λ same. let here = ap (times_tagged m.engine.made) same in omega (arith, below, full, count, here) in
       record {
         line = spent.line;
         inside = spent.inside;
         of_page = spent.of_page;
-        used_up = writes_same made_after used_after spent.line write_paired
-            ∙ ap writes_of (last_data-other engine.made line spent.line (record { page = writes + 1; line = 0 }) cipher differs) ∙ full;
+        used_up = writes_same (m.engine.made ++ Line line (counter_of (writes + 1)) cipher ∷ []) (m.pads.used ++ (line, counter_of (writes + 1)) ∷ []) spent.line next_paired
+            ∙ ap writes_of (last_data-other m.engine.made line spent.line (counter_of (writes + 1)) cipher differs) ∙ full;
       }
 
-  wrote_kept : (history' : BusHistory) (stopped' : Option MemStop) → history'.levels ≡ history.levels → history'.lies ≡ history.lies → history'.lie ≡ history.lie →
-      HoldsSealed (tags_of d n engine) (line_count engine.levels) made_after used_after history'.written → NodesAreZeros engine.levels history'.written →
-      (lasting_stop stopped' ≡ None → engine.evidence ≡ None → HoldsLast (tags_of d n engine) (line_count engine.levels) made_after history'.written) →
-      ((place : Place) → stopped' ≡ Some (Tampered place) → ⊥) → ((page : ℕ) → stopped' ≡ Some (Spent page) → stopped ≡ Some (Spent page)) →
-      IsLineMemory (tags_of d n (after_make (Line line (record { page = writes + 1; line = 0 }) cipher) (with_room 1 engine))) history' (record {
+  next_kept : (bus' : B) (room pad_room : ℕ) (counters' : List ℕ) (history' : BusHistory) (stopped' : Option MemStop) →
+      counters' ≡ slice_set m.counters line (writes + 1) → history'.levels ≡ history.levels →
+      HoldsSealed (tags_of d n m.engine) (line_count m.engine.levels) (m.engine.made ++ Line line (counter_of (writes + 1)) cipher ∷ []) (m.pads.used ++ (line, counter_of (writes + 1)) ∷ []) history'.written →
+      NodesAreZeros m.engine.levels history'.written →
+      (lasting_stop stopped' ≡ None → m.engine.evidence ≡ None → HoldsLast (tags_of d n m.engine) (line_count m.engine.levels) (m.engine.made ++ Line line (counter_of (writes + 1)) cipher ∷ []) history'.written) →
+      ((page : ℕ) → stopped' ≡ Some (Spent page) → m.stopped ≡ Some (Spent page)) →
+      IsLineMemory (tags_of d n m.engine) history' (record m {
         bus = bus';
-        engine = after_make (Line line (record { page = writes + 1; line = 0 }) cipher) (with_room 1 engine);
-        pads = after_encrypt line (record { page = writes + 1; line = 0 }) (pads_with_room 1 pads);
+        engine = record m.engine { made = m.engine.made ++ Line line (counter_of (writes + 1)) cipher ∷ []; room = room };
+        pads = record m.pads { used = m.pads.used ++ (line, counter_of (writes + 1)) ∷ []; room = pad_room };
         counters = counters';
-        limit = limit;
         stopped = stopped';
       })
-  wrote_kept history' stopped' levels lies lie sealed nodes stored untampered spent = record {
+  next_kept bus' room pad_room counters' history' stopped' set levels sealed nodes stored spent = record {
     levels = levels ∙ kept.levels;
-    paired = write_paired;
-    rising = write_rising;
-    consecutive = write_consecutive;
+    paired = next_paired;
+    rising = next_rising;
+    consecutive = consecutive_more m.pads.used line writes kept.consecutive (count ∙ sym (writes_same m.engine.made m.pads.used line kept.paired));
     sealed = sealed;
     nodes = nodes;
-    counted = write_counted;
+    counted = counted_more (line_count m.engine.levels) m.limit m.engine.made m.counters counters' line writes cipher kept.counted inside count below long set;
     stored = λ quiet goes_on. stored goes_on quiet;
-    answers = λ quiet. honest_with (tags_of d n engine) used_after made_after history' stopped'
-        (lies ∙ honest_by history (tags_of d n engine) pads.used engine.made stopped going (kept.answers quiet)) untampered;
-    genuine = still_genuine (tags_of d n engine) engine.made (Line line (record { page = writes + 1; line = 0 }) cipher ∷ []) engine.evidence kept.genuine;
-    shown = λ e is. made_more (tags_of d n engine) history history' engine.made (Line line (record { page = writes + 1; line = 0 }) cipher ∷ []) e lies lie
-        (some_holds engine.evidence e (IsEvidence (tags_of d n engine) engine.made) is kept.genuine) (kept.shown e is);
-    spent = λ page is. spent_stays page (kept.spent page (spent page is));
+    genuine = still_genuine (tags_of d n m.engine) m.engine.made (Line line (counter_of (writes + 1)) cipher ∷ []) m.engine.evidence kept.genuine;
+    spent = λ page is. spent_before page (kept.spent page (spent page is));
+  }
+
+  next_accounted : (history' : BusHistory) (stopped' : Option MemStop) → history'.lies ≡ history.lies → history'.lie ≡ history.lie →
+      ((place : Place) → stopped' ≡ Some (Tampered place) → ⊥) →
+      AccountsForLies (tags_of d n m.engine) m.pads.used m.engine.made history (tampered m.stopped) m.engine.evidence →
+      AccountsForLies (tags_of d n m.engine) (m.pads.used ++ (line, counter_of (writes + 1)) ∷ []) (m.engine.made ++ Line line (counter_of (writes + 1)) cipher ∷ [])
+      history' (tampered stopped') m.engine.evidence
+  next_accounted history' stopped' lies lie untampered account = record {
+    answers = λ quiet. honest_with (tags_of d n m.engine) (m.pads.used ++ (line, counter_of (writes + 1)) ∷ []) (m.engine.made ++ Line line (counter_of (writes + 1)) cipher ∷ []) history' stopped'
+        (lies ∙ honest_by history (tags_of d n m.engine) m.pads.used m.engine.made m.stopped going (account.answers quiet)) untampered;
+    shown = λ e is. made_more (tags_of d n m.engine) history history' m.engine.made (Line line (counter_of (writes + 1)) cipher ∷ []) e lies lie
+        (some_holds m.engine.evidence e (IsEvidence (tags_of d n m.engine) m.engine.made) is kept.genuine) (account.shown e is);
   }
 
   abbrev line_after : List ℕ
-  line_after = sealed_line (tags_of d n engine) line (record { page = writes + 1; line = 0 }) cipher
+  line_after = sealed_line (tags_of d n m.engine) line (counter_of (writes + 1)) cipher
 
-  stored_more : engine.evidence ≡ None → HoldsLast (tags_of d n engine) (line_count engine.levels) made_after (at_place (line_place line) line_after history.written)
+  stored_more : m.engine.evidence ≡ None → HoldsLast (tags_of d n m.engine) (line_count m.engine.levels) (m.engine.made ++ Line line (counter_of (writes + 1)) cipher ∷ []) (at_place (line_place line) line_after history.written)
   stored_more quiet = record {
     holds = λ other counter' cipher' within last.
         elim (cases_eq other line) [
           | inl same ↦
-              let mine : Counter × List ℕ = (record { page = writes + 1; line = 0 }, cipher) in
+              let mine : Counter × List ℕ = (counter_of (writes + 1), cipher) in
               let theirs : Counter × List ℕ = (counter', cipher') in
-              let here : last_data other made_after ≡ Some mine = ap (λ (l : ℕ). last_data l made_after) same ∙ last_data-same engine.made line (record { page = writes + 1; line = 0 }) cipher in
+              let here : last_data other (m.engine.made ++ Line line (counter_of (writes + 1)) cipher ∷ []) ≡ Some mine =
+              ap (λ (l : ℕ). last_data l (m.engine.made ++ Line line (counter_of (writes + 1)) cipher ∷ [])) same ∙ last_data-same m.engine.made line (counter_of (writes + 1)) cipher in
               let pair : mine ≡ theirs = some_same mine theirs (sym here ∙ last) in
               ap (λ (l : ℕ). at_place (line_place line) line_after history.written (line_place l)) same
               ∙ at_place-here (line_place line) line_after history.written
-              ∙ ap (λ (p : Counter × List ℕ). sealed_line (tags_of d n engine) line p.0 p.1) pair
-              ∙ ap (λ (l : ℕ). sealed_line (tags_of d n engine) l counter' cipher') (sym same)
+              ∙ ap (λ (p : Counter × List ℕ). sealed_line (tags_of d n m.engine) line p.0 p.1) pair
+              ∙ ap (λ (l : ℕ). sealed_line (tags_of d n m.engine) l counter' cipher') (sym same)
           | inr differs ↦
               let apart : line_place other ≢ line_place line = λ e. differs (cc) in
               at_place-there (line_place line) (line_place other) line_after history.written apart
-              ∙ (kept.stored quiet going).holds other counter' cipher' within (sym (last_data-other engine.made line other (record { page = writes + 1; line = 0 }) cipher differs) ∙ last)
+              ∙ (kept.stored quiet going).holds other counter' cipher' within (sym (last_data-other m.engine.made line other (counter_of (writes + 1)) cipher differs) ∙ last)
         ];
   }
 
-  sealed_here : IsSealed (tags_of d n engine) made_after used_after line line_after
+  sealed_here : IsSealed (tags_of d n m.engine) (m.engine.made ++ Line line (counter_of (writes + 1)) cipher ∷ []) (m.pads.used ++ (line, counter_of (writes + 1)) ∷ []) line line_after
   sealed_here = record {
-    counter = record { page = writes + 1; line = 0 };
+    counter = counter_of (writes + 1);
     cipher = cipher;
-    made_there = Contains-push engine.made (Line line (record { page = writes + 1; line = 0 }) cipher);
-    used_there = Contains-push pads.used (line, record { page = writes + 1; line = 0 });
+    made_there = Contains-push m.engine.made (Line line (counter_of (writes + 1)) cipher);
+    used_there = Contains-push m.pads.used (line, counter_of (writes + 1));
     sealed = refl;
   }
 
-  sealed_after : HoldsSealed (tags_of d n engine) (line_count engine.levels) made_after used_after (at_place (line_place line) line_after history.written)
-  sealed_after =
-      let was = holds_more (tags_of d n engine) (line_count engine.levels) engine.made (Line line (record { page = writes + 1; line = 0 }) cipher ∷ [])
-      pads.used ((line, record { page = writes + 1; line = 0 }) ∷ []) history.written kept.sealed in
-      record {
-        holds = λ other within.
-            elim (cases_eq other line) [
-              | inl same ↦
-                  let here : at_place (line_place line) line_after history.written (line_place line) ≡ line_after = at_place-here (line_place line) line_after history.written in
-                  subst (λ (l : ℕ). (at_place (line_place line) line_after history.written (line_place l) ≡ zeros_of (line_place l))
-                  ⊎ IsSealed (tags_of d n engine) made_after used_after l (at_place (line_place line) line_after history.written (line_place l))) (sym same)
-                  (inr (subst (λ (bytes : List ℕ). IsSealed (tags_of d n engine) made_after used_after line bytes) (sym here) sealed_here))
-              | inr differs ↦
-                  let apart : line_place other ≢ line_place line = λ e. differs (cc) in
-                  let there : at_place (line_place line) line_after history.written (line_place other) ≡ history.written (line_place other) =
-                  at_place-there (line_place line) (line_place other) line_after history.written apart in
-                  subst (λ (bytes : List ℕ). (bytes ≡ zeros_of (line_place other)) ⊎ IsSealed (tags_of d n engine) made_after used_after other bytes) (sym there) (was.holds other within)
-            ];
-      }
+  sealed_before : HoldsSealed (tags_of d n m.engine) (line_count m.engine.levels) (m.engine.made ++ Line line (counter_of (writes + 1)) cipher ∷ []) (m.pads.used ++ (line, counter_of (writes + 1)) ∷ []) history.written
+  sealed_before = holds_more (tags_of d n m.engine) (line_count m.engine.levels) m.engine.made (Line line (counter_of (writes + 1)) cipher ∷ [])
+      m.pads.used ((line, counter_of (writes + 1)) ∷ []) history.written kept.sealed
 
-  nodes_after : NodesAreZeros engine.levels (at_place (line_place line) line_after history.written)
+  sealed_after : HoldsSealed (tags_of d n m.engine) (line_count m.engine.levels) (m.engine.made ++ Line line (counter_of (writes + 1)) cipher ∷ []) (m.pads.used ++ (line, counter_of (writes + 1)) ∷ []) (at_place (line_place line) line_after history.written)
+  sealed_after = record {
+    holds = λ other within.
+        elim (cases_eq other line) [
+          | inl same ↦
+              let here : at_place (line_place line) line_after history.written (line_place line) ≡ line_after = at_place-here (line_place line) line_after history.written in
+              subst (λ (l : ℕ). (at_place (line_place line) line_after history.written (line_place l) ≡ zeros_of (line_place l))
+              ⊎ IsSealed (tags_of d n m.engine) (m.engine.made ++ Line line (counter_of (writes + 1)) cipher ∷ []) (m.pads.used ++ (line, counter_of (writes + 1)) ∷ []) l (at_place (line_place line) line_after history.written (line_place l))) (sym same)
+              (inr (subst (λ (bytes : List ℕ). IsSealed (tags_of d n m.engine) (m.engine.made ++ Line line (counter_of (writes + 1)) cipher ∷ []) (m.pads.used ++ (line, counter_of (writes + 1)) ∷ []) line bytes) (sym here) sealed_here))
+          | inr differs ↦
+              let apart : line_place other ≢ line_place line = λ e. differs (cc) in
+              let there : at_place (line_place line) line_after history.written (line_place other) ≡ history.written (line_place other) =
+              at_place-there (line_place line) (line_place other) line_after history.written apart in
+              subst (λ (bytes : List ℕ). (bytes ≡ zeros_of (line_place other)) ⊎ IsSealed (tags_of d n m.engine) (m.engine.made ++ Line line (counter_of (writes + 1)) cipher ∷ []) (m.pads.used ++ (line, counter_of (writes + 1)) ∷ []) other bytes) (sym there) (sealed_before.holds other within)
+        ];
+  }
+
+  nodes_after : NodesAreZeros m.engine.levels (at_place (line_place line) line_after history.written)
   nodes_after = record {
     zeros = λ level index inside.
         let apart : Node level index ≢ line_place line = λ e. absurd (cc) in
         at_place-there (line_place line) (Node level index) line_after history.written apart ∙ kept.nodes.zeros level index inside;
   }
 
-  wrote_with : (history' : BusHistory) (stopped' : Option MemStop) →
-      IsLineMemory (tags_of d n (after_make (Line line (record { page = writes + 1; line = 0 }) cipher) (with_room 1 engine))) history' (record {
+  -- it was written with its tag
+  pub next_written : (bus' : B) (room pad_room : ℕ) (counters' : List ℕ) (history' : BusHistory) →
+      counters' ≡ slice_set m.counters line (writes + 1) → history' ≡ after_write (line_place line) line_after history →
+      IsLineMemory (tags_of d n m.engine) history' (record m {
         bus = bus';
-        engine = after_make (Line line (record { page = writes + 1; line = 0 }) cipher) (with_room 1 engine);
-        pads = after_encrypt line (record { page = writes + 1; line = 0 }) (pads_with_room 1 pads);
+        engine = record m.engine { made = m.engine.made ++ Line line (counter_of (writes + 1)) cipher ∷ []; room = room };
+        pads = record m.pads { used = m.pads.used ++ (line, counter_of (writes + 1)) ∷ []; room = pad_room };
         counters = counters';
-        limit = limit;
-        stopped = stopped';
-      }) →
-      IsLineMemory (tags_of d n engine') history' (record { bus = bus'; engine = engine'; pads = pads'; counters = counters'; limit = limit; stopped = stopped' })
-  wrote_with history' stopped' is =
-      subst (λ (e : TagEngineView T). IsLineMemory (tags_of d n e) history' (record { bus = bus'; engine = e; pads = pads'; counters = counters'; limit = limit; stopped = stopped' })) (sym tagged)
-      (subst (λ (p : PadEngineView). IsLineMemory (tags_of d n (after_make (Line line (record { page = writes + 1; line = 0 }) cipher) (with_room 1 engine))) history' (record {
-        bus = bus';
-        engine = after_make (Line line (record { page = writes + 1; line = 0 }) cipher) (with_room 1 engine);
-        pads = p;
-        counters = counters';
-        limit = limit;
-        stopped = stopped';
-      })) (sym enciphered_is) is)
-
-  -- a line and its tag were written
-  pub written_kept : (history' : BusHistory) → history' ≡ after_write (line_place line) line_after history →
-      IsLineMemory (tags_of d n engine') history' (record { bus = bus'; engine = engine'; pads = pads'; counters = counters'; limit = limit; stopped = stopped })
+      })
   unfolding after_write
-  written_kept history' wrote =
-      wrote_with history' stopped
-      (wrote_kept history' stopped (ap (λ (t : BusHistory). t.levels) wrote) (ap (λ (t : BusHistory). t.lies) wrote) (ap (λ (t : BusHistory). t.lie) wrote)
-      (subst (λ (t : BusHistory). HoldsSealed (tags_of d n engine) (line_count engine.levels) made_after used_after t.written) (sym wrote) sealed_after)
-      (subst (λ (t : BusHistory). NodesAreZeros engine.levels t.written) (sym wrote) nodes_after)
-      (λ goes_on quiet. subst (λ (t : BusHistory). HoldsLast (tags_of d n engine) (line_count engine.levels) made_after t.written) (sym wrote) (stored_more quiet))
-      (λ place is. untampered_by stopped place going is) (λ page is. is))
+  next_written bus' room pad_room counters' history' set wrote =
+      next_kept bus' room pad_room counters' history' m.stopped set (ap (λ (t : BusHistory). t.levels) wrote)
+      (subst (λ (t : BusHistory). HoldsSealed (tags_of d n m.engine) (line_count m.engine.levels) (m.engine.made ++ Line line (counter_of (writes + 1)) cipher ∷ []) (m.pads.used ++ (line, counter_of (writes + 1)) ∷ []) t.written) (sym wrote) sealed_after)
+      (subst (λ (t : BusHistory). NodesAreZeros m.engine.levels t.written) (sym wrote) nodes_after)
+      (λ goes_on quiet. subst (λ (t : BusHistory). HoldsLast (tags_of d n m.engine) (line_count m.engine.levels) (m.engine.made ++ Line line (counter_of (writes + 1)) cipher ∷ []) t.written) (sym wrote) (stored_more quiet))
+      (λ page is. is)
 
-  -- there was no memory to write them
-  pub unwritten_kept : (history' : BusHistory) → history' ≡ history →
-      IsLineMemory (tags_of d n engine') history' (record { bus = bus'; engine = engine'; pads = pads'; counters = counters'; limit = limit; stopped = Some NoMemory })
-  unwritten_kept history' same =
-      wrote_with history' (Some NoMemory)
-      (wrote_kept history' (Some NoMemory) (ap (λ (t : BusHistory). t.levels) same) (ap (λ (t : BusHistory). t.lies) same) (ap (λ (t : BusHistory). t.lie) same)
-      (subst (λ (t : BusHistory). HoldsSealed (tags_of d n engine) (line_count engine.levels) made_after used_after t.written) (sym same)
-      (holds_more (tags_of d n engine) (line_count engine.levels) engine.made (Line line (record { page = writes + 1; line = 0 }) cipher ∷ [])
-      pads.used ((line, record { page = writes + 1; line = 0 }) ∷ []) history.written kept.sealed))
-      (subst (λ (t : BusHistory). NodesAreZeros engine.levels t.written) (sym same) kept.nodes)
-      (λ goes_on quiet. absurd (cc)) (λ place is. absurd (cc)) (λ page is. absurd (cc)))
+  pub written_accounted : (history' : BusHistory) → history' ≡ after_write (line_place line) line_after history →
+      AccountsForLies (tags_of d n m.engine) m.pads.used m.engine.made history (tampered m.stopped) m.engine.evidence →
+      AccountsForLies (tags_of d n m.engine) (m.pads.used ++ (line, counter_of (writes + 1)) ∷ []) (m.engine.made ++ Line line (counter_of (writes + 1)) cipher ∷ [])
+      history' (tampered m.stopped) m.engine.evidence
+  unfolding after_write
+  written_accounted history' wrote account =
+      next_accounted history' m.stopped (ap (λ (t : BusHistory). t.lies) wrote) (ap (λ (t : BusHistory). t.lie) wrote)
+      (λ place taken. untampered_by m.stopped place going taken) account
+
+  -- there was no memory to write it
+  pub next_unwritten : (bus' : B) (room pad_room : ℕ) (counters' : List ℕ) (history' : BusHistory) →
+      counters' ≡ slice_set m.counters line (writes + 1) → history' ≡ history →
+      IsLineMemory (tags_of d n m.engine) history' (record m {
+        bus = bus';
+        engine = record m.engine { made = m.engine.made ++ Line line (counter_of (writes + 1)) cipher ∷ []; room = room };
+        pads = record m.pads { used = m.pads.used ++ (line, counter_of (writes + 1)) ∷ []; room = pad_room };
+        counters = counters';
+        stopped = Some NoMemory;
+      })
+  next_unwritten bus' room pad_room counters' history' set same =
+      next_kept bus' room pad_room counters' history' (Some NoMemory) set (ap (λ (t : BusHistory). t.levels) same)
+      (subst (λ (t : BusHistory). HoldsSealed (tags_of d n m.engine) (line_count m.engine.levels) (m.engine.made ++ Line line (counter_of (writes + 1)) cipher ∷ []) (m.pads.used ++ (line, counter_of (writes + 1)) ∷ []) t.written) (sym same) sealed_before)
+      (subst (λ (t : BusHistory). NodesAreZeros m.engine.levels t.written) (sym same) kept.nodes)
+      (λ goes_on quiet. absurd (cc)) (λ page is. absurd (cc))
+
+  pub unwritten_accounted : (history' : BusHistory) → history' ≡ history →
+      AccountsForLies (tags_of d n m.engine) m.pads.used m.engine.made history (tampered m.stopped) m.engine.evidence →
+      AccountsForLies (tags_of d n m.engine) (m.pads.used ++ (line, counter_of (writes + 1)) ∷ []) (m.engine.made ++ Line line (counter_of (writes + 1)) cipher ∷ [])
+      history' (tampered (Some NoMemory)) m.engine.evidence
+  unwritten_accounted history' same account =
+      next_accounted history' (Some NoMemory) (ap (λ (t : BusHistory). t.lies) same) (ap (λ (t : BusHistory). t.lie) same)
+      (λ place is. absurd (cc)) account

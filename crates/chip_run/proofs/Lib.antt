@@ -2,6 +2,8 @@ pub mod Pairs
 pub mod LineMessages
 pub mod Keeping
 pub mod LineMoves
+pub mod CheckedReads
+pub mod NextWrites
 pub mod Closing
 pub mod Runs
 pub mod Turned

@@ -18,7 +18,7 @@ use Rattle.sec_base.proofs.LastMessages.{last_of_same, last_of_other, linked, Ha
 use Rattle.chip_run.proofs.Pairs.{pair_made, data_pairs-append}
 use Rattle.sec_base.proofs.SamePlaces.{false_from}
 use Rattle.sec_base.proofs.JoinedLines.{with_line-joined_lines}
-use Rattle.chip_run.specs.Contents.{bytes_of, line_bytes, contents_of, writes_by, line_writes}
+use Rattle.chip_run.specs.Contents.{bytes_of, contents_of, counter_of, line_bytes, line_writes, writes_by}
 use Rattle.chip_run.specs.LineLengths.{length-line_bytes}
 use Rattle.chip_run.specs.LineMemory.{IsNumbered, AreCounted, writes_of, times_tagged}
 
@@ -120,7 +120,7 @@ writes_same made used line paired =
 
 -- each comes before the next
 pub behind : (lines limit : ℕ) (made : List Message) (used : List (ℕ × Counter)) (counters : List ℕ) (line writes : ℕ) → AreCounted lines limit made counters → data_pairs made ≡ used →
-    writes ≡ times_tagged made line → (before : Counter) → Contains used (line, before) → IsBefore before (record { page = writes + 1; line = 0 })
+    writes ≡ times_tagged made line → (before : Counter) → Contains used (line, before) → IsBefore before (counter_of (writes + 1))
 behind lines limit made used counters line writes counted paired count before listed =
     let found = pair_made made line before (subst (λ (xs : List (ℕ × Counter)). Contains xs (line, before)) (sym paired) listed) in
     let numbered = counted.numbered line before found.cipher found.listed in
@@ -166,9 +166,9 @@ numbered_later made line other counter counter' cipher cipher' next was =
     ]
 
 numbered_now : (made : List Message) (line writes : ℕ) (cipher : List ℕ) → length cipher ≡ 64 →
-    IsNumbered (made ++ Line line (record { page = writes + 1; line = 0 }) cipher ∷ []) line (record { page = writes + 1; line = 0 }) cipher
+    IsNumbered (made ++ Line line (counter_of (writes + 1)) cipher ∷ []) line (counter_of (writes + 1)) cipher
 numbered_now made line writes cipher long =
-    let counter : Counter = record { page = writes + 1; line = 0 } in
+    let counter : Counter = counter_of (writes + 1) in
     let here : last_data line (made ++ Line line counter cipher ∷ []) ≡ Some (counter, cipher) = last_data-same made line counter cipher in
     let now : times_tagged (made ++ Line line counter cipher ∷ []) line ≡ writes + 1 = ap writes_of here in
     record {
@@ -193,9 +193,9 @@ same_message made line other counter counter' cipher cipher' same was =
 pub counted_more : (lines limit : ℕ) (made : List Message) (counters counters' : List ℕ) (line writes : ℕ) (cipher : List ℕ) →
     AreCounted lines limit made counters → line < lines → writes ≡ times_tagged made line → writes < limit → length cipher ≡ 64 →
     counters' ≡ slice_set counters line (writes + 1) →
-    AreCounted lines limit (made ++ Line line (record { page = writes + 1; line = 0 }) cipher ∷ []) counters'
+    AreCounted lines limit (made ++ Line line (counter_of (writes + 1)) cipher ∷ []) counters'
 counted_more lines limit made counters counters' line writes cipher was inside count below long stored =
-    let counter : Counter = record { page = writes + 1; line = 0 } in
+    let counter : Counter = counter_of (writes + 1) in
     let made' : List Message = made ++ Line line counter cipher ∷ [] in
     let now : times_tagged made' line ≡ writes + 1 = ap writes_of (last_data-same made line counter cipher) in
     let next : counter.page ≡ times_tagged made line + 1 = ap (λ (n : ℕ). n + 1) count in
@@ -249,10 +249,10 @@ not_used_up lines limit made counters line writes counted inside read below full
 
 -- a write raises the counter by one
 pub raised_writes : (lines limit : ℕ) (made made' : List Message) (counters : List ℕ) (line writes : ℕ) (cipher : List ℕ) → AreCounted lines limit made counters → line < lines →
-    writes ≡ slice_index counters line → made' ≡ made ++ Line line (record { page = writes + 1; line = 0 }) cipher ∷ [] → times_tagged made' line ≡ times_tagged made line + 1
+    writes ≡ slice_index counters line → made' ≡ made ++ Line line (counter_of (writes + 1)) cipher ∷ [] → times_tagged made' line ≡ times_tagged made line + 1
 raised_writes lines limit made made' counters line writes cipher counted inside read more =
     let count : writes ≡ times_tagged made line = read ∙ counted.counts line inside in
-    ap (λ (xs : List Message). times_tagged xs line) more ∙ ap writes_of (last_data-same made line (record { page = writes + 1; line = 0 }) cipher)
+    ap (λ (xs : List Message). times_tagged xs line) more ∙ ap writes_of (last_data-same made line (counter_of (writes + 1)) cipher)
     ∙ ap (λ (n : ℕ). n + 1) count
 
 paired_more : (made : List Message) (used : List (ℕ × Counter)) (line : ℕ) (counter : Counter) (cipher : List ℕ) → data_pairs made ≡ used →
@@ -262,10 +262,10 @@ paired_more made used line counter cipher paired =
     data_pairs-append made (Line line counter cipher ∷ []) ∙ ap (λ (xs : List (ℕ × Counter)). xs ++ (line, counter) ∷ []) paired
 
 pub raised_used : (lines limit : ℕ) (made made' : List Message) (used used' : List (ℕ × Counter)) (counters : List ℕ) (line writes : ℕ) (cipher : List ℕ) → AreCounted lines limit made counters → line < lines →
-    writes ≡ slice_index counters line → data_pairs made ≡ used → made' ≡ made ++ Line line (record { page = writes + 1; line = 0 }) cipher ∷ [] →
-    used' ≡ used ++ (line, record { page = writes + 1; line = 0 }) ∷ [] → line_writes used' line ≡ line_writes used line + 1
+    writes ≡ slice_index counters line → data_pairs made ≡ used → made' ≡ made ++ Line line (counter_of (writes + 1)) cipher ∷ [] →
+    used' ≡ used ++ (line, counter_of (writes + 1)) ∷ [] → line_writes used' line ≡ line_writes used line + 1
 raised_used lines limit made made' used used' counters line writes cipher counted inside read paired more more_used =
-    let counter : Counter = record { page = writes + 1; line = 0 } in
+    let counter : Counter = counter_of (writes + 1) in
     let paired' : data_pairs made' ≡ used' = ap data_pairs more ∙ paired_more made used line counter cipher paired ∙ sym more_used in
     let rose = raised_writes lines limit made made' counters line writes cipher counted inside read more in
     writes_same made' used' line paired' ∙ rose ∙ ap (λ (n : ℕ). n + 1) (sym (writes_same made used line paired))

@@ -1,6 +1,7 @@
 -- What a read and a write of a line make of a protected memory.
-use Rattle.std.proofs.Common.{◌≡◌, ℕ, zero, suc, ◌<◌, inl, inr, Bool, true, false, cond, List, [], ◌∷◌, ◌++◌, Option, Some, None, Contains, Err, slice_index, refl, ap, sym, ◌∙◌, subst, arith}
+use Rattle.std.proofs.Common.{◌≡◌, ℕ, zero, suc, ◌<◌, inl, inr, Bool, true, false, cond, List, [], ◌∷◌, ◌++◌, Option, Some, None, Contains, Result, Ok, Err, slice_index, refl, ap, sym, ◌∙◌, subst, arith}
 use Rattle.std.specs.Option.{option_or}
+use Rattle.std.specs.Result.{result_err}
 use Rattle.std.proofs.lemmas.List.{append-nil}
 use Rattle.sec_base.specs.Count.{more_by, Rose, RoseBy}
 use Rattle.sec_base.specs.Place.{place_eq, at_place}
@@ -22,8 +23,8 @@ use Rattle.tag_engine.specs.TagEngine.{TagEngineView, forgery_of, after_make, wi
 use Rattle.pad_stream.specs.PadEngine.{PadEngineView, after_encrypt, with_room as pads_with_room}
 use Rattle.chip_run.specs.Contents.{bytes_of, line_bytes, contents_of}
 use Rattle.chip_run.specs.LineLengths.{length-line_bytes}
-use Rattle.chip_run.specs.Moving.{moves_not}
-use Rattle.chip_run.specs.LineMemory.{LineMemoryView, Moves, WereRead, ReadMoved, IsMoved, Passed, IsCheckedRead, AreCounted, writes_of, lasting_stop}
+use Rattle.chip_run.specs.Moving.{moves_not, moves_on, read_sooner, was_none}
+use Rattle.chip_run.specs.LineMemory.{LineMemoryView, IsAccountedFor, Moves, WereRead, ReadMoved, IsMoved, Passed, IsCheckedRead, AreCounted, writes_of, lasting_stop}
 use Rattle.chip_run.proofs.LineMessages.{last_made}
 
 -- Counts of reads
@@ -48,12 +49,15 @@ first_stays : (before : Option Evidence) (shown : Option Evidence) (evidence : E
 first_stays None shown evidence is = absurd (cc)
 first_stays (Some first) shown evidence is = is
 
-module _ {B T : Type 0} (history : B → BusHistory) (old : LineMemoryView B T) (line : ℕ) where
+module _ {B T : Type 0} (history : B → BusHistory) (bus_moved : B → B → Type 0) (tags : TagEngineView T → Message → List ℕ)
+    (old : LineMemoryView B T) (line : ℕ) (bus : B) (went : bus_moved old.bus bus) where
   -- an answer of the line's place
-  pub answer_moves : (bus : B) (engine : TagEngineView T) (counters : List ℕ) (stopped : Option MemStop) (bytes : List ℕ) (shown : Option Evidence) →
+  answer_moves : (engine : TagEngineView T) (stopped : Option MemStop) (bytes : List ℕ) (shown : Option Evidence) →
       history bus ≡ after_read (line_place line) bytes (history old.bus) → engine ≡ record old.engine { evidence = option_or old.engine.evidence shown } →
-      Moves history old (record { bus = bus; engine = engine; pads = old.pads; counters = counters; limit = old.limit; stopped = stopped })
-  answer_moves bus engine counters stopped bytes shown answered checked = record {
+      (IsAccountedFor tags history old → IsAccountedFor tags history (record old { bus = bus; engine = engine; stopped = stopped })) →
+      Moves history bus_moved tags old (record old { bus = bus; engine = engine; stopped = stopped })
+  answer_moves engine stopped bytes shown answered checked accounted = record {
+    bus = went;
     tagger = ap (λ (e : TagEngineView T). e.tagger) checked;
     levels = ap (λ (e : TagEngineView T). e.levels) checked;
     key = refl;
@@ -65,12 +69,13 @@ module _ {B T : Type 0} (history : B → BusHistory) (old : LineMemoryView B T) 
     reads = λ place. subst (λ (t : BusHistory). RoseBy 0 ((history old.bus).reads place) (t.reads place)) (sym answered)
         (reads_kept (line_place line) place bytes (history old.bus));
     evidence = λ evidence is. ap (λ (e : TagEngineView T). e.evidence) checked ∙ first_stays old.engine.evidence shown evidence is;
+    accounted = accounted;
   }
 
-  was_read : (bus : B) (engine : TagEngineView T) (counters : List ℕ) (stopped : Option MemStop) (bytes : List ℕ) →
+  was_read : (engine : TagEngineView T) (stopped : Option MemStop) (bytes : List ℕ) →
       history bus ≡ after_read (line_place line) bytes (history old.bus) →
-      WereRead history old (line ∷ []) (record { bus = bus; engine = engine; pads = old.pads; counters = counters; limit = old.limit; stopped = stopped })
-  was_read bus engine counters stopped bytes answered = record {
+      WereRead history old (line ∷ []) (record old { bus = bus; engine = engine; stopped = stopped })
+  was_read engine stopped bytes answered = record {
     read = λ going quiet other listed.
         let here : other ≡ line = only_line line other listed in
         let rose : Rose ((history old.bus).reads (line_place line)) ((history bus).reads (line_place line)) =
@@ -78,75 +83,64 @@ module _ {B T : Type 0} (history : B → BusHistory) (old : LineMemoryView B T) 
         inr (subst (λ (l : ℕ). Rose ((history old.bus).reads (line_place l)) ((history bus).reads (line_place l))) (sym here) rose);
   }
 
-  -- a line that passed its check
-  pub passed_moved : (tag_of : Message → List ℕ) (counter : Counter) (bus : B) (engine : TagEngineView T) (cipher : List ℕ) →
-      Passed tag_of line counter (history old.bus) (history bus) old.engine engine cipher →
-      ReadMoved history old line (record { bus = bus; engine = engine; pads = old.pads; counters = old.counters; limit = old.limit; stopped = old.stopped })
-  passed_moved tag_of counter bus engine cipher passed = record {
-    moves = answer_moves bus engine old.counters old.stopped (cipher ++ passed.tag)
-        (forgery_of old.engine.made line counter (record { cipher = cipher; tag = passed.tag }) true) passed.answered passed.checked;
-    read = was_read bus engine old.counters old.stopped (cipher ++ passed.tag) passed.answered;
-  }
-
   -- nothing but a stop
-  pub stop_moves : (bus : B) (engine : TagEngineView T) (pads : PadEngineView) (stopped : Option MemStop) → history bus ≡ history old.bus →
-      engine.tagger ≡ old.engine.tagger → engine.levels ≡ old.engine.levels → engine.made ≡ old.engine.made → engine.evidence ≡ old.engine.evidence →
-      pads.key ≡ old.pads.key → pads.used ≡ old.pads.used →
-      Moves history old (record { bus = bus; engine = engine; pads = pads; counters = old.counters; limit = old.limit; stopped = stopped })
-  stop_moves bus engine pads stopped same tagger levels made evidence key used = record {
-    tagger = tagger;
-    levels = levels;
-    key = key;
+  pub stop_moves : (engine : TagEngineView T) (pads : PadEngineView) (counters : List ℕ) (stopped : Option MemStop) → history bus ≡ history old.bus →
+      engine ≡ record old.engine { room = engine.room } → pads ≡ old.pads →
+      (IsAccountedFor tags history old → IsAccountedFor tags history (record old { bus = bus; engine = engine; pads = pads; counters = counters; stopped = stopped })) →
+      Moves history bus_moved tags old (record old { bus = bus; engine = engine; pads = pads; counters = counters; stopped = stopped })
+  stop_moves engine pads counters stopped same unmade unused accounted = record {
+    bus = went;
+    tagger = ap (λ (e : TagEngineView T). e.tagger) unmade;
+    levels = ap (λ (e : TagEngineView T). e.levels) unmade;
+    key = ap (λ (p : PadEngineView). p.key) unused;
     limit = refl;
     more = [];
-    made = made ∙ sym (append-nil old.engine.made);
+    made = ap (λ (e : TagEngineView T). e.made) unmade ∙ sym (append-nil old.engine.made);
     more_used = [];
-    used = used ∙ sym (append-nil old.pads.used);
+    used = ap (λ (p : PadEngineView). p.used) unused ∙ sym (append-nil old.pads.used);
     reads = λ place. let is : (history bus).reads place ≡ (history old.bus).reads place = ap (λ (t : BusHistory). t.reads place) same in omega (arith, is);
-    evidence = λ shown is. evidence ∙ is;
+    evidence = λ shown is. ap (λ (e : TagEngineView T). e.evidence) unmade ∙ is;
+    accounted = accounted;
   }
-
-  unread : (bus : B) (engine : TagEngineView T) (stop : MemStop) →
-      WereRead history old (line ∷ []) (record { bus = bus; engine = engine; pads = old.pads; counters = old.counters; limit = old.limit; stopped = Some stop })
-  unread bus engine stop = record { read = λ going quiet other listed. absurd (cc) }
 
   nothing_shown : (engine : TagEngineView T) → engine ≡ old.engine → (evidence : Option Evidence) → old.engine.evidence ≡ evidence →
       engine ≡ record old.engine { evidence = option_or evidence None }
   nothing_shown engine unchanged None is = unchanged ∙ ap (λ (e : Option Evidence). record old.engine { evidence = e }) is
   nothing_shown engine unchanged (Some first) is = unchanged ∙ ap (λ (e : Option Evidence). record old.engine { evidence = e }) is
 
-  -- a line that stopped the memory
-  pub stopped_moved : (tag_of : Message → List ℕ) (counter : Counter) (bus : B) (engine : TagEngineView T) (stop : MemStop) →
-      IsCheckedRead tag_of line counter (history old.bus) (history bus) old.engine engine (Err stop) →
-      ReadMoved history old line (record { bus = bus; engine = engine; pads = old.pads; counters = old.counters; limit = old.limit; stopped = Some stop })
-  stopped_moved tag_of counter bus engine (Spent page) result = absurd result
-  stopped_moved tag_of counter bus engine NoMemory result = record {
-    moves = stop_moves bus engine old.pads (Some NoMemory) result.0 (ap (λ (e : TagEngineView T). e.tagger) result.1) (ap (λ (e : TagEngineView T). e.levels) result.1)
-        (ap (λ (e : TagEngineView T). e.made) result.1) (ap (λ (e : TagEngineView T). e.evidence) result.1) refl refl;
-    read = unread bus engine NoMemory;
-  }
-  stopped_moved tag_of counter bus engine (Tampered place) result = record {
-    moves = answer_moves bus engine old.counters (Some (Tampered place)) (result.1.sealed.cipher ++ result.1.sealed.tag) None result.1.answered
-        (nothing_shown engine result.1.unchanged old.engine.evidence refl);
-    read = unread bus engine (Tampered place);
-  }
+  same_room : (engine : TagEngineView T) → engine ≡ old.engine → engine ≡ record old.engine { room = engine.room }
+  same_room engine unchanged =
+      unchanged ∙ ap (λ (n : ℕ). record old.engine { room = n }) (ap (λ (e : TagEngineView T). e.room) (sym unchanged))
 
-  -- a line that was never written
-  pub fresh_moved : last_data line old.engine.made ≡ None → ReadMoved history old line old
-  fresh_moved fresh = record {
-    moves = moves_not history old;
-    read = record {
-      read = λ going quiet other listed.
-          inl (subst (λ (l : ℕ). last_data l old.engine.made ≡ None) (sym (only_line line other listed)) fresh);
-    };
+  -- a read of a line that was written
+  pub read_moved : (tag_of : Message → List ℕ) (key : List ℕ) (counter : Counter) (engine : TagEngineView T) (result : Result (List ℕ) MemStop) →
+      IsCheckedRead tag_of key line counter (history old.bus) (history bus) old.engine engine result →
+      (IsAccountedFor tags history old → IsAccountedFor tags history (record old { bus = bus; engine = engine; stopped = option_or (result_err result) old.stopped })) →
+      ReadMoved history bus_moved tags old line (record old { bus = bus; engine = engine; stopped = option_or (result_err result) old.stopped })
+  read_moved tag_of key counter engine (Ok bytes) passed accounted = record {
+    moves = answer_moves engine old.stopped (passed.sealed.cipher ++ passed.sealed.tag)
+        (forgery_of old.engine.made line counter passed.sealed true) passed.answered passed.checked accounted;
+    read = was_read engine old.stopped (passed.sealed.cipher ++ passed.sealed.tag) passed.answered;
+  }
+  read_moved tag_of key counter engine (Err (Spent page)) result accounted = absurd result
+  read_moved tag_of key counter engine (Err NoMemory) result accounted = record {
+    moves = stop_moves engine old.pads old.counters (Some NoMemory) result.0 (same_room engine result.1) refl accounted;
+    read = record { read = λ going quiet other listed. absurd (cc) };
+  }
+  read_moved tag_of key counter engine (Err (Tampered place)) result accounted = record {
+    moves = answer_moves engine (Some (Tampered place)) (result.1.sealed.cipher ++ result.1.sealed.tag) None result.1.answered
+        (nothing_shown engine result.1.unchanged old.engine.evidence refl) accounted;
+    read = record { read = λ going quiet other listed. absurd (cc) };
   }
 
   -- a line that was enciphered and tagged, and written or not
-  pub tagged_moves : (counter : Counter) (cipher : List ℕ) (bus : B) (engine : TagEngineView T) (pads : PadEngineView) (counters : List ℕ) (stopped : Option MemStop) →
+  pub made_moves : (counter : Counter) (cipher : List ℕ) (engine : TagEngineView T) (pads : PadEngineView) (counters : List ℕ) (stopped : Option MemStop) →
       engine ≡ after_make (Line line counter cipher) (with_room 1 old.engine) → pads ≡ after_encrypt line counter (pads_with_room 1 old.pads) →
       (history bus).reads ≡ (history old.bus).reads →
-      Moves history old (record { bus = bus; engine = engine; pads = pads; counters = counters; limit = old.limit; stopped = stopped })
-  tagged_moves counter cipher bus engine pads counters stopped tagged enciphered_is same = record {
+      (IsAccountedFor tags history old → IsAccountedFor tags history (record old { bus = bus; engine = engine; pads = pads; counters = counters; stopped = stopped })) →
+      Moves history bus_moved tags old (record old { bus = bus; engine = engine; pads = pads; counters = counters; stopped = stopped })
+  made_moves counter cipher engine pads counters stopped tagged enciphered_is same accounted = record {
+    bus = went;
     tagger = ap (λ (e : TagEngineView T). e.tagger) tagged;
     levels = ap (λ (e : TagEngineView T). e.levels) tagged;
     key = ap (λ (p : PadEngineView). p.key) enciphered_is;
@@ -157,17 +151,29 @@ module _ {B T : Type 0} (history : B → BusHistory) (old : LineMemoryView B T) 
     used = ap (λ (p : PadEngineView). p.used) enciphered_is;
     reads = λ place. let is : (history bus).reads place ≡ (history old.bus).reads place = ap (λ (f : Place → ℕ). f place) same in omega (arith, is);
     evidence = λ evidence is. ap (λ (e : TagEngineView T). e.evidence) tagged ∙ is;
+    accounted = accounted;
   }
+
+-- a line that was never written
+pub fresh_moved : {B T : Type 0} (history : B → BusHistory) (bus_moved : B → B → Type 0) (tags : TagEngineView T → Message → List ℕ) (bus_unmoved : (bus : B) → bus_moved bus bus)
+    (memory : LineMemoryView B T) (line : ℕ) → last_data line memory.engine.made ≡ None → ReadMoved history bus_moved tags memory line memory
+fresh_moved history bus_moved tags bus_unmoved memory line fresh = record {
+  moves = moves_not history bus_moved tags bus_unmoved memory;
+  read = record {
+    read = λ going quiet other listed.
+        inl (subst (λ (l : ℕ). last_data l memory.engine.made ≡ None) (sym (only_line line other listed)) fresh);
+  };
+}
 
 -- a stop that lasts, answered again
 stopped_already : (stopped : Option MemStop) (stop : MemStop) → lasting_stop stopped ≡ Some stop → stopped ≡ None → ⊥
 stopped_already None stop lasting going = cc
 stopped_already (Some other) stop lasting going = cc
 
-pub lasting_read : {B T : Type 0} (history : B → BusHistory) (memory : LineMemoryView B T) (line : ℕ) (stop : MemStop) → lasting_stop memory.stopped ≡ Some stop →
-    ReadMoved history memory line memory
-lasting_read history memory line stop lasting = record {
-  moves = moves_not history memory;
+pub lasting_read : {B T : Type 0} (history : B → BusHistory) (bus_moved : B → B → Type 0) (tags : TagEngineView T → Message → List ℕ) (bus_unmoved : (bus : B) → bus_moved bus bus)
+    (memory : LineMemoryView B T) (line : ℕ) (stop : MemStop) → lasting_stop memory.stopped ≡ Some stop → ReadMoved history bus_moved tags memory line memory
+lasting_read history bus_moved tags bus_unmoved memory line stop lasting = record {
+  moves = moves_not history bus_moved tags bus_unmoved memory;
   read = record { read = λ going quiet other listed. absurd (stopped_already memory.stopped stop lasting going) };
 }
 
@@ -192,17 +198,33 @@ line_there key lines made line last inside is =
     line_at-joined_lines (line_bytes key made) lines line (length-line_bytes key made) inside ∙ ap (bytes_of key line) is
 
 -- the geometry stays
-pub stopped_levels : {T : Type 0} (tag_of : Message → List ℕ) (line : ℕ) (counter : Counter) (history history' : BusHistory) (engine engine' : TagEngineView T) (stop : MemStop) →
-    IsCheckedRead tag_of line counter history history' engine engine' (Err stop) → engine'.levels ≡ engine.levels
-stopped_levels {T} tag_of line counter history history' engine engine' (Spent page) result = absurd result
-stopped_levels {T} tag_of line counter history history' engine engine' NoMemory result = ap (λ (e : TagEngineView T). e.levels) result.1
-stopped_levels {T} tag_of line counter history history' engine engine' (Tampered place) result = ap (λ (e : TagEngineView T). e.levels) result.1.unchanged
+pub read_levels_stay : {T : Type 0} (tag_of : Message → List ℕ) (key : List ℕ) (line : ℕ) (counter : Counter) (history history' : BusHistory) (engine engine' : TagEngineView T) (result : Result (List ℕ) MemStop) →
+    IsCheckedRead tag_of key line counter history history' engine engine' result → engine'.levels ≡ engine.levels
+read_levels_stay {T} tag_of key line counter history history' engine engine' (Ok bytes) passed = ap (λ (e : TagEngineView T). e.levels) passed.checked
+read_levels_stay {T} tag_of key line counter history history' engine engine' (Err (Spent page)) result = absurd result
+read_levels_stay {T} tag_of key line counter history history' engine engine' (Err NoMemory) result = ap (λ (e : TagEngineView T). e.levels) result.1
+read_levels_stay {T} tag_of key line counter history history' engine engine' (Err (Tampered place)) result = ap (λ (e : TagEngineView T). e.levels) result.1.unchanged
 
 -- a memory that answers its stop again
-pub stopped_unmoved : {B T : Type 0} (history : B → BusHistory) (memory : LineMemoryView B T) (lines : List ℕ) (stop : MemStop) → memory.stopped ≡ Some stop →
-    IsMoved history memory lines memory
-stopped_unmoved history memory lines stop stopped = record {
-  moves = moves_not history memory;
+pub stopped_unmoved : {B T : Type 0} (history : B → BusHistory) (bus_moved : B → B → Type 0) (tags : TagEngineView T → Message → List ℕ) (bus_unmoved : (bus : B) → bus_moved bus bus)
+    (memory : LineMemoryView B T) (lines : List ℕ) (stop : MemStop) → memory.stopped ≡ Some stop → IsMoved history bus_moved tags memory lines memory
+stopped_unmoved history bus_moved tags bus_unmoved memory lines stop stopped = record {
+  moves = moves_not history bus_moved tags bus_unmoved memory;
   stays = λ other is. is;
   read = record { read = λ going quiet other listed. absurd (cc) };
+}
+
+-- a line that was read and then written
+pub stored_moved : {B T : Type 0} (history : B → BusHistory) (bus_moved : B → B → Type 0) (tags : TagEngineView T → Message → List ℕ)
+    (bus_moved_on : (first second third : B) → bus_moved first second → bus_moved second third → bus_moved first third)
+    (first second third : LineMemoryView B T) (line : ℕ) → first.stopped ≡ None → second.stopped ≡ None →
+    ReadMoved history bus_moved tags first line second → Moves history bus_moved tags second third → IsMoved history bus_moved tags first (line ∷ []) third
+stored_moved history bus_moved tags bus_moved_on first second third line going read_on read wrote = record {
+  moves = moves_on history bus_moved tags bus_moved_on first second third read.moves wrote;
+  stays = λ stop is. absurd (cc);
+  read = record {
+    read = λ _ quiet other listed.
+        read_sooner history bus_moved tags first second third other wrote
+        (read.read.read read_on (was_none second.engine.evidence third.engine.evidence wrote.evidence quiet) other listed);
+  };
 }

@@ -12,7 +12,7 @@ use Rattle.std.proofs.lemmas.Bool.Decides.{Decides-eqb}
 use Rattle.std.proofs.lemmas.List.{length-append}
 use Rattle.std.proofs.lemmas.List.Elements.{filter-append}
 use Rattle.pad_stream.specs.Pads.{of_lines}
-use Rattle.chip_run.specs.Contents.{AreNumbered, AreConsecutive, entries_of, line_writes, writes_by}
+use Rattle.chip_run.specs.Contents.{AreConsecutive, AreNumbered, counter_of, entries_of, line_writes, writes_by}
 use Rattle.chip_run.specs.LineMemory.{AreCounted}
 
 Contains-skip : {A : Type 0} (first : A) (rest : List A) (item : A) → Contains rest item → Contains (first ∷ rest) item
@@ -100,9 +100,9 @@ entries_of-other used line other counter differs =
 
 -- a line's counter is how often it was enciphered, also when that was once more
 pub consecutive_more : (used : List (ℕ × Counter)) (line writes : ℕ) → AreConsecutive used → writes ≡ line_writes used line →
-    AreConsecutive (used ++ (line, record { page = writes + 1; line = 0 }) ∷ [])
+    AreConsecutive (used ++ (line, counter_of (writes + 1)) ∷ [])
 consecutive_more used line writes was count =
-    let counter : Counter = record { page = writes + 1; line = 0 } in
+    let counter : Counter = counter_of (writes + 1) in
     record {
       counted = λ other.
           elim (cases_eq other line) [

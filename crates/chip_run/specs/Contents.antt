@@ -1,5 +1,5 @@
 -- What a memory of lines holds, by the messages that were tagged and the key that lines are enciphered with.
-use Rattle.std.specs.Prelude.{◌==◌, ◌≡◌, ◌⊎◌, ℕ, ◌/◌, ◌<◌, ◌≤◌, List, length, replicate, Option, Some, None, Contains}
+use Rattle.std.specs.Prelude.{◌==◌, ◌≡◌, ◌⊎◌, ℕ, ◌<◌, ◌≤◌, List, length, replicate, Option, Some, None, Contains}
 use Rattle.std.specs.List.{filter}
 use Rattle.sec_base.specs.declared.place.Place.{Place}
 use Rattle.sec_base.specs.declared.place.Place.TheVariants.{Line as line_place, Node}
@@ -7,6 +7,7 @@ use Rattle.sec_base.specs.declared.counter.Counter.{Counter}
 use Rattle.sec_base.specs.declared.message.Message.{Message}
 use Rattle.sec_base.specs.declared.message.Message.TheVariants.{Line}
 use Rattle.sec_base.specs.LastMessage.{last_data, last_pair}
+use Rattle.sec_base.specs.Geometry.{page_of}
 use Rattle.sec_base.specs.Place.{IsPlace, zeros_of}
 use Rattle.sec_base.specs.Lines.{line_at, joined_lines}
 use Rattle.sec_base.specs.Evidence.{sealed_bytes}
@@ -23,6 +24,10 @@ line_bytes key made line = bytes_of key line (last_data line made)
 -- all lines, in order
 abbrev pub contents_of : List ℕ → ℕ → List Message → List ℕ
 contents_of key lines made = joined_lines (line_bytes key made) lines
+
+-- the counter of a line that was written so often
+abbrev pub counter_of : ℕ → Counter
+counter_of writes = record { page = writes; line = 0 }
 
 -- how often a line was written, by what it was enciphered under last: its counter is this number, and 0
 abbrev pub writes_by : Option Counter → ℕ
@@ -49,7 +54,7 @@ pub record AreConsecutive (used : List (ℕ × Counter)) : Type 0 where
 pub record IsSpent (lines limit : ℕ) (used : List (ℕ × Counter)) (page : ℕ) : Type 0 where
   pub line : ℕ
   pub inside : line < lines
-  pub of_page : line / 64 ≡ page
+  pub of_page : page_of line ≡ page
   pub used_up : line_writes used line ≡ limit
 
 -- what the place of a line holds that was enciphered and tagged so

@@ -1,5 +1,5 @@
 -- The protected memory: lines outside the chip, enciphered, each with a counter on the chip and a tag beside it.
-use Rattle.std.specs.Prelude.{◌≡◌, ◌≢◌, ◌⊎◌, ℕ, ◌<◌, ◌≤◌, List, [], ◌∷◌, ◌++◌, length, Option, Some, None, Contains, Result, Ok, Err, IfSome, slice_index, replicate, true}
+use Rattle.std.specs.Prelude.{◌≡◌, ◌≢◌, ◌⊎◌, ℕ, ◌+◌, ◌<◌, ◌≤◌, List, [], ◌∷◌, ◌++◌, length, Option, Some, None, Contains, Result, Ok, Err, IfSome, slice_index, replicate, true}
 use Rattle.sec_base.specs.declared.place.Place.{Place}
 use Rattle.sec_base.specs.declared.place.Place.TheVariants.{Line as line_place}
 use Rattle.sec_base.specs.declared.counter.Counter.{Counter}
@@ -12,13 +12,14 @@ use Rattle.sec_base.specs.declared.stop.MemStop.TheVariants.{Tampered, Spent, No
 use Rattle.sec_base.specs.Count.{Rose, RoseBy}
 use Rattle.sec_base.specs.Evidence.{sealed_bytes, IsEvidence}
 use Rattle.sec_base.specs.LastMessage.{last_data, data_pairs}
-use Rattle.sec_base.specs.Geometry.{line_count}
-use Rattle.bus_model.specs.BusHistory.{BusHistory, after_read}
-use Rattle.tag_engine.specs.TagEngine.{TagEngineView, new_engine, after_check_data}
+use Rattle.sec_base.specs.Geometry.{line_count, page_of}
+use Rattle.bus_model.specs.BusHistory.{BusHistory, after_read, after_write}
+use Rattle.bus_model.specs.FirstLie.{AccountsForLies}
+use Rattle.tag_engine.specs.TagEngine.{TagEngineView, new_engine, after_check_data, after_make, tags_of, with_room}
+use Rattle.pad_stream.specs.Pad.{enciphered}
 use Rattle.pad_stream.specs.Pads.{AreRising}
-use Rattle.pad_stream.specs.PadEngine.{PadEngineView, new_pads}
-use Rattle.chip_run.specs.Contents.{AreConsecutive, IsSpent, HoldsLast, HoldsSealed, NodesAreZeros}
-use Rattle.bus_model.specs.FirstLie.{HonestOrCaught, IsOfFirstLie}
+use Rattle.pad_stream.specs.PadEngine.{PadEngineView, new_pads, after_encrypt, with_room as pads_with_room}
+use Rattle.chip_run.specs.Contents.{AreConsecutive, IsSpent, HoldsLast, HoldsSealed, NodesAreZeros, contents_of, counter_of, sealed_line}
 
 -- the bus, the tag engine, the pads, how often each line was written, how often one may be, and the stop that was
 -- answered, if one was
@@ -40,6 +41,22 @@ new_line_memory bus tagger key levels limit = record {
   limit = limit;
   stopped = None;
 }
+
+-- how many lines it has
+abbrev pub lines_of : {B T : Type 0} → LineMemoryView B T → ℕ
+lines_of memory = line_count memory.engine.levels
+
+-- all its bytes, in order
+abbrev pub contents : {B T : Type 0} → LineMemoryView B T → List ℕ
+contents memory = contents_of memory.pads.key (lines_of memory) memory.engine.made
+
+-- nothing passed a check though it was never tagged
+abbrev pub IsQuiet : {B T : Type 0} → LineMemoryView B T → Type 0
+IsQuiet memory = memory.engine.evidence ≡ None
+
+-- the tags of its messages, by those of its tagger
+abbrev pub tag_in : {B T : Type 0} → (T → List ℕ → List ℕ) → (T → List ℕ → List ℕ) → LineMemoryView B T → Message → List ℕ
+tag_in data_tag_of node_tag_of memory = tags_of data_tag_of node_tag_of memory.engine
 
 -- a stop after which nothing is done: where a page's lines are used up, others still serve
 abbrev pub lasting_stop : Option MemStop → Option MemStop
@@ -79,20 +96,25 @@ pub record IsLineMemory {B T : Type 0} (tag_of : Message → List ℕ) (history 
   pub paired : data_pairs memory.engine.made ≡ memory.pads.used
   pub rising : AreRising memory.pads.used
   pub consecutive : AreConsecutive memory.pads.used
-  pub sealed : HoldsSealed tag_of (line_count memory.engine.levels) memory.engine.made memory.pads.used history.written
+  pub sealed : HoldsSealed tag_of (lines_of memory) memory.engine.made memory.pads.used history.written
   pub nodes : NodesAreZeros memory.engine.levels history.written
-  pub counted : AreCounted (line_count memory.engine.levels) memory.limit memory.engine.made memory.counters
-  pub stored : memory.engine.evidence ≡ None → lasting_stop memory.stopped ≡ None →
-      HoldsLast tag_of (line_count memory.engine.levels) memory.engine.made history.written
-  pub answers : memory.engine.evidence ≡ None →
-      HonestOrCaught tag_of memory.pads.used memory.engine.made history (λ place. memory.stopped ≡ Some (Tampered place))
+  pub counted : AreCounted (lines_of memory) memory.limit memory.engine.made memory.counters
+  pub stored : IsQuiet memory → lasting_stop memory.stopped ≡ None →
+      HoldsLast tag_of (lines_of memory) memory.engine.made history.written
   pub genuine : IfSome memory.engine.evidence (IsEvidence tag_of memory.engine.made)
-  pub shown : (evidence : Evidence) → memory.engine.evidence ≡ Some evidence → IsOfFirstLie memory.engine.made history evidence
   pub spent : (page : ℕ) → memory.stopped ≡ Some (Spent page) →
-      IsSpent (line_count memory.engine.levels) memory.limit memory.pads.used page
+      IsSpent (lines_of memory) memory.limit memory.pads.used page
 
--- what calls leave as it was, or add to
-pub record Moves {B T : Type 0} (history : B → BusHistory) (old new : LineMemoryView B T) : Type 0 where
+-- the false answers of its bus are accounted for
+abbrev pub IsAccountedFor : {B T : Type 0} → (TagEngineView T → Message → List ℕ) → (B → BusHistory) → LineMemoryView B T → Type 0
+IsAccountedFor tags history memory =
+    AccountsForLies (tags memory.engine) memory.pads.used memory.engine.made (history memory.bus)
+    (λ place. memory.stopped ≡ Some (Tampered place)) memory.engine.evidence
+
+-- what calls leave as it was, add to, or carry on
+pub record Moves {B T : Type 0} (history : B → BusHistory) (bus_moved : B → B → Type 0) (tags : TagEngineView T → Message → List ℕ)
+    (old new : LineMemoryView B T) : Type 0 where
+  pub bus : bus_moved old.bus new.bus
   pub tagger : new.engine.tagger ≡ old.engine.tagger
   pub levels : new.engine.levels ≡ old.engine.levels
   pub key : new.pads.key ≡ old.pads.key
@@ -103,20 +125,23 @@ pub record Moves {B T : Type 0} (history : B → BusHistory) (old new : LineMemo
   pub used : new.pads.used ≡ old.pads.used ++ more_used
   pub reads : (place : Place) → RoseBy 0 ((history old.bus).reads place) ((history new.bus).reads place)
   pub evidence : (evidence : Evidence) → old.engine.evidence ≡ Some evidence → new.engine.evidence ≡ Some evidence
+  pub accounted : IsAccountedFor tags history old → IsAccountedFor tags history new
 
 -- Each of the lines was read from the bus or had never been tagged, where there is neither a stop nor evidence.
 pub record WereRead {B T : Type 0} (history : B → BusHistory) (old : LineMemoryView B T) (lines : List ℕ) (new : LineMemoryView B T) : Type 0 where
-  pub read : new.stopped ≡ None → new.engine.evidence ≡ None → (line : ℕ) → Contains lines line →
+  pub read : new.stopped ≡ None → IsQuiet new → (line : ℕ) → Contains lines line →
       (last_data line old.engine.made ≡ None) ⊎ Rose ((history old.bus).reads (line_place line)) ((history new.bus).reads (line_place line))
 
 -- a read of a line, whatever it answered
-pub record ReadMoved {B T : Type 0} (history : B → BusHistory) (old : LineMemoryView B T) (line : ℕ) (new : LineMemoryView B T) : Type 0 where
-  pub moves : Moves history old new
+pub record ReadMoved {B T : Type 0} (history : B → BusHistory) (bus_moved : B → B → Type 0) (tags : TagEngineView T → Message → List ℕ)
+    (old : LineMemoryView B T) (line : ℕ) (new : LineMemoryView B T) : Type 0 where
+  pub moves : Moves history bus_moved tags old new
   pub read : WereRead history old (line ∷ []) new
 
 -- what calls with these lines make of a memory that answers its first stop to each later call
-pub record IsMoved {B T : Type 0} (history : B → BusHistory) (old : LineMemoryView B T) (lines : List ℕ) (new : LineMemoryView B T) : Type 0 where
-  pub moves : Moves history old new
+pub record IsMoved {B T : Type 0} (history : B → BusHistory) (bus_moved : B → B → Type 0) (tags : TagEngineView T → Message → List ℕ)
+    (old : LineMemoryView B T) (lines : List ℕ) (new : LineMemoryView B T) : Type 0 where
+  pub moves : Moves history bus_moved tags old new
   pub stays : (stop : MemStop) → old.stopped ≡ Some stop → new.stopped ≡ Some stop
   pub read : WereRead history old lines new
 
@@ -124,14 +149,15 @@ pub record IsMoved {B T : Type 0} (history : B → BusHistory) (old : LineMemory
 abbrev pub after_line : ℕ → Sealed → BusHistory → BusHistory
 after_line line sealed history = after_read (line_place line) (sealed_bytes sealed) history
 
--- a line that was read has the tag of its message
-pub record Passed {T : Type 0} (tag_of : Message → List ℕ) (line : ℕ) (counter : Counter) (history history' : BusHistory) (engine engine' : TagEngineView T) (cipher : List ℕ) : Type 0 where
-  pub tag : List ℕ
-  pub tagged : tag ≡ tag_of (Line line counter cipher)
-  pub answered : history' ≡ after_line line (record { cipher = cipher; tag = tag }) history
-  pub checked : engine' ≡ after_check_data line counter (record { cipher = cipher; tag = tag }) true engine
+-- a line that was read has the tag of its message, and its bytes were deciphered
+pub record Passed {T : Type 0} (tag_of : Message → List ℕ) (key : List ℕ) (line : ℕ) (counter : Counter) (history history' : BusHistory) (engine engine' : TagEngineView T) (bytes : List ℕ) : Type 0 where
+  pub sealed : Sealed
+  pub tagged : sealed.tag ≡ tag_of (Line line counter sealed.cipher)
+  pub answered : history' ≡ after_line line sealed history
+  pub checked : engine' ≡ after_check_data line counter sealed true engine
   pub genuine : IfSome engine'.evidence (IsEvidence tag_of engine.made)
-  pub long : length cipher ≡ 64
+  pub long : length sealed.cipher ≡ 64
+  pub deciphered : bytes ≡ enciphered key line counter sealed.cipher
 
 -- it has another
 pub record Failed {T : Type 0} (tag_of : Message → List ℕ) (line : ℕ) (counter : Counter) (history history' : BusHistory) (engine engine' : TagEngineView T) : Type 0 where
@@ -142,9 +168,43 @@ pub record Failed {T : Type 0} (tag_of : Message → List ℕ) (line : ℕ) (cou
   pub unchanged : engine' ≡ engine
 
 -- a line was read from its place and checked, or there was no memory to read it
-abbrev pub IsCheckedRead : {T : Type 0} → (Message → List ℕ) → ℕ → Counter → BusHistory → BusHistory → TagEngineView T → TagEngineView T → Result (List ℕ) MemStop → Type 0
-IsCheckedRead tag_of line counter history history' engine engine' (Ok cipher) = Passed tag_of line counter history history' engine engine' cipher
-IsCheckedRead tag_of line counter history history' engine engine' (Err (Tampered place)) =
+abbrev pub IsCheckedRead : {T : Type 0} → (Message → List ℕ) → List ℕ → ℕ → Counter → BusHistory → BusHistory → TagEngineView T → TagEngineView T → Result (List ℕ) MemStop → Type 0
+IsCheckedRead tag_of key line counter history history' engine engine' (Ok bytes) = Passed tag_of key line counter history history' engine engine' bytes
+IsCheckedRead tag_of key line counter history history' engine engine' (Err (Tampered place)) =
     (place ≡ line_place line) × Failed tag_of line counter history history' engine engine'
-IsCheckedRead tag_of line counter history history' engine engine' (Err NoMemory) = (history' ≡ history) × (engine' ≡ engine)
-IsCheckedRead tag_of line counter history history' engine engine' (Err (Spent page)) = ⊥
+IsCheckedRead tag_of key line counter history history' engine engine' (Err (Spent page)) = ⊥
+IsCheckedRead tag_of key line counter history history' engine engine' (Err NoMemory) = (history' ≡ history) × (engine' ≡ engine)
+
+-- what a write of a line works on: the bus, the tag engine, the pads, and how often the line was written
+pub record WriteParts (B T : Type 0) : Type 0 where
+  pub bus : B
+  pub engine : TagEngineView T
+  pub pads : PadEngineView
+  pub writes : ℕ
+
+-- a line's bytes, enciphered under its next counter
+abbrev pub next_cipher : {B T : Type 0} → ℕ → List ℕ → WriteParts B T → List ℕ
+next_cipher line bytes parts = enciphered parts.pads.key line (counter_of (parts.writes + 1)) bytes
+
+-- the line's next message was made
+pub record IsMadeNext {B T : Type 0} (line : ℕ) (bytes : List ℕ) (old new : WriteParts B T) : Type 0 where
+  pub engine : new.engine ≡ after_make (Line line (counter_of (old.writes + 1)) (next_cipher line bytes old)) (with_room 1 old.engine)
+  pub pads : new.pads ≡ after_encrypt line (counter_of (old.writes + 1)) (pads_with_room 1 old.pads)
+  pub writes : new.writes ≡ old.writes + 1
+  pub undone : enciphered old.pads.key line (counter_of (old.writes + 1)) (next_cipher line bytes old) ≡ bytes
+
+-- nothing was made, but there may be more room
+pub record IsUnmade {B T : Type 0} (history : B → BusHistory) (old new : WriteParts B T) : Type 0 where
+  pub history_stays : history new.bus ≡ history old.bus
+  pub engine : new.engine ≡ record old.engine { room = new.engine.room }
+  pub pads : new.pads ≡ old.pads
+  pub writes : new.writes ≡ old.writes
+
+-- a line was written under its next counter; or the limit allows none, or there was no memory
+abbrev pub IsNextWrite : {B T : Type 0} → (B → BusHistory) → (Message → List ℕ) → ℕ → ℕ → List ℕ → WriteParts B T → WriteParts B T → Result (Unit {0}) MemStop → Type 0
+IsNextWrite history tag_of limit line bytes old new (Ok _) = (old.writes < limit) × IsMadeNext line bytes old new
+    × (history new.bus ≡ after_write (line_place line) (sealed_line tag_of line (counter_of (old.writes + 1)) (next_cipher line bytes old)) (history old.bus))
+IsNextWrite history tag_of limit line bytes old new (Err (Tampered place)) = ⊥
+IsNextWrite history tag_of limit line bytes old new (Err (Spent page)) = (limit ≤ old.writes) × (page ≡ page_of line) × (new ≡ old)
+IsNextWrite history tag_of limit line bytes old new (Err NoMemory) =
+    (old.writes < limit) × (IsUnmade history old new ⊎ (IsMadeNext line bytes old new × (history new.bus ≡ history old.bus)))

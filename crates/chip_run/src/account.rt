@@ -1,3 +1,4 @@
+// What a protected memory hands out at its end.
 use sec_base::{Evidence, Messages, Pads};
 
 // What a protected memory can show where it is given up.

@@ -2,13 +2,13 @@
 ghost use Rattle.std.specs.Prelude.{◌≡◌, ◌≤◌, [], ℕ, None, Some, IfSome};
 ghost use Rattle.sec_base.specs.Evidence.{IsEvidence};
 ghost use Rattle.sec_base.specs.LastMessage.{data_pairs};
-ghost use Rattle.sec_base.specs.Geometry.{line_count};
-ghost use Rattle.pad_stream.specs.Pads.{AreRising, of_lines};
 ghost use Rattle.sec_base.specs.declared.ending.Ending.TheVariants.{Tampered, Spent, NoMemory as memory_ended};
+ghost use Rattle.bus_model.specs.FirstLie.{AccountsForLies};
 ghost use Rattle.tag_engine.specs.TagEngine.{tags_of};
-ghost use Rattle.bus_model.specs.FirstLie.{HonestOrCaught, IsOfFirstLie};
-ghost use Rattle.chip_run.specs.Contents.{AreConsecutive, AreNumbered, HoldsLast, HoldsSealed, IsSpent, NodesAreZeros, line_writes};
+ghost use Rattle.pad_stream.specs.Pads.{AreRising, of_lines};
 ghost use Rattle.rv32_run.specs.Session.{CarriesEnding, IsMemoryEnding};
+ghost use Rattle.chip_run.specs.Contents.{AreConsecutive, AreNumbered, HoldsLast, HoldsSealed, IsSpent, NodesAreZeros, line_writes};
+ghost use Rattle.chip_run.specs.LineMemory.{IsAccountedFor, IsQuiet, lines_of, tag_in};
 
 use crate::account::Account;
 use crate::line_ram::LineRam;
@@ -33,23 +33,23 @@ pub(crate) fn close<B: Bus, T: Tagger>(
     ensures used { result.0.used ≡ memory.lines.pads.used }
     ensures report { result.0.report ≡ None }
 
-    ensures answers { memory.lines.engine.evidence ≡ None →
-        HonestOrCaught (tags_of T.data_tag_of T.node_tag_of memory.lines.engine)
-        memory.lines.pads.used memory.lines.engine.made (B.history memory.lines.bus) (λ place. ending ≡ Tampered place) }
+    // The false answers are accounted for where they were so before.
+    ensures accounted { IsAccountedFor (tags_of T.data_tag_of T.node_tag_of) B.history memory.lines →
+        AccountsForLies (tag_in T.data_tag_of T.node_tag_of memory.lines) memory.lines.pads.used memory.lines.engine.made
+        (B.history memory.lines.bus) (λ place. ending ≡ Tampered place) memory.lines.engine.evidence }
     ensures genuine { IfSome memory.lines.engine.evidence
-        (IsEvidence (tags_of T.data_tag_of T.node_tag_of memory.lines.engine) memory.lines.engine.made) }
-    ensures first_lie { IfSome memory.lines.engine.evidence (IsOfFirstLie memory.lines.engine.made (B.history memory.lines.bus)) }
-    ensures holds_last { memory.lines.engine.evidence ≡ None → ¬ IsMemoryEnding ending →
-        HoldsLast (tags_of T.data_tag_of T.node_tag_of memory.lines.engine)
-        (line_count memory.lines.engine.levels) memory.lines.engine.made (B.history memory.lines.bus).written }
+        (IsEvidence (tag_in T.data_tag_of T.node_tag_of memory.lines) memory.lines.engine.made) }
+    ensures holds_last { IsQuiet memory.lines → ¬ IsMemoryEnding ending →
+        HoldsLast (tag_in T.data_tag_of T.node_tag_of memory.lines)
+        (lines_of memory.lines) memory.lines.engine.made (B.history memory.lines.bus).written }
     ensures spent { (page : ℕ) → ending ≡ Spent page →
-        IsSpent (line_count memory.lines.engine.levels) memory.lines.limit memory.lines.pads.used page }
-    ensures paired { data_pairs memory.lines.engine.made ≡ of_lines (line_count memory.lines.engine.levels) memory.lines.pads.used }
-    ensures numbered { AreNumbered (line_count memory.lines.engine.levels) memory.lines.pads.used }
+        IsSpent (lines_of memory.lines) memory.lines.limit memory.lines.pads.used page }
+    ensures paired { data_pairs memory.lines.engine.made ≡ of_lines (lines_of memory.lines) memory.lines.pads.used }
+    ensures numbered { AreNumbered (lines_of memory.lines) memory.lines.pads.used }
     ensures rising { AreRising memory.lines.pads.used }
     ensures counted { AreConsecutive memory.lines.pads.used }
-    ensures sealed { HoldsSealed (tags_of T.data_tag_of T.node_tag_of memory.lines.engine)
-        (line_count memory.lines.engine.levels) memory.lines.engine.made memory.lines.pads.used (B.history memory.lines.bus).written }
+    ensures sealed { HoldsSealed (tag_in T.data_tag_of T.node_tag_of memory.lines)
+        (lines_of memory.lines) memory.lines.engine.made memory.lines.pads.used (B.history memory.lines.bus).written }
     ensures nodes { NodesAreZeros memory.lines.engine.levels (B.history memory.lines.bus).written }
     ensures limited { (line : ℕ) → line_writes memory.lines.pads.used line ≤ memory.lines.limit }
     ensures levels { (B.history memory.lines.bus).levels ≡ memory.lines.engine.levels }
@@ -71,7 +71,7 @@ pub(crate) fn close<B: Bus, T: Tagger>(
     (record, bus)
 }
 
-// The record of a run for whose memory there was none.
+// The record of a run that found no memory to begin with.
 pub(crate) fn no_run(alloc: Global) -> RunRecord
     ensures retired { result.retired ≡ 0 }
     ensures ending { result.ending ≡ memory_ended }

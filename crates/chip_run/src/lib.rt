@@ -1,25 +1,27 @@
 //! A run of a program on the chip, over any bus to the memory outside it and any sink.
 #![tactic(auto)]
 
-ghost use Rattle.std.specs.Prelude.{◌≡◌, ◌≢◌, ◌<◌, ◌≤◌, ◌↔◌, ◌⊎◌, ℕ, List, [], None, IfSome};
+ghost use Rattle.std.specs.Prelude.{◌≡◌, ◌≢◌, ◌<◌, ◌≤◌, ◌↔◌, ◌⊎◌, ℕ, List, [], None, IfSome, length};
 ghost use Rattle.sec_base.specs.Count.{Rose, RoseBy};
-ghost use Rattle.sec_base.specs.Gain.{Gain};
-ghost use Rattle.sec_base.specs.declared.place.Place.TheVariants.{Line};
-ghost use Rattle.rv32_core.specs.Turnover.{turnover};
-ghost use Rattle.sec_base.specs.LastMessage.{data_pairs};
-ghost use Rattle.sec_base.specs.Geometry.{line_count, memory_size};
-ghost use Rattle.pad_stream.specs.Pads.{AreRising, NoRepeat, of_lines};
 ghost use Rattle.sec_base.specs.Evidence.{IsEvidence};
+ghost use Rattle.sec_base.specs.Gain.{Gain};
+ghost use Rattle.sec_base.specs.Geometry.{line_count, memory_size};
+ghost use Rattle.sec_base.specs.LastMessage.{data_pairs};
 ghost use Rattle.sec_base.specs.Sink.{Gains};
-ghost use Rattle.sec_base.specs.declared.place.Place.{Place};
 ghost use Rattle.sec_base.specs.declared.ending.Ending.TheVariants.{OutOfSteps, Tampered, Spent, WriteFault, NoMemory};
+ghost use Rattle.sec_base.specs.declared.place.Place.TheVariants.{Line};
+ghost use Rattle.sec_base.specs.declared.place.Place.{Place};
 ghost use Rattle.bus_model.specs.BusHistory.{NothingWritten};
-ghost use Rattle.tag_engine.specs.Tag.{engine_tag};
-ghost use Rattle.rv32_core.specs.Machine.{opening, plain};
-ghost use Rattle.rv32_core.specs.Follows.{Follows, IsWhole};
 ghost use Rattle.bus_model.specs.FirstLie.{HonestOrCaught, IsOfFirstLie};
-ghost use Rattle.chip_run.specs.Contents.{AreConsecutive, AreNumbered, HoldsLast, HoldsSealed, IsSpent, IsWrittenOut, NodesAreZeros, line_writes};
+ghost use Rattle.tag_engine.specs.Tag.{engine_tag};
+ghost use Rattle.pad_stream.specs.Pads.{AreRising, NoRepeat, of_lines};
+ghost use Rattle.rv32_core.specs.Effect.{next};
+ghost use Rattle.rv32_core.specs.Follows.{Follows, IsWhole};
+ghost use Rattle.rv32_core.specs.Machine.{opening, plain};
+ghost use Rattle.rv32_core.specs.Outcome.{prints_of};
+ghost use Rattle.rv32_core.specs.Turnover.{turnover};
 ghost use Rattle.rv32_run.specs.Session.{IsMemoryEnding, IsStop};
+ghost use Rattle.chip_run.specs.Contents.{AreConsecutive, AreNumbered, HoldsLast, HoldsSealed, IsSpent, IsWrittenOut, NodesAreZeros, line_writes};
 
 mod account;
 mod close;
@@ -31,7 +33,7 @@ mod tests;
 
 use bus_model::Bus;
 use close::{close, no_run};
-use line_memory::LineMemory;
+pub use line_memory::LineMemory;
 use line_ram::LineRam;
 pub use record::{RunRecord, Setup};
 use rv32_run::{Session, ending_of, store_image};
@@ -103,7 +105,7 @@ pub fn run<B: Bus, T: Tagger, S: Sink>(
     ensures early { IsStop result.0.ending → 0 < setup.now.budget → result.0.retired < setup.now.budget }
 
     // Where no answer was false and the sink had no fault, it is the plain machine's run over the whole budget, or a
-    // page was used up, or memory was not to be had.
+    // page was used up, or it ended out of memory.
     ensures whole { ¬ (Rose (S.state out.old).faults (S.state out.new).faults) → (B.history result.1).lies ≡ 0 →
         result.0.ending ≢ NoMemory →
         IsWhole (opening image.now input.now) setup.now.budget result.0.retired result.0.ending
@@ -114,9 +116,12 @@ pub fn run<B: Bus, T: Tagger, S: Sink>(
     ensures spent { (page : ℕ) → result.0.evidence ≡ None → result.0.ending ≡ Spent page →
         IsSpent (line_count setup.now.geometry) setup.now.page_limit result.0.used page }
     ensures write_fault { result.0.ending ≡ WriteFault → Rose (S.state out.old).faults (S.state out.new).faults }
+    ensures prints { result.0.evidence ≡ None → result.0.ending ≡ WriteFault →
+        0 < length (prints_of (next (plain (opening image.now input.now) result.0.retired).state)) }
     ensures faults { (S.state out.old).faults ≤ (S.state out.new).faults }
 
-    // The bus is the one that was given, with more reads.
+    // The bus is what calls made of the one that was given, with more reads.
+    ensures bus { B.moved bus result.1 }
     ensures reads { (place : Place) → RoseBy 0 ((B.history bus).reads place) ((B.history result.1).reads place) }
 
     // Without evidence the places of the lines were read together at least as often as the run turned over what the

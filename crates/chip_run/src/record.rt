@@ -1,3 +1,4 @@
+// What a run is given, and what it comes to.
 use hmac_tag::Keys;
 use sec_base::{Ending, Evidence, Geometry, Messages, Pads};
 

@@ -1,11 +1,10 @@
 use Rattle.tag_engine.specs.TagEngine.{tags_of}
-use Rattle.chip_run.proofs.Closing.{ended_answers, ended_kept, ended_limited, ended_numbered, ended_paired, ended_spent}
+use Rattle.chip_run.proofs.Closing.{ended_account, ended_kept, ended_limited, ended_numbered, ended_paired, ended_spent}
 use Rattle.chip_run.proofs.close.close.Goals as goal
 
-pub returns-clause-answers : goal.returns-clause-answers
-returns-clause-answers g c = λ quiet.
-    ended_answers (tags_of g.T.Tagger.data_tag_of g.T.Tagger.node_tag_of) g.B.Bus.history c.into_lines.result c.args.memory.lines c.args.ending
-    c.into_lines.ensures c.requires.ending c.finish-account.ensures.kept quiet
+pub returns-clause-accounted : goal.returns-clause-accounted
+returns-clause-accounted g c =
+    ended_account (tags_of g.T.Tagger.data_tag_of g.T.Tagger.node_tag_of) g.B.Bus.history c.args.memory.lines c.args.ending c.requires.ending
 
 pub returns-clause-spent : goal.returns-clause-spent
 returns-clause-spent g c = λ page is.

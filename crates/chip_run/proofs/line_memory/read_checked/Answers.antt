@@ -1,31 +1,19 @@
-use Rattle.std.proofs.Common.{refl, rules, IfSome, subst, sym, ◌∙◌}
-use Rattle.sec_base.specs.Evidence.{IsEvidence}
-use Rattle.tag_engine.specs.TagEngine.{TagEngineView, tags_of}
+use Rattle.std.proofs.Common.{◌≡◌, Bool, ap, false, refl, rules, sym, ◌∙◌}
+use Rattle.tag_engine.specs.TagEngine.{after_check_data}
 use Rattle.tag_engine.proofs.Upkeep.{failed_check}
 use Rattle.chip_run.proofs.line_memory.read_checked.Goals as goal
 
-pub returns-else-check_data : goal.returns-else-check_data
-returns-else-check_data g c = (
-  refl,
-  record {
-    sealed = c.in-Ok.sealed;
-    untagged = λ tagged. let passes = c.if-check_data.ensures.passes.1 tagged in absurd (cc);
-    answered = c.in-Ok.ensures.ok;
-    long = search rules;
-    unchanged = c.if-check_data.ensures.state ∙ sym (failed_check c.args.tags.now c.args.line c.args.counter c.in-Ok.sealed);
-  },
-)
-
-pub returns-then-check_data : goal.returns-then-check_data
-returns-then-check_data g c =
-    let d = g.T.Tagger.data_tag_of in
-    let n = g.T.Tagger.node_tag_of in
-    let shown = subst (λ (e : TagEngineView g.row.T.Denot). IfSome e.evidence (IsEvidence (tags_of d n e) e.made)) c.if-check_data.ensures.state c.if-check_data.ensures.genuine in
-    record {
-      tag = c.in-Ok.sealed.tag;
-      tagged = c.if-check_data.ensures.passes.0 refl;
-      answered = c.in-Ok.ensures.ok;
-      checked = c.if-check_data.ensures.state;
-      genuine = subst (λ (e : TagEngineView g.row.T.Denot). IfSome e.evidence (IsEvidence (tags_of d n c.args.tags.now) c.args.tags.now.made)) (sym c.if-check_data.ensures.state) shown;
-      long = search rules;
-    }
+pub returns-then-not-check_data-clause-read : goal.returns-then-not-check_data-clause-read
+returns-then-not-check_data-clause-read g c =
+    let failed : c.check_data.result ≡ false = search rules in (
+      refl,
+      record {
+        sealed = c.in_ok-sealed.sealed;
+        untagged = λ tagged. let passes = c.check_data.ensures.passes.1 tagged in absurd (cc);
+        answered = c.in_ok-sealed.ensures.ok;
+        long = search rules;
+        unchanged = c.check_data.ensures.state
+            ∙ ap (λ (passes : Bool). after_check_data c.args.line c.args.counter c.in_ok-sealed.sealed passes c.args.tags.now) failed
+            ∙ sym (failed_check c.args.tags.now c.args.line c.args.counter c.in_ok-sealed.sealed);
+      },
+    )

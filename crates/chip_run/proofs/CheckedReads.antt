@@ -1,0 +1,54 @@
+-- What a read of a line answers, and what it makes of a protected memory.
+use Rattle.std.proofs.Common.{◌≡◌, ◌≢◌, ℕ, ◌<◌, List, Option, Some, None, Result, Ok, Err, IfOk, slice_index, refl, ap, sym, ◌∙◌, subst}
+use Rattle.std.specs.Option.{option_or}
+use Rattle.std.specs.Result.{result_err}
+use Rattle.sec_base.specs.Count.{Rose}
+use Rattle.sec_base.specs.Geometry.{line_count}
+use Rattle.sec_base.specs.LastMessage.{IsFresh}
+use Rattle.sec_base.specs.Lines.{line_at}
+use Rattle.sec_base.specs.declared.place.Place.{Place}
+use Rattle.sec_base.specs.declared.place.Place.TheVariants.{Line as line_place}
+use Rattle.sec_base.specs.declared.message.Message.{Message}
+use Rattle.sec_base.specs.declared.stop.MemStop.{MemStop}
+use Rattle.sec_base.specs.declared.stop.MemStop.TheVariants.{Tampered, Spent, NoMemory}
+use Rattle.bus_model.specs.BusHistory.{BusHistory}
+use Rattle.tag_engine.specs.TagEngine.{TagEngineView, tags_of}
+use Rattle.chip_run.specs.Contents.{counter_of, writes_by}
+use Rattle.chip_run.specs.LineMemory.{LineMemoryView, IsAccountedFor, IsCheckedRead, IsLineMemory, ReadMoved, contents, lasting_stop}
+use Rattle.chip_run.proofs.LineMessages.{writes_same}
+use Rattle.chip_run.proofs.Keeping.{passed_bytes, read_accounted, tampered_lied}
+use Rattle.chip_run.proofs.LineMoves.{line_there, read_moved}
+
+module _ {B T : Type 0} (d n : T → List ℕ → List ℕ) (history : B → BusHistory) (bus_moved : B → B → Type 0) (m : LineMemoryView B T) (line writes : ℕ)
+    (bus : B) (engine : TagEngineView T) (result : Result (List ℕ) MemStop)
+    (kept : IsLineMemory (tags_of d n m.engine) (history m.bus) m) (going : lasting_stop m.stopped ≡ None) (inside : line < line_count m.engine.levels)
+    (read : writes ≡ slice_index m.counters line) (some : writes ≢ 0)
+    (is : IsCheckedRead (tags_of d n m.engine) m.pads.key line (counter_of writes) (history m.bus) (history bus) m.engine engine result) where
+  value_of : (given : Result (List ℕ) MemStop) → IsCheckedRead (tags_of d n m.engine) m.pads.key line (counter_of writes) (history m.bus) (history bus) m.engine engine given →
+      engine.evidence ≡ None → IfOk given (λ bytes. bytes ≡ line_at (contents m) line)
+  value_of (Err stop) stops quiet = tt
+  value_of (Ok bytes) passed quiet =
+      passed.deciphered
+      ∙ sym (line_there m.pads.key (line_count m.engine.levels) m.engine.made line (Some (counter_of writes, passed.sealed.cipher)) inside
+      (passed_bytes d n (history m.bus) m line writes kept going inside read some m.pads.key bus (history bus) engine bytes passed quiet))
+
+  -- it answers the line's bytes
+  pub read_value : engine.evidence ≡ None → IfOk result (λ bytes. bytes ≡ line_at (contents m) line)
+  read_value quiet = value_of result is quiet
+
+  pub read_moves : bus_moved m.bus bus → ReadMoved history bus_moved (tags_of d n) m line (record m { bus = bus; engine = engine; stopped = option_or (result_err result) m.stopped })
+  read_moves went =
+      read_moved history bus_moved (tags_of d n) m line bus went (tags_of d n m.engine) m.pads.key (counter_of writes) engine result is
+      (read_accounted d n (history m.bus) m line writes kept going inside read some m.pads.key bus (history bus) engine result is)
+
+  -- tampering comes of the line alone, and where an answer was false
+  pub read_tampered : (place : Place) → m.engine.evidence ≡ None → result ≡ Err (Tampered place) →
+      (place ≡ line_place line) × Rose (history m.bus).lies (history bus).lies
+  read_tampered place quiet stops =
+      tampered_lied d n (history m.bus) m line writes kept going inside read some m.pads.key (history bus) engine place quiet
+      (subst (λ (r : Result (List ℕ) MemStop). IsCheckedRead (tags_of d n m.engine) m.pads.key line (counter_of writes) (history m.bus) (history bus) m.engine engine r) stops is)
+
+  -- the line was written
+  pub not_fresh : IsFresh line m.pads.used → ⊥
+  not_fresh fresh =
+      some (read ∙ kept.counted.counts line inside ∙ sym (writes_same m.engine.made m.pads.used line kept.paired) ∙ ap writes_by fresh)
