@@ -4,6 +4,7 @@ use Rattle.std.specs.Prelude.{IsOkAnd}
 use Rattle.std.proofs.lemmas.List.{length-replicate}
 use Rattle.std.specs.Int.{to_le_bytes, w32}
 use Rattle.sec_base.specs.Width.{width_bytes}
+use Rattle.sec_base.proofs.NumberBytes.{length-number_bytes}
 use Rattle.sec_base.specs.declared.width.Width.{Width}
 use Rattle.sec_base.specs.declared.width.Width.TheVariants.{One, Two, Four}
 use Rattle.rv32_decode.specs.Encoding.{word_of}
@@ -11,14 +12,14 @@ use Rattle.rv32_asm_syntax.specs.declared.fault.AsmFault.{AsmFault}
 use Rattle.rv32_asm_syntax.specs.declared.fault.AsmFault.TheVariants.{Range, Missing}
 use Rattle.rv32_asm.specs.Course.{behind_line}
 use Rattle.rv32_asm.specs.Emission.{with_more}
-use Rattle.rv32_asm.specs.Encoding.{bytes_at, code_from, data_bytes, encoded_at, is_in_range, misses_label, number_bytes}
+use Rattle.rv32_asm.specs.Encoding.{bytes_at, code_from, values_bytes, encoded_at, is_in_range, misses_label, value_bytes}
 use Rattle.rv32_asm_syntax.specs.Expressions.{Expression}
 use Rattle.rv32_asm.specs.Labels.{Label}
 use Rattle.rv32_asm.specs.Layout.{is_misplaced, size_at}
 use Rattle.rv32_asm.specs.Passes.{behind, emitted, line_bytes}
 use Rattle.rv32_asm_syntax.specs.Reading.{statement_of}
 use Rattle.rv32_asm_syntax.specs.Statements.{Instruction, Statement, Instructions, Data, Bytes, Zeros, Aligned, Nothing}
-use Rattle.rv32_asm.specs.Values.{value_of}
+use Rattle.rv32_asm.specs.Values.{modulo, value_of}
 
 -- ---- a line by its statement
 
@@ -57,18 +58,13 @@ code_long labels address (i ∷ is) =
     let rest = code_long labels (address + 4) is in
     length-append (to_le_bytes w32 (word_of (encoded_at labels address i))) (code_from labels (address + 4) is) ∙ omega (arith, rest)
 
-number_long : (width : Width) (labels : List Label) (e : Expression) → length (number_bytes width (value_of labels e)) ≡ width_bytes width
-number_long One labels e = refl
-number_long Two labels e = refl
-number_long Four labels e = refl
-
 data_long : (width : Width) (labels : List Label) (es : List Expression) →
-    length (data_bytes labels width es) ≡ width_bytes width * length es
+    length (values_bytes labels width es) ≡ width_bytes width * length es
 data_long width labels [] = omega arith
 data_long width labels (e ∷ es) =
     let rest = data_long width labels es in
-    let one = number_long width labels e in
-    length-append (number_bytes width (value_of labels e)) (data_bytes labels width es)
+    let one = length-number_bytes width (modulo (8 * width_bytes width) (value_of labels e)) in
+    length-append (value_bytes width (value_of labels e)) (values_bytes labels width es)
     ∙ omega (arith, rest, one)
 
 bytes_long : (labels : List Label) (address : ℕ) (statement : Statement) →

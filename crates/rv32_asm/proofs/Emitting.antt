@@ -11,7 +11,7 @@ use Rattle.rv32_asm_syntax.specs.declared.statements.Expression.{Expression}
 use Rattle.rv32_asm_syntax.specs.declared.statements.Instruction.{Instruction}
 use Rattle.rv32_asm.specs.Emission.{code_at, data_of, statement_bytes, with_more}
 use Rattle.rv32_asm.specs.Passes.{emitted}
-use Rattle.rv32_asm.specs.Encoding.{code_from, data_bytes, data_fits, encoded_at, expressions_in, fit_from, fits_at, fits_width, is_in_range, misses_label, number_bytes}
+use Rattle.rv32_asm.specs.Encoding.{code_from, values_bytes, data_fits, encoded_at, expressions_in, fit_from, fits_at, fits_width, is_in_range, misses_label, value_bytes}
 use Rattle.rv32_asm.specs.Labels.{Label}
 use Rattle.rv32_asm_syntax.specs.Seen as seen
 use Rattle.rv32_asm_syntax.specs.Statements as meant
@@ -117,13 +117,13 @@ module _ (labels : List Label) (width : Width) (bytes : List ℕ) where
     data_refused f = rw f refl
 
     data_added : fits_width width (value_of labels (seen.expression e)) ≡ true →
-        with_more (bytes ++ number_bytes width (value_of labels (seen.expression e))) (data_of labels width (seen.expressions es))
+        with_more (bytes ++ value_bytes width (value_of labels (seen.expression e))) (data_of labels width (seen.expressions es))
         ≡ with_more bytes (data_of labels width (seen.expressions (e ∷ es)))
     unfolding data_of
     data_added f =
         rw f
-        (one_added (data_fits labels width (seen.expressions es)) bytes (number_bytes width (value_of labels (seen.expression e)))
-        (data_bytes labels width (seen.expressions es)))
+        (one_added (data_fits labels width (seen.expressions es)) bytes (value_bytes width (value_of labels (seen.expression e)))
+        (values_bytes labels width (seen.expressions es)))
 
   module _ (es : List Expression) (n : ℕ) where
     pub data_done : length es ≤ n → listed labels width bytes (drop n es) ≡ Ok bytes
@@ -136,7 +136,7 @@ module _ (labels : List Label) (width : Width) (bytes : List ℕ) where
           let g = rw valued at f in
           rw (front es n e inside here, data_refused e (drop (n + 1) es) g) refl
 
-      pub data_goes_on : (new : List ℕ) → fits_width width value ≡ true → new ≡ bytes ++ number_bytes width value →
+      pub data_goes_on : (new : List ℕ) → fits_width width value ≡ true → new ≡ bytes ++ value_bytes width value →
           listed labels width new (drop (n + 1) es) ≡ listed labels width bytes (drop n es)
       data_goes_on new f put =
           let g = rw valued at f in

@@ -2,7 +2,7 @@
 use Rattle.std.proofs.Common.{◌≡◌, ℕ, ◌+◌, ℤ, Bool, not, List, [], ◌∷◌, ◌++◌, Option, Some, None, Result, Ok, Err, length, option_map, unwrap_or, refl, ap}
 use Rattle.std.specs.List.{list_any, list_all, flat_map}
 use Rattle.rv32_asm_syntax.specs.declared.fault.AsmFault.{AsmFault}
-use Rattle.rv32_asm.specs.Encoding.{bytes_at, code_from, encoded_at, expressions_in, fit_from, fits_at, fits_width, is_in_range, misses_label, number_bytes}
+use Rattle.rv32_asm.specs.Encoding.{bytes_at, code_from, encoded_at, expressions_in, fit_from, fits_at, fits_width, is_in_range, misses_label, value_bytes}
 use Rattle.rv32_asm_syntax.specs.Expressions.{Expression}
 use Rattle.rv32_asm.specs.Labels.{Label, Site}
 use Rattle.rv32_asm.specs.Passes.{LineFault, emitted, in_line, line_bytes, second_pass, ◌>>=◌}
@@ -79,7 +79,7 @@ module _ (a b : List Label) (alike : AreAlike a b) where
   bytes_at_same : (address : ℕ) (statement : Statement) → bytes_at a address statement ≡ bytes_at b address statement
   unfolding bytes_at
   bytes_at_same address (Instructions is) = code_same address is
-  bytes_at_same address (Data width es) = bytes_same _ _ (λ e. ap (number_bytes width) (value_same e)) es
+  bytes_at_same address (Data width es) = bytes_same _ _ (λ e. ap (value_bytes width) (value_same e)) es
   bytes_at_same address (Bytes bytes) = refl
   bytes_at_same address (Zeros number) = refl
   bytes_at_same address (Aligned number) = refl

@@ -3,7 +3,7 @@ use Rattle.std.specs.Prelude.{ℕ, List, ◌++◌, Result, Ok, Err, if◌then◌
 use Rattle.sec_base.specs.declared.width.Width.{Width}
 use Rattle.rv32_asm_syntax.specs.declared.fault.AsmFault.{AsmFault}
 use Rattle.rv32_asm_syntax.specs.declared.fault.AsmFault.TheVariants.{Range}
-use Rattle.rv32_asm.specs.Encoding.{bytes_at, code_from, data_bytes, data_fits, fit_from, is_in_range}
+use Rattle.rv32_asm.specs.Encoding.{bytes_at, code_from, values_bytes, data_fits, fit_from, is_in_range}
 use Rattle.rv32_asm_syntax.specs.Expressions.{Expression}
 use Rattle.rv32_asm.specs.Labels.{Label}
 use Rattle.rv32_asm_syntax.specs.Statements.{Instruction, Statement}
@@ -21,7 +21,7 @@ code_at labels address instructions =
 -- the bytes of values that are in their range
 unfoldable pub data_of : List Label → Width → List Expression → Result (List ℕ) AsmFault
 data_of labels width values =
-    if data_fits labels width values then Ok (data_bytes labels width values) else Err Range
+    if data_fits labels width values then Ok (values_bytes labels width values) else Err Range
 
 -- the bytes of a statement whose values are in their ranges
 unfoldable pub statement_bytes : List Label → ℕ → Statement → Result (List ℕ) AsmFault

@@ -1,10 +1,9 @@
 -- The bytes of statements.
 use Rattle.std.specs.Prelude.{ℕ, ◌+◌, ◌-◌, ◌*◌, ◌^◌, ◌==◌, ℤ, pos, neg_ℤ, ◌-ℤ◌, List, [], ◌∷◌, ◌++◌, Bool, true, ◌&&◌, map, replicate, unsigned_abs}
 use Rattle.std.specs.List.{list_any, list_all, flat_map}
-use Rattle.std.specs.Int.{w8, w16, w32, to_le_bytes}
-use Rattle.sec_base.specs.Width.{width_bytes}
+use Rattle.std.specs.Int.{w32, to_le_bytes}
+use Rattle.sec_base.specs.Width.{width_bytes, number_bytes}
 use Rattle.sec_base.specs.declared.width.Width.{Width}
-use Rattle.sec_base.specs.declared.width.Width.TheVariants.{One, Two, Four}
 use Rattle.rv32_decode.specs.Encoding.{word_of}
 use Rattle.rv32_decode.specs.Table.{row_of}
 use Rattle.rv32_decode.specs.Words.{signed_number}
@@ -88,14 +87,12 @@ abbrev pub data_fits : List Label → Width → List Expression → Bool
 data_fits labels width values = list_all (λ value. fits_width width (value_of labels value)) values
 
 -- a value in so many bytes, the lowest first
-abbrev pub number_bytes : Width → ℤ → List ℕ
-number_bytes One value = to_le_bytes w8 (modulo 8 value)
-number_bytes Two value = to_le_bytes w16 (modulo 16 value)
-number_bytes Four value = to_le_bytes w32 (modulo 32 value)
+abbrev pub value_bytes : Width → ℤ → List ℕ
+value_bytes width value = number_bytes width (modulo (8 * width_bytes width) value)
 
 -- the values one after another
-abbrev pub data_bytes : List Label → Width → List Expression → List ℕ
-data_bytes labels width values = flat_map (λ value. number_bytes width (value_of labels value)) values
+abbrev pub values_bytes : List Label → Width → List Expression → List ℕ
+values_bytes labels width values = flat_map (λ value. value_bytes width (value_of labels value)) values
 
 -- ---- statements
 
@@ -118,7 +115,7 @@ is_in_range labels address _ = true
 -- the bytes of a statement at an address
 unfoldable pub bytes_at : List Label → ℕ → Statement → List ℕ
 bytes_at labels address (Instructions instructions) = code_from labels address instructions
-bytes_at labels address (Data width values) = data_bytes labels width values
+bytes_at labels address (Data width values) = values_bytes labels width values
 bytes_at labels address (Bytes bytes) = bytes
 bytes_at labels address (Zeros number) = replicate (size_at address (Zeros number)) 0
 bytes_at labels address (Aligned number) = replicate (size_at address (Aligned number)) 0

@@ -99,7 +99,7 @@ fn fits_width(width: Width, value: i64) -> bool
 
 // Adds the bytes of a number, the lowest first.
 fn put_number(bytes: &mut Vec<u8>, width: Width, value: i64) -> Result<(), NoMemory>
-    ensures { OnOk result (bytes.new.items ≡ bytes.old.items ++ spec.number_bytes width value) }
+    ensures { OnOk result (bytes.new.items ≡ bytes.old.items ++ spec.value_bytes width value) }
 {
     match width {
         Width::One => bytes.push(value.rem_euclid(1 << 8) as u8)?,
