@@ -13,7 +13,7 @@ use Rattle.bus_model.specs.declared.lies.Lies.{Lies}
 use Rattle.bus_model.specs.declared.flip_bus.Flip.{Flip}
 use Rattle.bus_model.specs.BusHistory.{BusHistory, Lie, after_read, after_write, after_answer, first_lie}
 use Rattle.bus_model.specs.HonestBus.{HonestBusView, honest_history}
-use Rattle.bus_model.specs.FlipBus.{flip_history, lie_of, flipped}
+use Rattle.bus_model.specs.FlipBus.{flip_history, lie_of, with_flip}
 use Rattle.bus_model.proofs.Steps.{answered, lied}
 
 -- with these lies in place of its own
@@ -94,17 +94,17 @@ bytes_eq-parts (x ∷ first) (y ∷ second) front back same =
     ∙ sym (and_assoc (nat_eq x y) (bytes_eq first second) (bytes_eq front back))
 
 -- a byte of the front part
-pub flipped_front : (front back : List ℕ) (offset mask : ℕ) → offset < length front →
-    flipped offset mask (front ++ back) ≡ flipped offset mask front ++ back
-unfolding flipped
-flipped_front front back offset mask inside =
+pub with_flip-front : (front back : List ℕ) (offset mask : ℕ) → offset < length front →
+    with_flip offset mask (front ++ back) ≡ with_flip offset mask front ++ back
+unfolding with_flip
+with_flip-front front back offset mask inside =
     rw (get_or_append_left front back 0 offset inside) (set-append_left front back offset _ inside)
 
 -- a byte of the back part
-pub flipped_back : (front back : List ℕ) (offset mask : ℕ) → length front ≤ offset →
-    flipped offset mask (front ++ back) ≡ front ++ flipped (offset - length front) mask back
-unfolding flipped
-flipped_back front back offset mask behind =
+pub with_flip-back : (front back : List ℕ) (offset mask : ℕ) → length front ≤ offset →
+    with_flip offset mask (front ++ back) ≡ front ++ with_flip (offset - length front) mask back
+unfolding with_flip
+with_flip-back front back offset mask behind =
     let at : offset ≡ length front + (offset - length front) = omega arith in
     let byte : slice_index (front ++ back) offset ≡ slice_index back (offset - length front) =
     ap (λ (n : ℕ). slice_index (front ++ back) n) at ∙ get_or-append-add front back (offset - length front) 0 in

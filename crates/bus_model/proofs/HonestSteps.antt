@@ -14,9 +14,9 @@ use Rattle.std.proofs.lemmas.List.{get_or-replicate, length-replicate}
 use Rattle.std.proofs.Math.ListN.{get_or-eq_default}
 use Rattle.std.proofs.lemmas.Bool.{cases_lt}
 use Rattle.bus_model.specs.BusHistory.{new_history, after_read, after_write}
-use Rattle.bus_model.specs.HonestBus.{HonestBusView, empty_line, empty_node, is_node, kept_line, kept_node, kept_bytes, kept_reads, honest_history}
-use Rattle.bus_model.proofs.Steps.{told_same, was_write, was_read}
-use Rattle.bus_model.proofs.KeptPlaces.{line_bytes, line_reads, line_there, node_bytes, node_reads, node_there}
+use Rattle.bus_model.specs.HonestBus.{HonestBusView, empty_line, empty_node, is_node, data_place_at, node_place_at, place_bytes, place_reads, honest_history}
+use Rattle.bus_model.proofs.Steps.{same_history, was_write, was_read}
+use Rattle.bus_model.proofs.HonestPlaces.{line_bytes, line_reads, line_there, node_bytes, node_reads, node_there}
 
 -- at a place, the same value
 same_there : {A : Type 0} (place : Place) (f g : Place → A) (value other : A) → g ≡ at_place place value f → value ≡ other → g ≡ at_place place other f
@@ -42,7 +42,7 @@ pub read_line : (kept : HonestBusView) (line accesses reads : ℕ) (was : DataPl
     ≡ after_read (Line line) (sealed_bytes was.sealed) (honest_history kept)
 read_line kept line accesses reads was inside whole read counted rose =
     let item : DataPlace = record { sealed = was.sealed; reads = reads } in
-    let there : was ≡ kept_line kept line = sym (line_there kept line was inside whole read) in
+    let there : was ≡ data_place_at kept line = sym (line_there kept line was inside whole read) in
     was_read (Line line) (sealed_bytes was.sealed) (honest_history kept) _ _ accesses
     (same_there (Line line) _ _ _ _ (line_bytes kept line accesses item inside whole) (ap (λ (x : DataPlace). sealed_bytes x.sealed) there))
     (same_there (Line line) _ _ _ _ (line_reads kept line accesses item inside whole) (rose ∙ ap (λ (x : DataPlace). more_by 1 x.reads) there))
@@ -69,7 +69,7 @@ pub read_node : (kept : HonestBusView) (level index accesses reads : ℕ) (was :
     ≡ after_read (Node level index) was.block (honest_history kept)
 read_node kept level index accesses reads was inside whole read counted rose =
     let item : NodePlace = record { block = was.block; reads = reads } in
-    let there : was ≡ kept_node kept level index = sym (node_there kept level index was inside whole read) in
+    let there : was ≡ node_place_at kept level index = sym (node_there kept level index was inside whole read) in
     was_read (Node level index) was.block (honest_history kept) _ _ accesses
     (same_there (Node level index) _ _ _ _ (node_bytes kept level index accesses item inside whole) (ap (λ (x : NodePlace). x.block) there))
     (same_there (Node level index) _ _ _ _ (node_reads kept level index accesses item inside whole) (rose ∙ ap (λ (x : NodePlace). more_by 1 x.reads) there))
@@ -89,7 +89,7 @@ either true x y same = same
 either false x y same = refl
 
 new_bytes : (kept : HonestBusView) → kept.lines ≡ replicate (line_count kept.levels) empty_line → kept.nodes ≡ replicate (node_end kept.levels) empty_node →
-    (place : Place) → kept_bytes kept place ≡ zeros_of place
+    (place : Place) → place_bytes kept place ≡ zeros_of place
 new_bytes kept lines nodes (Line line) =
     rw lines (ap (λ (x : DataPlace). sealed_bytes x.sealed)
     (either (nat_lt line (line_count kept.levels)) _ empty_line (one_item (line_count kept.levels) line empty_line)))
@@ -98,7 +98,7 @@ new_bytes kept lines nodes (Node level index) =
     (either (is_node kept.levels level index) _ empty_node (one_item (node_end kept.levels) (node_number kept.levels level index) empty_node)))
 
 new_reads : (kept : HonestBusView) → kept.lines ≡ replicate (line_count kept.levels) empty_line → kept.nodes ≡ replicate (node_end kept.levels) empty_node →
-    (place : Place) → kept_reads kept place ≡ 0
+    (place : Place) → place_reads kept place ≡ 0
 new_reads kept lines nodes (Line line) =
     rw lines (ap (λ (x : DataPlace). x.reads)
     (either (nat_lt line (line_count kept.levels)) _ empty_line (one_item (line_count kept.levels) line empty_line)))
@@ -107,10 +107,10 @@ new_reads kept lines nodes (Node level index) =
     (either (is_node kept.levels level index) _ empty_node (one_item (node_end kept.levels) (node_number kept.levels level index) empty_node)))
 
 -- before the first call nothing was written and nothing read
-pub new_told : (kept : HonestBusView) (levels : ℕ) → kept.levels ≡ levels → kept.lines ≡ replicate (line_count kept.levels) empty_line →
+pub history_new : (kept : HonestBusView) (levels : ℕ) → kept.levels ≡ levels → kept.lines ≡ replicate (line_count kept.levels) empty_line →
     kept.nodes ≡ replicate (node_end kept.levels) empty_node → kept.accesses ≡ 0 → honest_history kept ≡ new_history levels
-new_told kept levels is lines nodes none =
-    rw (← is) (told_same (new_history kept.levels) kept.levels kept.accesses 0 None zeros_of (kept_bytes kept) (λ (place : Place). 0) (kept_reads kept)
-    (functions_same (kept_bytes kept) zeros_of (new_bytes kept lines nodes))
-    (functions_same (kept_reads kept) (λ (place : Place). 0) (new_reads kept lines nodes))
+history_new kept levels is lines nodes none =
+    rw (← is) (same_history (new_history kept.levels) kept.levels kept.accesses 0 None zeros_of (place_bytes kept) (λ (place : Place). 0) (place_reads kept)
+    (functions_same (place_bytes kept) zeros_of (new_bytes kept lines nodes))
+    (functions_same (place_reads kept) (λ (place : Place). 0) (new_reads kept lines nodes))
     (rw none refl))

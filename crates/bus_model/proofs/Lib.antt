@@ -1,4 +1,4 @@
 pub mod Steps
-pub mod KeptPlaces
+pub mod HonestPlaces
 pub mod HonestSteps
 pub mod FlipSteps

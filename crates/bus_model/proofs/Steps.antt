@@ -10,10 +10,10 @@ use Rattle.sec_base.specs.declared.place.Place.{Place}
 use Rattle.bus_model.specs.BusHistory.{BusHistory, Lie, NothingWritten, new_history, after_read, after_write, after_answer, after_lie, is_false}
 
 -- two with the same functions are one
-pub told_same : (history : BusHistory) (levels accesses lies : ℕ) (lie : Option Lie) (written written' : Place → List ℕ) (reads reads' : Place → ℕ) →
+pub same_history : (history : BusHistory) (levels accesses lies : ℕ) (lie : Option Lie) (written written' : Place → List ℕ) (reads reads' : Place → ℕ) →
     written' ≡ written → reads' ≡ reads → history ≡ record { levels = levels; written = written; reads = reads; accesses = accesses; lies = lies; lie = lie } →
     record { levels = levels; written = written'; reads = reads'; accesses = accesses; lies = lies; lie = lie } ≡ history
-told_same history levels accesses lies lie written written' reads reads' w r is =
+same_history history levels accesses lies lie written written' reads reads' w r is =
     ap (λ (f : Place → List ℕ). record { levels = levels; written = f; reads = reads'; accesses = accesses; lies = lies; lie = lie }) w
     ∙ ap (λ (f : Place → ℕ). record { levels = levels; written = written; reads = f; accesses = accesses; lies = lies; lie = lie }) r
     ∙ sym is
@@ -25,7 +25,7 @@ pub was_write : (place : Place) (bytes : List ℕ) (history : BusHistory) (writt
 unfolding after_write
 was_write place bytes history written reads accesses w r n =
     let stays : reads ≡ history.reads = r ∙ at_place-same place (history.reads place) history.reads refl in
-    rw n (told_same (after_write place bytes history) history.levels (more_by 1 history.accesses) history.lies history.lie
+    rw n (same_history (after_write place bytes history) history.levels (more_by 1 history.accesses) history.lies history.lie
     (at_place place bytes history.written) written history.reads reads w stays refl)
 
 -- an answer that is what was written is not false
@@ -44,7 +44,7 @@ unfolding after_read
 was_read place bytes history written reads accesses w r n same =
     let stays : written ≡ history.written = w ∙ at_place-same place (history.written place) history.written refl in
     let honest : is_false place bytes history ≡ false = true_answer place bytes history same in
-    rw (n, honest) (told_same (after_answer place history) history.levels (more_by 1 history.accesses) history.lies history.lie
+    rw (n, honest) (same_history (after_answer place history) history.levels (more_by 1 history.accesses) history.lies history.lie
     history.written written (at_place place (more_by 1 (history.reads place)) history.reads) reads stays r refl)
 
 -- after a true answer

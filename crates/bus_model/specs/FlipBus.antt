@@ -18,7 +18,7 @@ pub record FlipBusView : Type 0 where
   pub flip : Flip
   pub lies : Lies
 
--- a false answer as it is history
+-- a false answer as contracts see it
 abbrev pub lie_of : FalseAnswer → Lie
 lie_of (sealed_answer access line sealed) = record { access = access; place = Line line; bytes = sealed_bytes sealed }
 lie_of (block_answer access level index block) = record { access = access; place = Node level index; bytes = block }
@@ -33,12 +33,12 @@ abbrev pub is_due : Flip → Place → ℕ → Bool
 is_due flip place reads = place_eq place flip.place && ((reads + 1) == flip.read)
 
 -- bytes, one of which is xored with the mask
-unfoldable pub flipped : ℕ → ℕ → List ℕ → List ℕ
-flipped offset mask bytes = slice_set bytes offset (bit_xor (slice_index bytes offset) mask)
+unfoldable pub with_flip : ℕ → ℕ → List ℕ → List ℕ
+with_flip offset mask bytes = slice_set bytes offset (bit_xor (slice_index bytes offset) mask)
 
 -- what the next read of a place answers
 abbrev pub next_answer : Flip → BusHistory → Place → List ℕ
 next_answer flip history place =
     if is_due flip place (history.reads place)
-    then flipped flip.offset flip.mask (history.written place)
+    then with_flip flip.offset flip.mask (history.written place)
     else history.written place

@@ -1,6 +1,6 @@
 -- An honest bus: what it keeps, and what that stands for.
-use Rattle.std.specs.Prelude.{ℕ, ◌+◌, ◌-◌, ◌^◌, List, replicate, slice_index_or, None, Bool, ◌&&◌, nat_lt, if◌then◌else◌}
-use Rattle.sec_base.specs.Geometry.{line_count, node_number, node_end}
+use Rattle.std.specs.Prelude.{ℕ, ◌+◌, List, replicate, slice_index_or, None, Bool, ◌&&◌, nat_lt, if◌then◌else◌}
+use Rattle.sec_base.specs.Geometry.{line_count, node_number, width}
 use Rattle.sec_base.specs.Evidence.{sealed_bytes}
 use Rattle.sec_base.specs.declared.place.Place.{Place}
 use Rattle.sec_base.specs.declared.place.Place.TheVariants.{Line, Node}
@@ -22,48 +22,38 @@ empty_line = record { sealed = record { cipher = replicate 64 0; tag = replicate
 abbrev pub empty_node : NodePlace
 empty_node = record { block = replicate 64 0; reads = 0 }
 
--- no place was written or read
-abbrev pub new_view : ℕ → HonestBusView
-new_view levels =
-    record {
-      levels = levels;
-      lines = replicate (line_count levels) empty_line;
-      nodes = replicate (node_end levels) empty_node;
-      accesses = 0;
-    }
-
 -- the node is one of the tree's
 abbrev pub is_node : ℕ → ℕ → ℕ → Bool
-is_node levels level index = nat_lt level (levels + 1) && nat_lt index (4 ^ (levels - level))
+is_node levels level index = nat_lt level (levels + 1) && nat_lt index (width levels level)
 
--- what is kept of a line, and of a node
-abbrev pub kept_line : HonestBusView → ℕ → DataPlace
-kept_line kept line =
+-- the place of a line, and of a node
+abbrev pub data_place_at : HonestBusView → ℕ → DataPlace
+data_place_at kept line =
     if nat_lt line (line_count kept.levels) then slice_index_or kept.lines line empty_line else empty_line
 
-abbrev pub kept_node : HonestBusView → ℕ → ℕ → NodePlace
-kept_node kept level index =
+abbrev pub node_place_at : HonestBusView → ℕ → ℕ → NodePlace
+node_place_at kept level index =
     if is_node kept.levels level index
     then slice_index_or kept.nodes (node_number kept.levels level index) empty_node
     else empty_node
 
 -- what was written at a place
-abbrev pub kept_bytes : HonestBusView → Place → List ℕ
-kept_bytes kept (Line line) = sealed_bytes (kept_line kept line).sealed
-kept_bytes kept (Node level index) = (kept_node kept level index).block
+abbrev pub place_bytes : HonestBusView → Place → List ℕ
+place_bytes kept (Line line) = sealed_bytes (data_place_at kept line).sealed
+place_bytes kept (Node level index) = (node_place_at kept level index).block
 
 -- how often a place was read
-abbrev pub kept_reads : HonestBusView → Place → ℕ
-kept_reads kept (Line line) = (kept_line kept line).reads
-kept_reads kept (Node level index) = (kept_node kept level index).reads
+abbrev pub place_reads : HonestBusView → Place → ℕ
+place_reads kept (Line line) = (data_place_at kept line).reads
+place_reads kept (Node level index) = (node_place_at kept level index).reads
 
 -- each answer was what had been written
 abbrev pub honest_history : HonestBusView → BusHistory
 honest_history kept =
     record {
       levels = kept.levels;
-      written = kept_bytes kept;
-      reads = kept_reads kept;
+      written = place_bytes kept;
+      reads = place_reads kept;
       accesses = kept.accesses;
       lies = 0;
       lie = None;

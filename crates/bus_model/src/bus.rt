@@ -16,7 +16,7 @@ pub trait Bus {
     /// What calls make of the bus, one after another, answered or refused.
     ghost moved: { Self → Self → Type 0 };
 
-    /// What the place of a data line holds. Only want of memory refuses it.
+    /// What the place of a data line holds. It is refused only out of memory.
     fn read_data(&mut self, line: u32) -> Result<Sealed, NoMemory>
         requires inside { IsPlace (history self.old).levels (Line line) }
 
@@ -25,7 +25,7 @@ pub trait Bus {
         ensures levels { (history self.new).levels ≡ (history self.old).levels }
         ensures moved { moved self.old self.new };
 
-    /// Puts a line and its tag at the line's place. Only want of memory refuses it.
+    /// Puts a line and its tag at the line's place. It is refused only out of memory.
     fn write_data(&mut self, line: u32, sealed: &Sealed) -> Result<(), NoMemory>
         requires inside { IsPlace (history self.old).levels (Line line) }
 
@@ -34,7 +34,7 @@ pub trait Bus {
         ensures levels { (history self.new).levels ≡ (history self.old).levels }
         ensures moved { moved self.old self.new };
 
-    /// What the place of a node holds. Only want of memory refuses it.
+    /// What the place of a node holds. It is refused only out of memory.
     fn read_node(&mut self, level: u8, index: u32) -> Result<[u8; 64], NoMemory>
         requires inside { IsPlace (history self.old).levels (Node level index) }
 
@@ -43,7 +43,7 @@ pub trait Bus {
         ensures levels { (history self.new).levels ≡ (history self.old).levels }
         ensures moved { moved self.old self.new };
 
-    /// Puts a block at a node's place. Only want of memory refuses it.
+    /// Puts a block at a node's place. It is refused only out of memory.
     fn write_node(&mut self, level: u8, index: u32, block: &[u8; 64]) -> Result<(), NoMemory>
         requires inside { IsPlace (history self.old).levels (Node level index) }
 

@@ -5,7 +5,7 @@ ghost use Rattle.sec_base.specs.Place.{IsPlace, place_size};
 ghost use Rattle.sec_base.specs.Evidence.{sealed_bytes};
 ghost use Rattle.sec_base.specs.declared.place.Place.TheVariants.{Line, Node};
 ghost use Rattle.bus_model.specs.BusHistory.{new_history, after_read, after_write};
-ghost use Rattle.bus_model.specs.FlipBus.{flip_history, is_due, flipped, next_answer};
+ghost use Rattle.bus_model.specs.FlipBus.{flip_history, is_due, with_flip, next_answer};
 
 use crate::bus::Bus;
 use crate::honest_bus::HonestBus;
@@ -41,7 +41,7 @@ impl Model for FlipBus {
 
 impl FlipBus {
     /// A memory of zeros for this tree, whose `k`-th read of the place, from 1, is to be xored with the mask at
-    /// the offset. Only want of memory refuses it.
+    /// the offset. It is refused only out of memory.
     pub fn new(
         alloc: Global,
         geometry: Geometry,
@@ -187,9 +187,9 @@ fn is_due(flip: &Flip, place: Place, reads: u64) -> bool
 }
 
 // Xors the byte at an offset, where there is one.
-#[tactic(auto, unfolding(crate::specs::FlipBus::flipped))]
+#[tactic(auto, unfolding(crate::specs::FlipBus::with_flip))]
 fn flip_byte(bytes: &mut [u8], offset: usize, mask: u8)
-    ensures { bytes.new ≡ flipped offset mask bytes.old }
+    ensures { bytes.new ≡ with_flip offset mask bytes.old }
 {
     if offset < bytes.len() {
         bytes[offset] ^= mask;
@@ -197,7 +197,7 @@ fn flip_byte(bytes: &mut [u8], offset: usize, mask: u8)
 }
 
 fn flip_block(block: &[u8; 64], offset: u8, mask: u8) -> [u8; 64]
-    ensures { result ≡ flipped offset mask block.now }
+    ensures { result ≡ with_flip offset mask block.now }
 {
     let mut answer = *block;
     flip_byte(&mut answer, offset as usize, mask);
@@ -212,7 +212,7 @@ fn differs(first: Sealed, second: Sealed) -> bool
 
 // The tag stands behind the 64 bytes of the line.
 fn flip_sealed(sealed: &Sealed, offset: u8, mask: u8) -> Sealed
-    ensures { sealed_bytes result ≡ flipped offset mask (sealed_bytes sealed.now) }
+    ensures { sealed_bytes result ≡ with_flip offset mask (sealed_bytes sealed.now) }
 {
     let mut cipher = sealed.cipher;
     let mut tag = sealed.tag;

@@ -53,7 +53,7 @@ impl Model for HonestBus {
 }
 
 impl HonestBus {
-    /// A memory of zeros for this tree. Only want of memory refuses it.
+    /// A memory of zeros for this tree. It is refused only out of memory.
     pub fn new(alloc: Global, geometry: Geometry) -> Result<HonestBus, NoMemory>
         ensures { IfOk result (λ bus. honest_history bus ≡ new_history geometry) }
     {

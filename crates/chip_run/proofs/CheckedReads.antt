@@ -1,22 +1,27 @@
 -- What a read of a line answers, and what it makes of a protected memory.
-use Rattle.std.proofs.Common.{◌≡◌, ◌≢◌, ℕ, ◌<◌, List, Option, Some, None, Result, Ok, Err, IfOk, slice_index, refl, ap, sym, ◌∙◌, subst}
+use Rattle.std.proofs.Common.{◌≡◌, ◌≢◌, ℕ, ◌<◌, true, List, Option, Some, None, Result, Ok, Err, IfOk, slice_index, refl, ap, sym, ◌∙◌, subst}
 use Rattle.std.specs.Option.{option_or}
 use Rattle.std.specs.Result.{result_err}
 use Rattle.sec_base.specs.Count.{Rose}
 use Rattle.sec_base.specs.Geometry.{line_count}
 use Rattle.sec_base.specs.LastMessage.{IsFresh}
 use Rattle.sec_base.specs.Lines.{line_at}
+use Rattle.sec_base.specs.declared.counter.Counter.{Counter}
+use Rattle.sec_base.specs.declared.evidence.Evidence.{Evidence}
+use Rattle.sec_base.specs.declared.evidence.Evidence.TheVariants.{Forgery}
+use Rattle.sec_base.specs.declared.sealed.Sealed.{Sealed}
 use Rattle.sec_base.specs.declared.place.Place.{Place}
 use Rattle.sec_base.specs.declared.place.Place.TheVariants.{Line as line_place}
 use Rattle.sec_base.specs.declared.message.Message.{Message}
 use Rattle.sec_base.specs.declared.stop.MemStop.{MemStop}
 use Rattle.sec_base.specs.declared.stop.MemStop.TheVariants.{Tampered, Spent, NoMemory}
 use Rattle.bus_model.specs.BusHistory.{BusHistory}
-use Rattle.tag_engine.specs.TagEngine.{TagEngineView, tags_of}
+use Rattle.tag_engine.specs.TagEngine.{TagEngineView, forgery_of, tags_of}
+use Rattle.pad_stream.specs.Pad.{cipher_of}
 use Rattle.chip_run.specs.Contents.{counter_of, writes_by}
 use Rattle.chip_run.specs.LineMemory.{LineMemoryView, IsAccountedFor, IsCheckedRead, IsLineMemory, ReadMoved, contents, lasting_stop}
 use Rattle.chip_run.proofs.LineMessages.{writes_same}
-use Rattle.chip_run.proofs.Keeping.{passed_bytes, read_accounted, tampered_lied}
+use Rattle.chip_run.proofs.Keeping.{passed_bytes, read_accounted, shown_is, tampered_lied}
 use Rattle.chip_run.proofs.LineMoves.{line_there, read_moved}
 
 module _ {B T : Type 0} (d n : T → List ℕ → List ℕ) (history : B → BusHistory) (bus_moved : B → B → Type 0) (m : LineMemoryView B T) (line writes : ℕ)
@@ -47,6 +52,26 @@ module _ {B T : Type 0} (d n : T → List ℕ → List ℕ) (history : B → Bus
   read_tampered place quiet stops =
       tampered_lied d n (history m.bus) m line writes kept going inside read some m.pads.key (history bus) engine place quiet
       (subst (λ (r : Result (List ℕ) MemStop). IsCheckedRead (tags_of d n m.engine) m.pads.key line (counter_of writes) (history m.bus) (history bus) m.engine engine r) stops is)
+
+  accepted_of : (given : Result (List ℕ) MemStop) → IsCheckedRead (tags_of d n m.engine) m.pads.key line (counter_of writes) (history m.bus) (history bus) m.engine engine given →
+      (counter : Counter) (sealed : Sealed) (made_count : ℕ) → m.engine.evidence ≡ None → engine.evidence ≡ Some (Forgery line counter sealed made_count) →
+      IfOk given (λ bytes. bytes ≡ cipher_of m.pads.key line counter sealed.cipher)
+  accepted_of (Err stop) stops counter sealed made_count quiet shown = tt
+  accepted_of (Ok bytes) passed counter sealed made_count quiet shown =
+      let first : option_or m.engine.evidence (forgery_of m.engine.made line (counter_of writes) passed.sealed true) ≡ Some (Forgery line counter sealed made_count) =
+      ap (λ (e : TagEngineView T). e.evidence) (sym passed.checked) ∙ shown in
+      let forged : forgery_of m.engine.made line (counter_of writes) passed.sealed true ≡ Some (Forgery line counter sealed made_count) =
+      subst (λ (e : Option Evidence). option_or e (forgery_of m.engine.made line (counter_of writes) passed.sealed true) ≡ Some (Forgery line counter sealed made_count)) quiet first in
+      let is = shown_is m.engine.made line (counter_of writes) passed.sealed (Forgery line counter sealed made_count) forged in
+      let counters : counter_of writes ≡ counter = cc in
+      let same : passed.sealed ≡ sealed = cc in
+      passed.deciphered ∙ ap (λ (k : Counter). cipher_of m.pads.key line k passed.sealed.cipher) counters
+      ∙ ap (λ (s : Sealed). cipher_of m.pads.key line counter s.cipher) same
+
+  -- what passed though it was never tagged is answered as it was deciphered
+  pub read_accepted : (counter : Counter) (sealed : Sealed) (made_count : ℕ) → m.engine.evidence ≡ None → engine.evidence ≡ Some (Forgery line counter sealed made_count) →
+      IfOk result (λ bytes. bytes ≡ cipher_of m.pads.key line counter sealed.cipher)
+  read_accepted counter sealed made_count quiet shown = accepted_of result is counter sealed made_count quiet shown
 
   -- the line was written
   pub not_fresh : IsFresh line m.pads.used → ⊥

@@ -32,8 +32,8 @@ use Rattle.pad_stream.specs.Pads.{AreRising}
 use Rattle.pad_stream.proofs.RisingCounters.{rising_nothing, rising_more}
 use Rattle.chip_run.proofs.Pairs.{consecutive_nothing, consecutive_more, data_pairs-append}
 use Rattle.pad_stream.specs.PadEngine.{PadEngineView, new_pads, after_encrypt, with_room as pads_with_room}
-use Rattle.pad_stream.specs.Pad.{enciphered}
-use Rattle.pad_stream.proofs.Enciphering.{enciphered_long}
+use Rattle.pad_stream.specs.Pad.{cipher_of}
+use Rattle.pad_stream.proofs.Enciphering.{length-cipher_of}
 use Rattle.chip_run.specs.Contents.{AreConsecutive, counter_of, line_writes, sealed_line, IsSpent, IsSealed, HoldsSealed, HoldsLast, NodesAreZeros}
 use Rattle.bus_model.specs.FirstLie.{AccountsForLies, HonestOrCaught, IsOfFirstLie}
 use Rattle.chip_run.specs.LineMemory.{LineMemoryView, new_line_memory, IsLineMemory, AreCounted, Passed, IsCheckedRead, lasting_stop, after_line, writes_of, times_tagged}
@@ -199,7 +199,7 @@ shown_by made line counter sealed evidence false had shown =
     )
 
 -- what a check shows is a forgery of the line, under the counter
-shown_is : (made : List Message) (line : ℕ) (counter : Counter) (sealed : Sealed) (evidence : Evidence) →
+pub shown_is : (made : List Message) (line : ℕ) (counter : Counter) (sealed : Sealed) (evidence : Evidence) →
     forgery_of made line counter sealed true ≡ Some evidence →
     (evidence ≡ Forgery line counter sealed (length made)) × (Contains made (Line line counter sealed.cipher) → ⊥)
 shown_is made line counter sealed evidence shown =

@@ -13,7 +13,7 @@ use Rattle.sec_base.specs.declared.message.Message.TheVariants.{Line, Node}
 use Rattle.sec_base.specs.LastMessage.{data_part, last_at, last_data, last_pair, data_pairs}
 use Rattle.sec_base.specs.Lines.{with_line}
 use Rattle.pad_stream.specs.Pads.{IsBefore}
-use Rattle.pad_stream.specs.Pad.{enciphered}
+use Rattle.pad_stream.specs.Pad.{cipher_of}
 use Rattle.sec_base.proofs.LastMessages.{last_of_same, last_of_other, linked, HasPart, last_pair-data_pairs}
 use Rattle.chip_run.proofs.Pairs.{pair_made, data_pairs-append}
 use Rattle.sec_base.proofs.SamePlaces.{false_from}
@@ -100,10 +100,10 @@ last_pair-none made line e =
 
 -- the contents after a message more
 pub contents_more : (key : List ℕ) (lines : ℕ) (made : List Message) (line : ℕ) (counter : Counter) (bytes : List ℕ) → line < lines →
-    enciphered key line counter (enciphered key line counter bytes) ≡ bytes →
-    with_line (contents_of key lines made) line bytes ≡ contents_of key lines (made ++ Line line counter (enciphered key line counter bytes) ∷ [])
+    cipher_of key line counter (cipher_of key line counter bytes) ≡ bytes →
+    with_line (contents_of key lines made) line bytes ≡ contents_of key lines (made ++ Line line counter (cipher_of key line counter bytes) ∷ [])
 contents_more key lines made line counter bytes inside undone =
-    let cipher : List ℕ = enciphered key line counter bytes in
+    let cipher : List ℕ = cipher_of key line counter bytes in
     with_line-joined_lines (line_bytes key made) (line_bytes key (made ++ Line line counter cipher ∷ [])) lines line bytes
     (length-line_bytes key made) inside
     (ap (bytes_of key line) (last_data-same made line counter cipher) ∙ undone)

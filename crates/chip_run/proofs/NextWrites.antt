@@ -15,9 +15,9 @@ use Rattle.sec_base.specs.declared.stop.MemStop.TheVariants.{Tampered, Spent, No
 use Rattle.bus_model.specs.BusHistory.{BusHistory, after_write}
 use Rattle.bus_model.specs.FirstLie.{AccountsForLies}
 use Rattle.tag_engine.specs.TagEngine.{TagEngineView, after_make, tags_of, with_room}
-use Rattle.pad_stream.specs.Pad.{enciphered}
+use Rattle.pad_stream.specs.Pad.{cipher_of}
 use Rattle.pad_stream.specs.PadEngine.{PadEngineView, after_encrypt, with_room as pads_with_room}
-use Rattle.pad_stream.proofs.Enciphering.{enciphered_long}
+use Rattle.pad_stream.proofs.Enciphering.{length-cipher_of}
 use Rattle.chip_run.specs.Contents.{IsSpent, contents_of, counter_of, line_writes, sealed_line}
 use Rattle.chip_run.specs.LineMemory.{LineMemoryView, WriteParts, IsAccountedFor, IsLineMemory, IsMadeNext, IsNextWrite, IsUnmade, Moves, contents, lasting_stop, next_cipher, times_tagged}
 use Rattle.chip_run.specs.Moving.{was_none}
@@ -47,13 +47,13 @@ module _ {B T : Type 0} (d n : T → List ℕ → List ℕ) (history : B → Bus
   after stopped = record m { bus = new.bus; engine = new.engine; pads = new.pads; counters = counters'; stopped = stopped }
 
   abbrev cipher : List ℕ
-  cipher = enciphered m.pads.key line (counter_of (writes + 1)) bytes
+  cipher = cipher_of m.pads.key line (counter_of (writes + 1)) bytes
 
   abbrev message : Message
   message = Line line (counter_of (writes + 1)) cipher
 
   long : length cipher ≡ 64
-  long = enciphered_long m.pads.key line (counter_of (writes + 1)) bytes
+  long = length-cipher_of m.pads.key line (counter_of (writes + 1)) bytes
 
   -- Where the line's next message was made
 
@@ -228,6 +228,17 @@ module _ {B T : Type 0} (d n : T → List ℕ → List ℕ) (history : B → Bus
       OnOk result (line_writes new.pads.used line ≡ line_writes m.pads.used line + 1)
   write_raised (Ok _) wrote = made_raised wrote.1
   write_raised (Err stop) refused = tt
+
+  made_used : IsMadeNext line bytes old new → new.pads.used ≡ m.pads.used ++ (line, counter_of (line_writes m.pads.used line + 1)) ∷ []
+  made_used made =
+      let count : writes ≡ line_writes m.pads.used line =
+      read ∙ kept.counted.counts line inside ∙ sym (writes_same m.engine.made m.pads.used line kept.paired) in
+      ap (λ (p : PadEngineView). p.used) made.pads ∙ ap (λ (k : ℕ). m.pads.used ++ (line, counter_of (k + 1)) ∷ []) count
+
+  pub write_used : (result : Result (Unit {0}) MemStop) → IsNextWrite history (tags_of d n m.engine) m.limit line bytes old new result →
+      OnOk result (new.pads.used ≡ m.pads.used ++ (line, counter_of (line_writes m.pads.used line + 1)) ∷ [])
+  write_used (Ok _) wrote = made_used wrote.1
+  write_used (Err stop) refused = tt
 
   pub write_spent : (result : Result (Unit {0}) MemStop) → IsNextWrite history (tags_of d n m.engine) m.limit line bytes old new result →
       (result ≡ Err (Spent (page_of line))) ↔ (line_writes m.pads.used line ≡ m.limit)

@@ -11,12 +11,12 @@ use Rattle.sec_base.specs.Geometry.{page_of}
 use Rattle.sec_base.specs.Place.{IsPlace, zeros_of}
 use Rattle.sec_base.specs.Lines.{line_at, joined_lines}
 use Rattle.sec_base.specs.Evidence.{sealed_bytes}
-use Rattle.pad_stream.specs.Pad.{enciphered}
+use Rattle.pad_stream.specs.Pad.{cipher_of}
 
 -- the bytes of a line, by its last message: its ciphertext, deciphered under its counter; zeros where it has none
 abbrev pub bytes_of : List ℕ → ℕ → Option (Counter × List ℕ) → List ℕ
 bytes_of key line None = replicate 64 0
-bytes_of key line (Some last) = enciphered key line last.0 last.1
+bytes_of key line (Some last) = cipher_of key line last.0 last.1
 
 abbrev pub line_bytes : List ℕ → List Message → ℕ → List ℕ
 line_bytes key made line = bytes_of key line (last_data line made)

@@ -4,12 +4,12 @@ use Rattle.sec_base.specs.declared.counter.Counter.{Counter}
 use Rattle.sec_base.specs.declared.message.Message.{Message}
 use Rattle.sec_base.specs.LastMessage.{last_data}
 use Rattle.sec_base.proofs.JoinedLines.{length-joined_lines}
-use Rattle.pad_stream.proofs.Enciphering.{enciphered_long}
+use Rattle.pad_stream.proofs.Enciphering.{length-cipher_of}
 use Rattle.chip_run.specs.Contents.{bytes_of, line_bytes, contents_of}
 
 length-bytes_of : (key : List ℕ) (line : ℕ) (last : Option (Counter × List ℕ)) → length (bytes_of key line last) ≡ 64
 length-bytes_of key line None = refl
-length-bytes_of key line (Some last) = enciphered_long key line last.0 last.1
+length-bytes_of key line (Some last) = length-cipher_of key line last.0 last.1
 
 pub length-line_bytes : (key : List ℕ) (made : List Message) (line : ℕ) → length (line_bytes key made line) ≡ 64
 length-line_bytes key made line = length-bytes_of key line (last_data line made)

@@ -16,7 +16,7 @@ use Rattle.sec_base.specs.Geometry.{line_count, page_of}
 use Rattle.bus_model.specs.BusHistory.{BusHistory, after_read, after_write}
 use Rattle.bus_model.specs.FirstLie.{AccountsForLies}
 use Rattle.tag_engine.specs.TagEngine.{TagEngineView, new_engine, after_check_data, after_make, tags_of, with_room}
-use Rattle.pad_stream.specs.Pad.{enciphered}
+use Rattle.pad_stream.specs.Pad.{cipher_of}
 use Rattle.pad_stream.specs.Pads.{AreRising}
 use Rattle.pad_stream.specs.PadEngine.{PadEngineView, new_pads, after_encrypt, with_room as pads_with_room}
 use Rattle.chip_run.specs.Contents.{AreConsecutive, IsSpent, HoldsLast, HoldsSealed, NodesAreZeros, contents_of, counter_of, sealed_line}
@@ -157,7 +157,7 @@ pub record Passed {T : Type 0} (tag_of : Message → List ℕ) (key : List ℕ) 
   pub checked : engine' ≡ after_check_data line counter sealed true engine
   pub genuine : IfSome engine'.evidence (IsEvidence tag_of engine.made)
   pub long : length sealed.cipher ≡ 64
-  pub deciphered : bytes ≡ enciphered key line counter sealed.cipher
+  pub deciphered : bytes ≡ cipher_of key line counter sealed.cipher
 
 -- it has another
 pub record Failed {T : Type 0} (tag_of : Message → List ℕ) (line : ℕ) (counter : Counter) (history history' : BusHistory) (engine engine' : TagEngineView T) : Type 0 where
@@ -184,14 +184,14 @@ pub record WriteParts (B T : Type 0) : Type 0 where
 
 -- a line's bytes, enciphered under its next counter
 abbrev pub next_cipher : {B T : Type 0} → ℕ → List ℕ → WriteParts B T → List ℕ
-next_cipher line bytes parts = enciphered parts.pads.key line (counter_of (parts.writes + 1)) bytes
+next_cipher line bytes parts = cipher_of parts.pads.key line (counter_of (parts.writes + 1)) bytes
 
 -- the line's next message was made
 pub record IsMadeNext {B T : Type 0} (line : ℕ) (bytes : List ℕ) (old new : WriteParts B T) : Type 0 where
   pub engine : new.engine ≡ after_make (Line line (counter_of (old.writes + 1)) (next_cipher line bytes old)) (with_room 1 old.engine)
   pub pads : new.pads ≡ after_encrypt line (counter_of (old.writes + 1)) (pads_with_room 1 old.pads)
   pub writes : new.writes ≡ old.writes + 1
-  pub undone : enciphered old.pads.key line (counter_of (old.writes + 1)) (next_cipher line bytes old) ≡ bytes
+  pub undone : cipher_of old.pads.key line (counter_of (old.writes + 1)) (next_cipher line bytes old) ≡ bytes
 
 -- nothing was made, but there may be more room
 pub record IsUnmade {B T : Type 0} (history : B → BusHistory) (old new : WriteParts B T) : Type 0 where

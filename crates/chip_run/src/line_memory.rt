@@ -1,19 +1,22 @@
 // The lines of the protected memory: they stand outside the chip, enciphered, each with a tag beside it and a counter
 // on the chip.
-ghost use Rattle.std.specs.Prelude.{◌≡◌, ◌≢◌, ◌↔◌, ◌+◌, ◌<◌, ◌⊎◌, ◌∷◌, [], ℕ, None, Some, Ok, Err, IfOk, IfErr, OnOk, OnErr, IfSome, replicate};
+ghost use Rattle.std.specs.Prelude.{◌≡◌, ◌≢◌, ◌↔◌, ◌+◌, ◌<◌, ◌⊎◌, ◌∷◌, ◌++◌, [], ℕ, None, Some, Ok, Err, IfOk, IfErr, OnOk, OnErr, IfSome, replicate};
 ghost use Rattle.sec_base.specs.Count.{Rose};
 ghost use Rattle.sec_base.specs.Evidence.{IsEvidence};
 ghost use Rattle.sec_base.specs.Geometry.{line_count, page_of};
 ghost use Rattle.sec_base.specs.LastMessage.{IsFresh};
 ghost use Rattle.sec_base.specs.Lines.{line_at, with_line};
 ghost use Rattle.sec_base.specs.Place.{IsPlace};
+ghost use Rattle.sec_base.specs.declared.counter.Counter.{Counter};
+ghost use Rattle.sec_base.specs.declared.evidence.Evidence.TheVariants.{Forgery};
 ghost use Rattle.sec_base.specs.declared.message.Message.TheVariants.{Line};
 ghost use Rattle.sec_base.specs.declared.place.Place.TheVariants.{Line as line_place};
 ghost use Rattle.sec_base.specs.declared.place.Place.{Place};
+ghost use Rattle.sec_base.specs.declared.sealed.Sealed.{Sealed};
 ghost use Rattle.sec_base.specs.declared.stop.MemStop.TheVariants.{Tampered, Spent};
 ghost use Rattle.sec_base.specs.declared.stop.MemStop.{MemStop};
 ghost use Rattle.bus_model.specs.BusHistory.{NothingWritten, after_write};
-ghost use Rattle.pad_stream.specs.Pad.{enciphered};
+ghost use Rattle.pad_stream.specs.Pad.{cipher_of};
 ghost use Rattle.pad_stream.specs.PadEngine.{after_encrypt};
 ghost use Rattle.tag_engine.specs.TagEngine.{after_make, tags_of};
 ghost use Rattle.chip_run.specs.Contents.{counter_of, line_writes, sealed_line};
@@ -71,7 +74,8 @@ impl<B: Bus, T: Tagger> LineMemory<B, T> {
         requires levels { (B.history bus).levels ≡ geometry }
         requires nothing_written { NothingWritten (B.history bus) }
 
-        ensures new { IfOk result (λ memory. memory ≡ new_line_memory bus tagger enc_key.now geometry page_limit) }
+        ensures new { IfOk result (λ memory.
+            memory ≡ new_line_memory bus tagger enc_key.now geometry page_limit) }
         ensures refused { IfErr result (λ refusal. refusal.0 ≡ bus) }
     {
         let Ok(tags) = TagEngine::new(alloc, tagger, geometry) else {
@@ -108,7 +112,8 @@ impl<B: Bus, T: Tagger> LineMemory<B, T> {
         ensures evidence { result.0.evidence ≡ self.engine.evidence }
         ensures bus { result.1 ≡ self.bus }
 
-        ensures genuine { IfSome result.0.evidence (IsEvidence (tag_in T.data_tag_of T.node_tag_of self) result.0.made) }
+        ensures genuine { IfSome result.0.evidence
+            (IsEvidence (tag_in T.data_tag_of T.node_tag_of self) result.0.made) }
         ensures kept { IsLineMemory (tag_in T.data_tag_of T.node_tag_of self) (B.history self.bus) self }
     {
         let LineMemory {
@@ -141,9 +146,11 @@ impl<B: Bus, T: Tagger> LineStore for LineMemory<B, T> {
 
     ghost stopped = { λ memory. memory.stopped };
 
-    ghost read_moved = { λ before line after. ReadMoved B.history B.moved (tags_of T.data_tag_of T.node_tag_of) before line after };
+    ghost read_moved = { λ before line after.
+        ReadMoved B.history B.moved (tags_of T.data_tag_of T.node_tag_of) before line after };
 
-    ghost write_moved = { λ before line after. Moves B.history B.moved (tags_of T.data_tag_of T.node_tag_of) before after };
+    ghost write_moved = { λ before line after.
+        Moves B.history B.moved (tags_of T.data_tag_of T.node_tag_of) before after };
 
     fn lines(&self) -> u32 {
         self.geometry.lines()
@@ -153,8 +160,10 @@ impl<B: Bus, T: Tagger> LineStore for LineMemory<B, T> {
     fn read_line(&mut self, line: u32) -> Result<[u8; 64], MemStop>
         requires inside { line < lines_of self.old }
 
-        ensures value { self.old.stopped ≡ None → IsQuiet self.new → IfOk result (λ bytes. bytes ≡ line_at (contents self.old) line) }
-        ensures contents { self.old.stopped ≡ None → IsQuiet self.new → contents self.new ≡ contents self.old }
+        ensures value { lasting_stop self.old.stopped ≡ None → IsQuiet self.new →
+            IfOk result (λ bytes. bytes ≡ line_at (contents self.old) line) }
+        ensures contents { lasting_stop self.old.stopped ≡ None → IsQuiet self.new →
+            contents self.new ≡ contents self.old }
 
         ensures goes_on { OnOk result (self.new.stopped ≡ self.old.stopped) }
         ensures stops { self.old.stopped ≡ None → IfErr result (λ stop. self.new.stopped ≡ Some stop) }
@@ -164,14 +173,20 @@ impl<B: Bus, T: Tagger> LineStore for LineMemory<B, T> {
         ensures moved { ReadMoved B.history B.moved (tags_of T.data_tag_of T.node_tag_of) self.old line self.new }
 
         // A lasting stop is answered again, and nothing is done.
-        ensures kept { (stop : MemStop) → lasting_stop self.old.stopped ≡ Some stop → (result ≡ Err stop) × (self.new ≡ self.old) }
+        ensures kept { (stop : MemStop) → lasting_stop self.old.stopped ≡ Some stop →
+            (result ≡ Err stop) × (self.new ≡ self.old) }
+
+        // What passed though it was never tagged is answered as it was deciphered.
+        ensures accepted { (counter : Counter) (sealed : Sealed) (made_count : ℕ) →
+            IsQuiet self.old → self.new.engine.evidence ≡ Some (Forgery line counter sealed made_count) →
+            IfOk result (λ bytes. bytes ≡ cipher_of self.old.pads.key line counter sealed.cipher) }
 
         // A line that was never written is read without an access, and nothing changes.
         ensures fresh { IsFresh line self.old.pads.used → self.new ≡ self.old }
 
         // Tampering comes only of this line, and where an answer was false.
-        ensures tampered { (place : Place) → lasting_stop self.old.stopped ≡ None → IsQuiet self.old →
-            result ≡ Err (Tampered place) → (place ≡ line_place line)
+        ensures tampered { (place : Place) → lasting_stop self.old.stopped ≡ None →
+            IsQuiet self.old → result ≡ Err (Tampered place) → (place ≡ line_place line)
             × Rose (B.history self.old.bus).lies (B.history self.new.bus).lies }
         ensures unspent { (page : ℕ) → result ≢ Err (Spent page) }
     {
@@ -196,10 +211,11 @@ impl<B: Bus, T: Tagger> LineStore for LineMemory<B, T> {
     fn write_line(&mut self, line: u32, bytes: &[u8; 64]) -> Result<(), MemStop>
         requires inside { line < lines_of self.old }
 
-        ensures stored { self.old.stopped ≡ None → IsQuiet self.new →
+        ensures stored { lasting_stop self.old.stopped ≡ None → IsQuiet self.new →
             OnOk result (contents self.new ≡ with_line (contents self.old) line bytes.now) }
-        ensures refused { self.old.stopped ≡ None → IsQuiet self.new → OnErr result (
-            (contents self.new ≡ contents self.old) ⊎ (contents self.new ≡ with_line (contents self.old) line bytes.now)) }
+        ensures refused { lasting_stop self.old.stopped ≡ None → IsQuiet self.new → OnErr result (
+            (contents self.new ≡ contents self.old)
+            ⊎ (contents self.new ≡ with_line (contents self.old) line bytes.now)) }
 
         ensures goes_on { OnOk result (self.new.stopped ≡ self.old.stopped) }
         ensures stops { self.old.stopped ≡ None → IfErr result (λ stop. self.new.stopped ≡ Some stop) }
@@ -209,17 +225,24 @@ impl<B: Bus, T: Tagger> LineStore for LineMemory<B, T> {
         ensures moved { Moves B.history B.moved (tags_of T.data_tag_of T.node_tag_of) self.old self.new }
 
         // A lasting stop is answered again, and nothing is done.
-        ensures kept { (stop : MemStop) → lasting_stop self.old.stopped ≡ Some stop → (result ≡ Err stop) × (self.new ≡ self.old) }
+        ensures kept { (stop : MemStop) → lasting_stop self.old.stopped ≡ Some stop →
+            (result ≡ Err stop) × (self.new ≡ self.old) }
 
         // A line that was written as often as the limit allows is not written again, and nothing else is refused so.
         ensures spent { lasting_stop self.old.stopped ≡ None →
-            ((result ≡ Err (Spent (page_of line))) ↔ (line_writes self.old.pads.used line ≡ self.old.limit)) }
+            ((result ≡ Err (Spent (page_of line)))
+            ↔ (line_writes self.old.pads.used line ≡ self.old.limit)) }
         ensures spent_stays { (page : ℕ) → result ≡ Err (Spent page) → (page ≡ page_of line)
             × (self.new ≡ record self.old { stopped = Some (Spent page) }) }
 
-        // The line's counter is raised by one.
-        ensures raised { OnOk result (line_writes self.new.pads.used line ≡ line_writes self.old.pads.used line + 1) }
-        ensures untampered { (place : Place) → lasting_stop self.old.stopped ≡ None → result ≢ Err (Tampered place) }
+        // It is enciphered once, under its next counter.
+        ensures used { OnOk result (self.new.pads.used
+            ≡ self.old.pads.used ++ (line, counter_of (line_writes self.old.pads.used line + 1)) ∷ []) }
+        ensures raised { OnOk result
+            (line_writes self.new.pads.used line ≡ line_writes self.old.pads.used line + 1) }
+
+        ensures untampered { (place : Place) → lasting_stop self.old.stopped ≡ None →
+            result ≢ Err (Tampered place) }
     {
         if let Some(stop) = lasting(self.stopped) {
             return Err(stop);
@@ -279,8 +302,8 @@ fn read_checked<B: Bus, T: Tagger>(
     requires place { IsPlace (B.history bus.old).levels (line_place line) }
     requires line { line < line_count tags.old.levels }
 
-    ensures read { IsCheckedRead (tags_of T.data_tag_of T.node_tag_of tags.old) pads.now.key line counter
-        (B.history bus.old) (B.history bus.new) tags.old tags.new result }
+    ensures read { IsCheckedRead (tags_of T.data_tag_of T.node_tag_of tags.old)
+        pads.now.key line counter (B.history bus.old) (B.history bus.new) tags.old tags.new result }
     ensures moved { B.moved bus.old bus.new }
 {
     let sealed = bus.read_data(line)?;
@@ -303,7 +326,8 @@ fn write_next<B: Bus, T: Tagger>(
     requires place { IsPlace (B.history bus.old).levels (line_place line) }
     requires line { line < line_count tags.old.levels }
 
-    ensures written { IsNextWrite B.history (tags_of T.data_tag_of T.node_tag_of tags.old) limit line bytes.now
+    ensures written { IsNextWrite B.history (tags_of T.data_tag_of T.node_tag_of tags.old)
+        limit line bytes.now
         (record { bus = bus.old; engine = tags.old; pads = pads.old; writes = writes.old })
         (record { bus = bus.new; engine = tags.new; pads = pads.new; writes = writes.new }) result }
     ensures moved { B.moved bus.old bus.new }
@@ -333,12 +357,13 @@ fn write_sealed<B: Bus, T: Tagger>(
     requires room { 0 < tags.old.room }
     requires pad_room { 0 < pads.old.room }
 
-    ensures tags { tags.new ≡ after_make (Line line counter (enciphered pads.old.key line counter bytes.now)) tags.old }
+    ensures tags { tags.new
+        ≡ after_make (Line line counter (cipher_of pads.old.key line counter bytes.now)) tags.old }
     ensures pads { pads.new ≡ after_encrypt line counter pads.old }
-    ensures undone { enciphered pads.old.key line counter (enciphered pads.old.key line counter bytes.now) ≡ bytes.now }
+    ensures undone { cipher_of pads.old.key line counter (cipher_of pads.old.key line counter bytes.now) ≡ bytes.now }
     ensures ok { OnOk result (B.history bus.new ≡ after_write (line_place line)
-        (sealed_line (tags_of T.data_tag_of T.node_tag_of tags.old) line counter (enciphered pads.old.key line counter bytes.now))
-        (B.history bus.old)) }
+        (sealed_line (tags_of T.data_tag_of T.node_tag_of tags.old) line counter
+        (cipher_of pads.old.key line counter bytes.now)) (B.history bus.old)) }
     ensures err { OnErr result (B.history bus.new ≡ B.history bus.old) }
     ensures moved { B.moved bus.old bus.new }
 {

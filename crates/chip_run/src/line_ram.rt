@@ -41,7 +41,8 @@ impl<B: Bus, T: Tagger> Ram for LineRam<B, T> {
 
     ghost stopped = { λ memory. memory.lines.stopped };
 
-    ghost moved = { λ before lines after. IsMoved B.history B.moved (tags_of T.data_tag_of T.node_tag_of) before.lines lines after.lines };
+    ghost moved = { λ before lines after.
+        IsMoved B.history B.moved (tags_of T.data_tag_of T.node_tag_of) before.lines lines after.lines };
 
     fn size(&self) -> u32 {
         LINE_LEN * self.lines.lines()
@@ -64,10 +65,13 @@ impl<B: Bus, T: Tagger> Ram for LineRam<B, T> {
         self.lines.write_line(addr / LINE_LEN, &line)
     }
 
-    ghost sized = { λ memory. length-contents_of memory.lines.pads.key (lines_of memory.lines) memory.lines.engine.made };
+    ghost sized = { λ memory.
+        length-contents_of memory.lines.pads.key (lines_of memory.lines) memory.lines.engine.made };
 
-    ghost unmoved = { λ memory. unmoved B.history B.moved (tags_of T.data_tag_of T.node_tag_of) B.unmoved memory.lines };
+    ghost unmoved = { λ memory.
+        unmoved B.history B.moved (tags_of T.data_tag_of T.node_tag_of) B.unmoved memory.lines };
 
     ghost moved_on = { λ first second third before after a b.
-        moved_on B.history B.moved (tags_of T.data_tag_of T.node_tag_of) B.moved_on first.lines second.lines third.lines before after a b };
+        moved_on B.history B.moved (tags_of T.data_tag_of T.node_tag_of) B.moved_on
+        first.lines second.lines third.lines before after a b };
 }

@@ -22,9 +22,9 @@ pad_of key line counter =
     ++ pad_block key line counter 3
 
 -- each of 64 bytes xor that of the pad
-unfoldable pub xored : List ℕ → List ℕ → List ℕ
-xored pad bytes = map (λ place. bit_xor (slice_index pad place) (slice_index bytes place)) (range_with_len 0 64)
+unfoldable pub xor_of : List ℕ → List ℕ → List ℕ
+xor_of pad bytes = map (λ place. bit_xor (slice_index pad place) (slice_index bytes place)) (range_with_len 0 64)
 
 -- a line's bytes, enciphered under its number and its counter, and those of its cipher, deciphered
-unfoldable pub enciphered : List ℕ → ℕ → Counter → List ℕ → List ℕ
-enciphered key line counter bytes = xored (pad_of key line counter) bytes
+unfoldable pub cipher_of : List ℕ → ℕ → Counter → List ℕ → List ℕ
+cipher_of key line counter bytes = xor_of (pad_of key line counter) bytes

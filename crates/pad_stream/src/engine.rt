@@ -1,5 +1,5 @@
 ghost use Rattle.std.specs.Prelude.{◌≡◌, ◌<◌, IsOk, IfOk, OnOk, OnErr};
-ghost use Rattle.pad_stream.specs.Pad.{enciphered};
+ghost use Rattle.pad_stream.specs.Pad.{cipher_of};
 ghost use Rattle.pad_stream.specs.PadEngine.{PadEngineView, new_pads, with_room, after_encrypt};
 
 use crate::pad::mixed_line;
@@ -60,8 +60,8 @@ impl PadEngine {
         counter: Counter,
         plain: &[u8; 64],
     ) -> Result<[u8; 64], NoMemory>
-        ensures cipher { IfOk result (λ cipher. cipher ≡ enciphered self.old.key line counter plain.now) }
-        ensures undone { IfOk result (λ cipher. enciphered self.old.key line counter cipher ≡ plain.now) }
+        ensures cipher { IfOk result (λ cipher. cipher ≡ cipher_of self.old.key line counter plain.now) }
+        ensures undone { IfOk result (λ cipher. cipher_of self.old.key line counter cipher ≡ plain.now) }
         ensures used { OnOk result (self.new ≡ after_encrypt line counter self.old) }
 
         ensures sure { 0 < self.old.room → IsOk result }
@@ -74,8 +74,8 @@ impl PadEngine {
 
     /// The bytes that a line's cipher is of. It takes no memory.
     pub fn decrypt(&self, line: u32, counter: Counter, cipher: &[u8; 64]) -> [u8; 64]
-        ensures plain { result ≡ enciphered self.now.key line counter cipher.now }
-        ensures undone { enciphered self.now.key line counter result ≡ cipher.now }
+        ensures plain { result ≡ cipher_of self.now.key line counter cipher.now }
+        ensures undone { cipher_of self.now.key line counter result ≡ cipher.now }
     {
         mixed_line(&self.key, line, counter, cipher)
     }

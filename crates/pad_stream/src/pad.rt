@@ -1,16 +1,16 @@
 // The pad of a line, and lines mixed with it.
 ghost use Rattle.std.specs.Prelude.{◌≡◌};
-ghost use Rattle.pad_stream.specs.Pad.{pad_input, pad_of, xored, enciphered};
+ghost use Rattle.pad_stream.specs.Pad.{pad_input, pad_of, xor_of, cipher_of};
 
 use aes128_block::Key;
 use sec_base::{Counter, put};
 
 /// A line mixed with the pad of its number and its counter, which is its cipher, or the line again where it was a
 /// cipher.
-#[tactic(auto, using(crate::proofs::Enciphering::enciphered_twice), unfolding(crate::specs::Pad::enciphered))]
+#[tactic(auto, using(crate::proofs::Enciphering::cipher_of_twice), unfolding(crate::specs::Pad::cipher_of))]
 pub(crate) fn mixed_line(key: &Key, line: u32, counter: Counter, bytes: &[u8; 64]) -> [u8; 64]
-    ensures value { result ≡ enciphered key.now line counter bytes.now }
-    ensures undone { enciphered key.now line counter result ≡ bytes.now }
+    ensures value { result ≡ cipher_of key.now line counter bytes.now }
+    ensures undone { cipher_of key.now line counter result ≡ bytes.now }
 {
     mixed(&line_pad(key, line, counter), bytes)
 }
@@ -41,7 +41,7 @@ pub(crate) fn input_block(line: u32, counter: Counter, block: u8) -> [u8; 16]
 
 // Each byte of a line with that of the pad, by xor.
 fn mixed(pad: &[u8; 64], bytes: &[u8; 64]) -> [u8; 64]
-    ensures { result ≡ xored pad.now bytes.now }
+    ensures { result ≡ xor_of pad.now bytes.now }
 {
     let mut mixed = [0; 64];
     for place in 0..64 {

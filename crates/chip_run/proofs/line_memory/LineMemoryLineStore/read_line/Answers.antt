@@ -7,7 +7,7 @@ use Rattle.sec_base.specs.declared.stop.MemStop.{MemStop}
 use Rattle.tag_engine.specs.TagEngine.{tags_of}
 use Rattle.chip_run.specs.LineMemory.{LineMemoryView, IsCheckedRead, IsLineMemory, ReadMoved, lasting_stop}
 use Rattle.chip_run.specs.LineMemoryInside.{line_memory_view}
-use Rattle.chip_run.proofs.CheckedReads.{not_fresh, read_moves, read_tampered, read_value}
+use Rattle.chip_run.proofs.CheckedReads.{not_fresh, read_accepted, read_moves, read_tampered, read_value}
 use Rattle.chip_run.proofs.Keeping.{read_kept}
 use Rattle.chip_run.proofs.LineMessages.{counter_read}
 use Rattle.chip_run.proofs.LineMoves.{fresh_moved, lasting_read, line_there, never_written, read_levels_stay}
@@ -68,6 +68,19 @@ returns-clause-value g c = λ _ quiet.
     rw (← c.self.view_is)
     (read_value g.T.Tagger.data_tag_of g.T.Tagger.node_tag_of g.B.Bus.history g.B.Bus.moved m c.args.line c.index-writes.result.now c.read_checked-read.new.bus c.read_checked-read.new.tags c.read_checked-read.result
     c.self.invariant.1 going inside read c.if-writes-eq0.false is quiet)
+
+pub returns-clause-accepted : goal.returns-clause-accepted
+returns-clause-accepted g c = λ counter sealed made_count quiet shown.
+    let m = line_memory_view c.self.inside in
+    let inside : c.args.line < line_count m.engine.levels = rw (← c.self.view_is) at c.requires.inside in
+    let going : lasting_stop m.stopped ≡ None = sym c.lasting.ensures ∙ c.in_default.is in
+    let read = counter_read (line_count m.engine.levels) m.limit m.engine.made m.counters c.args.line c.index-writes.result.now c.self.invariant.1.counted inside c.index-writes.ensures in
+    let is = subst (λ (k : Counter). IsCheckedRead (tags_of g.T.Tagger.data_tag_of g.T.Tagger.node_tag_of m.engine) m.pads.key c.args.line k
+    (g.B.Bus.history m.bus) (g.B.Bus.history c.read_checked-read.new.bus) m.engine c.read_checked-read.new.tags c.read_checked-read.result) c.counter_of.ensures c.read_checked-read.ensures.read in
+    let before : m.engine.evidence ≡ None = rw (← c.self.view_is) at quiet in
+    rw (← c.self.view_is)
+    (read_accepted g.T.Tagger.data_tag_of g.T.Tagger.node_tag_of g.B.Bus.history g.B.Bus.moved m c.args.line c.index-writes.result.now c.read_checked-read.new.bus c.read_checked-read.new.tags c.read_checked-read.result
+    c.self.invariant.1 going inside read c.if-writes-eq0.false is counter sealed made_count before shown)
 
 pub returns-clause-moved : goal.returns-clause-moved
 returns-clause-moved g c =

@@ -8,7 +8,7 @@ use Rattle.chip_run.specs.LineMemory.{LineMemoryView, IsLineMemory, Moves, Write
 use Rattle.chip_run.specs.LineMemoryInside.{line_memory_view}
 use Rattle.chip_run.specs.Moving.{moves_not}
 use Rattle.chip_run.proofs.LineMessages.{counter_read}
-use Rattle.chip_run.proofs.NextWrites.{write_kept, write_moves, write_raised, write_refused, write_spent, write_stored}
+use Rattle.chip_run.proofs.NextWrites.{write_kept, write_moves, write_raised, write_refused, write_spent, write_stored, write_used}
 use Rattle.chip_run.proofs.line_memory.LineMemoryLineStore.write_line.Goals as goal
 
 pub returns-in-Some-clause-moved : goal.returns-in-Some-clause-moved
@@ -103,4 +103,17 @@ returns-clause-raised g c =
     let counters = slice_set m.counters c.args.line new.writes in
     rw (← c.self.view_is)
     (write_raised g.T.Tagger.data_tag_of g.T.Tagger.node_tag_of g.B.Bus.history g.B.Bus.moved m c.args.line c.index_mut.result.now c.args.bytes.now new counters
+    c.self.invariant.1 going inside read refl c.write_next-written.result c.write_next-written.ensures.written)
+
+pub returns-clause-used : goal.returns-clause-used
+returns-clause-used g c =
+    let m = line_memory_view c.self.inside in
+    let inside : c.args.line < line_count m.engine.levels = rw (← c.self.view_is) at c.requires.inside in
+    let going : lasting_stop m.stopped ≡ None = sym c.lasting.ensures ∙ c.in_default.is in
+    let read = counter_read (line_count m.engine.levels) m.limit m.engine.made m.counters c.args.line c.index_mut.result.now c.self.invariant.1.counted inside c.index_mut.ensures.value in
+    let new : WriteParts g.row.B.Denot g.row.T.Denot =
+    record { bus = c.write_next-written.new.bus; engine = c.write_next-written.new.tags; pads = c.write_next-written.new.pads; writes = c.write_next-written.new.writes } in
+    let counters = slice_set m.counters c.args.line new.writes in
+    rw (← c.self.view_is)
+    (write_used g.T.Tagger.data_tag_of g.T.Tagger.node_tag_of g.B.Bus.history g.B.Bus.moved m c.args.line c.index_mut.result.now c.args.bytes.now new counters
     c.self.invariant.1 going inside read refl c.write_next-written.result c.write_next-written.ensures.written)

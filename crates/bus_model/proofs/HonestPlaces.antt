@@ -13,7 +13,7 @@ use Rattle.sec_base.proofs.Numbers.{number_inside, numbers_apart}
 use Rattle.sec_base.proofs.SamePlaces.{functions_same, false_from}
 use Rattle.bus_model.specs.declared.honest_bus.DataPlace.{DataPlace}
 use Rattle.bus_model.specs.declared.honest_bus.NodePlace.{NodePlace}
-use Rattle.bus_model.specs.HonestBus.{HonestBusView, kept_line, kept_node, kept_bytes, kept_reads, is_node, empty_line, empty_node}
+use Rattle.bus_model.specs.HonestBus.{HonestBusView, data_place_at, node_place_at, place_bytes, place_reads, is_node, empty_line, empty_node}
 
 -- one item changed
 item_set : {A : Type 0} (items : List A) (at other : ℕ) (item none : A) → at < length items →
@@ -41,7 +41,7 @@ true_false false holds fails = absurd (cc)
 -- a line's place changed
 line_set : (kept : HonestBusView) (line other accesses : ℕ) (item : DataPlace) →
     line < line_count kept.levels → length kept.lines ≡ line_count kept.levels →
-    kept_line (record kept { lines = slice_set kept.lines line item; accesses = accesses }) other ≡ cond (nat_eq other line) item (kept_line kept other)
+    data_place_at (record kept { lines = slice_set kept.lines line item; accesses = accesses }) other ≡ cond (nat_eq other line) item (data_place_at kept other)
 line_set kept line other accesses item inside whole =
     guarded (nat_lt other (line_count kept.levels)) (nat_eq other line) item
     (slice_index_or (slice_set kept.lines line item) other empty_line) (slice_index_or kept.lines other empty_line) empty_line
@@ -51,33 +51,33 @@ line_set kept line other accesses item inside whole =
 
 line_bytes_at : (kept : HonestBusView) (line accesses : ℕ) (item : DataPlace) →
     line < line_count kept.levels → length kept.lines ≡ line_count kept.levels → (place : Place) →
-    kept_bytes (record kept { lines = slice_set kept.lines line item; accesses = accesses }) place
-    ≡ at_place (Line line) (sealed_bytes item.sealed) (kept_bytes kept) place
+    place_bytes (record kept { lines = slice_set kept.lines line item; accesses = accesses }) place
+    ≡ at_place (Line line) (sealed_bytes item.sealed) (place_bytes kept) place
 line_bytes_at kept line accesses item inside whole (Line other) =
     ap (λ (x : DataPlace). sealed_bytes x.sealed) (line_set kept line other accesses item inside whole)
-    ∙ of_chosen (λ (x : DataPlace). sealed_bytes x.sealed) (nat_eq other line) item (kept_line kept other)
+    ∙ of_chosen (λ (x : DataPlace). sealed_bytes x.sealed) (nat_eq other line) item (data_place_at kept other)
 line_bytes_at kept line accesses item inside whole (Node level index) = refl
 
 line_reads_at : (kept : HonestBusView) (line accesses : ℕ) (item : DataPlace) →
     line < line_count kept.levels → length kept.lines ≡ line_count kept.levels → (place : Place) →
-    kept_reads (record kept { lines = slice_set kept.lines line item; accesses = accesses }) place
-    ≡ at_place (Line line) item.reads (kept_reads kept) place
+    place_reads (record kept { lines = slice_set kept.lines line item; accesses = accesses }) place
+    ≡ at_place (Line line) item.reads (place_reads kept) place
 line_reads_at kept line accesses item inside whole (Line other) =
     ap (λ (x : DataPlace). x.reads) (line_set kept line other accesses item inside whole)
-    ∙ of_chosen (λ (x : DataPlace). x.reads) (nat_eq other line) item (kept_line kept other)
+    ∙ of_chosen (λ (x : DataPlace). x.reads) (nat_eq other line) item (data_place_at kept other)
 line_reads_at kept line accesses item inside whole (Node level index) = refl
 
 pub line_bytes : (kept : HonestBusView) (line accesses : ℕ) (item : DataPlace) →
     line < line_count kept.levels → length kept.lines ≡ line_count kept.levels →
-    kept_bytes (record kept { lines = slice_set kept.lines line item; accesses = accesses })
-    ≡ at_place (Line line) (sealed_bytes item.sealed) (kept_bytes kept)
+    place_bytes (record kept { lines = slice_set kept.lines line item; accesses = accesses })
+    ≡ at_place (Line line) (sealed_bytes item.sealed) (place_bytes kept)
 line_bytes kept line accesses item inside whole =
     functions_same _ _ (λ (place : Place). line_bytes_at kept line accesses item inside whole place)
 
 pub line_reads : (kept : HonestBusView) (line accesses : ℕ) (item : DataPlace) →
     line < line_count kept.levels → length kept.lines ≡ line_count kept.levels →
-    kept_reads (record kept { lines = slice_set kept.lines line item; accesses = accesses })
-    ≡ at_place (Line line) item.reads (kept_reads kept)
+    place_reads (record kept { lines = slice_set kept.lines line item; accesses = accesses })
+    ≡ at_place (Line line) item.reads (place_reads kept)
 line_reads kept line accesses item inside whole =
     functions_same _ _ (λ (place : Place). line_reads_at kept line accesses item inside whole place)
 
@@ -107,8 +107,8 @@ moved_node levels level index other at same same' node = rw (same, same') node
 -- a node's place changed
 node_set : (kept : HonestBusView) (level index other at accesses : ℕ) (item : NodePlace) →
     IsNode kept.levels level index → length kept.nodes ≡ node_end kept.levels →
-    kept_node (record kept { nodes = slice_set kept.nodes (node_number kept.levels level index) item; accesses = accesses }) other at
-    ≡ cond (nat_eq other level && nat_eq at index) item (kept_node kept other at)
+    node_place_at (record kept { nodes = slice_set kept.nodes (node_number kept.levels level index) item; accesses = accesses }) other at
+    ≡ cond (nat_eq other level && nat_eq at index) item (node_place_at kept other at)
 node_set kept level index other at accesses item node whole =
     let here : ℕ = node_number kept.levels level index in
     let there : ℕ = node_number kept.levels other at in
@@ -125,46 +125,46 @@ node_set kept level index other at accesses item node whole =
 
 node_bytes_at : (kept : HonestBusView) (level index accesses : ℕ) (item : NodePlace) →
     IsNode kept.levels level index → length kept.nodes ≡ node_end kept.levels → (place : Place) →
-    kept_bytes (record kept { nodes = slice_set kept.nodes (node_number kept.levels level index) item; accesses = accesses }) place
-    ≡ at_place (Node level index) item.block (kept_bytes kept) place
+    place_bytes (record kept { nodes = slice_set kept.nodes (node_number kept.levels level index) item; accesses = accesses }) place
+    ≡ at_place (Node level index) item.block (place_bytes kept) place
 node_bytes_at kept level index accesses item node whole (Line line) = refl
 node_bytes_at kept level index accesses item node whole (Node other at) =
     ap (λ (x : NodePlace). x.block) (node_set kept level index other at accesses item node whole)
-    ∙ of_chosen (λ (x : NodePlace). x.block) (nat_eq other level && nat_eq at index) item (kept_node kept other at)
+    ∙ of_chosen (λ (x : NodePlace). x.block) (nat_eq other level && nat_eq at index) item (node_place_at kept other at)
 
 node_reads_at : (kept : HonestBusView) (level index accesses : ℕ) (item : NodePlace) →
     IsNode kept.levels level index → length kept.nodes ≡ node_end kept.levels → (place : Place) →
-    kept_reads (record kept { nodes = slice_set kept.nodes (node_number kept.levels level index) item; accesses = accesses }) place
-    ≡ at_place (Node level index) item.reads (kept_reads kept) place
+    place_reads (record kept { nodes = slice_set kept.nodes (node_number kept.levels level index) item; accesses = accesses }) place
+    ≡ at_place (Node level index) item.reads (place_reads kept) place
 node_reads_at kept level index accesses item node whole (Line line) = refl
 node_reads_at kept level index accesses item node whole (Node other at) =
     ap (λ (x : NodePlace). x.reads) (node_set kept level index other at accesses item node whole)
-    ∙ of_chosen (λ (x : NodePlace). x.reads) (nat_eq other level && nat_eq at index) item (kept_node kept other at)
+    ∙ of_chosen (λ (x : NodePlace). x.reads) (nat_eq other level && nat_eq at index) item (node_place_at kept other at)
 
 pub node_bytes : (kept : HonestBusView) (level index accesses : ℕ) (item : NodePlace) →
     IsNode kept.levels level index → length kept.nodes ≡ node_end kept.levels →
-    kept_bytes (record kept { nodes = slice_set kept.nodes (node_number kept.levels level index) item; accesses = accesses })
-    ≡ at_place (Node level index) item.block (kept_bytes kept)
+    place_bytes (record kept { nodes = slice_set kept.nodes (node_number kept.levels level index) item; accesses = accesses })
+    ≡ at_place (Node level index) item.block (place_bytes kept)
 node_bytes kept level index accesses item node whole =
     functions_same _ _ (λ (place : Place). node_bytes_at kept level index accesses item node whole place)
 
 pub node_reads : (kept : HonestBusView) (level index accesses : ℕ) (item : NodePlace) →
     IsNode kept.levels level index → length kept.nodes ≡ node_end kept.levels →
-    kept_reads (record kept { nodes = slice_set kept.nodes (node_number kept.levels level index) item; accesses = accesses })
-    ≡ at_place (Node level index) item.reads (kept_reads kept)
+    place_reads (record kept { nodes = slice_set kept.nodes (node_number kept.levels level index) item; accesses = accesses })
+    ≡ at_place (Node level index) item.reads (place_reads kept)
 node_reads kept level index accesses item node whole =
     functions_same _ _ (λ (place : Place). node_reads_at kept level index accesses item node whole place)
 
 -- what stands at a place inside
 pub line_there : (kept : HonestBusView) (line : ℕ) (item : DataPlace) → line < line_count kept.levels →
-    length kept.lines ≡ line_count kept.levels → item ≡ slice_index_or kept.lines line item → kept_line kept line ≡ item
+    length kept.lines ≡ line_count kept.levels → item ≡ slice_index_or kept.lines line item → data_place_at kept line ≡ item
 line_there kept line item inside whole read =
     let yes_inside : nat_lt line (line_count kept.levels) ≡ true = (Decides-ltb line (line_count kept.levels)).1 inside in
     rw yes_inside (get_or_default kept.lines line empty_line item (omega arith) ∙ sym read)
 
 pub node_there : (kept : HonestBusView) (level index : ℕ) (item : NodePlace) → IsNode kept.levels level index →
     length kept.nodes ≡ node_end kept.levels → item ≡ slice_index_or kept.nodes (node_number kept.levels level index) item →
-    kept_node kept level index ≡ item
+    node_place_at kept level index ≡ item
 node_there kept level index item node whole read =
     let yes_inside : is_node kept.levels level index ≡ true = (is_node-Decides kept.levels level index).1 node in
     rw yes_inside (get_or_default kept.nodes (node_number kept.levels level index) empty_node item
