@@ -15,9 +15,13 @@ unfoldable pub field_bits : Format → Inst → ℕ
 field_bits R i = i.rd * 2 ^ 7 + i.rs1 * 2 ^ 15 + i.rs2 * 2 ^ 20
 field_bits I i = i.rd * 2 ^ 7 + i.rs1 * 2 ^ 15 + imm_bits i 0 12 * 2 ^ 20
 field_bits S i = imm_bits i 0 5 * 2 ^ 7 + i.rs1 * 2 ^ 15 + i.rs2 * 2 ^ 20 + imm_bits i 5 7 * 2 ^ 25
-field_bits B i = imm_bits i 11 1 * 2 ^ 7 + imm_bits i 1 4 * 2 ^ 8 + i.rs1 * 2 ^ 15 + i.rs2 * 2 ^ 20 + imm_bits i 5 6 * 2 ^ 25 + imm_bits i 12 1 * 2 ^ 31
+field_bits B i =
+    imm_bits i 11 1 * 2 ^ 7 + imm_bits i 1 4 * 2 ^ 8 + i.rs1 * 2 ^ 15 + i.rs2 * 2 ^ 20 + imm_bits i 5 6 * 2 ^ 25
+    + imm_bits i 12 1 * 2 ^ 31
 field_bits U i = i.rd * 2 ^ 7 + imm_bits i 12 20 * 2 ^ 12
-field_bits J i = i.rd * 2 ^ 7 + imm_bits i 12 8 * 2 ^ 12 + imm_bits i 11 1 * 2 ^ 20 + imm_bits i 1 10 * 2 ^ 21 + imm_bits i 20 1 * 2 ^ 31
+field_bits J i =
+    i.rd * 2 ^ 7 + imm_bits i 12 8 * 2 ^ 12 + imm_bits i 11 1 * 2 ^ 20 + imm_bits i 1 10 * 2 ^ 21
+    + imm_bits i 20 1 * 2 ^ 31
 field_bits Shift i = i.rd * 2 ^ 7 + i.rs1 * 2 ^ 15 + imm_bits i 0 5 * 2 ^ 20
 field_bits Fieldless i = 0
 
@@ -31,8 +35,12 @@ FitsFormat R i = i.imm ≡ pos 0
 FitsFormat I i = (i.rs2 ≡ 0) × (neg_ℤ (pos 2048) ≤ℤ i.imm) × (i.imm ≤ℤ pos 2047)
 FitsFormat S i = (i.rd ≡ 0) × (neg_ℤ (pos 2048) ≤ℤ i.imm) × (i.imm ≤ℤ pos 2047)
 FitsFormat B i = (i.rd ≡ 0) × (neg_ℤ (pos 4096) ≤ℤ i.imm) × (i.imm ≤ℤ pos 4094) × (imm_bits i 0 1 ≡ 0)
-FitsFormat U i = (i.rs1 ≡ 0) × (i.rs2 ≡ 0) × (neg_ℤ (pos 2147483648) ≤ℤ i.imm) × (i.imm ≤ℤ pos 2147483647) × (imm_bits i 0 12 ≡ 0)
-FitsFormat J i = (i.rs1 ≡ 0) × (i.rs2 ≡ 0) × (neg_ℤ (pos 1048576) ≤ℤ i.imm) × (i.imm ≤ℤ pos 1048574) × (imm_bits i 0 1 ≡ 0)
+FitsFormat U i =
+    (i.rs1 ≡ 0) × (i.rs2 ≡ 0) × (neg_ℤ (pos 2147483648) ≤ℤ i.imm) × (i.imm ≤ℤ pos 2147483647)
+    × (imm_bits i 0 12 ≡ 0)
+FitsFormat J i =
+    (i.rs1 ≡ 0) × (i.rs2 ≡ 0) × (neg_ℤ (pos 1048576) ≤ℤ i.imm) × (i.imm ≤ℤ pos 1048574)
+    × (imm_bits i 0 1 ≡ 0)
 FitsFormat Shift i = (i.rs2 ≡ 0) × (pos 0 ≤ℤ i.imm) × (i.imm ≤ℤ pos 31)
 FitsFormat Fieldless i = (i.rd ≡ 0) × (i.rs1 ≡ 0) × (i.rs2 ≡ 0) × (i.imm ≡ pos 0)
 

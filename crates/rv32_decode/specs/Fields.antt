@@ -27,10 +27,12 @@ abbrev pub imm_s : ℕ → ℤ
 imm_s word = signed_number 12 (field word 25 7 * 2 ^ 5 + field word 7 5)
 
 abbrev pub imm_b : ℕ → ℤ
-imm_b word = signed_number 13 (field word 31 1 * 2 ^ 12 + field word 7 1 * 2 ^ 11 + field word 25 6 * 2 ^ 5 + field word 8 4 * 2)
+imm_b word =
+    signed_number 13 (field word 31 1 * 2 ^ 12 + field word 7 1 * 2 ^ 11 + field word 25 6 * 2 ^ 5 + field word 8 4 * 2)
 
 abbrev pub imm_j : ℕ → ℤ
-imm_j word = signed_number 21 (field word 31 1 * 2 ^ 20 + field word 12 8 * 2 ^ 12 + field word 20 1 * 2 ^ 11 + field word 21 10 * 2)
+imm_j word =
+    signed_number 21 (field word 31 1 * 2 ^ 20 + field word 12 8 * 2 ^ 12 + field word 20 1 * 2 ^ 11 + field word 21 10 * 2)
 
 -- the shift of SLLI, SRLI and SRAI, section 2.4.1
 abbrev pub shift_of : ℕ → ℤ

@@ -11,13 +11,15 @@ use Rattle.std.specs.Prelude.{ℕ, ◌%◌, ◌^◌, ◌==◌, ◌&&◌, Bool, O
 
 -- whether the fields are those of the pattern, as far as the format fixes them
 abbrev pub are_fixed : ℕ → ℕ → ℕ → ℕ → Format → ℕ → Bool
-are_fixed opcode funct3 funct7 word R pattern = (opcode == pattern % 2 ^ 7) && ((funct3 == field pattern 12 3) && (funct7 == field pattern 25 7))
+are_fixed opcode funct3 funct7 word R pattern =
+    (opcode == pattern % 2 ^ 7) && ((funct3 == field pattern 12 3) && (funct7 == field pattern 25 7))
 are_fixed opcode funct3 funct7 word I pattern = (opcode == pattern % 2 ^ 7) && (funct3 == field pattern 12 3)
 are_fixed opcode funct3 funct7 word S pattern = (opcode == pattern % 2 ^ 7) && (funct3 == field pattern 12 3)
 are_fixed opcode funct3 funct7 word B pattern = (opcode == pattern % 2 ^ 7) && (funct3 == field pattern 12 3)
 are_fixed opcode funct3 funct7 word U pattern = opcode == pattern % 2 ^ 7
 are_fixed opcode funct3 funct7 word J pattern = opcode == pattern % 2 ^ 7
-are_fixed opcode funct3 funct7 word Shift pattern = (opcode == pattern % 2 ^ 7) && ((funct3 == field pattern 12 3) && (funct7 == field pattern 25 7))
+are_fixed opcode funct3 funct7 word Shift pattern =
+    (opcode == pattern % 2 ^ 7) && ((funct3 == field pattern 12 3) && (funct7 == field pattern 25 7))
 are_fixed opcode funct3 funct7 word Fieldless pattern = (opcode == pattern % 2 ^ 7) && (word == pattern)
 
 unfoldable pub row_at : ℕ → ℕ → ℕ → ℕ → Option Row

@@ -40,14 +40,6 @@ fn inst_with(opcode: u32, funct3: u32, funct7: u32, word: u32) -> Option<Inst>
     }
 }
 
-// The instruction of a word in the row of a name.
-#[inline]
-fn row(op: Op, word: u32) -> Option<Inst>
-    ensures { result ≡ Some (instruction_named word op) }
-{
-    Some(instruction_in(format_of(op), op, word))
-}
-
 #[inline(always)]
 fn jump(funct3: u32, word: u32) -> Option<Inst>
     ensures { result ≡ option_map (instruction_named word) (op_at 0x67 funct3 0 0) }
@@ -205,4 +197,12 @@ fn system(word: u32) -> Option<Inst>
         0x0010_0073 => row(Op::Ebreak, word),
         _ => None,
     }
+}
+
+// The instruction of a word in the row of a name.
+#[inline]
+fn row(op: Op, word: u32) -> Option<Inst>
+    ensures { result ≡ Some (instruction_named word op) }
+{
+    Some(instruction_in(format_of(op), op, word))
 }

@@ -1,4 +1,4 @@
-use Rattle.std.proofs.Common.{◌≡◌, refl}
+use Rattle.std.proofs.Common.{refl}
 use Rattle.rv32_decode.proofs.Names.{by_name}
 use Rattle.rv32_decode.specs.Table.{row_of}
 use Rattle.rv32_decode.proofs.table.row_named.Goals as goal
