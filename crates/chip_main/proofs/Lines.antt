@@ -1,10 +1,10 @@
 -- A text of lines, of which one may not have been written.
 use Rattle.std.proofs.Common.{◌≡◌, ◌≤◌, ℕ, List, ◌++◌, sym, ap, ◌∙◌, subst, Ok, Err, arith, append_assoc}
 use Rattle.sec_base.specs.Count.{Rose}
-use Rattle.sec_base.specs.Sink.{SinkState, written_after, Gains}
+use Rattle.sec_base.specs.Sink.{SinkState, Gains}
 use Rattle.sec_base.specs.declared.sink.SinkStop.{SinkStop}
 use Rattle.sec_base.specs.declared.sink.SinkStop.TheVariants.{Failed, NoMemory}
-use Rattle.sec_base.proofs.Writes.{written_after-append}
+use Rattle.sec_base.proofs.Writes.{gains_both}
 use Rattle.chip_main.specs.Statuses.{Telling}
 use Rattle.sec_base.specs.Sink.{GainsFront}
 use Rattle.sec_base.specs.Sink.{IsWritten as IsTold}
@@ -13,9 +13,6 @@ use Rattle.sec_base.specs.Sink.{IsWritten as IsTold}
 front_longer : (first others : List ℕ) (old new : SinkState) → GainsFront old first new → GainsFront old (first ++ others) new
 front_longer first others old new front =
     (front.0, ((front.1).0 ++ others, ap (λ (x : List ℕ). x ++ others) (front.1).1 ∙ append_assoc front.0 (front.1).0 others), front.2)
-
-gains_both : (first more : List ℕ) (old mid new : SinkState) → Gains old first mid → Gains mid more new → Gains old (first ++ more) new
-gains_both first more old mid new gains later = later ∙ ap (written_after more) gains ∙ sym (written_after-append first more old.written)
 
 -- a front part of the others, behind the first line, is one of the text
 front_later : (first others : List ℕ) (old mid new : SinkState) → Gains old first mid → GainsFront mid others new → GainsFront old (first ++ others) new

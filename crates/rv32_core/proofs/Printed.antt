@@ -6,14 +6,9 @@ use Rattle.std.proofs.lemmas.Bool.{cases_lt}
 use Rattle.std.proofs.lemmas.List.Elements.{Contains-append_left, Contains-append_right}
 use Rattle.sec_base.specs.Geometry.{line_of}
 use Rattle.sec_base.specs.Prefix.{IsPrefix}
-use Rattle.sec_base.specs.Sink.{SinkState, written_after, Gains}
-use Rattle.sec_base.proofs.Writes.{written_after-append}
 use Rattle.rv32_core.specs.Touch.{HasLinesOf}
 use Rattle.sec_base.specs.declared.stop.MemStop.{MemStop}
 use Rattle.rv32_core.specs.Printing.{bytes_at, StopsAs}
-
-pub gains_both : (a b c : SinkState) (p q : List ℕ) → Gains a p b → Gains b q c → Gains a (p ++ q) c
-gains_both a b c p q first second = second ∙ ap (written_after q) first ∙ sym (written_after-append p q a.written)
 
 pub bytes_parts : (memory : List ℕ) (from a n : ℕ) → bytes_at memory from (a + n) ≡ bytes_at memory from a ++ bytes_at memory (from + a) n
 bytes_parts memory from a n =

@@ -5,8 +5,6 @@ use Rattle.sec_base.specs.declared.ending.Cause.{Cause}
 use Rattle.sec_base.specs.declared.ending.Ending.TheVariants.{Halted, Trapped, OutOfSteps, Tampered, Spent, WriteFault, NoMemory}
 use Rattle.sec_base.specs.declared.stop.MemStop.{MemStop}
 use Rattle.sec_base.specs.declared.stop.MemStop.TheVariants.{Tampered as tampered, Spent as spent, NoMemory as no_memory}
-use Rattle.sec_base.specs.Sink.{SinkState, written_after, Gains}
-use Rattle.sec_base.proofs.Writes.{written_after-append}
 use Rattle.rv32_core.specs.declared.hart.Step.{Step}
 use Rattle.rv32_core.specs.declared.hart.Step.TheVariants.{Halted as Halted_step}
 use Rattle.rv32_core.specs.declared.hart.StepStop.{StepStop}
@@ -119,10 +117,6 @@ stop_prints start n m ending state printed here count stops prints =
     (subst (λ (machine : Machine). 0 < length (prints_of (next machine.state))) (sym here) prints)
 
 -- One turn after others: what they printed, together
-
-pub gains_on : (old mid new : SinkState) (first second : List ℕ) → Gains old first mid → Gains mid second new → Gains old (first ++ second) new
-gains_on old mid new first second before after =
-    after ∙ ap (written_after second) before ∙ sym (written_after-append first second old.written)
 
 pub reaches_on : (start : Machine) (n : ℕ) (core : CoreView) (calls : CallsView) (memory before first second : List ℕ) → Reaches start n core calls memory (before ++ first ++ second) → Reaches start n core calls memory (before ++ (first ++ second))
 reaches_on start n core calls memory before first second here =

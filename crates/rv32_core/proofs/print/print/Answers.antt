@@ -1,7 +1,8 @@
 use Rattle.std.proofs.Common.{◌-◌, List, ◌++◌, ◌∙◌, ap, arith, subst, ℕ}
 use Rattle.rv32_core.specs.Printing.{bytes_at}
 use Rattle.sec_base.specs.Prefix.{IsPrefix}
-use Rattle.rv32_core.proofs.Printed.{gains_both, bytes_both, lines_both, prefix_both, none_from_ok}
+use Rattle.sec_base.proofs.Writes.{gains_both}
+use Rattle.rv32_core.proofs.Printed.{bytes_both, lines_both, prefix_both, none_from_ok}
 use Rattle.rv32_core.proofs.print.print.Goals as goal
 
 pub loop-at-preserved : goal.loop-at-preserved
@@ -14,7 +15,7 @@ loop-at-preserved g c =
     record {
       printed = (
         before.printed.0 ++ whole.0,
-        gains_both (g.S.Sink.state c.args.out.now) (g.S.Sink.state c.loop-at.out) (g.S.Sink.state c.print_piece.new.out) _ _ before.printed.1 whole.1,
+        gains_both _ _ (g.S.Sink.state c.args.out.now) (g.S.Sink.state c.loop-at.out) (g.S.Sink.state c.print_piece.new.out) before.printed.1 whole.1,
         λ none sound.
             let same = before.contents none (piece.lost sound) in
             ap (λ (x : List ℕ). x ++ whole.0) (before.printed.2 none (piece.lost sound))
@@ -42,7 +43,7 @@ returns-in-Err-clause-printed g c =
     let piece = c.print_piece.ensures in
     let part = c.in-Err.ensures.printed in (
       before.printed.0 ++ part.0,
-      gains_both (g.S.Sink.state c.args.out.now) (g.S.Sink.state c.loop-at.out) (g.S.Sink.state c.print_piece.new.out) _ _ before.printed.1 part.1,
+      gains_both _ _ (g.S.Sink.state c.args.out.now) (g.S.Sink.state c.loop-at.out) (g.S.Sink.state c.print_piece.new.out) before.printed.1 part.1,
       λ none sound.
           prefix_both (g.M.Ram.contents c.args.ram.now) before.printed.0 part.0 c.args.from c.loop-at.at c.piece_length-length.result c.args.count before.begun (omega arith)
           (before.printed.2 none (piece.lost sound))

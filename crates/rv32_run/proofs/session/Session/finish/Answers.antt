@@ -1,6 +1,7 @@
 use Rattle.std.proofs.Common.{[], ◌++◌, sym, ap, ◌∙◌, arith}
 use Rattle.sec_base.proofs.Writes.{written_after-nil}
-use Rattle.rv32_run.proofs.Turns.{begun_reaches, begun_within, begun_going, carries_on, allowed, gains_on, reaches_on, follows_on, stop_prints}
+use Rattle.sec_base.proofs.Writes.{gains_both}
+use Rattle.rv32_run.proofs.Turns.{begun_reaches, begun_within, begun_going, carries_on, allowed, reaches_on, follows_on, stop_prints}
 use Rattle.rv32_run.proofs.Trails.{walk_begins, walked_on, walk_ends}
 use Rattle.rv32_run.proofs.session.Session.finish.Goals as goal
 
@@ -26,7 +27,7 @@ loop-ending-preserved g c =
     record {
       turns = (
         so_far.turns.0 ++ turn.turns.0,
-        gains_on (g.S.Sink.state c.args.out.now) (g.S.Sink.state c.loop-ending.out) (g.S.Sink.state c.turn-turned.new.out) so_far.turns.0 turn.turns.0 so_far.turns.1 turn.turns.1,
+        gains_both so_far.turns.0 turn.turns.0 (g.S.Sink.state c.args.out.now) (g.S.Sink.state c.loop-ending.out) (g.S.Sink.state c.turn-turned.new.out) so_far.turns.1 turn.turns.1,
         λ sound start before here.
             reaches_on start _ _ _ _ before so_far.turns.0 turn.turns.0
             (turn.turns.2 sound start (before ++ so_far.turns.0) (so_far.turns.2 (turn.lost sound) start before here)),
@@ -52,7 +53,7 @@ returns-in-Some-clause-follows g c =
     let so_far = c.loop-ending.invariant in
     let turn = c.in-Some.ensures in (
       so_far.turns.0 ++ turn.turns.0,
-      gains_on (g.S.Sink.state c.args.out.now) (g.S.Sink.state c.loop-ending.out) (g.S.Sink.state c.turn-turned.new.out) so_far.turns.0 turn.turns.0 so_far.turns.1 turn.turns.1,
+      gains_both so_far.turns.0 turn.turns.0 (g.S.Sink.state c.args.out.now) (g.S.Sink.state c.loop-ending.out) (g.S.Sink.state c.turn-turned.new.out) so_far.turns.1 turn.turns.1,
       λ sound start before here.
           follows_on start _ _ _ _ _ before so_far.turns.0 turn.turns.0 so_far.budget
           (turn.turns.2 sound start (before ++ so_far.turns.0) (so_far.turns.2 (turn.lost sound) start before here)),
