@@ -5,3 +5,4 @@ pub mod Rows
 pub mod Serving
 pub mod Steps
 pub mod Storing
+pub mod TouchedLines

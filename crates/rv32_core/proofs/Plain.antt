@@ -10,12 +10,12 @@ use Rattle.sec_base.specs.declared.place.Place.{Place}
 use Rattle.rv32_core.specs.State.{State}
 use Rattle.rv32_core.specs.After.{After}
 use Rattle.rv32_core.specs.Effect.{next}
-use Rattle.rv32_core.specs.Machine.{Machine, done, one_more_of, one_more, plain}
+use Rattle.rv32_core.specs.Machine.{Machine, after_result, one_more_of, one_more, plain}
 use Rattle.sec_base.specs.declared.stop.MemStop.{MemStop}
-use Rattle.rv32_core.specs.declared.hart.Step.{Step}
-use Rattle.rv32_core.specs.declared.hart.Step.TheVariants.{Retired, Halted as Halted_step}
-use Rattle.rv32_core.specs.declared.hart.StepStop.{StepStop}
-use Rattle.rv32_core.specs.declared.hart.StepStop.TheVariants.{Trap, Mem, WriteFault as WriteFault_step}
+use Rattle.rv32_core.specs.declared.step.Step.{Step}
+use Rattle.rv32_core.specs.declared.step.Step.TheVariants.{Retired, Halted as Halted_step}
+use Rattle.rv32_core.specs.declared.step.StepStop.{StepStop}
+use Rattle.rv32_core.specs.declared.step.StepStop.TheVariants.{Trap, Mem, WriteFault as WriteFault_step}
 use Rattle.rv32_core.specs.Outcome.{prints_of, IsOutcome}
 use Rattle.rv32_core.specs.Follows.{Traps, EndsAs, Follows, standing_as, standing, IsWhole}
 
@@ -29,20 +29,20 @@ plain_more start n = rw (add-one n) refl
 pub one_more_done : (machine : Machine) (after : After) → machine.exit ≡ None → next machine.state ≡ Ok after → one_more machine ≡ record { state = after.state; output = machine.output ++ after.prints; retired = machine.retired + 1; exit = after.exit }
 unfolding one_more
 one_more_done machine after going e =
-    ap (λ (exit : Option ℕ). one_more_of exit machine) going ∙ ap (λ (result : Result After Cause). done result machine) e
+    ap (λ (exit : Option ℕ). one_more_of exit machine) going ∙ ap (λ (result : Result After Cause). after_result result machine) e
 
 -- it traps
 pub one_more_trapped : (machine : Machine) (cause : Cause) → machine.exit ≡ None → next machine.state ≡ Err cause → one_more machine ≡ machine
 unfolding one_more
 one_more_trapped machine cause going e =
-    ap (λ (exit : Option ℕ). one_more_of exit machine) going ∙ ap (λ (result : Result After Cause). done result machine) e
+    ap (λ (exit : Option ℕ). one_more_of exit machine) going ∙ ap (λ (result : Result After Cause). after_result result machine) e
 
 -- the program ended before
 pub one_more_ended : (machine : Machine) (code : ℕ) → machine.exit ≡ Some code → one_more machine ≡ machine
 unfolding one_more
 one_more_ended machine code ended = ap (λ (exit : Option ℕ). one_more_of exit machine) ended
 
-done_output : (result : Result After Cause) (machine : Machine) → (done result machine).output ≡ machine.output ++ prints_of result
+done_output : (result : Result After Cause) (machine : Machine) → (after_result result machine).output ≡ machine.output ++ prints_of result
 done_output (Ok after) machine = refl
 done_output (Err cause) machine = sym (append-nil machine.output)
 

@@ -2,13 +2,13 @@
 use Rattle.std.proofs.Common.{◌≡◌, ◌≢◌, ◌+◌, ◌-◌, ℕ, Bool, true, false, List, [], ◌∷◌, length, take, drop, refl, sym, ◌∙◌, ap, inr, subst, arith, Result, Ok, Err, cond, ne_eqb}
 use Rattle.std.specs.Result.{OnOk}
 use Rattle.std.proofs.lemmas.List.{length-take, take_min}
-use Rattle.rv32_core.specs.declared.hart.Step.{Step}
-use Rattle.rv32_core.specs.declared.hart.Step.TheVariants.{Retired}
-use Rattle.rv32_core.specs.declared.hart.StepStop.{StepStop}
-use Rattle.rv32_core.specs.State.{State, CoreView, written_core, with_bytes}
-use Rattle.rv32_core.specs.After.{After, quietly}
-use Rattle.rv32_core.specs.Services.{service, read_service, write_service, reads, answered, next_input, is_output, is_inside, a0, a1, a2, a7}
-use Rattle.rv32_core.specs.Touch.{Range, HasLinesOf, HasLinesOfAll, service_touches, read_touches, write_touches}
+use Rattle.rv32_core.specs.declared.step.Step.{Step}
+use Rattle.rv32_core.specs.declared.step.Step.TheVariants.{Retired}
+use Rattle.rv32_core.specs.declared.step.StepStop.{StepStop}
+use Rattle.rv32_core.specs.State.{State, CoreView, next_core_with, with_bytes}
+use Rattle.rv32_core.specs.After.{After, only_state}
+use Rattle.rv32_core.specs.Services.{service, read_service, write_service, after_input, with_answer, next_input, is_output, is_inside, a0, a1, a2, a7}
+use Rattle.rv32_core.specs.TouchedLines.{AreTouched, byte_lines, service_lines, read_lines, write_lines}
 use Rattle.rv32_core.specs.Outcome.{IsOutcome, IsHalfDone, input_taken}
 
 -- The service that a number names
@@ -18,21 +18,24 @@ unfolding service
 service_of_read state number = rw number refl
 
 pub service_of_other : (state : State) → a7 state ≢ 63 → a7 state ≢ 64 → a7 state ≢ 93 → a7 state ≢ 214 →
-    service state ≡ quietly (answered state 4294967258)
+    service state ≡ only_state (with_answer state 4294967258)
 unfolding service
 service_of_other state read write exit brk =
     rw (ne_eqb _ _ read, ne_eqb _ _ write, ne_eqb _ _ exit, ne_eqb _ _ brk) refl
 
-pub touches_of_write : (state : State) → a7 state ≡ 64 → service_touches state ≡ write_touches state
-touches_of_write state number = rw number refl
+pub lines_of_write_service : (state : State) → a7 state ≡ 64 → service_lines state ≡ write_lines state
+lines_of_write_service state number = rw number refl
+
+pub lines_of_read_service : (state : State) → a7 state ≡ 63 → service_lines state ≡ read_lines state
+lines_of_read_service state number = rw number refl
 
 -- Refusals
 
-pub write_elsewhere : (state : State) → is_output (a0 state) ≡ false → write_service state ≡ quietly (answered state 4294967287)
+pub write_elsewhere : (state : State) → is_output (a0 state) ≡ false → write_service state ≡ only_state (with_answer state 4294967287)
 write_elsewhere state elsewhere = rw elsewhere refl
 
 pub write_outside : (state : State) → is_output (a0 state) ≡ true → is_inside (a1 state) (a2 state) (length state.memory) ≡ false →
-    write_service state ≡ quietly (answered state 4294967282)
+    write_service state ≡ only_state (with_answer state 4294967282)
 write_outside state output outside = rw (output, outside) refl
 
 -- the range of a1 and a2, as it was tested
@@ -41,15 +44,15 @@ pub inside_as : (state : State) (from count size : ℕ) (answer : Bool) → from
 inside_as state from count size answer e f s h = rw (sym e, sym f, sym s) h
 
 -- An answer in a0 and nothing else
-pub answer_outcome : (after : After) (result : Result Step StepStop) (state : State) (core : CoreView) (value : ℕ) → result ≡ Ok Retired → core ≡ written_core state.core 10 value → after ≡ quietly (answered state value) →
+pub answer_outcome : (after : After) (result : Result Step StepStop) (state : State) (core : CoreView) (value : ℕ) → result ≡ Ok Retired → core ≡ next_core_with state.core 10 value → after ≡ only_state (with_answer state value) →
     IsOutcome (Ok after) result state (record { core = core; calls = state.calls; memory = state.memory }) []
 answer_outcome after result state core value retired is made =
-    rw retired (ap (λ (a : After). Ok a) made ∙ ap (λ (h : CoreView). Ok (quietly (record { core = h; calls = state.calls; memory = state.memory }))) (sym is))
+    rw retired (ap (λ (a : After). Ok a) made ∙ ap (λ (h : CoreView). Ok (only_state (record { core = h; calls = state.calls; memory = state.memory }))) (sym is))
 
 -- Reading
 
 read_inside : (state : State) → a0 state ≡ 0 → is_inside (a1 state) (a2 state) (length state.memory) ≡ true →
-    read_service state ≡ reads state (next_input state.calls (a2 state))
+    read_service state ≡ after_input state (next_input state.calls (a2 state))
 read_inside state input inside = rw (input, inside) refl
 
 taken_again : (count : ℕ) (input : List ℕ) → take (length (take count input)) input ≡ take count input
@@ -58,42 +61,37 @@ taken_again count input = ap (λ (n : ℕ). take n input) (length-take count inp
 -- a stop left a part of it stored
 pub read_in_part : (state : State) (memory bytes : List ℕ) (from count : ℕ) → from ≡ a1 state → a0 state ≡ 0 → is_inside (a1 state) (a2 state) (length state.memory) ≡ true → bytes ≡ next_input state.calls (a2 state) → memory ≡ with_bytes state.memory from (take count bytes) →
     IsHalfDone (Ok (read_service state)) state memory
-read_in_part state memory bytes from count at input inside is stores =
+read_in_part state memory bytes from count at input inside is stored =
     let next = next_input state.calls (a2 state) in
     let position = state.calls.position in
     let some : position + length next - position ≡ length next = omega arith in
-    let taken : input_taken state.calls (reads state next).state.calls ≡ next =
+    let taken : input_taken state.calls (after_input state next).state.calls ≡ next =
     ap (λ (n : ℕ). next_input state.calls n) some ∙ taken_again (a2 state) (drop position state.calls.input) in
-    let part : memory ≡ with_bytes state.memory (a1 state) (take count (input_taken state.calls (reads state next).state.calls)) =
-    stores ∙ ap (λ (n : ℕ). with_bytes state.memory n (take count bytes)) at
+    let part : memory ≡ with_bytes state.memory (a1 state) (take count (input_taken state.calls (after_input state next).state.calls)) =
+    stored ∙ ap (λ (n : ℕ). with_bytes state.memory n (take count bytes)) at
     ∙ ap (λ (xs : List ℕ). with_bytes state.memory (a1 state) (take count xs)) (is ∙ sym taken) in
     subst (λ (a : After). IsHalfDone (Ok a) state memory) (sym (read_inside state input inside)) (inr (inr (count, part)))
 
 -- What a service touches
 
-pub lines_of_write : (lines : List ℕ) (state : State) (from count : ℕ) → from ≡ a1 state → count ≡ a2 state → HasLinesOf lines (record { from = from; count = count }) → HasLinesOfAll lines (write_touches state)
-lines_of_write lines state from count e f got = chosen _
-  where
-    h : HasLinesOf lines (record { from = a1 state; count = a2 state })
-    h = rw (sym e, sym f) got
+pub lines_of_write : {A E : Type 0} → (result : Result A E) (lines : List ℕ) (state : State) (from count : ℕ) → from ≡ a1 state → count ≡ a2 state → is_output (a0 state) ≡ true → is_inside (a1 state) (a2 state) (length state.memory) ≡ true → AreTouched result (byte_lines from count) lines → AreTouched result (write_lines state) lines
+lines_of_write result lines state from count e f output inside got = rw (output, inside) (rw (e, f) at got)
 
-    chosen : (b : Bool) → HasLinesOfAll lines (cond b (record { from = a1 state; count = a2 state } ∷ []) [])
-    chosen true = (h, tt)
-    chosen false = tt
+pub lines_of_read : {A E : Type 0} → (result : Result A E) (lines : List ℕ) (state : State) (from : ℕ) (bytes : List ℕ) → from ≡ a1 state → bytes ≡ next_input state.calls (a2 state) → a0 state ≡ 0 → is_inside (a1 state) (a2 state) (length state.memory) ≡ true → AreTouched result (byte_lines from (length bytes)) lines → AreTouched result (read_lines state) lines
+lines_of_read result lines state from bytes e is input inside got = rw (input, inside) (rw (e, is) at got)
 
-pub lines_of_read : (lines : List ℕ) (state : State) (from : ℕ) (bytes : List ℕ) → from ≡ a1 state → bytes ≡ next_input state.calls (a2 state) → HasLinesOf lines (record { from = from; count = length bytes }) → HasLinesOfAll lines (read_touches state)
-lines_of_read lines state from bytes e is got = chosen _
-  where
-    range : Range
-    range = record { from = a1 state; count = length (next_input state.calls (a2 state)) }
+-- a refusal touches nothing
+pub no_write_elsewhere : (state : State) → is_output (a0 state) ≡ false → write_lines state ≡ []
+no_write_elsewhere state elsewhere = rw elsewhere refl
 
-    h : HasLinesOf lines range
-    h = rw (sym e, sym is) got
+pub no_write_outside : (state : State) → is_output (a0 state) ≡ true → is_inside (a1 state) (a2 state) (length state.memory) ≡ false → write_lines state ≡ []
+no_write_outside state output outside = rw (output, outside) refl
 
-    chosen : (b : Bool) → HasLinesOfAll lines (cond b (range ∷ []) [])
-    chosen true = (h, tt)
-    chosen false = tt
+pub no_read_elsewhere : (state : State) → a0 state ≢ 0 → read_lines state ≡ []
+no_read_elsewhere state elsewhere = rw (ne_eqb _ _ elsewhere) refl
 
-pub on_any : {A E : Type 0} {P : Type 0} → (r : Result A E) → P → OnOk r P
-on_any (Ok x) h = h
-on_any (Err e) h = tt
+pub no_read_outside : (state : State) → a0 state ≡ 0 → is_inside (a1 state) (a2 state) (length state.memory) ≡ false → read_lines state ≡ []
+no_read_outside state input outside = rw (input, outside) refl
+
+pub no_other_lines : (state : State) → a7 state ≢ 63 → a7 state ≢ 64 → service_lines state ≡ []
+no_other_lines state read write = rw (ne_eqb _ _ read, ne_eqb _ _ write) refl

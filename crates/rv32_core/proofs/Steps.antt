@@ -1,26 +1,20 @@
 -- What a fetch and a decoded word make of a step.
-use Rattle.std.proofs.Common.{inl, ◌≡◌, ◌+◌, ◌≤◌, ℕ, List, [], ◌∷◌, ◌++◌, length, refl, sym, ◌∙◌, ap, subst, Option, None, Some, Result, Ok, Err, lt-ltb, le-ltb}
+use Rattle.std.proofs.Common.{inl, ◌≡◌, ◌↔◌, ◌+◌, ◌<◌, ◌≤◌, arith, ℕ, List, [], ◌∷◌, ◌++◌, length, refl, sym, ◌∙◌, ap, subst, Option, None, Some, Result, Ok, Err, lt-ltb, le-ltb}
 use Rattle.std.specs.Result.{OnOk}
 use Rattle.std.proofs.lemmas.List.Elements.{Contains-append_left, Contains-append_right}
 use Rattle.sec_base.specs.declared.ending.Cause.{Cause}
 use Rattle.sec_base.specs.declared.ending.Cause.TheVariants.{Illegal}
 use Rattle.rv32_decode.specs.declared.Inst.{Inst}
 use Rattle.rv32_decode.specs.Decoding.{instruction_of}
-use Rattle.rv32_core.specs.declared.hart.Step.{Step}
-use Rattle.rv32_core.specs.declared.hart.StepStop.{StepStop}
-use Rattle.rv32_core.specs.declared.hart.StepStop.TheVariants.{Trap, Mem, WriteFault}
+use Rattle.rv32_core.specs.declared.step.Step.{Step}
+use Rattle.rv32_core.specs.declared.step.StepStop.{StepStop}
+use Rattle.rv32_core.specs.declared.step.StepStop.TheVariants.{Trap, Mem, WriteFault}
 use Rattle.rv32_core.specs.State.{State, CoreView, CallsView}
 use Rattle.rv32_core.specs.After.{After}
-use Rattle.rv32_core.specs.Effect.{next, effect, fetched}
-use Rattle.rv32_core.specs.Touch.{Range, HasLinesOf, HasLinesOfAll, touches, data_touches}
-use Rattle.rv32_core.specs.Fetching.{IsFetched, StopsFetch}
+use Rattle.rv32_core.specs.Effect.{next, effect, fetched_word}
+use Rattle.rv32_core.specs.Fetch.{IsFetched, StopsFetch}
 use Rattle.sec_base.specs.declared.stop.MemStop.{MemStop}
-use Rattle.rv32_core.specs.Outcome.{IsOutcome, IsHalfDone}
-
--- a fact of a good answer gives another
-pub on_ok : {A E : Type 0} {P Q : Type 0} → (r : Result A E) → (P → Q) → OnOk r P → OnOk r Q
-on_ok (Ok x) f h = f h
-on_ok (Err e) f h = tt
+use Rattle.rv32_core.specs.Outcome.{IsOutcome, IsHalfDone, IsSinkStop, prints_of}
 
 -- a memory that is as it was is no more than half done
 pub half_done_same : (next : Result After Cause) (old : State) (new : List ℕ) → new ≡ old.memory → IsHalfDone next old new
@@ -42,39 +36,36 @@ fetch_stopped (Mem stop) core calls memory memory' h same =
 fetch_stopped WriteFault core calls memory memory' h same = absurd h
 
 -- a word that is no instruction
-pub illegal : (state : State) (word : ℕ) → state.core.pc + 4 ≤ length state.memory → word ≡ fetched state → instruction_of word ≡ None → next state ≡ Err Illegal
+pub illegal : (state : State) (word : ℕ) → state.core.pc + 4 ≤ length state.memory → word ≡ fetched_word state → instruction_of word ≡ None → next state ≡ Err Illegal
 unfolding next
 illegal state word inside is none =
-    let found : instruction_of (fetched state) ≡ None = ap instruction_of (sym is) ∙ none in
+    let found : instruction_of (fetched_word state) ≡ None = ap instruction_of (sym is) ∙ none in
     rw (le-ltb _ _ inside, found) refl
 
 -- a word that is an instruction
-pub found : (state : State) (word : ℕ) (inst : Inst) → state.core.pc + 4 ≤ length state.memory → word ≡ fetched state → instruction_of word ≡ Some inst → next state ≡ effect inst.op inst state
+pub found : (state : State) (word : ℕ) (inst : Inst) → state.core.pc + 4 ≤ length state.memory → word ≡ fetched_word state → instruction_of word ≡ Some inst → next state ≡ effect inst.op inst state
 unfolding next
 found state word inst inside is row =
-    let row' : instruction_of (fetched state) ≡ Some inst = ap instruction_of (sym is) ∙ row in
+    let row' : instruction_of (fetched_word state) ≡ Some inst = ap instruction_of (sym is) ∙ row in
     rw (le-ltb _ _ inside, row') refl
 
 -- an outcome of what an instruction does, under another name
 pub outcome_as : (next next' : Result After Cause) (result : Result Step StepStop) (old new : State) (printed : List ℕ) → next ≡ next' → IsOutcome next' result old new printed → IsOutcome next result old new printed
 outcome_as next next' result old new printed e h = subst (λ (n : Result After Cause). IsOutcome n result old new printed) (sym e) h
 
-pub lines_left : (lines more : List ℕ) (range : Range) → HasLinesOf lines range → HasLinesOf (lines ++ more) range
-lines_left lines more range h = λ k below. Contains-append_left lines more _ (h k below)
-
-pub lines_right : (lines more : List ℕ) (ranges : List Range) → HasLinesOfAll more ranges → HasLinesOfAll (lines ++ more) ranges
-lines_right lines more [] h = tt
-lines_right lines more (range ∷ ranges) h = (λ k below. Contains-append_right lines more _ (h.0 k below), lines_right lines more ranges h.1)
-
--- what an instruction touches, its own word first
-pub touches_found : (first second : List ℕ) (state : State) (word : ℕ) (inst : Inst) → word ≡ fetched state → instruction_of word ≡ Some inst →
-    HasLinesOf first (record { from = state.core.pc; count = 4 }) → HasLinesOfAll second (data_touches inst.op inst state) → HasLinesOfAll (first ++ second) (touches state)
-unfolding touches
-touches_found first second state word inst is found fetch more =
-    let found' : instruction_of (fetched state) ≡ Some inst = ap instruction_of (sym is) ∙ found in
-    (lines_left first second _ fetch, rw found' (lines_right first second (data_touches inst.op inst state) more))
-
 -- a fetch that went well left the memory going
 pub going_from_fetch : (stopped : Option MemStop) (word : ℕ) → StopsFetch stopped (Ok word) → stopped ≡ None
 going_from_fetch None word h = refl
 going_from_fetch (Some stop) word h = cc
+
+-- an instruction that traps prints nothing
+nothing_prints : (instruction : Result After Cause) (cause : Cause) → instruction ≡ Err cause → 0 < length (prints_of instruction) → ⊥
+nothing_prints instruction cause e some = absurd (omega (arith, subst (λ (r : Result After Cause). 0 < length (prints_of r)) e some))
+
+-- a step traps exactly where the plain machine does
+pub traps_as : (instruction : Result After Cause) (result : Result Step StepStop) (old new : State) (printed : List ℕ) (cause : Cause) → IsOutcome instruction result old new printed → IsSinkStop result instruction → (result ≡ Err (Trap cause)) ↔ (instruction ≡ Err cause)
+traps_as instruction (Ok step) old new printed cause outcome stop = (λ e. cc, λ e. let is = outcome in cc)
+traps_as instruction (Err (Trap other)) old new printed cause outcome stop =
+    let is = outcome.0 in (λ e. cc, λ e. cc)
+traps_as instruction (Err (Mem why)) old new printed cause outcome stop = (λ e. cc, λ e. absurd (nothing_prints instruction cause e stop))
+traps_as instruction (Err WriteFault) old new printed cause outcome stop = (λ e. cc, λ e. absurd (nothing_prints instruction cause e stop))

@@ -1,15 +1,22 @@
 -- What the instructions compute from words: the RISC-V unprivileged manual, RV32I 2.1 (section 2.4) and M 2.0.
 use Rattle.std.specs.Prelude.{ℕ, ℤ, pos, ◌+◌, ◌-◌, ◌*◌, ◌/◌, ◌%◌, ◌^◌, ◌==◌, ◌*ℤ◌, nat_lt, int_lt, int_div, int_rem, Bool, if◌then◌else◌}
 use Rattle.std.specs.Int.{w32, cast_signed, int_shr}
-use Rattle.rv32_core.specs.State.{word}
+use Rattle.sec_base.specs.declared.width.Width.{Width}
+use Rattle.sec_base.specs.Width.{width_bytes}
+use Rattle.rv32_decode.specs.Words.{word_of_signed}
 
 -- a word read in two's complement
 abbrev pub signed : ℕ → ℤ
 signed w = cast_signed w32 w
 
--- a number of so many bits, its sign copied up to the top of a word
-abbrev pub sign_extended : ℕ → ℕ → ℕ
-sign_extended bits n = if nat_lt n (2 ^ (bits - 1)) then n else n + (2 ^ 32 - 2 ^ bits)
+-- a number of this width as a word: zeros come in above it, or copies of its top bit
+abbrev pub zero_extension : Width → ℕ → ℕ
+zero_extension width n = n
+
+abbrev pub sign_extension : Width → ℕ → ℕ
+sign_extension width n =
+    let bits = 8 * width_bytes width in
+    if nat_lt n (2 ^ (bits - 1)) then n else n + (2 ^ 32 - 2 ^ bits)
 
 abbrev pub difference_of : ℕ → ℕ → ℕ
 difference_of a b = (a + (2 ^ 32 - b)) % 2 ^ 32
@@ -30,11 +37,11 @@ shift_right a amount = a / 2 ^ (amount % 32)
 
 -- copies of the top bit come in
 abbrev pub shift_right_signed : ℕ → ℕ → ℕ
-shift_right_signed a amount = word (int_shr (signed a) (amount % 32))
+shift_right_signed a amount = word_of_signed (int_shr (signed a) (amount % 32))
 
 -- the high 32 bits of a product
 abbrev pub high_word : ℤ → ℕ
-high_word product = word (int_shr product 32)
+high_word product = word_of_signed (int_shr product 32)
 
 abbrev pub product_of : ℕ → ℕ → ℕ
 product_of a b = a * b % 2 ^ 32
@@ -51,13 +58,13 @@ high_product_unsigned a b = a * b / 2 ^ 32
 -- Quotients are rounded towards zero; by zero they have all bits set. A remainder has the sign of the dividend; by
 -- zero it is the dividend.
 abbrev pub quotient : ℕ → ℕ → ℕ
-quotient a b = if b == 0 then 2 ^ 32 - 1 else word (int_div (signed a) (signed b))
+quotient a b = if b == 0 then 2 ^ 32 - 1 else word_of_signed (int_div (signed a) (signed b))
 
 abbrev pub quotient_unsigned : ℕ → ℕ → ℕ
 quotient_unsigned a b = if b == 0 then 2 ^ 32 - 1 else a / b
 
 abbrev pub remainder : ℕ → ℕ → ℕ
-remainder a b = if b == 0 then a else word (int_rem (signed a) (signed b))
+remainder a b = if b == 0 then a else word_of_signed (int_rem (signed a) (signed b))
 
 abbrev pub remainder_unsigned : ℕ → ℕ → ℕ
 remainder_unsigned a b = if b == 0 then a else a % b

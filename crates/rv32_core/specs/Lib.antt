@@ -3,11 +3,11 @@ pub mod Arithmetic
 pub mod After
 pub mod Services
 pub mod Effect
-pub mod Touch
+pub mod TouchedLines
 pub mod Machine
-pub mod Fetching
-pub mod Loading
-pub mod Printing
+pub mod Fetch
+pub mod Extension
+pub mod Print
 pub mod Outcome
 pub mod Follows
 pub mod Turnover

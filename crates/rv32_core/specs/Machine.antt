@@ -16,9 +16,9 @@ pub record Machine : Type 0 where
   pub exit : Option ℕ
 
 -- an instruction that traps changes nothing
-abbrev pub done : Result After Cause → Machine → Machine
-done (Err cause) machine = machine
-done (Ok after) machine = record {
+abbrev pub after_result : Result After Cause → Machine → Machine
+after_result (Err cause) machine = machine
+after_result (Ok after) machine = record {
   state = after.state;
   output = machine.output ++ after.prints;
   retired = machine.retired + 1;
@@ -28,7 +28,7 @@ done (Ok after) machine = record {
 -- one instruction; a program that ended stays as it is
 abbrev pub one_more_of : Option ℕ → Machine → Machine
 one_more_of (Some code) machine = machine
-one_more_of None machine = done (next machine.state) machine
+one_more_of None machine = after_result (next machine.state) machine
 
 unfoldable pub one_more : Machine → Machine
 one_more machine = one_more_of machine.exit machine

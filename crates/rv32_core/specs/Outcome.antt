@@ -4,10 +4,10 @@ use Rattle.sec_base.specs.Prefix.{IsPrefix}
 use Rattle.sec_base.specs.declared.ending.Cause.{Cause}
 use Rattle.sec_base.specs.declared.stop.MemStop.{MemStop}
 use Rattle.sec_base.specs.declared.stop.MemStop.TheVariants.{NoMemory}
-use Rattle.rv32_core.specs.declared.hart.Step.{Step}
-use Rattle.rv32_core.specs.declared.hart.Step.TheVariants.{Retired, Halted}
-use Rattle.rv32_core.specs.declared.hart.StepStop.{StepStop}
-use Rattle.rv32_core.specs.declared.hart.StepStop.TheVariants.{Trap, Mem, WriteFault}
+use Rattle.rv32_core.specs.declared.step.Step.{Step}
+use Rattle.rv32_core.specs.declared.step.Step.TheVariants.{Retired, Halted}
+use Rattle.rv32_core.specs.declared.step.StepStop.{StepStop}
+use Rattle.rv32_core.specs.declared.step.StepStop.TheVariants.{Trap, Mem, WriteFault}
 use Rattle.rv32_core.specs.State.{State, CallsView, with_bytes}
 use Rattle.rv32_core.specs.After.{After}
 use Rattle.rv32_core.specs.Services.{a1, next_input}
@@ -38,11 +38,11 @@ IsHalfDone (Err cause) old new = new ≡ old.memory
 -- A step led from a state to another, and this was printed, where the plain machine's instruction comes out so:
 -- it is that instruction, or that trap with nothing changed, or a stop in the middle of its printing or its reading.
 abbrev pub IsOutcome : Result After Cause → Result Step StepStop → State → State → List ℕ → Type 0
-IsOutcome next (Ok step) old new printed = next ≡ Ok (record { state = new; prints = printed; exit = exit_of step })
-IsOutcome next (Err (Trap cause)) old new printed = (next ≡ Err cause) × (new.memory ≡ old.memory) × (printed ≡ [])
-IsOutcome next (Err (Mem stop)) old new printed =
-    IsPrefix printed (prints_of next) × IsHalfDone next old new.memory
-IsOutcome next (Err WriteFault) old new printed = IsPrefix printed (prints_of next) × (new.memory ≡ old.memory)
+IsOutcome instruction (Ok step) old new printed = instruction ≡ Ok (record { state = new; prints = printed; exit = exit_of step })
+IsOutcome instruction (Err (Trap cause)) old new printed = (instruction ≡ Err cause) × (new.memory ≡ old.memory) × (printed ≡ [])
+IsOutcome instruction (Err (Mem stop)) old new printed =
+    IsPrefix printed (prints_of instruction) × IsHalfDone instruction old new.memory
+IsOutcome instruction (Err WriteFault) old new printed = IsPrefix printed (prints_of instruction) × (new.memory ≡ old.memory)
 
 -- A step answers the stop that the memory gave in it, and no other but want of memory.
 abbrev pub CarriesStop : Option MemStop → Result Step StepStop → Type 0
@@ -51,10 +51,10 @@ CarriesStop None result = (stop : MemStop) → result ≡ Err (Mem stop) → sto
 
 -- Where the memory did not stop, only an instruction that prints is stopped otherwise than by a trap.
 abbrev pub IsSinkStop : Result Step StepStop → Result After Cause → Type 0
-IsSinkStop (Ok step) next = Unit {0}
-IsSinkStop (Err (Trap cause)) next = Unit {0}
-IsSinkStop (Err (Mem stop)) next = 0 < length (prints_of next)
-IsSinkStop (Err WriteFault) next = 0 < length (prints_of next)
+IsSinkStop (Ok step) instruction = Unit {0}
+IsSinkStop (Err (Trap cause)) instruction = Unit {0}
+IsSinkStop (Err (Mem stop)) instruction = 0 < length (prints_of instruction)
+IsSinkStop (Err WriteFault) instruction = 0 < length (prints_of instruction)
 
 -- it went well or trapped
 abbrev pub OnlyTraps : Result Step StepStop → Type 0

@@ -1,7 +1,7 @@
 -- The services of ECALL: the number stands in a7, the arguments in a0 to a2, the answer comes in a0.
 use Rattle.std.specs.Prelude.{ℕ, ◌+◌, ◌-◌, ◌^◌, ◌==◌, nat_le, ◌||◌, ◌&&◌, not, if◌then◌else◌, Bool, List, [], length, take, drop, Some, None}
-use Rattle.rv32_core.specs.State.{State, CallsView, register, written_core, with_bytes}
-use Rattle.rv32_core.specs.After.{After, quietly, passed, written}
+use Rattle.rv32_core.specs.State.{State, CallsView, register, next_core_with, next_state, next_state_with, memory_bytes, with_bytes}
+use Rattle.rv32_core.specs.After.{After, only_state}
 
 abbrev pub a0 : State → ℕ
 a0 state = register state.core 10
@@ -15,12 +15,12 @@ a2 state = register state.core 12
 abbrev pub a7 : State → ℕ
 a7 state = register state.core 17
 
-abbrev pub answered : State → ℕ → State
-answered state value = written state 10 value
+abbrev pub with_answer : State → ℕ → State
+with_answer state value = next_state_with state 10 value
 
 -- a negative answer
-abbrev pub minus : ℕ → ℕ
-minus number = 2 ^ 32 - number
+abbrev pub negative_word : ℕ → ℕ
+negative_word number = 2 ^ 32 - number
 
 -- the range lies inside the memory; one of no bytes always does
 abbrev pub is_inside : ℕ → ℕ → ℕ → Bool
@@ -37,8 +37,8 @@ is_input descriptor = descriptor == 0
 abbrev pub next_input : CallsView → ℕ → List ℕ
 next_input calls count = take count (drop calls.position calls.input)
 
-abbrev pub at_position : CallsView → ℕ → CallsView
-at_position calls position = record {
+abbrev pub with_position : CallsView → ℕ → CallsView
+with_position calls position = record {
   input = calls.input;
   position = position;
   first_break = calls.first_break;
@@ -54,33 +54,33 @@ with_break calls brk = record {
 }
 
 -- 63, read: the next bytes of the input, a2 or what is left, are stored from a1 on
-abbrev pub reads : State → List ℕ → After
-reads state bytes = quietly (record {
-  core = written_core state.core 10 (length bytes);
-  calls = at_position state.calls (state.calls.position + length bytes);
+abbrev pub after_input : State → List ℕ → After
+after_input state bytes = only_state (record {
+  core = next_core_with state.core 10 (length bytes);
+  calls = with_position state.calls (state.calls.position + length bytes);
   memory = with_bytes state.memory (a1 state) bytes;
 })
 
 abbrev pub read_service : State → After
 read_service state =
-    if not (is_input (a0 state)) then quietly (answered state (minus 9))
-    else (if not (is_inside (a1 state) (a2 state) (length state.memory)) then quietly (answered state (minus 14))
-    else reads state (next_input state.calls (a2 state)))
+    if not (is_input (a0 state)) then only_state (with_answer state (negative_word 9))
+    else (if not (is_inside (a1 state) (a2 state) (length state.memory)) then only_state (with_answer state (negative_word 14))
+    else after_input state (next_input state.calls (a2 state)))
 
 -- 64, write: a2 bytes from a1 on go to the output
 abbrev pub write_service : State → After
 write_service state =
-    if not (is_output (a0 state)) then quietly (answered state (minus 9))
-    else (if not (is_inside (a1 state) (a2 state) (length state.memory)) then quietly (answered state (minus 14))
+    if not (is_output (a0 state)) then only_state (with_answer state (negative_word 9))
+    else (if not (is_inside (a1 state) (a2 state) (length state.memory)) then only_state (with_answer state (negative_word 14))
     else record {
-      state = answered state (a2 state);
-      prints = take (a2 state) (drop (a1 state) state.memory);
+      state = with_answer state (a2 state);
+      prints = memory_bytes state.memory (a1 state) (a2 state);
       exit = None;
     })
 
 -- 93, exit: the program ends with code a0
 abbrev pub exit_service : State → After
-exit_service state = record { state = passed state; prints = []; exit = Some (a0 state) }
+exit_service state = record { state = next_state state; prints = []; exit = Some (a0 state) }
 
 -- 214, brk: the break moves to a0 where that is no lower than it was at first and leaves the stack a page
 abbrev pub is_break : CallsView → ℕ → ℕ → Bool
@@ -90,8 +90,8 @@ abbrev pub new_break : State → ℕ
 new_break state = if is_break state.calls (length state.memory) (a0 state) then a0 state else state.calls.brk
 
 abbrev pub brk_service : State → After
-brk_service state = quietly (record {
-  core = written_core state.core 10 (new_break state);
+brk_service state = only_state (record {
+  core = next_core_with state.core 10 (new_break state);
   calls = with_break state.calls (new_break state);
   memory = state.memory;
 })
@@ -102,4 +102,4 @@ service state =
     else (if a7 state == 64 then write_service state
     else (if a7 state == 93 then exit_service state
     else (if a7 state == 214 then brk_service state
-    else quietly (answered state (minus 38)))))
+    else only_state (with_answer state (negative_word 38)))))

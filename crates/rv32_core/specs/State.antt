@@ -1,8 +1,7 @@
 -- What a program can see of the machine that runs it (RISC-V unprivileged manual, RV32I, 2.1).
-use Rattle.std.specs.Prelude.{ℕ, ◌+◌, ◌-◌, ◌%◌, ◌^◌, List, ◌++◌, length, take, drop, replicate, slice_index, slice_set, ◌==◌, if◌then◌else◌, ℤ}
-use Rattle.std.specs.Int.{w32, cast_unsigned}
+use Rattle.std.specs.Prelude.{ℕ, ◌+◌, ◌-◌, ◌%◌, ◌^◌, List, ◌++◌, length, take, drop, replicate, slice_index, slice_set, ◌==◌, if◌then◌else◌}
 
--- the hart: its program counter and its 32 registers
+-- the core: its program counter and its 32 registers
 pub record CoreView : Type 0 where
   pub pc : ℕ
   pub registers : List ℕ
@@ -22,10 +21,6 @@ pub record State : Type 0 where
 abbrev pub state_of : CoreView → CallsView → List ℕ → State
 state_of core calls memory = record { core = core; calls = calls; memory = memory }
 
--- a signed number as a word: modulo 2 ^ 32
-abbrev pub word : ℤ → ℕ
-word number = cast_unsigned w32 number
-
 -- the sum of two words
 abbrev pub sum_of : ℕ → ℕ → ℕ
 sum_of a b = (a + b) % 2 ^ 32
@@ -38,16 +33,30 @@ register core number = if number == 0 then 0 else slice_index core.registers num
 abbrev pub with_register : List ℕ → ℕ → ℕ → List ℕ
 with_register registers number value = if number == 0 then registers else slice_set registers number value
 
+abbrev pub with_pc : CoreView → ℕ → CoreView
+with_pc core target = record { pc = target; registers = core.registers }
+
 -- the next instruction in order
 abbrev pub next_core : CoreView → CoreView
 next_core core = record { pc = sum_of core.pc 4; registers = core.registers }
 
 -- the next instruction in order, with a value in a register
-abbrev pub written_core : CoreView → ℕ → ℕ → CoreView
-written_core core number value = record { pc = sum_of core.pc 4; registers = with_register core.registers number value }
+abbrev pub next_core_with : CoreView → ℕ → ℕ → CoreView
+next_core_with core number value = record { pc = sum_of core.pc 4; registers = with_register core.registers number value }
 
 abbrev pub with_core : State → CoreView → State
 with_core state core = record { core = core; calls = state.calls; memory = state.memory }
+
+-- the state at the next instruction in order, and the same with a value in a register
+abbrev pub next_state : State → State
+next_state state = with_core state (next_core state.core)
+
+abbrev pub next_state_with : State → ℕ → ℕ → State
+next_state_with state number value = with_core state (next_core_with state.core number value)
+
+-- so many bytes of the memory from an address on
+abbrev pub memory_bytes : List ℕ → ℕ → ℕ → List ℕ
+memory_bytes memory address count = take count (drop address memory)
 
 -- the memory with these bytes from an address on
 unfoldable pub with_bytes : List ℕ → ℕ → List ℕ → List ℕ

@@ -1,20 +1,12 @@
 -- How often a run turns over what a chip of a bounded size can hold.
-use Rattle.std.specs.Prelude.{ℕ, zero, suc, ◌+◌, ◌/◌, List, [], ◌++◌, map, Bool, not, ◌==◌, nat_eq, nat_le, if◌then◌else◌}
-use Rattle.std.specs.List.{list_any, filter, flat_map, range_with_len}
+use Rattle.std.specs.Prelude.{ℕ, zero, suc, ◌+◌, List, [], ◌++◌, map, Bool, not, ◌==◌, nat_eq, nat_le, if◌then◌else◌}
+use Rattle.std.specs.List.{list_any, filter}
 use Rattle.std.specs.Set.{distinct_count}
-use Rattle.sec_base.specs.Geometry.{line_of}
+use Rattle.sec_base.specs.Geometry.{page_of}
 use Rattle.sec_base.specs.Lines.{line_at}
 use Rattle.rv32_core.specs.State.{State}
-use Rattle.rv32_core.specs.Touch.{Range, touches}
+use Rattle.rv32_core.specs.TouchedLines.{touched_lines}
 use Rattle.rv32_core.specs.Machine.{Machine, plain}
-
--- the line of each byte of a range
-abbrev pub range_lines : Range → List ℕ
-range_lines range = map (λ k. line_of (range.from + k)) (range_with_len 0 range.count)
-
--- the lines that the next instruction touches, some of them more than once
-abbrev pub touched_lines : State → List ℕ
-touched_lines state = flat_map range_lines (touches state)
 
 -- A window of instructions: the memory as it began, the lines that were touched since then, and how many windows
 -- before it turned over.
@@ -35,13 +27,13 @@ abbrev pub blank_groups : (ℕ → ℕ) → Window → ℕ
 blank_groups group window =
     distinct_count nat_eq (map group (filter (λ line. not (is_old window.memory line)) window.touched))
 
--- these lines were touched too
-abbrev pub touching : List ℕ → Window → Window
-touching lines window = record { memory = window.memory; touched = window.touched ++ lines; turnover = window.turnover }
+-- the window with more lines that were touched
+abbrev pub with_touched : List ℕ → Window → Window
+with_touched lines window = record { memory = window.memory; touched = window.touched ++ lines; turnover = window.turnover }
 
 -- A window closes as soon as it touched old lines in so many groups, and is counted, or blank lines in so many.
-unfoldable pub closing : (ℕ → ℕ) → ℕ → List ℕ → Window → Window
-closing group bound memory window =
+unfoldable pub next_window : (ℕ → ℕ) → ℕ → List ℕ → Window → Window
+next_window group bound memory window =
     if nat_le bound (old_groups group window)
     then record { memory = memory; touched = []; turnover = window.turnover + 1 }
     else (if nat_le bound (blank_groups group window)
@@ -52,8 +44,8 @@ closing group bound memory window =
 unfoldable pub window_at : (ℕ → ℕ) → ℕ → Machine → ℕ → Window
 window_at group bound start zero = record { memory = start.state.memory; touched = []; turnover = 0 }
 window_at group bound start (suc n) =
-    closing group bound (plain start (suc n)).state.memory
-    (touching (touched_lines (plain start n).state) (window_at group bound start n))
+    next_window group bound (plain start (suc n)).state.memory
+    (with_touched (touched_lines (plain start n).state) (window_at group bound start n))
 
 -- how many windows touched old lines in so many groups
 abbrev pub turnover_by : (ℕ → ℕ) → ℕ → Machine → ℕ → ℕ
@@ -64,4 +56,4 @@ abbrev pub turnover : Machine → ℕ → ℕ
 turnover start n = turnover_by (λ line. line) 129 start n
 
 abbrev pub page_turnover : Machine → ℕ → ℕ
-page_turnover start n = turnover_by (λ line. line / 64) 161 start n
+page_turnover start n = turnover_by page_of 161 start n

@@ -1,18 +1,19 @@
 // Fetches, loads and stores (RISC-V unprivileged manual, section 2.6).
-ghost use Rattle.std.specs.Prelude.{◌≡◌, ◌≢◌, ◌+◌, ◌*◌, ◌%◌, ◌^◌, ◌<◌, ◌≤◌, ℕ, List, [], None, Ok, Err, OnErr, OnOk};
-ghost use Rattle.sec_base.specs.Width.{number_at, width_bytes};
-ghost use Rattle.sec_base.specs.declared.width.Width.TheVariants.{Four};
+ghost use Rattle.std.specs.Prelude.{◌≡◌, ◌≢◌, ◌*◌, ◌%◌, ◌^◌, ◌<◌, ℕ, List, [], ◌∷◌, None, Err, OnErr};
+ghost use Rattle.sec_base.specs.Geometry.{line_of};
+ghost use Rattle.sec_base.specs.Ram.{GoesOn, IsReliable};
+ghost use Rattle.sec_base.specs.Width.{width_bytes};
 ghost use Rattle.rv32_decode.specs.Encoding.{IsInst};
-ghost use Rattle.rv32_core.specs.State.{CallsView};
-ghost use Rattle.rv32_core.specs.Effect.{data_fault, data_address, loads, stores};
-ghost use Rattle.rv32_core.specs.Touch.{HasLinesOf};
-ghost use Rattle.rv32_core.specs.declared.hart.StepStop.TheVariants.{WriteFault};
-ghost use Rattle.rv32_core.specs.Fetching.{IsFetched, StopsFetch};
-ghost use Rattle.rv32_core.specs.Loading.{extended as extended_by};
-ghost use Rattle.rv32_core.specs.Outcome.{IsOutcome, CarriesStop, OnlyTraps};
+ghost use Rattle.rv32_core.specs.Effect.{data_fault, load_effect, store_effect};
+ghost use Rattle.rv32_core.specs.Extension.{extension as extension_of};
+ghost use Rattle.rv32_core.specs.Fetch.{IsFetched, StopsFetch};
+ghost use Rattle.rv32_core.specs.Outcome.{CarriesStop, IsOutcome, OnlyTraps};
+ghost use Rattle.rv32_core.specs.State.{CallsView, state_of};
+ghost use Rattle.rv32_core.specs.TouchedLines.{AreTouched, access_line};
+ghost use Rattle.rv32_core.specs.declared.step.StepStop.TheVariants.{WriteFault};
 
-use crate::execute::immediate;
-use crate::hart::{Core, Step, StepStop};
+use crate::processor::Core;
+use crate::step::{Step, StepStop};
 use rv32_decode::Inst;
 use sec_base::{Cause, Ram, Width};
 
@@ -30,24 +31,18 @@ pub enum Extension {
 pub fn fetch<M: Ram>(ram: &mut M, pc: u32) -> Result<u32, StepStop>
     requires { pc % 4 ≡ 0 }
 
-    ensures fetched { M.stopped ram.old ≡ None → M.sound ram.new → IsFetched (M.contents ram.old) pc result }
-    ensures contents { M.stopped ram.old ≡ None → M.sound ram.new → M.contents ram.new ≡ M.contents ram.old }
+    ensures fetched { IsReliable M.stopped M.sound ram.old ram.new → IsFetched (M.contents ram.old) pc result }
+    ensures contents { IsReliable M.stopped M.sound ram.old ram.new → M.contents ram.new ≡ M.contents ram.old }
 
     ensures mem { M.stopped ram.old ≡ None → StopsFetch (M.stopped ram.new) result }
     ensures write_fault { result ≢ Err WriteFault }
 
-    ensures extent { M.extent ram.new ≡ M.extent ram.old }
-    ensures lost { M.sound ram.new → M.sound ram.old }
-    ensures moved { (lines : List ℕ) × M.moved ram.old lines ram.new
-        × OnOk result (HasLinesOf lines (record { from = pc; count = 4 })) }
+    ensures moved { GoesOn M.extent M.sound M.moved (λ lines. AreTouched result (line_of pc ∷ []) lines) ram.old ram.new }
 {
     if u64::from(pc) + 4 > u64::from(ram.size()) {
         return Err(StepStop::Trap(Cause::OutsideMemory));
     }
-    match ram.load(pc, Width::Four) {
-        Ok(word) => Ok(word),
-        Err(stop) => Err(StepStop::Mem(stop)),
-    }
+    Ok(ram.load(pc, Width::Four)?)
 }
 
 impl Core {
@@ -62,31 +57,24 @@ impl Core {
     ) -> Result<Step, StepStop>
         requires { IsInst inst.now }
 
-        ensures outcome { M.stopped ram.old ≡ None → M.sound ram.new → (calls : CallsView) → IsOutcome
-            (loads width (extended_by extension width) inst.now (record { core = self.old; calls = calls; memory = M.contents ram.old }))
-            result
-            (record { core = self.old; calls = calls; memory = M.contents ram.old })
-            (record { core = self.new; calls = calls; memory = M.contents ram.new })
-            [] }
+        ensures outcome { IsReliable M.stopped M.sound ram.old ram.new → (calls : CallsView) →
+            let before = state_of self.old calls (M.contents ram.old) in
+            IsOutcome (load_effect (extension_of extension) width inst.now before) result before (state_of self.new calls (M.contents ram.new)) [] }
         ensures stays { OnErr result (self.new ≡ self.old) }
 
         ensures mem { M.stopped ram.old ≡ None → CarriesStop (M.stopped ram.new) result }
         ensures only_traps { M.stopped ram.old ≡ None → M.stopped ram.new ≡ None → OnlyTraps result }
         ensures write_fault { result ≢ Err WriteFault }
 
-        ensures extent { M.extent ram.new ≡ M.extent ram.old }
-        ensures lost { M.sound ram.new → M.sound ram.old }
-        ensures moved { (lines : List ℕ) × M.moved ram.old lines ram.new
-            × OnOk result (HasLinesOf lines (record { from = data_address inst.now self.old; count = width_bytes width })) }
+        ensures moved { GoesOn M.extent M.sound M.moved
+            (λ lines. AreTouched result (access_line inst.now self.old) lines) ram.old ram.new }
     {
-        let address = self.effective_address(inst);
+        let address = self.data_address(inst);
         if let Some(cause) = fault_at(address, width, ram.size()) {
             return Err(StepStop::Trap(cause));
         }
-        match ram.load(address, width) {
-            Ok(number) => self.retire(inst.rd, extended(number, width, extension)),
-            Err(stop) => Err(StepStop::Mem(stop)),
-        }
+        let number = ram.load(address, width)?;
+        self.retire(inst.rd, extended(number, width, extension))
     }
 
     // A store of this width.
@@ -99,43 +87,25 @@ impl Core {
     ) -> Result<Step, StepStop>
         requires { IsInst inst.now }
 
-        ensures outcome { M.stopped ram.old ≡ None → M.sound ram.new → (calls : CallsView) → IsOutcome
-            (stores width inst.now (record { core = self.old; calls = calls; memory = M.contents ram.old }))
-            result
-            (record { core = self.old; calls = calls; memory = M.contents ram.old })
-            (record { core = self.new; calls = calls; memory = M.contents ram.new })
-            [] }
+        ensures outcome { IsReliable M.stopped M.sound ram.old ram.new → (calls : CallsView) →
+            let before = state_of self.old calls (M.contents ram.old) in
+            IsOutcome (store_effect width inst.now before) result before (state_of self.new calls (M.contents ram.new)) [] }
         ensures stays { OnErr result (self.new ≡ self.old) }
 
         ensures mem { M.stopped ram.old ≡ None → CarriesStop (M.stopped ram.new) result }
         ensures only_traps { M.stopped ram.old ≡ None → M.stopped ram.new ≡ None → OnlyTraps result }
         ensures write_fault { result ≢ Err WriteFault }
 
-        ensures extent { M.extent ram.new ≡ M.extent ram.old }
-        ensures lost { M.sound ram.new → M.sound ram.old }
-        ensures moved { (lines : List ℕ) × M.moved ram.old lines ram.new
-            × OnOk result (HasLinesOf lines (record { from = data_address inst.now self.old; count = width_bytes width })) }
+        ensures moved { GoesOn M.extent M.sound M.moved
+            (λ lines. AreTouched result (access_line inst.now self.old) lines) ram.old ram.new }
     {
-        let address = self.effective_address(inst);
+        let address = self.data_address(inst);
         if let Some(cause) = fault_at(address, width, ram.size()) {
             return Err(StepStop::Trap(cause));
         }
-        match ram.store(address, width, self.reg(inst.rs2)) {
-            Ok(()) => {
-                self.pass();
-                Ok(Step::Retired)
-            }
-            Err(stop) => Err(StepStop::Mem(stop)),
-        }
-    }
-
-    // Where a load or a store goes.
-    #[inline(always)]
-    fn effective_address(&self, inst: &Inst) -> u32
-        requires { inst.now.rs1 < 32 }
-        ensures { result ≡ data_address inst.now self.now }
-    {
-        self.reg(inst.rs1).wrapping_add(immediate(inst))
+        ram.store(address, width, self.rs2(inst))?;
+        self.pass();
+        Ok(Step::Retired)
     }
 }
 
@@ -143,7 +113,7 @@ impl Core {
 #[inline]
 fn extended(number: u32, width: Width, extension: Extension) -> u32
     requires { number < 2 ^ (8 * width_bytes width) }
-    ensures { result ≡ extended_by extension width number }
+    ensures { result ≡ extension_of extension width number }
 {
     match (extension, width) {
         (Extension::Sign, Width::One) if number >= 0x80 => number + 0xffff_ff00,

@@ -32,7 +32,7 @@ impl<'a> Model for Calls<'a> {
 
 impl<'a> Calls<'a> {
     ghost use Rattle.rv32_core.specs.Machine.{opening_calls};
-    ghost use Rattle.rv32_core.specs.Services.{next_input, at_position, is_break, with_break};
+    ghost use Rattle.rv32_core.specs.Services.{next_input, with_position, is_break, with_break};
 
     /// The services of a program that begins with this input.
     pub fn new(input: &'a [u8], image: &Image) -> Calls<'a>
@@ -59,7 +59,7 @@ impl<'a> Calls<'a> {
     /// So many bytes of the input were read.
     pub(crate) fn advance(&mut self, count: usize)
         requires { self.old.position + count ≤ length self.old.input }
-        ensures { self.new ≡ at_position self.old (self.old.position + count) }
+        ensures { self.new ≡ with_position self.old (self.old.position + count) }
     {
         self.position += count;
     }

@@ -1,13 +1,14 @@
 // What each row of the instruction table does.
-ghost use Rattle.std.specs.Prelude.{◌≡◌, ◌<◌, ◌≤◌, ℕ, List, None, Err, OnErr, OnOk};
+ghost use Rattle.std.specs.Prelude.{◌≡◌, ◌≤◌, ℕ, List, None, Err, OnErr};
 ghost use Rattle.sec_base.specs.Count.{Rose};
+ghost use Rattle.sec_base.specs.Ram.{GoesOn, IsReliable};
 ghost use Rattle.sec_base.specs.Sink.{Gains};
 ghost use Rattle.rv32_decode.specs.Encoding.{IsInst};
-ghost use Rattle.rv32_core.specs.State.{register, word};
 ghost use Rattle.rv32_core.specs.Effect.{effect};
-ghost use Rattle.rv32_core.specs.Touch.{data_touches, HasLinesOfAll};
-ghost use Rattle.rv32_core.specs.declared.hart.StepStop.TheVariants.{WriteFault};
-ghost use Rattle.rv32_core.specs.Outcome.{IsOutcome, CarriesStop, IsSinkStop};
+ghost use Rattle.rv32_core.specs.Outcome.{CarriesStop, IsOutcome, IsSinkStop};
+ghost use Rattle.rv32_core.specs.State.{state_of};
+ghost use Rattle.rv32_core.specs.TouchedLines.{AreTouched, data_lines};
+ghost use Rattle.rv32_core.specs.declared.step.StepStop.TheVariants.{WriteFault};
 
 use crate::access::Extension;
 use crate::arithmetic::{
@@ -15,30 +16,13 @@ use crate::arithmetic::{
     quotient, quotient_unsigned, remainder, remainder_unsigned, shift_right_signed,
 };
 use crate::calls::Calls;
-use crate::hart::{Core, Step, StepStop};
-use crate::transfer::without_bit_0;
+use crate::operands::immediate;
+use crate::processor::Core;
+use crate::step::{Step, StepStop};
 use rv32_decode::{Inst, Op};
 use sec_base::{Cause, Ram, Sink, Width};
 
 impl Core {
-    // The first register that an instruction reads.
-    #[inline(always)]
-    fn rs1(&self, inst: &Inst) -> u32
-        requires { inst.now.rs1 < 32 }
-        ensures { result ≡ register self.now inst.now.rs1 }
-    {
-        self.reg(inst.rs1)
-    }
-
-    // The second register that an instruction reads.
-    #[inline(always)]
-    fn rs2(&self, inst: &Inst) -> u32
-        requires { inst.now.rs2 < 32 }
-        ensures { result ≡ register self.now inst.now.rs2 }
-    {
-        self.reg(inst.rs2)
-    }
-
     // Does a decoded instruction.
     #[inline(always)]
     pub(crate) fn execute<M: Ram, S: Sink>(
@@ -50,35 +34,26 @@ impl Core {
     ) -> Result<Step, StepStop>
         requires { IsInst inst.now }
 
-        ensures outcome { (printed : List ℕ) × Gains (S.state out.old) printed (S.state out.new)
-            × (M.stopped ram.old ≡ None → M.sound ram.new → IsOutcome
-            (effect inst.now.op inst.now (record { core = self.old; calls = calls.old; memory = M.contents ram.old }))
-            result
-            (record { core = self.old; calls = calls.old; memory = M.contents ram.old })
-            (record { core = self.new; calls = calls.new; memory = M.contents ram.new })
-            printed) }
+        ensures outcome { let before = state_of self.old calls.old (M.contents ram.old) in
+            (printed : List ℕ) × Gains (S.state out.old) printed (S.state out.new)
+            × (IsReliable M.stopped M.sound ram.old ram.new → IsOutcome (effect inst.now.op inst.now before) result before
+            (state_of self.new calls.new (M.contents ram.new)) printed) }
         ensures stays { OnErr result ((self.new ≡ self.old) × (calls.new ≡ calls.old)) }
 
         ensures mem { M.stopped ram.old ≡ None → CarriesStop (M.stopped ram.new) result }
-        ensures sink_stop { M.stopped ram.old ≡ None → M.sound ram.new → M.stopped ram.new ≡ None → IsSinkStop result
-            (effect inst.now.op inst.now (record { core = self.old; calls = calls.old; memory = M.contents ram.old })) }
+        ensures sink_stop { IsReliable M.stopped M.sound ram.old ram.new → M.stopped ram.new ≡ None → IsSinkStop result
+            (effect inst.now.op inst.now (state_of self.old calls.old (M.contents ram.old))) }
         ensures write_fault { result ≡ Err WriteFault → Rose (S.state out.old).faults (S.state out.new).faults }
         ensures faults { (S.state out.old).faults ≤ (S.state out.new).faults }
 
-        ensures extent { M.extent ram.new ≡ M.extent ram.old }
-        ensures lost { M.sound ram.new → M.sound ram.old }
-        ensures moved { (lines : List ℕ) × M.moved ram.old lines ram.new
-            × (M.stopped ram.old ≡ None → M.sound ram.new → OnOk result (HasLinesOfAll lines
-            (data_touches inst.now.op inst.now (record { core = self.old; calls = calls.old; memory = M.contents ram.old })))) }
+        ensures moved { GoesOn M.extent M.sound M.moved (λ lines. AreTouched result
+            (data_lines inst.now.op inst.now (state_of self.old calls.old (M.contents ram.old))) lines) ram.old ram.new }
     {
         match inst.op {
             Op::Lui => self.retire(inst.rd, immediate(inst)),
-            Op::Auipc => self.retire(inst.rd, self.pc().wrapping_add(immediate(inst))),
-            Op::Jal => self.jump(self.pc().wrapping_add(immediate(inst)), inst),
-            Op::Jalr => self.jump(
-                without_bit_0(self.rs1(inst).wrapping_add(immediate(inst))),
-                inst,
-            ),
+            Op::Auipc => self.retire(inst.rd, self.relative_address(inst)),
+            Op::Jal => self.jump(self.relative_address(inst), inst),
+            Op::Jalr => self.jump(self.absolute_target(inst), inst),
             Op::Beq => self.branch(self.rs1(inst) == self.rs2(inst), inst),
             Op::Bne => self.branch(self.rs1(inst) != self.rs2(inst), inst),
             Op::Blt => self.branch(is_less_signed(self.rs1(inst), self.rs2(inst)), inst),
@@ -131,12 +106,4 @@ impl Core {
             Op::Ebreak => Err(StepStop::Trap(Cause::Breakpoint)),
         }
     }
-}
-
-// The immediate as a word.
-#[inline(always)]
-pub fn immediate(inst: &Inst) -> u32
-    ensures { result ≡ word inst.now.imm }
-{
-    inst.imm.cast_unsigned()
 }

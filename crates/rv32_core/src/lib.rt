@@ -6,14 +6,17 @@ mod access;
 mod arithmetic;
 mod calls;
 mod execute;
-mod hart;
 mod input;
+mod operands;
 mod print;
+mod processor;
 mod services;
+mod step;
 mod transfer;
 
 pub use calls::Calls;
-pub use hart::{Core, Step, StepStop};
+pub use processor::Core;
+pub use step::{Step, StepStop};
 
 #[cfg(test)]
 mod tests;

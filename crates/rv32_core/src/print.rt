@@ -1,13 +1,14 @@
 // What an instruction prints: bytes of the memory, loaded and written piece by piece.
-ghost use Rattle.std.specs.Prelude.{◌≡◌, ◌+◌, ◌<◌, ◌≤◌, ◌^◌, ℕ, List, Option, None, Some, Result, Ok, Err, length, take, drop, IfErr, OnOk, OnErr};
+ghost use Rattle.std.specs.Prelude.{◌≡◌, ◌+◌, ◌<◌, ◌≤◌, ◌^◌, ℕ, List, None, Some, Err, length, IfErr, OnOk, OnErr};
 ghost use Rattle.sec_base.specs.Count.{Rose};
-ghost use Rattle.sec_base.specs.Prefix.{IsPrefix};
+ghost use Rattle.sec_base.specs.Ram.{GoesOn, IsReliable};
 ghost use Rattle.sec_base.specs.Sink.{Gains};
-ghost use Rattle.rv32_core.specs.declared.hart.StepStop.TheVariants.{WriteFault};
-ghost use Rattle.rv32_core.specs.Touch.{HasLinesOf};
-ghost use Rattle.rv32_core.specs.Printing.{bytes_at, piece_length as length_of_piece, IsPrinted, StopsAs};
+ghost use Rattle.rv32_core.specs.Print.{IsPrinted, StopsAs, piece_length as length_of_piece};
+ghost use Rattle.rv32_core.specs.State.{memory_bytes};
+ghost use Rattle.rv32_core.specs.TouchedLines.{AreTouched, byte_lines};
+ghost use Rattle.rv32_core.specs.declared.step.StepStop.TheVariants.{WriteFault};
 
-use crate::hart::StepStop;
+use crate::step::StepStop;
 use sec_base::{MemStop, Ram, Sink, SinkStop, Width, write_all};
 
 /// Prints so many bytes of the memory from an address on.
@@ -21,27 +22,23 @@ pub fn print<M: Ram, S: Sink>(
     requires fits { 0 < count → from + count < 2 ^ 32 }
 
     ensures printed { (printed : List ℕ) × Gains (S.state out.old) printed (S.state out.new)
-        × (M.stopped ram.old ≡ None → M.sound ram.new → IsPrinted result (bytes_at (M.contents ram.old) from count) printed) }
-    ensures contents { M.stopped ram.old ≡ None → M.sound ram.new → M.contents ram.new ≡ M.contents ram.old }
+        × (IsReliable M.stopped M.sound ram.old ram.new → IsPrinted result (memory_bytes (M.contents ram.old) from count) printed) }
+    ensures contents { IsReliable M.stopped M.sound ram.old ram.new → M.contents ram.new ≡ M.contents ram.old }
 
     ensures mem { M.stopped ram.old ≡ None → StopsAs (M.stopped ram.new) result }
     ensures some { M.stopped ram.old ≡ None → M.stopped ram.new ≡ None → OnErr result (0 < count) }
     ensures write_fault { result ≡ Err WriteFault → Rose (S.state out.old).faults (S.state out.new).faults }
     ensures faults { (S.state out.old).faults ≤ (S.state out.new).faults }
 
-    ensures extent { M.extent ram.new ≡ M.extent ram.old }
-    ensures lost { M.sound ram.new → M.sound ram.old }
-    ensures moved { (lines : List ℕ) × M.moved ram.old lines ram.new
-        × OnOk result (HasLinesOf lines (record { from = from; count = count })) }
+    ensures moved { GoesOn M.extent M.sound M.moved
+        (λ lines. AreTouched result (byte_lines from count) lines) ram.old ram.new }
 {
     let end = from + count;
     let mut at = from;
     while at < end {
         let length = piece_length(at, end);
-        match print_piece(ram, out, at, length) {
-            Ok(()) => at += length,
-            Err(stop) => return Err(stop),
-        }
+        print_piece(ram, out, at, length)?;
+        at += length;
     }
     Ok(())
 }
@@ -66,24 +63,19 @@ fn print_piece<M: Ram, S: Sink>(
     requires short { count ≤ 64 }
 
     ensures printed { (printed : List ℕ) × Gains (S.state out.old) printed (S.state out.new)
-        × (M.stopped ram.old ≡ None → M.sound ram.new → IsPrinted result (bytes_at (M.contents ram.old) from count) printed) }
-    ensures contents { M.stopped ram.old ≡ None → M.sound ram.new → M.contents ram.new ≡ M.contents ram.old }
+        × (IsReliable M.stopped M.sound ram.old ram.new → IsPrinted result (memory_bytes (M.contents ram.old) from count) printed) }
+    ensures contents { IsReliable M.stopped M.sound ram.old ram.new → M.contents ram.new ≡ M.contents ram.old }
 
     ensures mem { M.stopped ram.old ≡ None → StopsAs (M.stopped ram.new) result }
     ensures write_fault { result ≡ Err WriteFault → Rose (S.state out.old).faults (S.state out.new).faults }
     ensures faults { (S.state out.old).faults ≤ (S.state out.new).faults }
 
-    ensures extent { M.extent ram.new ≡ M.extent ram.old }
-    ensures lost { M.sound ram.new → M.sound ram.old }
-    ensures moved { (lines : List ℕ) × M.moved ram.old lines ram.new
-        × OnOk result (HasLinesOf lines (record { from = from; count = count })) }
+    ensures moved { GoesOn M.extent M.sound M.moved
+        (λ lines. AreTouched result (byte_lines from count) lines) ram.old ram.new }
 {
     let mut buffer = [0; 64];
     let piece = &mut buffer[..count as usize];
-    match load_piece(ram, from, piece) {
-        Ok(()) => (),
-        Err(stop) => return Err(StepStop::Mem(stop)),
-    }
+    load_piece(ram, from, piece)?;
     match write_all(out, piece) {
         Ok(()) => Ok(()),
         Err(SinkStop::Failed) => Err(StepStop::WriteFault),
@@ -97,23 +89,18 @@ fn load_piece<M: Ram>(ram: &mut M, from: u32, piece: &mut [u8]) -> Result<(), Me
     requires fits { from + length piece.old < 2 ^ 32 }
     requires short { length piece.old ≤ 64 }
 
-    ensures loaded { M.stopped ram.old ≡ None → M.sound ram.new → OnOk result (
-        piece.new ≡ bytes_at (M.contents ram.old) from (length piece.old)) }
-    ensures contents { M.stopped ram.old ≡ None → M.sound ram.new → M.contents ram.new ≡ M.contents ram.old }
+    ensures loaded { IsReliable M.stopped M.sound ram.old ram.new → OnOk result (
+        piece.new ≡ memory_bytes (M.contents ram.old) from (length piece.old)) }
+    ensures contents { IsReliable M.stopped M.sound ram.old ram.new → M.contents ram.new ≡ M.contents ram.old }
 
     ensures goes_on { OnOk result (M.stopped ram.new ≡ M.stopped ram.old) }
     ensures stops { M.stopped ram.old ≡ None → IfErr result (λ stop. M.stopped ram.new ≡ Some stop) }
 
-    ensures extent { M.extent ram.new ≡ M.extent ram.old }
-    ensures lost { M.sound ram.new → M.sound ram.old }
-    ensures moved { (lines : List ℕ) × M.moved ram.old lines ram.new
-        × OnOk result (HasLinesOf lines (record { from = from; count = length piece.old })) }
+    ensures moved { GoesOn M.extent M.sound M.moved
+        (λ lines. AreTouched result (byte_lines from (length piece.old)) lines) ram.old ram.new }
 {
     for i in 0..piece.len() {
-        match ram.load(from + i as u32, Width::One) {
-            Ok(byte) => piece[i] = byte as u8,
-            Err(stop) => return Err(stop),
-        }
+        piece[i] = ram.load(from + i as u32, Width::One)? as u8;
     }
     Ok(())
 }

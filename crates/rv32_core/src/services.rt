@@ -1,18 +1,21 @@
 // The services of ECALL.
-ghost use Rattle.std.specs.Prelude.{◌≡◌, ◌≢◌, ◌≤◌, ℕ, List, [], None, Ok, Err, OnErr, OnOk};
+ghost use Rattle.std.specs.Prelude.{◌≡◌, ◌≢◌, ◌≤◌, ℕ, List, [], None, Ok, Err, OnErr};
 ghost use Rattle.sec_base.specs.Count.{Rose};
+ghost use Rattle.sec_base.specs.Ram.{GoesOn, IsReliable};
 ghost use Rattle.sec_base.specs.Sink.{Gains};
-ghost use Rattle.rv32_core.specs.State.{CallsView, word, register, next_core, written_core};
-ghost use Rattle.rv32_core.specs.Services.{service, read_service, write_service, brk_service, is_inside, is_output};
-ghost use Rattle.rv32_core.specs.Touch.{service_touches, read_touches, write_touches, HasLinesOfAll};
-ghost use Rattle.rv32_core.specs.declared.hart.Step.TheVariants.{Retired, Halted};
-ghost use Rattle.rv32_core.specs.declared.hart.StepStop.TheVariants.{WriteFault};
-ghost use Rattle.rv32_core.specs.Outcome.{IsOutcome, CarriesStop, IsSinkStop, OnlyTraps};
+ghost use Rattle.rv32_decode.specs.Words.{word_of_signed};
+ghost use Rattle.rv32_core.specs.Outcome.{CarriesStop, IsOutcome, IsSinkStop, OnlyTraps};
+ghost use Rattle.rv32_core.specs.Services.{brk_service, is_inside, is_output, read_service, service, write_service};
+ghost use Rattle.rv32_core.specs.State.{CallsView, next_core, next_core_with, register, state_of};
+ghost use Rattle.rv32_core.specs.TouchedLines.{AreTouched, read_lines, service_lines, write_lines};
+ghost use Rattle.rv32_core.specs.declared.step.Step.TheVariants.{Halted, Retired};
+ghost use Rattle.rv32_core.specs.declared.step.StepStop.TheVariants.{WriteFault};
 
 use crate::calls::Calls;
-use crate::hart::{Core, Step, StepStop};
 use crate::input::store_bytes;
 use crate::print::print;
+use crate::processor::Core;
+use crate::step::{Step, StepStop};
 use sec_base::{Ram, Sink};
 
 // The registers of the arguments, of which the first takes the answer, and of the service's number.
@@ -48,62 +51,45 @@ impl Core {
         calls: &mut Calls,
         out: &mut S,
     ) -> Result<Step, StepStop>
-        ensures outcome { (printed : List ℕ) × Gains (S.state out.old) printed (S.state out.new)
-            × (M.stopped ram.old ≡ None → M.sound ram.new → IsOutcome
-            (Ok (service (record { core = self.old; calls = calls.old; memory = M.contents ram.old })))
-            result
-            (record { core = self.old; calls = calls.old; memory = M.contents ram.old })
-            (record { core = self.new; calls = calls.new; memory = M.contents ram.new })
-            printed) }
+        ensures outcome { let before = state_of self.old calls.old (M.contents ram.old) in
+            (printed : List ℕ) × Gains (S.state out.old) printed (S.state out.new)
+            × (IsReliable M.stopped M.sound ram.old ram.new → IsOutcome (Ok (service before)) result before
+            (state_of self.new calls.new (M.contents ram.new)) printed) }
         ensures stays { OnErr result ((self.new ≡ self.old) × (calls.new ≡ calls.old)) }
 
         ensures mem { M.stopped ram.old ≡ None → CarriesStop (M.stopped ram.new) result }
-        ensures sink_stop { M.stopped ram.old ≡ None → M.sound ram.new → M.stopped ram.new ≡ None → IsSinkStop result
-            (Ok (service (record { core = self.old; calls = calls.old; memory = M.contents ram.old }))) }
+        ensures sink_stop { IsReliable M.stopped M.sound ram.old ram.new → M.stopped ram.new ≡ None →
+            IsSinkStop result (Ok (service (state_of self.old calls.old (M.contents ram.old)))) }
         ensures write_fault { result ≡ Err WriteFault → Rose (S.state out.old).faults (S.state out.new).faults }
         ensures faults { (S.state out.old).faults ≤ (S.state out.new).faults }
 
-        ensures extent { M.extent ram.new ≡ M.extent ram.old }
-        ensures lost { M.sound ram.new → M.sound ram.old }
-        ensures moved { (lines : List ℕ) × M.moved ram.old lines ram.new
-            × (M.stopped ram.old ≡ None → M.sound ram.new → OnOk result (HasLinesOfAll lines
-            (service_touches (record { core = self.old; calls = calls.old; memory = M.contents ram.old })))) }
+        ensures moved { GoesOn M.extent M.sound M.moved
+            (λ lines. AreTouched result (service_lines (state_of self.old calls.old (M.contents ram.old))) lines)
+            ram.old ram.new }
     {
-        let number = self.reg(A7);
-        if number == READ {
-            return self.read_input(ram, calls);
+        match self.reg(A7) {
+            READ => self.read_input(ram, calls),
+            WRITE => self.write_output(ram, out),
+            EXIT => self.exit(),
+            BRK => self.move_break(ram, calls),
+            _ => self.refuse(NO_SUCH_SERVICE),
         }
-        if number == WRITE {
-            return self.write_output(ram, out);
-        }
-        if number == EXIT {
-            return self.exit();
-        }
-        if number == BRK {
-            return self.move_break(ram, calls);
-        }
-        self.refuse(NO_SUCH_SERVICE)
     }
 
     // The next a2 bytes of the input, or what is left of it, are stored from a1 on.
     fn read_input<M: Ram>(&mut self, ram: &mut M, calls: &mut Calls) -> Result<Step, StepStop>
-        ensures outcome { M.stopped ram.old ≡ None → M.sound ram.new → IsOutcome
-            (Ok (read_service (record { core = self.old; calls = calls.old; memory = M.contents ram.old })))
-            result
-            (record { core = self.old; calls = calls.old; memory = M.contents ram.old })
-            (record { core = self.new; calls = calls.new; memory = M.contents ram.new })
-            [] }
+        ensures outcome { let before = state_of self.old calls.old (M.contents ram.old) in
+            IsReliable M.stopped M.sound ram.old ram.new → IsOutcome (Ok (read_service before)) result before
+            (state_of self.new calls.new (M.contents ram.new)) [] }
         ensures stays { OnErr result ((self.new ≡ self.old) × (calls.new ≡ calls.old)) }
 
         ensures mem { M.stopped ram.old ≡ None → CarriesStop (M.stopped ram.new) result }
         ensures only_traps { M.stopped ram.old ≡ None → M.stopped ram.new ≡ None → OnlyTraps result }
         ensures write_fault { result ≢ Err WriteFault }
 
-        ensures extent { M.extent ram.new ≡ M.extent ram.old }
-        ensures lost { M.sound ram.new → M.sound ram.old }
-        ensures moved { (lines : List ℕ) × M.moved ram.old lines ram.new
-            × (M.stopped ram.old ≡ None → M.sound ram.new → OnOk result (HasLinesOfAll lines
-            (read_touches (record { core = self.old; calls = calls.old; memory = M.contents ram.old })))) }
+        ensures moved { GoesOn M.extent M.sound M.moved
+            (λ lines. AreTouched result (read_lines (state_of self.old calls.old (M.contents ram.old))) lines)
+            ram.old ram.new }
     {
         let from = self.reg(A1);
         let count = self.reg(A2);
@@ -115,37 +101,27 @@ impl Core {
         }
         let bytes = calls.next_bytes(count);
         let taken = bytes.len();
-        match store_bytes(ram, from, bytes) {
-            Ok(()) => {
-                calls.advance(taken);
-                self.retire(A0, taken as u32)
-            }
-            Err(stop) => Err(StepStop::Mem(stop)),
-        }
+        store_bytes(ram, from, bytes)?;
+        calls.advance(taken);
+        self.retire(A0, taken as u32)
     }
 
     // Prints the a2 bytes from a1 on to the descriptor in a0.
     fn write_output<M: Ram, S: Sink>(&mut self, ram: &mut M, out: &mut S) -> Result<Step, StepStop>
         ensures outcome { (printed : List ℕ) × Gains (S.state out.old) printed (S.state out.new)
-            × (M.stopped ram.old ≡ None → M.sound ram.new → (calls : CallsView) → IsOutcome
-            (Ok (write_service (record { core = self.old; calls = calls; memory = M.contents ram.old })))
-            result
-            (record { core = self.old; calls = calls; memory = M.contents ram.old })
-            (record { core = self.new; calls = calls; memory = M.contents ram.new })
-            printed) }
+            × (IsReliable M.stopped M.sound ram.old ram.new → (calls : CallsView) →
+            let before = state_of self.old calls (M.contents ram.old) in
+            IsOutcome (Ok (write_service before)) result before (state_of self.new calls (M.contents ram.new)) printed) }
         ensures stays { OnErr result (self.new ≡ self.old) }
 
         ensures mem { M.stopped ram.old ≡ None → CarriesStop (M.stopped ram.new) result }
-        ensures sink_stop { M.stopped ram.old ≡ None → M.sound ram.new → M.stopped ram.new ≡ None → (calls : CallsView) →
-            IsSinkStop result (Ok (write_service (record { core = self.old; calls = calls; memory = M.contents ram.old }))) }
+        ensures sink_stop { IsReliable M.stopped M.sound ram.old ram.new → M.stopped ram.new ≡ None → (calls : CallsView) →
+            IsSinkStop result (Ok (write_service (state_of self.old calls (M.contents ram.old)))) }
         ensures write_fault { result ≡ Err WriteFault → Rose (S.state out.old).faults (S.state out.new).faults }
         ensures faults { (S.state out.old).faults ≤ (S.state out.new).faults }
 
-        ensures extent { M.extent ram.new ≡ M.extent ram.old }
-        ensures lost { M.sound ram.new → M.sound ram.old }
-        ensures moved { (lines : List ℕ) × M.moved ram.old lines ram.new
-            × (M.stopped ram.old ≡ None → M.sound ram.new → (calls : CallsView) → OnOk result (HasLinesOfAll lines
-            (write_touches (record { core = self.old; calls = calls; memory = M.contents ram.old })))) }
+        ensures moved { GoesOn M.extent M.sound M.moved (λ lines. (calls : CallsView) →
+            AreTouched result (write_lines (state_of self.old calls (M.contents ram.old))) lines) ram.old ram.new }
     {
         let from = self.reg(A1);
         let count = self.reg(A2);
@@ -155,10 +131,8 @@ impl Core {
         if !reaches_inside(from, count, ram.size()) {
             return self.refuse(BAD_ADDRESS);
         }
-        match print(ram, out, from, count) {
-            Ok(()) => self.retire(A0, count),
-            Err(stop) => Err(stop),
-        }
+        print(ram, out, from, count)?;
+        self.retire(A0, count)
     }
 
     // Ends the program with the code in a0.
@@ -173,12 +147,8 @@ impl Core {
 
     // Moves the program's break to the address in a0, where it may stand there.
     fn move_break<M: Ram>(&mut self, ram: &M, calls: &mut Calls) -> Result<Step, StepStop>
-        ensures outcome { IsOutcome
-            (Ok (brk_service (record { core = self.old; calls = calls.old; memory = M.contents ram.now })))
-            result
-            (record { core = self.old; calls = calls.old; memory = M.contents ram.now })
-            (record { core = self.new; calls = calls.new; memory = M.contents ram.now })
-            [] }
+        ensures outcome { let before = state_of self.old calls.old (M.contents ram.now) in
+            IsOutcome (Ok (brk_service before)) result before (state_of self.new calls.new (M.contents ram.now)) [] }
         ensures retired { result ≡ Ok Retired }
     {
         let brk = calls.move_break(self.reg(A0), ram.size());
@@ -187,7 +157,7 @@ impl Core {
 
     // Answers a negative number.
     fn refuse(&mut self, answer: i32) -> Result<Step, StepStop>
-        ensures core { self.new ≡ written_core self.old 10 (word answer) }
+        ensures core { self.new ≡ next_core_with self.old 10 (word_of_signed answer) }
         ensures retired { result ≡ Ok Retired }
     {
         self.retire(A0, answer.cast_unsigned())

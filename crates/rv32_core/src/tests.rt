@@ -100,7 +100,7 @@ fn image(alloc: Global) -> Result<Image, AllocError> {
 
 const ECALL: u32 = 0x73;
 
-// A hart at 0 that asks for a service with three arguments.
+// A core at 0 that asks for a service with three arguments.
 fn asking(number: u32, first: u32, second: u32, third: u32) -> Core {
     let mut core = Core::new(0, 16_384);
     core.set_reg(17, number);
@@ -111,7 +111,7 @@ fn asking(number: u32, first: u32, second: u32, third: u32) -> Core {
 }
 
 #[test]
-fn a_hart_begins_at_its_entry(rt: HostRuntime) {
+fn a_core_begins_at_its_entry(rt: HostRuntime) {
     let core = Core::new(8, 16_384);
     assert_eq!(rt; core.pc(), 8);
     for (number, value) in [(0, 0), (1, 0), (2, 16_320), (3, 0), (31, 0)] {

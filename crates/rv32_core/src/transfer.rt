@@ -1,12 +1,12 @@
 // Jumps and branches (RISC-V unprivileged manual, section 2.5).
-ghost use Rattle.std.specs.Prelude.{◌≡◌, ◌-◌, ◌%◌, ℕ, List, [], OnErr};
+ghost use Rattle.std.specs.Prelude.{◌≡◌, ◌%◌, ℕ, List, [], OnErr};
 ghost use Rattle.rv32_decode.specs.Encoding.{IsInst};
-ghost use Rattle.rv32_core.specs.State.{CallsView};
-ghost use Rattle.rv32_core.specs.Effect.{target_fault, jumps, branches};
+ghost use Rattle.rv32_core.specs.Effect.{branch_effect, jump_effect, target_fault};
 ghost use Rattle.rv32_core.specs.Outcome.{IsOutcome, OnlyTraps};
+ghost use Rattle.rv32_core.specs.State.{CallsView, state_of};
 
-use crate::execute::immediate;
-use crate::hart::{Core, Step, StepStop};
+use crate::processor::Core;
+use crate::step::{Step, StepStop};
 use rv32_decode::Inst;
 use sec_base::Cause;
 
@@ -16,12 +16,8 @@ impl Core {
     pub(crate) fn jump(&mut self, target: u32, inst: &Inst) -> Result<Step, StepStop>
         requires { IsInst inst.now }
 
-        ensures outcome { (calls : CallsView) (memory : List ℕ) → IsOutcome
-            (jumps target inst.now (record { core = self.old; calls = calls; memory = memory }))
-            result
-            (record { core = self.old; calls = calls; memory = memory })
-            (record { core = self.new; calls = calls; memory = memory })
-            [] }
+        ensures outcome { (calls : CallsView) (memory : List ℕ) → let before = state_of self.old calls memory in
+            IsOutcome (jump_effect target inst.now before) result before (state_of self.new calls memory) [] }
         ensures stays { OnErr result (self.new ≡ self.old) }
         ensures only_traps { OnlyTraps result }
     {
@@ -37,12 +33,8 @@ impl Core {
     // A branch, where it is taken or not.
     #[inline]
     pub(crate) fn branch(&mut self, taken: bool, inst: &Inst) -> Result<Step, StepStop>
-        ensures outcome { (calls : CallsView) (memory : List ℕ) → IsOutcome
-            (branches taken inst.now (record { core = self.old; calls = calls; memory = memory }))
-            result
-            (record { core = self.old; calls = calls; memory = memory })
-            (record { core = self.new; calls = calls; memory = memory })
-            [] }
+        ensures outcome { (calls : CallsView) (memory : List ℕ) → let before = state_of self.old calls memory in
+            IsOutcome (branch_effect taken inst.now before) result before (state_of self.new calls memory) [] }
         ensures stays { OnErr result (self.new ≡ self.old) }
         ensures only_traps { OnlyTraps result }
     {
@@ -50,7 +42,7 @@ impl Core {
             self.pass();
             return Ok(Step::Retired);
         }
-        let target = self.pc().wrapping_add(immediate(inst));
+        let target = self.relative_address(inst);
         if let Some(cause) = fault_at_target(target) {
             return Err(StepStop::Trap(cause));
         }
@@ -69,12 +61,4 @@ fn fault_at_target(target: u32) -> Option<Cause>
     } else {
         Some(Cause::MisalignedTarget)
     }
-}
-
-// Where JALR leads from a sum.
-#[inline]
-pub fn without_bit_0(sum: u32) -> u32
-    ensures { result ≡ sum - sum % 2 }
-{
-    sum / 2 * 2
 }

@@ -1,4 +1,5 @@
 pub mod Loading
+pub mod StoredLines
 pub mod Turns
 pub mod Runs
 pub mod Trails

@@ -2,61 +2,27 @@
 use Rattle.std.proofs.Common.{◌≡◌, ◌≤◌, ◌<◌, ℕ, suc, ◌+◌, ◌*◌, ◌/◌, ◌%◌, ◌^◌, List, [], ◌∷◌, ◌++◌, length, take, drop, get_or, set, replicate, fold, refl, sym, ap, ◌∙◌, arith, length-append, length-drop, add-zero}
 use Rattle.std.proofs.lemmas.List.{append-nil, take-append-drop, take_all, drop_more, length-take, length-replicate}
 use Rattle.std.proofs.lemmas.List.Sums.{fold_more}
-use Rattle.std.proofs.lemmas.List.Edits.{sets-eq}
-use Rattle.std.proofs.Math.Seq.{sets, length-sets, take-add}
-use Rattle.sec_base.specs.declared.width.Width.{Width}
+use Rattle.std.proofs.Math.Seq.{take-add}
 use Rattle.sec_base.specs.declared.width.Width.TheVariants.{One, Four}
 use Rattle.sec_base.specs.declared.segment.Segment.{Segment}
 use Rattle.sec_base.specs.Opening.{segment_memory, with_segment, opening_memory}
 use Rattle.sec_base.specs.Width.{number_bytes, with_number}
-use Rattle.sec_base.proofs.NumberBytes.{length-number_bytes}
-use Rattle.rv32_core.specs.State.{with_bytes}
-use Rattle.rv32_run.specs.Loading.{part}
+use Rattle.rv32_core.specs.State.{memory_bytes, with_bytes}
+use Rattle.rv32_core.proofs.Storing.{both_stored, number_stored}
 
-laid-sets : (m : List ℕ) (a : ℕ) (p : List ℕ) → a + length p ≤ length m → with_bytes m a p ≡ sets m a p
-unfolding with_bytes
-laid-sets m a p h = sym (sets-eq p m a h)
-
-sets-append : (m : List ℕ) (a : ℕ) (p q : List ℕ) → sets (sets m a p) (a + length p) q ≡ sets m a (p ++ q)
-sets-append m a [] q = ap (λ (n : ℕ). sets m n q) (add-zero a)
-sets-append m a (x ∷ p) q =
-    let e : a + suc (length p) ≡ suc a + length p = omega arith in
-    ap (λ (n : ℕ). sets (sets (set m a x) (suc a) p) n q) e ∙ sets-append (set m a x) (suc a) p q
-
-pub laid_number : (m : List ℕ) (a : ℕ) (width : Width) (n : ℕ) → with_number m a width n ≡ with_bytes m a (number_bytes width n)
-unfolding with_bytes
-laid_number m a width n = ap (λ (count : ℕ). take a m ++ number_bytes width n ++ drop (a + count) m) (sym (length-number_bytes width n))
-
-pub laid_nothing : (m : List ℕ) (a : ℕ) → with_bytes m a [] ≡ m
-unfolding with_bytes
-laid_nothing m a =
-    ap (λ (xs : List ℕ). xs ++ drop (a + 0) m) (append-nil (take a m)) ∙ ap (λ (n : ℕ). take a m ++ drop n m) (add-zero a)
-    ∙ take-append-drop a m
-
-pub laid_on : (m : List ℕ) (a b : ℕ) (p q : List ℕ) → b ≡ a + length p → b + length q ≤ length m → with_bytes (with_bytes m a p) b q ≡ with_bytes m a (p ++ q)
-laid_on m a b p q e h =
-    ap (λ (xs : List ℕ). with_bytes xs b q) (laid-sets m a p (omega arith))
-    ∙ laid-sets (sets m a p) b q (omega (arith, length-sets m a p))
-    ∙ ap (λ (n : ℕ). sets (sets m a p) n q) e ∙ sets-append m a p q
-    ∙ sym (laid-sets m a (p ++ q) (omega (arith, length-append p q)))
-
-pub length-part : (bytes : List ℕ) (at count : ℕ) → at + count ≤ length bytes → length (part bytes at count) ≡ count
-unfolding part
+pub length-part : (bytes : List ℕ) (at count : ℕ) → at + count ≤ length bytes → length (memory_bytes bytes at count) ≡ count
 length-part bytes at count h = simp (length-take, length-drop) (omega arith)
 
-pub part_byte : (bytes : List ℕ) (at : ℕ) → at < length bytes → part bytes at 1 ≡ get_or bytes at 0 ∷ []
-unfolding part
+pub part_byte : (bytes : List ℕ) (at : ℕ) → at < length bytes → memory_bytes bytes at 1 ≡ get_or bytes at 0 ∷ []
 part_byte bytes at h = ap (take 1) (drop_more bytes at 0 h)
 
-pub part_word : (bytes : List ℕ) (at : ℕ) → at + 4 ≤ length bytes → part bytes at 4 ≡ get_or bytes at 0 ∷ get_or bytes (at + 1) 0 ∷ get_or bytes (at + 2) 0 ∷ get_or bytes (at + 3) 0 ∷ []
-unfolding part
+pub part_word : (bytes : List ℕ) (at : ℕ) → at + 4 ≤ length bytes → memory_bytes bytes at 4 ≡ get_or bytes at 0 ∷ get_or bytes (at + 1) 0 ∷ get_or bytes (at + 2) 0 ∷ get_or bytes (at + 3) 0 ∷ []
 part_word bytes at h =
     let third : at + 1 + 1 ≡ at + 2 = omega arith in
     let fourth : at + 2 + 1 ≡ at + 3 = omega arith in
     rw (drop_more bytes at 0 (omega arith), drop_more bytes (at + 1) 0 (omega arith), third, drop_more bytes (at + 2) 0 (omega arith), fourth, drop_more bytes (at + 3) 0 (omega arith)) refl
 
-pub part_more : (bytes : List ℕ) (at count : ℕ) → take at bytes ++ part bytes at count ≡ take (at + count) bytes
-unfolding part
+pub part_more : (bytes : List ℕ) (at count : ℕ) → take at bytes ++ memory_bytes bytes at count ≡ take (at + count) bytes
 part_more bytes at count = sym (take-add at count bytes)
 
 pub length-segment_memory : (segment : Segment) → length segment.bytes ≤ segment.length → length (segment_memory segment) ≡ segment.length
@@ -68,10 +34,10 @@ laid_whole m segment h =
     ap (λ (n : ℕ). take segment.addr m ++ segment_memory segment ++ drop (segment.addr + n) m) (length-segment_memory segment h)
 
 -- one more part of a segment
-pub laid_more : (m now new : List ℕ) (a at count : ℕ) (bytes : List ℕ) → at + count ≤ length bytes → a + length bytes ≤ length m → now ≡ with_bytes m a (take at bytes) → new ≡ with_bytes now (a + at) (part bytes at count) → new ≡ with_bytes m a (take (at + count) bytes)
+pub laid_more : (m now new : List ℕ) (a at count : ℕ) (bytes : List ℕ) → at + count ≤ length bytes → a + length bytes ≤ length m → now ≡ with_bytes m a (take at bytes) → new ≡ with_bytes now (a + at) (memory_bytes bytes at count) → new ≡ with_bytes m a (take (at + count) bytes)
 laid_more m now new a at count bytes h inside before after =
-    after ∙ ap (λ (xs : List ℕ). with_bytes xs (a + at) (part bytes at count)) before
-    ∙ laid_on m a (a + at) (take at bytes) (part bytes at count) (omega (arith, length-take at bytes)) (omega (arith, length-part bytes at count h))
+    after ∙ ap (λ (xs : List ℕ). with_bytes xs (a + at) (memory_bytes bytes at count)) before
+    ∙ both_stored m a (a + at) (take at bytes) (memory_bytes bytes at count) (omega (arith, length-take at bytes)) (omega (arith, length-part bytes at count h))
     ∙ ap (with_bytes m a) (part_more bytes at count)
 
 -- a word that is made of four bytes has these bytes
@@ -84,13 +50,13 @@ made_of a b c d n ha hb hc hd e =
     rw (first, second, third, fourth) refl
 
 -- a word, or a byte, of a list that was stored
-pub word_stored : (old new : List ℕ) (address n : ℕ) (bytes : List ℕ) (at : ℕ) → number_bytes Four n ≡ part bytes at 4 → new ≡ with_number old address Four n → new ≡ with_bytes old address (part bytes at 4)
-word_stored old new address n bytes at e stored = stored ∙ laid_number old address Four n ∙ ap (with_bytes old address) e
+pub word_stored : (old new : List ℕ) (address n : ℕ) (bytes : List ℕ) (at : ℕ) → number_bytes Four n ≡ memory_bytes bytes at 4 → new ≡ with_number old address Four n → new ≡ with_bytes old address (memory_bytes bytes at 4)
+word_stored old new address n bytes at e stored = stored ∙ number_stored old address Four n ∙ ap (with_bytes old address) e
 
-pub byte_stored : (old new : List ℕ) (address n : ℕ) (bytes : List ℕ) (at : ℕ) → at < length bytes → n < 2 ^ 8 → n ≡ get_or bytes at 0 → new ≡ with_number old address One n → new ≡ with_bytes old address (part bytes at 1)
+pub byte_stored : (old new : List ℕ) (address n : ℕ) (bytes : List ℕ) (at : ℕ) → at < length bytes → n < 2 ^ 8 → n ≡ get_or bytes at 0 → new ≡ with_number old address One n → new ≡ with_bytes old address (memory_bytes bytes at 1)
 byte_stored old new address n bytes at inside small e stored =
     let whole : n % 2 ^ 8 ≡ get_or bytes at 0 = omega arith in
-    stored ∙ laid_number old address One n ∙ ap (λ (b : ℕ). with_bytes old address (b ∷ [])) whole
+    stored ∙ number_stored old address One n ∙ ap (λ (b : ℕ). with_bytes old address (b ∷ [])) whole
     ∙ ap (with_bytes old address) (sym (part_byte bytes at inside))
 
 -- all of a segment

@@ -1,15 +1,14 @@
 -- The memories that a run went through.
 use Rattle.std.proofs.Common.{◌≡◌, ◌<◌, ◌⊎◌, inl, inr, ℕ, suc, ◌+◌, List, [], Option, Some, None, Result, Ok, refl, sym, ap, ◌∙◌, subst, arith}
-use Rattle.std.specs.Prelude.{OnOk}
 use Rattle.sec_base.specs.declared.ending.Ending.{Ending}
 use Rattle.sec_base.specs.declared.ending.Ending.TheVariants.{Halted, Trapped, OutOfSteps, Tampered, Spent, WriteFault, NoMemory}
 use Rattle.sec_base.specs.declared.stop.MemStop.{MemStop}
-use Rattle.rv32_core.specs.declared.hart.Step.{Step}
-use Rattle.rv32_core.specs.declared.hart.StepStop.{StepStop}
+use Rattle.rv32_core.specs.declared.step.Step.{Step}
+use Rattle.rv32_core.specs.declared.step.StepStop.{StepStop}
 use Rattle.rv32_core.specs.State.{State}
 use Rattle.rv32_core.specs.Effect.{next}
 use Rattle.rv32_core.specs.Outcome.{IsOutcome, CarriesStop, exit_of}
-use Rattle.rv32_core.specs.Touch.{touches, HasLinesOfAll}
+use Rattle.rv32_core.specs.TouchedLines.{AreTouched, touched_lines}
 use Rattle.rv32_core.specs.Machine.{Machine, plain}
 use Rattle.rv32_core.proofs.Plain.{going_on, plain_stepped}
 use Rattle.rv32_run.specs.Session.{retired_after}
@@ -20,7 +19,7 @@ stepped_going : (stopped : Option MemStop) (result : Result Step StepStop) (step
 stepped_going None result step carries is = refl
 stepped_going (Some stop) result step carries is = let same = sym is ∙ carries in cc
 
-pub step_instruction : {M : Type 0} (stopped : M → Option MemStop) (contents : M → List ℕ) (moved : M → List ℕ → M → Type 0) (start : Machine) (n : ℕ) (first last : M) (old new : State) (before printed : List ℕ) (result : Result Step StepStop) (step : Step) (lines : List ℕ) → plain start n ≡ going_on old before n → IsOutcome (next old) result old new printed → result ≡ Ok step → CarriesStop (stopped last) result → new.memory ≡ contents last → moved first lines last → OnOk result (HasLinesOfAll lines (touches old)) → IsInstruction stopped contents moved start n first last
+pub step_instruction : {M : Type 0} (stopped : M → Option MemStop) (contents : M → List ℕ) (moved : M → List ℕ → M → Type 0) (start : Machine) (n : ℕ) (first last : M) (old new : State) (before printed : List ℕ) (result : Result Step StepStop) (step : Step) (lines : List ℕ) → plain start n ≡ going_on old before n → IsOutcome (next old) result old new printed → result ≡ Ok step → CarriesStop (stopped last) result → new.memory ≡ contents last → moved first lines last → AreTouched result (touched_lines old) lines → IsInstruction stopped contents moved start n first last
 step_instruction {M} stopped contents moved start n first last old new before printed result step lines here outcome is carries bytes led touched = record {
   lines = lines;
   led = led;
@@ -28,8 +27,8 @@ step_instruction {M} stopped contents moved start n first last old new before pr
   bytes =
       let stepped = plain_stepped start n old new before printed (exit_of step) here (subst (λ (r : Result Step StepStop). IsOutcome (next old) r old new printed) is outcome) in
       sym bytes ∙ ap (λ (machine : Machine). machine.state.memory) (sym stepped);
-  touched = subst (λ (machine : Machine). HasLinesOfAll lines (touches machine.state)) (sym here)
-      (subst (λ (r : Result Step StepStop). OnOk r (HasLinesOfAll lines (touches old))) is touched);
+  touched = subst (λ (machine : Machine). lines ≡ touched_lines machine.state) (sym here)
+      (subst (λ (r : Result Step StepStop). AreTouched r (touched_lines old) lines) is touched);
 }
 
 -- one more instruction

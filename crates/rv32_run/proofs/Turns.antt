@@ -5,10 +5,10 @@ use Rattle.sec_base.specs.declared.ending.Cause.{Cause}
 use Rattle.sec_base.specs.declared.ending.Ending.TheVariants.{Halted, Trapped, OutOfSteps, Tampered, Spent, WriteFault, NoMemory}
 use Rattle.sec_base.specs.declared.stop.MemStop.{MemStop}
 use Rattle.sec_base.specs.declared.stop.MemStop.TheVariants.{Tampered as tampered, Spent as spent, NoMemory as no_memory}
-use Rattle.rv32_core.specs.declared.hart.Step.{Step}
-use Rattle.rv32_core.specs.declared.hart.Step.TheVariants.{Halted as Halted_step}
-use Rattle.rv32_core.specs.declared.hart.StepStop.{StepStop}
-use Rattle.rv32_core.specs.declared.hart.StepStop.TheVariants.{Trap, Mem, WriteFault as WriteFault_step}
+use Rattle.rv32_core.specs.declared.step.Step.{Step}
+use Rattle.rv32_core.specs.declared.step.Step.TheVariants.{Halted as Halted_step}
+use Rattle.rv32_core.specs.declared.step.StepStop.{StepStop}
+use Rattle.rv32_core.specs.declared.step.StepStop.TheVariants.{Trap, Mem, WriteFault as WriteFault_step}
 use Rattle.rv32_core.specs.State.{State, CoreView, CallsView}
 use Rattle.rv32_core.specs.Effect.{next}
 use Rattle.rv32_core.specs.Outcome.{IsOutcome, prints_of}

@@ -1,22 +1,20 @@
 -- Windows of a run: what was read since they began.
 use Rattle.std.proofs.Common.{◌≡◌, ℕ, zero, suc, ◌+◌, ◌≤◌, ◌<◌, ◌⊎◌, inl, inr, Bool, true, false, cond, List, [], ◌∷◌, ◌++◌, map, length, Option, None, refl, sym, ap, ◌∙◌, subst, arith, add-zero}
 use Rattle.std.specs.Prelude.{nat_le, nat_eq}
-use Rattle.std.specs.List.{filter, flat_map, Contains}
+use Rattle.std.specs.List.{filter, Contains}
 use Rattle.std.specs.Set.{distinct_count}
 use Rattle.std.specs.Cmp.{nat_eq_equiv}
 use Rattle.std.proofs.lemmas.Bool.{leb-true}
-use Rattle.std.proofs.lemmas.List.FromFn.{length-map-range_with_len, get_or-map-range_with_len}
 use Rattle.std.proofs.lemmas.List.Elements.{Contains-append_cases, Contains-append_left, Contains-append_right}
 use Rattle.std.proofs.lemmas.Map.Views.{list_any-from_Contains}
 use Rattle.sec_base.specs.declared.stop.MemStop.{MemStop}
 use Rattle.sec_base.specs.Count.{Rose, RoseBy}
 use Rattle.sec_base.specs.Gain.{Gain}
-use Rattle.sec_base.specs.Geometry.{line_of}
 use Rattle.sec_base.proofs.Gains.{gain_none, gain_one, gain_on}
 use Rattle.rv32_core.specs.Machine.{Machine, plain, one_more}
 use Rattle.rv32_core.proofs.Plain.{plain_more}
-use Rattle.rv32_core.specs.Touch.{Range, touches, HasLinesOf, HasLinesOfAll}
-use Rattle.rv32_core.specs.Turnover.{Window, is_old, range_lines, touched_lines, old_groups, blank_groups, touching, closing, window_at}
+use Rattle.rv32_core.specs.TouchedLines.{touched_lines}
+use Rattle.rv32_core.specs.Turnover.{Window, is_old, old_groups, blank_groups, with_touched, next_window, window_at}
 use Rattle.rv32_run.specs.Trail.{IsInstruction, IsTrail, HasTrail}
 use Rattle.rv32_run.proofs.Counting.{some_of_more}
 
@@ -83,7 +81,7 @@ begins chip first began now lines turned more moved fits before since = record {
 }
 
 -- more lines were touched
-touches_on : (chip : Chip) (first old new : chip.M) (lines touched : List ℕ) (window : Window) → chip.moved old lines new → ((line : ℕ) → Contains touched line → Contains lines line) → IsOpen chip first old window → IsOpen chip first new (touching touched window)
+touches_on : (chip : Chip) (first old new : chip.M) (lines touched : List ℕ) (window : Window) → chip.moved old lines new → ((line : ℕ) → Contains touched line → Contains lines line) → IsOpen chip first old window → IsOpen chip first new (with_touched touched window)
 touches_on chip first old new lines touched window moved listed so_far = record {
   began = so_far.began;
   lines = so_far.lines ++ lines;
@@ -99,8 +97,8 @@ touches_on chip first old new lines touched window moved listed so_far = record 
 }
 
 -- a window closes, or not
-closes : (chip : Chip) (first now : chip.M) (window : Window) → chip.stopped now ≡ None → chip.quiet now → IsOpen chip first now window → IsOpen chip first now (closing chip.group chip.bound (chip.contents now) window)
-unfolding closing
+closes : (chip : Chip) (first now : chip.M) (window : Window) → chip.stopped now ≡ None → chip.quiet now → IsOpen chip first now window → IsOpen chip first now (next_window chip.group chip.bound (chip.contents now) window)
+unfolding next_window
 closes chip first now window going quiet so_far =
     by (nat_le chip.bound (old_groups chip.group window)) (nat_le chip.bound (blank_groups chip.group window)) refl
   where
@@ -117,22 +115,6 @@ closes chip first now window going quiet so_far =
         (gain_none chip.places (chip.reads so_far.began) (chip.reads now) (chip.rises so_far.began now so_far.lines so_far.since)))
     by false false is = so_far
 
--- The lines that are touched are the listed ones
-
-range_listed : (lines : List ℕ) (range : Range) → HasLinesOf lines range → (line : ℕ) → Contains (range_lines range) line → Contains lines line
-range_listed lines range has line (k, below, at) =
-    let inside : k < range.count = omega (arith, below, length-map-range_with_len (λ (i : ℕ). line_of (range.from + i)) 0 range.count) in
-    let is = get_or-map-range_with_len (λ (i : ℕ). line_of (range.from + i)) 0 range.count k k line inside (omega arith) in
-    subst (λ (x : ℕ). Contains lines x) (sym is ∙ at) (has k inside)
-
-ranges_listed : (lines : List ℕ) (ranges : List Range) → HasLinesOfAll lines ranges → (line : ℕ) → Contains (flat_map range_lines ranges) line → Contains lines line
-ranges_listed lines [] has line there = absurd (none_contained line there)
-ranges_listed lines (range ∷ ranges) has line there =
-    elim (Contains-append_cases (range_lines range) (flat_map range_lines ranges) line there) [
-      | inl early ↦ range_listed lines range has.0 line early
-      | inr late ↦ ranges_listed lines ranges has.1 line late
-    ]
-
 -- A run from its first window on
 
 opens : (chip : Chip) (first : chip.M) (memory : List ℕ) → chip.contents first ≡ memory → chip.fits first → IsOpen chip first first (record { memory = memory; touched = []; turnover = 0 })
@@ -141,14 +123,14 @@ opens chip first memory same fits =
     subst (λ (bytes : List ℕ). IsOpen chip first first (record { memory = bytes; touched = []; turnover = 0 })) same
     (begins chip first first first [] 0 0 (chip.unmoved first) fits still still)
 
-goes_on : (chip : Chip) (start : Machine) (m : ℕ) (old_machine new_machine : Machine) (first old new : chip.M) (window : Window) → plain start m ≡ old_machine → plain start (m + 1) ≡ new_machine → IsInstruction chip.stopped chip.contents chip.moved start m old new → chip.quiet new → IsOpen chip first old window → IsOpen chip first new (closing chip.group chip.bound new_machine.state.memory (touching (touched_lines old_machine.state) window))
+goes_on : (chip : Chip) (start : Machine) (m : ℕ) (old_machine new_machine : Machine) (first old new : chip.M) (window : Window) → plain start m ≡ old_machine → plain start (m + 1) ≡ new_machine → IsInstruction chip.stopped chip.contents chip.moved start m old new → chip.quiet new → IsOpen chip first old window → IsOpen chip first new (next_window chip.group chip.bound new_machine.state.memory (with_touched (touched_lines old_machine.state) window))
 goes_on chip start m old_machine new_machine first old new window before after step quiet so_far =
-    subst (λ (machine : Machine). IsOpen chip first new (closing chip.group chip.bound machine.state.memory (touching (touched_lines old_machine.state) window))) after
-    (subst (λ (machine : Machine). IsOpen chip first new (closing chip.group chip.bound (plain start (m + 1)).state.memory (touching (touched_lines machine.state) window))) before
-    (subst (λ (bytes : List ℕ). IsOpen chip first new (closing chip.group chip.bound bytes (touching (touched_lines (plain start m).state) window))) step.bytes
-    (closes chip first new (touching (touched_lines (plain start m).state) window) step.going quiet
+    subst (λ (machine : Machine). IsOpen chip first new (next_window chip.group chip.bound machine.state.memory (with_touched (touched_lines old_machine.state) window))) after
+    (subst (λ (machine : Machine). IsOpen chip first new (next_window chip.group chip.bound (plain start (m + 1)).state.memory (with_touched (touched_lines machine.state) window))) before
+    (subst (λ (bytes : List ℕ). IsOpen chip first new (next_window chip.group chip.bound bytes (with_touched (touched_lines (plain start m).state) window))) step.bytes
+    (closes chip first new (with_touched (touched_lines (plain start m).state) window) step.going quiet
     (touches_on chip first old new step.lines (touched_lines (plain start m).state) window step.led
-    (ranges_listed step.lines (touches (plain start m).state) step.touched) so_far))))
+    (λ line there. subst (λ (xs : List ℕ). Contains xs line) (sym step.touched) there) so_far))))
 
 -- n instructions after others
 plain_from : (start : Machine) (from n : ℕ) → plain start (from + n) ≡ plain (plain start from) n

@@ -1,4 +1,4 @@
-pub mod Loading
+pub mod StoredLines
 pub mod SessionView
 pub mod Session
 pub mod Trail

@@ -2,16 +2,16 @@
 use Rattle.std.specs.Prelude.{◌≡◌, ℕ, zero, suc, ◌+◌, List, Option, None}
 use Rattle.sec_base.specs.declared.stop.MemStop.{MemStop}
 use Rattle.rv32_core.specs.Machine.{Machine, plain}
-use Rattle.rv32_core.specs.Touch.{touches, HasLinesOfAll}
+use Rattle.rv32_core.specs.TouchedLines.{touched_lines}
 
 -- What calls made of a memory in the instruction after n others: it did not stop, it has the bytes of the plain
--- machine, and each line that the instruction touches is among the lines of the calls.
+-- machine, and the lines of the calls are those that the instruction touches, in order.
 pub record IsInstruction {M : Type 0} (stopped : M → Option MemStop) (contents : M → List ℕ) (moved : M → List ℕ → M → Type 0) (start : Machine) (n : ℕ) (old new : M) : Type 0 where
   pub lines : List ℕ
   pub led : moved old lines new
   pub going : stopped new ≡ None
   pub bytes : contents new ≡ (plain start (n + 1)).state.memory
-  pub touched : HasLinesOfAll lines (touches (plain start n).state)
+  pub touched : lines ≡ touched_lines (plain start n).state
 
 -- so many instructions after others
 abbrev pub IsTrail : {M : Type 0} → (M → Option MemStop) → (M → List ℕ) → (M → List ℕ → M → Type 0) → Machine → ℕ → ℕ → M → M → Type 0

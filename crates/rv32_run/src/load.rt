@@ -1,11 +1,14 @@
 // How a program is stored in memory.
-ghost use Rattle.std.specs.Prelude.{◌≡◌, ◌+◌, ◌<◌, ◌≤◌, ◌^◌, ℕ, List, None, Some, IfOk, IfErr, OnOk, length, slice_index, replicate};
+ghost use Rattle.std.specs.Prelude.{◌≡◌, ◌+◌, ◌<◌, ◌≤◌, ◌^◌, ℕ, List, [], ◌∷◌, None, Some, IfOk, IfErr, OnOk, length, slice_index, replicate};
+ghost use Rattle.sec_base.specs.Geometry.{line_of};
+ghost use Rattle.sec_base.specs.Ram.{GoesOn};
 ghost use Rattle.sec_base.specs.Opening.{segment_memory, with_segment, opening_memory};
 ghost use Rattle.sec_base.specs.Segment.{IsSegment};
 ghost use Rattle.sec_base.specs.Width.{number_bytes};
 ghost use Rattle.sec_base.specs.declared.width.Width.TheVariants.{Four};
-ghost use Rattle.rv32_core.specs.State.{with_bytes};
-ghost use Rattle.rv32_run.specs.Loading.{part};
+ghost use Rattle.rv32_core.specs.State.{memory_bytes, with_bytes};
+ghost use Rattle.rv32_core.specs.TouchedLines.{AreTouched};
+ghost use Rattle.rv32_run.specs.StoredLines.{IsStoreOf, image_lines, segment_lines};
 
 use sec_base::{Image, MemStop, Ram, Segment, Width};
 
@@ -22,9 +25,7 @@ pub fn store_image<M: Ram>(ram: &mut M, image: &Image) -> Result<(), MemStop>
     ensures goes_on { OnOk result (M.stopped ram.new ≡ None) }
     ensures stops { IfErr result (λ stop. M.stopped ram.new ≡ Some stop) }
 
-    ensures extent { M.extent ram.new ≡ M.extent ram.old }
-    ensures lost { M.sound ram.new → M.sound ram.old }
-    ensures moved { (lines : List ℕ) × M.moved ram.old lines ram.new }
+    ensures moved { GoesOn M.extent M.sound M.moved (λ lines. AreTouched result (image_lines image.now.segments) lines) ram.old ram.new }
 {
     for segment in image.segments.as_slice() {
         store_segment(ram, segment)?;
@@ -43,9 +44,7 @@ fn store_segment<M: Ram>(ram: &mut M, segment: &Segment) -> Result<(), MemStop>
     ensures goes_on { OnOk result (M.stopped ram.new ≡ None) }
     ensures stops { IfErr result (λ stop. M.stopped ram.new ≡ Some stop) }
 
-    ensures extent { M.extent ram.new ≡ M.extent ram.old }
-    ensures lost { M.sound ram.new → M.sound ram.old }
-    ensures moved { (lines : List ℕ) × M.moved ram.old lines ram.new }
+    ensures moved { GoesOn M.extent M.sound M.moved (λ lines. AreTouched result (segment_lines segment.now) lines) ram.old ram.new }
 {
     let mut at = 0;
     while at < segment.length {
@@ -62,16 +61,15 @@ fn store_next<M: Ram>(ram: &mut M, segment: &Segment, at: u32) -> Result<u32, Me
     requires going { M.stopped ram.old ≡ None }
 
     ensures stored { M.sound ram.new → IfOk result (λ count. M.contents ram.new
-        ≡ with_bytes (M.contents ram.old) (segment.now.addr + at) (part (segment_memory segment.now) at count)) }
+        ≡ with_bytes (M.contents ram.old) (segment.now.addr + at) (memory_bytes (segment_memory segment.now) at count)) }
+    ensures count { IfOk result (λ count. IsStoreOf segment.now at count) }
     ensures some { IfOk result (λ count. 0 < count) }
     ensures most { IfOk result (λ count. at + count ≤ segment.now.length) }
 
     ensures goes_on { OnOk result (M.stopped ram.new ≡ None) }
     ensures stops { IfErr result (λ stop. M.stopped ram.new ≡ Some stop) }
 
-    ensures extent { M.extent ram.new ≡ M.extent ram.old }
-    ensures lost { M.sound ram.new → M.sound ram.old }
-    ensures moved { (lines : List ℕ) × M.moved ram.old lines ram.new }
+    ensures moved { GoesOn M.extent M.sound M.moved (λ lines. AreTouched result (line_of (segment.now.addr + at) ∷ []) lines) ram.old ram.new }
 {
     let addr = segment.addr + at;
     if addr % 4 == 0 && segment.length - at >= 4 {
@@ -88,7 +86,7 @@ fn word_at(segment: &Segment, at: u32) -> u32
     requires bytes { length segment.now.bytes ≤ segment.now.length }
     requires inside { at + 4 ≤ segment.now.length }
     requires small { at + 4 < 2 ^ 32 }
-    ensures { number_bytes Four result ≡ part (segment_memory segment.now) at 4 }
+    ensures { number_bytes Four result ≡ memory_bytes (segment_memory segment.now) at 4 }
 {
     u32::from_le_bytes([
         byte_at(segment, at),

@@ -2,8 +2,9 @@
 ghost use Rattle.std.specs.Prelude.{◌≡◌, ◌↔◌, ◌<◌, ◌≤◌, ◌++◌, ℕ, List, None, Some, IfSome, length};
 ghost use Rattle.sec_base.specs.declared.ending.Ending.TheVariants.{OutOfSteps, WriteFault};
 ghost use Rattle.sec_base.specs.Count.{Rose};
+ghost use Rattle.sec_base.specs.Ram.{GoesOn};
 ghost use Rattle.sec_base.specs.Sink.{Gains};
-ghost use Rattle.rv32_core.specs.State.{opening_core};
+ghost use Rattle.rv32_core.specs.State.{opening_core, state_of};
 ghost use Rattle.rv32_core.specs.Effect.{next};
 ghost use Rattle.rv32_core.specs.Outcome.{prints_of};
 ghost use Rattle.rv32_core.specs.Machine.{Machine, plain, opening_calls};
@@ -99,9 +100,7 @@ impl<'a, M: Ram> Session<'a, M> {
         ensures write_fault { result ≡ WriteFault → Rose (S.state out.old).faults (S.state out.new).faults }
         ensures faults { (S.state out.old).faults ≤ (S.state out.new).faults }
 
-        ensures extent { M.extent self.new.memory ≡ M.extent self.old.memory }
-        ensures lost { M.sound self.new.memory → M.sound self.old.memory }
-        ensures moved { (lines : List ℕ) × M.moved self.old.memory lines self.new.memory }
+        ensures moved { GoesOn M.extent M.sound M.moved (λ _. Unit {0}) self.old.memory self.new.memory }
 
         // It went through a memory of the plain machine after each instruction that was retired.
         ensures trail { M.sound self.new.memory → (start : Machine) (before : List ℕ) →
@@ -152,15 +151,13 @@ fn turn<M: Ram, S: Sink>(
     // Where the memory did not stop, only an instruction that prints is stopped.
     ensures sink_stop { M.stopped memory.new ≡ None → M.sound memory.new → IfSome result (λ ending.
         IsStop ending → 0 < length (prints_of (next
-        (record { core = core.old; calls = calls.old; memory = M.contents memory.old })))) }
+        (state_of core.old calls.old (M.contents memory.old))))) }
 
     ensures mem { CarriesEnding (M.stopped memory.new) result }
     ensures write_fault { result ≡ Some WriteFault → Rose (S.state out.old).faults (S.state out.new).faults }
     ensures faults { (S.state out.old).faults ≤ (S.state out.new).faults }
 
-    ensures extent { M.extent memory.new ≡ M.extent memory.old }
-    ensures lost { M.sound memory.new → M.sound memory.old }
-    ensures moved { (lines : List ℕ) × M.moved memory.old lines memory.new }
+    ensures moved { GoesOn M.extent M.sound M.moved (λ _. Unit {0}) memory.old memory.new }
     ensures instruction { retired.old < retired.new → M.sound memory.new → (start : Machine) (before : List ℕ) →
         Reaches start retired.old core.old calls.old (M.contents memory.old) before →
         IsInstruction M.stopped M.contents M.moved start retired.old memory.old memory.new }

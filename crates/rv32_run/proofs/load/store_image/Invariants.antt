@@ -1,5 +1,7 @@
 use Rattle.std.proofs.Common.{◌≡◌, ℕ, List, None, take, fold}
+use Rattle.sec_base.specs.Ram.{GoesOn}
 use Rattle.sec_base.specs.Opening.{with_segment}
+use Rattle.rv32_run.specs.StoredLines.{image_lines}
 use Rattle.rv32_run.proofs.load.store_image.Given as goal
 
 abbrev pub invariant-loop-segment : goal.invariant-loop-segment
@@ -8,7 +10,5 @@ invariant-loop-segment g l =
     record {
       stored : ram.sound l.ram → ram.contents l.ram ≡ fold with_segment (ram.contents l.fn.ram) (take l.segment-index l.segment-items);
       going : ram.stopped l.ram ≡ None;
-      extent : ram.extent l.ram ≡ ram.extent l.fn.ram;
-      lost : ram.sound l.ram → ram.sound l.fn.ram;
-      moved : (lines : List ℕ) × ram.moved l.fn.ram lines l.ram;
+      moved : GoesOn ram.extent ram.sound ram.moved (λ lines. lines ≡ image_lines (take l.segment-index l.segment-items)) l.fn.ram l.ram;
     }

@@ -1,7 +1,7 @@
 use Rattle.std.proofs.Common.{◌≡◌, [], Ok, Err, refl, sym, ap, ◌∙◌, arith}
-use Rattle.rv32_core.specs.declared.hart.Step.TheVariants.{Retired, Halted}
-use Rattle.rv32_core.specs.declared.hart.StepStop.TheVariants.{Trap, Mem, WriteFault}
-use Rattle.rv32_core.specs.State.{CoreView}
+use Rattle.rv32_core.specs.declared.step.Step.TheVariants.{Retired, Halted}
+use Rattle.rv32_core.specs.declared.step.StepStop.TheVariants.{Trap, Mem, WriteFault}
+use Rattle.rv32_core.specs.State.{CoreView, state_of}
 use Rattle.rv32_core.proofs.Plain.{step_reaches}
 use Rattle.sec_base.proofs.Writes.{written_after-nil}
 use Rattle.rv32_run.proofs.Turns.{turn_ends, turn_halts, turn_traps, turn_stops, turn_fails}
@@ -14,7 +14,7 @@ returns-then-retired-budget-clause-turns g c = (
   sym (written_after-nil _),
   λ sound start before here.
       turn_ends start c.args.budget c.args.retired.now
-      (record { core = c.args.core.now; calls = c.args.calls.now; memory = g.M.Ram.contents c.args.memory.now })
+      (state_of c.args.core.now c.args.calls.now (g.M.Ram.contents c.args.memory.now))
       before here c.if-retired-budget.true,
 )
 
@@ -26,9 +26,9 @@ returns-in-Ok-Retired-clause-turns g c =
       outcome.1,
       λ sound start before here.
           step_reaches start c.args.retired.now
-          (record { core = c.args.core.now; calls = c.args.calls.now; memory = g.M.Ram.contents c.args.memory.now })
-          (record { core = c.step.new.self; calls = c.step.new.calls; memory = g.M.Ram.contents c.step.new.ram })
-          before outcome.0 c.step.result here (outcome.2 c.requires.going sound) is,
+          (state_of c.args.core.now c.args.calls.now (g.M.Ram.contents c.args.memory.now))
+          (state_of c.step.new.self c.step.new.calls (g.M.Ram.contents c.step.new.ram))
+          before outcome.0 c.step.result here (outcome.2 (c.requires.going, sound)) is,
     )
 
 pub returns-in-Ok-Halted-clause-turns : goal.returns-in-Ok-Halted-clause-turns
@@ -39,9 +39,9 @@ returns-in-Ok-Halted-clause-turns g c =
       outcome.1,
       λ sound start before here.
           turn_halts start c.args.budget c.args.retired.now
-          (record { core = c.args.core.now; calls = c.args.calls.now; memory = g.M.Ram.contents c.args.memory.now })
-          (record { core = c.step.new.self; calls = c.step.new.calls; memory = g.M.Ram.contents c.step.new.ram })
-          before outcome.0 c.step.result c.in-Ok-Halted.code here (omega arith) (outcome.2 c.requires.going sound) is,
+          (state_of c.args.core.now c.args.calls.now (g.M.Ram.contents c.args.memory.now))
+          (state_of c.step.new.self c.step.new.calls (g.M.Ram.contents c.step.new.ram))
+          before outcome.0 c.step.result c.in-Ok-Halted.code here (omega arith) (outcome.2 (c.requires.going, sound)) is,
     )
 
 pub returns-in-Err-Trap-clause-turns : goal.returns-in-Err-Trap-clause-turns
@@ -52,9 +52,9 @@ returns-in-Err-Trap-clause-turns g c =
       outcome.1,
       λ sound start before here.
           turn_traps start c.args.budget c.args.retired.now
-          (record { core = c.args.core.now; calls = c.args.calls.now; memory = g.M.Ram.contents c.args.memory.now })
-          (record { core = c.step.new.self; calls = c.step.new.calls; memory = g.M.Ram.contents c.step.new.ram })
-          before outcome.0 c.step.result c.in-Err-Trap.cause c.pc.result here (omega arith) (outcome.2 c.requires.going sound) is
+          (state_of c.args.core.now c.args.calls.now (g.M.Ram.contents c.args.memory.now))
+          (state_of c.step.new.self c.step.new.calls (g.M.Ram.contents c.step.new.ram))
+          before outcome.0 c.step.result c.in-Err-Trap.cause c.pc.result here (omega arith) (outcome.2 (c.requires.going, sound)) is
           (c.pc.ensures ∙ ap (λ (core : CoreView). core.pc) c.in-Err-Trap.ensures.stays.0),
     )
 
@@ -66,9 +66,9 @@ returns-in-Err-Mem-clause-turns g c =
       outcome.1,
       λ sound start before here.
           turn_stops start c.args.budget c.args.retired.now
-          (record { core = c.args.core.now; calls = c.args.calls.now; memory = g.M.Ram.contents c.args.memory.now })
-          (record { core = c.step.new.self; calls = c.step.new.calls; memory = g.M.Ram.contents c.step.new.ram })
-          before outcome.0 c.step.result c.in-Err-Mem.stop c.ending_of.result here c.requires.within (outcome.2 c.requires.going sound) is c.ending_of.ensures,
+          (state_of c.args.core.now c.args.calls.now (g.M.Ram.contents c.args.memory.now))
+          (state_of c.step.new.self c.step.new.calls (g.M.Ram.contents c.step.new.ram))
+          before outcome.0 c.step.result c.in-Err-Mem.stop c.ending_of.result here c.requires.within (outcome.2 (c.requires.going, sound)) is c.ending_of.ensures,
     )
 
 pub returns-in-Err-WriteFault-clause-turns : goal.returns-in-Err-WriteFault-clause-turns
@@ -79,9 +79,9 @@ returns-in-Err-WriteFault-clause-turns g c =
       outcome.1,
       λ sound start before here.
           turn_fails start c.args.budget c.args.retired.now
-          (record { core = c.args.core.now; calls = c.args.calls.now; memory = g.M.Ram.contents c.args.memory.now })
-          (record { core = c.step.new.self; calls = c.step.new.calls; memory = g.M.Ram.contents c.step.new.ram })
-          before outcome.0 c.step.result here c.requires.within (outcome.2 c.requires.going sound) is,
+          (state_of c.args.core.now c.args.calls.now (g.M.Ram.contents c.args.memory.now))
+          (state_of c.step.new.self c.step.new.calls (g.M.Ram.contents c.step.new.ram))
+          before outcome.0 c.step.result here c.requires.within (outcome.2 (c.requires.going, sound)) is,
     )
 
 pub returns-in-Ok-Retired-clause-instruction : goal.returns-in-Ok-Retired-clause-instruction
@@ -90,10 +90,10 @@ returns-in-Ok-Retired-clause-instruction g c =
     let is : c.step.result ≡ Ok Retired = cc in
     λ more sound start before here.
     step_instruction g.M.Ram.stopped g.M.Ram.contents g.M.Ram.moved start c.args.retired.now c.args.memory.now c.step.new.ram
-    (record { core = c.args.core.now; calls = c.args.calls.now; memory = g.M.Ram.contents c.args.memory.now })
-    (record { core = c.step.new.self; calls = c.step.new.calls; memory = g.M.Ram.contents c.step.new.ram })
-    before outcome.0 c.step.result Retired c.step.ensures.moved.0 here (outcome.2 c.requires.going sound) is
-    (c.step.ensures.mem c.requires.going) refl c.step.ensures.moved.1 (c.step.ensures.moved.2 c.requires.going sound)
+    (state_of c.args.core.now c.args.calls.now (g.M.Ram.contents c.args.memory.now))
+    (state_of c.step.new.self c.step.new.calls (g.M.Ram.contents c.step.new.ram))
+    before outcome.0 c.step.result Retired c.step.ensures.moved.lines here (outcome.2 (c.requires.going, sound)) is
+    (c.step.ensures.mem c.requires.going) refl c.step.ensures.moved.moved (c.step.ensures.moved.touched (c.requires.going, sound))
 
 pub returns-in-Ok-Halted-clause-instruction : goal.returns-in-Ok-Halted-clause-instruction
 returns-in-Ok-Halted-clause-instruction g c =
@@ -101,7 +101,7 @@ returns-in-Ok-Halted-clause-instruction g c =
     let is : c.step.result ≡ Ok (Halted c.in-Ok-Halted.code) = cc in
     λ more sound start before here.
     step_instruction g.M.Ram.stopped g.M.Ram.contents g.M.Ram.moved start c.args.retired.now c.args.memory.now c.step.new.ram
-    (record { core = c.args.core.now; calls = c.args.calls.now; memory = g.M.Ram.contents c.args.memory.now })
-    (record { core = c.step.new.self; calls = c.step.new.calls; memory = g.M.Ram.contents c.step.new.ram })
-    before outcome.0 c.step.result (Halted c.in-Ok-Halted.code) c.step.ensures.moved.0 here (outcome.2 c.requires.going sound) is
-    (c.step.ensures.mem c.requires.going) refl c.step.ensures.moved.1 (c.step.ensures.moved.2 c.requires.going sound)
+    (state_of c.args.core.now c.args.calls.now (g.M.Ram.contents c.args.memory.now))
+    (state_of c.step.new.self c.step.new.calls (g.M.Ram.contents c.step.new.ram))
+    before outcome.0 c.step.result (Halted c.in-Ok-Halted.code) c.step.ensures.moved.lines here (outcome.2 (c.requires.going, sound)) is
+    (c.step.ensures.mem c.requires.going) refl c.step.ensures.moved.moved (c.step.ensures.moved.touched (c.requires.going, sound))

@@ -12,9 +12,13 @@ loop-ending-init g c = record {
   budget = ap (λ session. session.budget) c.self.view_is;
   going = begun_going g.M.Ram.stopped _ c.args.self.now c.self.view_is c.requires.going;
   faults = omega arith;
-  extent = ap (λ session. g.M.Ram.extent session.memory) c.self.view_is;
-  lost = λ sound. rw (sym c.self.view_is) sound;
-  moved = ([], rw (sym c.self.view_is) (g.met.M.Ram.unmoved _));
+  moved = record {
+    extent = ap (λ session. g.M.Ram.extent session.memory) c.self.view_is;
+    lost = λ sound. rw (sym c.self.view_is) sound;
+    lines = [];
+    moved = rw (sym c.self.view_is) (g.met.M.Ram.unmoved _);
+    touched = tt;
+  };
   walked = λ sound start before here.
       walk_begins g.M.Ram.stopped g.M.Ram.contents g.M.Ram.moved start _ _ _ _
       (ap (λ session. session.retired) (sym c.self.view_is)) (ap (λ session. session.memory) (sym c.self.view_is));
@@ -30,7 +34,7 @@ loop-ending-preserved g c =
         gains_both so_far.turns.0 turn.turns.0 (g.S.Sink.state c.args.out.now) (g.S.Sink.state c.loop-ending.out) (g.S.Sink.state c.turn-turned.new.out) so_far.turns.1 turn.turns.1,
         λ sound start before here.
             reaches_on start _ _ _ _ before so_far.turns.0 turn.turns.0
-            (turn.turns.2 sound start (before ++ so_far.turns.0) (so_far.turns.2 (turn.lost sound) start before here)),
+            (turn.turns.2 sound start (before ++ so_far.turns.0) (so_far.turns.2 (turn.moved.lost sound) start before here)),
       );
       within =
           let below = allowed c.turn-turned.result c.loop-ending.retired c.loop-ending.self-inside.budget so_far.within c.turn-turned.ensures.out_of_steps c.in_default.is in
@@ -38,11 +42,15 @@ loop-ending-preserved g c =
       budget = so_far.budget;
       going = carries_on _ turn.mem;
       faults = omega (arith, turn.faults);
-      extent = turn.extent ∙ so_far.extent;
-      lost = λ sound. so_far.lost (turn.lost sound);
-      moved = (so_far.moved.0 ++ turn.moved.0, g.met.M.Ram.moved_on _ _ _ _ _ so_far.moved.1 turn.moved.1);
+      moved = record {
+        extent = turn.moved.extent ∙ so_far.moved.extent;
+        lost = λ sound. so_far.moved.lost (turn.moved.lost sound);
+        lines = so_far.moved.lines ++ turn.moved.lines;
+        moved = g.met.M.Ram.moved_on _ _ _ _ _ so_far.moved.moved turn.moved.moved;
+        touched = tt;
+      };
       walked = λ sound start before here.
-          let old = turn.lost sound in
+          let old = turn.moved.lost sound in
           walked_on g.M.Ram.stopped g.M.Ram.contents g.M.Ram.moved start c.args.self.now.retired c.loop-ending.retired c.turn-turned.new.retired
           c.args.self.now.memory c.loop-ending.self-inside.memory c.turn-turned.new.memory turn.retired (so_far.walked old start before here)
           (turn.instruction (omega (arith, turn.retired)) sound start (before ++ so_far.turns.0) (so_far.turns.2 old start before here));
@@ -56,21 +64,27 @@ returns-in-Some-clause-follows g c =
       gains_both so_far.turns.0 turn.turns.0 (g.S.Sink.state c.args.out.now) (g.S.Sink.state c.loop-ending.out) (g.S.Sink.state c.turn-turned.new.out) so_far.turns.1 turn.turns.1,
       λ sound start before here.
           follows_on start _ _ _ _ _ before so_far.turns.0 turn.turns.0 so_far.budget
-          (turn.turns.2 sound start (before ++ so_far.turns.0) (so_far.turns.2 (turn.lost sound) start before here)),
+          (turn.turns.2 sound start (before ++ so_far.turns.0) (so_far.turns.2 (turn.moved.lost sound) start before here)),
     )
 
 pub returns-in-Some-clause-moved : goal.returns-in-Some-clause-moved
 returns-in-Some-clause-moved g c =
     let so_far = c.loop-ending.invariant in
     let turn = c.in-Some.ensures in
-    (so_far.moved.0 ++ turn.moved.0, g.met.M.Ram.moved_on _ _ _ _ _ so_far.moved.1 turn.moved.1)
+    record {
+      extent = turn.moved.extent ∙ so_far.moved.extent;
+      lost = λ sound. so_far.moved.lost (turn.moved.lost sound);
+      lines = so_far.moved.lines ++ turn.moved.lines;
+      moved = g.met.M.Ram.moved_on _ _ _ _ _ so_far.moved.moved turn.moved.moved;
+      touched = tt;
+    }
 
 pub returns-in-Some-clause-sink_stop : goal.returns-in-Some-clause-sink_stop
 returns-in-Some-clause-sink_stop g c =
     let so_far = c.loop-ending.invariant in
     let turn = c.in-Some.ensures in
     λ going sound start before here stops.
-    let begun = so_far.turns.2 (turn.lost sound) start before here in
+    let begun = so_far.turns.2 (turn.moved.lost sound) start before here in
     stop_prints start c.loop-ending.retired c.turn-turned.new.retired c.in-Some.ending _ _ begun turn.retired stops
     (turn.sink_stop going sound stops)
 
@@ -79,9 +93,9 @@ returns-in-Some-clause-trail g c =
     let so_far = c.loop-ending.invariant in
     let turn = c.in-Some.ensures in
     λ sound start before here.
-    let old = turn.lost sound in
+    let old = turn.moved.lost sound in
     walk_ends g.M.Ram.stopped g.M.Ram.contents g.M.Ram.moved start c.args.self.now.retired c.loop-ending.retired c.turn-turned.new.retired
-    c.in-Some.ending c.args.self.now.memory c.loop-ending.self-inside.memory c.turn-turned.new.memory turn.moved.0
-    (g.met.M.Ram.unmoved c.turn-turned.new.memory) turn.retired turn.moved.1
+    c.in-Some.ending c.args.self.now.memory c.loop-ending.self-inside.memory c.turn-turned.new.memory turn.moved.lines
+    (g.met.M.Ram.unmoved c.turn-turned.new.memory) turn.retired turn.moved.moved
     (λ more. turn.instruction more sound start (before ++ so_far.turns.0) (so_far.turns.2 old start before here))
     (so_far.walked old start before here)

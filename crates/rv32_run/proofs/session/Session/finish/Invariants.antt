@@ -1,4 +1,5 @@
 use Rattle.std.proofs.Common.{◌≡◌, ◌≤◌, ◌++◌, ◌-◌, ℕ, List, None}
+use Rattle.sec_base.specs.Ram.{GoesOn}
 use Rattle.sec_base.specs.Sink.{Gains}
 use Rattle.rv32_core.specs.Machine.{Machine}
 use Rattle.rv32_run.specs.Session.{Reaches}
@@ -18,9 +19,7 @@ invariant-loop-ending g l =
       budget : l.self-inside.budget ≡ l.fn.self.budget;
       going : ram.stopped l.self-inside.memory ≡ None;
       faults : (sink.state l.fn.out).faults ≤ (sink.state l.out).faults;
-      extent : ram.extent l.self-inside.memory ≡ ram.extent l.fn.self.memory;
-      lost : ram.sound l.self-inside.memory → ram.sound l.fn.self.memory;
-      moved : (lines : List ℕ) × ram.moved l.fn.self.memory lines l.self-inside.memory;
+      moved : GoesOn ram.extent ram.sound ram.moved (λ lines. Unit {0}) l.fn.self.memory l.self-inside.memory;
       walked : ram.sound l.self-inside.memory → (start : Machine) (before : List ℕ) →
           Reaches start l.fn.self.retired l.fn.self.core l.fn.self.calls (ram.contents l.fn.self.memory) before →
           IsWalked ram.stopped ram.contents ram.moved start l.fn.self.retired l.retired l.fn.self.memory l.self-inside.memory;

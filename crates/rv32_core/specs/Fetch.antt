@@ -4,8 +4,8 @@ use Rattle.sec_base.specs.Width.{number_at}
 use Rattle.sec_base.specs.declared.width.Width.TheVariants.{Four}
 use Rattle.sec_base.specs.declared.ending.Cause.TheVariants.{OutsideMemory}
 use Rattle.sec_base.specs.declared.stop.MemStop.{MemStop}
-use Rattle.rv32_core.specs.declared.hart.StepStop.{StepStop}
-use Rattle.rv32_core.specs.declared.hart.StepStop.TheVariants.{Trap, Mem, WriteFault}
+use Rattle.rv32_core.specs.declared.step.StepStop.{StepStop}
+use Rattle.rv32_core.specs.declared.step.StepStop.TheVariants.{Trap, Mem, WriteFault}
 
 -- the word is the memory's, or the fetch reaches past its end, or the memory stopped
 abbrev pub IsFetched : List ℕ → ℕ → Result ℕ StepStop → Type 0

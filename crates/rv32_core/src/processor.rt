@@ -1,38 +1,27 @@
-ghost use Rattle.std.specs.Prelude.{◌≡◌, ◌%◌, ◌<◌, ◌≤◌, ℕ, List, None, Ok, Err, OnErr, OnOk};
+// The processor's core, and one step of it.
+ghost use Rattle.std.specs.Prelude.{◌≡◌, ◌%◌, ◌<◌, ◌≤◌, ◌↔◌, ℕ, List, None, Ok, Err, OnErr};
 ghost use Rattle.sec_base.specs.Count.{Rose};
 ghost use Rattle.sec_base.specs.Geometry.{IsMemorySize};
+ghost use Rattle.sec_base.specs.Ram.{GoesOn, IsReliable};
 ghost use Rattle.sec_base.specs.Sink.{Gains};
-ghost use Rattle.rv32_core.specs.State.{state_of, opening_core, register, with_register, next_core, written_core};
+ghost use Rattle.sec_base.specs.declared.ending.Cause.{Cause};
 ghost use Rattle.rv32_core.specs.Effect.{next};
-ghost use Rattle.rv32_core.specs.Touch.{touches, HasLinesOfAll};
+ghost use Rattle.rv32_core.specs.Outcome.{CarriesStop, IsOutcome, IsSinkStop};
+ghost use Rattle.rv32_core.specs.State.{next_core, next_core_with, opening_core, register, state_of, with_pc, with_register};
+ghost use Rattle.rv32_core.specs.TouchedLines.{AreTouched, touched_lines};
+ghost use Rattle.rv32_core.specs.declared.step.Step.{Step};
+ghost use Rattle.rv32_core.specs.declared.step.StepStop.{StepStop};
+ghost use Rattle.rv32_core.specs.declared.step.Step.TheVariants.{Retired};
+ghost use Rattle.rv32_core.specs.declared.step.StepStop.TheVariants.{Trap, WriteFault};
 
 use crate::access::fetch;
 use crate::calls::Calls;
+use crate::step::{Step, StepStop};
 use rv32_decode::decode;
-use sec_base::{Cause, MemStop, Ram, Sink};
+use sec_base::{Cause, Ram, Sink};
 use std::marker::Model;
 
-/// What an instruction that was retired leads to.
-#[derive(Clone, Copy, Debug, PartialEq, Eq)]
-pub enum Step {
-    /// The program goes on.
-    Retired,
-    /// The program asked to exit, with this code.
-    Halted(u32),
-}
-
-/// Why an instruction was not retired.
-#[derive(Clone, Copy, Debug, PartialEq, Eq)]
-pub enum StepStop {
-    /// It trapped.
-    Trap(Cause),
-    /// The memory stopped, or memory for the emulator itself was not to be had.
-    Mem(MemStop),
-    /// What it prints could not be written.
-    WriteFault,
-}
-
-/// A hart of RV32IM: its program counter, a multiple of 4, and its 32 registers, of which the first is 0.
+/// A core of RV32IM: its program counter, a multiple of 4, and its 32 registers, of which the first is 0.
 #[derive(Drop)]
 pub struct Core {
     pc: u32,
@@ -51,13 +40,7 @@ impl Model for Core {
 }
 
 impl Core {
-    ghost use Rattle.rv32_core.specs.declared.hart.Step.{Step};
-    ghost use Rattle.rv32_core.specs.declared.hart.StepStop.{StepStop};
-    ghost use Rattle.rv32_core.specs.declared.hart.Step.TheVariants.{Retired};
-    ghost use Rattle.rv32_core.specs.declared.hart.StepStop.TheVariants.{WriteFault};
-    ghost use Rattle.rv32_core.specs.Outcome.{IsOutcome, CarriesStop, IsSinkStop};
-
-    /// A hart at a program's entry, with its stack pointer 64 bytes below the end of a memory of `size` bytes.
+    /// A core at a program's entry, with its stack pointer 64 bytes below the end of a memory of `size` bytes.
     pub fn new(entry: u32, size: u32) -> Core
         requires aligned { entry % 4 ≡ 0 }
         requires size { IsMemorySize size }
@@ -90,40 +73,36 @@ impl Core {
 
     /// Fetches, decodes and does one instruction.
     #[inline(always)]
-    #[tactic(auto, unfolding(crate::specs::Effect::next, crate::specs::Touch::touches))]
+    #[tactic(auto, unfolding(crate::specs::Effect::next, crate::specs::TouchedLines::touched_lines))]
     pub fn step<M: Ram, S: Sink>(
         &mut self,
         ram: &mut M,
         calls: &mut Calls,
         out: &mut S,
     ) -> Result<Step, StepStop>
-        // It is the plain machine's instruction, where the memory had not stopped and can be relied on.
-        ensures outcome { (printed : List ℕ) × Gains (S.state out.old) printed (S.state out.new)
-            × (M.stopped ram.old ≡ None → M.sound ram.new →
-            IsOutcome
-            (next (state_of self.old calls.old (M.contents ram.old)))
-            result
-            (state_of self.old calls.old (M.contents ram.old))
-            (state_of self.new calls.new (M.contents ram.new))
-            printed) }
+        // Where the memory can be relied on, it is the plain machine's instruction.
+        ensures outcome { let before = state_of self.old calls.old (M.contents ram.old) in
+            (printed : List ℕ) × Gains (S.state out.old) printed (S.state out.new)
+            × (IsReliable M.stopped M.sound ram.old ram.new → IsOutcome (next before) result before
+            (state_of self.new calls.new (M.contents ram.new)) printed) }
         ensures stays { OnErr result ((self.new ≡ self.old) × (calls.new ≡ calls.old)) }
 
+        // Where the memory did not stop either, it traps exactly where that instruction does.
+        ensures traps { IsReliable M.stopped M.sound ram.old ram.new → M.stopped ram.new ≡ None → (cause : Cause) →
+            (result ≡ Err (Trap cause)) ↔ (next (state_of self.old calls.old (M.contents ram.old)) ≡ Err cause) }
         ensures mem { M.stopped ram.old ≡ None → CarriesStop (M.stopped ram.new) result }
-        ensures sink_stop { M.stopped ram.old ≡ None → M.sound ram.new → M.stopped ram.new ≡ None →
+        ensures sink_stop { IsReliable M.stopped M.sound ram.old ram.new → M.stopped ram.new ≡ None →
             IsSinkStop result (next (state_of self.old calls.old (M.contents ram.old))) }
         ensures write_fault { result ≡ Err WriteFault → Rose (S.state out.old).faults (S.state out.new).faults }
         ensures faults { (S.state out.old).faults ≤ (S.state out.new).faults }
 
-        ensures extent { M.extent ram.new ≡ M.extent ram.old }
-        ensures lost { M.sound ram.new → M.sound ram.old }
-        ensures moved { (lines : List ℕ) × M.moved ram.old lines ram.new
-            × (M.stopped ram.old ≡ None → M.sound ram.new → OnOk result (HasLinesOfAll lines
-            (touches (state_of self.old calls.old (M.contents ram.old))))) }
+        // It touches the lines of that instruction, in order, and after an error a front part of them.
+        ensures moved { GoesOn M.extent M.sound M.moved
+            (λ lines. IsReliable M.stopped M.sound ram.old ram.new →
+            AreTouched result (touched_lines (state_of self.old calls.old (M.contents ram.old))) lines)
+            ram.old ram.new }
     {
-        let word = match fetch(ram, self.pc) {
-            Ok(word) => word,
-            Err(stop) => return Err(stop),
-        };
+        let word = fetch(ram, self.pc)?;
         match decode(word) {
             Some(inst) => self.execute(&inst, ram, calls, out),
             None => Err(StepStop::Trap(Cause::Illegal)),
@@ -144,7 +123,7 @@ impl Core {
     #[inline]
     pub(crate) fn set_pc(&mut self, target: u32)
         requires { target % 4 ≡ 0 }
-        ensures { self.new ≡ record { pc = target; registers = self.old.registers } }
+        ensures { self.new ≡ with_pc self.old target }
     {
         self.pc = target;
     }
@@ -161,7 +140,7 @@ impl Core {
     #[inline]
     pub(crate) fn retire(&mut self, number: u8, value: u32) -> Result<Step, StepStop>
         requires { number < 32 }
-        ensures core { self.new ≡ written_core self.old number value }
+        ensures core { self.new ≡ next_core_with self.old number value }
         ensures retired { result ≡ Ok Retired }
     {
         self.set_reg(number, value);
