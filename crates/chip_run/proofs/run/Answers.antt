@@ -63,8 +63,8 @@ moved : (g : Over) (c : goal.After-close-2 g) → Moves g.B.Bus.history g.B.Bus.
 moved g c =
     whole_moves g.B.Bus.history g.B.Bus.moved (tags_of g.T.Tagger.data_tag_of g.T.Tagger.node_tag_of) _ c.new-memory.result.lines c.store_image.new.ram.lines
     c.in_default.ensures.moved.0 (booted g c) c.in_default.ensures.moved.1
-    g.met.B.Bus.moved_on c.new-session.result.memory.lines c.finish-ending.new.self.memory.lines c.finish-ending.ensures.moved.0
-    (ap (λ memory. memory.lines) c.new-session.ensures.memory) c.finish-ending.ensures.moved.1
+    g.met.B.Bus.moved_on c.new-session.result.memory.lines c.finish-ending.new.self.memory.lines c.finish-ending.ensures.moved.lines
+    (ap (λ memory. memory.lines) c.new-session.ensures.memory) c.finish-ending.ensures.moved.moved
 
 -- its false answers are accounted for
 account : (g : Over) (c : goal.After-close-2 g) → AccountsForLies (engine_tag (g.T.Tagger.data_tag_of c.args.tagger) (g.T.Tagger.node_tag_of c.args.tagger) c.args.setup.now.geometry)
@@ -93,7 +93,7 @@ begun g c sound =
     let began = c.new-session.ensures in
     let opened : contents session.memory.lines ≡ opening_memory image.size image.segments =
     ap (λ memory. contents memory.lines) began.memory
-    ∙ c.in_default.ensures.stored (ap (λ memory. memory.lines.engine.evidence) (sym began.memory) ∙ c.finish-ending.ensures.lost sound) in (
+    ∙ c.in_default.ensures.stored (ap (λ memory. memory.lines.engine.evidence) (sym began.memory) ∙ c.finish-ending.ensures.moved.lost sound) in (
       opened,
       opening_begins image.entry image.size image.segments c.args.input.now session.core session.calls _ session.retired began.core began.calls opened began.retired,
     )
@@ -173,7 +173,7 @@ refused : (g : Over) (c : goal.After-close g) → Moves g.B.Bus.history g.B.Bus.
     (new_line_memory c.args.bus c.args.tagger c.args.setup.now.keys.enc_key c.args.setup.now.geometry c.args.setup.now.page_limit) c.store_image.new.ram.lines
 refused g c =
     stored_moves g.B.Bus.history g.B.Bus.moved (tags_of g.T.Tagger.data_tag_of g.T.Tagger.node_tag_of) _ c.new-memory.result.lines c.store_image.new.ram.lines
-    c.in-Err-store_image.ensures.moved.0 (c.new-memory.ensures ∙ c.in-Ok.ensures.new) c.in-Err-store_image.ensures.moved.1
+    c.in-Err-store_image.ensures.moved.lines (c.new-memory.ensures ∙ c.in-Ok.ensures.new) c.in-Err-store_image.ensures.moved.moved
 
 refused_account : (g : Over) (c : goal.After-close g) → AccountsForLies (engine_tag (g.T.Tagger.data_tag_of c.args.tagger) (g.T.Tagger.node_tag_of c.args.tagger) c.args.setup.now.geometry)
     c.close.result.0.used c.close.result.0.made (g.B.Bus.history c.close.result.1) (λ place. c.close.result.0.ending ≡ Tampered place) c.close.result.0.evidence
@@ -265,7 +265,7 @@ returns-clause-turnover g c = λ quiet.
     run_turned {M = LineRam g.row.B.Denot g.row.T.Denot} (λ memory. memory.lines) g.B.Bus.history g.B.Bus.moved (tags_of g.T.Tagger.data_tag_of g.T.Tagger.node_tag_of)
     g.met.B.Bus.unmoved g.met.B.Bus.moved_on c.args.setup.now.geometry session.retired c.finish-ending.new.self.retired
     c.close-2.result.0.retired (opening image c.args.input.now) c.args.bus c.close-2.result.1 session.memory c.finish-ending.new.self.memory
-    c.finish-ending.ensures.moved.0 c.finish-ending.ensures.moved.1 began.retired (opening_bytes image.entry image.size image.segments c.args.input.now _ opened) levels sound
+    c.finish-ending.ensures.moved.lines c.finish-ending.ensures.moved.moved began.retired (opening_bytes image.entry image.size image.segments c.args.input.now _ opened) levels sound
     (c.finish-ending.ensures.trail sound (opening image c.args.input.now) [] (begun g c sound).1)
     (c.close-2.ensures.retired ∙ c.retired-retired.ensures)
     (reads_by g.B.Bus.history c.args.bus c.store_image.new.ram.lines.bus session.memory.lines.bus (stored g c).reads (ap (λ memory. memory.lines.bus) began.memory))
