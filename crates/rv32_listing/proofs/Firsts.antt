@@ -1,7 +1,7 @@
 -- The first line of bytes.
 use Rattle.std.proofs.Common.{◌≡◌, ◌<◌, ◌≤◌, ℕ, ◌+◌, List, [], ◌∷◌, ◌++◌, length, drop, slice_index, refl, sym, ap, arith}
 use Rattle.std.specs.Int.{w32, from_le_bytes}
-use Rattle.rv32_listing.specs.Listing.{bytes_lines, word_line, byte_line}
+use Rattle.rv32_listing.specs.Lines.{byte_line, bytes_lines, word_line}
 
 pub word_first : (address : ℕ) (bytes : List ℕ) (word : ℕ) → 4 ≤ length bytes →
     word ≡ from_le_bytes w32 (slice_index bytes 0 ∷ slice_index bytes 1 ∷ slice_index bytes 2 ∷ slice_index bytes 3 ∷ []) →

@@ -2,7 +2,8 @@
 use Rattle.std.proofs.Common.{◌≡◌, ◌<◌, ◌≤◌, ℕ, ◌+◌, List, [], ◌++◌, length, drop, get_or, sym, ap, ◌∙◌}
 use Rattle.std.proofs.lemmas.List.{drop_more, drop_all}
 use Rattle.sec_base.specs.declared.segment.Segment.{Segment}
-use Rattle.rv32_listing.specs.Listing.{bytes_lines, listing_of}
+use Rattle.rv32_listing.specs.Lines.{bytes_lines}
+use Rattle.rv32_listing.specs.Listing.{listing_of}
 
 pub segment_first : (items segments : List Segment) (i : ℕ) (segment : Segment) (bytes : List ℕ) → items ≡ segments → i < length items → segment ≡ get_or items i segment → bytes ≡ segment.bytes →
     listing_of (drop i segments) ≡ bytes_lines segment.addr bytes ++ listing_of (drop (i + 1) segments)

@@ -1,16 +1,17 @@
-// The lines of a listing.
-ghost use Rattle.std.specs.Prelude.{◌≡◌, ◌+◌, ◌<◌, ◌≤◌, ◌^◌, ◌++◌, IfOk, codes, length, string_bytes};
-ghost use Rattle.rv32_listing.specs.Listing.{bytes_lines};
-ghost use Rattle.rv32_listing.specs.Listing as spec;
+//! The lines of a listing.
+
+ghost use Rattle.rv32_listing.specs.Lines as spec;
+ghost use Rattle.rv32_listing.specs.Lines.{bytes_lines};
 ghost use Rattle.sec_base.specs.Hexadecimal.{hex_digits};
 ghost use Rattle.sec_base.specs.Sink.{IsWritten};
+ghost use Rattle.std.specs.Prelude.{◌≡◌, ◌+◌, ◌<◌, ◌≤◌, ◌^◌, ◌++◌, IfOk, codes, length, string_bytes};
 
 use rv32_text::write_word;
 use sec_base::{NoMemory, Sink, SinkStop, write_all};
 use std::alloc::Global;
 
 // Writes the lines of bytes that stand at an address.
-pub(crate) fn write_bytes<S: Sink>(
+pub fn write_bytes<S: Sink>(
     alloc: Global,
     addr: u32,
     bytes: &[u8],
@@ -65,7 +66,7 @@ fn write_byte_line<S: Sink>(
     Ok(())
 }
 
-#[tactic(auto, unfolding(crate::specs::Listing::word_line))]
+#[tactic(auto, unfolding(crate::specs::Lines::word_line))]
 fn word_line(alloc: Global, address: u32, word: u32) -> Result<Vec<u8>, NoMemory>
     ensures { IfOk result (λ line. line.items ≡ spec.word_line address word) }
 {

@@ -104,3 +104,16 @@ fn a_line_is_one_piece(rt: HostRuntime) -> Result<(), Fail> {
     );
     Ok(())
 }
+
+// The last of nine lines fails once, and isn't tried again.
+#[test]
+fn a_last_line_that_fails_is_left_out(rt: HostRuntime) -> Result<(), Fail> {
+    let whole = listed(rt.alloc(), three(rt.alloc())?, &[], Ok(()))?;
+    let out = listed(rt.alloc(), three(rt.alloc())?, &[9], Err(SinkStop::Failed))?;
+    let front = whole
+        .bytes()
+        .strip_suffix(b"00000048 30001073 .word 0x30001073\n")
+        .ok_or("another last line")?;
+    assert_eq!(rt; out.bytes(), front);
+    Ok(())
+}

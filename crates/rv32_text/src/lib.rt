@@ -1,4 +1,4 @@
-//! Instructions and words as text, in this project's assembly language (docs/FORMATS.md).
+//! Instructions and words as text, in the assembly language of this project (docs/FORMATS.md).
 #![tactic(auto)]
 
 ghost use Rattle.rv32_decode.specs.Encoding.{IsInst};

@@ -1,5 +1,5 @@
 use Rattle.std.proofs.Common.{◌∙◌, append_assoc}
-use Rattle.rv32_listing.specs.Listing.{byte_line}
+use Rattle.rv32_listing.specs.Lines.{byte_line}
 use Rattle.sec_base.proofs.Digits.{hex_8_hole, hex_2_hole}
 use Rattle.rv32_listing.proofs.lines.byte_line.Goals as goal
 

@@ -1,6 +1,6 @@
 use Rattle.std.proofs.Common.{◌≡◌, ◌+◌, length}
 use Rattle.sec_base.proofs.Writes.{IsPart}
-use Rattle.rv32_listing.specs.Listing.{bytes_lines}
+use Rattle.rv32_listing.specs.Lines.{bytes_lines}
 use Rattle.rv32_listing.proofs.lines.write_bytes.Given as goal
 
 abbrev pub invariant-loop-rest : goal.invariant-loop-rest
