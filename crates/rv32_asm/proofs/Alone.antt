@@ -11,8 +11,8 @@ use Rattle.rv32_text.specs.Style.{style_of}
 use Rattle.rv32_text.specs.Text.{text_of, text_of_word}
 use Rattle.rv32_text.specs.declared.style.Style.{Style}
 use Rattle.rv32_text.specs.declared.style.Style.TheVariants.{Bare}
-use Rattle.rv32_asm_syntax.specs.Characters.{trimmed}
-use Rattle.rv32_asm_syntax.specs.Keywords.{directives, keyword_of, keywords, long_pseudoinstructions, pseudoinstructions, row_words}
+use Rattle.rv32_asm_syntax.specs.Characters.{trim_blanks}
+use Rattle.rv32_asm_syntax.specs.Keywords.{directives, keyword_of, keywords, long_pseudoinstructions, pseudoinstructions, row_entries}
 use Rattle.rv32_asm_syntax.specs.Lines.{statement_text, without_comment}
 use Rattle.rv32_asm_syntax.specs.Reading.{operands_of, statement_of, statement_with}
 use Rattle.rv32_asm_syntax.specs.Statements.{Instructions, instruction}
@@ -82,7 +82,7 @@ module _ (size address : ℕ) (aligned : address % 4 ≡ 0) (inside : address + 
   fence_text = refl
 
   fence_means : statement_of (codes "fence") ≡ Ok (Instructions (instruction Fence 0 0 0 (pos 0xff) ∷ []))
-  unfolding statement_of without_comment statement_text trimmed statement_with operands_of keyword_of keywords row_words pseudoinstructions long_pseudoinstructions directives rows ops row_of mnemonic_of style_of
+  unfolding statement_of without_comment statement_text trim_blanks statement_with operands_of keyword_of keywords row_entries pseudoinstructions long_pseudoinstructions directives rows ops row_of mnemonic_of style_of
   fence_means = refl
 
   pub fence_back : IsWordBack size 0x0ff0000f address
@@ -97,7 +97,7 @@ module _ (size address : ℕ) (aligned : address % 4 ≡ 0) (inside : address + 
   fence_i_text = refl
 
   fence_i_means : statement_of (codes "fence.i") ≡ Ok (Instructions (instruction FenceI 0 0 0 (pos 0) ∷ []))
-  unfolding statement_of without_comment statement_text trimmed statement_with operands_of keyword_of keywords row_words pseudoinstructions long_pseudoinstructions directives rows ops row_of mnemonic_of style_of
+  unfolding statement_of without_comment statement_text trim_blanks statement_with operands_of keyword_of keywords row_entries pseudoinstructions long_pseudoinstructions directives rows ops row_of mnemonic_of style_of
   fence_i_means = refl
 
   pub fence_i_back : IsWordBack size 0x0000100f address
@@ -112,7 +112,7 @@ module _ (size address : ℕ) (aligned : address % 4 ≡ 0) (inside : address + 
   ecall_text = refl
 
   ecall_means : statement_of (codes "ecall") ≡ Ok (Instructions (instruction Ecall 0 0 0 (pos 0) ∷ []))
-  unfolding statement_of without_comment statement_text trimmed statement_with operands_of keyword_of keywords row_words pseudoinstructions long_pseudoinstructions directives rows ops row_of mnemonic_of style_of
+  unfolding statement_of without_comment statement_text trim_blanks statement_with operands_of keyword_of keywords row_entries pseudoinstructions long_pseudoinstructions directives rows ops row_of mnemonic_of style_of
   ecall_means = refl
 
   pub ecall_back : IsWordBack size 0x00000073 address
@@ -127,7 +127,7 @@ module _ (size address : ℕ) (aligned : address % 4 ≡ 0) (inside : address + 
   ebreak_text = refl
 
   ebreak_means : statement_of (codes "ebreak") ≡ Ok (Instructions (instruction Ebreak 0 0 0 (pos 0) ∷ []))
-  unfolding statement_of without_comment statement_text trimmed statement_with operands_of keyword_of keywords row_words pseudoinstructions long_pseudoinstructions directives rows ops row_of mnemonic_of style_of
+  unfolding statement_of without_comment statement_text trim_blanks statement_with operands_of keyword_of keywords row_entries pseudoinstructions long_pseudoinstructions directives rows ops row_of mnemonic_of style_of
   ebreak_means = refl
 
   pub ebreak_back : IsWordBack size 0x00100073 address

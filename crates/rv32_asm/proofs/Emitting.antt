@@ -13,7 +13,7 @@ use Rattle.rv32_asm.specs.Emission.{code_at, data_of, statement_bytes, with_more
 use Rattle.rv32_asm.specs.Passes.{emitted}
 use Rattle.rv32_asm.specs.Encoding.{code_from, values_bytes, data_fits, encoded_at, expressions_in, fit_from, fits_at, fits_width, is_in_range, misses_label, value_bytes}
 use Rattle.rv32_asm.specs.Labels.{Label}
-use Rattle.rv32_asm_syntax.specs.Seen as seen
+use Rattle.rv32_asm_syntax.specs.Seen.{seen_expression, seen_expressions, seen_instruction, seen_instructions}
 use Rattle.rv32_asm_syntax.specs.Statements as meant
 use Rattle.rv32_asm.specs.Values.{is_missing, value_of}
 
@@ -24,10 +24,10 @@ front {X} xs n x inside e = at_drop_more (λ (ys : List X). ys) xs n x inside �
 -- ---- labels that aren't there
 
 abbrev pub code_misses : List Label → List Instruction → Bool
-code_misses labels is = list_any (is_missing labels) (expressions_in (meant.Instructions (seen.instructions is)))
+code_misses labels is = list_any (is_missing labels) (expressions_in (meant.Instructions (seen_instructions is)))
 
 abbrev pub data_misses : List Label → List Expression → Bool
-data_misses labels es = list_any (is_missing labels) (seen.expressions es)
+data_misses labels es = list_any (is_missing labels) (seen_expressions es)
 
 -- ---- bytes with more behind them
 
@@ -55,29 +55,29 @@ some_is false x y e = cc
 
 -- bytes with those of instructions behind them
 abbrev pub coded : List Label → List ℕ → List Instruction → Result (List ℕ) AsmFault
-coded labels bytes is = with_more bytes (code_at labels (length bytes) (seen.instructions is))
+coded labels bytes is = with_more bytes (code_at labels (length bytes) (seen_instructions is))
 
 -- the word of an instruction at an address, where it fits
 abbrev pub word_there : List Label → ℕ → Instruction → Option ℕ
 word_there labels address i =
-    if fits_at labels address (seen.instruction i) then Some (word_of (encoded_at labels address (seen.instruction i))) else None
+    if fits_at labels address (seen_instruction i) then Some (word_of (encoded_at labels address (seen_instruction i))) else None
 
 code_refused : (labels : List Label) (address : ℕ) (i : Instruction) (is : List Instruction) →
-    fits_at labels address (seen.instruction i) ≡ false → code_at labels address (seen.instructions (i ∷ is)) ≡ Err Range
+    fits_at labels address (seen_instruction i) ≡ false → code_at labels address (seen_instructions (i ∷ is)) ≡ Err Range
 unfolding code_at
 code_refused labels address i is e = rw e refl
 
 code_added : (labels : List Label) (address : ℕ) (bytes : List ℕ) (i : Instruction) (is : List Instruction) →
-    fits_at labels address (seen.instruction i) ≡ true →
-    with_more (bytes ++ to_le_bytes w32 (word_of (encoded_at labels address (seen.instruction i))))
-    (code_at labels (address + 4) (seen.instructions is))
-    ≡ with_more bytes (code_at labels address (seen.instructions (i ∷ is)))
+    fits_at labels address (seen_instruction i) ≡ true →
+    with_more (bytes ++ to_le_bytes w32 (word_of (encoded_at labels address (seen_instruction i))))
+    (code_at labels (address + 4) (seen_instructions is))
+    ≡ with_more bytes (code_at labels address (seen_instructions (i ∷ is)))
 unfolding code_at
 code_added labels address bytes i is e =
-    let more = seen.instructions is in
+    let more = seen_instructions is in
     rw e
     (one_added (fit_from labels (address + 4) more) bytes
-    (to_le_bytes w32 (word_of (encoded_at labels address (seen.instruction i)))) (code_from labels (address + 4) more))
+    (to_le_bytes w32 (word_of (encoded_at labels address (seen_instruction i)))) (code_from labels (address + 4) more))
 
 code_none : (labels : List Label) (bytes : List ℕ) → coded labels bytes [] ≡ Ok bytes
 unfolding code_at
@@ -90,13 +90,13 @@ module _ (labels : List Label) (bytes : List ℕ) (is : List Instruction) (n : �
   module _ (i : Instruction) (inside : n < length is) (here : i ≡ get_or is n i) (address : ℕ) (reached : address ≡ length bytes) where
     pub code_stops : None ≡ word_there labels address i → coded labels bytes (drop n is) ≡ Err Range
     code_stops none =
-        let f = rw reached at (none_is (fits_at labels address (seen.instruction i)) _ none) in
+        let f = rw reached at (none_is (fits_at labels address (seen_instruction i)) _ none) in
         rw (front is n i inside here, code_refused labels (length bytes) i (drop (n + 1) is) f) refl
 
     pub code_goes_on : (word : ℕ) (new : List ℕ) → Some word ≡ word_there labels address i → new ≡ bytes ++ to_le_bytes w32 word →
         (length new ≡ length bytes + 4) × (coded labels new (drop (n + 1) is) ≡ coded labels bytes (drop n is))
     code_goes_on word new some put =
-        let t = rw reached at (some_is (fits_at labels address (seen.instruction i)) _ word some) in
+        let t = rw reached at (some_is (fits_at labels address (seen_instruction i)) _ word some) in
         let long : length new ≡ length bytes + 4 = rw put (length-append bytes (to_le_bytes w32 word)) in
         let all = put ∙ ap (λ w. bytes ++ to_le_bytes w32 w) t.1 in
         (long, rw (front is n i inside here, long, all) (code_added labels (length bytes) bytes i (drop (n + 1) is) t.0))
@@ -104,7 +104,7 @@ module _ (labels : List Label) (bytes : List ℕ) (is : List Instruction) (n : �
 -- ---- values
 
 abbrev pub listed : List Label → Width → List ℕ → List Expression → Result (List ℕ) AsmFault
-listed labels width bytes es = with_more bytes (data_of labels width (seen.expressions es))
+listed labels width bytes es = with_more bytes (data_of labels width (seen_expressions es))
 
 module _ (labels : List Label) (width : Width) (bytes : List ℕ) where
   data_none : listed labels width bytes [] ≡ Ok bytes
@@ -112,25 +112,25 @@ module _ (labels : List Label) (width : Width) (bytes : List ℕ) where
   data_none = none_added bytes
 
   module _ (e : Expression) (es : List Expression) where
-    data_refused : fits_width width (value_of labels (seen.expression e)) ≡ false → data_of labels width (seen.expressions (e ∷ es)) ≡ Err Range
+    data_refused : fits_width width (value_of labels (seen_expression e)) ≡ false → data_of labels width (seen_expressions (e ∷ es)) ≡ Err Range
     unfolding data_of
     data_refused f = rw f refl
 
-    data_added : fits_width width (value_of labels (seen.expression e)) ≡ true →
-        with_more (bytes ++ value_bytes width (value_of labels (seen.expression e))) (data_of labels width (seen.expressions es))
-        ≡ with_more bytes (data_of labels width (seen.expressions (e ∷ es)))
+    data_added : fits_width width (value_of labels (seen_expression e)) ≡ true →
+        with_more (bytes ++ value_bytes width (value_of labels (seen_expression e))) (data_of labels width (seen_expressions es))
+        ≡ with_more bytes (data_of labels width (seen_expressions (e ∷ es)))
     unfolding data_of
     data_added f =
         rw f
-        (one_added (data_fits labels width (seen.expressions es)) bytes (value_bytes width (value_of labels (seen.expression e)))
-        (values_bytes labels width (seen.expressions es)))
+        (one_added (data_fits labels width (seen_expressions es)) bytes (value_bytes width (value_of labels (seen_expression e)))
+        (values_bytes labels width (seen_expressions es)))
 
   module _ (es : List Expression) (n : ℕ) where
     pub data_done : length es ≤ n → listed labels width bytes (drop n es) ≡ Ok bytes
     data_done over = rw (drop_all n es over) data_none
 
     module _ (e : Expression) (inside : n < length es) (here : e ≡ get_or es n e) (value : ℤ)
-        (valued : value ≡ value_of labels (seen.expression e)) where
+        (valued : value ≡ value_of labels (seen_expression e)) where
       pub data_stops : fits_width width value ≡ false → listed labels width bytes (drop n es) ≡ Err Range
       data_stops f =
           let g = rw valued at f in

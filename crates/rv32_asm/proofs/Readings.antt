@@ -14,8 +14,8 @@ use Rattle.rv32_text.specs.Text.{data_text, instruction_text, text_of_word}
 use Rattle.sec_base.specs.Hexadecimal.{hex_digits}
 use Rattle.rv32_asm.specs.Encoding.{bytes_at, encoded_at, fits_at, fits_format, fits_width, immediate_of, is_in_range, misses_label}
 use Rattle.rv32_asm_syntax.specs.Expressions.{number_alone}
-use Rattle.rv32_asm_syntax.specs.declared.keywords.Operand.{Operand}
-use Rattle.rv32_asm_syntax.specs.Keywords.{DataWord, InstructionWord, directives, keyword_of, keywords, long_pseudoinstructions, pseudoinstructions, row_words}
+use Rattle.rv32_asm_syntax.specs.Keywords.{Operand}
+use Rattle.rv32_asm_syntax.specs.Keywords.{DataKeyword, InstructionKeyword, directives, keyword_of, keywords, long_pseudoinstructions, pseudoinstructions, row_entries}
 use Rattle.rv32_asm.specs.Labels.{Label}
 use Rattle.rv32_asm.specs.Law.{IsReadBack}
 use Rattle.rv32_asm.specs.Layout.{is_misplaced, size_at}
@@ -107,12 +107,12 @@ instruction_is word address op rd rs1 rs2 value aligned fits e = record {
 }
 
 pub instruction_line : (name first : List ℕ) (others : List (List ℕ)) (operands : List Operand) (before after : Instruction) →
-    is_word name ≡ true → keyword_of name ≡ Some (InstructionWord operands before) → is_operand first ≡ true →
+    is_word name ≡ true → keyword_of name ≡ Some (InstructionKeyword operands before) → is_operand first ≡ true →
     list_all is_operand others ≡ true → with_operands operands (first ∷ others) before ≡ Some after →
     statement_of (instruction_text name (first ∷ others)) ≡ Ok (Instructions (after ∷ []))
 unfolding statement_with
 instruction_line name first others operands before after word found operand all read =
-    statement_read name first others (InstructionWord operands before) word found operand all
+    statement_read name first others (InstructionKeyword operands before) word found operand all
     ∙ rw (operands_read first others operand all, read) refl
 
 -- ---- words as data
@@ -133,8 +133,8 @@ data_is word address below = record {
       ∙ ap (λ w. to_le_bytes w32 w ++ []) (word_modulo word below);
 }
 
-data_keyword : keyword_of (codes ".word") ≡ Some (DataWord Four)
-unfolding keyword_of keywords row_words pseudoinstructions long_pseudoinstructions directives rows ops row_of mnemonic_of
+data_keyword : keyword_of (codes ".word") ≡ Some (DataKeyword Four)
+unfolding keyword_of keywords row_entries pseudoinstructions long_pseudoinstructions directives rows ops row_of mnemonic_of
 data_keyword = refl
 
 abbrev number_text : ℕ → List ℕ
@@ -148,10 +148,10 @@ pub data_line : (word : ℕ) → word < 2 ^ 32 → statement_of (data_text word)
 unfolding statement_with
 data_line word below =
     ap statement_of (data_statement word)
-    ∙ (statement_read (codes ".word") (number_text word) [] (DataWord Four) refl data_keyword (hex8_operand word below) refl
+    ∙ (statement_read (codes ".word") (number_text word) [] (DataKeyword Four) refl data_keyword (hex8_operand word below) refl
     ∙ rw (operands_read (number_text word) [] (hex8_operand word below) refl, hex8_read word below) refl)
 
 pub data_plain : (word : ℕ) → word < 2 ^ 32 → list_all is_plain (data_text word) ≡ true
 data_plain word below =
     ap (list_all is_plain) (data_statement word)
-    ∙ line_plain (codes ".word") (number_text word) [] (DataWord Four) refl data_keyword (hex8_operand word below) refl
+    ∙ line_plain (codes ".word") (number_text word) [] (DataKeyword Four) refl data_keyword (hex8_operand word below) refl

@@ -2,7 +2,7 @@
 use Rattle.std.proofs.Common.{◌≡◌, ℕ, ◌+◌, ◌<◌, ◌≤◌, ◌^◌, Bool, true, false, List, [], ◌∷◌, ◌++◌, Result, Ok, Err, length, refl, sym, ap, ◌∙◌, inl, inr, arith, if◌then◌else◌}
 use Rattle.std.specs.Prelude.{IsOkAnd}
 use Rattle.std.proofs.lemmas.List.{append-nil}
-use Rattle.rv32_asm_syntax.specs.Characters.{trimmed}
+use Rattle.rv32_asm_syntax.specs.Characters.{trim_blanks}
 use Rattle.rv32_asm_syntax.specs.declared.fault.AsmFault.{AsmFault}
 use Rattle.rv32_asm_syntax.specs.declared.fault.AsmFault.TheVariants.{Range}
 use Rattle.rv32_asm.specs.Course.{IsNextLine, behind_line, end_of}
@@ -23,7 +23,7 @@ use Rattle.rv32_asm_syntax.specs.Statements.{Statement, Nothing}
 -- ---- an empty line does nothing
 
 pub nothing_said : statement_of [] ≡ Ok Nothing
-unfolding statement_of statement_text without_comment trimmed
+unfolding statement_of statement_text without_comment trim_blanks
 nothing_said = refl
 
 nothing_emitted : (labels : List Label) (address : ℕ) → line_bytes labels address [] ≡ Ok []

@@ -16,8 +16,8 @@ use Rattle.sec_base.specs.Hexadecimal.{hex_digits}
 use Rattle.rv32_text.specs.declared.style.Style.{Style}
 use Rattle.rv32_text.specs.declared.style.Style.TheVariants.{Registers, Immediate, Offset, Store, Upper, Branch, Jump, Fence, Bare}
 use Rattle.rv32_asm.specs.Encoding.{distance, fits_format, immediate_of, is_even}
-use Rattle.rv32_asm_syntax.specs.declared.keywords.Operand.{Operand}
-use Rattle.rv32_asm_syntax.specs.Keywords.{InstructionWord, keyword_of, operands_in}
+use Rattle.rv32_asm_syntax.specs.Keywords.{Operand}
+use Rattle.rv32_asm_syntax.specs.Keywords.{InstructionKeyword, keyword_of, operands_in}
 use Rattle.rv32_asm_syntax.specs.Numbers.{is_between}
 use Rattle.rv32_asm_syntax.specs.Reading.{statement_of, with_operands}
 use Rattle.rv32_asm_syntax.specs.Statements.{Instructions, instruction}
@@ -72,7 +72,7 @@ is_spoken _ = true
 
 read_line : (format : Format) (address : ℕ) (i : Inst) (name first : List ℕ) (others : List (List ℕ)) (operands : List Operand)
     (initial : ℤ) (rd rs1 rs2 : ℕ) (value : ℤ) → is_word name ≡ true →
-    keyword_of name ≡ Some (InstructionWord operands (instruction i.op 0 0 0 initial)) → is_operand first ≡ true →
+    keyword_of name ≡ Some (InstructionKeyword operands (instruction i.op 0 0 0 initial)) → is_operand first ≡ true →
     list_all is_operand others ≡ true →
     with_operands operands (first ∷ others) (instruction i.op 0 0 0 initial) ≡ Some (instruction i.op rd rs1 rs2 value) →
     fits_format format address value ≡ true → made i.op rd rs1 rs2 (immediate_of format address value) ≡ i →
@@ -82,7 +82,7 @@ read_line format address i name first others operands initial rd rs1 rs2 value w
   rs1 = rs1;
   rs2 = rs2;
   value = value;
-  plain = line_plain name first others (InstructionWord operands (instruction i.op 0 0 0 initial)) word found operand all;
+  plain = line_plain name first others (InstructionKeyword operands (instruction i.op 0 0 0 initial)) word found operand all;
   means = instruction_line name first others operands (instruction i.op 0 0 0 initial) (instruction i.op rd rs1 rs2 value) word found operand all read;
   fits = fits;
   same = same;
@@ -98,7 +98,7 @@ one first a = rw a refl
 module _ (i : Inst) (address : ℕ) (name : List ℕ) (word : is_word name ≡ true) (initial : ℤ)
     (a : i.rd < 32) (b : i.rs1 < 32) (c : i.rs2 < 32) where
   pub styled : (s : Style) (f : Format) → is_spoken s ≡ true → has_format s f ≡ true → FitsFormat f i →
-      keyword_of name ≡ Some (InstructionWord (operands_in s) (instruction i.op 0 0 0 initial)) →
+      keyword_of name ≡ Some (InstructionKeyword (operands_in s) (instruction i.op 0 0 0 initial)) →
       IsRead f address i (instruction_text name (operand_texts s i address))
   unfolding FitsFormat memory_operand upper_text target_text
   styled Registers R spoken ok fields found =

@@ -9,10 +9,10 @@ use Rattle.rv32_decode.specs.declared.Op.{Op}
 use Rattle.rv32_text.specs.Registers.{register_name}
 use Rattle.sec_base.specs.Hexadecimal.{hex_digits}
 use Rattle.rv32_text.specs.declared.style.Style.TheVariants.{Registers, Immediate, Offset, Store, Upper, Branch, Jump}
-use Rattle.rv32_asm_syntax.specs.Characters.{trimmed}
+use Rattle.rv32_asm_syntax.specs.Characters.{trim_blanks}
 use Rattle.rv32_asm_syntax.specs.Expressions.{Expression, expression_of, number_alone}
 use Rattle.rv32_asm_syntax.specs.Keywords.{operands_in}
-use Rattle.rv32_asm_syntax.specs.Reading.{enclosed_register, offset_of, place_of, with_operands}
+use Rattle.rv32_asm_syntax.specs.Reading.{enclosed_register, offset_of, memory_operand_of, with_operands}
 use Rattle.rv32_asm_syntax.specs.Statements.{instruction}
 use Rattle.rv32_asm.proofs.TextNumbers.{digits_read, hex8_read, is_figure, signed_figures, signed_operand, signed_read}
 use Rattle.rv32_asm.proofs.TextOperands.{is_operand, is_solid, trimmed_solid}
@@ -50,15 +50,15 @@ offset_full (byte ∷ bytes) operand = refl
 
 place_parts : (front back : List ℕ) (offset : Expression) (base : ℕ) → list_all is_figure front ≡ true →
     is_operand front ≡ true → expression_of front ≡ Some offset → enclosed_register back ≡ Some base →
-    place_of (front ++ 40 ∷ back) ≡ Some (offset, base)
+    memory_operand_of (front ++ 40 ∷ back) ≡ Some (offset, base)
 place_parts front back offset base all operand e f =
     let text = front ++ 40 ∷ back in
-    let before : offset_of (trimmed (before_first (λ byte. byte == 40) text)) ≡ Some offset
-    = ap (λ t. offset_of (trimmed t)) (before_open front back all)
+    let before : offset_of (trim_blanks (before_first (λ byte. byte == 40) text)) ≡ Some offset
+    = ap (λ t. offset_of (trim_blanks t)) (before_open front back all)
     ∙ (ap offset_of (trimmed_solid front operand) ∙ (offset_full front operand ∙ e)) in
     let after : enclosed_register (after_first (λ byte. byte == 40) text) ≡ Some base
     = ap enclosed_register (after_open front back all) ∙ f in
-    joined_is (offset_of (trimmed (before_first (λ byte. byte == 40) text)))
+    joined_is (offset_of (trim_blanks (before_first (λ byte. byte == 40) text)))
     (enclosed_register (after_first (λ byte. byte == 40) text)) offset base before after
 
 -- the text of a place
@@ -66,7 +66,7 @@ abbrev pub place : ℤ → ℕ → List ℕ
 place imm base = signed_decimal imm ++ (codes "(" ++ (register_name base ++ codes ")"))
 
 pub place_read : (imm : ℤ) (base : ℕ) → negsuc 2147483647 ≤ℤ imm → imm ≤ℤ pos 2147483647 → base < 32 →
-    place_of (place imm base) ≡ Some (number_alone imm, base)
+    memory_operand_of (place imm base) ≡ Some (number_alone imm, base)
 place_read imm base low high below =
     place_parts (signed_decimal imm) (register_name base ++ codes ")") (number_alone imm) base
     (signed_figures imm low high) (signed_operand imm low high) (signed_read imm low high) (base_read base below)

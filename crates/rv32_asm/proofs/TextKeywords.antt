@@ -11,11 +11,11 @@ use Rattle.rv32_text.specs.Style.{style_of}
 use Rattle.rv32_text.specs.declared.style.Style.{Style}
 use Rattle.rv32_text.specs.declared.style.Style.TheVariants.{Registers, Immediate, Offset, Store, Upper, Branch, Jump, Fence as FenceStyle, Bare}
 use Rattle.rv32_asm_syntax.specs.Characters.{is_in_words, is_blank}
-use Rattle.rv32_asm_syntax.specs.Keywords.{directives, keyword_of, keywords, long_pseudoinstructions, pseudoinstructions, row_keyword, row_words}
+use Rattle.rv32_asm_syntax.specs.Keywords.{directives, keyword_of, keywords, long_pseudoinstructions, pseudoinstructions, row_keyword, row_entries}
 use Rattle.rv32_asm.proofs.TextLines.{is_plain}
 
 pub keyword_read : (op : Op) → keyword_of (mnemonic_of op) ≡ Some (row_keyword op)
-unfolding keyword_of keywords row_words pseudoinstructions long_pseudoinstructions directives rows ops row_of mnemonic_of
+unfolding keyword_of keywords row_entries pseudoinstructions long_pseudoinstructions directives rows ops row_of mnemonic_of
 keyword_read Lui = refl
 keyword_read Auipc = refl
 keyword_read Jal = refl

@@ -2,8 +2,8 @@
 use Rattle.std.proofs.Common.{◌≡◌, ℕ, ◌&&◌, ◌==◌, Bool, true, false, not, List, [], ◌∷◌, ◌++◌, refl, arith, nat_lt}
 use Rattle.std.proofs.lemmas.Bool.{and_parts, le-ltb, ltb-true, not-true}
 use Rattle.std.specs.List.{list_all, slice_split}
-use Rattle.rv32_asm_syntax.specs.Characters.{trimmed}
-use Rattle.rv32_asm_syntax.specs.declared.lines.Standing.TheVariants.{Outside}
+use Rattle.rv32_asm_syntax.specs.Characters.{trim_blanks}
+use Rattle.rv32_asm_syntax.specs.Lines.{Outside}
 use Rattle.rv32_asm_syntax.specs.Lines.{before_comment, has_non_ascii, labels_of, lines_of, statement_text, without_comment}
 
 -- a byte that begins no comment, no string and no label, ends no line, and which is an ASCII character
@@ -70,7 +70,7 @@ pub plain_labels : (line : List ℕ) → list_all is_plain line ≡ true → lab
 unfolding labels_of
 plain_labels line all = rw (plain_comment line all, one_part line all) refl
 
-pub plain_statement : (line : List ℕ) → list_all is_plain line ≡ true → statement_text line ≡ trimmed line
+pub plain_statement : (line : List ℕ) → list_all is_plain line ≡ true → statement_text line ≡ trim_blanks line
 unfolding statement_text
 plain_statement line all = rw (plain_comment line all, one_part line all) refl
 

@@ -4,7 +4,7 @@ use Rattle.std.proofs.lemmas.Bool.{and_parts, and_right, not-true}
 use Rattle.std.proofs.lemmas.List.{append-nil}
 use Rattle.std.specs.List.{list_all, onto_first, slice_split}
 use Rattle.rv32_text.specs.Text.{more_operands}
-use Rattle.rv32_asm_syntax.specs.Characters.{drop_end_blanks, is_blank, is_empty, skip_blanks, trimmed}
+use Rattle.rv32_asm_syntax.specs.Characters.{drop_end_blanks, is_blank, is_empty, skip_blanks, trim_blanks}
 use Rattle.rv32_asm_syntax.specs.Reading.{operands_of}
 use Rattle.rv32_asm.proofs.TextLines.{is_plain}
 
@@ -89,8 +89,8 @@ further_end first (other ∷ others) operand all =
     let behind = end_behind (44 ∷ 32 ∷ []) (other ++ more_operands others) full rest in
     end_behind first (more_operands (other ∷ others)) refl behind
 
-pub trimmed_solid : (text : List ℕ) → is_operand text ≡ true → trimmed text ≡ text
-unfolding trimmed
+pub trimmed_solid : (text : List ℕ) → is_operand text ≡ true → trim_blanks text ≡ text
+unfolding trim_blanks
 trimmed_solid text operand =
     let skipped : skip_blanks text ≡ text = simp append-nil at (skip_solid text [] operand) in
     rw skipped (end_solid text (operand_solid text operand))
@@ -110,15 +110,15 @@ split_comma (byte ∷ bytes) more all =
     let parts = and_parts (is_solid byte) (list_all is_solid bytes) all in
     rw ((solid_parts byte parts.0).comma, split_comma bytes more parts.1) refl
 
-onto_blank : (texts : List (List ℕ)) (first : List ℕ) (others : List (List ℕ)) → map trimmed texts ≡ first ∷ others →
-    map trimmed (onto_first 32 texts) ≡ first ∷ others
-unfolding trimmed
+onto_blank : (texts : List (List ℕ)) (first : List ℕ) (others : List (List ℕ)) → map trim_blanks texts ≡ first ∷ others →
+    map trim_blanks (onto_first 32 texts) ≡ first ∷ others
+unfolding trim_blanks
 onto_blank [] first others e = cc
 onto_blank (text ∷ texts) first others e = e
 
 split_further : (first : List ℕ) (others : List (List ℕ)) → is_operand first ≡ true →
     list_all is_operand others ≡ true →
-    map trimmed (slice_split (λ each. each == 44) (first ++ more_operands others)) ≡ first ∷ others
+    map trim_blanks (slice_split (λ each. each == 44) (first ++ more_operands others)) ≡ first ∷ others
 split_further first [] operand all =
     rw (append-nil, split_solid first (operand_solid first operand), trimmed_solid first operand) refl
 split_further first (other ∷ others) operand all =
@@ -129,7 +129,7 @@ split_further first (other ∷ others) operand all =
     rw (split, trimmed_solid first operand, behind) refl
 
 operands_full : (text : List ℕ) → is_empty text ≡ false →
-    operands_of text ≡ map trimmed (slice_split (λ each. each == 44) text)
+    operands_of text ≡ map trim_blanks (slice_split (λ each. each == 44) text)
 unfolding operands_of
 operands_full [] full = cc
 operands_full (byte ∷ bytes) full = refl

@@ -5,7 +5,7 @@ use Rattle.std.specs.Prelude.{codes}
 use Rattle.rv32_text.specs.Registers.{register_name, register_names}
 use Rattle.rv32_asm_syntax.specs.Registers.{register_of}
 use Rattle.rv32_asm_syntax.specs.Reading.{enclosed_register}
-use Rattle.rv32_asm_syntax.specs.Characters.{trimmed}
+use Rattle.rv32_asm_syntax.specs.Characters.{trim_blanks}
 use Rattle.rv32_asm.proofs.TextOperands.{is_operand}
 
 -- the number that was found
@@ -24,7 +24,7 @@ register_read number below =
     (agree_below_at (λ n. is_found (register_of (register_name n)) n) (λ n. true) 32 number refl below)
 
 pub base_read : (number : ℕ) → number < 32 → enclosed_register (register_name number ++ codes ")") ≡ Some number
-unfolding register_of register_name register_names trimmed
+unfolding register_of register_name register_names trim_blanks
 base_read number below =
     found_number (enclosed_register (register_name number ++ codes ")")) number
     (agree_below_at (λ n. is_found (enclosed_register (register_name n ++ codes ")")) n) (λ n. true) 32 number refl below)

@@ -6,8 +6,8 @@ use Rattle.std.proofs.lemmas.List.Folds.{list_all-append}
 use Rattle.std.specs.List.{list_all, prefix_len}
 use Rattle.rv32_text.specs.Text.{instruction_text, more_operands}
 use Rattle.rv32_asm_syntax.specs.declared.fault.AsmFault.TheVariants.{Operand, Unknown}
-use Rattle.rv32_asm_syntax.specs.Characters.{drop_end_blanks, is_blank, is_empty, is_in_words, skip_blanks, trimmed}
-use Rattle.rv32_asm_syntax.specs.declared.lines.Standing.TheVariants.{Outside}
+use Rattle.rv32_asm_syntax.specs.Characters.{drop_end_blanks, is_blank, is_empty, is_in_words, skip_blanks, trim_blanks}
+use Rattle.rv32_asm_syntax.specs.Lines.{Outside}
 use Rattle.rv32_asm_syntax.specs.Lines.{has_non_ascii, statement_text, without_comment}
 use Rattle.rv32_asm_syntax.specs.Keywords.{Keyword, keyword_of}
 use Rattle.rv32_asm_syntax.specs.Reading.{statement_from, statement_in, statement_of, statement_with}
@@ -88,8 +88,8 @@ module _ (name first : List ℕ) (others : List (List ℕ)) (keyword : Keyword) 
       ∙ and_from (list_all is_plain name) (list_all is_plain (32 ∷ (first ++ more_operands others)))
       ((word_parts name word).plain) (further_plain first others operand all)
 
-  line_trimmed : trimmed (instruction_text name (first ∷ others)) ≡ instruction_text name (first ∷ others)
-  unfolding trimmed
+  line_trimmed : trim_blanks (instruction_text name (first ∷ others)) ≡ instruction_text name (first ∷ others)
+  unfolding trim_blanks
   line_trimmed =
       let text = first ++ more_operands others in
       let begins = (word_parts name word).begins in

@@ -6,7 +6,7 @@ ghost use Rattle.rv32_asm.specs.Encoding as spec;
 ghost use Rattle.rv32_asm.specs.Layout as layout_spec;
 ghost use Rattle.rv32_asm.specs.Passes as passes;
 ghost use Rattle.rv32_asm.specs.Values as values_spec;
-ghost use Rattle.rv32_asm_syntax.specs.Seen as seen;
+ghost use Rattle.rv32_asm_syntax.specs.Seen.{seen_expressions, seen_instructions, seen_statement};
 ghost use Rattle.rv32_asm_syntax.specs.Statements as meant;
 ghost use Rattle.rv32_asm_syntax.specs.declared.fault.AsmFault.{AsmFault};
 ghost use Rattle.rv32_asm_syntax.specs.declared.fault.LineError.TheVariants.{Fault};
@@ -21,7 +21,7 @@ use sec_base::{NoMemory, Width};
 
 // Whether one of the instructions names a label that isn't there.
 fn code_misses_label(labels: &Labels, instructions: &[Instruction]) -> bool
-    ensures { let statement = meant.Instructions (seen.instructions instructions.now) in
+    ensures { let statement = meant.Instructions (seen_instructions instructions.now) in
         result ≡ list_any (values_spec.is_missing labels.now) (spec.expressions_in statement) }
 {
     for instruction in instructions {
@@ -34,7 +34,7 @@ fn code_misses_label(labels: &Labels, instructions: &[Instruction]) -> bool
 
 // Whether one of the expressions names a label that isn't there.
 fn data_misses_label(labels: &Labels, expressions: &[Expression]) -> bool
-    ensures { result ≡ list_any (values_spec.is_missing labels.now) (seen.expressions expressions.now) }
+    ensures { result ≡ list_any (values_spec.is_missing labels.now) (seen_expressions expressions.now) }
 {
     for expression in expressions {
         if values::is_missing(labels, expression) {
@@ -47,7 +47,7 @@ fn data_misses_label(labels: &Labels, expressions: &[Expression]) -> bool
 // Whether a statement names a label that isn't there.
 #[tactic(auto, unfolding(crate::specs::Encoding::misses_label))]
 fn misses_label(labels: &Labels, statement: &Statement) -> bool
-    ensures { result ≡ spec.misses_label labels.now (seen.statement statement.now) }
+    ensures { result ≡ spec.misses_label labels.now (seen_statement statement.now) }
 {
     match statement {
         Statement::Instructions(instructions) => code_misses_label(labels, instructions),
@@ -72,10 +72,10 @@ fn put_code(
 ) -> Result<(), LineError>
     requires { length bytes.old.items + 4 * length instructions.now < 2 ^ 32 }
     ensures ok { OnOk result (with_more bytes.old.items
-        (parts.code_at labels.now (length bytes.old.items) (seen.instructions instructions.now))
+        (parts.code_at labels.now (length bytes.old.items) (seen_instructions instructions.now))
         ≡ Ok bytes.new.items) }
     ensures refused { (fault : AsmFault) → result ≡ Err (Fault fault) →
-        parts.code_at labels.now (length bytes.old.items) (seen.instructions instructions.now) ≡ Err fault }
+        parts.code_at labels.now (length bytes.old.items) (seen_instructions instructions.now) ≡ Err fault }
 {
     for instruction in instructions {
         match encoding::word_at(labels, bytes.len() as u32, instruction) {
@@ -120,10 +120,10 @@ fn put_data(
     expressions: &[Expression],
 ) -> Result<(), LineError>
     ensures ok { OnOk result (with_more bytes.old.items
-        (parts.data_of labels.now width (seen.expressions expressions.now))
+        (parts.data_of labels.now width (seen_expressions expressions.now))
         ≡ Ok bytes.new.items) }
     ensures refused { (fault : AsmFault) → result ≡ Err (Fault fault) →
-        parts.data_of labels.now width (seen.expressions expressions.now) ≡ Err fault }
+        parts.data_of labels.now width (seen_expressions expressions.now) ≡ Err fault }
 {
     for expression in expressions {
         let value = values::value_of(labels, expression);
@@ -159,13 +159,13 @@ fn put_statement(
     labels: &Labels,
     statement: &Statement,
 ) -> Result<(), LineError>
-    requires placed { layout_spec.is_misplaced (length bytes.old.items) (seen.statement statement.now) ≡ false }
-    requires room { length bytes.old.items + layout_spec.size_at (length bytes.old.items) (seen.statement statement.now) < 2 ^ 32 }
+    requires placed { layout_spec.is_misplaced (length bytes.old.items) (seen_statement statement.now) ≡ false }
+    requires room { length bytes.old.items + layout_spec.size_at (length bytes.old.items) (seen_statement statement.now) < 2 ^ 32 }
     ensures ok { OnOk result (with_more bytes.old.items
-        (parts.statement_bytes labels.now (length bytes.old.items) (seen.statement statement.now))
+        (parts.statement_bytes labels.now (length bytes.old.items) (seen_statement statement.now))
         ≡ Ok bytes.new.items) }
     ensures refused { (fault : AsmFault) → result ≡ Err (Fault fault) →
-        parts.statement_bytes labels.now (length bytes.old.items) (seen.statement statement.now) ≡ Err fault }
+        parts.statement_bytes labels.now (length bytes.old.items) (seen_statement statement.now) ≡ Err fault }
 {
     match statement {
         Statement::Instructions(instructions) => put_code(bytes, labels, instructions)?,
@@ -184,13 +184,13 @@ fn put_statement(
 
 /// Adds the bytes of a statement that may stand where the bytes end.
 pub fn emit(bytes: &mut Vec<u8>, labels: &Labels, statement: &Statement) -> Result<(), LineError>
-    requires placed { layout_spec.is_misplaced (length bytes.old.items) (seen.statement statement.now) ≡ false }
-    requires room { length bytes.old.items + layout_spec.size_at (length bytes.old.items) (seen.statement statement.now) < 2 ^ 32 }
+    requires placed { layout_spec.is_misplaced (length bytes.old.items) (seen_statement statement.now) ≡ false }
+    requires room { length bytes.old.items + layout_spec.size_at (length bytes.old.items) (seen_statement statement.now) < 2 ^ 32 }
     ensures ok { OnOk result (with_more bytes.old.items
-        (passes.emitted labels.now (length bytes.old.items) (seen.statement statement.now))
+        (passes.emitted labels.now (length bytes.old.items) (seen_statement statement.now))
         ≡ Ok bytes.new.items) }
     ensures refused { (fault : AsmFault) → result ≡ Err (Fault fault) →
-        passes.emitted labels.now (length bytes.old.items) (seen.statement statement.now) ≡ Err fault }
+        passes.emitted labels.now (length bytes.old.items) (seen_statement statement.now) ≡ Err fault }
 {
     if misses_label(labels, statement) {
         return Err(LineError::Fault(AsmFault::Missing));

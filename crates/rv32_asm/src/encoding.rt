@@ -3,7 +3,7 @@
 ghost use Rattle.rv32_asm.specs.Encoding as spec;
 ghost use Rattle.rv32_asm.specs.Fields.{immediate_in, kept};
 ghost use Rattle.rv32_asm_syntax.specs.Numbers as numbers;
-ghost use Rattle.rv32_asm_syntax.specs.Seen as seen;
+ghost use Rattle.rv32_asm_syntax.specs.Seen.{seen_instruction};
 ghost use Rattle.rv32_decode.specs.Encoding.{word_of};
 ghost use Rattle.rv32_decode.specs.Table.{row_of};
 ghost use Rattle.std.specs.Prelude.{None, Some, if◌then◌else◌, neg_ℤ, pos, ◌&&◌, ◌^◌, ◌≡◌, ◌≤ℤ◌};
@@ -116,7 +116,7 @@ fn with_immediate(instruction: &Instruction, imm: i32) -> Inst
 
 /// The word of an instruction at an address, where its value is in its range.
 pub fn word_at(labels: &Labels, address: u32, instruction: &Instruction) -> Option<u32>
-    ensures { let i = seen.instruction instruction.now in
+    ensures { let i = seen_instruction instruction.now in
         result ≡ if spec.fits_at labels.now address i then Some (word_of (spec.encoded_at labels.now address i)) else None }
 {
     let value = values::immediate_value(labels, &instruction.immediate);

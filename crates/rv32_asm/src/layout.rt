@@ -3,7 +3,7 @@
 ghost use Rattle.rv32_asm.specs.Layout as spec;
 ghost use Rattle.rv32_asm.specs.Passes as passes;
 ghost use Rattle.rv32_asm_syntax.specs.Parts.{as_word};
-ghost use Rattle.rv32_asm_syntax.specs.Seen as seen;
+ghost use Rattle.rv32_asm_syntax.specs.Seen.{seen_statement};
 ghost use Rattle.std.specs.Prelude.{false, ◌*◌, ◌<◌, ◌≡◌};
 
 use rv32_asm_syntax::{AsmFault, Statement};
@@ -26,7 +26,7 @@ fn is_alignment(number: i64) -> bool
 /// is no multiple of 4.
 #[tactic(auto, unfolding(crate::specs::Layout::is_misplaced))]
 pub fn is_misplaced(address: u32, statement: &Statement) -> bool
-    ensures { result ≡ spec.is_misplaced address (seen.statement statement.now) }
+    ensures { result ≡ spec.is_misplaced address (seen_statement statement.now) }
 {
     match statement {
         Statement::Instructions(_) => address % 4 != 0,
@@ -64,8 +64,8 @@ pub fn padding(address: u32, alignment: u64) -> u64
 // How many bytes a statement takes at an address where it may stand, where 32 bits hold it.
 #[tactic(auto, unfolding(crate::specs::Layout::is_misplaced, crate::specs::Layout::size_at))]
 fn size_at(address: u32, statement: &Statement) -> Option<u32>
-    requires { spec.is_misplaced address (seen.statement statement.now) ≡ false }
-    ensures { result ≡ as_word (spec.size_at address (seen.statement statement.now)) }
+    requires { spec.is_misplaced address (seen_statement statement.now) ≡ false }
+    ensures { result ≡ as_word (spec.size_at address (seen_statement statement.now)) }
 {
     match statement {
         Statement::Instructions(instructions) => bytes_of(4, instructions.len()),
@@ -79,7 +79,7 @@ fn size_at(address: u32, statement: &Statement) -> Option<u32>
 
 /// The address behind a statement in a memory of a size, or what is wrong with its place.
 pub fn address_after(size: u32, address: u32, statement: &Statement) -> Result<u32, AsmFault>
-    ensures { result ≡ passes.address_after size address (seen.statement statement.now) }
+    ensures { result ≡ passes.address_after size address (seen_statement statement.now) }
 {
     if is_misplaced(address, statement) {
         return Err(AsmFault::Range);

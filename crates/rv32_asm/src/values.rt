@@ -1,7 +1,7 @@
 //! The values of expressions, and of the immediates that stand for them.
 
 ghost use Rattle.rv32_asm.specs.Values as spec;
-ghost use Rattle.rv32_asm_syntax.specs.Seen as seen;
+ghost use Rattle.rv32_asm_syntax.specs.Seen.{seen_expression, seen_immediate, seen_name};
 ghost use Rattle.std.specs.Prelude.{neg_ℤ, pos, ◌^◌, ◌≡◌, ◌≤ℤ◌};
 
 use crate::labels::Labels;
@@ -9,7 +9,7 @@ use rv32_asm_syntax::{Expression, Immediate};
 
 /// Whether an expression names a label that isn't there.
 pub fn is_missing(labels: &Labels, value: &Expression) -> bool
-    ensures { result ≡ spec.is_missing labels.now (seen.expression value.now) }
+    ensures { result ≡ spec.is_missing labels.now (seen_expression value.now) }
 {
     match value.label {
         Some(name) => labels.get(name).is_none(),
@@ -19,7 +19,7 @@ pub fn is_missing(labels: &Labels, value: &Expression) -> bool
 
 // Where a label is, or 0 without one.
 fn address_of(labels: &Labels, name: Option<&[u8]>) -> u32
-    ensures { result ≡ spec.address_of labels.now (seen.name name.entry) }
+    ensures { result ≡ spec.address_of labels.now (seen_name name.entry) }
 {
     match name {
         Some(name) => match labels.get(name) {
@@ -33,7 +33,7 @@ fn address_of(labels: &Labels, name: Option<&[u8]>) -> u32
 /// The value of an expression, where a label that isn't there counts 0.
 #[tactic(auto, unfolding(crate::specs::Values::value_of))]
 pub fn value_of(labels: &Labels, value: &Expression) -> i64
-    ensures value { result ≡ spec.value_of labels.now (seen.expression value.now) }
+    ensures value { result ≡ spec.value_of labels.now (seen_expression value.now) }
     ensures least { neg_ℤ (pos (2 ^ 33)) ≤ℤ result }
     ensures most { result ≤ℤ pos (2 ^ 33) }
 {
@@ -67,7 +67,7 @@ fn lower_part(word: u32) -> i64
 /// The value that stands for an immediate.
 #[tactic(auto, unfolding(crate::specs::Values::immediate_value))]
 pub fn immediate_value(labels: &Labels, immediate: &Immediate) -> i64
-    ensures value { result ≡ spec.immediate_value labels.now (seen.immediate immediate.now) }
+    ensures value { result ≡ spec.immediate_value labels.now (seen_immediate immediate.now) }
     ensures least { neg_ℤ (pos (2 ^ 33)) ≤ℤ result }
     ensures most { result ≤ℤ pos (2 ^ 33) }
 {
@@ -80,7 +80,7 @@ pub fn immediate_value(labels: &Labels, immediate: &Immediate) -> i64
 
 /// The expression whose value, or a part of it, is an immediate.
 pub fn expression_in<'a>(immediate: &Immediate<'a>) -> Expression<'a>
-    ensures { seen.expression result ≡ spec.expression_in (seen.immediate immediate.now) }
+    ensures { seen_expression result ≡ spec.expression_in (seen_immediate immediate.now) }
 {
     match *immediate {
         Immediate::Whole(value) | Immediate::Upper(value) | Immediate::Lower(value) => value,

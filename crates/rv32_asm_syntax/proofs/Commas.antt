@@ -6,19 +6,20 @@ use Rattle.std.proofs.lemmas.List.{at_drop_more, at_drop_all}
 use Rattle.std.proofs.lemmas.List.Splits.{slice_split_first}
 use Rattle.sec_base.specs.declared.width.Width.{Width}
 use Rattle.rv32_asm_syntax.specs.declared.keywords.Operand.{Operand}
-use Rattle.rv32_asm_syntax.specs.Characters.{trimmed, is_empty}
+use Rattle.rv32_asm_syntax.specs.Seen.{seen_operand}
+use Rattle.rv32_asm_syntax.specs.Characters.{trim_blanks, is_empty}
 use Rattle.rv32_asm_syntax.specs.Statements.{Instruction, Data}
 use Rattle.rv32_asm_syntax.specs.Reading.{operands_of, with_operands, expressions_of, li_of, la_of, data_of}
-use Rattle.rv32_asm_syntax.specs.Parts.{operand_texts, two}
+use Rattle.rv32_asm_syntax.specs.Parts.{comma_parts, two}
 use Rattle.rv32_asm_syntax.proofs.Splits.{one_part, some_parts}
 
 abbrev pub at_comma : ℕ → Bool
 at_comma byte = eqb byte 44
 
-pub cut : (text : List ℕ) (len : ℕ) → len ≡ position_or_len at_comma text → len < length text → operand_texts text ≡ trimmed (take len text) ∷ operand_texts (drop (len + 1) text)
+pub cut : (text : List ℕ) (len : ℕ) → len ≡ position_or_len at_comma text → len < length text → comma_parts text ≡ trim_blanks (take len text) ∷ comma_parts (drop (len + 1) text)
 cut text len e below = rw (slice_split_first at_comma text 0 (omega (arith, e)), sym e) refl
 
-pub last : (text : List ℕ) (len : ℕ) → len ≡ position_or_len at_comma text → length text ≤ len → operand_texts text ≡ trimmed text ∷ []
+pub last : (text : List ℕ) (len : ℕ) → len ≡ position_or_len at_comma text → length text ≤ len → comma_parts text ≡ trim_blanks text ∷ []
 last text len e past = rw (one_part at_comma text (omega (arith, e))) refl
 
 pub none_there : (text : List ℕ) → length text ≡ 0 → operands_of text ≡ []
@@ -26,27 +27,27 @@ unfolding operands_of
 none_there [] e = refl
 none_there (x ∷ xs) e = grind arith
 
-pub some_there : (text : List ℕ) → 0 < length text → operands_of text ≡ operand_texts text
+pub some_there : (text : List ℕ) → 0 < length text → operands_of text ≡ comma_parts text
 unfolding operands_of
 some_there [] some = elim some [ ]
 some_there (x ∷ xs) some = refl
 
-never_two : (a b : List ℕ) (parts : List (List ℕ)) → 0 < length parts → two (a ∷ b ∷ map trimmed parts) ≡ None
+never_two : (a b : List ℕ) (parts : List (List ℕ)) → 0 < length parts → two (a ∷ b ∷ map trim_blanks parts) ≡ None
 never_two a b [] some = elim some [ ]
 never_two a b (x ∷ xs) some = refl
 
-pub too_many : (a b text : List ℕ) → two (a ∷ b ∷ operand_texts text) ≡ None
+pub too_many : (a b text : List ℕ) → two (a ∷ b ∷ comma_parts text) ≡ None
 too_many a b text = never_two a b (slice_split at_comma text) (some_parts at_comma text)
 
-pub too_few_given : (operands : List Operand) (n : ℕ) (d : Operand) (i : Instruction) → n < length operands → with_operands (drop n operands) [] i ≡ None
-too_few_given operands n d i below = at_drop_more (λ each. with_operands each [] i) operands n d below
+pub too_few_given : (operands : List Operand) (n : ℕ) (d : Operand) (i : Instruction) → n < length operands → with_operands (map seen_operand (drop n operands)) [] i ≡ None
+too_few_given operands n d i below = at_drop_more (λ each. with_operands (map seen_operand each) [] i) operands n d below
 
-never_given : (parts : List (List ℕ)) (i : Instruction) → 0 < length parts → with_operands [] (map trimmed parts) i ≡ None
+never_given : (parts : List (List ℕ)) (i : Instruction) → 0 < length parts → with_operands [] (map trim_blanks parts) i ≡ None
 never_given [] i some = elim some [ ]
 never_given (x ∷ xs) i some = refl
 
-pub too_many_given : (operands : List Operand) (n : ℕ) (text : List ℕ) (i : Instruction) → length operands ≤ n → with_operands (drop n operands) (operand_texts text) i ≡ None
-too_many_given operands n text i past = rw (at_drop_all (λ each. with_operands each (operand_texts text) i) operands n past) (never_given (slice_split at_comma text) i (some_parts at_comma text))
+pub too_many_given : (operands : List Operand) (n : ℕ) (text : List ℕ) (i : Instruction) → length operands ≤ n → with_operands (map seen_operand (drop n operands)) (comma_parts text) i ≡ None
+too_many_given operands n text i past = rw (at_drop_all (λ each. with_operands (map seen_operand each) (comma_parts text) i) operands n past) (never_given (slice_split at_comma text) i (some_parts at_comma text))
 
 pub li_other : (texts : List (List ℕ)) → two texts ≡ None → li_of texts ≡ None
 li_other [] e = refl
@@ -63,7 +64,7 @@ la_other (a ∷ b ∷ c ∷ cs) e = refl
 pub no_data : (width : Width) (text : List ℕ) → length text ≡ 0 → data_of width (operands_of text) ≡ None
 no_data width text e = rw (none_there text e) refl
 
-data_at : (width : Width) (parts : List (List ℕ)) → 0 < length parts → data_of width (map trimmed parts) ≡ option_map (Data width) (expressions_of (map trimmed parts))
+data_at : (width : Width) (parts : List (List ℕ)) → 0 < length parts → data_of width (map trim_blanks parts) ≡ option_map (Data width) (expressions_of (map trim_blanks parts))
 data_at width [] some = elim some [ ]
 data_at width (x ∷ xs) some = refl
 

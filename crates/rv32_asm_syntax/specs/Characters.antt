@@ -96,5 +96,5 @@ drop_end_blanks (byte ∷ bytes) =
     if is_blank byte && is_empty (drop_end_blanks bytes) then [] else byte ∷ drop_end_blanks bytes
 
 -- the text without the blanks at its ends
-unfoldable pub trimmed : List ℕ → List ℕ
-trimmed text = drop_end_blanks (skip_blanks text)
+unfoldable pub trim_blanks : List ℕ → List ℕ
+trim_blanks text = drop_end_blanks (skip_blanks text)

@@ -1,9 +1,7 @@
 -- An assembly text cut into lines, and a line into its labels and its statement.
 use Rattle.std.specs.Prelude.{ℕ, List, [], ◌∷◌, Bool, true, false, ◌&&◌, ◌||◌, ◌==◌, nat_lt, nat_eq, if◌then◌else◌}
 use Rattle.std.specs.List.{onto_first, slice_split, starts_with, join_with_byte}
-use Rattle.rv32_asm_syntax.specs.declared.lines.Standing.{Standing}
-use Rattle.rv32_asm_syntax.specs.declared.lines.Standing.TheVariants.{Outside, Inside, Escaped}
-use Rattle.rv32_asm_syntax.specs.Characters.{line_feed, carriage_return, quotation_mark, hash, colon, backslash, is_name, skip_blanks, trimmed}
+use Rattle.rv32_asm_syntax.specs.Characters.{line_feed, carriage_return, quotation_mark, hash, colon, backslash, is_name, skip_blanks, trim_blanks}
 
 -- the lines of a text: each ends with a line feed, and a carriage return just before that is no part of it
 unfoldable pub lines_of : List ℕ → List (List ℕ)
@@ -13,33 +11,39 @@ lines_of (byte ∷ bytes) =
     else if (byte == carriage_return) && starts_with nat_eq bytes (line_feed ∷ []) then lines_of bytes
     else onto_first byte (lines_of bytes)
 
--- where the byte after one stands: outside the strings, in one, or behind a backslash in one
-abbrev pub standing_after : Standing → ℕ → Standing
-standing_after Outside byte = if byte == quotation_mark then Inside else Outside
-standing_after Inside byte =
-    if byte == quotation_mark then Outside else if byte == backslash then Escaped else Inside
-standing_after Escaped byte = Inside
+-- where a byte stands: outside the strings, in one, or behind a backslash in one
+pub data Quoting : Type 0 where
+  Outside : Quoting
+  Inside : Quoting
+  Escaped : Quoting
 
-abbrev pub is_outside : Standing → Bool
+-- where the byte after one stands
+abbrev pub quoting_after : Quoting → ℕ → Quoting
+quoting_after Outside byte = if byte == quotation_mark then Inside else Outside
+quoting_after Inside byte =
+    if byte == quotation_mark then Outside else if byte == backslash then Escaped else Inside
+quoting_after Escaped byte = Inside
+
+abbrev pub is_outside : Quoting → Bool
 is_outside Outside = true
 is_outside Inside = false
 is_outside Escaped = false
 
 -- the line up to its comment, which a hash outside the strings begins
-abbrev pub before_comment : Standing → List ℕ → List ℕ
-before_comment standing [] = []
-before_comment standing (byte ∷ bytes) =
-    if is_outside standing && (byte == hash) then []
-    else byte ∷ before_comment (standing_after standing byte) bytes
+abbrev pub before_comment : Quoting → List ℕ → List ℕ
+before_comment quoting [] = []
+before_comment quoting (byte ∷ bytes) =
+    if is_outside quoting && (byte == hash) then []
+    else byte ∷ before_comment (quoting_after quoting byte) bytes
 
 unfoldable pub without_comment : List ℕ → List ℕ
 without_comment line = before_comment Outside line
 
 -- a byte above 7f stands outside the strings
-abbrev pub has_non_ascii : Standing → List ℕ → Bool
-has_non_ascii standing [] = false
-has_non_ascii standing (byte ∷ bytes) =
-    (is_outside standing && nat_lt 0x7f byte) || has_non_ascii (standing_after standing byte) bytes
+abbrev pub has_non_ascii : Quoting → List ℕ → Bool
+has_non_ascii quoting [] = false
+has_non_ascii quoting (byte ∷ bytes) =
+    (is_outside quoting && nat_lt 0x7f byte) || has_non_ascii (quoting_after quoting byte) bytes
 
 -- The parts of a line between its colons: each part that a colon ends is a label, as long as it is a name, where
 -- blanks may stand before it.
@@ -63,4 +67,4 @@ labels_of line = labels_in (parts_of line)
 
 -- the text of its statement, empty where it has none
 unfoldable pub statement_text : List ℕ → List ℕ
-statement_text line = trimmed (behind_labels (parts_of line))
+statement_text line = trim_blanks (behind_labels (parts_of line))

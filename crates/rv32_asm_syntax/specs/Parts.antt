@@ -1,7 +1,7 @@
 -- What parts of the reading find.
 use Rattle.std.specs.Borrow.{Bor}
-use Rattle.rv32_asm_syntax.specs.Characters.{line_feed, carriage_return, colon, comma, is_in_words, trimmed}
-use Rattle.rv32_asm_syntax.specs.Keywords.{Keyword, DataWord, AsciiWord, AscizWord, keyword_of}
+use Rattle.rv32_asm_syntax.specs.Characters.{line_feed, carriage_return, colon, comma, is_in_words, trim_blanks}
+use Rattle.rv32_asm_syntax.specs.Keywords.{Keyword, DataKeyword, AsciiKeyword, AscizKeyword, keyword_of}
 use Rattle.rv32_asm_syntax.specs.declared.strings.Character.{Character}
 use Rattle.rv32_asm_syntax.specs.Reading.{string_after}
 use Rattle.rv32_asm_syntax.specs.Lines.{lines_of, labels_in, behind_labels}
@@ -28,11 +28,11 @@ is_line_feed byte = byte == line_feed
 
 -- A text's first line: what stands before the first line feed, without the carriage return that it may end with, or
 -- all of a text that has no line feed. What is left is what stands behind the first line feed.
-abbrev pub IsFirstLine : List ℕ → List ℕ → Option (Bor (List ℕ)) → Type 0
-IsFirstLine text line (Some rest) =
+abbrev pub IsLineCut : List ℕ → List ℕ → Option (Bor (List ℕ)) → Type 0
+IsLineCut text line (Some rest) =
     (text ≡ before_first is_line_feed text ++ line_feed ∷ rest.now)
     × (line ≡ without_return (before_first is_line_feed text))
-IsFirstLine text line None = (list_any is_line_feed text ≡ false) × (line ≡ text)
+IsLineCut text line None = (list_any is_line_feed text ≡ false) × (line ≡ text)
 
 -- the lines of what is left of a text, where more is left
 abbrev pub lines_left : Option (Bor (List ℕ)) → List (List ℕ)
@@ -57,19 +57,19 @@ front_keyword text = keyword_of (take_while is_in_words text)
 
 -- values and strings are kept in memory
 abbrev pub takes_memory : Option Keyword → Bool
-takes_memory (Some (DataWord width)) = true
-takes_memory (Some AsciiWord) = true
-takes_memory (Some AscizWord) = true
+takes_memory (Some (DataKeyword width)) = true
+takes_memory (Some AsciiKeyword) = true
+takes_memory (Some AscizKeyword) = true
 takes_memory _ = false
 
 -- the operands of a text that has some
-abbrev pub operand_texts : List ℕ → List (List ℕ)
-operand_texts text = map trimmed (slice_split (λ each. each == comma) text)
+abbrev pub comma_parts : List ℕ → List (List ℕ)
+comma_parts text = map trim_blanks (slice_split (λ each. each == comma) text)
 
 -- the operands of what is left of a text, where more is left
 abbrev pub operands_left : Option (Bor (List ℕ)) → List (List ℕ)
 operands_left None = []
-operands_left (Some text) = operand_texts text.now
+operands_left (Some text) = comma_parts text.now
 
 -- the operands, where there are two
 abbrev pub two : List (List ℕ) → Option (List ℕ × List ℕ)

@@ -5,16 +5,13 @@ use Rattle.sec_base.specs.declared.width.Width.{Width}
 use Rattle.rv32_decode.specs.declared.Op.TheVariants.{Lui, Addi}
 use Rattle.rv32_asm_syntax.specs.declared.fault.AsmFault.{AsmFault}
 use Rattle.rv32_asm_syntax.specs.declared.fault.AsmFault.TheVariants as fault
-use Rattle.rv32_asm_syntax.specs.Characters.{tab, line_feed, digit_0, letter_n, letter_t, quotation_mark, left_parenthesis, right_parenthesis, comma, backslash, is_in_words, is_name, skip_blanks, is_empty, trimmed}
-use Rattle.rv32_asm_syntax.specs.declared.lines.Standing.TheVariants.{Outside}
-use Rattle.rv32_asm_syntax.specs.Lines.{has_non_ascii, statement_text, without_comment}
+use Rattle.rv32_asm_syntax.specs.Characters.{tab, line_feed, digit_0, letter_n, letter_t, quotation_mark, left_parenthesis, right_parenthesis, comma, backslash, is_in_words, is_name, skip_blanks, is_empty, trim_blanks}
+use Rattle.rv32_asm_syntax.specs.Lines.{Outside, has_non_ascii, statement_text, without_comment}
 use Rattle.rv32_asm_syntax.specs.Registers.{register_of}
 use Rattle.rv32_asm_syntax.specs.Numbers.{number_of, is_between}
 use Rattle.rv32_asm_syntax.specs.Expressions.{Expression, expression_of, number_alone}
 use Rattle.rv32_asm_syntax.specs.Statements.{Instruction, instruction, Whole, Upper, Lower, Statement, Instructions, Data, Bytes, Zeros, Aligned, Nothing}
-use Rattle.rv32_asm_syntax.specs.declared.keywords.Operand.{Operand}
-use Rattle.rv32_asm_syntax.specs.declared.keywords.Operand.TheVariants.{Rd, Rs1, Rs2, Value, Place}
-use Rattle.rv32_asm_syntax.specs.Keywords.{Keyword, InstructionWord, LoadImmediateWord, LoadAddressWord, DataWord, AsciiWord, AscizWord, SpaceWord, AlignWord, TextWord, GloblWord, keyword_of}
+use Rattle.rv32_asm_syntax.specs.Keywords.{Operand, Rd, Rs1, Rs2, Value, Memory, Keyword, InstructionKeyword, LoadImmediateKeyword, LoadAddressKeyword, DataKeyword, AsciiKeyword, AscizKeyword, SpaceKeyword, AlignKeyword, TextKeyword, GloblKeyword, keyword_of}
 
 -- one step after another, where each may find another form than its own
 infixl 10 ◌>>=◌
@@ -26,9 +23,9 @@ o >>= f = option_and_then f o
 -- operands are parted by commas
 unfoldable pub operands_of : List ℕ → List (List ℕ)
 operands_of [] = []
-operands_of (byte ∷ bytes) = map trimmed (slice_split (λ each. each == comma) (byte ∷ bytes))
+operands_of (byte ∷ bytes) = map trim_blanks (slice_split (λ each. each == comma) (byte ∷ bytes))
 
--- what stands before the parentheses of a place, where nothing is 0
+-- what stands before the parentheses of a memory operand, where nothing is 0
 abbrev pub offset_of : List ℕ → Option Expression
 offset_of [] = Some (number_alone (pos 0))
 offset_of (byte ∷ bytes) = expression_of (byte ∷ bytes)
@@ -36,12 +33,12 @@ offset_of (byte ∷ bytes) = expression_of (byte ∷ bytes)
 -- the register whose name the right parenthesis ends
 abbrev pub enclosed_register : List ℕ → Option ℕ
 enclosed_register text =
-    if ends_with nat_eq text (right_parenthesis ∷ []) then register_of (trimmed (take (length text - 1) text)) else None
+    if ends_with nat_eq text (right_parenthesis ∷ []) then register_of (trim_blanks (take (length text - 1) text)) else None
 
--- a place in memory: an offset, and a register in parentheses
-abbrev pub place_of : List ℕ → Option (Expression × ℕ)
-place_of text = do
-  offset ← offset_of (trimmed (before_first (λ byte. byte == left_parenthesis) text))
+-- a memory operand: an offset, and a register in parentheses
+abbrev pub memory_operand_of : List ℕ → Option (Expression × ℕ)
+memory_operand_of text = do
+  offset ← offset_of (trim_blanks (before_first (λ byte. byte == left_parenthesis) text))
   base ← enclosed_register (after_first (λ byte. byte == left_parenthesis) text)
   Some (offset, base)
 
@@ -51,8 +48,8 @@ with_operand Rd text i = option_map (λ number. record i { rd = number }) (regis
 with_operand Rs1 text i = option_map (λ number. record i { rs1 = number }) (register_of text)
 with_operand Rs2 text i = option_map (λ number. record i { rs2 = number }) (register_of text)
 with_operand Value text i = option_map (λ value. record i { immediate = Whole value }) (expression_of text)
-with_operand Place text i =
-    option_map (λ place. record i { immediate = Whole place.0; rs1 = place.1 }) (place_of text)
+with_operand Memory text i =
+    option_map (λ given. record i { immediate = Whole given.0; rs1 = given.1 }) (memory_operand_of text)
 
 -- an instruction with the fields that the texts of its operands give, of which there are as many as it takes
 abbrev pub with_operands : List Operand → List (List ℕ) → Instruction → Option Instruction
@@ -111,8 +108,8 @@ pair rd value =
     ∷ []
 
 -- a number put into a register, by one instruction where ADDI can
-abbrev pub loaded : ℕ → ℤ → List Instruction
-loaded rd number =
+abbrev pub number_load : ℕ → ℤ → List Instruction
+number_load rd number =
     if is_between (neg_ℤ (pos 2048)) (pos 2047) number then instruction Addi rd 0 0 number ∷ []
     else pair rd (number_alone number)
 
@@ -120,7 +117,7 @@ abbrev pub li_of : List (List ℕ) → Option Statement
 li_of (register ∷ number ∷ []) = do
   rd ← register_of register
   n ← number_of number
-  Some (Instructions (loaded rd n))
+  Some (Instructions (number_load rd n))
 li_of _ = None
 
 abbrev pub la_of : List (List ℕ) → Option Statement
@@ -140,17 +137,17 @@ globl_of text = if is_name text then Some Nothing else None
 
 -- the statement of a word with the text behind it, where that has its form
 unfoldable pub statement_with : Keyword → List ℕ → Option Statement
-statement_with (InstructionWord operands i) text =
+statement_with (InstructionKeyword operands i) text =
     option_map (λ each. Instructions (each ∷ [])) (with_operands operands (operands_of text) i)
-statement_with LoadImmediateWord text = li_of (operands_of text)
-statement_with LoadAddressWord text = la_of (operands_of text)
-statement_with (DataWord width) text = data_of width (operands_of text)
-statement_with AsciiWord text = option_map Bytes (string_of text)
-statement_with AscizWord text = option_map (λ bytes. Bytes (bytes ++ 0 ∷ [])) (string_of text)
-statement_with SpaceWord text = option_map Zeros (number_of text)
-statement_with AlignWord text = option_map Aligned (number_of text)
-statement_with TextWord text = if is_empty text then Some Nothing else None
-statement_with GloblWord text = globl_of text
+statement_with LoadImmediateKeyword text = li_of (operands_of text)
+statement_with LoadAddressKeyword text = la_of (operands_of text)
+statement_with (DataKeyword width) text = data_of width (operands_of text)
+statement_with AsciiKeyword text = option_map Bytes (string_of text)
+statement_with AscizKeyword text = option_map (λ bytes. Bytes (bytes ++ 0 ∷ [])) (string_of text)
+statement_with SpaceKeyword text = option_map Zeros (number_of text)
+statement_with AlignKeyword text = option_map Aligned (number_of text)
+statement_with TextKeyword text = if is_empty text then Some Nothing else None
+statement_with GloblKeyword text = globl_of text
 
 -- the statement of a word, if it is one, with the text behind it
 abbrev pub statement_from : Option Keyword → List ℕ → Result Statement AsmFault

@@ -1,24 +1,24 @@
 -- The code's tables of words: what their rows say.
-use Rattle.std.specs.Prelude.{ℕ, pos, neg_ℤ, ◌^◌, List, Bool, ◌&&◌, Option, find, int_le, nat_lt, option_map}
+use Rattle.std.specs.Prelude.{ℕ, pos, neg_ℤ, ◌^◌, List, Bool, ◌&&◌, Option, find, int_le, map, nat_lt, option_map}
 use Rattle.std.specs.Borrow.{Bor}
 use Rattle.std.specs.Str.{bytes_eq}
 use Rattle.rv32_decode.specs.declared.Op.{Op}
 use Rattle.rv32_text.specs.Mnemonics.{mnemonic_of}
 use Rattle.rv32_asm_syntax.specs.declared.keywords.Keyword as code
 use Rattle.rv32_asm_syntax.specs.declared.keywords.Pseudoinstruction.{Pseudoinstruction}
-use Rattle.rv32_asm_syntax.specs.Keywords.{Keyword, InstructionWord, row_keyword}
-use Rattle.rv32_asm_syntax.specs.Seen.{keyword}
+use Rattle.rv32_asm_syntax.specs.Keywords.{Keyword, InstructionKeyword, row_keyword}
+use Rattle.rv32_asm_syntax.specs.Seen.{seen_keyword, seen_operand}
 use Rattle.rv32_asm_syntax.specs.Statements.{instruction}
 
 -- what a word stands for in a list of words
-abbrev pub named : List (List ℕ × Keyword) → List ℕ → Option Keyword
-named entries word = option_map (λ entry. entry.1) (find (λ entry. bytes_eq entry.0 word) entries)
+abbrev pub keyword_in : List (List ℕ × Keyword) → List ℕ → Option Keyword
+keyword_in entries word = option_map (λ entry. entry.1) (find (λ entry. bytes_eq entry.0 word) entries)
 
 abbrev pub row_entry : Op → List ℕ × Keyword
 row_entry op = ((mnemonic_of op), row_keyword op)
 
 abbrev pub pseudoinstruction_entry : Pseudoinstruction → List ℕ × Keyword
-pseudoinstruction_entry p = (p.name.now, InstructionWord p.operands.now (instruction p.op p.rd p.rs1 0 p.number))
+pseudoinstruction_entry p = (p.name.now, InstructionKeyword (map seen_operand p.operands.now) (instruction p.op p.rd p.rs1 0 p.number))
 
 -- its registers are registers, and its number is small
 abbrev pub has_registers : Pseudoinstruction → Bool
@@ -27,4 +27,4 @@ has_registers p =
     && (nat_lt p.rs1 32 && (int_le (neg_ℤ (pos (2 ^ 32))) p.number && int_le p.number (pos (2 ^ 32))))
 
 abbrev pub entry : Bor (List ℕ) × code.Keyword → List ℕ × Keyword
-entry row = (row.0.now, keyword row.1)
+entry row = (row.0.now, seen_keyword row.1)

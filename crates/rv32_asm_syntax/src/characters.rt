@@ -100,9 +100,9 @@ pub fn drop_end_blanks(text: &[u8]) -> &[u8]
 }
 
 /// The text without the blanks at its ends.
-#[tactic(auto, unfolding(crate::specs::Characters::trimmed))]
-pub fn trimmed(text: &[u8]) -> &[u8]
-    ensures { result.now ≡ spec.trimmed text.now }
+#[tactic(auto, unfolding(crate::specs::Characters::trim_blanks))]
+pub fn trim_blanks(text: &[u8]) -> &[u8]
+    ensures { result.now ≡ spec.trim_blanks text.now }
 {
     drop_end_blanks(skip_blanks(text))
 }

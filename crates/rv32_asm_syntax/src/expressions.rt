@@ -1,7 +1,7 @@
 //! Expressions: a number, a label, or a label plus or minus a number.
 
 ghost use Rattle.rv32_asm_syntax.specs.Expressions as spec;
-ghost use Rattle.rv32_asm_syntax.specs.Seen.{expression};
+ghost use Rattle.rv32_asm_syntax.specs.Seen.{seen_expression};
 ghost use Rattle.std.specs.Prelude.{option_map, ◌≡◌};
 
 use crate::characters::{begins_as_name, name_len, skip_blanks};
@@ -10,7 +10,7 @@ use crate::statements::Expression;
 
 // A label and what stands behind it, without the blanks between.
 fn with_sum<'a>(name: &'a [u8], rest: &[u8]) -> Option<Expression<'a>>
-    ensures { option_map expression result ≡ spec.with_sum name.now rest.now }
+    ensures { option_map seen_expression result ≡ spec.with_sum name.now rest.now }
 {
     match rest {
         [] => Some(Expression::from_label(name, 0)),
@@ -29,7 +29,7 @@ fn with_sum<'a>(name: &'a [u8], rest: &[u8]) -> Option<Expression<'a>>
 /// The expression that a text without blanks at its ends is.
 #[tactic(auto, using(crate::proofs::Words::front_taken), unfolding(crate::specs::Expressions::expression_of))]
 pub fn expression_of(text: &[u8]) -> Option<Expression<'_>>
-    ensures { option_map expression result ≡ spec.expression_of text.now }
+    ensures { option_map seen_expression result ≡ spec.expression_of text.now }
 {
     if begins_as_name(text) {
         let len = name_len(text);

@@ -1,8 +1,8 @@
 //! The words that a statement begins with, and which operands stand behind them.
 
 ghost use Rattle.rv32_asm_syntax.specs.Keywords as spec;
-ghost use Rattle.rv32_asm_syntax.specs.Seen.{keyword};
-ghost use Rattle.rv32_asm_syntax.specs.Tables.{entry, has_registers, named, pseudoinstruction_entry};
+ghost use Rattle.rv32_asm_syntax.specs.Seen.{seen_keyword, seen_operand};
+ghost use Rattle.rv32_asm_syntax.specs.Tables.{entry, has_registers, keyword_in, pseudoinstruction_entry};
 ghost use Rattle.std.specs.List.{list_all};
 ghost use Rattle.std.specs.Prelude.{map, option_map, true, ◌≡◌};
 
@@ -11,15 +11,15 @@ use rv32_decode::{Op, rows};
 use rv32_text::{Style, mnemonic_of, style_of};
 use sec_base::Width;
 
-/// What an operand is: a register for a field of the instruction, an expression for its immediate, or a place in
-/// memory for its immediate and its first register, as `4(sp)`.
+/// What an operand is: a register for a field of the instruction, an expression for its immediate, or a memory
+/// operand, as `4(sp)`, for its immediate and its first register.
 #[derive(Clone, Copy)]
 pub enum Operand {
     Rd,
     Rs1,
     Rs2,
     Value,
-    Place,
+    Memory,
 }
 
 /// What a word at the front of a statement stands for.
@@ -43,13 +43,13 @@ pub enum Keyword {
 
 // The operands of the table's rows.
 fn operands_in(style: Style) -> &'static [Operand]
-    ensures { result.now ≡ spec.operands_in style }
+    ensures { map seen_operand result.now ≡ spec.operands_in style }
 {
     match style {
         Style::Registers => &[Operand::Rd, Operand::Rs1, Operand::Rs2],
         Style::Immediate => &[Operand::Rd, Operand::Rs1, Operand::Value],
-        Style::Offset => &[Operand::Rd, Operand::Place],
-        Style::Store => &[Operand::Rs2, Operand::Place],
+        Style::Offset => &[Operand::Rd, Operand::Memory],
+        Style::Store => &[Operand::Rs2, Operand::Memory],
         Style::Upper | Style::Jump => &[Operand::Rd, Operand::Value],
         Style::Branch => &[Operand::Rs1, Operand::Rs2, Operand::Value],
         Style::Fence | Style::Bare => &[],
@@ -58,7 +58,7 @@ fn operands_in(style: Style) -> &'static [Operand]
 
 // The operands and the fields of a row of the instruction table.
 fn row_keyword(op: Op) -> Keyword
-    ensures { keyword result ≡ spec.row_keyword op }
+    ensures { seen_keyword result ≡ spec.row_keyword op }
 {
     let immediate = match op {
         Op::Fence => 0x0ff,
@@ -143,8 +143,8 @@ fn directives() -> [(&'static str, Keyword); 9]
 }
 
 #[tactic(auto, using(crate::proofs::Tables::rows_named))]
-fn row_word(word: &[u8]) -> Option<Keyword>
-    ensures { option_map keyword result ≡ named spec.row_words word.now }
+fn row_named(word: &[u8]) -> Option<Keyword>
+    ensures { option_map seen_keyword result ≡ keyword_in spec.row_entries word.now }
 {
     for row in rows() {
         if mnemonic_of(row.op).as_bytes() == word {
@@ -154,8 +154,8 @@ fn row_word(word: &[u8]) -> Option<Keyword>
     None
 }
 
-fn pseudoinstruction_word(word: &[u8]) -> Option<Keyword>
-    ensures { option_map keyword result ≡ named spec.pseudoinstructions word.now }
+fn pseudoinstruction_named(word: &[u8]) -> Option<Keyword>
+    ensures { option_map seen_keyword result ≡ keyword_in spec.pseudoinstructions word.now }
 {
     for pseudo in pseudoinstructions() {
         if pseudo.name.as_bytes() == word {
@@ -178,7 +178,7 @@ fn pseudoinstruction_word(word: &[u8]) -> Option<Keyword>
 
 // What a word stands for in a table.
 fn keyword_in(table: &[(&'static str, Keyword)], word: &[u8]) -> Option<Keyword>
-    ensures { option_map keyword result ≡ named (map entry table.now) word.now }
+    ensures { option_map seen_keyword result ≡ keyword_in (map entry table.now) word.now }
 {
     for &(name, keyword) in table {
         if name.as_bytes() == word {
@@ -191,12 +191,12 @@ fn keyword_in(table: &[(&'static str, Keyword)], word: &[u8]) -> Option<Keyword>
 /// What a word stands for.
 #[tactic(auto, using(crate::proofs::Tables::found_first, crate::proofs::Tables::found_later), unfolding(crate::specs::Keywords::keyword_of, crate::specs::Keywords::keywords))]
 pub fn keyword_of(word: &[u8]) -> Option<Keyword>
-    ensures { option_map keyword result ≡ spec.keyword_of word.now }
+    ensures { option_map seen_keyword result ≡ spec.keyword_of word.now }
 {
-    if let Some(keyword) = row_word(word) {
+    if let Some(keyword) = row_named(word) {
         return Some(keyword);
     }
-    if let Some(keyword) = pseudoinstruction_word(word) {
+    if let Some(keyword) = pseudoinstruction_named(word) {
         return Some(keyword);
     }
     if let Some(keyword) = keyword_in(&long_pseudoinstructions(), word) {

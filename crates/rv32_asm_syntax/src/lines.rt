@@ -4,49 +4,49 @@ ghost use Rattle.rv32_asm_syntax.specs.Lines as spec;
 ghost use Rattle.rv32_asm_syntax.specs.Parts as parts;
 ghost use Rattle.rv32_asm_syntax.specs.Characters as characters;
 ghost use Rattle.rv32_asm_syntax.specs.Characters.{colon};
-ghost use Rattle.rv32_asm_syntax.specs.Parts.{IsFirstLabel, IsFirstLine, lines_left};
-ghost use Rattle.rv32_asm_syntax.specs.declared.lines.Standing.TheVariants.{Outside};
+ghost use Rattle.rv32_asm_syntax.specs.Parts.{IsFirstLabel, IsLineCut, lines_left};
+ghost use Rattle.rv32_asm_syntax.specs.Seen.{seen_quoting};
 ghost use Rattle.std.specs.Prelude.{IfSome, length, true, ◌∷◌, ◌++◌, ◌<◌, ◌≡◌};
 
 #[cfg(test)]
 mod tests;
 
-use crate::characters::{is_name, len_before, skip_blanks, trimmed};
+use crate::characters::{is_name, len_before, skip_blanks, trim_blanks};
 
 /// Where a byte of a line stands: outside the strings, in one, or behind a backslash in one.
 #[derive(Clone, Copy)]
-pub enum Standing {
+pub enum Quoting {
     Outside,
     Inside,
     Escaped,
 }
 
-impl Standing {
+impl Quoting {
     // Where the byte after this one stands.
     fn after(self, byte: u8) -> Self
-        ensures { result ≡ spec.standing_after self byte }
+        ensures { seen_quoting result ≡ spec.quoting_after (seen_quoting self) byte }
     {
         match self {
-            Standing::Outside => {
+            Quoting::Outside => {
                 if byte == b'"' {
-                    Standing::Inside
+                    Quoting::Inside
                 } else {
-                    Standing::Outside
+                    Quoting::Outside
                 }
             }
-            Standing::Inside => match byte {
-                b'"' => Standing::Outside,
-                b'\\' => Standing::Escaped,
-                _ => Standing::Inside,
+            Quoting::Inside => match byte {
+                b'"' => Quoting::Outside,
+                b'\\' => Quoting::Escaped,
+                _ => Quoting::Inside,
             },
-            Standing::Escaped => Standing::Inside,
+            Quoting::Escaped => Quoting::Inside,
         }
     }
 
     fn is_outside(self) -> bool
-        ensures { result ≡ spec.is_outside self }
+        ensures { result ≡ spec.is_outside (seen_quoting self) }
     {
-        matches!(self, Standing::Outside)
+        matches!(self, Quoting::Outside)
     }
 }
 
@@ -55,14 +55,14 @@ impl Standing {
 pub fn without_comment(line: &[u8]) -> &[u8]
     ensures { result.now ≡ spec.without_comment line.now }
 {
-    let mut standing = Standing::Outside;
+    let mut quoting = Quoting::Outside;
     let mut end = 0;
     while end < line.len() {
         let byte = line[end];
-        if standing.is_outside() && byte == b'#' {
+        if quoting.is_outside() && byte == b'#' {
             break;
         }
-        standing = standing.after(byte);
+        quoting = quoting.after(byte);
         end += 1;
     }
     &line[..end]
@@ -70,14 +70,14 @@ pub fn without_comment(line: &[u8]) -> &[u8]
 
 /// Whether a byte above 7f stands outside the strings.
 pub fn has_non_ascii(line: &[u8]) -> bool
-    ensures { result ≡ spec.has_non_ascii Outside line.now }
+    ensures { result ≡ spec.has_non_ascii spec.Outside line.now }
 {
-    let mut standing = Standing::Outside;
+    let mut quoting = Quoting::Outside;
     for byte in line {
-        if standing.is_outside() && *byte > 0x7f {
+        if quoting.is_outside() && *byte > 0x7f {
             return true;
         }
-        standing = standing.after(*byte);
+        quoting = quoting.after(*byte);
     }
     false
 }
@@ -93,7 +93,7 @@ fn without_return(line: &[u8]) -> &[u8]
 /// behind that line feed, where there is one.
 #[tactic(auto, using(crate::proofs::Cuts::first_cut, crate::proofs::Cuts::last_line, crate::proofs::Cuts::no_feed))]
 pub fn first_line(text: &[u8]) -> (&[u8], Option<&[u8]>)
-    ensures cut { IsFirstLine text.now result.0.now result.1 }
+    ensures cut { IsLineCut text.now result.0.now result.1 }
     ensures lines { spec.lines_of text.now ≡ result.0.now ∷ lines_left result.1 }
     ensures shorter { IfSome result.1 (λ rest. length rest.now < length text.now) }
 {
@@ -109,7 +109,7 @@ pub fn first_line(text: &[u8]) -> (&[u8], Option<&[u8]>)
 /// colon.
 pub fn first_label(text: &[u8]) -> Option<(&[u8], &[u8])>
     ensures cut { IfSome result (λ label. characters.skip_blanks text.now ≡ label.0.now ++ colon ∷ label.1.now) }
-    ensures named { IfSome result (λ label. characters.is_name label.0.now ≡ true) }
+    ensures keyword_in { IfSome result (λ label. characters.is_name label.0.now ≡ true) }
     ensures labels { IsFirstLabel text.now result }
 {
     let len = len_before(b':', text);
@@ -133,5 +133,5 @@ pub fn statement_text(line: &[u8]) -> &[u8]
     while let Some((_, rest)) = first_label(left) {
         left = rest;
     }
-    trimmed(left)
+    trim_blanks(left)
 }

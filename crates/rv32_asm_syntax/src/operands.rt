@@ -1,11 +1,11 @@
 //! Operands: the texts between commas, and what they give an instruction.
 
-ghost use Rattle.rv32_asm_syntax.specs.Parts.{operand_texts, operands_left, two};
+ghost use Rattle.rv32_asm_syntax.specs.Parts.{comma_parts, operands_left, two};
 ghost use Rattle.rv32_asm_syntax.specs.Reading as spec;
-ghost use Rattle.rv32_asm_syntax.specs.Seen as seen;
-ghost use Rattle.std.specs.Prelude.{IfOk, IfSome, option_map, ◌∷◌, ◌<◌, ◌≡◌};
+ghost use Rattle.rv32_asm_syntax.specs.Seen.{seen_expression, seen_expressions, seen_instruction, seen_memory_operand, seen_operand};
+ghost use Rattle.std.specs.Prelude.{IfOk, IfSome, map, option_map, ◌∷◌, ◌<◌, ◌≡◌};
 
-use crate::characters::{len_before, trimmed};
+use crate::characters::{len_before, trim_blanks};
 use crate::expressions::expression_of;
 use crate::keywords::Operand;
 use crate::registers::register_of;
@@ -16,13 +16,13 @@ use std::alloc::Global;
 /// The first operand of a text, and what is left of it behind the comma that ends the operand.
 #[tactic(auto, using(std::proofs::lemmas::List::take_rest, crate::proofs::Commas::cut, crate::proofs::Commas::last))]
 pub fn first_operand(text: &[u8]) -> (&[u8], Option<&[u8]>)
-    ensures { operand_texts text.now ≡ result.0.now ∷ operands_left result.1 }
+    ensures { comma_parts text.now ≡ result.0.now ∷ operands_left result.1 }
 {
     let len = len_before(b',', text);
     if len < text.len() {
-        (trimmed(&text[..len]), Some(&text[len + 1..]))
+        (trim_blanks(&text[..len]), Some(&text[len + 1..]))
     } else {
-        (trimmed(text), None)
+        (trim_blanks(text), None)
     }
 }
 
@@ -47,9 +47,9 @@ pub fn two_operands(text: &[u8]) -> Option<(&[u8], &[u8])>
     }
 }
 
-// What stands before the parentheses of a place, where nothing is 0.
+// What stands before the parentheses of a memory operand, where nothing is 0.
 fn offset_of(text: &[u8]) -> Option<Expression<'_>>
-    ensures { option_map seen.expression result ≡ spec.offset_of text.now }
+    ensures { option_map seen_expression result ≡ spec.offset_of text.now }
 {
     if text.is_empty() {
         return Some(Expression::number_alone(0));
@@ -62,19 +62,19 @@ fn enclosed_register(text: &[u8]) -> Option<u8>
     ensures value { result ≡ spec.enclosed_register text.now }
     ensures register { IfSome result (λ number. number < 32) }
 {
-    register_of(trimmed(text.strip_suffix(b")")?))
+    register_of(trim_blanks(text.strip_suffix(b")")?))
 }
 
-/// A place in memory: an offset, and a register in parentheses.
-pub fn place_of(text: &[u8]) -> Option<(Expression<'_>, u8)>
-    ensures value { option_map seen.place result ≡ spec.place_of text.now }
-    ensures register { IfSome result (λ place. place.1 < 32) }
+/// A memory operand: an offset, and a register in parentheses.
+pub fn memory_operand_of(text: &[u8]) -> Option<(Expression<'_>, u8)>
+    ensures value { option_map seen_memory_operand result ≡ spec.memory_operand_of text.now }
+    ensures register { IfSome result (λ given. given.1 < 32) }
 {
     let len = len_before(b'(', text);
     if len == text.len() {
         return None;
     }
-    let offset = offset_of(trimmed(&text[..len]))?;
+    let offset = offset_of(trim_blanks(&text[..len]))?;
     let base = enclosed_register(&text[len + 1..])?;
     Some((offset, base))
 }
@@ -85,7 +85,7 @@ fn with_operand<'a>(
     text: &'a [u8],
     instruction: Instruction<'a>,
 ) -> Option<Instruction<'a>>
-    ensures { option_map seen.instruction result ≡ spec.with_operand operand text.now (seen.instruction instruction.entry) }
+    ensures { option_map seen_instruction result ≡ spec.with_operand (seen_operand operand) text.now (seen_instruction instruction.entry) }
 {
     let mut given = instruction;
     match operand {
@@ -93,8 +93,8 @@ fn with_operand<'a>(
         Operand::Rs1 => given.rs1 = register_of(text)?,
         Operand::Rs2 => given.rs2 = register_of(text)?,
         Operand::Value => given.immediate = Immediate::Whole(expression_of(text)?),
-        Operand::Place => {
-            let (offset, base) = place_of(text)?;
+        Operand::Memory => {
+            let (offset, base) = memory_operand_of(text)?;
             given.immediate = Immediate::Whole(offset);
             given.rs1 = base;
         }
@@ -109,8 +109,8 @@ pub fn with_operands<'a>(
     texts: Option<&'a [u8]>,
     instruction: Instruction<'a>,
 ) -> Option<Instruction<'a>>
-    ensures { option_map seen.instruction result
-        ≡ spec.with_operands operands.now (operands_left texts.entry) (seen.instruction instruction.entry) }
+    ensures { option_map seen_instruction result
+        ≡ spec.with_operands (map seen_operand operands.now) (operands_left texts.entry) (seen_instruction instruction.entry) }
 {
     let mut left = texts;
     let mut given = instruction;
@@ -130,7 +130,7 @@ pub fn expressions_of<'a>(
     alloc: Global,
     operands: Option<&'a [u8]>,
 ) -> Result<Option<Vec<Expression<'a>>>, NoMemory>
-    ensures { IfOk result (λ values. option_map (λ each. seen.expressions each.items) values
+    ensures { IfOk result (λ values. option_map (λ each. seen_expressions each.items) values
         ≡ spec.expressions_of (operands_left operands.entry)) }
 {
     let mut values = Vec::new(alloc);

@@ -1,16 +1,15 @@
 //! The statement of a line: its word, and the operands behind it.
 
-ghost use Rattle.rv32_asm_syntax.specs.Keywords.{AlignWord, AsciiWord, AscizWord, InstructionWord, SpaceWord};
+ghost use Rattle.rv32_asm_syntax.specs.Keywords.{AlignKeyword, AsciiKeyword, AscizKeyword, InstructionKeyword, SpaceKeyword};
 ghost use Rattle.rv32_asm_syntax.specs.Lines as lines;
 ghost use Rattle.rv32_asm_syntax.specs.Parts.{front_keyword, takes_memory};
 ghost use Rattle.rv32_asm_syntax.specs.Reading as spec;
-ghost use Rattle.rv32_asm_syntax.specs.Seen as seen;
-ghost use Rattle.rv32_asm_syntax.specs.Seen.{statement};
+ghost use Rattle.rv32_asm_syntax.specs.Seen.{seen_expression, seen_instruction, seen_instructions, seen_keyword, seen_operand, seen_statement};
 ghost use Rattle.rv32_asm_syntax.specs.Statements.{Nothing};
 ghost use Rattle.rv32_asm_syntax.specs.declared.fault.AsmFault.{AsmFault};
 ghost use Rattle.rv32_asm_syntax.specs.declared.fault.LineError.TheVariants as cause;
 ghost use Rattle.rv32_asm_syntax.specs.declared.fault.LineError.TheVariants.{Fault};
-ghost use Rattle.std.specs.Prelude.{IfOk, OnErr, true, Ok, Err, Some, None, [], ◌∷◌, neg_ℤ, option_map, pos, if◌then◌else◌, ◌<◌, ◌^◌, ◌≡◌, ◌≤ℤ◌};
+ghost use Rattle.std.specs.Prelude.{IfOk, OnErr, true, Ok, Err, Some, None, [], ◌∷◌, map, neg_ℤ, option_map, pos, if◌then◌else◌, ◌<◌, ◌^◌, ◌≡◌, ◌≤ℤ◌};
 
 #[cfg(test)]
 mod tests;
@@ -45,8 +44,8 @@ fn one_instruction<'a>(
     instruction: Instruction<'a>,
     text: &'a [u8],
 ) -> Option<Statement<'a>>
-    ensures { option_map statement result
-        ≡ spec.statement_with (InstructionWord operands.now (seen.instruction instruction.entry)) text.now }
+    ensures { option_map seen_statement result
+        ≡ spec.statement_with (InstructionKeyword (map seen_operand operands.now) (seen_instruction instruction.entry)) text.now }
 {
     let given = with_operands(operands, operands_of(text), instruction)?;
     Some(Statement::Instructions(alone(given)))
@@ -55,7 +54,7 @@ fn one_instruction<'a>(
 // The value put into a register by its upper and its lower part.
 fn pair<'a>(rd: u8, value: Expression<'a>) -> ArrayVec<Instruction<'a>, 2>
     requires { rd < 32 }
-    ensures { seen.instructions result.items ≡ spec.pair rd (seen.expression value.entry) }
+    ensures { seen_instructions result.items ≡ spec.pair rd (seen_expression value.entry) }
 {
     let upper = Instruction {
         op: Op::Lui,
@@ -75,11 +74,11 @@ fn pair<'a>(rd: u8, value: Expression<'a>) -> ArrayVec<Instruction<'a>, 2>
 }
 
 // A number put into a register, by one instruction where ADDI can.
-fn loaded(rd: u8, number: i64) -> ArrayVec<Instruction<'static>, 2>
+fn number_load(rd: u8, number: i64) -> ArrayVec<Instruction<'static>, 2>
     requires register { rd < 32 }
     requires least { neg_ℤ (pos (2 ^ 32)) ≤ℤ number }
     requires most { number ≤ℤ pos (2 ^ 32) }
-    ensures { seen.instructions result.items ≡ spec.loaded rd number }
+    ensures { seen_instructions result.items ≡ spec.number_load rd number }
 {
     if (-2048..=2047).contains(&number) {
         return alone(Instruction::with_number(Op::Addi, rd, 0, 0, number));
@@ -90,18 +89,18 @@ fn loaded(rd: u8, number: i64) -> ArrayVec<Instruction<'static>, 2>
 // A register and a number.
 #[tactic(auto, using(crate::proofs::Commas::li_other))]
 fn li_of(text: &[u8]) -> Option<Statement<'_>>
-    ensures { option_map statement result ≡ spec.li_of (spec.operands_of text.now) }
+    ensures { option_map seen_statement result ≡ spec.li_of (spec.operands_of text.now) }
 {
     let (register, number) = two_operands(text)?;
     let rd = register_of(register)?;
     let number = number_of(number)?;
-    Some(Statement::Instructions(loaded(rd, number)))
+    Some(Statement::Instructions(number_load(rd, number)))
 }
 
 // A register and an expression.
 #[tactic(auto, using(crate::proofs::Commas::la_other))]
 fn la_of(text: &[u8]) -> Option<Statement<'_>>
-    ensures { option_map statement result ≡ spec.la_of (spec.operands_of text.now) }
+    ensures { option_map seen_statement result ≡ spec.la_of (spec.operands_of text.now) }
 {
     let (register, value) = two_operands(text)?;
     let rd = register_of(register)?;
@@ -116,7 +115,7 @@ fn data_of<'a>(
     width: Width,
     text: &'a [u8],
 ) -> Result<Option<Statement<'a>>, NoMemory>
-    ensures { IfOk result (λ s. option_map statement s ≡ spec.data_of width (spec.operands_of text.now)) }
+    ensures { IfOk result (λ s. option_map seen_statement s ≡ spec.data_of width (spec.operands_of text.now)) }
 {
     if text.is_empty() {
         return Ok(None);
@@ -130,7 +129,7 @@ fn data_of<'a>(
 // A string.
 #[tactic(auto, unfolding(crate::specs::Reading::statement_with))]
 fn ascii_of<'a>(alloc: Global, text: &'a [u8]) -> Result<Option<Statement<'a>>, NoMemory>
-    ensures { IfOk result (λ s. option_map statement s ≡ spec.statement_with AsciiWord text.now) }
+    ensures { IfOk result (λ s. option_map seen_statement s ≡ spec.statement_with AsciiKeyword text.now) }
 {
     match string_of(alloc, text)? {
         Some(bytes) => Ok(Some(Statement::Bytes(bytes))),
@@ -141,7 +140,7 @@ fn ascii_of<'a>(alloc: Global, text: &'a [u8]) -> Result<Option<Statement<'a>>, 
 // A string and a zero byte.
 #[tactic(auto, unfolding(crate::specs::Reading::statement_with))]
 fn asciz_of<'a>(alloc: Global, text: &'a [u8]) -> Result<Option<Statement<'a>>, NoMemory>
-    ensures { IfOk result (λ s. option_map statement s ≡ spec.statement_with AscizWord text.now) }
+    ensures { IfOk result (λ s. option_map seen_statement s ≡ spec.statement_with AscizKeyword text.now) }
 {
     let Some(mut bytes) = string_of(alloc, text)? else {
         return Ok(None);
@@ -152,21 +151,21 @@ fn asciz_of<'a>(alloc: Global, text: &'a [u8]) -> Result<Option<Statement<'a>>, 
 
 #[tactic(auto, unfolding(crate::specs::Reading::statement_with))]
 fn zeros_of<'a>(text: &[u8]) -> Option<Statement<'a>>
-    ensures { option_map statement result ≡ spec.statement_with SpaceWord text.now }
+    ensures { option_map seen_statement result ≡ spec.statement_with SpaceKeyword text.now }
 {
     Some(Statement::Zeros(number_of(text)?))
 }
 
 #[tactic(auto, unfolding(crate::specs::Reading::statement_with))]
 fn aligned_of<'a>(text: &[u8]) -> Option<Statement<'a>>
-    ensures { option_map statement result ≡ spec.statement_with AlignWord text.now }
+    ensures { option_map seen_statement result ≡ spec.statement_with AlignKeyword text.now }
 {
     Some(Statement::Aligned(number_of(text)?))
 }
 
 // No bytes, where the text behind the word has its form.
 fn nothing_where<'a>(formed: bool) -> Option<Statement<'a>>
-    ensures { option_map statement result ≡ (if formed then Some Nothing else None) }
+    ensures { option_map seen_statement result ≡ (if formed then Some Nothing else None) }
 {
     if formed {
         Some(Statement::Nothing)
@@ -182,8 +181,8 @@ fn statement_with<'a>(
     keyword: Keyword,
     text: &'a [u8],
 ) -> Result<Option<Statement<'a>>, NoMemory>
-    ensures read { IfOk result (λ s. option_map statement s ≡ spec.statement_with (seen.keyword keyword) text.now) }
-    ensures memory { OnErr result (takes_memory (Some (seen.keyword keyword)) ≡ true) }
+    ensures read { IfOk result (λ s. option_map seen_statement s ≡ spec.statement_with (seen_keyword keyword) text.now) }
+    ensures memory { OnErr result (takes_memory (Some (seen_keyword keyword)) ≡ true) }
 {
     match keyword {
         Keyword::Instruction(operands, instruction) => {
@@ -203,7 +202,7 @@ fn statement_with<'a>(
 
 // The statement that a text is, which begins with its word.
 fn statement_in<'a>(alloc: Global, text: &'a [u8]) -> Result<Statement<'a>, LineError>
-    ensures read { IfOk result (λ s. spec.statement_in text.now ≡ Ok (statement s)) }
+    ensures read { IfOk result (λ s. spec.statement_in text.now ≡ Ok (seen_statement s)) }
     ensures refused { (fault : AsmFault) → result ≡ Err (Fault fault) → spec.statement_in text.now ≡ Err fault }
     ensures memory { result ≡ Err cause.NoMemory → takes_memory (front_keyword text.now) ≡ true }
 {
@@ -224,7 +223,7 @@ fn statement_in<'a>(alloc: Global, text: &'a [u8]) -> Result<Statement<'a>, Line
 /// values or of a string, and at no other.
 #[tactic(auto, unfolding(crate::specs::Reading::statement_of))]
 pub fn statement_of<'a>(alloc: Global, line: &'a [u8]) -> Result<Statement<'a>, LineError>
-    ensures read { IfOk result (λ s. spec.statement_of line.now ≡ Ok (statement s)) }
+    ensures read { IfOk result (λ s. spec.statement_of line.now ≡ Ok (seen_statement s)) }
     ensures refused { (fault : AsmFault) → result ≡ Err (Fault fault) → spec.statement_of line.now ≡ Err fault }
     ensures memory { result ≡ Err cause.NoMemory → takes_memory (front_keyword (lines.statement_text line.now)) ≡ true }
 {

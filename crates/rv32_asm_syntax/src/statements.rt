@@ -19,7 +19,7 @@ pub struct Expression<'a> {
 }
 
 impl<'a> Expression<'a> {
-    ghost use Rattle.rv32_asm_syntax.specs.Seen.{expression};
+    ghost use Rattle.rv32_asm_syntax.specs.Seen.{seen_expression};
     ghost use Rattle.rv32_asm_syntax.specs.Expressions as spec;
     ghost use Rattle.std.specs.Prelude.{◌≡◌};
 
@@ -27,7 +27,7 @@ impl<'a> Expression<'a> {
     pub fn number_alone(number: i64) -> Self
         requires least { neg_ℤ (pos (2 ^ 32)) ≤ℤ number }
         requires most { number ≤ℤ pos (2 ^ 32) }
-        ensures { expression result ≡ spec.number_alone number }
+        ensures { seen_expression result ≡ spec.number_alone number }
     {
         Expression {
             label: None,
@@ -39,7 +39,7 @@ impl<'a> Expression<'a> {
     pub fn from_label(name: &'a [u8], number: i64) -> Self
         requires least { neg_ℤ (pos (2 ^ 32)) ≤ℤ number }
         requires most { number ≤ℤ pos (2 ^ 32) }
-        ensures { expression result ≡ spec.from_label name.now number }
+        ensures { seen_expression result ≡ spec.from_label name.now number }
     {
         Expression {
             label: Some(name),
@@ -72,7 +72,7 @@ pub struct Instruction<'a> {
 }
 
 impl<'a> Instruction<'a> {
-    ghost use Rattle.rv32_asm_syntax.specs.Seen.{instruction};
+    ghost use Rattle.rv32_asm_syntax.specs.Seen.{seen_instruction};
     ghost use Rattle.rv32_asm_syntax.specs.Statements as meant;
     ghost use Rattle.std.specs.Prelude.{◌≡◌};
 
@@ -83,7 +83,7 @@ impl<'a> Instruction<'a> {
         requires rs2 { rs2 < 32 }
         requires least { neg_ℤ (pos (2 ^ 32)) ≤ℤ number }
         requires most { number ≤ℤ pos (2 ^ 32) }
-        ensures { instruction result ≡ meant.instruction op rd rs1 rs2 number }
+        ensures { seen_instruction result ≡ meant.instruction op rd rs1 rs2 number }
     {
         let immediate = Immediate::Whole(Expression::number_alone(number));
         Instruction {
@@ -97,12 +97,12 @@ impl<'a> Instruction<'a> {
 }
 
 impl<'a> Default for Instruction<'a> {
-    ghost use Rattle.rv32_asm_syntax.specs.Seen.{instruction};
+    ghost use Rattle.rv32_asm_syntax.specs.Seen.{seen_instruction};
     ghost use Rattle.rv32_asm_syntax.specs.Statements as meant;
     ghost use Rattle.rv32_decode.specs.declared.Op.TheVariants.{Addi};
     ghost use Rattle.std.specs.Prelude.{pos, ◌≡◌};
 
-    ghost is_default = { λ each. instruction each ≡ meant.instruction Addi 0 0 0 (pos 0) };
+    ghost is_default = { λ each. seen_instruction each ≡ meant.instruction Addi 0 0 0 (pos 0) };
 
     /// `nop`.
     fn default() -> Self {

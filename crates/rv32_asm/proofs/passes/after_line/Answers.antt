@@ -2,7 +2,7 @@ use Rattle.std.proofs.Common.{◌≡◌, ◌∙◌, ℕ, Err, List, sym, ap, sub
 use Rattle.std.proofs.lemmas.Result.{err_from_is_err_and}
 use Rattle.rv32_asm.specs.Course.{Gives}
 use Rattle.rv32_asm.specs.Passes.{Progress, with_names}
-use Rattle.rv32_asm_syntax.specs.Seen as seen
+use Rattle.rv32_asm_syntax.specs.Seen.{seen_statement}
 use Rattle.rv32_asm_syntax.specs.declared.fault.LineError.TheVariants.{Fault}
 use Rattle.rv32_asm.proofs.FirstSteps.{labels_are, line_reaches, labels_refused, statement_refused, place_refused}
 use Rattle.rv32_asm.proofs.passes.after_line.Goals as goal
@@ -36,7 +36,7 @@ returns-in-Ok-clause-after c =
     let P : List (List ℕ) → Type 0 =
     λ names. Gives (with_names c.args.progress.address c.args.number names c.args.progress.labels) c.add_labels.new.labels in
     let given = subst P (labels_are c.args.line.now c.without_comment.result.now c.without_comment.ensures) c.in_ok-add_labels.ensures.added in
-    line_reaches c.args.size c.args.number progress c.args.line.now c.add_labels.new.labels (seen.statement c.in_ok-statement.statement)
+    line_reaches c.args.size c.args.number progress c.args.line.now c.add_labels.new.labels (seen_statement c.in_ok-statement.statement)
     c.in-Ok.address given c.in_ok-statement.ensures.read (sym c.in-Ok.ensures)
 
 pub returns-clause-refused : goal.returns-clause-refused
@@ -46,5 +46,5 @@ returns-clause-refused c = λ fault e.
     λ names. Gives (with_names c.args.progress.address c.args.number names c.args.progress.labels) c.add_labels.new.labels in
     let given = subst P (labels_are c.args.line.now c.without_comment.result.now c.without_comment.ensures) c.in_ok-add_labels.ensures.added in
     let same : c.in-Err.fault ≡ fault = cc in
-    place_refused c.args.size c.args.number progress c.args.line.now c.add_labels.new.labels (seen.statement c.in_ok-statement.statement)
+    place_refused c.args.size c.args.number progress c.args.line.now c.add_labels.new.labels (seen_statement c.in_ok-statement.statement)
     fault given c.in_ok-statement.ensures.read (sym c.in-Err.ensures ∙ ap Err same)

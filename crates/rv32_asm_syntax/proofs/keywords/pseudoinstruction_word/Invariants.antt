@@ -1,8 +1,0 @@
-use Rattle.std.proofs.Common.{◌≡◌, drop, map}
-use Rattle.rv32_asm_syntax.specs.Tables.{named, pseudoinstruction_entry}
-use Rattle.rv32_asm_syntax.specs.Keywords.{pseudoinstructions}
-use Rattle.rv32_asm_syntax.proofs.keywords.pseudoinstruction_word.Given as goal
-
-abbrev pub invariant-loop-pseudo : goal.invariant-loop-pseudo
-invariant-loop-pseudo l =
-    named (map pseudoinstruction_entry (drop l.pseudo-index l.pseudo-items)) l.word ≡ named pseudoinstructions l.word
