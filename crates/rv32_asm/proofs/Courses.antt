@@ -10,13 +10,13 @@ use Rattle.sec_base.specs.declared.width.Width.TheVariants.{One, Two, Four}
 use Rattle.rv32_decode.specs.Encoding.{word_of}
 use Rattle.rv32_asm_syntax.specs.declared.fault.AsmFault.{AsmFault}
 use Rattle.rv32_asm_syntax.specs.declared.fault.AsmFault.TheVariants.{Range, Missing}
-use Rattle.rv32_asm.specs.Course.{behind_line}
+use Rattle.rv32_asm.specs.PassSteps.{behind_line}
 use Rattle.rv32_asm.specs.Emission.{with_more}
-use Rattle.rv32_asm.specs.Encoding.{bytes_at, code_from, values_bytes, encoded_at, is_in_range, misses_label, value_bytes}
+use Rattle.rv32_asm.specs.Encoding.{encoded_bytes, code_from, values_bytes, encoded_at, is_in_range, misses_label, value_bytes}
 use Rattle.rv32_asm_syntax.specs.Expressions.{Expression}
 use Rattle.rv32_asm.specs.Labels.{Label}
 use Rattle.rv32_asm.specs.Layout.{is_misplaced, size_at}
-use Rattle.rv32_asm.specs.Passes.{behind, emitted, line_bytes}
+use Rattle.rv32_asm.specs.Passes.{address_behind, statement_bytes, line_bytes}
 use Rattle.rv32_asm_syntax.specs.Reading.{statement_of}
 use Rattle.rv32_asm_syntax.specs.Statements.{Instruction, Statement, Instructions, Data, Bytes, Zeros, Aligned, Nothing}
 use Rattle.rv32_asm.specs.Values.{modulo, value_of}
@@ -29,12 +29,12 @@ module _ (labels : List Label) (address : ℕ) (line : List ℕ) where
   bytes_fault fault e = rw e refl
 
   pub bytes_are : (statement : Statement) → statement_of line ≡ Ok statement →
-      line_bytes labels address line ≡ emitted labels address statement
+      line_bytes labels address line ≡ statement_bytes labels address statement
   unfolding line_bytes
   bytes_are statement e = rw e refl
 
 behind_are : (address : ℕ) (line : List ℕ) (statement : Statement) → statement_of line ≡ Ok statement →
-    behind_line address line ≡ behind address statement
+    behind_line address line ≡ address_behind address statement
 unfolding behind_line
 behind_are address line statement e = rw e refl
 
@@ -68,8 +68,8 @@ data_long width labels (e ∷ es) =
     ∙ omega (arith, rest, one)
 
 bytes_long : (labels : List Label) (address : ℕ) (statement : Statement) →
-    length (bytes_at labels address statement) ≡ size_at address statement
-unfolding bytes_at size_at
+    length (encoded_bytes labels address statement) ≡ size_at address statement
+unfolding encoded_bytes size_at
 bytes_long labels address (Instructions is) = code_long labels address is
 bytes_long labels address (Data width es) = data_long width labels es
 bytes_long labels address (Bytes bytes) = refl
@@ -84,9 +84,9 @@ made false true bytes more e = cc
 made false false bytes more e = cc
 
 emitted_long : (labels : List Label) (address : ℕ) (statement : Statement) (more : List ℕ) →
-    emitted labels address statement ≡ Ok more → length more ≡ size_at address statement
+    statement_bytes labels address statement ≡ Ok more → length more ≡ size_at address statement
 emitted_long labels address statement more e =
-    ap length (made (misses_label labels statement) (is_in_range labels address statement) (bytes_at labels address statement) more e)
+    ap length (made (misses_label labels statement) (is_in_range labels address statement) (encoded_bytes labels address statement) more e)
     ∙ bytes_long labels address statement
 
 longer : (bytes new : List ℕ) (added : Result (List ℕ) AsmFault) (size : ℕ) → ((more : List ℕ) → added ≡ Ok more → length more ≡ size) →
@@ -98,9 +98,9 @@ longer bytes new (Ok more) size long e =
 longer bytes new (Err fault) size long e = cc
 
 pub grown : (labels : List Label) (bytes new line : List ℕ) (statement : Statement) → statement_of line ≡ Ok statement →
-    is_misplaced (length bytes) statement ≡ false → with_more bytes (emitted labels (length bytes) statement) ≡ Ok new →
+    is_misplaced (length bytes) statement ≡ false → with_more bytes (statement_bytes labels (length bytes) statement) ≡ Ok new →
     behind_line (length bytes) line ≡ Ok (length new)
 grown labels bytes new line statement e ok put =
-    let long = longer bytes new (emitted labels (length bytes) statement) (size_at (length bytes) statement)
+    let long = longer bytes new (statement_bytes labels (length bytes) statement) (size_at (length bytes) statement)
     (emitted_long labels (length bytes) statement) put in
     rw (behind_are (length bytes) line statement e, ok, long) refl

@@ -9,8 +9,8 @@ use Rattle.rv32_asm_syntax.specs.declared.fault.AsmFault.{AsmFault}
 use Rattle.rv32_asm_syntax.specs.declared.fault.AsmFault.TheVariants.{Range}
 use Rattle.rv32_asm_syntax.specs.declared.statements.Expression.{Expression}
 use Rattle.rv32_asm_syntax.specs.declared.statements.Instruction.{Instruction}
-use Rattle.rv32_asm.specs.Emission.{code_at, data_of, statement_bytes, with_more}
-use Rattle.rv32_asm.specs.Passes.{emitted}
+use Rattle.rv32_asm.specs.Emission.{ranged_code, ranged_data, ranged_bytes, with_more}
+use Rattle.rv32_asm.specs.Passes.{statement_bytes}
 use Rattle.rv32_asm.specs.Encoding.{code_from, values_bytes, data_fits, encoded_at, expressions_in, fit_from, fits_at, fits_width, is_in_range, misses_label, value_bytes}
 use Rattle.rv32_asm.specs.Labels.{Label}
 use Rattle.rv32_asm_syntax.specs.Seen.{seen_expression, seen_expressions, seen_instruction, seen_instructions}
@@ -29,7 +29,7 @@ code_misses labels is = list_any (is_missing labels) (expressions_in (meant.Inst
 abbrev pub data_misses : List Label → List Expression → Bool
 data_misses labels es = list_any (is_missing labels) (seen_expressions es)
 
--- ---- bytes with more behind them
+-- ---- bytes with more address_behind them
 
 pub fault_in : (bytes : List ℕ) (more : Result (List ℕ) AsmFault) (fault : AsmFault) → with_more bytes more ≡ Err fault → more ≡ Err fault
 fault_in bytes (Ok more) fault e = cc
@@ -53,9 +53,9 @@ some_is false x y e = cc
 
 -- ---- instructions
 
--- bytes with those of instructions behind them
+-- bytes with those of instructions address_behind them
 abbrev pub coded : List Label → List ℕ → List Instruction → Result (List ℕ) AsmFault
-coded labels bytes is = with_more bytes (code_at labels (length bytes) (seen_instructions is))
+coded labels bytes is = with_more bytes (ranged_code labels (length bytes) (seen_instructions is))
 
 -- the word of an instruction at an address, where it fits
 abbrev pub word_there : List Label → ℕ → Instruction → Option ℕ
@@ -63,16 +63,16 @@ word_there labels address i =
     if fits_at labels address (seen_instruction i) then Some (word_of (encoded_at labels address (seen_instruction i))) else None
 
 code_refused : (labels : List Label) (address : ℕ) (i : Instruction) (is : List Instruction) →
-    fits_at labels address (seen_instruction i) ≡ false → code_at labels address (seen_instructions (i ∷ is)) ≡ Err Range
-unfolding code_at
+    fits_at labels address (seen_instruction i) ≡ false → ranged_code labels address (seen_instructions (i ∷ is)) ≡ Err Range
+unfolding ranged_code
 code_refused labels address i is e = rw e refl
 
 code_added : (labels : List Label) (address : ℕ) (bytes : List ℕ) (i : Instruction) (is : List Instruction) →
     fits_at labels address (seen_instruction i) ≡ true →
     with_more (bytes ++ to_le_bytes w32 (word_of (encoded_at labels address (seen_instruction i))))
-    (code_at labels (address + 4) (seen_instructions is))
-    ≡ with_more bytes (code_at labels address (seen_instructions (i ∷ is)))
-unfolding code_at
+    (ranged_code labels (address + 4) (seen_instructions is))
+    ≡ with_more bytes (ranged_code labels address (seen_instructions (i ∷ is)))
+unfolding ranged_code
 code_added labels address bytes i is e =
     let more = seen_instructions is in
     rw e
@@ -80,7 +80,7 @@ code_added labels address bytes i is e =
     (to_le_bytes w32 (word_of (encoded_at labels address (seen_instruction i)))) (code_from labels (address + 4) more))
 
 code_none : (labels : List Label) (bytes : List ℕ) → coded labels bytes [] ≡ Ok bytes
-unfolding code_at
+unfolding ranged_code
 code_none labels bytes = none_added bytes
 
 module _ (labels : List Label) (bytes : List ℕ) (is : List Instruction) (n : ℕ) where
@@ -104,22 +104,22 @@ module _ (labels : List Label) (bytes : List ℕ) (is : List Instruction) (n : �
 -- ---- values
 
 abbrev pub listed : List Label → Width → List ℕ → List Expression → Result (List ℕ) AsmFault
-listed labels width bytes es = with_more bytes (data_of labels width (seen_expressions es))
+listed labels width bytes es = with_more bytes (ranged_data labels width (seen_expressions es))
 
 module _ (labels : List Label) (width : Width) (bytes : List ℕ) where
   data_none : listed labels width bytes [] ≡ Ok bytes
-  unfolding data_of
+  unfolding ranged_data
   data_none = none_added bytes
 
   module _ (e : Expression) (es : List Expression) where
-    data_refused : fits_width width (value_of labels (seen_expression e)) ≡ false → data_of labels width (seen_expressions (e ∷ es)) ≡ Err Range
-    unfolding data_of
+    data_refused : fits_width width (value_of labels (seen_expression e)) ≡ false → ranged_data labels width (seen_expressions (e ∷ es)) ≡ Err Range
+    unfolding ranged_data
     data_refused f = rw f refl
 
     data_added : fits_width width (value_of labels (seen_expression e)) ≡ true →
-        with_more (bytes ++ value_bytes width (value_of labels (seen_expression e))) (data_of labels width (seen_expressions es))
-        ≡ with_more bytes (data_of labels width (seen_expressions (e ∷ es)))
-    unfolding data_of
+        with_more (bytes ++ value_bytes width (value_of labels (seen_expression e))) (ranged_data labels width (seen_expressions es))
+        ≡ with_more bytes (ranged_data labels width (seen_expressions (e ∷ es)))
+    unfolding ranged_data
     data_added f =
         rw f
         (one_added (data_fits labels width (seen_expressions es)) bytes (value_bytes width (value_of labels (seen_expression e)))
@@ -150,6 +150,6 @@ chosen true x y = refl
 chosen false x y = refl
 
 pub emitted_is : (labels : List Label) (address : ℕ) (statement : meant.Statement) → misses_label labels statement ≡ false →
-    emitted labels address statement ≡ statement_bytes labels address statement
-unfolding statement_bytes
+    statement_bytes labels address statement ≡ ranged_bytes labels address statement
+unfolding ranged_bytes
 emitted_is labels address statement e = rw e (chosen (is_in_range labels address statement) (Err Range) _)

@@ -5,12 +5,12 @@ use Rattle.std.specs.Str.{bytes_eq}
 use Rattle.std.proofs.lemmas.Bool.{le-ltb}
 use Rattle.rv32_asm_syntax.specs.declared.fault.AsmFault.{AsmFault}
 use Rattle.rv32_asm_syntax.specs.declared.fault.AsmFault.TheVariants.{Range, Large, Twice}
-use Rattle.rv32_asm.specs.Course.{Gives, IsNextLine, Reaches, behind_line, end_of}
+use Rattle.rv32_asm.specs.PassSteps.{Gives, IsNextLine, LeadsTo, behind_line, end_of}
 use Rattle.rv32_asm.specs.Labels.{Label, Site, is_there}
 use Rattle.rv32_asm.specs.Layout.{is_misplaced, size_at}
 use Rattle.rv32_asm_syntax.specs.Parts.{parts}
 use Rattle.rv32_asm_syntax.specs.Lines.{labels_in, labels_of, lines_of, without_comment}
-use Rattle.rv32_asm.specs.Passes.{LineFault, Progress, address_after, after_line, behind, first_pass, in_line, with_names, ◌>>=◌}
+use Rattle.rv32_asm.specs.Passes.{LineFault, Progress, address_after, after_line, address_behind, first_pass, in_line, with_names, ◌>>=◌}
 use Rattle.rv32_asm_syntax.specs.Reading.{statement_of}
 use Rattle.rv32_asm.specs.SeenLabels.{AreAlike}
 use Rattle.rv32_asm_syntax.specs.Statements.{Statement}
@@ -114,13 +114,13 @@ module _ (size number : ℕ) (progress : Progress) (line : List ℕ) where
 
   reaches : (named : Result (List Label) AsmFault) (read : Result Statement AsmFault) (there : Statement → Result ℕ AsmFault)
       (labels : List Label) (statement : Statement) (address : ℕ) → Gives named labels → read ≡ Ok statement →
-      there statement ≡ Ok address → Reaches (after_labels named read there) address labels
+      there statement ≡ Ok address → LeadsTo (after_labels named read there) address labels
   reaches (Ok given) read there labels statement address gives e f = rw (e, f) (refl, gives)
   reaches (Err fault) read there labels statement address gives e f = absurd gives
 
   pub line_reaches : (labels : List Label) (statement : Statement) (address : ℕ) → Gives names labels →
       statement_of line ≡ Ok statement → address_after size progress.address statement ≡ Ok address →
-      Reaches (after_line size number progress line) address labels
+      LeadsTo (after_line size number progress line) address labels
   unfolding after_line
   line_reaches labels statement address gives e f =
       reaches names (statement_of line) (address_after size progress.address) labels statement address gives e f
@@ -174,7 +174,7 @@ agree_fault (Ok p) fault agree = absurd agree
 agree_fault (Err e) fault agree = ap Err agree
 
 pub agree_reaches : {E : Type 0} (x : Result Progress E) (progress : Progress) → Agree x (Ok progress) →
-    Reaches x progress.address progress.labels
+    LeadsTo x progress.address progress.labels
 agree_reaches (Ok p) progress agree = agree
 agree_reaches (Err e) progress agree = absurd agree
 
@@ -234,7 +234,7 @@ module _ (size : ℕ) where
   -- ---- one line
 
   then_reach : (number : ℕ) (lines : List (List ℕ)) (x : Result Progress AsmFault) (address : ℕ) (labels : List Label) →
-      Reaches x address labels → Agree (next_lines number lines x) (first_pass size (number + 1) (at address labels) lines)
+      LeadsTo x address labels → Agree (next_lines number lines x) (first_pass size (number + 1) (at address labels) lines)
   then_reach number lines (Ok p) address labels reach =
       at_one_address lines (lines_agree lines) (number + 1) p (at address labels) reach.0 reach.1
   then_reach number lines (Err f) address labels reach = absurd reach
@@ -255,13 +255,13 @@ module _ (size : ℕ) where
   pass_done number p (byte ∷ rest) inside none = absurd (omega arith)
 
   pub pass_reaches : (number : ℕ) (p : Progress) (rest : List ℕ) (all : Result Progress LineFault) → p.address ≤ size → length rest ≡ 0 →
-      Agree all (first_pass size number p (lines_of rest)) → Reaches all p.address p.labels
+      Agree all (first_pass size number p (lines_of rest)) → LeadsTo all p.address p.labels
   pass_reaches number p rest all inside none agree =
       let ended = rw (pass_done number p rest inside none) at agree in
       agree_reaches all p ended
 
   module _ (text line rest : List ℕ) (next : IsNextLine text line rest) (number : ℕ) (p : Progress) where
-    goes_along : (address : ℕ) (labels : List Label) → Reaches (after_line size number p line) address labels → address ≤ size →
+    goes_along : (address : ℕ) (labels : List Label) → LeadsTo (after_line size number p line) address labels → address ≤ size →
         Agree (first_pass size number p (lines_of text)) (first_pass size (number + 1) (at address labels) (lines_of rest))
     unfolding first_pass
     goes_along address labels reach inside = elim next [
@@ -271,7 +271,7 @@ module _ (size : ℕ) where
     ]
 
     pub pass_on : (all : Result Progress LineFault) (address : ℕ) (labels : List Label) →
-        Reaches (after_line size number p line) address labels → address ≤ size → Agree all (first_pass size number p (lines_of text)) →
+        LeadsTo (after_line size number p line) address labels → address ≤ size → Agree all (first_pass size number p (lines_of text)) →
         Agree all (first_pass size (number + 1) (at address labels) (lines_of rest))
     pass_on all address labels reach inside agree =
         agree_on all (first_pass size number p (lines_of text)) _ agree (goes_along address labels reach inside)
@@ -303,7 +303,7 @@ module _ (size : ℕ) where
   next_ends false large next labels r e = ap Ok (room_ends (large next) next labels r e)
 
   work_ends : (named : Result (List Label) AsmFault) (read : Result Statement AsmFault) (address : ℕ) (r : Progress) →
-      after_labels named read (address_after size address) ≡ Ok r → (read >>= behind address) ≡ Ok r.address
+      after_labels named read (address_after size address) ≡ Ok r → (read >>= address_behind address) ≡ Ok r.address
   work_ends (Ok labels) (Ok statement) address r e =
       next_ends (is_misplaced address statement) (nat_lt size) (address + size_at address statement) labels r e
   work_ends (Ok labels) (Err f) address r e = cc

@@ -11,7 +11,7 @@ use Rattle.rv32_decode.specs.declared.Inst.{Inst}
 use Rattle.rv32_decode.specs.declared.table.Format.{Format}
 use Rattle.rv32_decode.specs.declared.table.Format.TheVariants.{R, I, S, B, U, J, Shift, Fieldless}
 use Rattle.rv32_asm.specs.Encoding.{distance, encoded_at, fits_at, fits_format, immediate_of, is_even}
-use Rattle.rv32_asm.specs.Fields.{immediate_in, kept}
+use Rattle.rv32_asm.specs.Fields.{immediate_in, own_fields}
 use Rattle.rv32_asm.specs.Labels.{Label}
 use Rattle.rv32_asm_syntax.specs.Numbers.{is_between}
 use Rattle.rv32_asm_syntax.specs.Statements.{Instruction}
@@ -20,7 +20,7 @@ use Rattle.rv32_decode.proofs.Signed.{complement_range, complement_word}
 
 -- ---- the word
 
-op_kept : (f : Format) (i : Inst) → (kept f i).op ≡ i.op
+op_kept : (f : Format) (i : Inst) → (own_fields f i).op ≡ i.op
 op_kept R i = refl
 op_kept I i = refl
 op_kept S i = refl
@@ -30,7 +30,7 @@ op_kept J i = refl
 op_kept Shift i = refl
 op_kept Fieldless i = refl
 
-placed_kept : (f : Format) (i : Inst) → field_bits f (kept f i) ≡ field_bits f i
+placed_kept : (f : Format) (i : Inst) → field_bits f (own_fields f i) ≡ field_bits f i
 unfolding field_bits
 placed_kept R i = refl
 placed_kept I i = refl
@@ -41,7 +41,7 @@ placed_kept J i = refl
 placed_kept Shift i = refl
 placed_kept Fieldless i = refl
 
-pub word_kept : (i : Inst) → word_of (kept (row_of i.op).format i) ≡ word_of i
+pub word_kept : (i : Inst) → word_of (own_fields (row_of i.op).format i) ≡ word_of i
 unfolding word_of
 word_kept i =
     let format = (row_of i.op).format in
@@ -98,9 +98,9 @@ in_reach even low a high b far z result e f g h found = let there = rw (f, g, h)
 
 -- ---- the instruction
 
--- the fields that are kept, and an immediate in its range, are those of the format
+-- the fields that are own_fields, and an immediate in its range, are those of the format
 fits_kept : (f : Format) (i : Inst) (address : ℕ) (value : ℤ) → fits_format f address value ≡ true →
-    i.imm ≡ immediate_of f address value → FitsFormat f (kept f i)
+    i.imm ≡ immediate_of f address value → FitsFormat f (own_fields f i)
 unfolding FitsFormat
 fits_kept R i address value fits e = e
 fits_kept I i address value fits e = let range = from_between _ _ value fits in rw e (refl, range.0, range.1)
@@ -128,7 +128,7 @@ some_taken : (b : Bool) (x imm : ℤ) → (if b then Some x else None) ≡ Some 
 some_taken true x imm e = (refl, cc)
 some_taken false x imm e = cc
 
-rd_kept : (f : Format) (i : Inst) → i.rd < 32 → (kept f i).rd < 32
+rd_kept : (f : Format) (i : Inst) → i.rd < 32 → (own_fields f i).rd < 32
 rd_kept R i small = small
 rd_kept I i small = small
 rd_kept S i small = omega arith
@@ -138,7 +138,7 @@ rd_kept J i small = small
 rd_kept Shift i small = small
 rd_kept Fieldless i small = omega arith
 
-rs1_kept : (f : Format) (i : Inst) → i.rs1 < 32 → (kept f i).rs1 < 32
+rs1_kept : (f : Format) (i : Inst) → i.rs1 < 32 → (own_fields f i).rs1 < 32
 rs1_kept R i small = small
 rs1_kept I i small = small
 rs1_kept S i small = small
@@ -148,7 +148,7 @@ rs1_kept J i small = omega arith
 rs1_kept Shift i small = small
 rs1_kept Fieldless i small = omega arith
 
-rs2_kept : (f : Format) (i : Inst) → i.rs2 < 32 → (kept f i).rs2 < 32
+rs2_kept : (f : Format) (i : Inst) → i.rs2 < 32 → (own_fields f i).rs2 < 32
 rs2_kept R i small = small
 rs2_kept I i small = omega arith
 rs2_kept S i small = small
@@ -171,7 +171,7 @@ module _ (labels : List Label) (address : ℕ) (i : Instruction) (value : ℤ) (
   given imm = record { op = i.op; rd = i.rd; rs1 = i.rs1; rs2 = i.rs2; imm = imm }
 
   module _ (imm : ℤ) (taken : immediate_in (row_of i.op).format address value ≡ Some imm) (inst : Inst)
-      (inst_is : inst ≡ kept (row_of i.op).format (given imm)) where
+      (inst_is : inst ≡ own_fields (row_of i.op).format (given imm)) where
     pub has_word : (word : ℕ) → word ≡ word_of inst →
         Some word ≡ (if fits_at labels address i then Some (word_of (encoded_at labels address i)) else None)
     unfolding fits_at encoded_at

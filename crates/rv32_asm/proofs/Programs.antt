@@ -36,14 +36,14 @@ module _ (size : ℕ) where
       let text = text_of_word word address in
       let next : address + 4 + 4 * length words ≡ address + 4 * suc (length words) = omega arith in
       ap (first_pass size number (at address)) (back.followed (source (address + 4) words))
-      ∙ first_line number address text (lines_of (source (address + 4) words)) (back.passed number (at address) refl)
+      ∙ first_line number address text (lines_of (source (address + 4) words)) (back.in_first_pass number (at address) refl)
       ∙ first_words words (number + 1) (address + 4) (All-tail (λ word. word < 2 ^ 32) word words small) (omega (arith, aligned)) (omega (arith, inside))
       ∙ ap (λ (a : ℕ). Ok (at a)) next
 
   second_line : (labels : List Label) (number : ℕ) (bytes line more : List ℕ) (lines : List (List ℕ)) → line_bytes labels (length bytes) line ≡ Ok more →
       second_pass labels number bytes (line ∷ lines) ≡ second_pass labels (number + 1) (bytes ++ more) lines
   unfolding second_pass
-  second_line labels number bytes line more lines emitted = rw emitted refl
+  second_line labels number bytes line more lines is = rw is refl
 
   second_words : (words : List ℕ) (labels : List Label) (number : ℕ) (bytes : List ℕ) → All (λ word. word < 2 ^ 32) words → length bytes % 4 ≡ 0 → length bytes + 4 * length words ≤ size →
       second_pass labels number bytes (lines_of (source (length bytes) words)) ≡ Ok (bytes ++ bytes_of words)
@@ -55,7 +55,7 @@ module _ (size : ℕ) where
       let more = bytes ++ to_le_bytes w32 word in
       let longer : length more ≡ length bytes + 4 = length-append bytes (to_le_bytes w32 word) in
       ap (second_pass labels number bytes) (back.followed (source (address + 4) words))
-      ∙ second_line labels number bytes text (to_le_bytes w32 word) (lines_of (source (address + 4) words)) (back.emitted labels)
+      ∙ second_line labels number bytes text (to_le_bytes w32 word) (lines_of (source (address + 4) words)) (back.in_second_pass labels)
       ∙ ap (λ (a : ℕ). second_pass labels (number + 1) more (lines_of (source a words))) (sym longer)
       ∙ second_words words labels (number + 1) more (All-tail (λ word. word < 2 ^ 32) word words small) (omega (arith, longer, aligned)) (omega (arith, longer, inside))
       ∙ ap Ok (append_assoc bytes (to_le_bytes w32 word) (bytes_of words))

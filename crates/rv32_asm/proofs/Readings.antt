@@ -12,7 +12,7 @@ use Rattle.rv32_decode.specs.declared.Op.{Op}
 use Rattle.rv32_text.specs.Mnemonics.{mnemonic_of}
 use Rattle.rv32_text.specs.Text.{data_text, instruction_text, text_of_word}
 use Rattle.sec_base.specs.Hexadecimal.{hex_digits}
-use Rattle.rv32_asm.specs.Encoding.{bytes_at, encoded_at, fits_at, fits_format, fits_width, immediate_of, is_in_range, misses_label}
+use Rattle.rv32_asm.specs.Encoding.{encoded_bytes, encoded_at, fits_at, fits_format, fits_width, immediate_of, is_in_range, misses_label}
 use Rattle.rv32_asm_syntax.specs.Expressions.{number_alone}
 use Rattle.rv32_asm_syntax.specs.Keywords.{Operand}
 use Rattle.rv32_asm_syntax.specs.Keywords.{DataKeyword, InstructionKeyword, directives, keyword_of, keywords, long_pseudoinstructions, pseudoinstructions, row_entries}
@@ -37,7 +37,7 @@ pub record IsStatementOf (word address : ℕ) (meaning : Statement) : Type 0 whe
   pub size : size_at address meaning ≡ 4
   pub known : (labels : List Label) → misses_label labels meaning ≡ false
   pub fits : (labels : List Label) → is_in_range labels address meaning ≡ true
-  pub bytes : (labels : List Label) → bytes_at labels address meaning ≡ to_le_bytes w32 word
+  pub bytes : (labels : List Label) → encoded_bytes labels address meaning ≡ to_le_bytes w32 word
 
 passed_text : (size address number : ℕ) (text : List ℕ) (meaning : Statement) (progress : Progress) →
     labels_of text ≡ [] → statement_of text ≡ Ok meaning → is_misplaced address meaning ≡ false →
@@ -49,7 +49,7 @@ passed_text size address number text meaning progress none means placed four ins
 
 emitted_text : (labels : List Label) (address : ℕ) (text bytes : List ℕ) (meaning : Statement) →
     statement_of text ≡ Ok meaning → misses_label labels meaning ≡ false → is_in_range labels address meaning ≡ true →
-    bytes_at labels address meaning ≡ bytes → line_bytes labels address text ≡ Ok bytes
+    encoded_bytes labels address meaning ≡ bytes → line_bytes labels address text ≡ Ok bytes
 unfolding line_bytes
 emitted_text labels address text bytes meaning means known fits e = rw (means, known, fits, e) refl
 
@@ -59,8 +59,8 @@ text_read : (size word address : ℕ) (text : List ℕ) (meaning : Statement) �
 text_read size word address text meaning plain means inside is = record {
   one_line = plain_line text plain;
   followed = λ rest. followed_line text rest plain;
-  passed = λ number progress here. passed_text size address number text meaning progress (plain_labels text plain) means is.placed is.size inside here;
-  emitted = λ labels. emitted_text labels address text (to_le_bytes w32 word) meaning means (is.known labels) (is.fits labels) (is.bytes labels);
+  in_first_pass = λ number progress here. passed_text size address number text meaning progress (plain_labels text plain) means is.placed is.size inside here;
+  in_second_pass = λ labels. emitted_text labels address text (to_le_bytes w32 word) meaning means (is.known labels) (is.fits labels) (is.bytes labels);
 }
 
 -- the text of a word is read back
@@ -95,7 +95,7 @@ pub instruction_is : (word address : ℕ) (op : Op) (rd rs1 rs2 : ℕ) (value : 
     fits_format (row_of op).format address value ≡ true →
     word_of (made op rd rs1 rs2 (immediate_of (row_of op).format address value)) ≡ word →
     IsStatementOf word address (Instructions (instruction op rd rs1 rs2 value ∷ []))
-unfolding is_misplaced size_at misses_label is_in_range bytes_at
+unfolding is_misplaced size_at misses_label is_in_range encoded_bytes
 instruction_is word address op rd rs1 rs2 value aligned fits e = record {
   placed = rw (eq-eqb (address % 4) 0 aligned) refl;
   size = refl;
@@ -122,7 +122,7 @@ word_modulo word below = omega arith
 
 pub data_is : (word address : ℕ) → word < 2 ^ 32 →
     IsStatementOf word address (Data Four (number_alone (pos word) ∷ []))
-unfolding is_misplaced size_at misses_label is_in_range bytes_at
+unfolding is_misplaced size_at misses_label is_in_range encoded_bytes
 data_is word address below = record {
   placed = refl;
   size = refl;

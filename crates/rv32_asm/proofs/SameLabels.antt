@@ -2,10 +2,10 @@
 use Rattle.std.proofs.Common.{◌≡◌, ℕ, ◌+◌, ℤ, Bool, not, List, [], ◌∷◌, ◌++◌, Option, Some, None, Result, Ok, Err, length, option_map, unwrap_or, refl, ap}
 use Rattle.std.specs.List.{list_any, list_all, flat_map}
 use Rattle.rv32_asm_syntax.specs.declared.fault.AsmFault.{AsmFault}
-use Rattle.rv32_asm.specs.Encoding.{bytes_at, code_from, encoded_at, expressions_in, fit_from, fits_at, fits_width, is_in_range, misses_label, value_bytes}
+use Rattle.rv32_asm.specs.Encoding.{encoded_bytes, code_from, encoded_at, expressions_in, fit_from, fits_at, fits_width, is_in_range, misses_label, value_bytes}
 use Rattle.rv32_asm_syntax.specs.Expressions.{Expression}
 use Rattle.rv32_asm.specs.Labels.{Label, Site}
-use Rattle.rv32_asm.specs.Passes.{LineFault, emitted, in_line, line_bytes, second_pass, ◌>>=◌}
+use Rattle.rv32_asm.specs.Passes.{LineFault, statement_bytes, in_line, line_bytes, second_pass, ◌>>=◌}
 use Rattle.rv32_asm_syntax.specs.Reading.{statement_of}
 use Rattle.rv32_asm.specs.SeenLabels.{AreAlike}
 use Rattle.rv32_asm_syntax.specs.Statements.{Immediate, Whole, Upper, Lower, Instruction, Statement, Instructions, Data, Bytes, Zeros, Aligned, Nothing}
@@ -76,8 +76,8 @@ module _ (a b : List Label) (alike : AreAlike a b) where
   in_range_same address (Aligned number) = refl
   in_range_same address Nothing = refl
 
-  bytes_at_same : (address : ℕ) (statement : Statement) → bytes_at a address statement ≡ bytes_at b address statement
-  unfolding bytes_at
+  bytes_at_same : (address : ℕ) (statement : Statement) → encoded_bytes a address statement ≡ encoded_bytes b address statement
+  unfolding encoded_bytes
   bytes_at_same address (Instructions is) = code_same address is
   bytes_at_same address (Data width es) = bytes_same _ _ (λ e. ap (value_bytes width) (value_same e)) es
   bytes_at_same address (Bytes bytes) = refl
@@ -85,11 +85,11 @@ module _ (a b : List Label) (alike : AreAlike a b) where
   bytes_at_same address (Aligned number) = refl
   bytes_at_same address Nothing = refl
 
-  emitted_same : (address : ℕ) (statement : Statement) → emitted a address statement ≡ emitted b address statement
+  emitted_same : (address : ℕ) (statement : Statement) → statement_bytes a address statement ≡ statement_bytes b address statement
   emitted_same address statement =
       rw (misses_same statement, in_range_same address statement, bytes_at_same address statement) refl
 
-  said_same : (read : Result Statement AsmFault) (address : ℕ) → (read >>= emitted a address) ≡ (read >>= emitted b address)
+  said_same : (read : Result Statement AsmFault) (address : ℕ) → (read >>= statement_bytes a address) ≡ (read >>= statement_bytes b address)
   said_same (Ok statement) address = emitted_same address statement
   said_same (Err fault) address = refl
 

@@ -5,18 +5,17 @@ use Rattle.std.proofs.lemmas.List.{append-nil}
 use Rattle.rv32_asm_syntax.specs.Characters.{trim_blanks}
 use Rattle.rv32_asm_syntax.specs.declared.fault.AsmFault.{AsmFault}
 use Rattle.rv32_asm_syntax.specs.declared.fault.AsmFault.TheVariants.{Range}
-use Rattle.rv32_asm.specs.Course.{IsNextLine, behind_line, end_of}
-use Rattle.rv32_asm.specs.Course as course
+use Rattle.rv32_asm.specs.PassSteps.{IsNextLine, behind_line, end_of, error_in_line}
 use Rattle.rv32_asm.specs.declared.fault.AsmError.{AsmError}
 use Rattle.rv32_asm.specs.declared.fault.AsmError.TheVariants as errors
 use Rattle.rv32_asm_syntax.specs.declared.fault.LineError.{LineError}
 use Rattle.rv32_asm_syntax.specs.declared.fault.LineError.TheVariants.{Fault, NoMemory}
 use Rattle.rv32_asm.specs.Emission.{with_more}
-use Rattle.rv32_asm.specs.Encoding.{bytes_at, is_in_range, misses_label}
+use Rattle.rv32_asm.specs.Encoding.{encoded_bytes, is_in_range, misses_label}
 use Rattle.rv32_asm.specs.Labels.{Label}
 use Rattle.rv32_asm.specs.Layout.{is_misplaced, size_at}
 use Rattle.rv32_asm_syntax.specs.Lines.{lines_of, statement_text, without_comment}
-use Rattle.rv32_asm.specs.Passes.{LineFault, behind, in_line, line_bytes, second_pass, ◌>>=◌}
+use Rattle.rv32_asm.specs.Passes.{LineFault, address_behind, in_line, line_bytes, second_pass, ◌>>=◌}
 use Rattle.rv32_asm_syntax.specs.Reading.{statement_of}
 use Rattle.rv32_asm_syntax.specs.Statements.{Statement, Nothing}
 
@@ -27,7 +26,7 @@ unfolding statement_of statement_text without_comment trim_blanks
 nothing_said = refl
 
 nothing_emitted : (labels : List Label) (address : ℕ) → line_bytes labels address [] ≡ Ok []
-unfolding line_bytes misses_label is_in_range bytes_at
+unfolding line_bytes misses_label is_in_range encoded_bytes
 nothing_emitted labels address = rw nothing_said refl
 
 nothing_behind : (address : ℕ) → behind_line address [] ≡ Ok address
@@ -92,7 +91,7 @@ rises : (misplaced : Bool) (address size after : ℕ) → (if misplaced then Err
 rises true address size after e = cc
 rises false address size after e = let same : address + size ≡ after = cc in omega arith
 
-risen : (read : Result Statement AsmFault) (address after : ℕ) → (read >>= behind address) ≡ Ok after → address ≤ after
+risen : (read : Result Statement AsmFault) (address after : ℕ) → (read >>= address_behind address) ≡ Ok after → address ≤ after
 risen (Ok statement) address after e = rises (is_misplaced address statement) address (size_at address statement) after e
 risen (Err fault) address after e = cc
 
@@ -143,7 +142,7 @@ end_done address end (byte ∷ rest) e there = absurd (omega arith)
 
 -- ---- errors
 
-pub told : (number : ℕ) (error : LineError) (result : AsmError) (line : ℕ) (code : AsmFault) → result ≡ course.in_line number error →
+pub told : (number : ℕ) (error : LineError) (result : AsmError) (line : ℕ) (code : AsmFault) → result ≡ error_in_line number error →
     result ≡ errors.Fault line code → (error ≡ Fault code) × (line ≡ number)
 told number (Fault other) result line code e f = (cc, cc)
 told number NoMemory result line code e f = cc

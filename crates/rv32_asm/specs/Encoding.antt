@@ -113,10 +113,10 @@ is_in_range labels address (Data width values) = data_fits labels width values
 is_in_range labels address _ = true
 
 -- the bytes of a statement at an address
-unfoldable pub bytes_at : List Label → ℕ → Statement → List ℕ
-bytes_at labels address (Instructions instructions) = code_from labels address instructions
-bytes_at labels address (Data width values) = values_bytes labels width values
-bytes_at labels address (Bytes bytes) = bytes
-bytes_at labels address (Zeros number) = replicate (size_at address (Zeros number)) 0
-bytes_at labels address (Aligned number) = replicate (size_at address (Aligned number)) 0
-bytes_at labels address Nothing = []
+unfoldable pub encoded_bytes : List Label → ℕ → Statement → List ℕ
+encoded_bytes labels address (Instructions instructions) = code_from labels address instructions
+encoded_bytes labels address (Data width values) = values_bytes labels width values
+encoded_bytes labels address (Bytes bytes) = bytes
+encoded_bytes labels address (Zeros number) = replicate (size_at address (Zeros number)) 0
+encoded_bytes labels address (Aligned number) = replicate (size_at address (Aligned number)) 0
+encoded_bytes labels address Nothing = []

@@ -18,11 +18,11 @@ use Rattle.rv32_asm.specs.Values.{lower_part, modulo, upper_part}
 pub record IsReadBack (size : ℕ) (text : List ℕ) (word address : ℕ) : Type 0 where
   pub one_line : lines_of text ≡ text ∷ []
   pub followed : (rest : List ℕ) → lines_of (text ++ line_feed ∷ rest) ≡ text ∷ lines_of rest
-  pub passed : (number : ℕ) (progress : Progress) → progress.address ≡ address →
+  pub in_first_pass : (number : ℕ) (progress : Progress) → progress.address ≡ address →
       after_line size number progress text ≡ Ok (record progress { address = address + 4 })
-  pub emitted : (labels : List Label) → line_bytes labels address text ≡ Ok (to_le_bytes w32 word)
+  pub in_second_pass : (labels : List Label) → line_bytes labels address text ≡ Ok (to_le_bytes w32 word)
 
--- so it is with the text of each word, wherever it can stand: at a multiple of 4 with four bytes of memory behind it
+-- so it is with the text of each word, wherever it can stand: at a multiple of 4 with four bytes of memory address_behind it
 abbrev pub TextsAreWords : ℕ → Type 0
 TextsAreWords size = (word address : ℕ) → word < 2 ^ 32 → address % 4 ≡ 0 → address + 4 ≤ size →
     IsReadBack size (text_of_word word address) word address

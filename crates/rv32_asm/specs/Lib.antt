@@ -8,4 +8,4 @@ pub mod Law
 pub mod SeenLabels
 pub mod Fields
 pub mod Emission
-pub mod Course
+pub mod PassSteps

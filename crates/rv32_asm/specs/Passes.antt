@@ -7,7 +7,7 @@ use Rattle.rv32_asm_syntax.specs.Statements.{Statement}
 use Rattle.rv32_asm_syntax.specs.Reading.{statement_of}
 use Rattle.rv32_asm.specs.Labels.{Label, is_there}
 use Rattle.rv32_asm.specs.Layout.{is_misplaced, size_at}
-use Rattle.rv32_asm.specs.Encoding.{misses_label, is_in_range, bytes_at}
+use Rattle.rv32_asm.specs.Encoding.{misses_label, is_in_range, encoded_bytes}
 
 -- the fault of a line, lines counted from 1
 pub record LineFault : Type 0 where
@@ -42,15 +42,15 @@ with_names address line (name ∷ names) labels =
     if is_there labels name then Err Twice
     else with_names address line names (record { name = name; site = record { address = address; line = line } } ∷ labels)
 
--- the address behind a statement, if it may stand there
-abbrev pub behind : ℕ → Statement → Result ℕ AsmFault
-behind address statement =
+-- the address address_behind a statement, if it may stand there
+abbrev pub address_behind : ℕ → Statement → Result ℕ AsmFault
+address_behind address statement =
     if is_misplaced address statement then Err Range else Ok (address + size_at address statement)
 
--- the address behind a statement in a memory of a size
+-- the address address_behind a statement in a memory of a size
 abbrev pub address_after : ℕ → ℕ → Statement → Result ℕ AsmFault
 address_after size address statement = do
-  after ← behind address statement
+  after ← address_behind address statement
   if nat_lt size after then Err Large else Ok after
 
 -- what the line of a number leaves, or its first fault
@@ -71,15 +71,15 @@ first_pass size number progress (line ∷ lines) = do
 -- ---- the second pass
 
 -- the bytes of a statement at an address, or what is wrong with its values there
-abbrev pub emitted : List Label → ℕ → Statement → Result (List ℕ) AsmFault
-emitted labels address statement =
+abbrev pub statement_bytes : List Label → ℕ → Statement → Result (List ℕ) AsmFault
+statement_bytes labels address statement =
     if misses_label labels statement then Err Missing
     else if not (is_in_range labels address statement) then Err Range
-    else Ok (bytes_at labels address statement)
+    else Ok (encoded_bytes labels address statement)
 
 -- the bytes of a line at an address, or its first fault
 unfoldable pub line_bytes : List Label → ℕ → List ℕ → Result (List ℕ) AsmFault
-line_bytes labels address line = statement_of line >>= emitted labels address
+line_bytes labels address line = statement_of line >>= statement_bytes labels address
 
 -- the bytes so far with those of the lines from a number on, or the first fault
 unfoldable pub second_pass : List Label → ℕ → List ℕ → List (List ℕ) → Result (List ℕ) LineFault

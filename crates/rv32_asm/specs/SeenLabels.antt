@@ -4,15 +4,15 @@ use Rattle.std.specs.Borrow.{Bor}
 use Rattle.rv32_asm.specs.Labels.{Label, Site, site_of}
 
 -- an address and the number of a line
-abbrev pub site : ℕ × ℕ → Site
-site pair = record { address = pair.0; line = pair.1 }
+abbrev pub seen_site : ℕ × ℕ → Site
+seen_site pair = record { address = pair.0; line = pair.1 }
 
 -- a name and where its label stands
-abbrev pub label : Bor (List ℕ) × (ℕ × ℕ) → Label
-label entry = record { name = entry.0.now; site = site entry.1 }
+abbrev pub seen_label : Bor (List ℕ) × (ℕ × ℕ) → Label
+seen_label entry = record { name = entry.0.now; site = seen_site entry.1 }
 
-abbrev pub labels : List (Bor (List ℕ) × (ℕ × ℕ)) → List Label
-labels entries = map label entries
+abbrev pub seen_labels : List (Bor (List ℕ) × (ℕ × ℕ)) → List Label
+seen_labels entries = map seen_label entries
 
 -- the same names stand at the same places, in whatever order
 pub record AreAlike (old new : List Label) : Type 0 where

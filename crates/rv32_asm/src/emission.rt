@@ -72,10 +72,10 @@ fn put_code(
 ) -> Result<(), LineError>
     requires { length bytes.old.items + 4 * length instructions.now < 2 ^ 32 }
     ensures ok { OnOk result (with_more bytes.old.items
-        (parts.code_at labels.now (length bytes.old.items) (seen_instructions instructions.now))
+        (parts.ranged_code labels.now (length bytes.old.items) (seen_instructions instructions.now))
         ≡ Ok bytes.new.items) }
     ensures refused { (fault : AsmFault) → result ≡ Err (Fault fault) →
-        parts.code_at labels.now (length bytes.old.items) (seen_instructions instructions.now) ≡ Err fault }
+        parts.ranged_code labels.now (length bytes.old.items) (seen_instructions instructions.now) ≡ Err fault }
 {
     for instruction in instructions {
         match encoding::word_at(labels, bytes.len() as u32, instruction) {
@@ -120,10 +120,10 @@ fn put_data(
     expressions: &[Expression],
 ) -> Result<(), LineError>
     ensures ok { OnOk result (with_more bytes.old.items
-        (parts.data_of labels.now width (seen_expressions expressions.now))
+        (parts.ranged_data labels.now width (seen_expressions expressions.now))
         ≡ Ok bytes.new.items) }
     ensures refused { (fault : AsmFault) → result ≡ Err (Fault fault) →
-        parts.data_of labels.now width (seen_expressions expressions.now) ≡ Err fault }
+        parts.ranged_data labels.now width (seen_expressions expressions.now) ≡ Err fault }
 {
     for expression in expressions {
         let value = values::value_of(labels, expression);
@@ -153,7 +153,7 @@ fn put_zeros(bytes: &mut Vec<u8>, count: usize) -> Result<(), NoMemory>
 }
 
 // Adds the bytes of a statement whose labels are there, as long as its values are in their ranges.
-#[tactic(auto, unfolding(crate::specs::Emission::statement_bytes, crate::specs::Emission::code_at, crate::specs::Emission::data_of, crate::specs::Encoding::is_in_range, crate::specs::Encoding::bytes_at, crate::specs::Layout::size_at, crate::specs::Layout::is_misplaced))]
+#[tactic(auto, unfolding(crate::specs::Emission::ranged_bytes, crate::specs::Emission::ranged_code, crate::specs::Emission::ranged_data, crate::specs::Encoding::is_in_range, crate::specs::Encoding::encoded_bytes, crate::specs::Layout::size_at, crate::specs::Layout::is_misplaced))]
 fn put_statement(
     bytes: &mut Vec<u8>,
     labels: &Labels,
@@ -162,10 +162,10 @@ fn put_statement(
     requires placed { layout_spec.is_misplaced (length bytes.old.items) (seen_statement statement.now) ≡ false }
     requires room { length bytes.old.items + layout_spec.size_at (length bytes.old.items) (seen_statement statement.now) < 2 ^ 32 }
     ensures ok { OnOk result (with_more bytes.old.items
-        (parts.statement_bytes labels.now (length bytes.old.items) (seen_statement statement.now))
+        (parts.ranged_bytes labels.now (length bytes.old.items) (seen_statement statement.now))
         ≡ Ok bytes.new.items) }
     ensures refused { (fault : AsmFault) → result ≡ Err (Fault fault) →
-        parts.statement_bytes labels.now (length bytes.old.items) (seen_statement statement.now) ≡ Err fault }
+        parts.ranged_bytes labels.now (length bytes.old.items) (seen_statement statement.now) ≡ Err fault }
 {
     match statement {
         Statement::Instructions(instructions) => put_code(bytes, labels, instructions)?,
@@ -187,10 +187,10 @@ pub fn emit(bytes: &mut Vec<u8>, labels: &Labels, statement: &Statement) -> Resu
     requires placed { layout_spec.is_misplaced (length bytes.old.items) (seen_statement statement.now) ≡ false }
     requires room { length bytes.old.items + layout_spec.size_at (length bytes.old.items) (seen_statement statement.now) < 2 ^ 32 }
     ensures ok { OnOk result (with_more bytes.old.items
-        (passes.emitted labels.now (length bytes.old.items) (seen_statement statement.now))
+        (passes.statement_bytes labels.now (length bytes.old.items) (seen_statement statement.now))
         ≡ Ok bytes.new.items) }
     ensures refused { (fault : AsmFault) → result ≡ Err (Fault fault) →
-        passes.emitted labels.now (length bytes.old.items) (seen_statement statement.now) ≡ Err fault }
+        passes.statement_bytes labels.now (length bytes.old.items) (seen_statement statement.now) ≡ Err fault }
 {
     if misses_label(labels, statement) {
         return Err(LineError::Fault(AsmFault::Missing));

@@ -1,7 +1,7 @@
 //! The words of instructions.
 
 ghost use Rattle.rv32_asm.specs.Encoding as spec;
-ghost use Rattle.rv32_asm.specs.Fields.{immediate_in, kept};
+ghost use Rattle.rv32_asm.specs.Fields.{immediate_in, own_fields};
 ghost use Rattle.rv32_asm_syntax.specs.Numbers as numbers;
 ghost use Rattle.rv32_asm_syntax.specs.Seen.{seen_instruction};
 ghost use Rattle.rv32_decode.specs.Encoding.{word_of};
@@ -83,7 +83,7 @@ fn immediate_of(op: Op, address: u32, value: i64) -> Option<i32>
 
 // An instruction with an immediate, and of the registers those that its format has.
 fn with_immediate(instruction: &Instruction, imm: i32) -> Inst
-    ensures { result ≡ kept (row_of instruction.now.op).format (record {
+    ensures { result ≡ own_fields (row_of instruction.now.op).format (record {
       op = instruction.now.op;
       rd = instruction.now.rd;
       rs1 = instruction.now.rs1;

@@ -38,12 +38,12 @@ pub struct Labels<'a> {
 
 impl<'a> Model for Labels<'a> {
     ghost use Rattle.rv32_asm.specs.Labels as meant;
-    ghost use Rattle.rv32_asm.specs.SeenLabels.{labels};
+    ghost use Rattle.rv32_asm.specs.SeenLabels.{seen_labels};
     ghost use Rattle.std.specs.Prelude.{List};
 
     ghost Value = { List meant.Label };
 
-    ghost view = { λ seen. labels seen.by_name.entries };
+    ghost view = { λ seen. seen_labels seen.by_name.entries };
 }
 
 impl<'a> Labels<'a> {

@@ -1,7 +1,6 @@
-//! The two passes over the lines of a text: the first finds where the labels stand, the second makes the bytes.
+// The two passes over the lines of a text: the first finds where the labels stand, the second makes the bytes.
 
-ghost use Rattle.rv32_asm.specs.Course as course;
-ghost use Rattle.rv32_asm.specs.Course.{Gives, IsNextLine, Reaches, behind_line, end_of};
+ghost use Rattle.rv32_asm.specs.PassSteps.{Gives, IsNextLine, LeadsTo, behind_line, end_of, error_in_line};
 ghost use Rattle.rv32_asm.specs.Emission.{with_more};
 ghost use Rattle.rv32_asm.specs.Passes as spec;
 ghost use Rattle.rv32_asm.specs.declared.fault.AsmError.TheVariants as error;
@@ -30,7 +29,7 @@ fn next_line(text: &[u8]) -> (&[u8], &[u8])
 
 // An error in the line of a number.
 fn in_line(number: u32, error: LineError) -> AsmError
-    ensures { result ≡ course.in_line number error }
+    ensures { result ≡ error_in_line number error }
 {
     match error {
         LineError::Fault(code) => AsmError::Fault { line: number, code },
@@ -69,7 +68,7 @@ fn after_line<'a>(
     progress: Progress<'a>,
     line: &'a [u8],
 ) -> Result<Progress<'a>, LineError>
-    ensures after { IfOk result (λ after. Reaches
+    ensures after { IfOk result (λ after. LeadsTo
         (spec.after_line size number (record { address = progress.entry.address; labels = progress.entry.labels }) line.now)
         after.address
         after.labels) }
@@ -96,7 +95,7 @@ fn after_line<'a>(
 /// Where the labels of a text stand, and the address where its bytes end, or its first fault.
 pub fn lay_out<'a>(alloc: Global, text: &'a [u8], size: u32) -> Result<Progress<'a>, AsmError>
     requires short { length text.now < 2 ^ 32 }
-    ensures reached { IfOk result (λ progress. Reaches
+    ensures reached { IfOk result (λ progress. LeadsTo
         (spec.first_pass size 1 spec.start (lines_of text.now))
         progress.address
         progress.labels) }

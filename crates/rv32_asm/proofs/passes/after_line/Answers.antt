@@ -1,6 +1,6 @@
 use Rattle.std.proofs.Common.{◌≡◌, ◌∙◌, ℕ, Err, List, sym, ap, subst}
 use Rattle.std.proofs.lemmas.Result.{err_from_is_err_and}
-use Rattle.rv32_asm.specs.Course.{Gives}
+use Rattle.rv32_asm.specs.PassSteps.{Gives}
 use Rattle.rv32_asm.specs.Passes.{Progress, with_names}
 use Rattle.rv32_asm_syntax.specs.Seen.{seen_statement}
 use Rattle.rv32_asm_syntax.specs.declared.fault.LineError.TheVariants.{Fault}

@@ -1,5 +1,5 @@
 use Rattle.std.proofs.Common.{◌≡◌, ◌+◌, ◌≤◌, [], Ok, length}
-use Rattle.rv32_asm.specs.Course.{end_of}
+use Rattle.rv32_asm.specs.PassSteps.{end_of}
 use Rattle.rv32_asm_syntax.specs.Lines.{lines_of}
 use Rattle.rv32_asm.specs.Passes.{second_pass}
 use Rattle.rv32_asm.proofs.passes.bytes_of.Given as goal
