@@ -1,4 +1,4 @@
-//! The bytes of statements.
+// The bytes of statements.
 
 ghost use Rattle.rv32_asm.specs.Emission as parts;
 ghost use Rattle.rv32_asm.specs.Emission.{with_more};

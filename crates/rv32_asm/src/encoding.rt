@@ -1,4 +1,4 @@
-//! The words of instructions.
+// The words of instructions.
 
 ghost use Rattle.rv32_asm.specs.Encoding as spec;
 ghost use Rattle.rv32_asm.specs.Fields.{immediate_in, own_fields};

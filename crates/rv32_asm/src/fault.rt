@@ -9,7 +9,7 @@ pub enum AsmError {
     /// A line of the text is refused, lines counted from 1.
     #[error("line {line}: {code}")]
     Fault { line: u32, code: AsmFault },
-    /// Memory for the emulator itself was not to be had.
+    /// The emulator itself is out of memory.
     #[error("no memory")]
     NoMemory,
 }

@@ -1,4 +1,4 @@
-//! The labels of a text, found by their names.
+// The labels of a text, found by their names.
 
 ghost use Rattle.rv32_asm.specs.Labels.{is_there, site_of};
 ghost use Rattle.rv32_asm.specs.SeenLabels.{AreAlike};

@@ -1,4 +1,4 @@
-//! Where statements may stand, and how many bytes they take there.
+// Where statements may stand, and how many bytes they take there.
 
 ghost use Rattle.rv32_asm.specs.Layout as spec;
 ghost use Rattle.rv32_asm.specs.Passes as passes;

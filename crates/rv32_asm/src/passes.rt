@@ -8,24 +8,13 @@ ghost use Rattle.rv32_asm_syntax.specs.Lines.{labels_in, lines_of};
 ghost use Rattle.rv32_asm_syntax.specs.Parts.{parts};
 ghost use Rattle.rv32_asm_syntax.specs.declared.fault.AsmFault.{AsmFault};
 ghost use Rattle.rv32_asm_syntax.specs.declared.fault.LineError.TheVariants.{Fault};
-ghost use Rattle.std.specs.Prelude.{Err, IfOk, IsOkAnd, Ok, OnOk, [], length, ℕ, ◌+◌, ◌<◌, ◌^◌, ◌≡◌, ◌≤◌};
+ghost use Rattle.std.specs.Prelude.{Err, IfOk, IfSome, IsOkAnd, None, Ok, OnOk, [], length, ℕ, ◌+◌, ◌<◌, ◌^◌, ◌≡◌, ◌≤◌};
 
 use crate::fault::AsmError;
 use crate::labels::{Labels, Site};
 use crate::{emission, layout};
 use rv32_asm_syntax::{LineError, first_label, first_line, statement_of, without_comment};
 use std::alloc::Global;
-
-// The first line of a text, and the text behind it, empty behind the last line.
-fn next_line(text: &[u8]) -> (&[u8], &[u8])
-    ensures lines { IsNextLine text.now result.0.now result.1.now }
-    ensures shorter { 0 < length text.now → length result.1.now < length text.now }
-{
-    match first_line(text) {
-        (line, Some(rest)) => (line, rest),
-        (line, None) => (line, &[]),
-    }
-}
 
 // An error in the line of a number.
 fn in_line(number: u32, error: LineError) -> AsmError
@@ -107,16 +96,12 @@ pub fn lay_out<'a>(alloc: Global, text: &'a [u8], size: u32) -> Result<Progress<
         address: 0,
         labels: Labels::new(alloc),
     };
-    let mut rest = text;
-    let mut number = 0;
-    while !rest.is_empty() {
-        number += 1;
-        let (line, behind) = next_line(rest);
+    let mut lines = NumberedLines::new(text);
+    while let Some((number, line)) = lines.next() {
         match after_line(alloc, size, number, progress, line) {
             Ok(after) => progress = after,
             Err(error) => return Err(in_line(number, error)),
         }
-        rest = behind;
     }
     Ok(progress)
 }
@@ -149,15 +134,49 @@ pub fn bytes_of(alloc: Global, text: &[u8], labels: &Labels, end: u32) -> Result
         spec.second_pass labels.now 1 [] (lines_of text.now) ≡ Err (record { line = line; code = code }) }
 {
     let mut bytes = Vec::with_capacity(alloc, end as usize)?;
-    let mut rest = text;
-    let mut number = 0;
-    while !rest.is_empty() {
-        number += 1;
-        let (line, behind) = next_line(rest);
+    let mut lines = NumberedLines::new(text);
+    while let Some((number, line)) = lines.next() {
         if let Err(error) = put_line(alloc, &mut bytes, labels, line) {
             return Err(in_line(number, error));
         }
-        rest = behind;
     }
     Ok(bytes)
+}
+
+// The lines of a text that are left, and how many came before them.
+#[derive(Drop)]
+struct NumberedLines<'a> {
+    rest: &'a [u8],
+    number: u32,
+}
+
+impl<'a> NumberedLines<'a> {
+    // All lines of a text.
+    fn new(text: &'a [u8]) -> Self
+        ensures rest { result.rest.now ≡ text.now }
+        ensures number { result.number ≡ 0 }
+    {
+        NumberedLines {
+            rest: text,
+            number: 0,
+        }
+    }
+
+    // The next line and its number, counted from 1, where there is one.
+    fn next(&mut self) -> Option<(u32, &'a [u8])>
+        requires { self.old.number + length self.old.rest.now < 2 ^ 32 }
+        ensures line { IfSome result (λ next. IsNextLine self.old.rest.now next.1.now self.new.rest.now) }
+        ensures number { IfSome result (λ next. next.0 ≡ self.old.number + 1) }
+        ensures counted { IfSome result (λ next. self.new.number ≡ next.0) }
+        ensures shorter { IfSome result (λ next. length self.new.rest.now < length self.old.rest.now) }
+        ensures none { result ≡ None → length self.old.rest.now ≡ 0 }
+    {
+        if self.rest.is_empty() {
+            return None;
+        }
+        let (line, rest) = first_line(self.rest);
+        self.rest = rest.unwrap_or(&[]);
+        self.number += 1;
+        Some((self.number, line))
+    }
 }

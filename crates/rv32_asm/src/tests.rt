@@ -434,6 +434,18 @@ fn a_program_may_begin_at_the_last_word(rt: HostRuntime) {
 }
 
 #[test]
+fn texts_of_errors(rt: HostRuntime) -> Result<(), Fail> {
+    let refused = AsmError::Fault {
+        line: 12,
+        code: AsmFault::Missing,
+    };
+    assert_eq!(rt; format!(in rt.alloc(); "{refused}")?.as_str(), "line 12: Missing");
+    let stopped = AsmError::NoMemory;
+    assert_eq!(rt; format!(in rt.alloc(); "{stopped}")?.as_str(), "no memory");
+    Ok(())
+}
+
+#[test]
 fn each_fault_is_told(rt: HostRuntime) {
     let table: [(&[u8], AsmFault); 37] = [
         (b"frob a0", AsmFault::Unknown),

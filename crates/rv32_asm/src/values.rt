@@ -1,4 +1,4 @@
-//! The values of expressions, and of the immediates that stand for them.
+// The values of expressions, and of the immediates that stand for them.
 
 ghost use Rattle.rv32_asm.specs.Values as spec;
 ghost use Rattle.rv32_asm_syntax.specs.Seen.{seen_expression, seen_immediate, seen_name};

@@ -1,4 +1,4 @@
-//! The characters of an assembly text: blanks, names and words.
+// The characters of an assembly text: blanks, names and words.
 
 ghost use Rattle.rv32_asm_syntax.specs.Characters as spec;
 ghost use Rattle.std.specs.List.{position_or_len, prefix_len};

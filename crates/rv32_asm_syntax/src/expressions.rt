@@ -1,4 +1,4 @@
-//! Expressions: a number, a label, or a label plus or minus a number.
+// Expressions: a number, a label, or a label plus or minus a number.
 
 ghost use Rattle.rv32_asm_syntax.specs.Expressions as spec;
 ghost use Rattle.rv32_asm_syntax.specs.Seen.{seen_expression};

@@ -60,7 +60,7 @@ impl fmt::Display for AsmFault {
 pub enum LineError {
     /// What is wrong with it.
     Fault(AsmFault),
-    /// Memory for the emulator itself was not to be had.
+    /// The emulator itself is out of memory.
     NoMemory,
 }
 

@@ -1,4 +1,4 @@
-//! The words that a statement begins with, and which operands stand behind them.
+// The words that a statement begins with, and which operands stand behind them.
 
 ghost use Rattle.rv32_asm_syntax.specs.Keywords as spec;
 ghost use Rattle.rv32_asm_syntax.specs.Seen.{seen_keyword, seen_operand};

@@ -1,4 +1,5 @@
-//! What the lines of an assembly text say, in the assembly language of the RISC-V unprivileged manual.
+//! What the lines of an assembly text say, in this project's assembly language (docs/FORMATS.md), which is mostly GNU
+//! as's.
 #![tactic(auto)]
 
 mod characters;

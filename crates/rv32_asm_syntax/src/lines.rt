@@ -1,4 +1,4 @@
-//! An assembly text cut into lines, and a line without its comment.
+// An assembly text cut into lines, and a line without its comment.
 
 ghost use Rattle.rv32_asm_syntax.specs.Lines as spec;
 ghost use Rattle.rv32_asm_syntax.specs.Parts as parts;

@@ -1,4 +1,4 @@
-//! Numbers of an assembly text.
+// Numbers of an assembly text.
 
 ghost use Rattle.rv32_asm_syntax.specs.Numbers as spec;
 ghost use Rattle.rv32_asm_syntax.specs.Numbers.{in_range};

@@ -1,4 +1,4 @@
-//! Operands: the texts between commas, and what they give an instruction.
+// Operands: the texts between commas, and what they give an instruction.
 
 ghost use Rattle.rv32_asm_syntax.specs.Parts.{comma_parts, operands_left, two};
 ghost use Rattle.rv32_asm_syntax.specs.Reading as spec;

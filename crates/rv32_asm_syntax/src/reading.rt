@@ -1,4 +1,4 @@
-//! The statement of a line: its word, and the operands behind it.
+// The statement of a line: its word, and the operands behind it.
 
 ghost use Rattle.rv32_asm_syntax.specs.Keywords.{AlignKeyword, AsciiKeyword, AscizKeyword, InstructionKeyword, SpaceKeyword};
 ghost use Rattle.rv32_asm_syntax.specs.Lines as lines;

@@ -1,4 +1,4 @@
-//! The names of registers.
+// The names of registers.
 
 ghost use Rattle.rv32_asm_syntax.specs.Registers as spec;
 ghost use Rattle.rv32_asm_syntax.specs.Registers.{names_of};

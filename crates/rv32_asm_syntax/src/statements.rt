@@ -1,4 +1,4 @@
-//! What a statement is, apart from how it is spelled.
+// What a statement is, apart from how it is spelled.
 
 ghost use Rattle.std.specs.Prelude.{pos, neg_ℤ, ◌≤ℤ◌, ◌<◌, ◌^◌};
 

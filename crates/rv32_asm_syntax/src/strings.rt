@@ -1,4 +1,4 @@
-//! Strings in quotation marks.
+// Strings in quotation marks.
 
 ghost use Rattle.rv32_asm_syntax.specs.Characters.{backslash, quotation_mark};
 ghost use Rattle.rv32_asm_syntax.specs.Reading as spec;
