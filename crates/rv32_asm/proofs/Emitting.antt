@@ -29,7 +29,7 @@ code_misses labels is = list_any (is_missing labels) (expressions_in (meant.Inst
 abbrev pub data_misses : List Label → List Expression → Bool
 data_misses labels es = list_any (is_missing labels) (seen_expressions es)
 
--- ---- bytes with more address_behind them
+-- ---- bytes with more behind them
 
 pub fault_in : (bytes : List ℕ) (more : Result (List ℕ) AsmFault) (fault : AsmFault) → with_more bytes more ≡ Err fault → more ≡ Err fault
 fault_in bytes (Ok more) fault e = cc
@@ -53,7 +53,7 @@ some_is false x y e = cc
 
 -- ---- instructions
 
--- bytes with those of instructions address_behind them
+-- bytes with those of instructions behind them
 abbrev pub coded : List Label → List ℕ → List Instruction → Result (List ℕ) AsmFault
 coded labels bytes is = with_more bytes (ranged_code labels (length bytes) (seen_instructions is))
 

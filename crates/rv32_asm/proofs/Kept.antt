@@ -98,7 +98,7 @@ in_reach even low a high b far z result e f g h found = let there = rw (f, g, h)
 
 -- ---- the instruction
 
--- the fields that are own_fields, and an immediate in its range, are those of the format
+-- the fields of the format, and an immediate in its range, are those of the format
 fits_kept : (f : Format) (i : Inst) (address : ℕ) (value : ℤ) → fits_format f address value ≡ true →
     i.imm ≡ immediate_of f address value → FitsFormat f (own_fields f i)
 unfolding FitsFormat

@@ -13,6 +13,16 @@ use Rattle.sec_base.specs.Segment.{from_zero}
 use Rattle.rv32_asm.specs.Passes.{Progress, after_line, line_bytes}
 use Rattle.rv32_asm.specs.Values.{lower_part, modulo, upper_part}
 
+-- the texts of words from an address on, each at its word's address and in a line of its own
+abbrev pub source : ℕ → List ℕ → List ℕ
+source address [] = []
+source address (word ∷ words) = text_of_word word address ++ line_feed ∷ source (address + 4) words
+
+-- the program of that text is the words, as many as the memory holds: what a disassembly says is assembled again
+abbrev pub TextsAreProgram : ℕ → Type 0
+TextsAreProgram size = (words : List ℕ) → All (λ word. word < 2 ^ 32) words → 4 * length words ≤ size →
+    assembled_program (source 0 words) size ≡ Ok (record { entry = 0; segments = from_zero (flat_map (to_le_bytes w32) words) })
+
 -- A text is read back as a word at the line's own address: it is one line, at the end of a text and before further lines.
 -- The line has no fault in either pass, whatever labels there are; it adds no label, and its bytes are the word's.
 pub record IsReadBack (size : ℕ) (text : List ℕ) (word address : ℕ) : Type 0 where
@@ -22,7 +32,7 @@ pub record IsReadBack (size : ℕ) (text : List ℕ) (word address : ℕ) : Type
       after_line size number progress text ≡ Ok (record progress { address = address + 4 })
   pub in_second_pass : (labels : List Label) → line_bytes labels address text ≡ Ok (to_le_bytes w32 word)
 
--- so it is with the text of each word, wherever it can stand: at a multiple of 4 with four bytes of memory address_behind it
+-- so it is with the text of each word, wherever it can stand: at a multiple of 4 with four bytes of memory behind it
 abbrev pub TextsAreWords : ℕ → Type 0
 TextsAreWords size = (word address : ℕ) → word < 2 ^ 32 → address % 4 ≡ 0 → address + 4 ≤ size →
     IsReadBack size (text_of_word word address) word address
@@ -31,16 +41,6 @@ TextsAreWords size = (word address : ℕ) → word < 2 ^ 32 → address % 4 ≡ 
 abbrev pub TextsAreInstructions : ℕ → Type 0
 TextsAreInstructions size = (i : Inst) (address : ℕ) → IsInst i → address % 4 ≡ 0 → address + 4 ≤ size →
     IsReadBack size (text_of i address) (word_of i) address
-
--- the texts of words from an address on, each at its word's address and in a line of its own
-abbrev pub source : ℕ → List ℕ → List ℕ
-source address [] = []
-source address (word ∷ words) = text_of_word word address ++ line_feed ∷ source (address + 4) words
-
--- the program of that text is the words, as many as the memory holds
-abbrev pub TextsAreProgram : ℕ → Type 0
-TextsAreProgram size = (words : List ℕ) → All (λ word. word < 2 ^ 32) words → 4 * length words ≤ size →
-    assembled_program (source 0 words) size ≡ Ok (record { entry = 0; segments = from_zero (flat_map (to_le_bytes w32) words) })
 
 -- what LUI loads of a word and what ADDI adds to it make the word, modulo 2^32
 abbrev pub PartsMakeWord : ℕ → Type 0

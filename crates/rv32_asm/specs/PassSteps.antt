@@ -13,7 +13,7 @@ use Rattle.rv32_asm.specs.SeenLabels.{AreAlike}
 
 -- ---- lines
 
--- the first line of a text, and the text address_behind it, empty address_behind the last line
+-- the first line of a text, and the text behind it, empty behind the last line
 abbrev pub IsNextLine : List ℕ → List ℕ → List ℕ → Type 0
 IsNextLine text line rest =
     (lines_of text ≡ line ∷ lines_of rest) ⊎ ((lines_of text ≡ line ∷ []) × (rest ≡ []))
@@ -25,11 +25,11 @@ error_in_line number NoMemory = error.NoMemory
 
 -- ---- addresses
 
--- the address address_behind a line
+-- the address behind a line
 unfoldable pub behind_line : ℕ → List ℕ → Result ℕ AsmFault
 behind_line address line = statement_of line >>= address_behind address
 
--- the address address_behind lines
+-- the address behind lines
 unfoldable pub end_of : ℕ → List (List ℕ) → Result ℕ AsmFault
 end_of address [] = Ok address
 end_of address (line ∷ lines) = do

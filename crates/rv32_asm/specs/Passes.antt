@@ -42,12 +42,12 @@ with_names address line (name ∷ names) labels =
     if is_there labels name then Err Twice
     else with_names address line names (record { name = name; site = record { address = address; line = line } } ∷ labels)
 
--- the address address_behind a statement, if it may stand there
+-- the address behind a statement, if it may stand there
 abbrev pub address_behind : ℕ → Statement → Result ℕ AsmFault
 address_behind address statement =
     if is_misplaced address statement then Err Range else Ok (address + size_at address statement)
 
--- the address address_behind a statement in a memory of a size
+-- the address behind a statement in a memory of a size
 abbrev pub address_after : ℕ → ℕ → Statement → Result ℕ AsmFault
 address_after size address statement = do
   after ← address_behind address statement

@@ -14,7 +14,7 @@ entry_at size None = Ok 0
 entry_at size (Some site) =
     if is_entry size site.address then Ok site.address else Err (record { line = site.line; code = Range })
 
--- The program of a text for a memory of a size, one segment from 0 on of all that was statement_bytes, or the first fault: of the
+-- The program of a text for a memory of a size, one segment from 0 on of all that was emitted, or the first fault: of the
 -- first pass, of the second, of the entry.
 unfoldable pub assembled_program : List ℕ → ℕ → Result Program LineFault
 assembled_program text size = do

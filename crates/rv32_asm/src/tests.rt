@@ -439,7 +439,10 @@ fn texts_of_errors(rt: HostRuntime) -> Result<(), Fail> {
         line: 12,
         code: AsmFault::Missing,
     };
-    assert_eq!(rt; format!(in rt.alloc(); "{refused}")?.as_str(), "line 12: Missing");
+    assert_eq!(rt;
+        format!(in rt.alloc(); "{refused}")?.as_str(),
+        "line 12: Missing"
+    );
     let stopped = AsmError::NoMemory;
     assert_eq!(rt; format!(in rt.alloc(); "{stopped}")?.as_str(), "no memory");
     Ok(())
