@@ -1,4 +1,4 @@
-use Rattle.std.proofs.Common.{◌≡◌, ◌-◌, ◌^◌, ◌<◌, rules, arith}
+use Rattle.std.proofs.Common.{◌≡◌, ◌-◌, ◌^◌, ◌<◌, arith}
 use Rattle.sec_base.specs.Geometry.{node_number, node_end}
 use Rattle.sec_base.proofs.Numbers.{number_inside}
 use Rattle.sec_base.proofs.geometry.Geometry.node_number.Goals as goal
