@@ -1,7 +1,7 @@
 // The bus that leads outside the chip.
 ghost use Rattle.std.specs.Prelude.{◌≡◌, IfOk, OnOk, OnErr};
-ghost use Rattle.sec_base.specs.Place.{IsPlace};
 ghost use Rattle.sec_base.specs.Evidence.{sealed_bytes};
+ghost use Rattle.sec_base.specs.Place.{IsPlace};
 ghost use Rattle.sec_base.specs.declared.place.Place.TheVariants.{Line, Node};
 ghost use Rattle.bus_model.specs.BusHistory.{BusHistory, after_read, after_write};
 

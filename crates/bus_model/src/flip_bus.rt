@@ -1,8 +1,8 @@
 // A bus that is honest but for one answer.
 ghost use Rattle.std.specs.Prelude.{◌≡◌, ◌<◌, not, IsOk, IfOk, OnOk, OnErr};
 ghost use Rattle.std.specs.Str.{bytes_eq};
-ghost use Rattle.sec_base.specs.Place.{IsPlace, place_size};
 ghost use Rattle.sec_base.specs.Evidence.{sealed_bytes};
+ghost use Rattle.sec_base.specs.Place.{IsPlace, place_size};
 ghost use Rattle.sec_base.specs.declared.place.Place.TheVariants.{Line, Node};
 ghost use Rattle.bus_model.specs.BusHistory.{new_history, after_read, after_write};
 ghost use Rattle.bus_model.specs.FlipBus.{flip_history, is_due, with_flip, next_answer};

@@ -1,7 +1,7 @@
 // A bus that answers what was written.
 ghost use Rattle.std.specs.Prelude.{◌≡◌, replicate, IsOk, IfOk, OnOk, OnErr};
-ghost use Rattle.sec_base.specs.Place.{IsPlace};
 ghost use Rattle.sec_base.specs.Evidence.{sealed_bytes};
+ghost use Rattle.sec_base.specs.Place.{IsPlace};
 ghost use Rattle.sec_base.specs.declared.place.Place.TheVariants.{Line, Node};
 ghost use Rattle.bus_model.specs.BusHistory.{new_history, after_read, after_write};
 ghost use Rattle.bus_model.specs.HonestBus.{honest_history, empty_line, empty_node};

@@ -3,8 +3,8 @@
 ghost use Rattle.std.specs.Prelude.{◌≡◌};
 ghost use Rattle.sec_base.specs.Place.{IsPlace};
 ghost use Rattle.sec_base.specs.declared.place.Place.TheVariants.{Line, Node};
-ghost use Rattle.bus_model.specs.HonestBus.{honest_history};
 ghost use Rattle.bus_model.specs.FlipBus.{flip_history};
+ghost use Rattle.bus_model.specs.HonestBus.{honest_history};
 
 use crate::{Bus, FlipBus, HonestBus};
 use sec_base::{Geometry, NoMemory, Place, Sealed};

@@ -10,15 +10,15 @@ ghost use Rattle.sec_base.specs.Place.{IsPlace};
 ghost use Rattle.sec_base.specs.declared.counter.Counter.{Counter};
 ghost use Rattle.sec_base.specs.declared.evidence.Evidence.TheVariants.{Forgery};
 ghost use Rattle.sec_base.specs.declared.message.Message.TheVariants.{Line};
-ghost use Rattle.sec_base.specs.declared.place.Place.TheVariants.{Line as line_place};
 ghost use Rattle.sec_base.specs.declared.place.Place.{Place};
+ghost use Rattle.sec_base.specs.declared.place.Place.TheVariants.{Line as line_place};
 ghost use Rattle.sec_base.specs.declared.sealed.Sealed.{Sealed};
-ghost use Rattle.sec_base.specs.declared.stop.MemStop.TheVariants.{Tampered, Spent};
 ghost use Rattle.sec_base.specs.declared.stop.MemStop.{MemStop};
+ghost use Rattle.sec_base.specs.declared.stop.MemStop.TheVariants.{Tampered, Spent};
 ghost use Rattle.bus_model.specs.BusHistory.{NothingWritten, after_write};
+ghost use Rattle.tag_engine.specs.TagEngine.{after_make, tags_of};
 ghost use Rattle.pad_stream.specs.Pad.{cipher_of};
 ghost use Rattle.pad_stream.specs.PadEngine.{after_encrypt};
-ghost use Rattle.tag_engine.specs.TagEngine.{after_make, tags_of};
 ghost use Rattle.chip_run.specs.Contents.{counter_of, line_writes, sealed_line};
 ghost use Rattle.chip_run.specs.LineMemory.{IsCheckedRead, IsLineMemory, IsNextWrite, IsQuiet, Moves, ReadMoved, contents, lasting_stop, lines_of, new_line_memory, tag_in};
 

@@ -369,17 +369,24 @@ fn honest(
     Ok((record, sealed.cipher))
 }
 
-// The program that exits with 65, where the first read of line 64 is answered with its lowest bit flipped, and how
-// many answers were false.
-fn flipped<T: Tagger>(alloc: Global, tagger: T) -> Result<(RunRecord, u64), Fail> {
+// A program of a few words, where the `k`-th read of line 64 is answered with its lowest bit flipped, and how many
+// answers were false.
+fn flipped<T: Tagger>(
+    alloc: Global,
+    words: &[u32],
+    k: u64,
+    tagger: T,
+) -> Result<(RunRecord, u64), Fail>
+    requires { length words.now ≤ 16 }
+{
     let geometry = Geometry::new(1).ok_or("no geometry")?;
     let image = Image {
         entry: 0,
         size: 16384,
-        segments: flat(alloc, &EXIT_65)?,
+        segments: flat(alloc, words)?,
     };
     let setup = setup(geometry, 99, u64::MAX);
-    let bus = FlipBus::new(alloc, geometry, Place::Line(64), 1, 0, 1)?;
+    let bus = FlipBus::new(alloc, geometry, Place::Line(64), k, 0, 1)?;
     let mut out = MemorySink::new(alloc, &[])?;
     let (record, bus) = run(alloc, &image, &[], &setup, tagger, bus, &mut out);
     Ok((record, bus.lies()))
@@ -461,7 +468,7 @@ fn equal_bytes_are_enciphered_anew_by_each_write(rt: HostRuntime) -> Result<(), 
 
 #[test]
 fn a_false_answer_that_fails_its_check_ends_the_run(rt: HostRuntime) -> Result<(), Fail> {
-    let (done, lies) = flipped(rt.alloc(), HmacTagger::new(&keys()))?;
+    let (done, lies) = flipped(rt.alloc(), &EXIT_65, 1, HmacTagger::new(&keys()))?;
     assert_eq!(rt; done.ending, Ending::Tampered(Place::Line(64)));
     assert_eq!(rt; done.retired, 3);
     assert_eq!(rt; done.evidence, None);
@@ -469,9 +476,22 @@ fn a_false_answer_that_fails_its_check_ends_the_run(rt: HostRuntime) -> Result<(
     Ok(())
 }
 
+// The second store of line 64 reads what the first one wrote, and the load reads it once more.
+#[test]
+fn a_line_is_read_by_each_access(rt: HostRuntime) -> Result<(), Fail> {
+    for (k, retired) in [(1, 3), (2, 4)] {
+        let tagger = HmacTagger::new(&keys());
+        let (done, lies) = flipped(rt.alloc(), &EXIT_65_AGAIN, k, tagger)?;
+        assert_eq!(rt; done.ending, Ending::Tampered(Place::Line(64)), "read {k}");
+        assert_eq!(rt; done.retired, retired, "read {k}");
+        assert_eq!(rt; lies, 1, "read {k}");
+    }
+    Ok(())
+}
+
 #[test]
 fn a_false_answer_that_passes_its_check_is_shown(rt: HostRuntime) -> Result<(), Fail> {
-    let (done, lies) = flipped(rt.alloc(), Zeros)?;
+    let (done, lies) = flipped(rt.alloc(), &EXIT_65, 1, Zeros)?;
     assert_eq!(rt; done.ending, Ending::Halted(64));
     assert_eq!(rt; done.retired, 6);
     let mut cipher = CIPHER_65;

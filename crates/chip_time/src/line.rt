@@ -10,6 +10,7 @@ use sec_base::{Geometry, LineStore, MemStop, NoMemory, NoMemoryWith};
 use std::alloc::Global;
 
 /// The first line of a memory of one level, and the bytes that are written next or were read last.
+#[derive(Drop)]
 pub(crate) struct TimedLine {
     memory: LineMemory<HonestBus, HmacTagger>,
     bytes: [u8; 64],

@@ -1,3 +1,4 @@
+// The keys that a device key gives.
 ghost use Rattle.std.specs.Prelude.{◌≡◌};
 ghost use Rattle.hmac_tag.specs.DeviceKeys.{keys_of};
 

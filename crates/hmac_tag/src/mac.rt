@@ -1,3 +1,4 @@
+// HMAC with SHA-256.
 ghost use Rattle.std.specs.Prelude.{◌≡◌, ◌≤◌, length, map, take, bit_xor};
 ghost use Rattle.hmac_tag.specs.Hmac.{padded_key, block_key, hmac_of, hmac_under};
 
@@ -13,7 +14,7 @@ const INNER_PAD: u8 = 0x36;
 // The byte of opad.
 const OUTER_PAD: u8 = 0x5c;
 
-/// A key of at most a block, with zeros up to a block (FIPS 198-1, 4, steps 1 and 3).
+// A key of at most a block, with zeros up to a block (FIPS 198-1, 4, steps 1 and 3).
 fn padded(key: &[u8]) -> [u8; 64]
     requires { length key.now ≤ 64 }
     ensures { result ≡ padded_key key.now }
@@ -23,7 +24,7 @@ fn padded(key: &[u8]) -> [u8; 64]
     block
 }
 
-/// The key as one block, K0 (FIPS 198-1, 4, steps 1 to 3).
+// The key as one block, K0 (FIPS 198-1, 4, steps 1 to 3).
 #[tactic(auto, unfolding(crate::specs::Hmac::block_key))]
 fn block_of(key: &[u8]) -> [u8; 64]
     ensures { result ≡ block_key key.now }
@@ -35,7 +36,7 @@ fn block_of(key: &[u8]) -> [u8; 64]
     }
 }
 
-/// Each byte of the block xor `pad`.
+// Each byte of the block xor `pad`.
 fn xor_each(block: &[u8; 64], pad: u8) -> [u8; 64]
     ensures { result ≡ map (λ byte. bit_xor byte pad) block.now }
 {

@@ -1,6 +1,7 @@
+// Tags of messages by HMAC.
 ghost use Rattle.std.specs.Prelude.{◌≡◌};
-ghost use Rattle.hmac_tag.specs.Tags.{tag_of};
 ghost use Rattle.hmac_tag.specs.TagLengths.{length-tag_of};
+ghost use Rattle.hmac_tag.specs.Tags.{tag_of};
 
 use crate::derivation::Keys;
 use crate::mac::{HmacKey, first_16};

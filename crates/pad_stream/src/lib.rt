@@ -3,9 +3,9 @@
 //! engine is given up, so a chip that uses it can't decide by it.
 #![tactic(auto)]
 
-mod engine;
 mod pad;
+mod pad_engine;
 #[cfg(test)]
 mod tests;
 
-pub use engine::PadEngine;
+pub use pad_engine::PadEngine;

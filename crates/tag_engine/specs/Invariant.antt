@@ -6,7 +6,7 @@ use Rattle.sec_base.specs.Evidence.{IsEvidence}
 use Rattle.sec_base.specs.Geometry.{IsNode, line_count, node_end, node_number}
 use Rattle.sec_base.specs.LastMessage.{data_part, last_at, node_part}
 use Rattle.tag_engine.specs.TagEngine.{TagEngineView}
-use Rattle.tag_engine.specs.declared.engine.TagEngine.TheInside.{Inside}
+use Rattle.tag_engine.specs.declared.tag_engine.TagEngine.TheInside.{Inside}
 
 -- where the last message stands that has a part
 abbrev pub last_place : {B : Type 0} → (Message → Option B) → List Message → Option ℕ

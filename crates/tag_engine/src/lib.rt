@@ -3,8 +3,8 @@
 //! so a chip that uses it can't decide by them.
 #![tactic(auto)]
 
-mod engine;
+mod tag_engine;
 #[cfg(test)]
 mod tests;
 
-pub use engine::TagEngine;
+pub use tag_engine::TagEngine;

@@ -1,7 +1,6 @@
 // Each public call once with ample memory. The tag that is wanted is the message's first 16 bytes, put together by
 // hand: 44, the line and the page's counter, the lowest byte first, and the line's own counter.
-ghost use Rattle.std.specs.Prelude.{[], ◌∷◌, refl, slice_index};
-ghost use Rattle.std.specs.Prelude.{replicate};
+ghost use Rattle.std.specs.Prelude.{[], ◌∷◌, refl, slice_index, replicate};
 
 use crate::TagEngine;
 use sec_base::{Counter, Evidence, Geometry, Message, Sealed, Tagger};

@@ -2,7 +2,7 @@ use Rattle.std.proofs.Common.{refl, arith, length, ◌+◌, ◌≤◌}
 use Rattle.std.specs.Vec.{vec_capacity}
 use Rattle.tag_engine.specs.Invariant.{engine_view}
 use Rattle.tag_engine.proofs.Upkeep.{kept_made}
-use Rattle.tag_engine.proofs.engine.TagEngine.make_data.Goals as goal
+use Rattle.tag_engine.proofs.tag_engine.TagEngine.make_data.Goals as goal
 
 pub invariant_of-self-2 : goal.invariant_of-self-2
 invariant_of-self-2 g c =

@@ -3,7 +3,7 @@ use Rattle.sec_base.specs.declared.message.Message.TheVariants.{Line}
 use Rattle.tag_engine.specs.Invariant.{engine_view}
 use Rattle.tag_engine.specs.TagEngine.{tags_of}
 use Rattle.tag_engine.proofs.Upkeep.{place_within, kept_shown, failed_check, known_before}
-use Rattle.tag_engine.proofs.engine.TagEngine.check_data.Goals as goal
+use Rattle.tag_engine.proofs.tag_engine.TagEngine.check_data.Goals as goal
 
 pub returns-then-ne-clause-state : goal.returns-then-ne-clause-state
 returns-then-ne-clause-state g c = failed_check c.args.self.now c.args.line c.args.counter c.args.sealed.now

@@ -2,7 +2,7 @@ use Rattle.std.proofs.Common.{rules}
 use Rattle.std.specs.Vec.{vec_capacity}
 use Rattle.tag_engine.specs.TagEngine.{tags_of, new_engine}
 use Rattle.tag_engine.proofs.Upkeep.{kept_new}
-use Rattle.tag_engine.proofs.engine.TagEngine.new.Goals as goal
+use Rattle.tag_engine.proofs.tag_engine.TagEngine.new.Goals as goal
 
 pub invariant_of-result : goal.invariant_of-result
 invariant_of-result g c =

@@ -1,3 +1,4 @@
+// The engine that enciphers and deciphers the lines of one memory.
 ghost use Rattle.std.specs.Prelude.{◌≡◌, ◌<◌, IsOk, IfOk, OnOk, OnErr};
 ghost use Rattle.pad_stream.specs.Pad.{cipher_of};
 ghost use Rattle.pad_stream.specs.PadEngine.{PadEngineView, new_pads, with_room, after_encrypt};
