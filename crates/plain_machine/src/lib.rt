@@ -6,7 +6,7 @@ ghost use Rattle.sec_base.specs.Count.{Rose};
 ghost use Rattle.sec_base.specs.Opening.{opening_memory};
 ghost use Rattle.sec_base.specs.Sink.{Gains};
 ghost use Rattle.sec_base.specs.declared.place.Place.{Place};
-ghost use Rattle.sec_base.specs.declared.ending.Ending.TheVariants.{OutOfSteps, Tampered, Spent, WriteFault, NoMemory as memory_ended};
+ghost use Rattle.sec_base.specs.declared.ending.Ending.TheVariants.{OutOfSteps, Tampered, Spent, WriteFault, NoMemory as no_memory};
 ghost use Rattle.rv32_core.specs.Effect.{next};
 ghost use Rattle.rv32_core.specs.Outcome.{prints_of};
 ghost use Rattle.rv32_core.specs.Machine.{opening, plain};
@@ -48,7 +48,7 @@ pub fn run<S: Sink>(
         × Follows (opening image.now input.now) budget result.retired result.ending printed }
 
     // Where the sink had no fault and memory was to be had, it is the plain machine's run over the whole budget.
-    ensures whole { ¬ (Rose (S.state out.old).faults (S.state out.new).faults) → result.ending ≢ memory_ended →
+    ensures whole { ¬ (Rose (S.state out.old).faults (S.state out.new).faults) → result.ending ≢ no_memory →
         IsWhole (opening image.now input.now) budget result.retired result.ending }
 
     // The budget ends a run exactly where it is used up by a program that goes on.
@@ -65,8 +65,8 @@ pub fn run<S: Sink>(
     // A stop comes only where the budget allows one more instruction, or none at all.
     ensures early { IsStop result.ending → 0 < budget → result.retired < budget }
 
-    // Memory is wanting before the first instruction, or where the sink finds none for what an instruction prints.
-    ensures no_memory { result.ending ≡ memory_ended → (result.retired ≡ 0)
+    // It is out of memory before the first instruction, or where the sink is at one that prints.
+    ensures no_memory { result.ending ≡ no_memory → (result.retired ≡ 0)
         ⊎ (0 < length (prints_of (next (plain (opening image.now input.now) result.retired).state))) }
     ensures prints { result.ending ≡ WriteFault →
         0 < length (prints_of (next (plain (opening image.now input.now) result.retired).state)) }

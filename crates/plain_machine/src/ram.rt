@@ -23,7 +23,7 @@ impl Model for FlatRam {
 }
 
 impl FlatRam {
-    /// A memory of so many bytes, all of them 0. Only want of memory refuses it.
+    /// A memory of so many bytes, all of them 0. It fails only where the emulator is out of memory.
     pub fn new(alloc: Global, size: u32) -> Result<FlatRam, NoMemory>
         ensures zeros { IfOk result (λ memory. memory ≡ replicate size 0) }
         ensures size { IfOk result (λ memory. length memory ≡ size) }

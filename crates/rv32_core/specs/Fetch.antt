@@ -1,4 +1,4 @@
--- A fetch, and how it stops.
+-- A fetch, and how it stops. The contract of a private function alone cites it.
 use Rattle.std.specs.Prelude.{◌≡◌, ◌+◌, ◌<◌, ◌≤◌, ℕ, List, length, Option, Some, None, Result, Ok, Err}
 use Rattle.sec_base.specs.Width.{number_at}
 use Rattle.sec_base.specs.declared.width.Width.TheVariants.{Four}
@@ -14,7 +14,7 @@ IsFetched memory pc (Err (Trap cause)) = (length memory < pc + 4) × (cause ≡ 
 IsFetched memory pc (Err (Mem stop)) = Unit {0}
 IsFetched memory pc (Err WriteFault) = ⊥
 
--- the memory's stop is what the fetch answers, and it answers no other
+-- the fetch returns the stop that the memory gave in it, and no other
 abbrev pub StopsFetch : Option MemStop → Result ℕ StepStop → Type 0
 StopsFetch (Some stop) result = result ≡ Err (Mem stop)
 StopsFetch None (Ok word) = Unit {0}

@@ -44,19 +44,19 @@ IsOutcome instruction (Err (Mem stop)) old new printed =
     IsPrefix printed (prints_of instruction) × IsHalfDone instruction old new.memory
 IsOutcome instruction (Err WriteFault) old new printed = IsPrefix printed (prints_of instruction) × (new.memory ≡ old.memory)
 
--- A step answers the stop that the memory gave in it, and no other but want of memory.
+-- A step returns the stop that the memory gave in it, and else none but that the emulator is out of memory.
 abbrev pub CarriesStop : Option MemStop → Result Step StepStop → Type 0
 CarriesStop (Some stop) result = result ≡ Err (Mem stop)
 CarriesStop None result = (stop : MemStop) → result ≡ Err (Mem stop) → stop ≡ NoMemory
 
--- Where the memory did not stop, only an instruction that prints is stopped otherwise than by a trap.
+-- Where the memory did not stop, only an instruction that prints stops otherwise than by a trap.
 abbrev pub IsSinkStop : Result Step StepStop → Result After Cause → Type 0
 IsSinkStop (Ok step) instruction = Unit {0}
 IsSinkStop (Err (Trap cause)) instruction = Unit {0}
 IsSinkStop (Err (Mem stop)) instruction = 0 < length (prints_of instruction)
 IsSinkStop (Err WriteFault) instruction = 0 < length (prints_of instruction)
 
--- it went well or trapped
+-- It went well or trapped. The contracts of private functions alone cite it.
 abbrev pub OnlyTraps : Result Step StepStop → Type 0
 OnlyTraps (Ok step) = Unit {0}
 OnlyTraps (Err (Trap cause)) = Unit {0}

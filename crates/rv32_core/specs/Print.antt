@@ -16,7 +16,7 @@ abbrev pub IsPrinted : Result Unit StepStop → List ℕ → List ℕ → Type 0
 IsPrinted (Ok after_result) whole printed = printed ≡ whole
 IsPrinted (Err stop) whole printed = IsPrefix printed whole
 
--- the memory's stop in the call is what the call answers, and it answers no other but want of memory
+-- the call returns the stop that the memory gave in it, and else none but that the emulator is out of memory
 abbrev pub StopsAs : Option MemStop → Result Unit StepStop → Type 0
 StopsAs (Some stop) result = result ≡ Err (Mem stop)
 StopsAs None (Ok after_result) = Unit {0}

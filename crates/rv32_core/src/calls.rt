@@ -64,7 +64,7 @@ impl<'a> Calls<'a> {
         self.position += count;
     }
 
-    /// Moves the break to an address where it may stand, and answers the break.
+    /// Moves the break to an address where it may stand, and returns the break.
     pub(crate) fn move_break(&mut self, address: u32, size: u32) -> u32
         ensures answer { result ≡ (if is_break self.old size address then address else self.old.brk) }
         ensures moved { self.new ≡ with_break self.old result }

@@ -17,7 +17,7 @@ Reaches start n core calls memory printed = plain start n ≡ record {
   exit = None;
 }
 
--- the memory ended it: as tampering, as used up, or for want of memory
+-- the memory ended it: as tampering, as used up, or because the emulator is out of memory
 abbrev pub IsMemoryEnding : Ending → Type 0
 IsMemoryEnding (Halted code) = ⊥
 IsMemoryEnding (Trapped cause pc) = ⊥
@@ -64,7 +64,7 @@ stop_ending (tampered place) = Tampered place
 stop_ending (spent page) = Spent page
 stop_ending no_memory = NoMemory
 
--- It ends as the stop that the memory gave, and as no other but want of memory.
+-- It ends as the stop that the memory gave, and else by none but that the emulator is out of memory.
 abbrev pub CarriesEnding : Option MemStop → Option Ending → Type 0
 CarriesEnding (Some stop) ending = ending ≡ Some (stop_ending stop)
 CarriesEnding None ending = (stop : MemStop) → ending ≡ Some (stop_ending stop) → stop ≡ no_memory

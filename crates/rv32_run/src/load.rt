@@ -53,7 +53,7 @@ fn store_segment<M: Ram>(ram: &mut M, segment: &Segment) -> Result<(), MemStop>
     Ok(())
 }
 
-// Stores the next word of a segment's memory, or a byte where no word begins, and answers how many bytes it stored.
+// Stores the next word of a segment's memory, or a byte where no word begins, and returns how many bytes it stored.
 fn store_next<M: Ram>(ram: &mut M, segment: &Segment, at: u32) -> Result<u32, MemStop>
     requires segment { IsSegment (M.extent ram.old) segment.now }
     requires small { M.extent ram.old < 2 ^ 32 }

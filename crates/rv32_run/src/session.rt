@@ -125,7 +125,7 @@ impl<'a, M: Ram> Session<'a, M> {
     }
 }
 
-// Does one instruction, where the budget allows one more, and answers how the run ended, if it did. The count of retired
+// Does one instruction, where the budget allows one more, and returns how the run ended, if it did. The count of retired
 // instructions is apart from the session, since a run would else store it at each instruction.
 #[inline(always)]
 fn turn<M: Ram, S: Sink>(
