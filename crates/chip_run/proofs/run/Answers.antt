@@ -55,14 +55,14 @@ stored : (g : Over) (c : goal.After-close-2 g) → Moves g.B.Bus.history g.B.Bus
     (new_line_memory c.args.bus c.args.tagger c.args.setup.now.keys.enc_key c.args.setup.now.geometry c.args.setup.now.page_limit) c.store_image.new.ram.lines
 stored g c =
     stored_moves g.B.Bus.history g.B.Bus.moved (tags_of g.T.Tagger.data_tag_of g.T.Tagger.node_tag_of) _ c.new-memory.result.lines c.store_image.new.ram.lines
-    c.in_default.ensures.moved.0 (booted g c) c.in_default.ensures.moved.1
+    c.in_default.ensures.moved.lines (booted g c) c.in_default.ensures.moved.moved
 
 -- and the whole run
 moved : (g : Over) (c : goal.After-close-2 g) → Moves g.B.Bus.history g.B.Bus.moved (tags_of g.T.Tagger.data_tag_of g.T.Tagger.node_tag_of)
     (new_line_memory c.args.bus c.args.tagger c.args.setup.now.keys.enc_key c.args.setup.now.geometry c.args.setup.now.page_limit) c.finish-ending.new.self.memory.lines
 moved g c =
     whole_moves g.B.Bus.history g.B.Bus.moved (tags_of g.T.Tagger.data_tag_of g.T.Tagger.node_tag_of) _ c.new-memory.result.lines c.store_image.new.ram.lines
-    c.in_default.ensures.moved.0 (booted g c) c.in_default.ensures.moved.1
+    c.in_default.ensures.moved.lines (booted g c) c.in_default.ensures.moved.moved
     g.met.B.Bus.moved_on c.new-session.result.memory.lines c.finish-ending.new.self.memory.lines c.finish-ending.ensures.moved.lines
     (ap (λ memory. memory.lines) c.new-session.ensures.memory) c.finish-ending.ensures.moved.moved
 
