@@ -3,6 +3,7 @@ pub mod Plain
 pub mod Printed
 pub mod Rows
 pub mod Serving
+pub mod Signed
 pub mod Steps
 pub mod Storing
 pub mod TouchedLines

@@ -1,22 +1,16 @@
 -- What the instructions compute from words: the RISC-V unprivileged manual, RV32I 2.1 (section 2.4) and M 2.0.
 use Rattle.std.specs.Prelude.{ℕ, ℤ, pos, ◌+◌, ◌-◌, ◌*◌, ◌/◌, ◌%◌, ◌^◌, ◌==◌, ◌*ℤ◌, nat_lt, int_lt, int_div, int_rem, Bool, if◌then◌else◌}
-use Rattle.std.specs.Int.{w32, cast_signed, int_shr}
+use Rattle.std.specs.Int.{int_shr}
 use Rattle.sec_base.specs.declared.width.Width.{Width}
 use Rattle.sec_base.specs.Width.{width_bytes}
-use Rattle.rv32_decode.specs.Words.{word_of_signed}
-
--- a word read in two's complement
-abbrev pub signed : ℕ → ℤ
-signed w = cast_signed w32 w
+use Rattle.rv32_decode.specs.Words.{signed_number, word_of_signed}
 
 -- a number of this width as a word: zeros come in above it, or copies of its top bit
 abbrev pub zero_extension : Width → ℕ → ℕ
 zero_extension width n = n
 
 abbrev pub sign_extension : Width → ℕ → ℕ
-sign_extension width n =
-    let bits = 8 * width_bytes width in
-    if nat_lt n (2 ^ (bits - 1)) then n else n + (2 ^ 32 - 2 ^ bits)
+sign_extension width n = word_of_signed (signed_number (8 * width_bytes width) n)
 
 abbrev pub difference_of : ℕ → ℕ → ℕ
 difference_of a b = (a + (2 ^ 32 - b)) % 2 ^ 32
@@ -26,7 +20,7 @@ abbrev pub truth : Bool → ℕ
 truth test = if test then 1 else 0
 
 abbrev pub is_less_signed : ℕ → ℕ → Bool
-is_less_signed a b = int_lt (signed a) (signed b)
+is_less_signed a b = int_lt (signed_number 32 a) (signed_number 32 b)
 
 -- Shifts: only the low five bits of the amount count.
 abbrev pub shift_left : ℕ → ℕ → ℕ
@@ -37,7 +31,7 @@ shift_right a amount = a / 2 ^ (amount % 32)
 
 -- copies of the top bit come in
 abbrev pub shift_right_signed : ℕ → ℕ → ℕ
-shift_right_signed a amount = word_of_signed (int_shr (signed a) (amount % 32))
+shift_right_signed a amount = word_of_signed (int_shr (signed_number 32 a) (amount % 32))
 
 -- the high 32 bits of a product
 abbrev pub high_word : ℤ → ℕ
@@ -47,10 +41,10 @@ abbrev pub product_of : ℕ → ℕ → ℕ
 product_of a b = a * b % 2 ^ 32
 
 abbrev pub high_product : ℕ → ℕ → ℕ
-high_product a b = high_word (signed a *ℤ signed b)
+high_product a b = high_word (signed_number 32 a *ℤ signed_number 32 b)
 
 abbrev pub high_product_mixed : ℕ → ℕ → ℕ
-high_product_mixed a b = high_word (signed a *ℤ pos b)
+high_product_mixed a b = high_word (signed_number 32 a *ℤ pos b)
 
 abbrev pub high_product_unsigned : ℕ → ℕ → ℕ
 high_product_unsigned a b = a * b / 2 ^ 32
@@ -58,13 +52,13 @@ high_product_unsigned a b = a * b / 2 ^ 32
 -- Quotients are rounded towards zero; by zero they have all bits set. A remainder has the sign of the dividend; by
 -- zero it is the dividend.
 abbrev pub quotient : ℕ → ℕ → ℕ
-quotient a b = if b == 0 then 2 ^ 32 - 1 else word_of_signed (int_div (signed a) (signed b))
+quotient a b = if b == 0 then 2 ^ 32 - 1 else word_of_signed (int_div (signed_number 32 a) (signed_number 32 b))
 
 abbrev pub quotient_unsigned : ℕ → ℕ → ℕ
 quotient_unsigned a b = if b == 0 then 2 ^ 32 - 1 else a / b
 
 abbrev pub remainder : ℕ → ℕ → ℕ
-remainder a b = if b == 0 then a else word_of_signed (int_rem (signed a) (signed b))
+remainder a b = if b == 0 then a else word_of_signed (int_rem (signed_number 32 a) (signed_number 32 b))
 
 abbrev pub remainder_unsigned : ℕ → ℕ → ℕ
 remainder_unsigned a b = if b == 0 then a else a % b
