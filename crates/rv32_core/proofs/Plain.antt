@@ -17,7 +17,7 @@ use Rattle.rv32_core.specs.declared.step.Step.TheVariants.{Retired, Halted as Ha
 use Rattle.rv32_core.specs.declared.step.StepStop.{StepStop}
 use Rattle.rv32_core.specs.declared.step.StepStop.TheVariants.{Trap, Mem, WriteFault as WriteFault_step}
 use Rattle.rv32_core.specs.Outcome.{prints_of, IsOutcome}
-use Rattle.rv32_core.specs.Follows.{Traps, EndsAs, Follows, standing_as, standing, IsWhole}
+use Rattle.rv32_core.specs.Follows.{Traps, EndsAs, Follows, ending_by, ending_at, IsWhole}
 
 -- One more instruction
 
@@ -163,32 +163,32 @@ step_fails start budget n old new before printed result here within outcome is =
 
 -- Whole runs
 
--- the standing of a machine that ended
-standing_ended : (machine : Machine) (budget code : ℕ) → machine.exit ≡ Some code → Halted code ≡ standing machine budget
-standing_ended machine budget code ended = ap (λ (exit : Option ℕ). standing_as exit (next machine.state) machine budget) (sym ended)
+-- the ending of a machine that ended
+ending_exited : (machine : Machine) (budget code : ℕ) → machine.exit ≡ Some code → Halted code ≡ ending_at machine budget
+ending_exited machine budget code ended = ap (λ (exit : Option ℕ). ending_by exit (next machine.state) machine budget) (sym ended)
 
 -- of one whose next instruction traps
-standing_trapped : (machine : Machine) (budget n : ℕ) (cause : Cause) (pc : ℕ) → Traps machine cause pc → machine.retired ≡ n → n < budget → Trapped cause pc ≡ standing machine budget
-standing_trapped machine budget n cause pc traps count below =
+ending_trapped : (machine : Machine) (budget n : ℕ) (cause : Cause) (pc : ℕ) → Traps machine cause pc → machine.retired ≡ n → n < budget → Trapped cause pc ≡ ending_at machine budget
+ending_trapped machine budget n cause pc traps count below =
     ap (Trapped cause) (sym traps.at)
     ∙ cond_below machine.retired budget (Trapped cause machine.state.core.pc) OutOfSteps (omega arith)
-    ∙ ap (λ (result : Result After Cause). standing_as None result machine budget) (sym traps.trap)
-    ∙ ap (λ (exit : Option ℕ). standing_as exit (next machine.state) machine budget) (sym traps.going)
+    ∙ ap (λ (result : Result After Cause). ending_by None result machine budget) (sym traps.trap)
+    ∙ ap (λ (exit : Option ℕ). ending_by exit (next machine.state) machine budget) (sym traps.going)
 
 -- and of one that made all instructions of the budget
-out_of_steps_as : (result : Result After Cause) (machine : Machine) (budget : ℕ) → budget ≤ machine.retired → OutOfSteps ≡ standing_as None result machine budget
+out_of_steps_as : (result : Result After Cause) (machine : Machine) (budget : ℕ) → budget ≤ machine.retired → OutOfSteps ≡ ending_by None result machine budget
 out_of_steps_as (Ok after) machine budget h = refl
 out_of_steps_as (Err cause) machine budget h = cond_above machine.retired budget (Trapped cause machine.state.core.pc) OutOfSteps OutOfSteps h refl
 
-standing_out_of_steps : (machine : Machine) (budget : ℕ) → machine.exit ≡ None → budget ≤ machine.retired → OutOfSteps ≡ standing machine budget
-standing_out_of_steps machine budget going h =
+ending_out_of_steps : (machine : Machine) (budget : ℕ) → machine.exit ≡ None → budget ≤ machine.retired → OutOfSteps ≡ ending_at machine budget
+ending_out_of_steps machine budget going h =
     out_of_steps_as (next machine.state) machine budget h
-    ∙ ap (λ (exit : Option ℕ). standing_as exit (next machine.state) machine budget) (sym going)
+    ∙ ap (λ (exit : Option ℕ). ending_by exit (next machine.state) machine budget) (sym going)
 
 -- a machine that is the one at the budget
-whole_at : (start : Machine) (budget n : ℕ) (ending : Ending) → plain start budget ≡ plain start n → (plain start n).retired ≡ n → ending ≡ standing (plain start n) budget → IsWhole start budget n ending
+whole_at : (start : Machine) (budget n : ℕ) (ending : Ending) → plain start budget ≡ plain start n → (plain start n).retired ≡ n → ending ≡ ending_at (plain start n) budget → IsWhole start budget n ending
 whole_at start budget n ending same count stands = record {
-  ending_is = stands ∙ ap (λ (machine : Machine). standing machine budget) (sym same);
+  ending_is = stands ∙ ap (λ (machine : Machine). ending_at machine budget) (sym same);
   retired_is = sym count ∙ ap (λ (machine : Machine). machine.retired) (sym same);
 }
 
@@ -196,13 +196,13 @@ whole_at start budget n ending same count stands = record {
 pub whole_run : (start : Machine) (budget n : ℕ) (ending : Ending) (printed : List ℕ) → Follows start budget n ending printed → ending ≢ WriteFault → ending ≢ NoMemory → ((place : Place) → ending ≢ Tampered place) → ((page : ℕ) → ending ≢ Spent page) → IsWhole start budget n ending
 whole_run start budget n (Halted code) printed follows written memory untampered unspent =
     whole_at start budget n (Halted code) (plain_ended start n budget code follows.within follows.ends.0) follows.count
-    (standing_ended (plain start n) budget code follows.ends.0)
+    (ending_exited (plain start n) budget code follows.ends.0)
 whole_run start budget n (Trapped cause pc) printed follows written memory untampered unspent =
     whole_at start budget n (Trapped cause pc) (plain_trapped start n budget cause follows.within follows.ends.1.going follows.ends.1.trap) follows.count
-    (standing_trapped (plain start n) budget n cause pc follows.ends.1 follows.count follows.ends.0)
+    (ending_trapped (plain start n) budget n cause pc follows.ends.1 follows.count follows.ends.0)
 whole_run start budget n OutOfSteps printed follows written memory untampered unspent =
     whole_at start budget n OutOfSteps (ap (plain start) (sym follows.ends.0)) follows.count
-    (standing_out_of_steps (plain start n) budget follows.ends.1 (omega (arith, follows.count, follows.ends.0)))
+    (ending_out_of_steps (plain start n) budget follows.ends.1 (omega (arith, follows.count, follows.ends.0)))
 whole_run start budget n (Tampered place) printed follows written memory untampered unspent = absurd (untampered place refl)
 whole_run start budget n (Spent page) printed follows written memory untampered unspent = absurd (unspent page refl)
 whole_run start budget n WriteFault printed follows written memory untampered unspent = absurd (written refl)

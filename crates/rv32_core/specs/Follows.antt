@@ -34,17 +34,17 @@ pub record Follows (start : Machine) (budget retired : ℕ) (ending : Ending) (p
   pub ahead : IsPrefix printed (plain start (retired + 1)).output
   pub ends : EndsAs ending (plain start retired) retired budget printed
 
--- how a machine that made all instructions of the budget that it can stands there
-abbrev pub standing_as : Option ℕ → Result After Cause → Machine → ℕ → Ending
-standing_as (Some code) result machine budget = Halted code
-standing_as None (Err cause) machine budget =
+-- how a machine ends that did all instructions of the budget that it can
+abbrev pub ending_by : Option ℕ → Result After Cause → Machine → ℕ → Ending
+ending_by (Some code) result machine budget = Halted code
+ending_by None (Err cause) machine budget =
     if nat_lt machine.retired budget then Trapped cause machine.state.core.pc else OutOfSteps
-standing_as None (Ok after) machine budget = OutOfSteps
+ending_by None (Ok after) machine budget = OutOfSteps
 
-abbrev pub standing : Machine → ℕ → Ending
-standing machine budget = standing_as machine.exit (next machine.state) machine budget
+abbrev pub ending_at : Machine → ℕ → Ending
+ending_at machine budget = ending_by machine.exit (next machine.state) machine budget
 
 -- A run that ended so is the plain machine's over the whole budget.
 pub record IsWhole (start : Machine) (budget retired : ℕ) (ending : Ending) : Type 0 where
-  pub ending_is : ending ≡ standing (plain start budget) budget
+  pub ending_is : ending ≡ ending_at (plain start budget) budget
   pub retired_is : retired ≡ (plain start budget).retired
