@@ -8,6 +8,8 @@ pub mod Kept
 pub mod Law
 pub mod Parts
 pub mod Programs
+pub mod ByteTexts
+pub mod Listings
 pub mod Readings
 pub mod SameLabels
 pub mod SecondSteps

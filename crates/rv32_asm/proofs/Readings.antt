@@ -4,6 +4,7 @@ use Rattle.std.proofs.lemmas.Bool.{and_from, eq-eqb, le-leb, le-ltb}
 use Rattle.std.proofs.lemmas.List.{append-nil}
 use Rattle.std.specs.Int.{to_le_bytes, w32}
 use Rattle.std.specs.List.{list_all}
+use Rattle.sec_base.specs.declared.width.Width.{Width}
 use Rattle.sec_base.specs.declared.width.Width.TheVariants.{Four}
 use Rattle.rv32_decode.specs.Encoding.{word_of}
 use Rattle.rv32_decode.specs.Table.{ops, row_of, rows}
@@ -27,7 +28,7 @@ use Rattle.rv32_asm.specs.Values.{immediate_value, modulo}
 use Rattle.rv32_asm.proofs.TextImmediates.{value_alone}
 use Rattle.rv32_asm.proofs.TextKeywords.{is_word}
 use Rattle.rv32_asm.proofs.TextLines.{followed_line, is_plain, plain_labels, plain_line}
-use Rattle.rv32_asm.proofs.TextNumbers.{hex8_operand, hex8_read}
+use Rattle.rv32_asm.proofs.TextNumbers.{hex_digits_operand, hex_digits_read}
 use Rattle.rv32_asm.proofs.TextOperands.{is_operand, operands_read}
 use Rattle.rv32_asm.proofs.TextStatements.{line_plain, statement_read}
 
@@ -47,7 +48,7 @@ unfolding after_line
 passed_text size address number text meaning progress none means placed four inside here =
     rw (none, means, here, placed, four, le-ltb size (address + 4) inside) refl
 
-emitted_text : (labels : List Label) (address : ℕ) (text bytes : List ℕ) (meaning : Statement) →
+pub emitted_text : (labels : List Label) (address : ℕ) (text bytes : List ℕ) (meaning : Statement) →
     statement_of text ≡ Ok meaning → misses_label labels meaning ≡ false → is_in_range labels address meaning ≡ true →
     encoded_bytes labels address meaning ≡ bytes → line_bytes labels address text ≡ Ok bytes
 unfolding line_bytes
@@ -137,21 +138,26 @@ data_keyword : keyword_of (codes ".word") ≡ Some (DataKeyword Four)
 unfolding keyword_of keywords row_entries pseudoinstructions long_pseudoinstructions directives rows ops row_of mnemonic_of
 data_keyword = refl
 
-abbrev number_text : ℕ → List ℕ
-number_text word = codes "0x" ++ hex_digits 8 word
+abbrev pub number_text : ℕ → ℕ → List ℕ
+number_text count n = codes "0x" ++ hex_digits count n
 
-data_statement : (word : ℕ) → data_text word ≡ instruction_text (codes ".word") (number_text word ∷ [])
+-- a value in hexadecimal digits
+pub data_read : (name : List ℕ) (width : Width) (count n : ℕ) → is_word name ≡ true → keyword_of name ≡ Some (DataKeyword width) → n < 2 ^ 32 →
+    statement_of (instruction_text name (number_text count n ∷ [])) ≡ Ok (Data width (number_alone (pos n) ∷ []))
+unfolding statement_with
+data_read name width count n word found below =
+    let operand = hex_digits_operand count n below in
+    statement_read name (number_text count n) [] (DataKeyword width) word found operand refl
+    ∙ rw (operands_read (number_text count n) [] operand refl, hex_digits_read count n below) refl
+
+data_statement : (word : ℕ) → data_text word ≡ instruction_text (codes ".word") (number_text 8 word ∷ [])
 unfolding data_text
 data_statement word = rw append-nil refl
 
 pub data_line : (word : ℕ) → word < 2 ^ 32 → statement_of (data_text word) ≡ Ok (Data Four (number_alone (pos word) ∷ []))
-unfolding statement_with
-data_line word below =
-    ap statement_of (data_statement word)
-    ∙ (statement_read (codes ".word") (number_text word) [] (DataKeyword Four) refl data_keyword (hex8_operand word below) refl
-    ∙ rw (operands_read (number_text word) [] (hex8_operand word below) refl, hex8_read word below) refl)
+data_line word below = ap statement_of (data_statement word) ∙ data_read (codes ".word") Four 8 word refl data_keyword below
 
 pub data_plain : (word : ℕ) → word < 2 ^ 32 → list_all is_plain (data_text word) ≡ true
 data_plain word below =
     ap (list_all is_plain) (data_statement word)
-    ∙ line_plain (codes ".word") (number_text word) [] (DataKeyword Four) refl data_keyword (hex8_operand word below) refl
+    ∙ line_plain (codes ".word") (number_text 8 word) [] (DataKeyword Four) refl data_keyword (hex_digits_operand 8 word below) refl

@@ -24,7 +24,7 @@ use Rattle.rv32_asm_syntax.specs.Statements.{Instructions, instruction}
 use Rattle.rv32_asm.proofs.TextImmediates.{between_true, distance_target, even_true, upper_word}
 use Rattle.rv32_asm.proofs.TextKeywords.{has_format, is_word}
 use Rattle.rv32_asm.proofs.TextLines.{is_plain}
-use Rattle.rv32_asm.proofs.TextNumbers.{digits_operand, hex8_operand, signed_operand}
+use Rattle.rv32_asm.proofs.TextNumbers.{digits_operand, hex_digits_operand, signed_operand}
 use Rattle.rv32_asm.proofs.TextOperands.{is_operand}
 use Rattle.rv32_asm.proofs.Readings.{instruction_line, made}
 use Rattle.rv32_asm.proofs.TextRegisters.{register_operand}
@@ -157,7 +157,7 @@ module _ (i : Inst) (address : ℕ) (name : List ℕ) (word : is_word name ≡ t
       let back = distance_target address i.imm range.0 range.1 in
       read_line B address i name (register_name i.rs1) (register_name i.rs2 ∷ (codes "0x" ++ hex_digits 8 n) ∷ []) (operands_in Branch)
       initial 0 i.rs1 i.rs2 (pos n) word found (register_operand i.rs1 b)
-      (two (register_name i.rs2) (codes "0x" ++ hex_digits 8 n) (register_operand i.rs2 c) (hex8_operand n less))
+      (two (register_name i.rs2) (codes "0x" ++ hex_digits 8 n) (register_operand i.rs2 c) (hex_digits_operand 8 n less))
       (branch_read i.op i.rd i.rs1 i.rs2 a b c initial n less)
       (far_fits (distance address (pos n)) i.imm (negsuc 4095) (pos 4094) back (even_true i.imm fields.3 range.0) fields.1 fields.2)
       (same_made i 0 i.rs1 i.rs2 (distance address (pos n)) (sym fields.0) refl refl back)
@@ -168,7 +168,7 @@ module _ (i : Inst) (address : ℕ) (name : List ℕ) (word : is_word name ≡ t
       let back = distance_target address i.imm range.0 range.1 in
       read_line J address i name (register_name i.rd) ((codes "0x" ++ hex_digits 8 n) ∷ []) (operands_in Jump)
       initial i.rd 0 0 (pos n) word found (register_operand i.rd a)
-      (one (codes "0x" ++ hex_digits 8 n) (hex8_operand n less))
+      (one (codes "0x" ++ hex_digits 8 n) (hex_digits_operand 8 n less))
       (jump_read i.op i.rd i.rs1 i.rs2 a b c initial n less)
       (far_fits (distance address (pos n)) i.imm (negsuc 1048575) (pos 1048574) back (even_true i.imm fields.4 range.0) fields.2 fields.3)
       (same_made i i.rd 0 0 (distance address (pos n)) refl (sym fields.0) (sym fields.1) back)

@@ -14,7 +14,7 @@ use Rattle.rv32_asm_syntax.specs.Expressions.{Expression, expression_of, number_
 use Rattle.rv32_asm_syntax.specs.Keywords.{operands_in}
 use Rattle.rv32_asm_syntax.specs.Reading.{enclosed_register, offset_of, memory_operand_of, with_operands}
 use Rattle.rv32_asm_syntax.specs.Statements.{instruction}
-use Rattle.rv32_asm.proofs.TextNumbers.{digits_read, hex8_read, is_figure, signed_figures, signed_operand, signed_read}
+use Rattle.rv32_asm.proofs.TextNumbers.{digits_read, hex_digits_read, is_figure, signed_figures, signed_operand, signed_read}
 use Rattle.rv32_asm.proofs.TextOperands.{is_operand, is_solid, trimmed_solid}
 use Rattle.rv32_asm.proofs.TextRegisters.{base_operand, base_read, register_read}
 
@@ -117,9 +117,9 @@ module _ (op : Op) (rd rs1 rs2 : ℕ) (a : rd < 32) (b : rs1 < 32) (c : rs2 < 32
     pub branch_read : with_operands (operands_in Branch)
         (register_name rs1 ∷ register_name rs2 ∷ (codes "0x" ++ hex_digits 8 n) ∷ []) (instruction op 0 0 0 initial)
         ≡ Some (instruction op 0 rs1 rs2 (pos n))
-    branch_read = rw (register_read rs1 b, register_read rs2 c, hex8_read n below) refl
+    branch_read = rw (register_read rs1 b, register_read rs2 c, hex_digits_read 8 n below) refl
 
     pub jump_read : with_operands (operands_in Jump) (register_name rd ∷ (codes "0x" ++ hex_digits 8 n) ∷ [])
         (instruction op 0 0 0 initial)
         ≡ Some (instruction op rd 0 0 (pos n))
-    jump_read = rw (register_read rd a, hex8_read n below) refl
+    jump_read = rw (register_read rd a, hex_digits_read 8 n below) refl

@@ -82,6 +82,16 @@ plain_line (byte ∷ bytes) all =
     let plain = plain_parts byte parts.0 in
     rw (plain.line_feed, plain.carriage_return, plain_line bytes parts.1) refl
 
+-- what goes before the first line
+pub prefixed : (front text line : List ℕ) (lines : List (List ℕ)) → list_all is_plain front ≡ true →
+    lines_of text ≡ line ∷ lines → lines_of (front ++ text) ≡ (front ++ line) ∷ lines
+unfolding lines_of
+prefixed [] text line lines all e = e
+prefixed (byte ∷ bytes) text line lines all e =
+    let parts = and_parts (is_plain byte) (list_all is_plain bytes) all in
+    let plain = plain_parts byte parts.0 in
+    rw (plain.line_feed, plain.carriage_return, prefixed bytes text line lines parts.1 e) refl
+
 pub followed_line : (line rest : List ℕ) → list_all is_plain line ≡ true →
     lines_of (line ++ 10 ∷ rest) ≡ line ∷ lines_of rest
 unfolding lines_of

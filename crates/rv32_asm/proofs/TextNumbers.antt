@@ -42,12 +42,12 @@ hex_numeral n below = digits_is_IsNumeral 16 false (omega arith) (omega arith) n
 decimal_numeral : (n : ℕ) → n < 2 ^ 32 → IsNumeral 10 (decimal n) × (digits_value 10 (decimal n) ≡ n)
 decimal_numeral n below = digits_is_IsNumeral 10 false (omega arith) (omega arith) n (omega arith)
 
-hex8_numeral : (n : ℕ) → n < 2 ^ 32 → IsNumeral 16 (hex_digits 8 n) × (digits_value 16 (hex_digits 8 n) ≡ n)
+hex_digits_numeral : (count n : ℕ) → n < 2 ^ 32 → IsNumeral 16 (hex_digits count n) × (digits_value 16 (hex_digits count n) ≡ n)
 unfolding hex_digits
-hex8_numeral n below =
+hex_digits_numeral count n below =
     let hex = hex_numeral n below in
     let ds = digits 16 false n in
-    let k = 8 - length ds in
+    let k = count - length ds in
     ((zeros_length k ds hex.0.0, zeros_digits k ds hex.0.1), zeros_value k ds ∙ hex.1)
 
 natural_numeral : (base : ℕ) (ds : List ℕ) (n : ℕ) → IsNumeral base ds → digits_value base ds ≡ n →
@@ -95,18 +95,22 @@ hex_read : (ds : List ℕ) (n : ℕ) → natural_of 16 ds ≡ Some n → n < 2 ^
 unfolding expression_of number_of
 hex_read ds n read below = rw (read, range_pos n below) refl
 
-pub hex8_read : (n : ℕ) → n < 2 ^ 32 → expression_of (codes "0x" ++ hex_digits 8 n) ≡ Some (number_alone (pos n))
-hex8_read n below =
-    let numeral = hex8_numeral n below in
-    hex_read (hex_digits 8 n) n (natural_numeral 16 (hex_digits 8 n) n numeral.0 numeral.1) below
+pub hex_digits_read : (count n : ℕ) → n < 2 ^ 32 → expression_of (codes "0x" ++ hex_digits count n) ≡ Some (number_alone (pos n))
+hex_digits_read count n below =
+    let numeral = hex_digits_numeral count n below in
+    hex_read (hex_digits count n) n (natural_numeral 16 (hex_digits count n) n numeral.0 numeral.1) below
 
 pub digits_read : (n : ℕ) → n < 2 ^ 32 → expression_of (codes "0x" ++ digits 16 false n) ≡ Some (number_alone (pos n))
 digits_read n below =
     let numeral = hex_numeral n below in
     hex_read (digits 16 false n) n (natural_numeral 16 (digits 16 false n) n numeral.0 numeral.1) below
 
-pub hex8_operand : (n : ℕ) → n < 2 ^ 32 → is_operand (codes "0x" ++ hex_digits 8 n) ≡ true
-hex8_operand n below = figures_solid (hex_digits 8 n) (digits_figures 16 (hex_digits 8 n) (omega arith) (hex8_numeral n below).0.1)
+pub hex_digits_solid : (count n : ℕ) → n < 2 ^ 32 → list_all is_solid (hex_digits count n) ≡ true
+hex_digits_solid count n below =
+    figures_solid (hex_digits count n) (digits_figures 16 (hex_digits count n) (omega arith) (hex_digits_numeral count n below).0.1)
+
+pub hex_digits_operand : (count n : ℕ) → n < 2 ^ 32 → is_operand (codes "0x" ++ hex_digits count n) ≡ true
+hex_digits_operand count n below = hex_digits_solid count n below
 
 pub digits_operand : (n : ℕ) → n < 2 ^ 32 → is_operand (codes "0x" ++ digits 16 false n) ≡ true
 digits_operand n below =

@@ -1,8 +1,8 @@
 -- Operands with commas and blanks between them are parted again.
-use Rattle.std.proofs.Common.{◌≡◌, ℕ, ◌&&◌, ◌==◌, Bool, true, false, not, List, [], ◌∷◌, ◌++◌, map, refl, ◌∙◌}
+use Rattle.std.proofs.Common.{◌≡◌, ℕ, suc, ◌+◌, ◌&&◌, ◌||◌, ◌==◌, arith, Bool, true, false, not, List, [], ◌∷◌, ◌++◌, map, refl, ◌∙◌}
 use Rattle.std.proofs.lemmas.Bool.{and_parts, and_right, not-true}
 use Rattle.std.proofs.lemmas.List.{append-nil}
-use Rattle.std.specs.List.{list_all, onto_first, slice_split}
+use Rattle.std.specs.List.{after_first, list_all, onto_first, position_or_len, slice_split}
 use Rattle.rv32_text.specs.Text.{more_operands}
 use Rattle.rv32_asm_syntax.specs.Characters.{drop_end_blanks, is_blank, is_empty, skip_blanks, trim_blanks}
 use Rattle.rv32_asm_syntax.specs.Reading.{operands_of}
@@ -35,6 +35,20 @@ solid_plain [] all = refl
 solid_plain (byte ∷ bytes) all =
     let parts = and_parts (is_solid byte) (list_all is_solid bytes) all in
     rw ((solid_parts byte parts.0).plain, solid_plain bytes parts.1) refl
+
+left_false : (a b : Bool) → (a || b) ≡ false → a ≡ false
+left_false true b h = h
+left_false false b h = refl
+
+-- what stands behind the blank that ends a column
+pub column_cut : (text more : List ℕ) → list_all is_solid text ≡ true → after_first (λ byte. byte == 32) (text ++ 32 ∷ more) ≡ more
+column_cut [] more all = refl
+column_cut (byte ∷ bytes) more all =
+    let parts = and_parts (is_solid byte) (list_all is_solid bytes) all in
+    let other = left_false (byte == 32) (byte == 9) (solid_parts byte parts.0).blank in
+    let len = position_or_len (λ b. b == 32) (bytes ++ 32 ∷ more) in
+    let one : 1 + len + 1 ≡ suc (len + 1) = omega arith in
+    rw (other, one) (column_cut bytes more parts.1)
 
 -- ---- blanks
 
