@@ -11,8 +11,9 @@ use Rattle.hmac_tag.specs.Tags.{TagKeys, tag_of}
 use Rattle.hmac_tag.specs.declared.derivation.Keys.{Keys}
 use Rattle.tag_engine.specs.Tag.{engine_tag}
 use Rattle.rv32_core.specs.Machine.{opening as image_opening}
+use Rattle.sec_base.specs.Program.{IsImageOf, Program}
 use Rattle.chip_main.specs.Device.{device_enc_key, device_key, device_tag}
-use Rattle.chip_main.specs.Program.{IsImageOf, Program, opening}
+use Rattle.chip_main.specs.Program.{opening}
 
 -- a new bus has nothing written
 pub nothing_written : (told : BusHistory) (levels : ℕ) → told ≡ new_history levels → NothingWritten told

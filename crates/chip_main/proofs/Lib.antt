@@ -8,3 +8,4 @@ pub mod Outcomes
 pub mod RunOutcomes
 pub mod Requested
 pub mod Wholes
+pub mod Calls

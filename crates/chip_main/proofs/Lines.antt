@@ -5,9 +5,9 @@ use Rattle.sec_base.specs.Sink.{SinkState, Gains}
 use Rattle.sec_base.specs.declared.sink.SinkStop.{SinkStop}
 use Rattle.sec_base.specs.declared.sink.SinkStop.TheVariants.{Failed, NoMemory}
 use Rattle.sec_base.proofs.Writes.{gains_both}
-use Rattle.chip_main.specs.Statuses.{Telling}
+use Rattle.chip_main.specs.Status.{Telling}
 use Rattle.sec_base.specs.Sink.{GainsFront}
-use Rattle.sec_base.specs.Sink.{IsWritten as IsTold}
+use Rattle.sec_base.specs.Sink.{IsWritten}
 
 -- a front part of the first line is one of the text
 front_longer : (first others : List ℕ) (old new : SinkState) → GainsFront old first new → GainsFront old (first ++ others) new
@@ -23,13 +23,13 @@ front_later first others old mid new gains front =
     parts = ap (λ (x : List ℕ). first ++ x) (front.1).1 ∙ sym (append_assoc first front.0 (front.1).0)
 
 -- it stopped in the first line
-pub told_first : (piece first others : List ℕ) (old new : SinkState) (stop : SinkStop) → piece ≡ first → IsTold piece old new (Err stop) → IsTold (first ++ others) old new (Err stop)
+pub told_first : (piece first others : List ℕ) (old new : SinkState) (stop : SinkStop) → piece ≡ first → IsWritten piece old new (Err stop) → IsWritten (first ++ others) old new (Err stop)
 told_first piece first others old new Failed same told =
     rw (← same) (front_longer piece others old new told.0, told.1)
 told_first piece first others old new NoMemory same told = rw (← same) (front_longer piece others old new told)
 
 -- the first line was told, and then the others as far as the answer says
-pub told_then : (piece first others : List ℕ) (old mid new : SinkState) (telling : Telling) → piece ≡ first → Gains old piece mid → old.faults ≤ mid.faults → IsTold others mid new telling → IsTold (first ++ others) old new telling
+pub told_then : (piece first others : List ℕ) (old mid new : SinkState) (telling : Telling) → piece ≡ first → Gains old piece mid → old.faults ≤ mid.faults → IsWritten others mid new telling → IsWritten (first ++ others) old new telling
 told_then piece first others old mid new (Ok _) same gains grows told =
     rw (← same) (gains_both piece others old mid new gains told)
 told_then piece first others old mid new (Err Failed) same gains grows told =
@@ -38,5 +38,5 @@ told_then piece first others old mid new (Err NoMemory) same gains grows told =
     rw (← same) (front_later piece others old mid new gains told)
 
 -- the last line was told as far as the answer says
-pub told_last : (piece last : List ℕ) (old new : SinkState) (telling : Telling) → piece ≡ last → IsTold piece old new telling → IsTold last old new telling
-told_last piece last old new telling same told = subst (λ (text : List ℕ). IsTold text old new telling) same told
+pub told_last : (piece last : List ℕ) (old new : SinkState) (telling : Telling) → piece ≡ last → IsWritten piece old new telling → IsWritten last old new telling
+told_last piece last old new telling same told = subst (λ (text : List ℕ). IsWritten text old new telling) same told

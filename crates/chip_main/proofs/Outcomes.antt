@@ -18,86 +18,30 @@ use Rattle.chip_main.specs.declared.Done.{Done}
 use Rattle.chip_main.specs.World.{World}
 use Rattle.chip_main.specs.Needs.{needs_of}
 use Rattle.chip_main.specs.Causes.{IsRefused, Stops}
-use Rattle.chip_main.specs.Statuses.{Telling, ending_status, evidence_status, refusal_status, run_status, status_with, text_status, untold_ending_status}
+use Rattle.chip_main.specs.Status.{IsStatus, Telling, code_of, ending_status, evidence_status, refusal_status, run_status, status_with, text_status, untold_ending_status}
+use Rattle.chip_main.specs.declared.status.Status.{Status}
+use Rattle.chip_main.specs.declared.status.Status.TheVariants as status
 use Rattle.chip_main.specs.Buses.{lies_of, run_history}
 use Rattle.chip_main.specs.Answer.{FileRefused, TellsEnding, TellsPlain, TellsRun}
 use Rattle.chip_main.specs.Texts.{plain_text, record_text}
 use Rattle.chip_main.specs.Course.{CameAbout, Outcome, TellsCourse, course_bus, course_run, course_status, status_of, untold_status}
 
+-- ---- the whole of a call
+
+pub outcome : (request : Option Asked) (old new : World) (done : Done) (course : Course) (told : Telling) → CameAbout course request old.files new.files old.out new.out → TellsCourse course old.note new.note told →
+    done.status ≡ code_of (status_of course told) → done.run ≡ course_run course → done.bus ≡ course_bus course → done.lies ≡ lies_of (course_bus course) → Outcome request old new done
+outcome request old new done course told came tells status_is run_is bus_is lies_is =
+    record { course = course; told = told; came = came; tells = tells; status = status_is; run = run_is; bus = bus_is; lies = lies_is }
+
 -- ---- the statuses
 
-abbrev pub all_statuses : List ℕ
-all_statuses = 0 ∷ 1 ∷ 2 ∷ 3 ∷ 4 ∷ 5 ∷ 6 ∷ 7 ∷ 8 ∷ 9 ∷ 10 ∷ []
-
-ending_listed : (ending : Ending) → Contains all_statuses (ending_status ending)
-ending_listed (Halted code) = (0, omega arith, refl)
-ending_listed (Trapped cause pc) = (1, omega arith, refl)
-ending_listed OutOfSteps = (4, omega arith, refl)
-ending_listed (Tampered place) = (5, omega arith, refl)
-ending_listed (Spent page) = (6, omega arith, refl)
-ending_listed WriteFault = (9, omega arith, refl)
-ending_listed memory_ended = (10, omega arith, refl)
-
-evidence_listed : (ending : Ending) → Contains all_statuses (evidence_status ending)
-evidence_listed (Halted code) = (7, omega arith, refl)
-evidence_listed (Trapped cause pc) = (7, omega arith, refl)
-evidence_listed OutOfSteps = (7, omega arith, refl)
-evidence_listed (Tampered place) = (7, omega arith, refl)
-evidence_listed (Spent page) = (7, omega arith, refl)
-evidence_listed WriteFault = (9, omega arith, refl)
-evidence_listed memory_ended = (10, omega arith, refl)
-
-run_listed : (evidence : Option Evidence) (ending : Ending) → Contains all_statuses (status_with evidence ending)
-run_listed None ending = ending_listed ending
-run_listed (Some evidence) ending = evidence_listed ending
-
-untold_ending_listed : (ending : Ending) → Contains all_statuses (untold_ending_status ending)
-untold_ending_listed (Halted code) = (9, omega arith, refl)
-untold_ending_listed (Trapped cause pc) = (9, omega arith, refl)
-untold_ending_listed OutOfSteps = (9, omega arith, refl)
-untold_ending_listed (Tampered place) = (9, omega arith, refl)
-untold_ending_listed (Spent page) = (9, omega arith, refl)
-untold_ending_listed WriteFault = (9, omega arith, refl)
-untold_ending_listed memory_ended = (10, omega arith, refl)
-
-text_listed : (telling : Telling) → Contains all_statuses (text_status telling)
-text_listed (Ok _) = (0, omega arith, refl)
-text_listed (Err Failed) = (9, omega arith, refl)
-text_listed (Err no_memory) = (10, omega arith, refl)
-
-refusal_listed : (refusal : Refusal) → Contains all_statuses (refusal_status refusal)
-refusal_listed (Usage text) = (2, omega arith, refl)
-refusal_listed Unread = (8, omega arith, refl)
-refusal_listed TooLong = (3, omega arith, refl)
-refusal_listed (Elf fault) = (3, omega arith, refl)
-refusal_listed (Asm line fault) = (3, omega arith, refl)
-
-course_listed : (course : Course) → Contains all_statuses (course_status course)
-course_listed (Refused refusal) = refusal_listed refusal
-course_listed NoMemory = (10, omega arith, refl)
-course_listed (Ran run bus) = run_listed run.evidence run.ending
-course_listed (RanPlain run) = ending_listed run.ending
-course_listed (Written telling) = text_listed telling
-
-untold_listed : (course : Course) → Contains all_statuses (untold_status course)
-untold_listed (Refused refusal) = refusal_listed refusal
-untold_listed NoMemory = (10, omega arith, refl)
-untold_listed (Ran run bus) = untold_ending_listed run.ending
-untold_listed (RanPlain run) = untold_ending_listed run.ending
-untold_listed (Written telling) = text_listed telling
-
-status_listed : (course : Course) (telling : Telling) → Contains all_statuses (status_of course telling)
-status_listed course (Ok _) = course_listed course
-status_listed course (Err Failed) = untold_listed course
-status_listed course (Err no_memory) = (10, omega arith, refl)
-
-pub statuses : {request : Option Asked} {old new : World} {done : Done} → Outcome request old new done → Contains all_statuses done.status
-statuses o = subst (λ (n : ℕ). Contains all_statuses n) (sym o.status) (status_listed o.course o.told)
+pub statuses : {request : Option Asked} {old new : World} {done : Done} → Outcome request old new done → IsStatus done.status
+statuses o = (status_of o.course o.told, o.status)
 
 -- ---- which course a status is of
 
-untold_high : (ending : Ending) → 9 ≤ untold_ending_status ending
-untold_high (Halted code) = omega arith
+untold_high : (ending : Ending) → 9 ≤ code_of (untold_ending_status ending)
+untold_high (Halted exit) = omega arith
 untold_high (Trapped cause pc) = omega arith
 untold_high OutOfSteps = omega arith
 untold_high (Tampered place) = omega arith
@@ -106,7 +50,7 @@ untold_high WriteFault = omega arith
 untold_high memory_ended = omega arith
 
 -- a status below 9 is the course's own
-course_is : (course : Course) (telling : Telling) (status : ℕ) → status < 9 → status_of course telling ≡ status → course_status course ≡ status
+course_is : (course : Course) (telling : Telling) (status : ℕ) → status < 9 → code_of (status_of course telling) ≡ status → code_of (course_status course) ≡ status
 course_is course (Ok _) status low is = is
 course_is course (Err no_memory) status low is = absurd (omega arith)
 course_is (Refused refusal) (Err Failed) status low is = is
@@ -116,7 +60,7 @@ course_is (RanPlain run) (Err Failed) status low is = absurd (omega (arith, unto
 course_is (Written telling) (Err Failed) status low is = is
 
 pub own_status : {request : Option Asked} {old new : World} {done : Done} → (o : Outcome request old new done) → (status : ℕ) → status < 9 → done.status ≡ status →
-    course_status o.course ≡ status
+    code_of (course_status o.course) ≡ status
 own_status o status low is = course_is o.course o.told status low (sym o.status ∙ is)
 
 -- a status of what was done, and one of a refusal
@@ -134,8 +78,8 @@ apart n status (inr (inl mid)) refusing is = elim refusing.2 [
   | inr high ↦ let fewer = mid.1 in absurd (omega arith)
 ]
 
-ending_result : (ending : Ending) → IsOfResult (ending_status ending)
-ending_result (Halted code) = inl (omega arith)
+ending_result : (ending : Ending) → IsOfResult (code_of (ending_status ending))
+ending_result (Halted exit) = inl (omega arith)
 ending_result (Trapped cause pc) = inl (omega arith)
 ending_result OutOfSteps = inr (inl (omega arith, omega arith))
 ending_result (Tampered place) = inr (inl (omega arith, omega arith))
@@ -143,8 +87,8 @@ ending_result (Spent page) = inr (inl (omega arith, omega arith))
 ending_result WriteFault = inr (inr (omega arith))
 ending_result memory_ended = inr (inr (omega arith))
 
-evidence_result : (ending : Ending) → IsOfResult (evidence_status ending)
-evidence_result (Halted code) = inr (inl (omega arith, omega arith))
+evidence_result : (ending : Ending) → IsOfResult (code_of (evidence_status ending))
+evidence_result (Halted exit) = inr (inl (omega arith, omega arith))
 evidence_result (Trapped cause pc) = inr (inl (omega arith, omega arith))
 evidence_result OutOfSteps = inr (inl (omega arith, omega arith))
 evidence_result (Tampered place) = inr (inl (omega arith, omega arith))
@@ -152,32 +96,32 @@ evidence_result (Spent page) = inr (inl (omega arith, omega arith))
 evidence_result WriteFault = inr (inr (omega arith))
 evidence_result memory_ended = inr (inr (omega arith))
 
-run_result : (evidence : Option Evidence) (ending : Ending) → IsOfResult (status_with evidence ending)
+run_result : (evidence : Option Evidence) (ending : Ending) → IsOfResult (code_of (status_with evidence ending))
 run_result None ending = ending_result ending
 run_result (Some evidence) ending = evidence_result ending
 
-text_result : (telling : Telling) → IsOfResult (text_status telling)
+text_result : (telling : Telling) → IsOfResult (code_of (text_status telling))
 text_result (Ok _) = inl (omega arith)
 text_result (Err Failed) = inr (inr (omega arith))
 text_result (Err no_memory) = inr (inr (omega arith))
 
 -- there was a refusal with this status
-refusal_is : (course : Course) (status : ℕ) → IsOfRefusal status → course_status course ≡ status → (refusal : Refusal) × (course ≡ Refused refusal) × (refusal_status refusal ≡ status)
+refusal_is : (course : Course) (status : ℕ) → IsOfRefusal status → code_of (course_status course) ≡ status → (refusal : Refusal) × (course ≡ Refused refusal) × (code_of (refusal_status refusal) ≡ status)
 refusal_is (Refused refusal) status refusing is = (refusal, refl, is)
 refusal_is NoMemory status refusing is = absurd (let fewer = refusing.1 in omega arith)
-refusal_is (Ran run bus) status refusing is = absurd (apart (run_status run) status (run_result run.evidence run.ending) refusing is)
-refusal_is (RanPlain run) status refusing is = absurd (apart (ending_status run.ending) status (ending_result run.ending) refusing is)
-refusal_is (Written telling) status refusing is = absurd (apart (text_status telling) status (text_result telling) refusing is)
+refusal_is (Ran run bus) status refusing is = absurd (apart (code_of (run_status run)) status (run_result run.evidence run.ending) refusing is)
+refusal_is (RanPlain run) status refusing is = absurd (apart (code_of (ending_status run.ending)) status (ending_result run.ending) refusing is)
+refusal_is (Written telling) status refusing is = absurd (apart (code_of (text_status telling)) status (text_result telling) refusing is)
 
 -- so it has its cause
 refused_as : {request : Option Asked} {old new : World} {done : Done} → Outcome request old new done → (status : ℕ) → IsOfRefusal status → done.status ≡ status →
-    (refusal : Refusal) × IsRefused refusal request old.files new.files × (refusal_status refusal ≡ status)
+    (refusal : Refusal) × IsRefused refusal request old.files new.files × (code_of (refusal_status refusal) ≡ status)
 refused_as {request} {old} {new} o status refusing is =
     let found = refusal_is o.course status refusing (own_status o status refusing.1 is) in
     let came = subst (λ (course : Course). CameAbout course request old.files new.files old.out new.out) found.1 o.came in
     (found.0, came.0, found.2)
 
-usage_cause : (refusal : Refusal) (request : Option Asked) (files files' : FilesState) → IsRefused refusal request files files' → refusal_status refusal ≡ 2 → request ≡ None
+usage_cause : (refusal : Refusal) (request : Option Asked) (files files' : FilesState) → IsRefused refusal request files files' → code_of (refusal_status refusal) ≡ 2 → request ≡ None
 usage_cause (Usage text) request files files' cause is = cause.0
 usage_cause Unread request files files' cause is = absurd (omega arith)
 usage_cause TooLong request files files' cause is = absurd (omega arith)
@@ -188,19 +132,26 @@ pub usage : {request : Option Asked} {old new : World} {done : Done} → Outcome
 usage {request} {old} {new} o is =
     let found = refused_as o 2 (omega arith, omega arith, inl (omega arith)) is in usage_cause found.0 request old.files new.files found.1 found.2
 
-file_cause : (refusal : Refusal) (request : Option Asked) (files files' : FilesState) → IsRefused refusal request files files' → refusal_status refusal ≡ 3 → Stops refusal (needs_of request) files files'
+file_cause : (refusal : Refusal) (request : Option Asked) (files files' : FilesState) → IsRefused refusal request files files' → code_of (refusal_status refusal) ≡ 3 → Stops refusal (needs_of request) files files'
 file_cause (Usage text) request files files' cause is = absurd (omega arith)
 file_cause Unread request files files' cause is = absurd (omega arith)
 file_cause TooLong request files files' cause is = cause
 file_cause (Elf fault) request files files' cause is = cause
 file_cause (Asm line fault) request files files' cause is = cause
 
-pub refused : {request : Option Asked} {old new : World} {done : Done} → Outcome request old new done → done.status ≡ 3 →
-    FileRefused 3 request old.files new.files
-refused {request} {old} {new} o is =
-    let found = refused_as o 3 (omega arith, omega arith, inl (omega arith)) is in (found.0, found.2, file_cause found.0 request old.files new.files found.1 found.2)
+refused_is : (refusal : Refusal) → code_of (refusal_status refusal) ≡ 3 → refusal_status refusal ≡ status.Refused
+refused_is (Usage text) is = absurd (omega arith)
+refused_is Unread is = absurd (omega arith)
+refused_is TooLong is = refl
+refused_is (Elf fault) is = refl
+refused_is (Asm line fault) is = refl
 
-unread_cause : (refusal : Refusal) (request : Option Asked) (files files' : FilesState) → IsRefused refusal request files files' → refusal_status refusal ≡ 8 → Stops Unread (needs_of request) files files'
+pub refused : {request : Option Asked} {old new : World} {done : Done} → Outcome request old new done → done.status ≡ 3 →
+    FileRefused request old.files new.files
+refused {request} {old} {new} o is =
+    let found = refused_as o 3 (omega arith, omega arith, inl (omega arith)) is in (found.0, refused_is found.0 found.2, file_cause found.0 request old.files new.files found.1 found.2)
+
+unread_cause : (refusal : Refusal) (request : Option Asked) (files files' : FilesState) → IsRefused refusal request files files' → code_of (refusal_status refusal) ≡ 8 → Stops Unread (needs_of request) files files'
 unread_cause (Usage text) request files files' cause is = absurd (omega arith)
 unread_cause Unread request files files' cause is = cause
 unread_cause TooLong request files files' cause is = absurd (omega arith)
@@ -213,8 +164,8 @@ read_fault {request} {old} {new} o is =
 
 -- ---- what was told
 
-untold_cases : (ending : Ending) → ((untold_ending_status ending ≡ 9) × (ending ≢ memory_ended)) ⊎ (untold_ending_status ending ≡ 10)
-untold_cases (Halted code) = inl (refl, λ e. cc)
+untold_cases : (ending : Ending) → ((code_of (untold_ending_status ending) ≡ 9) × (ending ≢ memory_ended)) ⊎ (code_of (untold_ending_status ending) ≡ 10)
+untold_cases (Halted exit) = inl (refl, λ e. cc)
 untold_cases (Trapped cause pc) = inl (refl, λ e. cc)
 untold_cases OutOfSteps = inl (refl, λ e. cc)
 untold_cases (Tampered place) = inl (refl, λ e. cc)
@@ -222,12 +173,12 @@ untold_cases (Spent page) = inl (refl, λ e. cc)
 untold_cases WriteFault = inl (refl, λ e. cc)
 untold_cases memory_ended = inr refl
 
-untold_ending : (text : List ℕ) (whole : ℕ) (ending : Ending) (old new : SinkState) → GainsFront old text new → Rose old.faults new.faults → TellsEnding text whole ending (untold_ending_status ending) old new
+untold_ending : (text : List ℕ) (whole : Status) (ending : Ending) (old new : SinkState) → GainsFront old text new → Rose old.faults new.faults → TellsEnding text whole ending (code_of (untold_ending_status ending)) old new
 untold_ending text whole ending old new front risen =
     inr (front, elim (untold_cases ending) [ inl untold ↦ inl (untold.0, untold.1, risen) | inr none ↦ inr none ])
 
 pub told_run : (course : Course) (telling : Telling) (note note' : SinkState) → TellsCourse course note note' telling →
-    IfSome (course_run course) (λ run. TellsRun (status_of course telling) run (lies_of (course_bus course)) note note')
+    IfSome (course_run course) (λ run. TellsRun (code_of (status_of course telling)) run (lies_of (course_bus course)) note note')
 told_run (Refused refusal) telling note note' tells = tt
 told_run NoMemory telling note note' tells = tt
 told_run (RanPlain run) telling note note' tells = tt
@@ -237,7 +188,7 @@ told_run (Ran run bus) (Err Failed) note note' tells =
     untold_ending (record_text run (run_history bus).lies) (run_status run) run.ending note note' tells.0 tells.1
 told_run (Ran run bus) (Err no_memory) note note' tells = inr (tells, inr refl)
 
-pub told_plain : (run : PlainRecord) (telling : Telling) (note note' : SinkState) → TellsCourse (RanPlain run) note note' telling → TellsPlain (status_of (RanPlain run) telling) run note note'
+pub told_plain : (run : PlainRecord) (telling : Telling) (note note' : SinkState) → TellsCourse (RanPlain run) note note' telling → TellsPlain (code_of (status_of (RanPlain run) telling)) run note note'
 told_plain run (Ok _) note note' tells = inl (tells, refl)
 told_plain run (Err Failed) note note' tells =
     untold_ending (plain_text run) (ending_status run.ending) run.ending note note' tells.0 tells.1

@@ -7,7 +7,7 @@ use Rattle.sec_base.specs.declared.sink.SinkStop.TheVariants.{Failed, NoMemory a
 use Rattle.bus_model.specs.BusHistory.{BusHistory}
 use Rattle.plain_machine.specs.declared.PlainRecord.{PlainRecord}
 use Rattle.chip_run.specs.declared.RunRecord.{RunRecord}
-use Rattle.chip_words.specs.Request.{Asked, AssemblyAsked, ExecutionAsked, InspectionAsked, to_assemble, to_disassemble, to_measure, to_run, to_run_plain}
+use Rattle.chip_words.specs.Request.{Asked, FileAsked, ExecutionAsked, to_assemble, to_disassemble, to_measure, to_run, to_run_plain, asked_file}
 use Rattle.chip_main.specs.declared.refusal.Refusal.{Refusal}
 use Rattle.chip_main.specs.declared.refusal.Refusal.TheVariants.{Usage, Unread, TooLong, Elf, Asm}
 use Rattle.chip_main.specs.declared.run_bus.RunBus.{RunBus}
@@ -15,12 +15,13 @@ use Rattle.chip_main.specs.declared.course.Course.{Course}
 use Rattle.chip_main.specs.declared.course.Course.TheVariants.{Refused, NoMemory, Ran, RanPlain, Written}
 use Rattle.chip_main.specs.declared.Done.{Done}
 use Rattle.chip_main.specs.World.{World}
-use Rattle.chip_main.specs.Program.{ProgramFile}
 use Rattle.chip_main.specs.Texts.{elf_file, listing, measurement_line}
-use Rattle.chip_main.specs.Needs.{Need, AreAccepted, HasTold, IsAccepted, IsUnfit, asked_file, asked_needs, assembly_file, inspection_file, names, needs_of, program_need}
+use Rattle.chip_main.specs.Needs.{Need, AreAccepted, HasTold, IsAccepted, IsUnfit, asked_needs, names, needs_of, program_need}
 use Rattle.chip_main.specs.Causes.{Asks, AsksFront, AsksNothing, IsRefused, RunsOut, Stops}
 use Rattle.chip_main.specs.Requests.{PlainlyRunsRequest, RunsRequest, Writes, WritesRequest}
-use Rattle.chip_main.specs.Statuses.{Telling}
+use Rattle.chip_main.specs.Status.{IsOneOf, code_of, Telling}
+use Rattle.chip_main.specs.declared.status.Status.{Status}
+use Rattle.chip_main.specs.declared.status.Status.TheVariants as status
 use Rattle.chip_main.specs.Buses.{AreBothAnd}
 use Rattle.chip_main.specs.Answer.{Delivers, GivesPlainRun, GivesRun, GivesText, LacksMemory, PlainlyRan, RanAndTold, TellsPlain, TellsRefusal, TellsRun, Undone, undone_statuses}
 use Rattle.chip_main.specs.Course.{CameAbout, Outcome, TellsCourse, course_bus, course_run, status_of}
@@ -37,9 +38,9 @@ pub record AllTaken (request : Option Asked) (files files' : FilesState) : Type 
 some_needs : (asked : Asked) → asked_needs asked ≢ []
 some_needs (to_run execution) none = cc
 some_needs (to_run_plain execution) none = cc
-some_needs (to_assemble assembly) none = cc
-some_needs (to_disassemble inspection) none = cc
-some_needs (to_measure inspection) none = cc
+some_needs (to_assemble file) none = cc
+some_needs (to_disassemble file) none = cc
+some_needs (to_measure file) none = cc
 
 all_taken : (asked : Asked) (files files' : FilesState) → Asks (asked_needs asked) files files' → AreAccepted files (asked_needs asked) → AllTaken (Some asked) files files'
 all_taken asked files files' asks accepted = record { some = some_needs asked; asked = asks; accepted = accepted }
@@ -49,21 +50,21 @@ ran_taken None files files' out out' run told came = absurd came
 ran_taken (Some (to_run execution)) files files' out out' run told came =
     all_taken (to_run execution) files files' came.2.asked (execution_accepted execution files files' came.0 came.1 came.2)
 ran_taken (Some (to_run_plain execution)) files files' out out' run told came = absurd came
-ran_taken (Some (to_assemble assembly)) files files' out out' run told came = absurd came
-ran_taken (Some (to_disassemble inspection)) files files' out out' run told came = absurd came
-ran_taken (Some (to_measure inspection)) files files' out out' run told came = absurd came
+ran_taken (Some (to_assemble file)) files files' out out' run told came = absurd came
+ran_taken (Some (to_disassemble file)) files files' out out' run told came = absurd came
+ran_taken (Some (to_measure file)) files files' out out' run told came = absurd came
 
 plainly_ran_taken : (request : Option Asked) (files files' : FilesState) (out out' : SinkState) (run : PlainRecord) → PlainlyRunsRequest request files files' out out' run → AllTaken request files files'
 plainly_ran_taken None files files' out out' run came = absurd came
 plainly_ran_taken (Some (to_run execution)) files files' out out' run came = absurd came
 plainly_ran_taken (Some (to_run_plain execution)) files files' out out' run came =
     all_taken (to_run_plain execution) files files' came.2.asked (execution_accepted execution files files' came.0 came.1 came.2)
-plainly_ran_taken (Some (to_assemble assembly)) files files' out out' run came = absurd came
-plainly_ran_taken (Some (to_disassemble inspection)) files files' out out' run came = absurd came
-plainly_ran_taken (Some (to_measure inspection)) files files' out out' run came = absurd came
+plainly_ran_taken (Some (to_assemble file)) files files' out out' run came = absurd came
+plainly_ran_taken (Some (to_disassemble file)) files files' out out' run came = absurd came
+plainly_ran_taken (Some (to_measure file)) files files' out out' run came = absurd came
 
 -- the one file of a request for a text
-text_taken : (asked : Asked) (file : ProgramFile) (text : Image → List ℕ) (files files' : FilesState) (out out' : SinkState) (telling : Telling) → asked_needs asked ≡ program_need file ∷ [] → Writes file text files files' out out' telling →
+text_taken : (asked : Asked) (file : FileAsked) (text : Image → List ℕ) (files files' : FilesState) (out out' : SinkState) (telling : Telling) → asked_needs asked ≡ program_need file ∷ [] → Writes file text files files' out out' telling →
     AllTaken (Some asked) files files'
 text_taken asked file text files files' out out' telling needs writes = all_taken asked files files'
     (subst (λ (n : List Need). Asks n files files') (sym needs) writes.takes.asked)
@@ -73,15 +74,27 @@ written_taken : (request : Option Asked) (files files' : FilesState) (out out' :
 written_taken None files files' out out' telling came = absurd came
 written_taken (Some (to_run execution)) files files' out out' telling came = absurd came
 written_taken (Some (to_run_plain execution)) files files' out out' telling came = absurd came
-written_taken (Some (to_assemble assembly)) files files' out out' telling came = text_taken (to_assemble assembly) (assembly_file assembly) elf_file files files' out out' telling refl came
-written_taken (Some (to_disassemble inspection)) files files' out out' telling came = text_taken (to_disassemble inspection) (inspection_file inspection) listing files files' out out' telling refl came
-written_taken (Some (to_measure inspection)) files files' out out' telling came = text_taken (to_measure inspection) (inspection_file inspection) measurement_line files files' out out' telling refl came
+written_taken (Some (to_assemble file)) files files' out out' telling came = text_taken (to_assemble file) file elf_file files files' out out' telling refl came
+written_taken (Some (to_disassemble file)) files files' out out' telling came = text_taken (to_disassemble file) file listing files files' out out' telling refl came
+written_taken (Some (to_measure file)) files files' out out' telling came = text_taken (to_measure file) file measurement_line files files' out out' telling refl came
 
 -- ---- what was asked for
 
+names_of_both : (before after : List Need) → names (before ++ after) ≡ names before ++ names after
+names_of_both [] after = refl
+names_of_both (need ∷ before) after = ap (λ (l : List (List ℕ)). need.name ∷ l) (names_of_both before after)
+
+asks_more : (before after : List Need) (old mid new : FilesState) → Asks before old mid → Asks after mid new → Asks (before ++ after) old new
+asks_more before after old mid new first others =
+    others ∙ ap (λ (asked : List (List ℕ)). asked ++ names after) first ∙ append_assoc old.asked (names before) (names after)
+    ∙ ap (λ (l : List (List ℕ)). old.asked ++ l) (sym (names_of_both before after))
+
 front_stops : (refusal : Refusal) (needs : List Need) (files files' : FilesState) → Stops refusal needs files files' → AsksFront needs files files'
 front_stops refusal needs files files' stops =
-    (stops.before ++ stops.here ∷ [], (stops.after, stops.order ∙ sym (append_assoc stops.before (stops.here ∷ []) stops.after)), stops.asked)
+    (stops.before ++ stops.here ∷ [], (stops.after, stops.order ∙ sym (append_assoc stops.before (stops.here ∷ []) stops.after)), all_asked)
+  where
+    all_asked : Asks (stops.before ++ stops.here ∷ []) files files'
+    all_asked = asks_more stops.before (stops.here ∷ []) files stops.mid files' stops.reached stops.asked
 
 front_all : (needs : List Need) (files files' : FilesState) → Asks needs files files' → AsksFront needs files files'
 front_all needs files files' asked = (needs, ([], sym (append-nil needs)), asked)
@@ -126,23 +139,23 @@ unasked {request} {old} {new} o none = asks_none (needs_of request) old.files ne
 
 -- ---- where nothing was done
 
-abbrev pub refused_statuses : List ℕ
-refused_statuses = 2 ∷ 10 ∷ []
+abbrev pub refused_statuses : List Status
+refused_statuses = status.Usage ∷ status.NoMemory ∷ []
 
-usage_listed : (text : _) (telling : Telling) → Contains refused_statuses (status_of (Refused (Usage text)) telling)
+usage_listed : (text : _) (telling : Telling) → IsOneOf refused_statuses (code_of (status_of (Refused (Usage text)) telling))
 usage_listed text (Ok _) = (0, omega arith, refl)
 usage_listed text (Err Failed) = (0, omega arith, refl)
 usage_listed text (Err no_memory) = (1, omega arith, refl)
 
-no_memory_listed : (telling : Telling) → Contains refused_statuses (status_of NoMemory telling)
+no_memory_listed : (telling : Telling) → IsOneOf refused_statuses (code_of (status_of NoMemory telling))
 no_memory_listed (Ok _) = (1, omega arith, refl)
 no_memory_listed (Err Failed) = (1, omega arith, refl)
 no_memory_listed (Err no_memory) = (1, omega arith, refl)
 
-abbrev pub unrun_statuses : List ℕ
-unrun_statuses = 3 ∷ 8 ∷ 10 ∷ []
+abbrev pub unrun_statuses : List Status
+unrun_statuses = status.Refused ∷ status.ReadFault ∷ status.NoMemory ∷ []
 
-refusal_unrun : (refusal : Refusal) (telling : Telling) (asked : Asked) (files files' : FilesState) → IsRefused refusal (Some asked) files files' → Contains unrun_statuses (status_of (Refused refusal) telling)
+refusal_unrun : (refusal : Refusal) (telling : Telling) (asked : Asked) (files files' : FilesState) → IsRefused refusal (Some asked) files files' → IsOneOf unrun_statuses (code_of (status_of (Refused refusal) telling))
 refusal_unrun refusal (Err no_memory) asked files files' cause = (2, omega arith, refl)
 refusal_unrun (Usage text) telling asked files files' cause = let e : Some asked ≡ None = cause.0 in absurd cc
 refusal_unrun Unread (Ok _) asked files files' cause = (1, omega arith, refl)
@@ -154,12 +167,12 @@ refusal_unrun TooLong (Err Failed) asked files files' cause = (0, omega arith, r
 refusal_unrun (Elf fault) (Err Failed) asked files files' cause = (0, omega arith, refl)
 refusal_unrun (Asm line fault) (Err Failed) asked files files' cause = (0, omega arith, refl)
 
-no_memory_unrun : (telling : Telling) → Contains unrun_statuses (status_of NoMemory telling)
+no_memory_unrun : (telling : Telling) → IsOneOf unrun_statuses (code_of (status_of NoMemory telling))
 no_memory_unrun (Ok _) = (2, omega arith, refl)
 no_memory_unrun (Err Failed) = (2, omega arith, refl)
 no_memory_unrun (Err no_memory) = (2, omega arith, refl)
 
-refusal_listed : (request : Option Asked) (refusal : Refusal) (telling : Telling) (files files' : FilesState) → IsRefused refusal request files files' → Contains (undone_statuses request) (status_of (Refused refusal) telling)
+refusal_listed : (request : Option Asked) (refusal : Refusal) (telling : Telling) (files files' : FilesState) → IsRefused refusal request files files' → IsOneOf (undone_statuses request) (code_of (status_of (Refused refusal) telling))
 refusal_listed (Some asked) refusal telling files files' cause = refusal_unrun refusal telling asked files files' cause
 refusal_listed None (Usage text) telling files files' cause = usage_listed text telling
 refusal_listed None Unread telling files files' cause = absurd (nothing_stops Unread [] files files' refl cause)
@@ -167,12 +180,12 @@ refusal_listed None TooLong telling files files' cause = absurd (nothing_stops T
 refusal_listed None (Elf fault) telling files files' cause = absurd (nothing_stops (Elf fault) [] files files' refl cause)
 refusal_listed None (Asm line fault) telling files files' cause = absurd (nothing_stops (Asm line fault) [] files files' refl cause)
 
-lack_listed : (request : Option Asked) (telling : Telling) → Contains (undone_statuses request) (status_of NoMemory telling)
+lack_listed : (request : Option Asked) (telling : Telling) → IsOneOf (undone_statuses request) (code_of (status_of NoMemory telling))
 lack_listed (Some asked) telling = no_memory_unrun telling
 lack_listed None telling = no_memory_listed telling
 
 refusal_told : (refusal : Refusal) (telling : Telling) (request : Option Asked) (old new : World) (status : ℕ) → IsRefused refusal request old.files new.files → TellsCourse (Refused refusal) old.note new.note telling →
-    status ≡ status_of (Refused refusal) telling → TellsRefusal request old new status
+    status ≡ code_of (status_of (Refused refusal) telling) → TellsRefusal request old new status
 refusal_told refusal (Ok _) request old new status cause tells is = record { refusal = refusal; cause = cause; text = inl tells; status_is = inl is }
 refusal_told refusal (Err Failed) request old new status cause tells is =
     record { refusal = refusal; cause = cause; text = inr (tells.0, inl tells.1); status_is = inl is }
@@ -180,9 +193,9 @@ refusal_told refusal (Err no_memory) request old new status cause tells is =
     record { refusal = refusal; cause = cause; text = inr (tells, inr is); status_is = inr is }
 
 lack_told : (telling : Telling) (request : Option Asked) (old new : World) (status : ℕ) → RunsOut (needs_of request) old.files new.files → TellsCourse NoMemory old.note new.note telling →
-    status ≡ status_of NoMemory telling → LacksMemory request old new status
+    status ≡ code_of (status_of NoMemory telling) → LacksMemory request old new status
 lack_told telling request old new status runs_out tells is =
-    record { runs_out = runs_out; silent = tells.0; status_is = is ∙ ap (status_of NoMemory) tells.1 }
+    record { runs_out = runs_out; silent = tells.0; status_is = is ∙ ap (λ t. code_of (status_of NoMemory t)) tells.1 }
 
 -- what holds of a course in which nothing was done
 abbrev pub IfUndone : Course → Type 0 → Type 0
@@ -193,16 +206,16 @@ IfUndone (RanPlain run) P = Unit {0}
 IfUndone (Written telling) P = Unit {0}
 
 undone_of : (course : Course) (telling : Telling) (request : Option Asked) (old new : World) (done : Done) → CameAbout course request old.files new.files old.out new.out → TellsCourse course old.note new.note telling →
-    done.status ≡ status_of course telling → done.run ≡ course_run course → IfUndone course (Undone request old new done)
+    done.status ≡ code_of (status_of course telling) → done.run ≡ course_run course → IfUndone course (Undone request old new done)
 undone_of (Refused refusal) telling request old new done came tells status_is run_is = record {
   told = inl (refusal_told refusal telling request old new done.status came.0 tells status_is);
-  status_is = subst (λ (n : ℕ). Contains (undone_statuses request) n) (sym status_is) (refusal_listed request refusal telling old.files new.files came.0);
+  status_is = subst (λ (n : ℕ). IsOneOf (undone_statuses request) n) (sym status_is) (refusal_listed request refusal telling old.files new.files came.0);
   no_run = run_is;
   silent = came.1;
 }
 undone_of NoMemory telling request old new done came tells status_is run_is = record {
   told = inr (lack_told telling request old new done.status came.0 tells status_is);
-  status_is = subst (λ (n : ℕ). Contains (undone_statuses request) n) (sym status_is) (lack_listed request telling);
+  status_is = subst (λ (n : ℕ). IsOneOf (undone_statuses request) n) (sym status_is) (lack_listed request telling);
   no_run = run_is;
   silent = came.1;
 }
@@ -250,7 +263,7 @@ run {request} {old} {new} {done} o execution asks =
     subst (λ (b : Option RunBus). AreBothAnd done.run b (RanAndTold execution old new done) ⊎ Undone (Some (to_run execution)) old new done) (sym o.bus) with_run
 
 plainly_ran : (course : Course) (telling : Telling) (execution : ExecutionAsked) (P : Type 0) (old new : World) (done : Done) → CameAbout course (Some (to_run_plain execution)) old.files new.files old.out new.out →
-    TellsCourse course old.note new.note telling → done.status ≡ status_of course telling → done.run ≡ course_run course → IfUndone course P → PlainlyRan execution old new done ⊎ P
+    TellsCourse course old.note new.note telling → done.status ≡ code_of (status_of course telling) → done.run ≡ course_run course → IfUndone course P → PlainlyRan execution old new done ⊎ P
 plainly_ran (Refused refusal) telling execution P old new done came tells status_is run_is holds = inr holds
 plainly_ran NoMemory telling execution P old new done came tells status_is run_is holds = inr holds
 plainly_ran (Ran run bus) telling execution P old new done came tells status_is run_is holds = absurd came
@@ -267,21 +280,21 @@ plain {request} {old} {new} {done} o execution asks =
     plainly_ran o.course o.told execution (Undone (Some (to_run_plain execution)) old new done) old new done
     (came_as o (Some (to_run_plain execution)) asks) o.tells o.status o.run (undone o (Some (to_run_plain execution)) asks)
 
-delivered : (file : ProgramFile) (text : Image → List ℕ) (written telling : Telling) (old new : World) (done : Done) → Writes file text old.files new.files old.out new.out written → TellsCourse (Written written) old.note new.note telling →
-    done.status ≡ status_of (Written written) telling → done.run ≡ None → Delivers file text old new done
+delivered : (file : FileAsked) (text : Image → List ℕ) (written telling : Telling) (old new : World) (done : Done) → Writes file text old.files new.files old.out new.out written → TellsCourse (Written written) old.note new.note telling →
+    done.status ≡ code_of (status_of (Written written) telling) → done.run ≡ None → Delivers file text old new done
 delivered file text written telling old new done writes tells status_is run_is =
-    record { telling = written; writes = writes; status_is = status_is ∙ ap (status_of (Written written)) tells.1; no_run = run_is; silent = tells.0 }
+    record { telling = written; writes = writes; status_is = status_is ∙ ap (λ t. code_of (status_of (Written written) t)) tells.1; no_run = run_is; silent = tells.0 }
 
 -- what came about where the request is for this text
-abbrev pub WritesOr : Course → ProgramFile → (Image → List ℕ) → FilesState → FilesState → SinkState → SinkState → Type 0
+abbrev pub WritesOr : Course → FileAsked → (Image → List ℕ) → FilesState → FilesState → SinkState → SinkState → Type 0
 WritesOr (Refused refusal) file text files files' out out' = Unit {0}
 WritesOr NoMemory file text files files' out out' = Unit {0}
 WritesOr (Ran run bus) file text files files' out out' = ⊥
 WritesOr (RanPlain run) file text files files' out out' = ⊥
 WritesOr (Written telling) file text files files' out out' = Writes file text files files' out out' telling
 
-delivered_or : (course : Course) (telling : Telling) (file : ProgramFile) (text : Image → List ℕ) (P : Type 0) (old new : World) (done : Done) → WritesOr course file text old.files new.files old.out new.out →
-    TellsCourse course old.note new.note telling → done.status ≡ status_of course telling → done.run ≡ course_run course → IfUndone course P → Delivers file text old new done ⊎ P
+delivered_or : (course : Course) (telling : Telling) (file : FileAsked) (text : Image → List ℕ) (P : Type 0) (old new : World) (done : Done) → WritesOr course file text old.files new.files old.out new.out →
+    TellsCourse course old.note new.note telling → done.status ≡ code_of (status_of course telling) → done.run ≡ course_run course → IfUndone course P → Delivers file text old new done ⊎ P
 delivered_or (Refused refusal) telling file text P old new done writes tells status_is run_is holds = inr holds
 delivered_or NoMemory telling file text P old new done writes tells status_is run_is holds = inr holds
 delivered_or (Ran run bus) telling file text P old new done writes tells status_is run_is holds = absurd writes
@@ -295,43 +308,40 @@ gives_text {request} {old} {new} {done} o asked text asks writes =
     delivered_or o.course o.told (asked_file asked) text (Undone (Some asked) old new done) old new done writes o.tells o.status o.run (undone o (Some asked) asks)
 
 -- the request is for one of the texts
-pub asm_came : (course : Course) (assembly : AssemblyAsked) (files files' : FilesState) (out out' : SinkState) → CameAbout course (Some (to_assemble assembly)) files files' out out' → WritesOr course (assembly_file assembly) elf_file files files' out out'
-asm_came (Refused refusal) assembly files files' out out' came = tt
-asm_came NoMemory assembly files files' out out' came = tt
-asm_came (Ran run bus) assembly files files' out out' came = came
-asm_came (RanPlain run) assembly files files' out out' came = came
-asm_came (Written telling) assembly files files' out out' came = came
+pub asm_came : (course : Course) (file : FileAsked) (files files' : FilesState) (out out' : SinkState) → CameAbout course (Some (to_assemble file)) files files' out out' → WritesOr course file elf_file files files' out out'
+asm_came (Refused refusal) file files files' out out' came = tt
+asm_came NoMemory file files files' out out' came = tt
+asm_came (Ran run bus) file files files' out out' came = came
+asm_came (RanPlain run) file files files' out out' came = came
+asm_came (Written telling) file files files' out out' came = came
 
-pub dis_came : (course : Course) (inspection : InspectionAsked) (files files' : FilesState) (out out' : SinkState) → CameAbout course (Some (to_disassemble inspection)) files files' out out' → WritesOr course (inspection_file inspection) listing files files' out out'
-dis_came (Refused refusal) inspection files files' out out' came = tt
-dis_came NoMemory inspection files files' out out' came = tt
-dis_came (Ran run bus) inspection files files' out out' came = came
-dis_came (RanPlain run) inspection files files' out out' came = came
-dis_came (Written telling) inspection files files' out out' came = came
+pub dis_came : (course : Course) (file : FileAsked) (files files' : FilesState) (out out' : SinkState) → CameAbout course (Some (to_disassemble file)) files files' out out' → WritesOr course file listing files files' out out'
+dis_came (Refused refusal) file files files' out out' came = tt
+dis_came NoMemory file files files' out out' came = tt
+dis_came (Ran run bus) file files files' out out' came = came
+dis_came (RanPlain run) file files files' out out' came = came
+dis_came (Written telling) file files files' out out' came = came
 
-pub measure_came : (course : Course) (inspection : InspectionAsked) (files files' : FilesState) (out out' : SinkState) → CameAbout course (Some (to_measure inspection)) files files' out out' → WritesOr course (inspection_file inspection) measurement_line files files' out out'
-measure_came (Refused refusal) inspection files files' out out' came = tt
-measure_came NoMemory inspection files files' out out' came = tt
-measure_came (Ran run bus) inspection files files' out out' came = came
-measure_came (RanPlain run) inspection files files' out out' came = came
-measure_came (Written telling) inspection files files' out out' came = came
+pub measure_came : (course : Course) (file : FileAsked) (files files' : FilesState) (out out' : SinkState) → CameAbout course (Some (to_measure file)) files files' out out' → WritesOr course file measurement_line files files' out out'
+measure_came (Refused refusal) file files files' out out' came = tt
+measure_came NoMemory file files files' out out' came = tt
+measure_came (Ran run bus) file files files' out out' came = came
+measure_came (RanPlain run) file files files' out out' came = came
+measure_came (Written telling) file files files' out out' came = came
 
-pub asm : {request : Option Asked} {old new : World} {done : Done} → Outcome request old new done → (assembly : AssemblyAsked) → request ≡ Some (to_assemble assembly) → GivesText (to_assemble assembly) elf_file old new done
-asm {old = old} {new = new} o assembly asks =
-    gives_text o (to_assemble assembly) elf_file asks (asm_came o.course assembly old.files new.files old.out new.out (came_as o (Some (to_assemble assembly)) asks))
+pub asm : {request : Option Asked} {old new : World} {done : Done} → Outcome request old new done → (file : FileAsked) → request ≡ Some (to_assemble file) → GivesText (to_assemble file) elf_file old new done
+asm {old = old} {new = new} o file asks =
+    gives_text o (to_assemble file) elf_file asks (asm_came o.course file old.files new.files old.out new.out (came_as o (Some (to_assemble file)) asks))
 
-pub dis : {request : Option Asked} {old new : World} {done : Done} → Outcome request old new done → (inspection : InspectionAsked) → request ≡ Some (to_disassemble inspection) → GivesText (to_disassemble inspection) listing old new done
-dis {old = old} {new = new} o inspection asks =
-    gives_text o (to_disassemble inspection) listing asks (dis_came o.course inspection old.files new.files old.out new.out (came_as o (Some (to_disassemble inspection)) asks))
+pub dis : {request : Option Asked} {old new : World} {done : Done} → Outcome request old new done → (file : FileAsked) → request ≡ Some (to_disassemble file) → GivesText (to_disassemble file) listing old new done
+dis {old = old} {new = new} o file asks =
+    gives_text o (to_disassemble file) listing asks (dis_came o.course file old.files new.files old.out new.out (came_as o (Some (to_disassemble file)) asks))
 
-pub measure : {request : Option Asked} {old new : World} {done : Done} → Outcome request old new done → (inspection : InspectionAsked) → request ≡ Some (to_measure inspection) → GivesText (to_measure inspection) measurement_line old new done
-measure {old = old} {new = new} o inspection asks =
-    gives_text o (to_measure inspection) measurement_line asks (measure_came o.course inspection old.files new.files old.out new.out (came_as o (Some (to_measure inspection)) asks))
+pub measure : {request : Option Asked} {old new : World} {done : Done} → Outcome request old new done → (file : FileAsked) → request ≡ Some (to_measure file) → GivesText (to_measure file) measurement_line old new done
+measure {old = old} {new = new} o file asks =
+    gives_text o (to_measure file) measurement_line asks (measure_came o.course file old.files new.files old.out new.out (came_as o (Some (to_measure file)) asks))
 
 -- ---- files that are to be refused
-
-abbrev pub unfit_statuses : List ℕ
-unfit_statuses = 3 ∷ 8 ∷ 10 ∷ []
 
 -- a name has one content
 pub same_bytes : (held : Option (List ℕ → Option (List ℕ))) (name bytes other : List ℕ) → HasTold held name bytes → HasBytes held name other → other ≡ bytes
@@ -357,7 +367,7 @@ untaken before need after bytes request files files' order content unfit taken =
     not_unfit need bytes at.0 files content at.1 unfit
 
 refusal_unfit : (refusal : Refusal) (telling : Telling) (before : List Need) (need : Need) (after : List Need) (request : Option Asked) (files files' : FilesState) → needs_of request ≡ before ++ need ∷ after → IsRefused refusal request files files' →
-    Contains unfit_statuses (status_of (Refused refusal) telling)
+    IsOneOf unrun_statuses (code_of (status_of (Refused refusal) telling))
 refusal_unfit refusal (Err no_memory) before need after request files files' order cause = (2, omega arith, refl)
 refusal_unfit (Usage text) (Ok _) before need after request files files' order cause = absurd (no_place before need after (sym (ap needs_of cause.0) ∙ order))
 refusal_unfit Unread (Ok _) before need after request files files' order cause = (1, omega arith, refl)
@@ -370,13 +380,13 @@ refusal_unfit TooLong (Err Failed) before need after request files files' order 
 refusal_unfit (Elf fault) (Err Failed) before need after request files files' order cause = (0, omega arith, refl)
 refusal_unfit (Asm line fault) (Err Failed) before need after request files files' order cause = (0, omega arith, refl)
 
-no_memory_unfit : (telling : Telling) → Contains unfit_statuses (status_of NoMemory telling)
+no_memory_unfit : (telling : Telling) → IsOneOf unrun_statuses (code_of (status_of NoMemory telling))
 no_memory_unfit (Ok _) = (2, omega arith, refl)
 no_memory_unfit (Err Failed) = (2, omega arith, refl)
 no_memory_unfit (Err no_memory) = (2, omega arith, refl)
 
 unfit_listed : (course : Course) (telling : Telling) (before : List Need) (need : Need) (after : List Need) (bytes : List ℕ) (request : Option Asked) (files files' : FilesState) (out out' : SinkState) → needs_of request ≡ before ++ need ∷ after →
-    HasTold files.held need.name bytes → IsUnfit need bytes → CameAbout course request files files' out out' → Contains unfit_statuses (status_of course telling)
+    HasTold files.held need.name bytes → IsUnfit need bytes → CameAbout course request files files' out out' → IsOneOf unrun_statuses (code_of (status_of course telling))
 unfit_listed (Refused refusal) telling before need after bytes request files files' out out' order content unfit came = refusal_unfit refusal telling before need after request files files' order came.0
 unfit_listed NoMemory telling before need after bytes request files files' out out' order content unfit came = no_memory_unfit telling
 unfit_listed (Ran run bus) telling before need after bytes request files files' out out' order content unfit came =
@@ -387,6 +397,6 @@ unfit_listed (Written written) telling before need after bytes request files fil
     absurd (untaken before need after bytes request files files' order content unfit (written_taken request files files' out out' written came))
 
 pub unfit : {request : Option Asked} {old new : World} {done : Done} → Outcome request old new done → (before after : List Need) (need : Need) (bytes : List ℕ) →
-    needs_of request ≡ before ++ need ∷ after → HasTold old.files.held need.name bytes → IsUnfit need bytes → Contains unfit_statuses done.status
+    needs_of request ≡ before ++ need ∷ after → HasTold old.files.held need.name bytes → IsUnfit need bytes → IsOneOf unrun_statuses done.status
 unfit {request} {old} {new} o before after need bytes order content is =
-    subst (λ (n : ℕ). Contains unfit_statuses n) (sym o.status) (unfit_listed o.course o.told before need after bytes request old.files new.files old.out new.out order content is o.came)
+    subst (λ (n : ℕ). IsOneOf unrun_statuses n) (sym o.status) (unfit_listed o.course o.told before need after bytes request old.files new.files old.out new.out order content is o.came)

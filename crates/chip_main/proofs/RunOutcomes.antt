@@ -10,9 +10,9 @@ use Rattle.sec_base.specs.declared.image.Image.{Image}
 use Rattle.sec_base.specs.declared.sink.SinkStop.TheVariants.{Failed, NoMemory as no_memory}
 use Rattle.bus_model.specs.BusHistory.{BusHistory}
 use Rattle.plain_machine.specs.declared.PlainRecord.{PlainRecord}
-use Rattle.sec_base.specs.Sink.{IsWritten as IsTold}
+use Rattle.sec_base.specs.Sink.{IsWritten}
 use Rattle.chip_run.specs.declared.RunRecord.{RunRecord}
-use Rattle.chip_words.specs.Request.{Asked, ExecutionAsked, to_assemble, to_disassemble, to_measure, to_run, to_run_plain}
+use Rattle.chip_words.specs.Request.{Asked, ExecutionAsked, to_assemble, to_disassemble, to_measure, to_run, to_run_plain, FileAsked}
 use Rattle.chip_main.specs.declared.refusal.Refusal.{Refusal}
 use Rattle.chip_main.specs.declared.refusal.Refusal.TheVariants.{Usage, Unread, TooLong, Elf, Asm}
 use Rattle.chip_main.specs.declared.run_bus.RunBus.{RunBus}
@@ -21,10 +21,8 @@ use Rattle.chip_main.specs.declared.course.Course.{Course}
 use Rattle.chip_main.specs.declared.course.Course.TheVariants.{Refused, NoMemory, Ran, RanPlain, Written}
 use Rattle.chip_main.specs.declared.Done.{Done}
 use Rattle.chip_main.specs.World.{World}
-use Rattle.chip_main.specs.Program.{ProgramFile}
-use Rattle.chip_main.specs.Needs.{assembly_file, inspection_file}
 use Rattle.chip_main.specs.Texts.{elf_file, listing, measurement_line}
-use Rattle.chip_main.specs.Statuses.{Telling, ending_status, evidence_status, refusal_status, run_status, status_with, text_status}
+use Rattle.chip_main.specs.Status.{code_of, Telling, ending_status, evidence_status, refusal_status, run_status, status_with, text_status}
 use Rattle.chip_main.specs.Buses.{AreBothAnd, IsRunAnd, lies_of, run_history}
 use Rattle.chip_main.specs.Endings.{EndedWithoutEvidence, IsHalted, IsTrapped, IsOutOfSteps, EndedTampered, EndedSpent, EndedWithEvidence}
 use Rattle.chip_main.specs.Requests.{ByCommand, PlainlyRuns, PlainlyRunsRequest, RunsExecution, RunsRequest, Writes, WritesRequest}
@@ -58,42 +56,42 @@ honest o = o.lies ∙ none_false o.course
 -- ---- what a status says of what was done, by the command
 
 -- what a status says of a run on protected memory, of one on the plain machine, and of a text
-pub record Says (status : ℕ) (Run : RunRecord → BusHistory → Type 0) (Plain : ExecutionAsked → Type 0) (Text : ProgramFile → (Image → List ℕ) → Type 0) (files files' : FilesState) (out out' : SinkState) : Type 0 where
-  pub refuses : (refusal : Refusal) → refusal_status refusal ≢ status
+pub record Says (status : ℕ) (Run : RunRecord → BusHistory → Type 0) (Plain : ExecutionAsked → Type 0) (Text : FileAsked → (Image → List ℕ) → Type 0) (files files' : FilesState) (out out' : SinkState) : Type 0 where
+  pub refuses : (refusal : Refusal) → code_of (refusal_status refusal) ≢ status
   pub low : status < 9
-  pub of_run : (execution : ExecutionAsked) (run : RunRecord) (told : BusHistory) → RunsExecution execution files files' out out' run told → run_status run ≡ status → Run run told
-  pub of_plain : (execution : ExecutionAsked) (run : PlainRecord) → PlainlyRuns execution files files' out out' run → ending_status run.ending ≡ status → Plain execution
-  pub of_text : (file : ProgramFile) (text : Image → List ℕ) (telling : Telling) → Writes file text files files' out out' telling → text_status telling ≡ status → Text file text
+  pub of_run : (execution : ExecutionAsked) (run : RunRecord) (told : BusHistory) → RunsExecution execution files files' out out' run told → code_of (run_status run) ≡ status → Run run told
+  pub of_plain : (execution : ExecutionAsked) (run : PlainRecord) → PlainlyRuns execution files files' out out' run → code_of (ending_status run.ending) ≡ status → Plain execution
+  pub of_text : (file : FileAsked) (text : Image → List ℕ) (telling : Telling) → Writes file text files files' out out' telling → code_of (text_status telling) ≡ status → Text file text
 
-said_of_run : (request : Option Asked) (run : RunRecord) (told : BusHistory) (status : ℕ) (Run : RunRecord → BusHistory → Type 0) (Plain : ExecutionAsked → Type 0) (Text : ProgramFile → (Image → List ℕ) → Type 0) (files files' : FilesState) (out out' : SinkState) →
-    Says status Run Plain Text files files' out out' → RunsRequest request files files' out out' run told → run_status run ≡ status → ByCommand request (λ _. Run run told) Plain Text
+said_of_run : (request : Option Asked) (run : RunRecord) (told : BusHistory) (status : ℕ) (Run : RunRecord → BusHistory → Type 0) (Plain : ExecutionAsked → Type 0) (Text : FileAsked → (Image → List ℕ) → Type 0) (files files' : FilesState) (out out' : SinkState) →
+    Says status Run Plain Text files files' out out' → RunsRequest request files files' out out' run told → code_of (run_status run) ≡ status → ByCommand request (λ _. Run run told) Plain Text
 said_of_run None run told status Run Plain Text files files' out out' says came is = absurd came
 said_of_run (Some (to_run execution)) run told status Run Plain Text files files' out out' says came is = says.of_run execution run told came is
 said_of_run (Some (to_run_plain execution)) run told status Run Plain Text files files' out out' says came is = absurd came
-said_of_run (Some (to_assemble assembly)) run told status Run Plain Text files files' out out' says came is = absurd came
-said_of_run (Some (to_disassemble inspection)) run told status Run Plain Text files files' out out' says came is = absurd came
-said_of_run (Some (to_measure inspection)) run told status Run Plain Text files files' out out' says came is = absurd came
+said_of_run (Some (to_assemble file)) run told status Run Plain Text files files' out out' says came is = absurd came
+said_of_run (Some (to_disassemble file)) run told status Run Plain Text files files' out out' says came is = absurd came
+said_of_run (Some (to_measure file)) run told status Run Plain Text files files' out out' says came is = absurd came
 
-said_of_plain : (request : Option Asked) (run : PlainRecord) (status : ℕ) (Run : RunRecord → BusHistory → Type 0) (Plain : ExecutionAsked → Type 0) (Text : ProgramFile → (Image → List ℕ) → Type 0) (files files' : FilesState) (out out' : SinkState) →
-    Says status Run Plain Text files files' out out' → PlainlyRunsRequest request files files' out out' run → ending_status run.ending ≡ status → ByCommand request (λ _. ⊥) Plain Text
+said_of_plain : (request : Option Asked) (run : PlainRecord) (status : ℕ) (Run : RunRecord → BusHistory → Type 0) (Plain : ExecutionAsked → Type 0) (Text : FileAsked → (Image → List ℕ) → Type 0) (files files' : FilesState) (out out' : SinkState) →
+    Says status Run Plain Text files files' out out' → PlainlyRunsRequest request files files' out out' run → code_of (ending_status run.ending) ≡ status → ByCommand request (λ _. ⊥) Plain Text
 said_of_plain None run status Run Plain Text files files' out out' says came is = absurd came
 said_of_plain (Some (to_run execution)) run status Run Plain Text files files' out out' says came is = absurd came
 said_of_plain (Some (to_run_plain execution)) run status Run Plain Text files files' out out' says came is = says.of_plain execution run came is
-said_of_plain (Some (to_assemble assembly)) run status Run Plain Text files files' out out' says came is = absurd came
-said_of_plain (Some (to_disassemble inspection)) run status Run Plain Text files files' out out' says came is = absurd came
-said_of_plain (Some (to_measure inspection)) run status Run Plain Text files files' out out' says came is = absurd came
+said_of_plain (Some (to_assemble file)) run status Run Plain Text files files' out out' says came is = absurd came
+said_of_plain (Some (to_disassemble file)) run status Run Plain Text files files' out out' says came is = absurd came
+said_of_plain (Some (to_measure file)) run status Run Plain Text files files' out out' says came is = absurd came
 
-said_of_text : (request : Option Asked) (telling : Telling) (status : ℕ) (Run : RunRecord → BusHistory → Type 0) (Plain : ExecutionAsked → Type 0) (Text : ProgramFile → (Image → List ℕ) → Type 0) (files files' : FilesState) (out out' : SinkState) →
-    Says status Run Plain Text files files' out out' → WritesRequest request files files' out out' telling → text_status telling ≡ status → ByCommand request (λ _. ⊥) Plain Text
+said_of_text : (request : Option Asked) (telling : Telling) (status : ℕ) (Run : RunRecord → BusHistory → Type 0) (Plain : ExecutionAsked → Type 0) (Text : FileAsked → (Image → List ℕ) → Type 0) (files files' : FilesState) (out out' : SinkState) →
+    Says status Run Plain Text files files' out out' → WritesRequest request files files' out out' telling → code_of (text_status telling) ≡ status → ByCommand request (λ _. ⊥) Plain Text
 said_of_text None telling status Run Plain Text files files' out out' says came is = absurd came
 said_of_text (Some (to_run execution)) telling status Run Plain Text files files' out out' says came is = absurd came
 said_of_text (Some (to_run_plain execution)) telling status Run Plain Text files files' out out' says came is = absurd came
-said_of_text (Some (to_assemble assembly)) telling status Run Plain Text files files' out out' says came is = says.of_text (assembly_file assembly) elf_file telling came is
-said_of_text (Some (to_disassemble inspection)) telling status Run Plain Text files files' out out' says came is = says.of_text (inspection_file inspection) listing telling came is
-said_of_text (Some (to_measure inspection)) telling status Run Plain Text files files' out out' says came is = says.of_text (inspection_file inspection) measurement_line telling came is
+said_of_text (Some (to_assemble file)) telling status Run Plain Text files files' out out' says came is = says.of_text file elf_file telling came is
+said_of_text (Some (to_disassemble file)) telling status Run Plain Text files files' out out' says came is = says.of_text file listing telling came is
+said_of_text (Some (to_measure file)) telling status Run Plain Text files files' out out' says came is = says.of_text file measurement_line telling came is
 
-said : (course : Course) (request : Option Asked) (status : ℕ) (Run : RunRecord → BusHistory → Type 0) (Plain : ExecutionAsked → Type 0) (Text : ProgramFile → (Image → List ℕ) → Type 0) (files files' : FilesState) (out out' : SinkState) →
-    Says status Run Plain Text files files' out out' → CameAbout course request files files' out out' → course_status course ≡ status →
+said : (course : Course) (request : Option Asked) (status : ℕ) (Run : RunRecord → BusHistory → Type 0) (Plain : ExecutionAsked → Type 0) (Text : FileAsked → (Image → List ℕ) → Type 0) (files files' : FilesState) (out out' : SinkState) →
+    Says status Run Plain Text files files' out out' → CameAbout course request files files' out out' → code_of (course_status course) ≡ status →
     ByCommand request (λ _. AreBothAnd (course_run course) (course_bus course) Run) Plain Text
 said (Refused refusal) request status Run Plain Text files files' out out' says came is = absurd (says.refuses refusal is)
 said NoMemory request status Run Plain Text files files' out out' says came is = absurd (omega (arith, says.low))
@@ -104,13 +102,13 @@ said (RanPlain run) request status Run Plain Text files files' out out' says cam
 said (Written telling) request status Run Plain Text files files' out out' says came is =
     said_of_text request telling status Run Plain Text files files' out out' says came is
 
-by_command : (status : ℕ) (Run : RunRecord → BusHistory → Type 0) (Plain : ExecutionAsked → Type 0) (Text : ProgramFile → (Image → List ℕ) → Type 0) {request : Option Asked} {old new : World} {done : Done} →
+by_command : (status : ℕ) (Run : RunRecord → BusHistory → Type 0) (Plain : ExecutionAsked → Type 0) (Text : FileAsked → (Image → List ℕ) → Type 0) {request : Option Asked} {old new : World} {done : Done} →
     Says status Run Plain Text old.files new.files old.out new.out → Outcome request old new done → done.status ≡ status → ByCommand request (λ _. IsRunAnd done Run) Plain Text
 by_command status Run Plain Text {request} {old} {new} says o is =
     rw (o.run, o.bus) (said o.course request status Run Plain Text old.files new.files old.out new.out says o.came (own_status o status says.low is))
 
 -- no refusal has one of these statuses
-unrefused : (status : ℕ) → status ≢ 2 → status ≢ 3 → status ≢ 8 → (refusal : Refusal) → refusal_status refusal ≢ status
+unrefused : (status : ℕ) → status ≢ 2 → status ≢ 3 → status ≢ 8 → (refusal : Refusal) → code_of (refusal_status refusal) ≢ status
 unrefused status two three eight (Usage text) is = two (sym is)
 unrefused status two three eight Unread is = eight (sym is)
 unrefused status two three eight TooLong is = three (sym is)
@@ -118,30 +116,30 @@ unrefused status two three eight (Elf fault) is = three (sym is)
 unrefused status two three eight (Asm line fault) is = three (sym is)
 
 -- a text has no status from 1 to 8
-unwritten : (status : ℕ) → 0 < status → status < 9 → (telling : Telling) → text_status telling ≢ status
+unwritten : (status : ℕ) → 0 < status → status < 9 → (telling : Telling) → code_of (text_status telling) ≢ status
 unwritten status some low (Ok _) is = omega arith
 unwritten status some low (Err Failed) is = omega arith
 unwritten status some low (Err no_memory) is = omega arith
 
-written_whole : (file : ProgramFile) (text : Image → List ℕ) (telling : Telling) (files files' : FilesState) (out out' : SinkState) → Writes file text files files' out out' telling → text_status telling ≡ 0 →
+written_whole : (file : FileAsked) (text : Image → List ℕ) (telling : Telling) (files files' : FilesState) (out out' : SinkState) → Writes file text files files' out out' telling → code_of (text_status telling) ≡ 0 →
     Writes file text files files' out out' (Ok tt)
 written_whole file text (Ok _) files files' out out' writes is = writes
 written_whole file text (Err Failed) files files' out out' writes is = absurd (omega arith)
 written_whole file text (Err no_memory) files files' out out' writes is = absurd (omega arith)
 
 -- either a program ran, or a text was written
-ran_or_written : (request : Option Asked) (Run : Type 0) (Plain : ExecutionAsked → Type 0) (Text : ProgramFile → (Image → List ℕ) → Type 0) → ByCommand request (λ _. Run) Plain Text →
+ran_or_written : (request : Option Asked) (Run : Type 0) (Plain : ExecutionAsked → Type 0) (Text : FileAsked → (Image → List ℕ) → Type 0) → ByCommand request (λ _. Run) Plain Text →
     ByCommand request (λ _. Run) Plain (λ _ _. ⊥) ⊎ ByCommand request (λ _. ⊥) (λ _. ⊥) Text
 ran_or_written None Run Plain Text holds = absurd holds
 ran_or_written (Some (to_run execution)) Run Plain Text holds = inl holds
 ran_or_written (Some (to_run_plain execution)) Run Plain Text holds = inl holds
-ran_or_written (Some (to_assemble assembly)) Run Plain Text holds = inr holds
-ran_or_written (Some (to_disassemble inspection)) Run Plain Text holds = inr holds
-ran_or_written (Some (to_measure inspection)) Run Plain Text holds = inr holds
+ran_or_written (Some (to_assemble file)) Run Plain Text holds = inr holds
+ran_or_written (Some (to_disassemble file)) Run Plain Text holds = inr holds
+ran_or_written (Some (to_measure file)) Run Plain Text holds = inr holds
 
 pub is_done : {request : Option Asked} {old new : World} {done : Done} → Outcome request old new done → done.status ≡ 0 → IsDone request old new done
 is_done {request = request} {old = old} {new = new} {done = done} o is =
-    let text : ProgramFile → (Image → List ℕ) → Type 0 = λ file text. Writes file text old.files new.files old.out new.out (Ok tt) in
+    let text : FileAsked → (Image → List ℕ) → Type 0 = λ file text. Writes file text old.files new.files old.out new.out (Ok tt) in
     ran_or_written request (IsRunAnd done (EndedWithoutEvidence IsHalted)) (λ execution. PlainlyEnded IsHalted execution old new) text
     (by_command 0 (EndedWithoutEvidence IsHalted) (λ execution. PlainlyEnded IsHalted execution old new) text (record {
       refuses = unrefused 0 (omega arith) (omega arith) (omega arith);
@@ -211,9 +209,9 @@ of_command : (request : Option Asked) (P : Type 0) → ByCommand request (λ _. 
 of_command None P holds = absurd holds
 of_command (Some (to_run execution)) P holds = holds
 of_command (Some (to_run_plain execution)) P holds = absurd holds
-of_command (Some (to_assemble assembly)) P holds = absurd holds
-of_command (Some (to_disassemble inspection)) P holds = absurd holds
-of_command (Some (to_measure inspection)) P holds = absurd holds
+of_command (Some (to_assemble file)) P holds = absurd holds
+of_command (Some (to_disassemble file)) P holds = absurd holds
+of_command (Some (to_measure file)) P holds = absurd holds
 
 pub tampered : {request : Option Asked} {old new : World} {done : Done} → Outcome request old new done → done.status ≡ 5 → RanAnd EndedTampered request done × (done.lies ≡ 1)
 tampered {request = request} {done = done} o is =
@@ -222,29 +220,29 @@ tampered {request = request} {done = done} o is =
 
 -- ---- failed writes
 
-fault_of : (ending : Ending) → ending_status ending ≡ 9 → ending ≡ WriteFault
+fault_of : (ending : Ending) → code_of (ending_status ending) ≡ 9 → ending ≡ WriteFault
 fault_of WriteFault is = refl
-fault_of (Halted code) is = absurd (omega arith)
+fault_of (Halted exit) is = absurd (omega arith)
 fault_of (Trapped cause pc) is = absurd (omega arith)
 fault_of OutOfSteps is = absurd (omega arith)
 fault_of (Tampered place) is = absurd (omega arith)
 fault_of (Spent page) is = absurd (omega arith)
 fault_of memory_ended is = absurd (omega arith)
 
-evidence_fault_of : (ending : Ending) → evidence_status ending ≡ 9 → ending ≡ WriteFault
+evidence_fault_of : (ending : Ending) → code_of (evidence_status ending) ≡ 9 → ending ≡ WriteFault
 evidence_fault_of WriteFault is = refl
-evidence_fault_of (Halted code) is = absurd (omega arith)
+evidence_fault_of (Halted exit) is = absurd (omega arith)
 evidence_fault_of (Trapped cause pc) is = absurd (omega arith)
 evidence_fault_of OutOfSteps is = absurd (omega arith)
 evidence_fault_of (Tampered place) is = absurd (omega arith)
 evidence_fault_of (Spent page) is = absurd (omega arith)
 evidence_fault_of memory_ended is = absurd (omega arith)
 
-run_fault_of : (evidence : Option Evidence) (ending : Ending) → status_with evidence ending ≡ 9 → ending ≡ WriteFault
+run_fault_of : (evidence : Option Evidence) (ending : Ending) → code_of (status_with evidence ending) ≡ 9 → ending ≡ WriteFault
 run_fault_of None ending is = fault_of ending is
 run_fault_of (Some evidence) ending is = evidence_fault_of ending is
 
-refusal_no_fault : (refusal : Refusal) → refusal_status refusal ≢ 9
+refusal_no_fault : (refusal : Refusal) → code_of (refusal_status refusal) ≢ 9
 refusal_no_fault (Usage text) is = omega arith
 refusal_no_fault Unread is = omega arith
 refusal_no_fault TooLong is = omega arith
@@ -253,40 +251,40 @@ refusal_no_fault (Asm line fault) is = omega arith
 
 -- the request is for a text
 pub text_written : (request : Option Asked) (files files' : FilesState) (out out' : SinkState) (telling : Telling) → WritesRequest request files files' out out' telling →
-    (file : ProgramFile) × (text : Image → List ℕ) × Writes file text files files' out out' telling
+    (file : FileAsked) × (text : Image → List ℕ) × Writes file text files files' out out' telling
 text_written None files files' out out' telling came = absurd came
 text_written (Some (to_run execution)) files files' out out' telling came = absurd came
 text_written (Some (to_run_plain execution)) files files' out out' telling came = absurd came
-text_written (Some (to_assemble assembly)) files files' out out' telling came = (assembly_file assembly, elf_file, came)
-text_written (Some (to_disassemble inspection)) files files' out out' telling came = (inspection_file inspection, listing, came)
-text_written (Some (to_measure inspection)) files files' out out' telling came = (inspection_file inspection, measurement_line, came)
+text_written (Some (to_assemble file)) files files' out out' telling came = (file, elf_file, came)
+text_written (Some (to_disassemble file)) files files' out out' telling came = (file, listing, came)
+text_written (Some (to_measure file)) files files' out out' telling came = (file, measurement_line, came)
 
-text_failed : (text : List ℕ) (old new : SinkState) (telling : Telling) → IsTold text old new telling → text_status telling ≡ 9 → Rose old.faults new.faults
+text_failed : (text : List ℕ) (old new : SinkState) (telling : Telling) → IsWritten text old new telling → code_of (text_status telling) ≡ 9 → Rose old.faults new.faults
 text_failed text old new (Ok _) told is = absurd (omega arith)
 text_failed text old new (Err Failed) told is = told.1
 text_failed text old new (Err no_memory) told is = absurd (omega arith)
 
 -- a failed write of the sink for what is printed
-out_failed : (course : Course) (request : Option Asked) (files files' : FilesState) (out out' : SinkState) → CameAbout course request files files' out out' → course_status course ≡ 9 → Rose out.faults out'.faults
+out_failed : (course : Course) (request : Option Asked) (files files' : FilesState) (out out' : SinkState) → CameAbout course request files files' out out' → code_of (course_status course) ≡ 9 → Rose out.faults out'.faults
 out_failed (Refused refusal) request files files' out out' came is = absurd (refusal_no_fault refusal is)
 out_failed NoMemory request files files' out out' came is = absurd (omega arith)
 out_failed (Ran run bus) None files files' out out' came is = absurd came
 out_failed (Ran run bus) (Some (to_run execution)) files files' out out' came is = came.3.write_fault (run_fault_of run.evidence run.ending is)
 out_failed (Ran run bus) (Some (to_run_plain execution)) files files' out out' came is = absurd came
-out_failed (Ran run bus) (Some (to_assemble assembly)) files files' out out' came is = absurd came
-out_failed (Ran run bus) (Some (to_disassemble inspection)) files files' out out' came is = absurd came
-out_failed (Ran run bus) (Some (to_measure inspection)) files files' out out' came is = absurd came
+out_failed (Ran run bus) (Some (to_assemble file)) files files' out out' came is = absurd came
+out_failed (Ran run bus) (Some (to_disassemble file)) files files' out out' came is = absurd came
+out_failed (Ran run bus) (Some (to_measure file)) files files' out out' came is = absurd came
 out_failed (RanPlain run) None files files' out out' came is = absurd came
 out_failed (RanPlain run) (Some (to_run execution)) files files' out out' came is = absurd came
 out_failed (RanPlain run) (Some (to_run_plain execution)) files files' out out' came is = came.3.write_fault (fault_of run.ending is)
-out_failed (RanPlain run) (Some (to_assemble assembly)) files files' out out' came is = absurd came
-out_failed (RanPlain run) (Some (to_disassemble inspection)) files files' out out' came is = absurd came
-out_failed (RanPlain run) (Some (to_measure inspection)) files files' out out' came is = absurd came
+out_failed (RanPlain run) (Some (to_assemble file)) files files' out out' came is = absurd came
+out_failed (RanPlain run) (Some (to_disassemble file)) files files' out out' came is = absurd came
+out_failed (RanPlain run) (Some (to_measure file)) files files' out out' came is = absurd came
 out_failed (Written telling) request files files' out out' came is =
     let written = text_written request files files' out out' telling came in
     text_failed (written.1 written.2.image) out out' telling written.2.written is
 
-failed : (course : Course) (telling : Telling) (request : Option Asked) (files files' : FilesState) (out out' note note' : SinkState) → CameAbout course request files files' out out' → TellsCourse course note note' telling → status_of course telling ≡ 9 →
+failed : (course : Course) (telling : Telling) (request : Option Asked) (files files' : FilesState) (out out' note note' : SinkState) → CameAbout course request files files' out out' → TellsCourse course note note' telling → code_of (status_of course telling) ≡ 9 →
     Rose out.faults out'.faults ⊎ Rose note.faults note'.faults
 failed course (Ok _) request files files' out out' note note' came tells is = inl (out_failed course request files files' out out' came is)
 failed course (Err no_memory) request files files' out out' note note' came tells is = absurd (omega arith)

@@ -10,15 +10,15 @@ use Rattle.sec_base.specs.declared.place.Place.{Place}
 use Rattle.bus_model.specs.BusHistory.{BusHistory}
 use Rattle.chip_run.specs.declared.RunRecord.{RunRecord}
 use Rattle.bus_model.specs.FirstLie.{HonestOrCaught, IsCaught, IsOfFirstLie}
+use Rattle.sec_base.specs.Program.{Program}
 use Rattle.chip_main.specs.Device.{device_tag}
-use Rattle.chip_main.specs.Program.{Program}
-use Rattle.chip_main.specs.Statuses.{ending_status, evidence_status, status_with, run_status}
+use Rattle.chip_main.specs.Status.{code_of, ending_status, evidence_status, status_with, run_status}
 use Rattle.chip_main.specs.ProtectedRun.{RunsProtected}
 use Rattle.chip_main.specs.Endings.{EndedWithoutEvidence, IsHalted, IsTrapped, IsOutOfSteps, EndedTampered, EndedSpent, EndedWithEvidence}
 
 -- with evidence the status is 7 or more
-evidence_high : (ending : Ending) → 7 ≤ evidence_status ending
-evidence_high (Halted code) = omega arith
+evidence_high : (ending : Ending) → 7 ≤ code_of (evidence_status ending)
+evidence_high (Halted exit) = omega arith
 evidence_high (Trapped cause pc) = omega arith
 evidence_high OutOfSteps = omega arith
 evidence_high (Tampered place) = omega arith
@@ -27,29 +27,29 @@ evidence_high WriteFault = omega arith
 evidence_high NoMemory = omega arith
 
 -- so below 7 there is none
-low_without_evidence : (evidence : Option Evidence) (ending : Ending) → status_with evidence ending < 7 → evidence ≡ None
+low_without_evidence : (evidence : Option Evidence) (ending : Ending) → code_of (status_with evidence ending) < 7 → evidence ≡ None
 low_without_evidence None ending low = refl
 low_without_evidence (Some evidence) ending low = absurd (omega (arith, evidence_high ending))
 
-status_without_evidence : (evidence : Option Evidence) (ending : Ending) → evidence ≡ None → status_with evidence ending ≡ ending_status ending
+status_without_evidence : (evidence : Option Evidence) (ending : Ending) → evidence ≡ None → code_of (status_with evidence ending) ≡ code_of (ending_status ending)
 status_without_evidence None ending none = refl
 status_without_evidence (Some evidence) ending none = absurd cc
 
-pub run_status_without_evidence : (run : RunRecord) → run.evidence ≡ None → run_status run ≡ ending_status run.ending
+pub run_status_without_evidence : (run : RunRecord) → run.evidence ≡ None → code_of (run_status run) ≡ code_of (ending_status run.ending)
 run_status_without_evidence run none = status_without_evidence run.evidence run.ending none
 
 -- no evidence, and the status of the ending
 HasNoEvidence : RunRecord → ℕ → Type 0
-HasNoEvidence run status = (run.evidence ≡ None) × (ending_status run.ending ≡ status)
+HasNoEvidence run status = (run.evidence ≡ None) × (code_of (ending_status run.ending) ≡ status)
 
-low_status : (run : RunRecord) (status : ℕ) → run_status run ≡ status → status < 7 → HasNoEvidence run status
+low_status : (run : RunRecord) (status : ℕ) → code_of (run_status run) ≡ status → status < 7 → HasNoEvidence run status
 unfolding HasNoEvidence
 low_status run status is low =
     let none = low_without_evidence run.evidence run.ending (subst (λ (n : ℕ). n < 7) (sym is) low) in
     (none, sym (run_status_without_evidence run none) ∙ is)
 
-pub halted_of : (ending : Ending) → ending_status ending ≡ 0 → IsHalted ending
-halted_of (Halted code) is = (code, refl)
+pub halted_of : (ending : Ending) → code_of (ending_status ending) ≡ 0 → IsHalted ending
+halted_of (Halted exit) is = (exit, refl)
 halted_of (Trapped cause pc) is = absurd (omega arith)
 halted_of OutOfSteps is = absurd (omega arith)
 halted_of (Tampered place) is = absurd (omega arith)
@@ -57,44 +57,44 @@ halted_of (Spent page) is = absurd (omega arith)
 halted_of WriteFault is = absurd (omega arith)
 halted_of NoMemory is = absurd (omega arith)
 
-pub trapped_of : (ending : Ending) → ending_status ending ≡ 1 → IsTrapped ending
+pub trapped_of : (ending : Ending) → code_of (ending_status ending) ≡ 1 → IsTrapped ending
 trapped_of (Trapped cause pc) is = (cause, pc, refl)
-trapped_of (Halted code) is = absurd (omega arith)
+trapped_of (Halted exit) is = absurd (omega arith)
 trapped_of OutOfSteps is = absurd (omega arith)
 trapped_of (Tampered place) is = absurd (omega arith)
 trapped_of (Spent page) is = absurd (omega arith)
 trapped_of WriteFault is = absurd (omega arith)
 trapped_of NoMemory is = absurd (omega arith)
 
-pub out_of_steps_of : (ending : Ending) → ending_status ending ≡ 4 → IsOutOfSteps ending
+pub out_of_steps_of : (ending : Ending) → code_of (ending_status ending) ≡ 4 → IsOutOfSteps ending
 out_of_steps_of OutOfSteps is = refl
-out_of_steps_of (Halted code) is = absurd (omega arith)
+out_of_steps_of (Halted exit) is = absurd (omega arith)
 out_of_steps_of (Trapped cause pc) is = absurd (omega arith)
 out_of_steps_of (Tampered place) is = absurd (omega arith)
 out_of_steps_of (Spent page) is = absurd (omega arith)
 out_of_steps_of WriteFault is = absurd (omega arith)
 out_of_steps_of NoMemory is = absurd (omega arith)
 
-pub tampered_of : (ending : Ending) → ending_status ending ≡ 5 → (place : Place) × (ending ≡ Tampered place)
+pub tampered_of : (ending : Ending) → code_of (ending_status ending) ≡ 5 → (place : Place) × (ending ≡ Tampered place)
 tampered_of (Tampered place) is = (place, refl)
-tampered_of (Halted code) is = absurd (omega arith)
+tampered_of (Halted exit) is = absurd (omega arith)
 tampered_of (Trapped cause pc) is = absurd (omega arith)
 tampered_of OutOfSteps is = absurd (omega arith)
 tampered_of (Spent page) is = absurd (omega arith)
 tampered_of WriteFault is = absurd (omega arith)
 tampered_of NoMemory is = absurd (omega arith)
 
-pub spent_of : (ending : Ending) → ending_status ending ≡ 6 → (page : ℕ) × (ending ≡ Spent page)
+pub spent_of : (ending : Ending) → code_of (ending_status ending) ≡ 6 → (page : ℕ) × (ending ≡ Spent page)
 spent_of (Spent page) is = (page, refl)
-spent_of (Halted code) is = absurd (omega arith)
+spent_of (Halted exit) is = absurd (omega arith)
 spent_of (Trapped cause pc) is = absurd (omega arith)
 spent_of OutOfSteps is = absurd (omega arith)
 spent_of (Tampered place) is = absurd (omega arith)
 spent_of WriteFault is = absurd (omega arith)
 spent_of NoMemory is = absurd (omega arith)
 
-pub no_seven : (ending : Ending) → ending_status ending ≢ 7
-no_seven (Halted code) is = omega arith
+pub no_seven : (ending : Ending) → code_of (ending_status ending) ≢ 7
+no_seven (Halted exit) is = omega arith
 no_seven (Trapped cause pc) is = omega arith
 no_seven OutOfSteps is = omega arith
 no_seven (Tampered place) is = omega arith
@@ -102,19 +102,19 @@ no_seven (Spent page) is = omega arith
 no_seven WriteFault is = omega arith
 no_seven NoMemory is = omega arith
 
-evidence_of : (evidence : Option Evidence) (ending : Ending) → status_with evidence ending ≡ 7 → (found : Evidence) × (evidence ≡ Some found)
+evidence_of : (evidence : Option Evidence) (ending : Ending) → code_of (status_with evidence ending) ≡ 7 → (found : Evidence) × (evidence ≡ Some found)
 evidence_of None ending is = absurd (no_seven ending is)
 evidence_of (Some evidence) ending is = (evidence, refl)
 
-fault_is_no_seven : (evidence : Option Evidence) (ending : Ending) → status_with evidence ending ≡ 7 → ending ≢ WriteFault
+fault_is_no_seven : (evidence : Option Evidence) (ending : Ending) → code_of (status_with evidence ending) ≡ 7 → ending ≢ WriteFault
 fault_is_no_seven None ending is fault = no_seven ending is
 fault_is_no_seven (Some evidence) ending is fault =
-    let nine : ◌≡◌ {A = ℕ} 9 7 = subst (λ (e : Ending). evidence_status e ≡ 7) fault is in omega arith
+    let nine : ◌≡◌ {A = ℕ} 9 7 = subst (λ (e : Ending). code_of (evidence_status e) ≡ 7) fault is in omega arith
 
-memory_is_no_seven : (evidence : Option Evidence) (ending : Ending) → status_with evidence ending ≡ 7 → ending ≢ NoMemory
+memory_is_no_seven : (evidence : Option Evidence) (ending : Ending) → code_of (status_with evidence ending) ≡ 7 → ending ≢ NoMemory
 memory_is_no_seven None ending is gone = no_seven ending is
 memory_is_no_seven (Some evidence) ending is gone =
-    let ten : ◌≡◌ {A = ℕ} 10 7 = subst (λ (e : Ending). evidence_status e ≡ 7) gone is in omega arith
+    let ten : ◌≡◌ {A = ℕ} 10 7 = subst (λ (e : Ending). code_of (evidence_status e) ≡ 7) gone is in omega arith
 
 if_some : {A : Type 0} (P : A → Type 0) (o : Option A) (x : A) → o ≡ Some x → IfSome o P → P x
 if_some P o x is holds = subst (λ (v : Option _). IfSome v P) is holds
@@ -126,22 +126,22 @@ caught tag_of run told place ended (inl honest) = absurd (honest.untampered plac
 caught tag_of run told place ended (inr is) = is
 
 -- the causes of the statuses
-pub halted_cause : {levels steps : ℕ} {program : Program} {input : List ℕ} {old new : SinkState} {run : RunRecord} {told : BusHistory} → RunsProtected levels steps program input old new run told → run_status run ≡ 0 → EndedWithoutEvidence IsHalted run told
+pub halted_cause : {levels steps : ℕ} {program : Program} {input : List ℕ} {old new : SinkState} {run : RunRecord} {told : BusHistory} → RunsProtected levels steps program input old new run told → code_of (run_status run) ≡ 0 → EndedWithoutEvidence IsHalted run told
 unfolding HasNoEvidence
 halted_cause {run = run} runs is =
     let low = low_status run 0 is (omega arith) in record { no_evidence = low.0; ended = halted_of run.ending low.1 }
 
-pub trapped_cause : {levels steps : ℕ} {program : Program} {input : List ℕ} {old new : SinkState} {run : RunRecord} {told : BusHistory} → RunsProtected levels steps program input old new run told → run_status run ≡ 1 → EndedWithoutEvidence IsTrapped run told
+pub trapped_cause : {levels steps : ℕ} {program : Program} {input : List ℕ} {old new : SinkState} {run : RunRecord} {told : BusHistory} → RunsProtected levels steps program input old new run told → code_of (run_status run) ≡ 1 → EndedWithoutEvidence IsTrapped run told
 unfolding HasNoEvidence
 trapped_cause {run = run} runs is =
     let low = low_status run 1 is (omega arith) in record { no_evidence = low.0; ended = trapped_of run.ending low.1 }
 
-pub out_of_steps_cause : {levels steps : ℕ} {program : Program} {input : List ℕ} {old new : SinkState} {run : RunRecord} {told : BusHistory} → RunsProtected levels steps program input old new run told → run_status run ≡ 4 → EndedWithoutEvidence IsOutOfSteps run told
+pub out_of_steps_cause : {levels steps : ℕ} {program : Program} {input : List ℕ} {old new : SinkState} {run : RunRecord} {told : BusHistory} → RunsProtected levels steps program input old new run told → code_of (run_status run) ≡ 4 → EndedWithoutEvidence IsOutOfSteps run told
 unfolding HasNoEvidence
 out_of_steps_cause {run = run} runs is =
     let low = low_status run 4 is (omega arith) in record { no_evidence = low.0; ended = out_of_steps_of run.ending low.1 }
 
-pub tampered_cause : {levels steps : ℕ} {program : Program} {input : List ℕ} {old new : SinkState} {run : RunRecord} {told : BusHistory} → RunsProtected levels steps program input old new run told → run_status run ≡ 5 → EndedTampered run told
+pub tampered_cause : {levels steps : ℕ} {program : Program} {input : List ℕ} {old new : SinkState} {run : RunRecord} {told : BusHistory} → RunsProtected levels steps program input old new run told → code_of (run_status run) ≡ 5 → EndedTampered run told
 unfolding HasNoEvidence
 tampered_cause {levels = levels} {run = run} {told = told} runs is =
     let low = low_status run 5 is (omega arith) in
@@ -152,14 +152,14 @@ tampered_cause {levels = levels} {run = run} {told = told} runs is =
           (caught (device_tag levels) run told ending.0 ending.1 (runs.answers low.0));
     }
 
-pub spent_cause : {levels steps : ℕ} {program : Program} {input : List ℕ} {old new : SinkState} {run : RunRecord} {told : BusHistory} → RunsProtected levels steps program input old new run told → run_status run ≡ 6 → EndedSpent run told
+pub spent_cause : {levels steps : ℕ} {program : Program} {input : List ℕ} {old new : SinkState} {run : RunRecord} {told : BusHistory} → RunsProtected levels steps program input old new run told → code_of (run_status run) ≡ 6 → EndedSpent run told
 unfolding HasNoEvidence
 spent_cause {run = run} runs is =
     let low = low_status run 6 is (omega arith) in
     let ending = spent_of run.ending low.1 in
     record { no_evidence = low.0; page = ending.0; ended = ending.1; used_up = rw runs.bus_levels (runs.spent ending.0 low.0 ending.1) }
 
-pub evidence_cause : {levels steps : ℕ} {program : Program} {input : List ℕ} {old new : SinkState} {run : RunRecord} {told : BusHistory} → RunsProtected levels steps program input old new run told → run_status run ≡ 7 → EndedWithEvidence run told
+pub evidence_cause : {levels steps : ℕ} {program : Program} {input : List ℕ} {old new : SinkState} {run : RunRecord} {told : BusHistory} → RunsProtected levels steps program input old new run told → code_of (run_status run) ≡ 7 → EndedWithEvidence run told
 evidence_cause {levels = levels} {run = run} {told = told} runs is =
     let found = evidence_of run.evidence run.ending is in
     record {

@@ -1,24 +1,27 @@
 -- Files that are taken one after another, as far as one stops it.
-use Rattle.std.proofs.Common.{◌≡◌, ◌≤◌, ◌⊎◌, inl, inr, ℕ, List, [], ◌∷◌, ◌++◌, length, Option, Some, None, IfSome, IsOkAnd, Result, Ok, Err, ◌+◌, refl, sym, ap, ◌∙◌, subst, arith, append-nil, append_assoc}
+use Rattle.std.proofs.Common.{◌≡◌, ◌≢◌, ◌≤◌, ◌⊎◌, inl, inr, ℕ, List, [], ◌∷◌, ◌++◌, length, Option, Some, None, IfSome, IsOkAnd, Result, Ok, Err, ◌+◌, refl, sym, ap, ◌∙◌, subst, arith, append-nil, append_assoc}
 use Rattle.std.specs.Result.{result_err, IfErr}
 use Rattle.sec_base.specs.Count.{Rose, RoseBy}
 use Rattle.sec_base.specs.Geometry.{memory_size}
 use Rattle.sec_base.specs.Files.{FilesState, HasBytes, HasOver}
+use Rattle.sec_base.specs.declared.files.ReadStop.{ReadStop}
+use Rattle.sec_base.specs.declared.files.ReadStop.TheVariants.{Failed, Long, NoMemory as no_memory_read}
 use Rattle.sec_base.specs.declared.image.Image.{Image}
 use Rattle.elf_load.specs.Program.{elf_program, flat_program}
 use Rattle.rv32_asm.specs.Program.{assembled_program}
-use Rattle.chip_words.specs.Request.{ExecutionAsked}
-use Rattle.chip_main.specs.declared.program.ProgramForm.{ProgramForm}
-use Rattle.chip_main.specs.declared.program.ProgramForm.TheVariants.{ElfFile, FlatFile, AssemblyText}
+use Rattle.chip_words.specs.Request.{ExecutionAsked, FileAsked}
+use Rattle.chip_words.specs.declared.request.ProgramForm.{ProgramForm}
+use Rattle.chip_words.specs.declared.request.ProgramForm.TheVariants.{ElfFile, FlatFile, AssemblyText}
+use Rattle.sec_base.specs.Program.{IsImageOf, Program}
 use Rattle.chip_main.specs.declared.refusal.Refusal.{Refusal}
 use Rattle.chip_main.specs.declared.refusal.Refusal.TheVariants.{Usage, Unread, TooLong, Elf, Asm}
-use Rattle.chip_main.specs.declared.taking.Stop.{Stop}
-use Rattle.chip_main.specs.declared.taking.Stop.TheVariants.{Refused, NoMemory}
-use Rattle.chip_main.specs.Program.{IsImageIn, IsImageOf, Program, ProgramFile, limit_of, or_refusal, program_in, program_of_file}
-use Rattle.chip_main.specs.Needs.{Need, AreAccepted, IsAccepted, execution_file, input_needs, names, program_need}
-use Rattle.chip_main.specs.Causes.{Asks, IsCause, IsMisformed}
-use Rattle.chip_main.specs.Stopping.{StopsAs}
-use Rattle.chip_main.specs.Taken.{IsInput, IsProgram, Takes}
+use Rattle.chip_main.specs.declared.stop.Stop.{Stop}
+use Rattle.chip_main.specs.declared.stop.Stop.TheVariants.{Refused, NoMemory}
+use Rattle.chip_main.specs.Program.{IsImageIn, limit_of, or_refusal, program_in, program_of_file}
+use Rattle.chip_main.specs.Needs.{Need, AreAccepted, IsAccepted, input_needs, names, program_need}
+use Rattle.chip_main.specs.Causes.{Asks, IsCause, IsMisformed, IsLater}
+use Rattle.chip_main.specs.Stop.{IsStoppedBy, read_stop_of}
+use Rattle.chip_main.specs.Taken.{IsInput, IsProgram, ReadsExecution}
 
 -- what holds of each error that a result may be holds of its error
 pub at_err : {A E : Type 0} (result : Result A E) (P : E → Type 0) → ((error : E) → result ≡ Err error → P error) → IfErr result P
@@ -27,11 +30,24 @@ at_err (Err error) P each = each error refl
 
 -- ---- one file
 
-pub stops_here : (refusal : Refusal) (need : Need) (old new : FilesState) → Asks (need ∷ []) old new → IsCause refusal need old new → StopsAs (Refused refusal) (need ∷ []) old new
-stops_here refusal need old new asked cause =
-    record { before = []; here = need; after = []; order = refl; accepted = tt; asked = asked; cause = cause }
+no_later : (files : FilesState) → IsLater files files
+no_later files = record { held = refl; faults = omega arith; taken = omega arith }
 
-pub runs_out_here : (need : Need) (old new : FilesState) → (new.asked ≡ old.asked) ⊎ Asks (need ∷ []) old new → StopsAs NoMemory (need ∷ []) old new
+pub stops_here : (refusal : Refusal) (need : Need) (old new : FilesState) → Asks (need ∷ []) old new → IsCause refusal need old new → IsStoppedBy (Refused refusal) (need ∷ []) old new
+stops_here refusal need old new asked cause = record {
+  before = [];
+  here = need;
+  after = [];
+  order = refl;
+  accepted = tt;
+  mid = old;
+  later = no_later old;
+  reached = sym (append-nil old.asked);
+  asked = asked;
+  cause = cause;
+}
+
+pub runs_out_here : (need : Need) (old new : FilesState) → (new.asked ≡ old.asked) ⊎ Asks (need ∷ []) old new → IsStoppedBy NoMemory (need ∷ []) old new
 runs_out_here need old new (inl same) = record {
   before = [];
   tried = [];
@@ -44,16 +60,23 @@ runs_out_here need old new (inl same) = record {
 runs_out_here need old new (inr asked) =
     record { before = []; tried = need ∷ []; after = []; order = refl; accepted = tt; one = omega arith; asked = asked }
 
+-- a file was not read, for this reason
+pub unread : (why : ReadStop) (need : Need) (old new : FilesState) → (why ≢ no_memory_read → Asks (need ∷ []) old new) → (why ≡ Long → HasOver old.held need.name need.limit × RoseBy (need.limit + 1) old.taken new.taken) →
+    (why ≡ Failed → Rose old.faults new.faults) → (why ≡ no_memory_read → (new.asked ≡ old.asked) ⊎ Asks (need ∷ []) old new) → IsStoppedBy (read_stop_of why) (need ∷ []) old new
+unread Failed need old new asked long failed vain = stops_here Unread need old new (asked (λ e. cc)) (failed refl)
+unread Long need old new asked long failed vain = stops_here TooLong need old new (asked (λ e. cc)) (long refl)
+unread no_memory_read need old new asked long failed vain = runs_out_here need old new (vain refl)
+
 -- ---- a program
 
 -- its file was read, and is one
-pub tells_program : (files : FilesState) (file : ProgramFile) (bytes : List ℕ) (program : Program) → HasBytes files.held file.name bytes → length bytes ≤ limit_of file.form → program_of_file file bytes ≡ Ok program →
+pub tells_program : (files : FilesState) (file : FileAsked) (bytes : List ℕ) (program : Program) → HasBytes files.held file.name bytes → length bytes ≤ limit_of file.form → program_of_file file bytes ≡ Ok program →
     IsProgram files file program
 tells_program files file bytes program told within is =
     record { bytes = bytes; accepted = record { told = told; within = within; formed = ap result_err is }; is = is }
 
 -- its file was read, and is refused
-misformed : (files : FilesState) (file : ProgramFile) (bytes : List ℕ) (refusal : Refusal) → HasBytes files.held file.name bytes → length bytes ≤ limit_of file.form → program_of_file file bytes ≡ Err refusal →
+misformed : (files : FilesState) (file : FileAsked) (bytes : List ℕ) (refusal : Refusal) → HasBytes files.held file.name bytes → length bytes ≤ limit_of file.form → program_of_file file bytes ≡ Err refusal →
     IsMisformed refusal (program_need file) files
 misformed files file bytes refusal told within is =
     record { bytes = bytes; told = told; within = within; fault = ap result_err is }
@@ -89,8 +112,8 @@ is_cause (Elf fault) need old new of_bytes bad = bad
 is_cause (Asm line fault) need old new of_bytes bad = bad
 
 -- its file was read, and is no program
-pub untold : (stop : Stop) (file : ProgramFile) (bytes : List ℕ) (old new : FilesState) → HasBytes old.held file.name bytes → length bytes ≤ limit_of file.form → Asks (program_need file ∷ []) old new →
-    ((refusal : Refusal) → stop ≡ Refused refusal → program_of_file file bytes ≡ Err refusal) → StopsAs stop (program_need file ∷ []) old new
+pub untold : (stop : Stop) (file : FileAsked) (bytes : List ℕ) (old new : FilesState) → HasBytes old.held file.name bytes → length bytes ≤ limit_of file.form → Asks (program_need file ∷ []) old new →
+    ((refusal : Refusal) → stop ≡ Refused refusal → program_of_file file bytes ≡ Err refusal) → IsStoppedBy stop (program_need file ∷ []) old new
 untold (Refused refusal) file bytes old new told within asked refused =
     let is = refused refusal refl in
     stops_here refusal (program_need file) old new asked
@@ -115,8 +138,15 @@ text_image size text image is =
 
 -- ---- one file and then others
 
-abbrev pub IsLater : FilesState → FilesState → Type 0
-IsLater old mid = (mid.held ≡ old.held) × (old.faults ≤ mid.faults) × (old.taken ≤ mid.taken)
+pub later_by : {old new : FilesState} → new.held ≡ old.held → old.faults ≤ new.faults → old.taken ≤ new.taken → IsLater old new
+later_by held faults taken = record { held = held; faults = faults; taken = taken }
+
+later_on : (old mid new : FilesState) → IsLater old mid → IsLater mid new → IsLater old new
+later_on old mid new first then = record {
+  held = then.held ∙ first.held;
+  faults = let more = first.faults in let yet = then.faults in omega arith;
+  taken = let more = first.taken in let yet = then.taken in omega arith;
+}
 
 accepted_before : (need : Need) (bytes : List ℕ) (old mid : FilesState) → mid.held ≡ old.held → IsAccepted mid need bytes → IsAccepted old need bytes
 accepted_before need bytes old mid same accepted = record {
@@ -138,15 +168,16 @@ misformed_before refusal need old mid same bad = record {
   fault = bad.fault;
 }
 
-cause_before : (refusal : Refusal) (need : Need) (old mid new : FilesState) → IsLater old mid → IsCause refusal need mid new → IsCause refusal need old new
-cause_before (Usage text) need old mid new later cause = cause
-cause_before Unread need old mid new later cause = let risen : Rose mid.faults new.faults = cause in let grew = later.1 in omega arith
-cause_before TooLong need old mid new later cause = (
-  subst (λ (held : Option (List ℕ → Option (List ℕ))). HasOver held need.name need.limit) later.0 cause.0,
-  let risen : RoseBy (need.limit + 1) mid.taken new.taken = cause.1 in let grew = later.2 in omega arith,
+-- the cause in the read of a file is one in all that was read
+pub whole_cause : (refusal : Refusal) (need : Need) (old mid new : FilesState) → IsLater old mid → IsCause refusal need mid new → IsCause refusal need old new
+whole_cause (Usage text) need old mid new later cause = cause
+whole_cause Unread need old mid new later cause = let risen : Rose mid.faults new.faults = cause in let grew = later.faults in omega arith
+whole_cause TooLong need old mid new later cause = (
+  subst (λ (held : Option (List ℕ → Option (List ℕ))). HasOver held need.name need.limit) later.held cause.0,
+  let risen : RoseBy (need.limit + 1) mid.taken new.taken = cause.1 in let grew = later.taken in omega arith,
 )
-cause_before (Elf fault) need old mid new later cause = misformed_before (Elf fault) need old mid later.0 cause
-cause_before (Asm line fault) need old mid new later cause = misformed_before (Asm line fault) need old mid later.0 cause
+whole_cause (Elf fault) need old mid new later cause = misformed_before (Elf fault) need old mid later.held cause
+whole_cause (Asm line fault) need old mid new later cause = misformed_before (Asm line fault) need old mid later.held cause
 
 asks_both : (need : Need) (needs : List Need) (old mid new : FilesState) → Asks (need ∷ []) old mid → Asks needs mid new → Asks (need ∷ needs) old new
 asks_both need needs old mid new first others =
@@ -154,34 +185,40 @@ asks_both need needs old mid new first others =
 
 -- the first file was taken, and one of the others stopped it
 pub stops_later : (stop : Stop) (need : Need) (bytes : List ℕ) (needs : List Need) (old mid new : FilesState) → IsAccepted old need bytes → Asks (need ∷ []) old mid → IsLater old mid →
-    StopsAs stop needs mid new → StopsAs stop (need ∷ needs) old new
+    IsStoppedBy stop needs mid new → IsStoppedBy stop (need ∷ needs) old new
 stops_later (Refused refusal) need bytes needs old mid new accepted asked later stops = record {
   before = need ∷ stops.before;
   here = stops.here;
   after = stops.after;
   order = ap (λ (l : List Need). need ∷ l) stops.order;
-  accepted = ((bytes, accepted), all_before stops.before old mid later.0 stops.accepted);
-  asked = asks_both need (stops.before ++ stops.here ∷ []) old mid new asked stops.asked;
-  cause = cause_before refusal stops.here old mid new later stops.cause;
+  accepted = ((bytes, accepted), all_before stops.before old mid later.held stops.accepted);
+  mid = stops.mid;
+  later = later_on old mid stops.mid later stops.later;
+  reached = asks_both need stops.before old mid stops.mid asked stops.reached;
+  asked = stops.asked;
+  cause = stops.cause;
 }
 stops_later NoMemory need bytes needs old mid new accepted asked later stops = record {
   before = need ∷ stops.before;
   tried = stops.tried;
   after = stops.after;
   order = ap (λ (l : List Need). need ∷ l) stops.order;
-  accepted = ((bytes, accepted), all_before stops.before old mid later.0 stops.accepted);
+  accepted = ((bytes, accepted), all_before stops.before old mid later.held stops.accepted);
   one = stops.one;
   asked = asks_both need (stops.before ++ stops.tried) old mid new asked stops.asked;
 }
 
 -- the first file stopped it
-pub stops_first : (stop : Stop) (need : Need) (more : List Need) (old new : FilesState) → StopsAs stop (need ∷ []) old new → StopsAs stop (need ∷ more) old new
+pub stops_first : (stop : Stop) (need : Need) (more : List Need) (old new : FilesState) → IsStoppedBy stop (need ∷ []) old new → IsStoppedBy stop (need ∷ more) old new
 stops_first (Refused refusal) need more old new stops = record {
   before = stops.before;
   here = stops.here;
   after = stops.after ++ more;
   order = ap (λ (l : List Need). l ++ more) stops.order ∙ append_assoc stops.before (stops.here ∷ stops.after) more;
   accepted = stops.accepted;
+  mid = stops.mid;
+  later = stops.later;
+  reached = stops.reached;
   asked = stops.asked;
   cause = stops.cause;
 }
@@ -201,11 +238,11 @@ input_before None input old mid same is = is
 input_before (Some file) input old mid same is = accepted_before _ input old mid same is
 
 -- both were taken
-pub takes_both : (execution : ExecutionAsked) (program : Program) (input : List ℕ) (old mid new : FilesState) → IsProgram old (execution_file execution) program →
-    Asks (program_need (execution_file execution) ∷ []) old mid → mid.held ≡ old.held → IsInput mid execution.input input → Asks (input_needs execution.input) mid new →
-    Takes execution old new program input
+pub takes_both : (execution : ExecutionAsked) (program : Program) (input : List ℕ) (old mid new : FilesState) → IsProgram old execution.file program →
+    Asks (program_need execution.file ∷ []) old mid → mid.held ≡ old.held → IsInput mid execution.input input → Asks (input_needs execution.input) mid new →
+    ReadsExecution execution old new program input
 takes_both execution program input old mid new told first same is others = record {
   program_is = told;
   input_is = input_before execution.input input old mid same is;
-  asked = asks_both (program_need (execution_file execution)) (input_needs execution.input) old mid new first others;
+  asked = asks_both (program_need execution.file) (input_needs execution.input) old mid new first others;
 }

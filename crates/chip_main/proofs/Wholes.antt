@@ -11,7 +11,8 @@ use Rattle.bus_model.specs.BusHistory.{BusHistory}
 use Rattle.rv32_core.specs.Follows.{IsWhole}
 use Rattle.plain_machine.specs.declared.PlainRecord.{PlainRecord}
 use Rattle.chip_run.specs.declared.RunRecord.{RunRecord}
-use Rattle.chip_words.specs.Request.{Asked, ExecutionAsked, to_assemble, to_disassemble, to_measure, to_run, to_run_plain}
+use Rattle.chip_words.specs.Request.{Asked, ExecutionAsked, to_assemble, to_disassemble, to_measure, to_run, to_run_plain, FileAsked, asked_file}
+use Rattle.sec_base.specs.Program.{Program}
 use Rattle.chip_main.specs.declared.refusal.Refusal.{Refusal}
 use Rattle.chip_main.specs.declared.refusal.Refusal.TheVariants.{Usage, Unread, TooLong, Elf, Asm}
 use Rattle.chip_main.specs.declared.run_bus.RunBus.{RunBus}
@@ -19,19 +20,22 @@ use Rattle.chip_main.specs.declared.course.Course.{Course}
 use Rattle.chip_main.specs.declared.course.Course.TheVariants.{Refused, NoMemory, Ran, RanPlain, Written}
 use Rattle.chip_main.specs.declared.Done.{Done}
 use Rattle.chip_main.specs.World.{World}
-use Rattle.chip_main.specs.Program.{Program, ProgramFile, opening, program_of_file}
+use Rattle.chip_main.specs.Program.{opening, program_of_file}
 use Rattle.chip_main.specs.ProtectedRun.{RunsProtected}
 use Rattle.chip_main.specs.PlainRun.{RunsPlain}
-use Rattle.chip_main.specs.Needs.{Need, AreAccepted, HasTold, IsAccepted, asked_file, asked_needs, assembly_file, execution_file, inspection_file}
+use Rattle.chip_main.specs.Needs.{Need, AreAccepted, HasTold, IsAccepted, asked_needs}
 use Rattle.chip_main.specs.Causes.{IsCause, IsMisformed, IsRefused, Stops}
 use Rattle.chip_main.specs.Taken.{IsInput, IsProgram, Tell}
-use Rattle.chip_main.specs.Statuses.{Telling, ending_status, run_status}
+use Rattle.chip_main.specs.Status.{IsOneOf, code_of, Telling, ending_status, run_status}
+use Rattle.chip_main.specs.declared.status.Status.{Status}
+use Rattle.chip_main.specs.declared.status.Status.TheVariants as status
 use Rattle.chip_main.specs.Buses.{AreBothAnd, lies_of, run_history}
 use Rattle.chip_main.specs.Whole.{Faultless, RanWhole, Ready, plain_status, whole_statuses}
 use Rattle.chip_main.specs.Requests.{PlainlyRuns, RunsExecution, Writes}
 use Rattle.chip_main.specs.Course.{CameAbout, Outcome, TellsCourse, course_bus, course_run, status_of}
 use Rattle.chip_main.specs.Texts.{elf_file, listing, measurement_line}
 use Rattle.chip_main.proofs.Courses.{input_accepted, program_accepted}
+use Rattle.chip_main.proofs.Takings.{whole_cause}
 use Rattle.chip_main.proofs.Requested.{WritesOr, accepted_at, asm_came, came_as, dis_came, measure_came, same_bytes}
 use Rattle.chip_main.proofs.RunStatuses.{honest_without_evidence, run_status_without_evidence}
 
@@ -67,7 +71,7 @@ no_cause (Asm line fault) need bytes files files' tells accepted quiet cause = f
 no_stop : (refusal : Refusal) (needs : List Need) (files files' : FilesState) → Tell files → AreAccepted files needs → ¬ Rose files.faults files'.faults → ¬ Stops refusal needs files files'
 no_stop refusal needs files files' tells accepted quiet stops =
     let at = accepted_at stops.before stops.here stops.after files (subst (λ (n : List Need). AreAccepted files n) stops.order accepted) in
-    no_cause refusal stops.here at.0 files files' tells at.1 quiet stops.cause
+    no_cause refusal stops.here at.0 files files' tells at.1 quiet (whole_cause refusal stops.here files stops.mid files' stops.later stops.cause)
 
 unrefused : (refusal : Refusal) (asked : Asked) (files files' : FilesState) → Tell files → AreAccepted files (asked_needs asked) → ¬ Rose files.faults files'.faults → ¬ IsRefused refusal (Some asked) files files'
 unrefused (Usage text) asked files files' tells accepted quiet cause = let e : Some asked ≡ None = cause.0 in cc
@@ -79,12 +83,12 @@ unrefused (Asm line fault) asked files files' tells accepted quiet cause = no_st
 -- all that is needed is accepted
 ready_accepted : (asked : Asked) (files : FilesState) (program : Program) (input : List ℕ) → Ready asked files program input → AreAccepted files (asked_needs asked)
 ready_accepted (to_run execution) files program input ready =
-    (program_accepted (execution_file execution) program files ready.program_is, input_accepted execution.input input files ready.input_is)
+    (program_accepted execution.file program files ready.program_is, input_accepted execution.input input files ready.input_is)
 ready_accepted (to_run_plain execution) files program input ready =
-    (program_accepted (execution_file execution) program files ready.program_is, input_accepted execution.input input files ready.input_is)
-ready_accepted (to_assemble assembly) files program input ready = (program_accepted (assembly_file assembly) program files ready.program_is, tt)
-ready_accepted (to_disassemble inspection) files program input ready = (program_accepted (inspection_file inspection) program files ready.program_is, tt)
-ready_accepted (to_measure inspection) files program input ready = (program_accepted (inspection_file inspection) program files ready.program_is, tt)
+    (program_accepted execution.file program files ready.program_is, input_accepted execution.input input files ready.input_is)
+ready_accepted (to_assemble file) files program input ready = (program_accepted file program files ready.program_is, tt)
+ready_accepted (to_disassemble file) files program input ready = (program_accepted file program files ready.program_is, tt)
+ready_accepted (to_measure file) files program input ready = (program_accepted file program files ready.program_is, tt)
 
 -- ---- what was taken is what is ready
 
@@ -92,13 +96,13 @@ same_input : (file : Option (List ℕ)) (input other : List ℕ) (files : FilesS
 same_input None input other files tells ready taken = taken ∙ sym ready
 same_input (Some file) input other files tells ready taken = told_bytes files file input other tells ready.told taken.told
 
-same_program : (files : FilesState) (file : ProgramFile) (program other : Program) → Tell files → IsProgram files file program → IsProgram files file other → other ≡ program
+same_program : (files : FilesState) (file : FileAsked) (program other : Program) → Tell files → IsProgram files file program → IsProgram files file other → other ≡ program
 same_program files file program other tells ready taken =
     let same = told_bytes files file.name ready.bytes taken.bytes tells ready.accepted.told taken.accepted.told in
     let e : Ok other ≡ Ok program = sym taken.is ∙ ap (program_of_file file) same ∙ ready.is in cc
 
 memory_cases : (ending : Ending) → (ending ≡ memory_ended) ⊎ (ending ≢ memory_ended)
-memory_cases (Halted code) = inr (λ e. cc)
+memory_cases (Halted exit) = inr (λ e. cc)
 memory_cases (Trapped cause pc) = inr (λ e. cc)
 memory_cases OutOfSteps = inr (λ e. cc)
 memory_cases (Tampered place) = inr (λ e. cc)
@@ -111,39 +115,39 @@ memory_cases memory_ended = inl refl
 -- it is the run over the whole budget
 abbrev pub IsRunWhole : ExecutionAsked → Program → List ℕ → ℕ → RunRecord → BusHistory → Type 0
 IsRunWhole execution program input status run told =
-    IsWhole (opening execution.levels program input) execution.steps run.retired run.ending × (status ≡ ending_status run.ending)
+    IsWhole (opening execution.file.levels program input) execution.steps run.retired run.ending × (status ≡ code_of (ending_status run.ending))
 
-abbrev pub other_statuses : List ℕ
-other_statuses = 6 ∷ 10 ∷ []
+abbrev pub other_statuses : List Status
+other_statuses = status.Spent ∷ status.NoMemory ∷ []
 
-other : (status : ℕ) → status ≡ 10 → Contains other_statuses status
-other status is = subst (λ (n : ℕ). Contains other_statuses n) (sym is) (1, omega arith, refl)
+other : (status : ℕ) → status ≡ 10 → IsOneOf other_statuses status
+other status is = subst (λ (n : ℕ). IsOneOf other_statuses n) (sym is) (1, omega arith, refl)
 
-used_up : (status : ℕ) → status ≡ 6 → Contains other_statuses status
-used_up status is = subst (λ (n : ℕ). Contains other_statuses n) (sym is) (0, omega arith, refl)
+used_up : (status : ℕ) → status ≡ 6 → IsOneOf other_statuses status
+used_up status is = subst (λ (n : ℕ). IsOneOf other_statuses n) (sym is) (0, omega arith, refl)
 
-ran_whole : (execution : ExecutionAsked) (program : Program) (input : List ℕ) (out out' : SinkState) (run : RunRecord) (told : BusHistory) → RunsProtected execution.levels execution.steps program input out out' run told → told.lies ≡ 0 → ¬ Rose out.faults out'.faults →
-    Contains other_statuses (run_status run) ⊎ IsRunWhole execution program input (run_status run) run told
+ran_whole : (execution : ExecutionAsked) (program : Program) (input : List ℕ) (out out' : SinkState) (run : RunRecord) (told : BusHistory) → RunsProtected execution.file.levels execution.steps program input out out' run told → told.lies ≡ 0 → ¬ Rose out.faults out'.faults →
+    IsOneOf other_statuses (code_of (run_status run)) ⊎ IsRunWhole execution program input (code_of (run_status run)) run told
 ran_whole execution program input out out' run told runs none quiet =
     let ending_is = run_status_without_evidence run (honest_without_evidence runs none) in
     elim (memory_cases run.ending) [
-      | inl gone ↦ inl (other (run_status run) (ending_is ∙ ap ending_status gone))
+      | inl gone ↦ inl (other (code_of (run_status run)) (ending_is ∙ ap (λ e. code_of (ending_status e)) gone))
       | inr had ↦ elim (runs.whole quiet none had) [
         | inl whole ↦ inr (whole, ending_is)
-        | inr spent ↦ inl (used_up (run_status run) (ending_is ∙ ap ending_status spent.1))
+        | inr spent ↦ inl (used_up (code_of (run_status run)) (ending_is ∙ ap (λ e. code_of (ending_status e)) spent.1))
       ]
     ]
 
 ran_ready : (execution : ExecutionAsked) (program : Program) (input : List ℕ) (files files' : FilesState) (out out' : SinkState) (run : RunRecord) (told : BusHistory) → Ready (to_run execution) files program input → RunsExecution execution files files' out out' run told →
-    told.lies ≡ 0 → ¬ Rose out.faults out'.faults → Contains other_statuses (run_status run) ⊎ IsRunWhole execution program input (run_status run) run told
+    told.lies ≡ 0 → ¬ Rose out.faults out'.faults → IsOneOf other_statuses (code_of (run_status run)) ⊎ IsRunWhole execution program input (code_of (run_status run)) run told
 ran_ready execution program input files files' out out' run told ready came none quiet =
-    let same = same_program files (execution_file execution) program came.0 ready.tells ready.program_is came.2.program_is in
+    let same = same_program files execution.file program came.0 ready.tells ready.program_is came.2.program_is in
     let same_in = same_input execution.input input came.1 files ready.tells ready.input_is came.2.input_is in
     ran_whole execution program input out out' run told (rw (← same, ← same_in) came.3) none quiet
 
 whole_of : (course : Course) (telling : Telling) (execution : ExecutionAsked) (program : Program) (input : List ℕ) (files files' : FilesState) (out out' note note' : SinkState) → CameAbout course (Some (to_run execution)) files files' out out' →
     TellsCourse course note note' telling → Ready (to_run execution) files program input → lies_of (course_bus course) ≡ 0 → ¬ Rose files.faults files'.faults → ¬ Rose out.faults out'.faults → ¬ Rose note.faults note'.faults →
-    Contains other_statuses (status_of course telling) ⊎ AreBothAnd (course_run course) (course_bus course) (IsRunWhole execution program input (status_of course telling))
+    IsOneOf other_statuses (code_of (status_of course telling)) ⊎ AreBothAnd (course_run course) (course_bus course) (IsRunWhole execution program input (code_of (status_of course telling)))
 whole_of course (Err no_memory) execution program input files files' out out' note note' came tells ready none quiet_files quiet_out quiet_note = inl (other 10 refl)
 whole_of (Refused refusal) (Ok _) execution program input files files' out out' note note' came tells ready none quiet_files quiet_out quiet_note =
     absurd (unrefused refusal (to_run execution) files files' ready.tells (ready_accepted (to_run execution) files program input ready) quiet_files came.0)
@@ -159,49 +163,49 @@ whole_of (Written written) (Ok _) execution program input files files' out out' 
 whole_of (Written written) (Err Failed) execution program input files files' out out' note note' came tells ready none quiet_files quiet_out quiet_note = absurd came
 
 pub whole_run : {request : Option Asked} {old new : World} {done : Done} → Outcome request old new done → (execution : ExecutionAsked) (program : Program) (input : List ℕ) →
-    request ≡ Some (to_run execution) → Ready (to_run execution) old.files program input → Faultless (to_run execution) old new done → Contains other_statuses done.status ⊎ RanWhole execution program input done
+    request ≡ Some (to_run execution) → Ready (to_run execution) old.files program input → Faultless (to_run execution) old new done → IsOneOf other_statuses done.status ⊎ RanWhole execution program input done
 whole_run {request} {old} {new} {done} o execution program input asks ready sound =
     rw (o.run, o.bus, o.status) (whole_of o.course o.told execution program input old.files new.files old.out new.out old.note new.note
     (came_as o (Some (to_run execution)) asks) o.tells ready (sym o.lies ∙ sound.bus) sound.files sound.out sound.note)
 
 -- the status of a whole run is the plain machine's
-status_of_whole : (run : Option RunRecord) (bus : Option RunBus) (execution : ExecutionAsked) (program : Program) (input : List ℕ) (status : ℕ) → AreBothAnd run bus (IsRunWhole execution program input status) → status ≡ plain_status execution program input
+status_of_whole : (run : Option RunRecord) (bus : Option RunBus) (execution : ExecutionAsked) (program : Program) (input : List ℕ) (status : ℕ) → AreBothAnd run bus (IsRunWhole execution program input status) → status ≡ code_of (plain_status execution program input)
 status_of_whole None bus execution program input status whole = absurd whole
 status_of_whole (Some run) None execution program input status whole = absurd whole
-status_of_whole (Some run) (Some bus) execution program input status whole = whole.1 ∙ ap ending_status whole.0.ending_is
+status_of_whole (Some run) (Some bus) execution program input status whole = whole.1 ∙ ap (λ e. code_of (ending_status e)) whole.0.ending_is
 
-one_more : (first status : ℕ) → Contains other_statuses status → Contains (first ∷ other_statuses) status
+one_more : (first : Status) (status : ℕ) → IsOneOf other_statuses status → IsOneOf (first ∷ other_statuses) status
 one_more first status found = (suc found.0, omega (arith, found.1), found.2)
 
-run_whole : (execution : ExecutionAsked) (program : Program) (input : List ℕ) (done : Done) → Contains other_statuses done.status ⊎ RanWhole execution program input done → Contains (plain_status execution program input ∷ other_statuses) done.status
+run_whole : (execution : ExecutionAsked) (program : Program) (input : List ℕ) (done : Done) → IsOneOf other_statuses done.status ⊎ RanWhole execution program input done → IsOneOf (plain_status execution program input ∷ other_statuses) done.status
 run_whole execution program input done (inl other) = one_more (plain_status execution program input) done.status other
 run_whole execution program input done (inr whole) = (0, omega arith, sym (status_of_whole done.run done.bus execution program input done.status whole))
 
 -- ---- a run on the plain machine
 
-abbrev pub plain_statuses : ExecutionAsked → Program → List ℕ → List ℕ
-plain_statuses execution program input = plain_status execution program input ∷ 10 ∷ []
+abbrev pub plain_statuses : ExecutionAsked → Program → List ℕ → List Status
+plain_statuses execution program input = plain_status execution program input ∷ status.NoMemory ∷ []
 
-plain_other : (execution : ExecutionAsked) (program : Program) (input : List ℕ) (status : ℕ) → status ≡ 10 → Contains (plain_statuses execution program input) status
+plain_other : (execution : ExecutionAsked) (program : Program) (input : List ℕ) (status : ℕ) → status ≡ 10 → IsOneOf (plain_statuses execution program input) status
 plain_other execution program input status is = (1, omega arith, sym is)
 
-plainly_whole : (execution : ExecutionAsked) (program : Program) (input : List ℕ) (out out' : SinkState) (run : PlainRecord) → RunsPlain execution.levels execution.steps program input out out' run → ¬ Rose out.faults out'.faults →
-    Contains (plain_statuses execution program input) (ending_status run.ending)
+plainly_whole : (execution : ExecutionAsked) (program : Program) (input : List ℕ) (out out' : SinkState) (run : PlainRecord) → RunsPlain execution.file.levels execution.steps program input out out' run → ¬ Rose out.faults out'.faults →
+    IsOneOf (plain_statuses execution program input) (code_of (ending_status run.ending))
 plainly_whole execution program input out out' run runs quiet = elim (memory_cases run.ending) [
-  | inl gone ↦ plain_other execution program input (ending_status run.ending) (ap ending_status gone)
-  | inr had ↦ (0, omega arith, sym (ap ending_status (runs.whole quiet had).ending_is))
+  | inl gone ↦ plain_other execution program input (code_of (ending_status run.ending)) (ap (λ e. code_of (ending_status e)) gone)
+  | inr had ↦ (0, omega arith, sym (ap (λ e. code_of (ending_status e)) (runs.whole quiet had).ending_is))
 ]
 
 plainly_ready : (execution : ExecutionAsked) (program : Program) (input : List ℕ) (files files' : FilesState) (out out' : SinkState) (run : PlainRecord) → Ready (to_run_plain execution) files program input → PlainlyRuns execution files files' out out' run →
-    ¬ Rose out.faults out'.faults → Contains (plain_statuses execution program input) (ending_status run.ending)
+    ¬ Rose out.faults out'.faults → IsOneOf (plain_statuses execution program input) (code_of (ending_status run.ending))
 plainly_ready execution program input files files' out out' run ready came quiet =
-    let same = same_program files (execution_file execution) program came.0 ready.tells ready.program_is came.2.program_is in
+    let same = same_program files execution.file program came.0 ready.tells ready.program_is came.2.program_is in
     let same_in = same_input execution.input input came.1 files ready.tells ready.input_is came.2.input_is in
     plainly_whole execution program input out out' run (rw (← same, ← same_in) came.3) quiet
 
 whole_plain_of : (course : Course) (telling : Telling) (execution : ExecutionAsked) (program : Program) (input : List ℕ) (files files' : FilesState) (out out' note note' : SinkState) → CameAbout course (Some (to_run_plain execution)) files files' out out' →
     TellsCourse course note note' telling → Ready (to_run_plain execution) files program input → ¬ Rose files.faults files'.faults → ¬ Rose out.faults out'.faults → ¬ Rose note.faults note'.faults →
-    Contains (plain_statuses execution program input) (status_of course telling)
+    IsOneOf (plain_statuses execution program input) (code_of (status_of course telling))
 whole_plain_of course (Err no_memory) execution program input files files' out out' note note' came tells ready quiet_files quiet_out quiet_note = plain_other execution program input 10 refl
 whole_plain_of (Refused refusal) (Ok _) execution program input files files' out out' note note' came tells ready quiet_files quiet_out quiet_note =
     absurd (unrefused refusal (to_run_plain execution) files files' ready.tells (ready_accepted (to_run_plain execution) files program input ready) quiet_files came.0)
@@ -217,26 +221,26 @@ whole_plain_of (Written written) (Ok _) execution program input files files' out
 whole_plain_of (Written written) (Err Failed) execution program input files files' out out' note note' came tells ready quiet_files quiet_out quiet_note = absurd came
 
 plain_whole : {request : Option Asked} {old new : World} {done : Done} → Outcome request old new done → (execution : ExecutionAsked) (program : Program) (input : List ℕ) →
-    request ≡ Some (to_run_plain execution) → Ready (to_run_plain execution) old.files program input → Faultless (to_run_plain execution) old new done → Contains (plain_statuses execution program input) done.status
+    request ≡ Some (to_run_plain execution) → Ready (to_run_plain execution) old.files program input → Faultless (to_run_plain execution) old new done → IsOneOf (plain_statuses execution program input) done.status
 plain_whole {request} {old} {new} {done} o execution program input asks ready sound =
-    subst (λ (n : ℕ). Contains (plain_statuses execution program input) n) (sym o.status)
+    subst (λ (n : ℕ). IsOneOf (plain_statuses execution program input) n) (sym o.status)
     (whole_plain_of o.course o.told execution program input old.files new.files old.out new.out old.note new.note
     (came_as o (Some (to_run_plain execution)) asks) o.tells ready sound.files sound.out sound.note)
 
 -- ---- a text
 
-abbrev pub text_statuses : List ℕ
-text_statuses = 0 ∷ 10 ∷ []
+abbrev pub text_statuses : List Status
+text_statuses = status.Done ∷ status.NoMemory ∷ []
 
-written_whole : (written telling : Telling) (file : ProgramFile) (text : Image → List ℕ) (files files' : FilesState) (out out' note note' : SinkState) → Writes file text files files' out out' written → TellsCourse (Written written) note note' telling →
-    ¬ Rose out.faults out'.faults → Contains text_statuses (status_of (Written written) telling)
+written_whole : (written telling : Telling) (file : FileAsked) (text : Image → List ℕ) (files files' : FilesState) (out out' note note' : SinkState) → Writes file text files files' out out' written → TellsCourse (Written written) note note' telling →
+    ¬ Rose out.faults out'.faults → IsOneOf text_statuses (code_of (status_of (Written written) telling))
 written_whole (Ok _) telling file text files files' out out' note note' writes tells quiet = rw tells.1 (0, omega arith, refl)
 written_whole (Err Failed) telling file text files files' out out' note note' writes tells quiet = absurd (quiet writes.written.1)
 written_whole (Err no_memory) telling file text files files' out out' note note' writes tells quiet = rw tells.1 (1, omega arith, refl)
 
 whole_text_of : (course : Course) (telling : Telling) (asked : Asked) (text : Image → List ℕ) (program : Program) (input : List ℕ) (files files' : FilesState) (out out' note note' : SinkState) →
     CameAbout course (Some asked) files files' out out' → WritesOr course (asked_file asked) text files files' out out' → TellsCourse course note note' telling → Ready asked files program input → ¬ Rose files.faults files'.faults → ¬ Rose out.faults out'.faults →
-    Contains text_statuses (status_of course telling)
+    IsOneOf text_statuses (code_of (status_of course telling))
 whole_text_of (Refused refusal) telling asked text program input files files' out out' note note' came writes tells ready quiet_files quiet_out =
     absurd (unrefused refusal asked files files' ready.tells (ready_accepted asked files program input ready) quiet_files came.0)
 whole_text_of NoMemory telling asked text program input files files' out out' note note' came writes tells ready quiet_files quiet_out = rw tells.1 (1, omega arith, refl)
@@ -246,25 +250,25 @@ whole_text_of (Written written) telling asked text program input files files' ou
     written_whole written telling (asked_file asked) text files files' out out' note note' writes tells quiet_out
 
 text_whole : {request : Option Asked} {old new : World} {done : Done} → (o : Outcome request old new done) → (asked : Asked) (text : Image → List ℕ) (program : Program) (input : List ℕ) → request ≡ Some asked →
-    WritesOr o.course (asked_file asked) text old.files new.files old.out new.out → Ready asked old.files program input → Faultless asked old new done → Contains text_statuses done.status
+    WritesOr o.course (asked_file asked) text old.files new.files old.out new.out → Ready asked old.files program input → Faultless asked old new done → IsOneOf text_statuses done.status
 text_whole {request} {old} {new} {done} o asked text program input asks writes ready sound =
-    subst (λ (n : ℕ). Contains text_statuses n) (sym o.status)
+    subst (λ (n : ℕ). IsOneOf text_statuses n) (sym o.status)
     (whole_text_of o.course o.told asked text program input old.files new.files old.out new.out old.note new.note
     (came_as o (Some asked) asks) writes o.tells ready sound.files sound.out)
 
 -- ---- any request
 
 pub whole : {request : Option Asked} {old new : World} {done : Done} → Outcome request old new done → (asked : Asked) (program : Program) (input : List ℕ) →
-    request ≡ Some asked → Ready asked old.files program input → Faultless asked old new done → Contains (whole_statuses asked program input) done.status
+    request ≡ Some asked → Ready asked old.files program input → Faultless asked old new done → IsOneOf (whole_statuses asked program input) done.status
 whole {done = done} o (to_run execution) program input asks ready sound =
     run_whole execution program input done (whole_run o execution program input asks ready sound)
 whole o (to_run_plain execution) program input asks ready sound = plain_whole o execution program input asks ready sound
-whole {old = old} {new = new} o (to_assemble assembly) program input asks ready sound =
-    let writes = asm_came o.course assembly old.files new.files old.out new.out (came_as o (Some (to_assemble assembly)) asks) in
-    text_whole o (to_assemble assembly) elf_file program input asks writes ready sound
-whole {old = old} {new = new} o (to_disassemble inspection) program input asks ready sound =
-    let writes = dis_came o.course inspection old.files new.files old.out new.out (came_as o (Some (to_disassemble inspection)) asks) in
-    text_whole o (to_disassemble inspection) listing program input asks writes ready sound
-whole {old = old} {new = new} o (to_measure inspection) program input asks ready sound =
-    let writes = measure_came o.course inspection old.files new.files old.out new.out (came_as o (Some (to_measure inspection)) asks) in
-    text_whole o (to_measure inspection) measurement_line program input asks writes ready sound
+whole {old = old} {new = new} o (to_assemble file) program input asks ready sound =
+    let writes = asm_came o.course file old.files new.files old.out new.out (came_as o (Some (to_assemble file)) asks) in
+    text_whole o (to_assemble file) elf_file program input asks writes ready sound
+whole {old = old} {new = new} o (to_disassemble file) program input asks ready sound =
+    let writes = dis_came o.course file old.files new.files old.out new.out (came_as o (Some (to_disassemble file)) asks) in
+    text_whole o (to_disassemble file) listing program input asks writes ready sound
+whole {old = old} {new = new} o (to_measure file) program input asks ready sound =
+    let writes = measure_came o.course file old.files new.files old.out new.out (came_as o (Some (to_measure file)) asks) in
+    text_whole o (to_measure file) measurement_line program input asks writes ready sound

@@ -9,17 +9,18 @@ use Rattle.sec_base.specs.declared.image.Image.{Image}
 use Rattle.bus_model.specs.BusHistory.{BusHistory}
 use Rattle.plain_machine.specs.declared.PlainRecord.{PlainRecord}
 use Rattle.chip_run.specs.declared.RunRecord.{RunRecord}
-use Rattle.chip_words.specs.Request.{Asked, ExecutionAsked, to_run, to_run_plain}
+use Rattle.chip_words.specs.Request.{Asked, ExecutionAsked, FileAsked, asked_file, to_run, to_run_plain}
 use Rattle.chip_main.specs.declared.refusal.Refusal.{Refusal}
 use Rattle.chip_main.specs.declared.Done.{Done}
 use Rattle.chip_main.specs.World.{World}
-use Rattle.chip_main.specs.Program.{ProgramFile}
-use Rattle.chip_main.specs.Needs.{asked_file, needs_of}
+use Rattle.chip_main.specs.Needs.{needs_of}
 use Rattle.chip_main.specs.Causes.{IsRefused, RunsOut, Stops}
 use Rattle.chip_main.specs.Buses.{IsRunAnd}
 use Rattle.chip_main.specs.Endings.{EndedWithoutEvidence, IsHalted}
 use Rattle.chip_main.specs.Requests.{ByCommand, PlainlyRuns, RunsExecution, Writes, WritesRequest}
-use Rattle.chip_main.specs.Statuses.{Telling, ending_status, refusal_status, run_status, text_status}
+use Rattle.chip_main.specs.Status.{IsOneOf, Telling, code_of, ending_status, refusal_status, run_status, text_status}
+use Rattle.chip_main.specs.declared.status.Status.{Status}
+use Rattle.chip_main.specs.declared.status.Status.TheVariants as status
 use Rattle.chip_main.specs.Texts.{plain_text, record_text, refusal_text}
 
 -- ---- why each status comes
@@ -43,56 +44,57 @@ IsDone request old new done = Ended IsHalted request old new done
 abbrev pub RanAnd : (RunRecord → BusHistory → Type 0) → Option Asked → Done → Type 0
 RanAnd P request done = ByCommand request (λ _. IsRunAnd done P) (λ _. ⊥) (λ _ _. ⊥)
 
--- one of the files was refused, with this status
-abbrev pub FileRefused : ℕ → Option Asked → FilesState → FilesState → Type 0
-FileRefused status request old new =
-    (refusal : Refusal) × (refusal_status refusal ≡ status) × Stops refusal (needs_of request) old new
+-- one of the files was refused, for its length or its form
+abbrev pub FileRefused : Option Asked → FilesState → FilesState → Type 0
+FileRefused request old new =
+    (refusal : Refusal) × (refusal_status refusal ≡ status.Refused) × Stops refusal (needs_of request) old new
 
 -- ---- how far it was told
 
--- the sink gained a text; or a front part of it, where a write failed or the status is 10
+-- the sink gained a text; or a front part of it, where a write failed or there was no memory
 abbrev pub GainsText : SinkState → List ℕ → SinkState → ℕ → Type 0
-GainsText old text new status =
-    Gains old text new ⊎ (GainsFront old text new × (Rose old.faults new.faults ⊎ (status ≡ 10)))
+GainsText old text new number =
+    Gains old text new ⊎ (GainsFront old text new × (Rose old.faults new.faults ⊎ (number ≡ code_of status.NoMemory)))
 
--- A run that ended so was told by a text, with the status that it has then; or by a front part of it, with 9 where a
--- write failed, or with 10 where memory was not to be had.
-abbrev pub TellsEnding : List ℕ → ℕ → Ending → ℕ → SinkState → SinkState → Type 0
-TellsEnding text whole_status ending status old new = (Gains old text new × (status ≡ whole_status))
+-- A run that ended so was told by a text, with the status that it has then; or by a front part of it, where a write
+-- failed or there was no memory.
+abbrev pub TellsEnding : List ℕ → Status → Ending → ℕ → SinkState → SinkState → Type 0
+TellsEnding text whole ending number old new = (Gains old text new × (number ≡ code_of whole))
     ⊎ (GainsFront old text new
-    × (((status ≡ 9) × (ending ≢ NoMemory) × Rose old.faults new.faults) ⊎ (status ≡ 10)))
+    × (((number ≡ code_of status.WriteFault) × (ending ≢ NoMemory) × Rose old.faults new.faults)
+    ⊎ (number ≡ code_of status.NoMemory)))
 
 -- a run's record was told, with so many lies
 abbrev pub TellsRun : ℕ → RunRecord → ℕ → SinkState → SinkState → Type 0
-TellsRun status run lies old new = TellsEnding (record_text run lies) (run_status run) run.ending status old new
+TellsRun number run lies old new = TellsEnding (record_text run lies) (run_status run) run.ending number old new
 
 abbrev pub TellsPlain : ℕ → PlainRecord → SinkState → SinkState → Type 0
-TellsPlain status run old new = TellsEnding (plain_text run) (ending_status run.ending) run.ending status old new
+TellsPlain number run old new = TellsEnding (plain_text run) (ending_status run.ending) run.ending number old new
 
 -- ---- what each command gives
 
--- a refusal with its cause, its text and its status, or 10 for it
-pub record TellsRefusal (request : Option Asked) (old new : World) (status : ℕ) : Type 0 where
+-- a refusal with its cause, its text and its status, or that of no memory
+pub record TellsRefusal (request : Option Asked) (old new : World) (number : ℕ) : Type 0 where
   pub refusal : Refusal
   pub cause : IsRefused refusal request old.files new.files
-  pub text : GainsText old.note (refusal_text refusal) new.note status
-  pub status_is : (status ≡ refusal_status refusal) ⊎ (status ≡ 10)
+  pub text : GainsText old.note (refusal_text refusal) new.note number
+  pub status_is : (number ≡ code_of (refusal_status refusal)) ⊎ (number ≡ code_of status.NoMemory)
 
--- memory was not to be had, and nothing was told
-pub record LacksMemory (request : Option Asked) (old new : World) (status : ℕ) : Type 0 where
+-- there was no memory, and nothing was told
+pub record LacksMemory (request : Option Asked) (old new : World) (number : ℕ) : Type 0 where
   pub runs_out : RunsOut (needs_of request) old.files new.files
   pub silent : IsSilent old.note new.note
-  pub status_is : status ≡ 10
+  pub status_is : number ≡ code_of status.NoMemory
 
 -- the statuses where nothing was done
-abbrev pub undone_statuses : Option Asked → List ℕ
-undone_statuses None = 2 ∷ 10 ∷ []
-undone_statuses (Some asked) = 3 ∷ 8 ∷ 10 ∷ []
+abbrev pub undone_statuses : Option Asked → List Status
+undone_statuses None = status.Usage ∷ status.NoMemory ∷ []
+undone_statuses (Some asked) = status.Refused ∷ status.ReadFault ∷ status.NoMemory ∷ []
 
 -- nothing was done: there was a refusal, or no memory; and nothing was printed
 pub record Undone (request : Option Asked) (old new : World) (done : Done) : Type 0 where
   pub told : TellsRefusal request old new done.status ⊎ LacksMemory request old new done.status
-  pub status_is : Contains (undone_statuses request) done.status
+  pub status_is : IsOneOf (undone_statuses request) done.status
   pub no_run : done.run ≡ None
   pub silent : IsSilent old.out new.out
 
@@ -109,10 +111,10 @@ pub record PlainlyRan (execution : ExecutionAsked) (old new : World) (done : Don
   pub no_run : done.run ≡ None
 
 -- a text of the file's program was written as far as the status says, and nothing is told of that
-pub record Delivers (file : ProgramFile) (text : Image → List ℕ) (old new : World) (done : Done) : Type 0 where
+pub record Delivers (file : FileAsked) (text : Image → List ℕ) (old new : World) (done : Done) : Type 0 where
   pub telling : Telling
   pub writes : Writes file text old.files new.files old.out new.out telling
-  pub status_is : done.status ≡ text_status telling
+  pub status_is : done.status ≡ code_of (text_status telling)
   pub no_run : done.run ≡ None
   pub silent : IsSilent old.note new.note
 

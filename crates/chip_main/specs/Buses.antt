@@ -7,6 +7,16 @@ use Rattle.chip_main.specs.declared.run_bus.RunBus.{RunBus}
 use Rattle.chip_main.specs.declared.run_bus.RunBus.TheVariants.{Honest}
 use Rattle.chip_main.specs.declared.Done.{Done}
 
+-- calls make of a bus another of the same kind
+abbrev pub IsSameKind : RunBus → RunBus → Type 0
+IsSameKind (Honest old) (Honest new) = Unit {0}
+
+pub same_kind : (bus : RunBus) → IsSameKind bus bus
+same_kind (Honest bus) = tt
+
+pub same_kinds : (first second third : RunBus) → IsSameKind first second → IsSameKind second third → IsSameKind first third
+same_kinds (Honest first) (Honest second) (Honest third) once then = tt
+
 -- what it was asked and what it answered
 abbrev pub run_history : RunBus → BusHistory
 run_history (Honest bus) = honest_history bus

@@ -8,6 +8,8 @@ use Rattle.chip_main.specs.declared.refusal.Refusal.{Refusal}
 use Rattle.chip_main.specs.declared.refusal.Refusal.TheVariants.{Usage, Unread, TooLong, Elf, Asm}
 use Rattle.chip_main.specs.Needs.{Need, AreAccepted, names, needs_of}
 
+-- ---- what is asked for
+
 -- just these files were asked for, in order, each once
 abbrev pub Asks : List Need → FilesState → FilesState → Type 0
 Asks needs old new = new.asked ≡ old.asked ++ names needs
@@ -20,6 +22,8 @@ AsksNothing old new = new.asked ≡ old.asked
 abbrev pub AsksFront : List Need → FilesState → FilesState → Type 0
 AsksFront needs old new = (front : List Need) × IsPrefix front needs × Asks front old new
 
+-- ---- why a file is refused
+
 -- the file is within its limit, and its bytes don't have their form for this reason
 pub record IsMisformed (refusal : Refusal) (need : Need) (files : FilesState) : Type 0 where
   pub bytes : List ℕ
@@ -27,8 +31,8 @@ pub record IsMisformed (refusal : Refusal) (need : Need) (files : FilesState) : 
   pub within : length bytes ≤ need.limit
   pub fault : need.fault bytes ≡ Some refusal
 
--- why a file is refused: the read failed; or the file is longer than the limit, and more was taken than that;
--- or its bytes don't have their form
+-- Why a file is refused, by the files before its read and after: the read failed; or the file is longer than the limit,
+-- and more was taken than that; or its bytes don't have their form.
 abbrev pub IsCause : Refusal → Need → FilesState → FilesState → Type 0
 IsCause (Usage text) need old new = ⊥
 IsCause Unread need old new = Rose old.faults new.faults
@@ -36,17 +40,27 @@ IsCause TooLong need old new = HasOver old.held need.name need.limit × RoseBy (
 IsCause (Elf fault) need old new = IsMisformed (Elf fault) need old
 IsCause (Asm line fault) need old new = IsMisformed (Asm line fault) need old
 
--- One of the files was refused: those before it were accepted, and those behind it were not asked for.
+-- other files were read since, whole or in vain
+pub record IsLater (old new : FilesState) : Type 0 where
+  pub held : new.held ≡ old.held
+  pub faults : old.faults ≤ new.faults
+  pub taken : old.taken ≤ new.taken
+
+-- One of the files was refused: those before it were accepted, its own read is why, and those behind it were not asked
+-- for. `mid` are the files as they stood before that read.
 pub record Stops (refusal : Refusal) (needs : List Need) (old new : FilesState) : Type 0 where
   pub before : List Need
   pub here : Need
   pub after : List Need
   pub order : needs ≡ before ++ here ∷ after
   pub accepted : AreAccepted old before
-  pub asked : Asks (before ++ here ∷ []) old new
-  pub cause : IsCause refusal here old new
+  pub mid : FilesState
+  pub later : IsLater old mid
+  pub reached : Asks before old mid
+  pub asked : Asks (here ∷ []) mid new
+  pub cause : IsCause refusal here mid new
 
--- Memory was not to be had: the first files were accepted, and at most one more was asked for, of which nothing is said.
+-- Out of memory: the first files were accepted, and at most one more was asked for, of which nothing is said.
 pub record RunsOut (needs : List Need) (old new : FilesState) : Type 0 where
   pub before : List Need
   pub tried : List Need

@@ -1,7 +1,7 @@
 -- What a call came to, how that came about, and what is made of it.
-use Rattle.std.specs.Prelude.{◌≡◌, ℕ, Option, Some, None, Ok, Err}
+use Rattle.std.specs.Prelude.{◌≡◌, Option, Some, None, Ok, Err}
 use Rattle.sec_base.specs.Files.{FilesState}
-use Rattle.sec_base.specs.Sink.{SinkState, IsSilent, IsWritten as IsTold}
+use Rattle.sec_base.specs.Sink.{SinkState, IsSilent, IsWritten}
 use Rattle.sec_base.specs.declared.sink.SinkStop.TheVariants.{Failed, NoMemory as no_memory}
 use Rattle.chip_run.specs.declared.RunRecord.{RunRecord}
 use Rattle.chip_words.specs.Request.{Asked}
@@ -14,7 +14,9 @@ use Rattle.chip_main.specs.Needs.{needs_of}
 use Rattle.chip_main.specs.Causes.{IsRefused, RunsOut}
 use Rattle.chip_main.specs.Requests.{RunsRequest, PlainlyRunsRequest, WritesRequest}
 use Rattle.chip_main.specs.Texts.{plain_text, record_text, refusal_text}
-use Rattle.chip_main.specs.Statuses.{Telling, ending_status, refusal_status, run_status, text_status, untold_ending_status}
+use Rattle.chip_main.specs.Status.{Telling, code_of, ending_status, refusal_status, run_status, text_status, untold_ending_status}
+use Rattle.chip_main.specs.declared.status.Status.{Status}
+use Rattle.chip_main.specs.declared.status.Status.TheVariants.{NoMemory as out_of_memory}
 use Rattle.chip_main.specs.Buses.{run_history, lies_of}
 
 -- how each course came about, from the request, the files and the sink for what is printed
@@ -31,10 +33,10 @@ TellsNothing old new telling = IsSilent old new × (telling ≡ Ok tt)
 
 -- what is told of it, and how far
 abbrev pub TellsCourse : Course → SinkState → SinkState → Telling → Type 0
-TellsCourse (Refused refusal) old new telling = IsTold (refusal_text refusal) old new telling
+TellsCourse (Refused refusal) old new telling = IsWritten (refusal_text refusal) old new telling
 TellsCourse NoMemory old new telling = TellsNothing old new telling
-TellsCourse (Ran run bus) old new telling = IsTold (record_text run (run_history bus).lies) old new telling
-TellsCourse (RanPlain run) old new telling = IsTold (plain_text run) old new telling
+TellsCourse (Ran run bus) old new telling = IsWritten (record_text run (run_history bus).lies) old new telling
+TellsCourse (RanPlain run) old new telling = IsWritten (plain_text run) old new telling
 TellsCourse (Written written) old new telling = TellsNothing old new telling
 
 -- the record of a run on protected memory and its bus, where there was one
@@ -53,26 +55,26 @@ course_bus (RanPlain run) = None
 course_bus (Written telling) = None
 
 -- the status, where it was told whole
-abbrev pub course_status : Course → ℕ
+abbrev pub course_status : Course → Status
 course_status (Refused refusal) = refusal_status refusal
-course_status NoMemory = 10
+course_status NoMemory = out_of_memory
 course_status (Ran run bus) = run_status run
 course_status (RanPlain run) = ending_status run.ending
 course_status (Written telling) = text_status telling
 
 -- a refusal that could not be told keeps its status
-abbrev pub untold_status : Course → ℕ
+abbrev pub untold_status : Course → Status
 untold_status (Refused refusal) = refusal_status refusal
-untold_status NoMemory = 10
+untold_status NoMemory = out_of_memory
 untold_status (Ran run bus) = untold_ending_status run.ending
 untold_status (RanPlain run) = untold_ending_status run.ending
 untold_status (Written telling) = text_status telling
 
 -- the status of the process
-abbrev pub status_of : Course → Telling → ℕ
+abbrev pub status_of : Course → Telling → Status
 status_of course (Ok _) = course_status course
 status_of course (Err Failed) = untold_status course
-status_of course (Err no_memory) = 10
+status_of course (Err no_memory) = out_of_memory
 
 -- the whole of a call, with its answer
 pub record Outcome (request : Option Asked) (old new : World) (done : Done) : Type 0 where
@@ -80,7 +82,7 @@ pub record Outcome (request : Option Asked) (old new : World) (done : Done) : Ty
   pub told : Telling
   pub came : CameAbout course request old.files new.files old.out new.out
   pub tells : TellsCourse course old.note new.note told
-  pub status : done.status ≡ status_of course told
+  pub status : done.status ≡ code_of (status_of course told)
   pub run : done.run ≡ course_run course
   pub bus : done.bus ≡ course_bus course
   pub lies : done.lies ≡ lies_of (course_bus course)

@@ -38,7 +38,7 @@ pub record EndedSpent (run : RunRecord) (told : BusHistory) : Type 0 where
   pub ended : run.ending ≡ Spent page
   pub used_up : IsSpent (line_count told.levels) page_limit run.used page
 
--- There is evidence of the first false answer, and neither the sink nor want of memory ended the run.
+-- There is evidence of the first false answer, and neither the sink nor being out of memory ended the run.
 pub record EndedWithEvidence (run : RunRecord) (told : BusHistory) : Type 0 where
   pub evidence : Evidence
   pub there : run.evidence ≡ Some evidence

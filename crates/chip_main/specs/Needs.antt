@@ -1,37 +1,9 @@
 -- The files that a request needs, in order.
-use Rattle.std.specs.Prelude.{◌≡◌, ◌<◌, ◌≤◌, ◌≢◌, ◌⊎◌, Bool, true, false, List, [], ◌∷◌, ℕ, length, map, Option, Some, None}
+use Rattle.std.specs.Prelude.{◌≡◌, ◌<◌, ◌≤◌, ◌≢◌, ◌⊎◌, List, [], ◌∷◌, ℕ, length, map, Option, Some, None}
 use Rattle.sec_base.specs.Files.{FilesState, HasBytes}
-use Rattle.chip_words.specs.Request.{Asked, AssemblyAsked, ExecutionAsked, InspectionAsked, to_assemble, to_disassemble, to_measure, to_run, to_run_plain}
-use Rattle.chip_main.specs.declared.program.ProgramForm.{ProgramForm}
-use Rattle.chip_main.specs.declared.program.ProgramForm.TheVariants.{ElfFile, FlatFile, AssemblyText}
+use Rattle.chip_words.specs.Request.{Asked, ExecutionAsked, FileAsked, to_assemble, to_disassemble, to_measure, to_run, to_run_plain}
 use Rattle.chip_main.specs.declared.refusal.Refusal.{Refusal}
-use Rattle.chip_main.specs.Program.{ProgramFile, fault_in, limit_of, program_file}
-
--- ---- the program's file
-
--- with `--flat` a flat file, and else an ELF file
-abbrev pub form_of : Bool → ProgramForm
-form_of true = FlatFile
-form_of false = ElfFile
-
-abbrev pub execution_file : ExecutionAsked → ProgramFile
-execution_file execution = program_file execution.file (form_of execution.flat) execution.levels
-
-abbrev pub assembly_file : AssemblyAsked → ProgramFile
-assembly_file assembly = program_file assembly.file AssemblyText assembly.levels
-
-abbrev pub inspection_file : InspectionAsked → ProgramFile
-inspection_file inspection = program_file inspection.file (form_of inspection.flat) inspection.levels
-
--- the file of a request's program
-abbrev pub asked_file : Asked → ProgramFile
-asked_file (to_run execution) = execution_file execution
-asked_file (to_run_plain execution) = execution_file execution
-asked_file (to_assemble assembly) = assembly_file assembly
-asked_file (to_disassemble inspection) = inspection_file inspection
-asked_file (to_measure inspection) = inspection_file inspection
-
--- ---- the files that are needed
+use Rattle.chip_main.specs.Program.{fault_in, limit_of}
 
 -- a file's name, how many bytes of it are read at most, and what is wrong with bytes that don't have its form
 pub record Need : Type 0 where
@@ -40,7 +12,7 @@ pub record Need : Type 0 where
   pub fault : List ℕ → Option Refusal
 
 -- a program has its form, and fits the memory
-abbrev pub program_need : ProgramFile → Need
+abbrev pub program_need : FileAsked → Need
 program_need file = record { name = file.name; limit = limit_of file.form; fault = fault_in file }
 
 -- no longer input is read
@@ -57,14 +29,14 @@ input_needs (Some name) = input_need name ∷ []
 
 -- a program, and then its input, where one is named
 abbrev pub execution_needs : ExecutionAsked → List Need
-execution_needs execution = program_need (execution_file execution) ∷ input_needs execution.input
+execution_needs execution = program_need execution.file ∷ input_needs execution.input
 
 abbrev pub asked_needs : Asked → List Need
 asked_needs (to_run execution) = execution_needs execution
 asked_needs (to_run_plain execution) = execution_needs execution
-asked_needs (to_assemble assembly) = program_need (assembly_file assembly) ∷ []
-asked_needs (to_disassemble inspection) = program_need (inspection_file inspection) ∷ []
-asked_needs (to_measure inspection) = program_need (inspection_file inspection) ∷ []
+asked_needs (to_assemble file) = program_need file ∷ []
+asked_needs (to_disassemble file) = program_need file ∷ []
+asked_needs (to_measure file) = program_need file ∷ []
 
 -- words that are no request need nothing
 abbrev pub needs_of : Option Asked → List Need

@@ -3,13 +3,14 @@
 use Rattle.std.specs.Prelude.{◌≡◌, ℕ, List, Option, Result, Ok, Err}
 use Rattle.std.specs.Result.{result_err}
 use Rattle.sec_base.specs.Geometry.{memory_size}
-pub use Rattle.sec_base.specs.Program.{IsImageOf, Program}
+use Rattle.sec_base.specs.Program.{IsImageOf, Program}
 use Rattle.sec_base.specs.declared.image.Image.{Image}
 use Rattle.elf_load.specs.Program.{elf_program, flat_program}
 use Rattle.rv32_asm.specs.Program.{assembled_program}
+use Rattle.chip_words.specs.Request.{FileAsked}
 use Rattle.rv32_core.specs.Machine.{Machine, opening_of}
-use Rattle.chip_main.specs.declared.program.ProgramForm.{ProgramForm}
-use Rattle.chip_main.specs.declared.program.ProgramForm.TheVariants.{ElfFile, FlatFile, AssemblyText}
+use Rattle.chip_words.specs.declared.request.ProgramForm.{ProgramForm}
+use Rattle.chip_words.specs.declared.request.ProgramForm.TheVariants.{ElfFile, FlatFile, AssemblyText}
 use Rattle.chip_main.specs.declared.refusal.Refusal.{Refusal}
 use Rattle.chip_main.specs.declared.refusal.Refusal.TheVariants.{Elf, Asm}
 
@@ -30,21 +31,12 @@ limit_of ElfFile = 8388608
 limit_of FlatFile = 1048576
 limit_of AssemblyText = 1048576
 
--- a program's file: its name, its form, and the levels of the tree whose memory the program is for
-pub record ProgramFile : Type 0 where
-  pub name : List ℕ
-  pub form : ProgramForm
-  pub levels : ℕ
-
-abbrev pub program_file : List ℕ → ProgramForm → ℕ → ProgramFile
-program_file name form levels = record { name = name; form = form; levels = levels }
-
 -- the program that these bytes are, where they are the file's
-abbrev pub program_of_file : ProgramFile → List ℕ → Result Program Refusal
+abbrev pub program_of_file : FileAsked → List ℕ → Result Program Refusal
 program_of_file file bytes = program_in file.form (memory_size file.levels) bytes
 
 -- what is wrong with these bytes, where they are the file's
-abbrev pub fault_in : ProgramFile → List ℕ → Option Refusal
+abbrev pub fault_in : FileAsked → List ℕ → Option Refusal
 fault_in file bytes = result_err (program_of_file file bytes)
 
 -- the image is the program that a file of this form is for a memory of this size

@@ -1,5 +1,5 @@
 -- A run of a program on protected memory.
-use Rattle.std.specs.Prelude.{◌≡◌, ◌≢◌, ◌<◌, ◌≤◌, ◌↔◌, ◌⊎◌, List, ℕ, None, IfSome}
+use Rattle.std.specs.Prelude.{◌≡◌, ◌≢◌, ◌<◌, ◌≤◌, ◌↔◌, ◌⊎◌, List, ℕ, None, IfSome, length}
 use Rattle.sec_base.specs.Count.{Rose}
 use Rattle.sec_base.specs.Gain.{Gain}
 use Rattle.sec_base.specs.declared.place.Place.TheVariants.{Line}
@@ -11,14 +11,17 @@ use Rattle.sec_base.specs.Sink.{SinkState, Gains}
 use Rattle.sec_base.specs.declared.ending.Ending.TheVariants.{OutOfSteps, Tampered, Spent, WriteFault, NoMemory}
 use Rattle.bus_model.specs.BusHistory.{BusHistory}
 use Rattle.pad_stream.specs.Pads.{AreRising, NoRepeat, of_lines}
+use Rattle.rv32_core.specs.Effect.{next}
 use Rattle.rv32_core.specs.Machine.{plain}
+use Rattle.rv32_core.specs.Outcome.{prints_of}
 use Rattle.rv32_core.specs.Follows.{Follows, IsWhole}
 use Rattle.chip_run.specs.declared.RunRecord.{RunRecord}
 use Rattle.bus_model.specs.FirstLie.{HonestOrCaught, IsOfFirstLie}
 use Rattle.chip_run.specs.Contents.{AreConsecutive, AreNumbered, HoldsLast, HoldsSealed, IsSpent, IsWrittenOut, NodesAreZeros, line_writes}
 use Rattle.rv32_run.specs.Session.{IsMemoryEnding, IsStop}
 use Rattle.chip_main.specs.Device.{device_enc_key, device_tag, page_limit}
-use Rattle.chip_main.specs.Program.{Program, opening}
+use Rattle.sec_base.specs.Program.{Program}
+use Rattle.chip_main.specs.Program.{opening}
 
 -- a run of a program on an input, in the memory below a tree of so many levels and within a budget of steps; it
 -- prints to a sink, over a bus that was told this
@@ -55,14 +58,17 @@ pub record RunsProtected (levels steps : ℕ) (program : Program) (input : List 
   -- the memory and the sink end it only where the budget allows one more instruction, or none at all
   pub early : IsStop run.ending → 0 < steps → run.retired < steps
   -- where no answer was false and the sink had no fault, it is the plain machine's run over the whole budget, or a
-  -- page was used up, or memory was not to be had
+  -- page was used up, or it ended out of memory
   pub whole : ¬ (Rose old.faults new.faults) → told.lies ≡ 0 → run.ending ≢ NoMemory →
       IsWhole (opening levels program input) steps run.retired run.ending ⊎ ((page : ℕ) × (run.ending ≡ Spent page))
   -- no line is written more often than the limit allows, and a page is used up only where one was written so often
   pub limited : (line : ℕ) → line_writes run.used line ≤ page_limit
   pub spent : (page : ℕ) → run.evidence ≡ None → run.ending ≡ Spent page →
       IsSpent (line_count levels) page_limit run.used page
+  -- a write fails only at an instruction that prints
   pub write_fault : run.ending ≡ WriteFault → Rose old.faults new.faults
+  pub prints : run.evidence ≡ None → run.ending ≡ WriteFault →
+      0 < length (prints_of (next (plain (opening levels program input) run.retired).state))
   -- without evidence the places of the lines were read together at least as often as the run turned over
   pub turned : run.evidence ≡ None → Gain (line_count levels) (λ line. 0) (λ line. told.reads (Line line))
       (turnover (opening levels program input) run.retired)

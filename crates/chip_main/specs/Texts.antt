@@ -1,19 +1,14 @@
 -- What is told of a run, or of why nothing was done, and what is written of a program. Each line ends with a line feed.
 use Rattle.std.specs.Prelude.{List, ◌++◌, ℕ, codes, string_bytes}
 use Rattle.std.specs.Fmt.{decimal}
-use Rattle.sec_base.specs.declared.place.Place.{Place}
-use Rattle.sec_base.specs.declared.place.Place.TheVariants.{Line, Node}
-use Rattle.sec_base.specs.declared.ending.Cause.{Cause}
-use Rattle.sec_base.specs.declared.ending.Cause.TheVariants.{Illegal, MisalignedTarget, MisalignedData, OutsideMemory, Breakpoint}
+use Rattle.sec_base.specs.Ending.{ending_text}
 use Rattle.sec_base.specs.declared.ending.Ending.{Ending}
-use Rattle.sec_base.specs.declared.ending.Ending.TheVariants.{Halted, Trapped, OutOfSteps, Tampered, Spent, WriteFault, NoMemory}
 use Rattle.sec_base.specs.declared.image.Image.{Image}
 use Rattle.hex.specs.Hex.{encode_lower}
 use Rattle.elf_load.specs.Fault.{elf_fault_code as elf_code, elf_fault_name as elf_name}
 use Rattle.elf_load.specs.Measurement.{measurement_of}
 use Rattle.elf_load.specs.Spelling.{spelled}
 use Rattle.elf_load.specs.declared.fault.ElfFault.{ElfFault}
-use Rattle.sec_base.specs.Hexadecimal.{hex_digits}
 use Rattle.rv32_listing.specs.Listing.{listing_of}
 use Rattle.rv32_asm_syntax.specs.Fault.{asm_fault_code as asm_code, asm_fault_name as asm_name}
 use Rattle.rv32_asm_syntax.specs.declared.fault.AsmFault.{AsmFault}
@@ -22,26 +17,9 @@ use Rattle.chip_run.specs.declared.RunRecord.{RunRecord}
 use Rattle.chip_main.specs.declared.refusal.Refusal.{Refusal}
 use Rattle.chip_main.specs.declared.refusal.Refusal.TheVariants.{Usage, Unread, TooLong, Elf, Asm}
 
-abbrev pub cause_text : Cause → List ℕ
-cause_text Illegal = codes "illegal"
-cause_text MisalignedTarget = codes "misaligned target"
-cause_text MisalignedData = codes "misaligned data"
-cause_text OutsideMemory = codes "outside memory"
-cause_text Breakpoint = codes "breakpoint"
-
-abbrev pub place_text : Place → List ℕ
-place_text (Line line) = codes "data " ++ decimal line
-place_text (Node level index) = codes "node " ++ decimal level ++ codes " " ++ decimal index
-
 -- the first line says how a run ended
 abbrev pub ending_line : Ending → List ℕ
-ending_line (Halted code) = codes "halted " ++ decimal code ++ codes "\n"
-ending_line (Trapped cause pc) = codes "trapped " ++ cause_text cause ++ codes " pc " ++ hex_digits 8 pc ++ codes "\n"
-ending_line OutOfSteps = codes "out of steps\n"
-ending_line (Tampered place) = codes "tampered " ++ place_text place ++ codes "\n"
-ending_line (Spent page) = codes "spent page " ++ decimal page ++ codes "\n"
-ending_line WriteFault = codes "write fault\n"
-ending_line NoMemory = codes "no memory\n"
+ending_line ending = ending_text ending ++ codes "\n"
 
 -- the second says how many instructions were retired
 abbrev pub retired_line : ℕ → List ℕ
@@ -59,7 +37,7 @@ abbrev pub plain_text : PlainRecord → List ℕ
 plain_text run = ending_line run.ending ++ retired_line run.retired
 
 -- the line of a program's file that doesn't have its form: the number and the name of the first rule that it breaks,
--- and of an assembly text the line where it does
+-- and of an file text the line where it does
 abbrev pub elf_line : ElfFault → List ℕ
 elf_line fault = codes "refused elf " ++ decimal (elf_code fault) ++ codes " " ++ elf_name fault ++ codes "\n"
 

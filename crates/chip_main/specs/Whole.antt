@@ -4,23 +4,25 @@ use Rattle.sec_base.specs.Count.{Rose}
 use Rattle.sec_base.specs.Files.{FilesState}
 use Rattle.sec_base.specs.Sink.{SinkState}
 use Rattle.rv32_core.specs.Machine.{plain}
-use Rattle.rv32_core.specs.Follows.{IsWhole, ending_at}
-use Rattle.chip_words.specs.Request.{Asked, ExecutionAsked, to_assemble, to_disassemble, to_measure, to_run, to_run_plain}
+use Rattle.rv32_core.specs.Follows.{IsWhole, standing}
+use Rattle.chip_words.specs.Request.{Asked, ExecutionAsked, asked_file, to_assemble, to_disassemble, to_measure, to_run, to_run_plain}
 use Rattle.chip_main.specs.declared.Done.{Done}
 use Rattle.chip_main.specs.World.{World}
-use Rattle.chip_main.specs.Program.{Program, opening}
-use Rattle.chip_main.specs.Needs.{asked_file}
+use Rattle.sec_base.specs.Program.{Program}
+use Rattle.chip_main.specs.Program.{opening}
 use Rattle.chip_main.specs.Taken.{IsInput, IsProgram, Tell}
 use Rattle.chip_main.specs.Buses.{IsRunAnd}
-use Rattle.chip_main.specs.Statuses.{ending_status}
+use Rattle.chip_main.specs.Status.{code_of, ending_status}
+use Rattle.chip_main.specs.declared.status.Status.{Status}
+use Rattle.chip_main.specs.declared.status.Status.TheVariants.{Done as done_status, Spent, NoMemory}
 
 -- the name of a request's input, where it has one
 abbrev pub asked_input : Asked → Option (List ℕ)
 asked_input (to_run execution) = execution.input
 asked_input (to_run_plain execution) = execution.input
-asked_input (to_assemble assembly) = None
-asked_input (to_disassemble inspection) = None
-asked_input (to_measure inspection) = None
+asked_input (to_assemble file) = None
+asked_input (to_disassemble file) = None
+asked_input (to_measure file) = None
 
 -- the files tell all that the request needs, in its form: this program and this input
 pub record Ready (asked : Asked) (files : FilesState) (program : Program) (input : List ℕ) : Type 0 where
@@ -32,9 +34,9 @@ pub record Ready (asked : Asked) (files : FilesState) (program : Program) (input
 abbrev pub NoteFaultless : Asked → SinkState → SinkState → Type 0
 NoteFaultless (to_run execution) old new = ¬ (Rose old.faults new.faults)
 NoteFaultless (to_run_plain execution) old new = ¬ (Rose old.faults new.faults)
-NoteFaultless (to_assemble assembly) old new = Unit {0}
-NoteFaultless (to_disassemble inspection) old new = Unit {0}
-NoteFaultless (to_measure inspection) old new = Unit {0}
+NoteFaultless (to_assemble file) old new = Unit {0}
+NoteFaultless (to_disassemble file) old new = Unit {0}
+NoteFaultless (to_measure file) old new = Unit {0}
 
 -- no read failed, no write did whose failure the status tells, and no answer of a bus was false
 pub record Faultless (asked : Asked) (old new : World) (done : Done) : Type 0 where
@@ -44,20 +46,20 @@ pub record Faultless (asked : Asked) (old new : World) (done : Done) : Type 0 wh
   pub bus : done.lies ≡ 0
 
 -- the status of the plain machine's run over the whole budget
-abbrev pub plain_status : ExecutionAsked → Program → List ℕ → ℕ
+abbrev pub plain_status : ExecutionAsked → Program → List ℕ → Status
 plain_status execution program input =
-    ending_status (ending_at (plain (opening execution.levels program input) execution.steps) execution.steps)
+    ending_status (standing (plain (opening execution.file.levels program input) execution.steps) execution.steps)
 
--- The status that is due, or want of memory; and of a run on protected memory, a page that was used up.
-abbrev pub whole_statuses : Asked → Program → List ℕ → List ℕ
-whole_statuses (to_run execution) program input = plain_status execution program input ∷ 6 ∷ 10 ∷ []
-whole_statuses (to_run_plain execution) program input = plain_status execution program input ∷ 10 ∷ []
-whole_statuses (to_assemble assembly) program input = 0 ∷ 10 ∷ []
-whole_statuses (to_disassemble inspection) program input = 0 ∷ 10 ∷ []
-whole_statuses (to_measure inspection) program input = 0 ∷ 10 ∷ []
+-- The status that is due, or that of no memory; and of a run on protected memory, that of a page that was used up.
+abbrev pub whole_statuses : Asked → Program → List ℕ → List Status
+whole_statuses (to_run execution) program input = plain_status execution program input ∷ Spent ∷ NoMemory ∷ []
+whole_statuses (to_run_plain execution) program input = plain_status execution program input ∷ NoMemory ∷ []
+whole_statuses (to_assemble file) program input = done_status ∷ NoMemory ∷ []
+whole_statuses (to_disassemble file) program input = done_status ∷ NoMemory ∷ []
+whole_statuses (to_measure file) program input = done_status ∷ NoMemory ∷ []
 
 -- the run is the plain machine's over the whole budget, and has its status
 abbrev pub RanWhole : ExecutionAsked → Program → List ℕ → Done → Type 0
 RanWhole execution program input done = IsRunAnd done (λ run told.
-    IsWhole (opening execution.levels program input) execution.steps run.retired run.ending
-    × (done.status ≡ ending_status run.ending))
+    IsWhole (opening execution.file.levels program input) execution.steps run.retired run.ending
+    × (done.status ≡ code_of (ending_status run.ending)))

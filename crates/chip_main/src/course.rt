@@ -1,9 +1,11 @@
+// What a call comes to.
 ghost use Rattle.std.specs.Prelude.{◌≡◌};
 ghost use Rattle.std.specs.Option.{option_map};
-ghost use Rattle.chip_main.specs.Statuses.{run_status as status_of_run, ending_status as status_of_ending, evidence_status as evidence_status_of_ending, untold_ending_status as untold_status_of_ending, text_status as status_of_text};
+ghost use Rattle.chip_main.specs.Status as spec;
 
 use crate::refusal::Refusal;
 use crate::run_bus::RunBus;
+use crate::status::Status;
 use chip_run::RunRecord;
 use plain_machine::PlainRecord;
 use sec_base::{Ending, SinkStop};
@@ -13,7 +15,7 @@ use sec_base::{Ending, SinkStop};
 pub enum Course {
     /// Nothing was done, for this reason.
     Refused(Refusal),
-    /// Nothing was done, since there was no memory for it.
+    /// Nothing was done: out of memory.
     NoMemory,
     /// A program ran on protected memory, over this bus.
     Ran(RunRecord, RunBus),
@@ -27,12 +29,12 @@ impl Course {
     ghost use Rattle.chip_main.specs.Course.{course_bus, course_run, course_status, untold_status};
 
     /// The status, where the course was told whole.
-    pub fn status(&self) -> u8
+    pub fn status(&self) -> Status
         ensures { result ≡ course_status self.now }
     {
         match self {
             Course::Refused(refusal) => refusal.status(),
-            Course::NoMemory => 10,
+            Course::NoMemory => Status::NoMemory,
             Course::Ran(run, _) => run_status(run),
             Course::RanPlain(run) => ending_status(run.ending),
             Course::Written(written) => text_status(*written),
@@ -40,12 +42,12 @@ impl Course {
     }
 
     /// The status, where a write of what tells it failed.
-    pub fn untold_status(&self) -> u8
+    pub fn untold_status(&self) -> Status
         ensures { result ≡ untold_status self.now }
     {
         match self {
             Course::Refused(refusal) => refusal.status(),
-            Course::NoMemory => 10,
+            Course::NoMemory => Status::NoMemory,
             Course::Ran(run, _) => untold_ending_status(run.ending),
             Course::RanPlain(run) => untold_ending_status(run.ending),
             Course::Written(written) => text_status(*written),
@@ -65,8 +67,8 @@ impl Course {
     }
 }
 
-fn run_status(run: &RunRecord) -> u8
-    ensures { result ≡ status_of_run run.now }
+fn run_status(run: &RunRecord) -> Status
+    ensures { result ≡ spec.run_status run.now }
 {
     match run.evidence {
         Some(_) => evidence_status(run.ending),
@@ -74,50 +76,50 @@ fn run_status(run: &RunRecord) -> u8
     }
 }
 
-fn ending_status(ending: Ending) -> u8
-    ensures { result ≡ status_of_ending ending }
+fn ending_status(ending: Ending) -> Status
+    ensures { result ≡ spec.ending_status ending }
 {
     match ending {
-        Ending::Halted(_) => 0,
-        Ending::Trapped { .. } => 1,
-        Ending::OutOfSteps => 4,
-        Ending::Tampered(_) => 5,
-        Ending::Spent(_) => 6,
-        Ending::WriteFault => 9,
-        Ending::NoMemory => 10,
+        Ending::Halted(_) => Status::Done,
+        Ending::Trapped { .. } => Status::Trapped,
+        Ending::OutOfSteps => Status::OutOfSteps,
+        Ending::Tampered(_) => Status::Tampered,
+        Ending::Spent(_) => Status::Spent,
+        Ending::WriteFault => Status::WriteFault,
+        Ending::NoMemory => Status::NoMemory,
     }
 }
 
-// Evidence goes before all endings but a write fault and want of memory.
-fn evidence_status(ending: Ending) -> u8
-    ensures { result ≡ evidence_status_of_ending ending }
+// Evidence goes before all endings but a write fault and being out of memory.
+fn evidence_status(ending: Ending) -> Status
+    ensures { result ≡ spec.evidence_status ending }
 {
     match ending {
-        Ending::WriteFault => 9,
-        Ending::NoMemory => 10,
+        Ending::WriteFault => Status::WriteFault,
+        Ending::NoMemory => Status::NoMemory,
         Ending::Halted(_)
         | Ending::Trapped { .. }
         | Ending::OutOfSteps
         | Ending::Tampered(_)
-        | Ending::Spent(_) => 7,
+        | Ending::Spent(_) => Status::Evidence,
     }
 }
 
-fn untold_ending_status(ending: Ending) -> u8
-    ensures { result ≡ untold_status_of_ending ending }
+fn untold_ending_status(ending: Ending) -> Status
+    ensures { result ≡ spec.untold_ending_status ending }
 {
     match ending {
-        Ending::NoMemory => 10,
-        _ => 9,
+        Ending::NoMemory => Status::NoMemory,
+        _ => Status::WriteFault,
     }
 }
 
-fn text_status(written: Result<(), SinkStop>) -> u8
-    ensures { result ≡ status_of_text written }
+fn text_status(written: Result<(), SinkStop>) -> Status
+    ensures { result ≡ spec.text_status written }
 {
     match written {
-        Ok(()) => 0,
-        Err(SinkStop::Failed) => 9,
-        Err(SinkStop::NoMemory) => 10,
+        Ok(()) => Status::Done,
+        Err(SinkStop::Failed) => Status::WriteFault,
+        Err(SinkStop::NoMemory) => Status::NoMemory,
     }
 }

@@ -1,8 +1,9 @@
+// The device that programs run on.
 ghost use Rattle.std.specs.Prelude.{◌≡◌, ◌≤◌, IfOk, OnErr};
 ghost use Rattle.sec_base.specs.Geometry.{memory_size};
 ghost use Rattle.sec_base.specs.Sink.{IsSilent};
 ghost use Rattle.chip_main.specs.Buses.{run_history};
-ghost use Rattle.chip_main.specs.Program.{IsImageOf, Program};
+ghost use Rattle.sec_base.specs.Program.{IsImageOf, Program};
 ghost use Rattle.chip_main.specs.ProtectedRun.{RunsProtected};
 
 use crate::run_bus::RunBus;
@@ -12,10 +13,10 @@ use hmac_tag::{HmacTagger, derive};
 use sec_base::{Geometry, Image, NoMemory, Sink};
 use std::alloc::Global;
 
-/// How often a line may be written.
+// How often a line may be written.
 const PAGE_LIMIT: u64 = u64::MAX;
 
-/// The key that the keys of the device are derived from.
+// The key that the keys of the device are derived from.
 const DEVICE_KEY: [u8; 32] = [
     0, 1, 2, 3, 4, 5, 6, 7, 8, 9, 10, 11, 12, 13, 14, 15, 16, 17, 18, 19, 20, 21, 22, 23, 24, 25,
     26, 27, 28, 29, 30, 31,

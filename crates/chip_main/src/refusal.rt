@@ -1,6 +1,8 @@
+// Why words or a file are refused.
 ghost use Rattle.std.specs.Prelude.{◌≡◌};
-ghost use Rattle.chip_main.specs.Statuses.{refusal_status};
+ghost use Rattle.chip_main.specs.Status.{refusal_status};
 
+use crate::status::Status;
 use elf_load::ElfFault;
 use rv32_asm::AsmFault;
 
@@ -26,13 +28,13 @@ pub enum Refusal {
 
 impl Refusal {
     /// The status of the process.
-    pub fn status(&self) -> u8
+    pub fn status(&self) -> Status
         ensures { result ≡ refusal_status self.now }
     {
         match self {
-            Refusal::Usage(_) => 2,
-            Refusal::Unread => 8,
-            Refusal::TooLong | Refusal::Elf(_) | Refusal::Asm { .. } => 3,
+            Refusal::Usage(_) => Status::Usage,
+            Refusal::Unread => Status::ReadFault,
+            Refusal::TooLong | Refusal::Elf(_) | Refusal::Asm { .. } => Status::Refused,
         }
     }
 }

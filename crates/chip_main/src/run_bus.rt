@@ -1,5 +1,6 @@
+// The bus of a run.
 ghost use Rattle.std.specs.Prelude.{◌≡◌};
-ghost use Rattle.chip_main.specs.Buses.{run_history};
+ghost use Rattle.chip_main.specs.Buses.{IsSameKind, run_history, same_kind, same_kinds};
 
 use bus_model::{Bus, HonestBus};
 use sec_base::{NoMemory, Sealed};
@@ -23,7 +24,13 @@ impl RunBus {
 }
 
 impl Bus for RunBus {
-    ghost told = { run_history };
+    ghost history = { run_history };
+
+    ghost moved = { IsSameKind };
+
+    ghost unmoved = { same_kind };
+
+    ghost moved_on = { same_kinds };
 
     fn read_data(&mut self, line: u32) -> Result<Sealed, NoMemory> {
         match self {

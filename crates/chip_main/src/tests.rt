@@ -24,42 +24,84 @@ const RUN_ON_INPUT: [&str; 6] = ["chip", "run", "f", "--flat", "--input", "i"];
 
 const PLAIN_ON_INPUT: [&str; 6] = ["chip", "plain", "f", "--flat", "--input", "i"];
 
-// addi a0, zero, 7; addi a7, zero, 93; ecall
-const EXIT_7: [u32; 3] = [0x00700513, 0x05d00893, 0x00000073];
+// It exits with 7.
+const EXIT_7: [u32; 3] = [
+    0x0070_0513, // addi a0, zero, 7
+    0x05d0_0893, // addi a7, zero, 93
+    0x0000_0073, // ecall
+];
 
 // A byte is stored at 1000, loaded from there, and is the exit code.
 const EXIT_65: [u32; 6] = [
-    0x000012b7, 0x04100313, 0x0062a023, 0x0002a503, 0x05d00893, 0x00000073,
+    0x0000_12b7, // lui t0, 0x1
+    0x0410_0313, // addi t1, zero, 65
+    0x0062_a023, // sw t1, 0(t0)
+    0x0002_a503, // lw a0, 0(t0)
+    0x05d0_0893, // addi a7, zero, 93
+    0x0000_0073, // ecall
 ];
 
 // It prints that byte, and exits with what the service answered.
 const PRINT_A: [u32; 10] = [
-    0x000012b7, 0x04100313, 0x0062a023, 0x00100513, 0x00028593, 0x00100613, 0x04000893, 0x00000073,
-    0x05d00893, 0x00000073,
+    0x0000_12b7, // lui t0, 0x1
+    0x0410_0313, // addi t1, zero, 65
+    0x0062_a023, // sw t1, 0(t0)
+    0x0010_0513, // addi a0, zero, 1
+    0x0002_8593, // addi a1, t0, 0
+    0x0010_0613, // addi a2, zero, 1
+    0x0400_0893, // addi a7, zero, 64
+    0x0000_0073, // ecall
+    0x05d0_0893, // addi a7, zero, 93
+    0x0000_0073, // ecall
 ];
 
-// It exits with its stack pointer: addi a0, sp, 0; addi a7, zero, 93; ecall.
-const EXIT_STACK: [u32; 3] = [0x00010513, 0x05d00893, 0x00000073];
+// It exits with its stack pointer.
+const EXIT_STACK: [u32; 3] = [
+    0x0001_0513, // addi a0, sp, 0
+    0x05d0_0893, // addi a7, zero, 93
+    0x0000_0073, // ecall
+];
 
 // It reads at most four bytes of its input to 1000, prints them, and exits with their number.
 const COPY_4: [u32; 11] = [
-    0x00000513, 0x000015b7, 0x00400613, 0x03f00893, 0x00000073, 0x00050613, 0x00100513, 0x04000893,
-    0x00000073, 0x05d00893, 0x00000073,
+    0x0000_0513, // addi a0, zero, 0
+    0x0000_15b7, // lui a1, 0x1
+    0x0040_0613, // addi a2, zero, 4
+    0x03f0_0893, // addi a7, zero, 63
+    0x0000_0073, // ecall
+    0x0005_0613, // addi a2, a0, 0
+    0x0010_0513, // addi a0, zero, 1
+    0x0400_0893, // addi a7, zero, 64
+    0x0000_0073, // ecall
+    0x05d0_0893, // addi a7, zero, 93
+    0x0000_0073, // ecall
 ];
 
 // It writes a byte past 16 KiB to descriptor 3, and exits with what the service answered: -9, since the descriptor is
 // tested before the range.
 const WRITE_TO_3: [u32; 7] = [
-    0x00300513, 0x000045b7, 0x00100613, 0x04000893, 0x00000073, 0x05d00893, 0x00000073,
+    0x0030_0513, // addi a0, zero, 3
+    0x0000_45b7, // lui a1, 0x4
+    0x0010_0613, // addi a2, zero, 1
+    0x0400_0893, // addi a7, zero, 64
+    0x0000_0073, // ecall
+    0x05d0_0893, // addi a7, zero, 93
+    0x0000_0073, // ecall
 ];
 
 // The same of a read.
 const READ_FROM_3: [u32; 7] = [
-    0x00300513, 0x000045b7, 0x00100613, 0x03f00893, 0x00000073, 0x05d00893, 0x00000073,
+    0x0030_0513, // addi a0, zero, 3
+    0x0000_45b7, // lui a1, 0x4
+    0x0010_0613, // addi a2, zero, 1
+    0x03f0_0893, // addi a7, zero, 63
+    0x0000_0073, // ecall
+    0x05d0_0893, // addi a7, zero, 93
+    0x0000_0073, // ecall
 ];
 
 // addi zero, zero, 0
-const NOTHING: u32 = 0x00000013;
+const NOTHING: u32 = 0x0000_0013;
 
 // What a call did and wrote.
 #[derive(Drop)]
@@ -146,117 +188,117 @@ fn check(rt: &impl Abort, call: &Call, printed: &[u8], told: &[u8], status: u8) 
     assert_eq!(rt; call.done.status, status);
 }
 
-// What a program prints and tells with an option, on the plain machine and on protected memory.
-fn check_program(
-    rt: &impl Abort,
-    alloc: Global,
-    option: [&str; 2],
-    code: &[u32],
-    printed: &[u8],
-    told: &[u8],
+// A program with an option, and what it prints, what it tells and its status.
+#[derive(Clone, Copy)]
+struct Case<'a> {
+    option: [&'a str; 2],
+    code: &'a [u32],
+    printed: &'a [u8],
+    told: &'a [u8],
     status: u8,
-) -> Result<(), Fail> {
-    let [name, value] = option;
+}
+
+// The same on the plain machine and on protected memory.
+fn check_program(rt: &impl Abort, alloc: Global, case: Case<'_>) -> Result<(), Fail> {
+    let [name, value] = case.option;
     let words = ["chip", "plain", "f", "--flat", name, value];
-    let call = call_program(alloc, &words, code, &[], &[])?;
-    check(rt, &call, printed, told, status);
+    let call = call_program(alloc, &words, case.code, &[], &[])?;
+    check(rt, &call, case.printed, case.told, case.status);
     assert!(rt; call.done.bus.is_none());
 
-    let mut text = told.to_vec(alloc)?;
+    let mut text = case.told.to_vec(alloc)?;
     text.extend_from_slice(b"lies 0\n")?;
     let words = ["chip", "run", "f", "--flat", name, value];
-    let call = call_program(alloc, &words, code, &[], &[])?;
-    check(rt, &call, printed, text.as_slice(), status);
+    let call = call_program(alloc, &words, case.code, &[], &[])?;
+    check(rt, &call, case.printed, text.as_slice(), case.status);
     assert!(rt; call.done.bus.is_some());
     Ok(())
 }
 
-// An option, a program, and what it prints, what it tells and its status.
-const ENDS: [([&str; 2], &[u32], &[u8], &[u8], u8); 8] = [
-    (["--levels", "4"], &EXIT_7, b"", b"halted 7\nretired 3\n", 0),
-    (["--steps", "3"], &EXIT_7, b"", b"halted 7\nretired 3\n", 0),
-    (
-        ["--steps", "2"],
-        &EXIT_7,
-        b"",
-        b"out of steps\nretired 2\n",
-        4,
-    ),
-    (
-        ["--steps", "0"],
-        &EXIT_7,
-        b"",
-        b"out of steps\nretired 0\n",
-        4,
-    ),
-    (
-        ["--levels", "1"],
-        &EXIT_65,
-        b"",
-        b"halted 65\nretired 6\n",
-        0,
-    ),
-    (
-        ["--levels", "1"],
-        &PRINT_A,
-        b"A",
-        b"halted 1\nretired 10\n",
-        0,
-    ),
-    (
-        ["--levels", "1"],
-        &WRITE_TO_3,
-        b"",
-        b"halted 4294967287\nretired 7\n",
-        0,
-    ),
-    (
-        ["--levels", "1"],
-        &READ_FROM_3,
-        b"",
-        b"halted 4294967287\nretired 7\n",
-        0,
-    ),
+const ENDS: [Case<'static>; 10] = [
+    Case {
+        option: ["--levels", "4"],
+        code: &EXIT_7,
+        printed: b"",
+        told: b"halted 7\nretired 3\n",
+        status: 0,
+    },
+    Case {
+        option: ["--steps", "3"],
+        code: &EXIT_7,
+        printed: b"",
+        told: b"halted 7\nretired 3\n",
+        status: 0,
+    },
+    Case {
+        option: ["--steps", "2"],
+        code: &EXIT_7,
+        printed: b"",
+        told: b"out of steps\nretired 2\n",
+        status: 4,
+    },
+    Case {
+        option: ["--steps", "0"],
+        code: &EXIT_7,
+        printed: b"",
+        told: b"out of steps\nretired 0\n",
+        status: 4,
+    },
+    Case {
+        option: ["--levels", "1"],
+        code: &EXIT_65,
+        printed: b"",
+        told: b"halted 65\nretired 6\n",
+        status: 0,
+    },
+    Case {
+        option: ["--levels", "1"],
+        code: &PRINT_A,
+        printed: b"A",
+        told: b"halted 1\nretired 10\n",
+        status: 0,
+    },
+    Case {
+        option: ["--levels", "1"],
+        code: &WRITE_TO_3,
+        printed: b"",
+        told: b"halted 4294967287\nretired 7\n",
+        status: 0,
+    },
+    Case {
+        option: ["--levels", "1"],
+        code: &READ_FROM_3,
+        printed: b"",
+        told: b"halted 4294967287\nretired 7\n",
+        status: 0,
+    },
+    // The stack begins 64 bytes below the end of the memory.
+    Case {
+        option: ["--levels", "1"],
+        code: &EXIT_STACK,
+        printed: b"",
+        told: b"halted 16320\nretired 3\n",
+        status: 0,
+    },
+    Case {
+        option: ["--steps", "9"],
+        code: &EXIT_STACK,
+        printed: b"",
+        told: b"halted 1048512\nretired 3\n",
+        status: 0,
+    },
 ];
 
 #[test]
 fn programs_end(rt: HostRuntime) -> Result<(), Fail> {
-    for (option, code, printed, told, status) in ENDS {
-        check_program(&rt, rt.alloc(), option, code, printed, told, status)?;
+    for case in ENDS {
+        check_program(&rt, rt.alloc(), case)?;
     }
     Ok(())
 }
 
-#[test]
-fn the_memory_has_its_levels(rt: HostRuntime) -> Result<(), Fail> {
-    // The stack begins 64 bytes below the end; and a load of the last word of 1 MiB, and one past it.
-    let alloc = rt.alloc();
-    check_program(
-        &rt,
-        alloc,
-        ["--levels", "1"],
-        &EXIT_STACK,
-        b"",
-        b"halted 16320\nretired 3\n",
-        0,
-    )?;
-    check_program(
-        &rt,
-        alloc,
-        ["--steps", "9"],
-        &EXIT_STACK,
-        b"",
-        b"halted 1048512\nretired 3\n",
-        0,
-    )?;
-    let code = [0x001002b7, 0xffc2a303, 0x0002a303];
-    let told = b"trapped outside memory pc 00000008\nretired 2\n";
-    check_program(&rt, alloc, ["--levels", "4"], &code, b"", told, 1)?;
-    Ok(())
-}
-
 // The levels of the memory, a program, and how it traps.
-const TRAPS: [(&str, &[u32], &[u8]); 7] = [
+const TRAPS: [(&str, &[u32], &[u8]); 8] = [
     // Nothing at all; three instructions and then no more; a word without a row.
     ("4", &[], b"trapped illegal pc 00000000\nretired 0\n"),
     (
@@ -266,36 +308,59 @@ const TRAPS: [(&str, &[u32], &[u8]); 7] = [
     ),
     (
         "1",
-        &[0x30001073],
+        &[0x3000_1073],
         b"trapped illegal pc 00000000\nretired 0\n",
     ),
-    // A jump to 2; a load at address 1, and one at 0x4001, which is outside too; a breakpoint.
+    // A jump to 2; a load at address 1, and one at 4001, which is outside too; a breakpoint.
     (
         "1",
-        &[0x00200093, 0x00008167],
+        &[
+            0x0020_0093, // addi ra, zero, 2
+            0x0000_8167, // jalr sp, 0(ra)
+        ],
         b"trapped misaligned target pc 00000004\nretired 1\n",
     ),
     (
         "1",
-        &[0x00102503],
+        &[0x0010_2503], // lw a0, 1(zero)
         b"trapped misaligned data pc 00000000\nretired 0\n",
     ),
     (
         "1",
-        &[0x000042b7, 0x0012a503],
+        &[
+            0x0000_42b7, // lui t0, 0x4
+            0x0012_a503, // lw a0, 1(t0)
+        ],
         b"trapped misaligned data pc 00000004\nretired 1\n",
     ),
     (
         "1",
-        &[0x00100073],
+        &[0x0010_0073], // ebreak
         b"trapped breakpoint pc 00000000\nretired 0\n",
+    ),
+    // A load of the last word of 1 MiB, and one past it.
+    (
+        "4",
+        &[
+            0x0010_02b7, // lui t0, 0x100
+            0xffc2_a303, // lw t1, -4(t0)
+            0x0002_a303, // lw t1, 0(t0)
+        ],
+        b"trapped outside memory pc 00000008\nretired 2\n",
     ),
 ];
 
 #[test]
 fn programs_trap(rt: HostRuntime) -> Result<(), Fail> {
     for (levels, code, told) in TRAPS {
-        check_program(&rt, rt.alloc(), ["--levels", levels], code, b"", told, 1)?;
+        let case = Case {
+            option: ["--levels", levels],
+            code,
+            printed: b"",
+            told,
+            status: 1,
+        };
+        check_program(&rt, rt.alloc(), case)?;
     }
     Ok(())
 }
@@ -378,10 +443,10 @@ fn check_length(
 // The words, how many zeros the file has, what is told, and the status.
 const LENGTHS: [(&[&str], usize, &[u8], u8); 6] = [
     (&RUN_SMALL, 16385, b"refused elf 9 Segment\n", 3),
-    (&RUN_SMALL, 1048576, b"refused elf 9 Segment\n", 3),
-    (&RUN_SMALL, 1048577, b"refused long\n", 3),
-    (&DIS, 1048577, b"refused long\n", 3),
-    (&PLAIN, 1048577, b"refused long\n", 3),
+    (&RUN_SMALL, 1_048_576, b"refused elf 9 Segment\n", 3),
+    (&RUN_SMALL, 1_048_577, b"refused long\n", 3),
+    (&DIS, 1_048_577, b"refused long\n", 3),
+    (&PLAIN, 1_048_577, b"refused long\n", 3),
     (
         &PLAIN,
         1048576,
@@ -479,8 +544,8 @@ fn check_order(
 fn the_input_is_read_after_the_program(rt: HostRuntime) -> Result<(), Fail> {
     let alloc = rt.alloc();
     check_order(&rt, alloc, [0, 0], &[2], b"read fault\n", 8)?;
-    check_order(&rt, alloc, [0, 1048577], &[], b"refused long\n", 3)?;
-    check_order(&rt, alloc, [1048577, 0], &[2], b"refused long\n", 3)?;
+    check_order(&rt, alloc, [0, 1_048_577], &[], b"refused long\n", 3)?;
+    check_order(&rt, alloc, [1_048_577, 0], &[2], b"refused long\n", 3)?;
     Ok(())
 }
 

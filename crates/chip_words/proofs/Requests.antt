@@ -123,7 +123,7 @@ parse_asks a words m is matches fails =
     let found = asks words none in
     (request_of-taken words none ∙ ap asked_in (sym rows), ap (λ o. is_some (asked_in o)) rows ∙ found.0, subst IfCommand (sym rows) found.1)
 
--- words that a parse refuses, and not for want of memory, ask for nothing
+-- words that a parse refuses, and not because it is out of memory, ask for nothing
 pub refusal_asks : (a : App) (words : List Text) (e : Error) → a ≡ chip_app
     → (is_simple_and_free a ≡ true → HasKind (fault_of a words) e) → (kind_of e ≡ OutOfMemory → ⊥)
     → request_of words ≡ None

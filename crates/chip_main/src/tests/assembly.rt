@@ -179,7 +179,7 @@ fn texts_fit_the_memory(rt: HostRuntime) -> Result<(), Fail> {
     let call = call_text(rt.alloc(), &ASM_SMALL, b".space 16384\n")?;
     assert_eq!(rt; call.out.bytes().len(), 16468);
     assert_eq!(rt; call.done.status, 0);
-    check_length(&rt, rt.alloc(), &ASM, 1048577, b"refused long\n", 3)?;
+    check_length(&rt, rt.alloc(), &ASM, 1_048_577, b"refused long\n", 3)?;
     Ok(())
 }
 

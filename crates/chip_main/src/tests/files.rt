@@ -167,11 +167,11 @@ fn elf_files_at_their_bounds_are_taken(rt: HostRuntime) -> Result<(), Fail> {
 fn longer_elf_files_are_read(rt: HostRuntime) -> Result<(), Fail> {
     let alloc = rt.alloc();
     let told = b"refused elf 2 Magic\n";
-    check_length(&rt, alloc, &DIS_ELF, 1048577, told, 3)?;
-    check_length(&rt, alloc, &RUN_ELF, 8388608, told, 3)?;
-    check_length(&rt, alloc, &RUN_ELF, 8388609, b"refused long\n", 3)?;
-    check_length(&rt, alloc, &MEASURE_ELF, 8388609, b"refused long\n", 3)?;
-    check_length(&rt, alloc, &MEASURE, 1048577, b"refused long\n", 3)?;
+    check_length(&rt, alloc, &DIS_ELF, 1_048_577, told, 3)?;
+    check_length(&rt, alloc, &RUN_ELF, 8_388_608, told, 3)?;
+    check_length(&rt, alloc, &RUN_ELF, 8_388_609, b"refused long\n", 3)?;
+    check_length(&rt, alloc, &MEASURE_ELF, 8_388_609, b"refused long\n", 3)?;
+    check_length(&rt, alloc, &MEASURE, 1_048_577, b"refused long\n", 3)?;
     Ok(())
 }
 
@@ -184,7 +184,7 @@ fn padded(alloc: Global, length: usize) -> Result<Vec<u8>, NoMemory> {
 
 #[test]
 fn long_elf_files_are_programs(rt: HostRuntime) -> Result<(), Fail> {
-    for length in [1048577, 8388608] {
+    for length in [1_048_577, 8_388_608] {
         let bytes = padded(rt.alloc(), length)?;
         let told = b"halted 7\nretired 3\n";
         check_file(&rt, rt.alloc(), &PLAIN_ELF, bytes.as_slice(), b"", told, 0)?;
@@ -212,8 +212,8 @@ fn check_input_length(
 #[test]
 fn long_inputs_are_refused(rt: HostRuntime) -> Result<(), Fail> {
     let told = b"halted 7\nretired 3\n";
-    check_input_length(&rt, rt.alloc(), 1048576, told, 0)?;
-    check_input_length(&rt, rt.alloc(), 1048577, b"refused long\n", 3)?;
+    check_input_length(&rt, rt.alloc(), 1_048_576, told, 0)?;
+    check_input_length(&rt, rt.alloc(), 1_048_577, b"refused long\n", 3)?;
     Ok(())
 }
 
@@ -225,7 +225,7 @@ fn a_program_has_its_form_before_its_input_is_read(rt: HostRuntime) -> Result<()
     let words = ["chip", "run", "f", "--input", "i"];
     let call = make_call(alloc, &words, &mut files, &[], &[])?;
     check(&rt, &call, b"", b"refused elf 1 Short\n", 3);
-    let bytes = vec![in alloc; 0u8; 1048577]?;
+    let bytes = vec![in alloc; 0u8; 1_048_577]?;
     let mut files = file(alloc, bytes.as_slice(), &[2])?;
     let call = make_call(alloc, &PLAIN_ON_INPUT, &mut files, &[], &[])?;
     check(&rt, &call, b"", b"refused long\n", 3);

@@ -33,6 +33,7 @@ returns-clause-ran g c = λ program flat.
       limited = c.run.ensures.limited;
       spent = c.run.ensures.spent;
       write_fault = c.run.ensures.write_fault;
+      prints = rw opens at c.run.ensures.prints;
       turned = λ quiet. read_from_none (line_count c.args.geometry) _ _ _ (λ line. c.run.ensures.reads (Line line)) (rw opens at c.run.ensures.turnover quiet);
       bus_levels = c.run.ensures.bus_levels;
       report = c.run.ensures.report;

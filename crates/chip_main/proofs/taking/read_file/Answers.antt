@@ -1,20 +1,11 @@
-use Rattle.std.proofs.Common.{◌≡◌, Err}
-use Rattle.sec_base.specs.declared.files.ReadStop.TheVariants.{Failed, Long, NoMemory}
-use Rattle.chip_main.specs.declared.refusal.Refusal.TheVariants.{Unread, TooLong}
-use Rattle.chip_main.proofs.Takings.{runs_out_here, stops_here}
+use Rattle.std.proofs.Common.{ap, Err}
+use Rattle.std.proofs.lemmas.Result.{err_from_is_err_and}
+use Rattle.chip_main.proofs.Takings.{unread}
 use Rattle.chip_main.proofs.taking.read_file.Goals as goal
 
-pub returns-in-Err-Failed-clause-stopped : goal.returns-in-Err-Failed-clause-stopped
-returns-in-Err-Failed-clause-stopped g c = λ fault.
-    let failed : c.read.result ≡ Err Failed = cc in
-    stops_here Unread _ _ _ (c.read.ensures.asked (λ e. cc)) (c.read.ensures.failed failed)
-
-pub returns-in-Err-Long-clause-stopped : goal.returns-in-Err-Long-clause-stopped
-returns-in-Err-Long-clause-stopped g c = λ fault.
-    let long : c.read.result ≡ Err Long = cc in
-    stops_here TooLong _ _ _ (c.read.ensures.asked (λ e. cc)) (c.read.ensures.long long, c.read.ensures.taken_long long)
-
-pub returns-in-Err-NoMemory-clause-stopped : goal.returns-in-Err-NoMemory-clause-stopped
-returns-in-Err-NoMemory-clause-stopped g c = λ fault.
-    let none : c.read.result ≡ Err NoMemory = cc in
-    runs_out_here _ _ _ (c.read.ensures.asked_in_vain none)
+pub returns-in_err-read-clause-stopped : goal.returns-in_err-read-clause-stopped
+returns-in_err-read-clause-stopped g c =
+    let p = err_from_is_err_and c.from_residual.result c.from_residual.ensures.1 in
+    let read = c.in_err-read.ensures in
+    rw (p.1, p.2) (λ fault. unread c.in_err-read.field-0.0 _ _ _ (λ had. read.asked (λ e. had cc))
+    (λ long. (read.long (ap Err long), read.taken_long (ap Err long))) (λ failed. read.failed (ap Err failed)) (λ none. read.asked_in_vain (ap Err none)))

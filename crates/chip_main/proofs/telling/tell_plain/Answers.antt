@@ -1,8 +1,14 @@
-use Rattle.std.proofs.Common.{◌∙◌}
+use Rattle.std.proofs.Common.{◌∙◌, [], refl, sym}
 use Rattle.std.proofs.lemmas.Result.{err_from_is_err_and}
-use Rattle.chip_main.specs.Texts.{ending_line, retired_line}
+use Rattle.sec_base.proofs.Writes.{written_after-nil}
+use Rattle.chip_main.specs.Texts.{ending_line, plain_text, retired_line}
 use Rattle.chip_main.proofs.Lines.{told_first, told_last, told_then}
 use Rattle.chip_main.proofs.telling.tell_plain.Goals as goal
+
+pub returns-in_err-retired-clause-told : goal.returns-in_err-retired-clause-told
+returns-in_err-retired-clause-told g c =
+    let p = err_from_is_err_and c.from_residual-in_err-retired.result c.from_residual-in_err-retired.ensures.1 in
+    rw (p.1, p.2) ([], (plain_text c.args.run.now, refl), sym (written_after-nil _))
 
 pub returns-in_err-write_line-clause-told : goal.returns-in_err-write_line-clause-told
 returns-in_err-write_line-clause-told g c =

@@ -10,6 +10,11 @@ returns-in_err-lies-clause-told g c =
     let p = err_from_is_err_and c.from_residual-in_err-lies.result c.from_residual-in_err-lies.ensures.1 in
     rw (p.1, p.2) ([], (record_text c.args.run.now c.args.lies, refl), sym (written_after-nil _))
 
+pub returns-in_err-retired-clause-told : goal.returns-in_err-retired-clause-told
+returns-in_err-retired-clause-told g c =
+    let p = err_from_is_err_and c.from_residual-in_err-retired.result c.from_residual-in_err-retired.ensures.1 in
+    rw (p.1, p.2) ([], (record_text c.args.run.now c.args.lies, refl), sym (written_after-nil _))
+
 pub returns-in_err-write_line-clause-told : goal.returns-in_err-write_line-clause-told
 returns-in_err-write_line-clause-told g c =
     let p = err_from_is_err_and c.from_residual-in_err-write_line.result c.from_residual-in_err-write_line.ensures.1 in

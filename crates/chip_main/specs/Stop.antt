@@ -1,22 +1,37 @@
--- What the reasons for a stop stand for while files are taken.
+-- What the reasons for a stop stand for while words and files are read.
 use Rattle.std.specs.Prelude.{List}
+use Rattle.sec_base.specs.declared.files.ReadStop.{ReadStop}
+use Rattle.sec_base.specs.declared.files.ReadStop.TheVariants.{Failed, Long, NoMemory as read_no_memory}
+use Rattle.chip_words.specs.declared.request.WordsError.{WordsError}
+use Rattle.chip_words.specs.declared.request.WordsError.TheVariants.{Usage as WordsUnfit, NoMemory as words_no_memory}
 use Rattle.sec_base.specs.Files.{FilesState}
 use Rattle.elf_load.specs.declared.fault.ElfError.{ElfError}
 use Rattle.elf_load.specs.declared.fault.ElfError.TheVariants.{Fault as ElfFaulty, NoMemory as elf_no_memory}
 use Rattle.rv32_asm.specs.declared.fault.AsmError.{AsmError}
 use Rattle.rv32_asm.specs.declared.fault.AsmError.TheVariants.{Fault as AsmFaulty, NoMemory as assembly_no_memory}
-use Rattle.chip_main.specs.declared.refusal.Refusal.TheVariants.{Elf, Asm}
+use Rattle.chip_main.specs.declared.refusal.Refusal.TheVariants.{Usage, Unread, TooLong, Elf, Asm}
 use Rattle.chip_main.specs.declared.course.Course.{Course}
 use Rattle.chip_main.specs.declared.course.Course.TheVariants.{Refused as course_refused, NoMemory as course_no_memory}
-use Rattle.chip_main.specs.declared.taking.Stop.{Stop}
-use Rattle.chip_main.specs.declared.taking.Stop.TheVariants.{Refused, NoMemory}
+use Rattle.chip_main.specs.declared.stop.Stop.{Stop}
+use Rattle.chip_main.specs.declared.stop.Stop.TheVariants.{Refused, NoMemory}
 use Rattle.chip_main.specs.Needs.{Need}
 use Rattle.chip_main.specs.Causes.{RunsOut, Stops}
 
 -- why files were not taken
-abbrev pub StopsAs : Stop → List Need → FilesState → FilesState → Type 0
-StopsAs (Refused refusal) needs old new = Stops refusal needs old new
-StopsAs NoMemory needs old new = RunsOut needs old new
+abbrev pub IsStoppedBy : Stop → List Need → FilesState → FilesState → Type 0
+IsStoppedBy (Refused refusal) needs old new = Stops refusal needs old new
+IsStoppedBy NoMemory needs old new = RunsOut needs old new
+
+-- why words are no request
+abbrev pub words_stop_of : WordsError → Stop
+words_stop_of (WordsUnfit text) = Refused (Usage text)
+words_stop_of words_no_memory = NoMemory
+
+-- why a file was not read
+abbrev pub read_stop_of : ReadStop → Stop
+read_stop_of Failed = Refused Unread
+read_stop_of Long = Refused TooLong
+read_stop_of read_no_memory = NoMemory
 
 -- why bytes are no program
 abbrev pub elf_stop_of : ElfError → Stop

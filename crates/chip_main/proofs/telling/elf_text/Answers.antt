@@ -1,5 +1,0 @@
-use Rattle.std.proofs.Common.{◌∙◌, append_assoc}
-use Rattle.chip_main.proofs.telling.elf_text.Goals as goal
-
-pub returns : goal.returns
-returns c = let written = rw c.code-code.ensures at c.in_ok-format.ensures.ok in written ∙ simp append_assoc

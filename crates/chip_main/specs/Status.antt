@@ -1,0 +1,82 @@
+-- The status of the process.
+use Rattle.std.specs.Prelude.{◌≡◌, ℕ, List, map, Contains, Option, Some, None, Result, Ok, Err}
+use Rattle.sec_base.specs.declared.evidence.Evidence.{Evidence}
+use Rattle.sec_base.specs.declared.ending.Ending.{Ending}
+use Rattle.sec_base.specs.declared.ending.Ending.TheVariants as ending
+use Rattle.sec_base.specs.declared.sink.SinkStop.{SinkStop}
+use Rattle.sec_base.specs.declared.sink.SinkStop.TheVariants as sink
+use Rattle.chip_run.specs.declared.RunRecord.{RunRecord}
+use Rattle.chip_main.specs.declared.refusal.Refusal.{Refusal}
+use Rattle.chip_main.specs.declared.refusal.Refusal.TheVariants as refusal
+use Rattle.chip_main.specs.declared.status.Status.{Status}
+use Rattle.chip_main.specs.declared.status.Status.TheVariants.{Done, Trapped, Usage, Refused, OutOfSteps, Tampered, Spent, Evidence as evidence, ReadFault, WriteFault, NoMemory}
+
+-- its number
+abbrev pub code_of : Status → ℕ
+code_of Done = 0
+code_of Trapped = 1
+code_of Usage = 2
+code_of Refused = 3
+code_of OutOfSteps = 4
+code_of Tampered = 5
+code_of Spent = 6
+code_of evidence = 7
+code_of ReadFault = 8
+code_of WriteFault = 9
+code_of NoMemory = 10
+
+-- the number is one of a status
+abbrev pub IsStatus : ℕ → Type 0
+IsStatus number = (status : Status) × (number ≡ code_of status)
+
+-- the number is one of these statuses'
+abbrev pub IsOneOf : List Status → ℕ → Type 0
+IsOneOf statuses number = Contains (map code_of statuses) number
+
+abbrev pub ending_status : Ending → Status
+ending_status (ending.Halted exit) = Done
+ending_status (ending.Trapped cause pc) = Trapped
+ending_status ending.OutOfSteps = OutOfSteps
+ending_status (ending.Tampered place) = Tampered
+ending_status (ending.Spent page) = Spent
+ending_status ending.WriteFault = WriteFault
+ending_status ending.NoMemory = NoMemory
+
+-- evidence goes before all endings but a write fault and one out of memory
+abbrev pub evidence_status : Ending → Status
+evidence_status ending.WriteFault = WriteFault
+evidence_status ending.NoMemory = NoMemory
+evidence_status (ending.Halted exit) = evidence
+evidence_status (ending.Trapped cause pc) = evidence
+evidence_status ending.OutOfSteps = evidence
+evidence_status (ending.Tampered place) = evidence
+evidence_status (ending.Spent page) = evidence
+
+abbrev pub status_with : Option Evidence → Ending → Status
+status_with None ending = ending_status ending
+status_with (Some found) ending = evidence_status ending
+
+abbrev pub run_status : RunRecord → Status
+run_status run = status_with run.evidence run.ending
+
+-- a run that could not be told is a write fault; being out of memory goes before
+abbrev pub untold_ending_status : Ending → Status
+untold_ending_status ending.NoMemory = NoMemory
+untold_ending_status _ = WriteFault
+
+abbrev pub refusal_status : Refusal → Status
+refusal_status (refusal.Usage text) = Usage
+refusal_status refusal.Unread = ReadFault
+refusal_status refusal.TooLong = Refused
+refusal_status (refusal.Elf fault) = Refused
+refusal_status (refusal.Asm line fault) = Refused
+
+-- the answer of a call that writes a text
+abbrev pub Telling : Type 0
+Telling = Result (Unit {0}) SinkStop
+
+-- of a command that is only for a text on `out`
+abbrev pub text_status : Telling → Status
+text_status (Ok _) = Done
+text_status (Err sink.Failed) = WriteFault
+text_status (Err sink.NoMemory) = NoMemory
