@@ -4,7 +4,7 @@ use Rattle.sec_base.specs.Count.{Rose}
 use Rattle.sec_base.specs.Files.{FilesState}
 use Rattle.sec_base.specs.Sink.{SinkState}
 use Rattle.rv32_core.specs.Machine.{plain}
-use Rattle.rv32_core.specs.Follows.{IsWhole, standing}
+use Rattle.rv32_core.specs.Follows.{IsWhole, ending_at}
 use Rattle.chip_words.specs.Request.{Asked, ExecutionAsked, asked_file, to_assemble, to_disassemble, to_measure, to_run, to_run_plain}
 use Rattle.chip_main.specs.declared.Done.{Done}
 use Rattle.chip_main.specs.World.{World}
@@ -48,7 +48,7 @@ pub record Faultless (asked : Asked) (old new : World) (done : Done) : Type 0 wh
 -- the status of the plain machine's run over the whole budget
 abbrev pub plain_status : ExecutionAsked → Program → List ℕ → Status
 plain_status execution program input =
-    ending_status (standing (plain (opening execution.file.levels program input) execution.steps) execution.steps)
+    ending_status (ending_at (plain (opening execution.file.levels program input) execution.steps) execution.steps)
 
 -- The status that is due, or that of no memory; and of a run on protected memory, that of a page that was used up.
 abbrev pub whole_statuses : Asked → Program → List ℕ → List Status
