@@ -1,7 +1,7 @@
 // Why a file is refused.
 
-ghost use Rattle.std.specs.Prelude.{◌≡◌};
 ghost use Rattle.elf_load.specs.Fault.{elf_fault_code, elf_fault_name};
+ghost use Rattle.std.specs.Prelude.{◌≡◌};
 
 use sec_base::NoMemory;
 use std::alloc::AllocError;
@@ -61,8 +61,8 @@ impl ElfFault {
 }
 
 impl fmt::Display for ElfFault {
-    ghost use Rattle.std.specs.Prelude.{Some};
     ghost use Rattle.elf_load.specs.Fault.{elf_fault_name};
+    ghost use Rattle.std.specs.Prelude.{Some};
 
     ghost output = { λ fault. Some (elf_fault_name fault) };
 
@@ -83,8 +83,8 @@ pub enum ElfError {
 }
 
 impl From<ElfFault> for ElfError {
-    ghost use Rattle.std.specs.Prelude.{◌≡◌};
     ghost use Rattle.elf_load.specs.declared.fault.ElfError.TheVariants.{Fault};
+    ghost use Rattle.std.specs.Prelude.{◌≡◌};
 
     ghost from_gives = { λ fault error. error ≡ Fault fault };
 
@@ -94,8 +94,8 @@ impl From<ElfFault> for ElfError {
 }
 
 impl From<NoMemory> for ElfError {
-    ghost use Rattle.std.specs.Prelude.{◌≡◌};
     ghost use Rattle.elf_load.specs.declared.fault.ElfError.TheVariants.{NoMemory};
+    ghost use Rattle.std.specs.Prelude.{◌≡◌};
 
     ghost from_gives = { λ _ error. error ≡ NoMemory };
 
@@ -105,8 +105,8 @@ impl From<NoMemory> for ElfError {
 }
 
 impl From<AllocError> for ElfError {
-    ghost use Rattle.std.specs.Prelude.{◌≡◌};
     ghost use Rattle.elf_load.specs.declared.fault.ElfError.TheVariants.{NoMemory};
+    ghost use Rattle.std.specs.Prelude.{◌≡◌};
 
     ghost from_gives = { λ _ error. error ≡ NoMemory };
 

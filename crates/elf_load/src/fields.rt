@@ -1,8 +1,8 @@
 // The numbers of a file, the lowest byte first.
 
-ghost use Rattle.std.specs.Prelude.{◌≡◌, ◌+◌, ◌≤◌, ◌++◌, length, OnOk, OnErr};
 ghost use Rattle.elf_load.specs.Format.{u16_at, u32_at};
 ghost use Rattle.elf_load.specs.Spelling.{u16_bytes, u32_bytes};
+ghost use Rattle.std.specs.Prelude.{OnErr, OnOk, length, ◌++◌, ◌+◌, ◌≡◌, ◌≤◌};
 
 use byteorder::{ByteOrder, LittleEndian};
 

@@ -1,9 +1,9 @@
 // The file header, and what it shows of a file.
 
-ghost use Rattle.std.specs.Prelude.{◌≡◌, ◌+◌, ◌*◌, ◌≤◌, length, IfOk};
-ghost use Rattle.std.specs.Result.{result_err};
 ghost use Rattle.elf_load.specs.Format.{file_header};
-ghost use Rattle.elf_load.specs.Refusals.{first_holding, header_refusals, has_bad_table};
+ghost use Rattle.elf_load.specs.Refusals.{first_holding, has_bad_table, header_refusals};
+ghost use Rattle.std.specs.Prelude.{IfOk, length, ◌*◌, ◌+◌, ◌≡◌, ◌≤◌};
+ghost use Rattle.std.specs.Result.{result_err};
 
 use crate::fault::ElfFault;
 use crate::fields::{u16_at, u32_at};
@@ -77,32 +77,6 @@ impl Model for FileHeader {
 }
 
 impl FileHeader {
-    // The header that a file begins with.
-    fn new(file: &[u8]) -> FileHeader
-        requires { 52 ≤ length file.now }
-        ensures { result ≡ file_header file.now }
-    {
-        FileHeader {
-            kind: u16_at(file, 16),
-            machine: u16_at(file, 18),
-            entry: u32_at(file, 24),
-            table: u32_at(file, 28),
-            flags: u32_at(file, 36),
-            header_size: u16_at(file, 42),
-            count: u16_at(file, 44),
-        }
-    }
-
-    // Whether the program headers are too many, of another size, or end past a file of so many bytes.
-    fn has_bad_table(&self, file_len: usize) -> bool
-        ensures { result ≡ has_bad_table file_len self.now }
-    {
-        let end = u64::from(self.table) + PROGRAM_HEADER_LEN as u64 * u64::from(self.count);
-        self.count > MOST_HEADERS
-            || (self.count > 0
-                && (usize::from(self.header_size) != PROGRAM_HEADER_LEN || end > file_len as u64))
-    }
-
     /// The header of a file, or the first refusal that it shows.
     pub fn read(file: &[u8]) -> Result<FileHeader, ElfFault>
         ensures header { IfOk result (λ header. header ≡ file_header file.now) }
@@ -133,5 +107,31 @@ impl FileHeader {
             return Err(ElfFault::Table);
         }
         Ok(header)
+    }
+
+    // Whether the program headers are too many, of another size, or end past a file of so many bytes.
+    fn has_bad_table(&self, file_len: usize) -> bool
+        ensures { result ≡ has_bad_table file_len self.now }
+    {
+        let end = u64::from(self.table) + PROGRAM_HEADER_LEN as u64 * u64::from(self.count);
+        self.count > MOST_HEADERS
+            || (self.count > 0
+                && (usize::from(self.header_size) != PROGRAM_HEADER_LEN || end > file_len as u64))
+    }
+
+    // The header that a file begins with.
+    fn new(file: &[u8]) -> FileHeader
+        requires { 52 ≤ length file.now }
+        ensures { result ≡ file_header file.now }
+    {
+        FileHeader {
+            kind: u16_at(file, 16),
+            machine: u16_at(file, 18),
+            entry: u32_at(file, 24),
+            table: u32_at(file, 28),
+            flags: u32_at(file, 36),
+            header_size: u16_at(file, 42),
+            count: u16_at(file, 44),
+        }
     }
 }

@@ -1,9 +1,9 @@
 // The program headers.
 
-ghost use Rattle.std.specs.Prelude.{◌≡◌, ◌+◌, ◌*◌, ◌≤◌, length, IfOk};
+ghost use Rattle.elf_load.specs.Format.{headers_from, program_header};
+ghost use Rattle.elf_load.specs.Refusals.{is_interp, is_load, is_misfit};
 ghost use Rattle.std.specs.List.{list_any};
-ghost use Rattle.elf_load.specs.Format.{program_header, headers_from};
-ghost use Rattle.elf_load.specs.Refusals.{is_load, is_interp, is_misfit};
+ghost use Rattle.std.specs.Prelude.{IfOk, length, ◌*◌, ◌+◌, ◌≡◌, ◌≤◌};
 
 use crate::fields::u32_at;
 use crate::header::FileHeader;

@@ -15,8 +15,8 @@ pub enum AsmError {
 }
 
 impl From<NoMemory> for AsmError {
-    ghost use Rattle.std.specs.Prelude.{◌≡◌};
     ghost use Rattle.rv32_asm.specs.declared.fault.AsmError.TheVariants.{NoMemory};
+    ghost use Rattle.std.specs.Prelude.{◌≡◌};
 
     ghost from_gives = { λ _ error. error ≡ NoMemory };
 
@@ -26,8 +26,8 @@ impl From<NoMemory> for AsmError {
 }
 
 impl From<AllocError> for AsmError {
-    ghost use Rattle.std.specs.Prelude.{◌≡◌};
     ghost use Rattle.rv32_asm.specs.declared.fault.AsmError.TheVariants.{NoMemory};
+    ghost use Rattle.std.specs.Prelude.{◌≡◌};
 
     ghost from_gives = { λ _ error. error ≡ NoMemory };
 

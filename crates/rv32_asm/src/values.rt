@@ -17,16 +17,17 @@ pub fn is_missing(labels: &Labels, value: &Expression) -> bool
     }
 }
 
-// Where a label is, or 0 without one.
-fn address_of(labels: &Labels, name: Option<&[u8]>) -> u32
-    ensures { result ≡ spec.address_of labels.now (seen_name name.entry) }
+/// The value that stands for an immediate.
+#[tactic(auto, unfolding(crate::specs::Values::immediate_value))]
+pub fn immediate_value(labels: &Labels, immediate: &Immediate) -> i64
+    ensures value { result ≡ spec.immediate_value labels.now (seen_immediate immediate.now) }
+    ensures least { neg_ℤ (pos (2 ^ 33)) ≤ℤ result }
+    ensures most { result ≤ℤ pos (2 ^ 33) }
 {
-    match name {
-        Some(name) => match labels.get(name) {
-            Some(site) => site.address,
-            None => 0,
-        },
-        None => 0,
+    match immediate {
+        Immediate::Whole(value) => value_of(labels, value),
+        Immediate::Upper(value) => i64::from(upper_part(word_of(value_of(labels, value)))),
+        Immediate::Lower(value) => lower_part(word_of(value_of(labels, value))),
     }
 }
 
@@ -40,11 +41,17 @@ pub fn value_of(labels: &Labels, value: &Expression) -> i64
     i64::from(address_of(labels, value.label)) + value.number
 }
 
-/// A value modulo 2^32.
-pub fn word_of(value: i64) -> u32
-    ensures { result ≡ spec.modulo 32 value }
+// Where a label is, or 0 without one.
+fn address_of(labels: &Labels, name: Option<&[u8]>) -> u32
+    ensures { result ≡ spec.address_of labels.now (seen_name name.entry) }
 {
-    value.rem_euclid(1 << 32) as u32
+    match name {
+        Some(name) => match labels.get(name) {
+            Some(site) => site.address,
+            None => 0,
+        },
+        None => 0,
+    }
 }
 
 // The upper twenty bits of a word, to which the lower part is added.
@@ -52,6 +59,13 @@ fn upper_part(word: u32) -> u32
     ensures { result ≡ spec.upper_part word }
 {
     word.wrapping_add(0x800) >> 12
+}
+
+/// A value modulo 2^32.
+pub fn word_of(value: i64) -> u32
+    ensures { result ≡ spec.modulo 32 value }
+{
+    value.rem_euclid(1 << 32) as u32
 }
 
 // The lower twelve bits of a word, as a number with a sign.
@@ -62,20 +76,6 @@ fn lower_part(word: u32) -> i64
 {
     let low = i64::from(word % 0x1000);
     if low < 0x800 { low } else { low - 0x1000 }
-}
-
-/// The value that stands for an immediate.
-#[tactic(auto, unfolding(crate::specs::Values::immediate_value))]
-pub fn immediate_value(labels: &Labels, immediate: &Immediate) -> i64
-    ensures value { result ≡ spec.immediate_value labels.now (seen_immediate immediate.now) }
-    ensures least { neg_ℤ (pos (2 ^ 33)) ≤ℤ result }
-    ensures most { result ≤ℤ pos (2 ^ 33) }
-{
-    match immediate {
-        Immediate::Whole(value) => value_of(labels, value),
-        Immediate::Upper(value) => i64::from(upper_part(word_of(value_of(labels, value)))),
-        Immediate::Lower(value) => lower_part(word_of(value_of(labels, value))),
-    }
 }
 
 /// The expression whose value, or a part of it, is an immediate.

@@ -1,5 +1,5 @@
-ghost use Rattle.std.specs.Prelude.{◌≡◌};
 ghost use Rattle.rv32_asm_syntax.specs.Fault.{asm_fault_code, asm_fault_name};
+ghost use Rattle.std.specs.Prelude.{◌≡◌};
 
 use sec_base::NoMemory;
 use std::fmt;
@@ -45,8 +45,8 @@ impl AsmFault {
 }
 
 impl fmt::Display for AsmFault {
-    ghost use Rattle.std.specs.Prelude.{Some};
     ghost use Rattle.rv32_asm_syntax.specs.Fault.{asm_fault_name};
+    ghost use Rattle.std.specs.Prelude.{Some};
 
     ghost output = { λ fault. Some (asm_fault_name fault) };
 
@@ -65,8 +65,8 @@ pub enum LineError {
 }
 
 impl From<NoMemory> for LineError {
-    ghost use Rattle.std.specs.Prelude.{◌≡◌};
     ghost use Rattle.rv32_asm_syntax.specs.declared.fault.LineError.TheVariants.{NoMemory};
+    ghost use Rattle.std.specs.Prelude.{◌≡◌};
 
     ghost from_gives = { λ _ error. error ≡ NoMemory };
 

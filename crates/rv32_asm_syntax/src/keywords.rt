@@ -41,6 +41,49 @@ pub enum Keyword {
     Globl,
 }
 
+/// What a word stands for.
+#[tactic(auto, using(crate::proofs::Tables::found_first, crate::proofs::Tables::found_later), unfolding(crate::specs::Keywords::keyword_of, crate::specs::Keywords::keywords))]
+pub fn keyword_of(word: &[u8]) -> Option<Keyword>
+    ensures { option_map seen_keyword result ≡ spec.keyword_of word.now }
+{
+    if let Some(keyword) = row_named(word) {
+        return Some(keyword);
+    }
+    if let Some(keyword) = pseudoinstruction_named(word) {
+        return Some(keyword);
+    }
+    if let Some(keyword) = keyword_in(&long_pseudoinstructions(), word) {
+        return Some(keyword);
+    }
+    keyword_in(&directives(), word)
+}
+
+#[tactic(auto, using(crate::proofs::Tables::rows_named))]
+fn row_named(word: &[u8]) -> Option<Keyword>
+    ensures { option_map seen_keyword result ≡ keyword_in spec.row_entries word.now }
+{
+    for row in rows() {
+        if mnemonic_of(row.op).as_bytes() == word {
+            return Some(row_keyword(row.op));
+        }
+    }
+    None
+}
+
+// The operands and the fields of a row of the instruction table.
+fn row_keyword(op: Op) -> Keyword
+    ensures { seen_keyword result ≡ spec.row_keyword op }
+{
+    let immediate = match op {
+        Op::Fence => 0x0ff,
+        _ => 0,
+    };
+    Keyword::Instruction(
+        operands_in(style_of(op)),
+        Instruction::with_number(op, 0, 0, 0, immediate),
+    )
+}
+
 // The operands of the table's rows.
 fn operands_in(style: Style) -> &'static [Operand]
     ensures { map seen_operand result.now ≡ spec.operands_in style }
@@ -56,18 +99,26 @@ fn operands_in(style: Style) -> &'static [Operand]
     }
 }
 
-// The operands and the fields of a row of the instruction table.
-fn row_keyword(op: Op) -> Keyword
-    ensures { seen_keyword result ≡ spec.row_keyword op }
+fn pseudoinstruction_named(word: &[u8]) -> Option<Keyword>
+    ensures { option_map seen_keyword result ≡ keyword_in spec.pseudoinstructions word.now }
 {
-    let immediate = match op {
-        Op::Fence => 0x0ff,
-        _ => 0,
-    };
-    Keyword::Instruction(
-        operands_in(style_of(op)),
-        Instruction::with_number(op, 0, 0, 0, immediate),
-    )
+    for pseudo in pseudoinstructions() {
+        if pseudo.name.as_bytes() == word {
+            let Pseudoinstruction {
+                operands,
+                op,
+                rd,
+                rs1,
+                number,
+                ..
+            } = *pseudo;
+            return Some(Keyword::Instruction(
+                operands,
+                Instruction::with_number(op, rd, rs1, 0, number),
+            ));
+        }
+    }
+    None
 }
 
 // A pseudoinstruction for one instruction, whose fields are as here where no operand gives them.
@@ -117,6 +168,18 @@ fn pseudoinstructions() -> &'static [Pseudoinstruction]
     &PSEUDOINSTRUCTIONS
 }
 
+// What a word stands for in a table.
+fn keyword_in(table: &[(&'static str, Keyword)], word: &[u8]) -> Option<Keyword>
+    ensures { option_map seen_keyword result ≡ keyword_in (map entry table.now) word.now }
+{
+    for &(name, keyword) in table {
+        if name.as_bytes() == word {
+            return Some(keyword);
+        }
+    }
+    None
+}
+
 // The pseudoinstructions for one instruction or two.
 #[tactic(auto, unfolding(crate::specs::Keywords::long_pseudoinstructions))]
 fn long_pseudoinstructions() -> [(&'static str, Keyword); 2]
@@ -140,67 +203,4 @@ fn directives() -> [(&'static str, Keyword); 9]
         (".text", Keyword::Text),
         (".globl", Keyword::Globl),
     ]
-}
-
-#[tactic(auto, using(crate::proofs::Tables::rows_named))]
-fn row_named(word: &[u8]) -> Option<Keyword>
-    ensures { option_map seen_keyword result ≡ keyword_in spec.row_entries word.now }
-{
-    for row in rows() {
-        if mnemonic_of(row.op).as_bytes() == word {
-            return Some(row_keyword(row.op));
-        }
-    }
-    None
-}
-
-fn pseudoinstruction_named(word: &[u8]) -> Option<Keyword>
-    ensures { option_map seen_keyword result ≡ keyword_in spec.pseudoinstructions word.now }
-{
-    for pseudo in pseudoinstructions() {
-        if pseudo.name.as_bytes() == word {
-            let Pseudoinstruction {
-                operands,
-                op,
-                rd,
-                rs1,
-                number,
-                ..
-            } = *pseudo;
-            return Some(Keyword::Instruction(
-                operands,
-                Instruction::with_number(op, rd, rs1, 0, number),
-            ));
-        }
-    }
-    None
-}
-
-// What a word stands for in a table.
-fn keyword_in(table: &[(&'static str, Keyword)], word: &[u8]) -> Option<Keyword>
-    ensures { option_map seen_keyword result ≡ keyword_in (map entry table.now) word.now }
-{
-    for &(name, keyword) in table {
-        if name.as_bytes() == word {
-            return Some(keyword);
-        }
-    }
-    None
-}
-
-/// What a word stands for.
-#[tactic(auto, using(crate::proofs::Tables::found_first, crate::proofs::Tables::found_later), unfolding(crate::specs::Keywords::keyword_of, crate::specs::Keywords::keywords))]
-pub fn keyword_of(word: &[u8]) -> Option<Keyword>
-    ensures { option_map seen_keyword result ≡ spec.keyword_of word.now }
-{
-    if let Some(keyword) = row_named(word) {
-        return Some(keyword);
-    }
-    if let Some(keyword) = pseudoinstruction_named(word) {
-        return Some(keyword);
-    }
-    if let Some(keyword) = keyword_in(&long_pseudoinstructions(), word) {
-        return Some(keyword);
-    }
-    keyword_in(&directives(), word)
 }

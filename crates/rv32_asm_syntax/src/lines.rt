@@ -1,12 +1,12 @@
 // An assembly text cut into lines, and a line without its comment.
 
-ghost use Rattle.rv32_asm_syntax.specs.Lines as spec;
-ghost use Rattle.rv32_asm_syntax.specs.Parts as parts;
 ghost use Rattle.rv32_asm_syntax.specs.Characters as characters;
 ghost use Rattle.rv32_asm_syntax.specs.Characters.{colon};
+ghost use Rattle.rv32_asm_syntax.specs.Lines as spec;
+ghost use Rattle.rv32_asm_syntax.specs.Parts as parts;
 ghost use Rattle.rv32_asm_syntax.specs.Parts.{IsFirstLabel, IsLineCut, lines_left};
 ghost use Rattle.rv32_asm_syntax.specs.Seen.{seen_quoting};
-ghost use Rattle.std.specs.Prelude.{IfSome, length, true, ◌∷◌, ◌++◌, ◌<◌, ◌≡◌};
+ghost use Rattle.std.specs.Prelude.{IfSome, length, true, ◌++◌, ◌<◌, ◌∷◌, ◌≡◌};
 
 #[cfg(test)]
 mod tests;
@@ -50,24 +50,6 @@ impl Quoting {
     }
 }
 
-/// The line up to its comment.
-#[tactic(auto, using(crate::proofs::Comments::goes_on, crate::proofs::Comments::stops, crate::proofs::Comments::ends), unfolding(crate::specs::Lines::without_comment))]
-pub fn without_comment(line: &[u8]) -> &[u8]
-    ensures { result.now ≡ spec.without_comment line.now }
-{
-    let mut quoting = Quoting::Outside;
-    let mut end = 0;
-    while end < line.len() {
-        let byte = line[end];
-        if quoting.is_outside() && byte == b'#' {
-            break;
-        }
-        quoting = quoting.after(byte);
-        end += 1;
-    }
-    &line[..end]
-}
-
 /// Whether a byte above 7f stands outside the strings.
 pub fn has_non_ascii(line: &[u8]) -> bool
     ensures { result ≡ spec.has_non_ascii spec.Outside line.now }
@@ -80,13 +62,6 @@ pub fn has_non_ascii(line: &[u8]) -> bool
         quoting = quoting.after(*byte);
     }
     false
-}
-
-// The line without the carriage return that it may end with.
-fn without_return(line: &[u8]) -> &[u8]
-    ensures { result.now ≡ parts.without_return line.now }
-{
-    line.strip_suffix(b"\r").unwrap_or(line)
 }
 
 /// The first line of a text, without the line feed, or carriage return and line feed, that ends it, and what stands
@@ -103,6 +78,43 @@ pub fn first_line(text: &[u8]) -> (&[u8], Option<&[u8]>)
     } else {
         (text, None)
     }
+}
+
+// The line without the carriage return that it may end with.
+fn without_return(line: &[u8]) -> &[u8]
+    ensures { result.now ≡ parts.without_return line.now }
+{
+    line.strip_suffix(b"\r").unwrap_or(line)
+}
+
+/// The text of a line's statement: what stands behind its labels, without its comment and the blanks at its ends.
+#[tactic(auto, unfolding(crate::specs::Lines::statement_text))]
+pub fn statement_text(line: &[u8]) -> &[u8]
+    ensures { result.now ≡ spec.statement_text line.now }
+{
+    let mut left = without_comment(line);
+    while let Some((_, rest)) = first_label(left) {
+        left = rest;
+    }
+    trim_blanks(left)
+}
+
+/// The line up to its comment.
+#[tactic(auto, using(crate::proofs::Comments::goes_on, crate::proofs::Comments::stops, crate::proofs::Comments::ends), unfolding(crate::specs::Lines::without_comment))]
+pub fn without_comment(line: &[u8]) -> &[u8]
+    ensures { result.now ≡ spec.without_comment line.now }
+{
+    let mut quoting = Quoting::Outside;
+    let mut end = 0;
+    while end < line.len() {
+        let byte = line[end];
+        if quoting.is_outside() && byte == b'#' {
+            break;
+        }
+        quoting = quoting.after(byte);
+        end += 1;
+    }
+    &line[..end]
 }
 
 /// The first label of a line without its comment, which blanks may stand before, and all that stands behind the label's
@@ -122,16 +134,4 @@ pub fn first_label(text: &[u8]) -> Option<(&[u8], &[u8])>
     } else {
         None
     }
-}
-
-/// The text of a line's statement: what stands behind its labels, without its comment and the blanks at its ends.
-#[tactic(auto, unfolding(crate::specs::Lines::statement_text))]
-pub fn statement_text(line: &[u8]) -> &[u8]
-    ensures { result.now ≡ spec.statement_text line.now }
-{
-    let mut left = without_comment(line);
-    while let Some((_, rest)) = first_label(left) {
-        left = rest;
-    }
-    trim_blanks(left)
 }

@@ -8,29 +8,6 @@ ghost use Rattle.std.specs.Str.{bytes_eq};
 
 use rv32_text::register_name;
 
-// Whether a name is an `x` and the number.
-#[tactic(auto, using(crate::proofs::Numbered::one_digit, crate::proofs::Numbered::two_digits))]
-fn is_numbered(number: u8, name: &[u8]) -> bool
-    requires { number < 32 }
-    ensures { result ≡ bytes_eq name.now (codes "x" ++ decimal number) }
-{
-    if number < 10 {
-        name == [b'x', b'0' + number].as_slice()
-    } else {
-        name == [b'x', b'0' + number / 10, b'0' + number % 10].as_slice()
-    }
-}
-
-// Whether a register has this name.
-fn is_named(number: u8, name: &[u8]) -> bool
-    requires { number < 32 }
-    ensures { result ≡ list_any (bytes_eq name.now) (names_of number) }
-{
-    name == register_name(number).as_bytes()
-        || is_numbered(number, name)
-        || number == 8 && name == b"fp".as_slice()
-}
-
 /// The number of the register of this name.
 #[tactic(auto, using(crate::proofs::Numbered::found, crate::proofs::Numbered::goes_on, crate::proofs::Numbered::none_left), unfolding(crate::specs::Registers::register_of))]
 pub fn register_of(name: &[u8]) -> Option<u8>
@@ -43,4 +20,27 @@ pub fn register_of(name: &[u8]) -> Option<u8>
         }
     }
     None
+}
+
+// Whether a register has this name.
+fn is_named(number: u8, name: &[u8]) -> bool
+    requires { number < 32 }
+    ensures { result ≡ list_any (bytes_eq name.now) (names_of number) }
+{
+    name == register_name(number).as_bytes()
+        || is_numbered(number, name)
+        || number == 8 && name == b"fp".as_slice()
+}
+
+// Whether a name is an `x` and the number.
+#[tactic(auto, using(crate::proofs::Numbered::one_digit, crate::proofs::Numbered::two_digits))]
+fn is_numbered(number: u8, name: &[u8]) -> bool
+    requires { number < 32 }
+    ensures { result ≡ bytes_eq name.now (codes "x" ++ decimal number) }
+{
+    if number < 10 {
+        name == [b'x', b'0' + number].as_slice()
+    } else {
+        name == [b'x', b'0' + number / 10, b'0' + number % 10].as_slice()
+    }
 }

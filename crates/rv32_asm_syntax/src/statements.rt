@@ -1,6 +1,6 @@
 // What a statement is, apart from how it is spelled.
 
-ghost use Rattle.std.specs.Prelude.{pos, neg_ℤ, ◌≤ℤ◌, ◌<◌, ◌^◌};
+ghost use Rattle.std.specs.Prelude.{neg_ℤ, pos, ◌<◌, ◌^◌, ◌≤ℤ◌};
 
 use arrayvec::ArrayVec;
 use rv32_decode::Op;
@@ -19,8 +19,8 @@ pub struct Expression<'a> {
 }
 
 impl<'a> Expression<'a> {
-    ghost use Rattle.rv32_asm_syntax.specs.Seen.{seen_expression};
     ghost use Rattle.rv32_asm_syntax.specs.Expressions as spec;
+    ghost use Rattle.rv32_asm_syntax.specs.Seen.{seen_expression};
     ghost use Rattle.std.specs.Prelude.{◌≡◌};
 
     /// A number.

@@ -1,9 +1,9 @@
 // Strings in quotation marks.
 
 ghost use Rattle.rv32_asm_syntax.specs.Characters.{backslash, quotation_mark};
-ghost use Rattle.rv32_asm_syntax.specs.Reading as spec;
 ghost use Rattle.rv32_asm_syntax.specs.Parts.{string_from};
-ghost use Rattle.std.specs.Prelude.{IfOk, IfSome, [], length, option_map, ◌∷◌, ◌<◌, ◌≡◌, ◌≢◌};
+ghost use Rattle.rv32_asm_syntax.specs.Reading as spec;
+ghost use Rattle.std.specs.Prelude.{IfOk, IfSome, [], length, option_map, ◌<◌, ◌∷◌, ◌≡◌, ◌≢◌};
 
 use sec_base::NoMemory;
 use std::alloc::Global;
