@@ -1,5 +1,5 @@
 -- The memory of a tree of so many levels, and the tree's nodes.
-use Rattle.std.specs.Prelude.{◌==◌, ◌≡◌, ℕ, ◌+◌, ◌-◌, ◌*◌, ◌/◌, ◌%◌, ◌^◌, ◌<◌, ◌≤◌, Bool, List, [], ◌∷◌, IsTrue}
+use Rattle.std.specs.Prelude.{◌==◌, ℕ, ◌+◌, ◌-◌, ◌*◌, ◌/◌, ◌%◌, ◌^◌, ◌<◌, ◌≤◌, Bool, List, [], ◌∷◌, IsTrue}
 use Rattle.std.specs.List.{list_any}
 use Rattle.sec_base.specs.declared.geometry.TheConstants.{ARITY, LINE_LEN, LINES_PER_PAGE, PAGE_LEN}
 

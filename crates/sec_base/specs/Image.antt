@@ -2,7 +2,6 @@
 use Rattle.std.specs.Prelude.{◌≡◌, ◌==◌, ℕ, ◌+◌, ◌%◌, ◌≤◌, Bool, ◌&&◌, nat_le, List, length, All}
 use Rattle.sec_base.specs.Geometry.{IsMemorySize}
 use Rattle.sec_base.specs.Segment.{IsSegment}
-use Rattle.sec_base.specs.declared.image.TheConstants.{MAX_SEGMENTS}
 use Rattle.sec_base.specs.declared.segment.Segment.{Segment}
 
 -- a program may begin there: at a multiple of 4 whose word ends inside the memory
@@ -17,5 +16,5 @@ pub record IsEntry (size address : ℕ) : Type 0 where
 pub record IsImage (entry size : ℕ) (segments : List Segment) : Type 0 where
   pub memory : IsMemorySize size
   pub begins : IsEntry size entry
-  pub few : length segments ≤ MAX_SEGMENTS
+  pub few : length segments ≤ 64
   pub each : All (IsSegment size) segments

@@ -15,7 +15,7 @@ abbrev pub written_after : List ℕ → Option (List ℕ) → Option (List ℕ)
 written_after more None = None
 written_after more (Some bytes) = Some (bytes ++ more)
 
--- the sink written_after these bytes and nothing else
+-- the sink gained these bytes and nothing else
 abbrev pub Gains : SinkState → List ℕ → SinkState → Type 0
 Gains old more new = new.written ≡ written_after more old.written
 
@@ -23,7 +23,7 @@ Gains old more new = new.written ≡ written_after more old.written
 abbrev pub IsSilent : SinkState → SinkState → Type 0
 IsSilent old new = new.written ≡ old.written
 
--- the sink written_after a front part of the bytes and nothing else
+-- the sink gained a front part of the bytes and nothing else
 abbrev pub GainsFront : SinkState → List ℕ → SinkState → Type 0
 GainsFront old bytes new = (front : List ℕ) × IsPrefix front bytes × Gains old front new
 

@@ -1,5 +1,5 @@
 // How large the memory is, and the nodes of the tree above it.
-ghost use Rattle.std.specs.Prelude.{◌≡◌, ◌↔◌, ◌-◌, ◌<◌, ◌≤◌, ◌^◌, IsTrue, IsSome, IfSome};
+ghost use Rattle.std.specs.Prelude.{◌≡◌, ◌↔◌, ◌-◌, ◌/◌, ◌*◌, ◌<◌, ◌≤◌, ◌^◌, IsTrue, IsSome, IfSome};
 ghost use Rattle.sec_base.specs.Geometry.{page_count, page_of, line_count, memory_size, IsMemorySize, IsNode, width, arity, parent, slot, child, node_number, node_end};
 ghost use Rattle.sec_base.specs.Place.{IsPlace};
 ghost use Rattle.sec_base.specs.Lines.{IsLineCount};
@@ -63,6 +63,7 @@ impl Geometry {
     #[tactic(auto, using(crate::proofs::Geometries::few_pages))]
     pub fn pages(&self) -> u32
         ensures pages { result ≡ page_count self.now }
+        ensures number { result ≡ 4 ^ self.now }
         ensures most { result ≤ 4096 }
     {
         ARITY.pow(u32::from(self.levels))
@@ -72,6 +73,7 @@ impl Geometry {
     #[tactic(auto, using(crate::proofs::Geometries::few_pages))]
     pub fn lines(&self) -> u32
         ensures lines { result ≡ line_count self.now }
+        ensures number { result ≡ 64 * 4 ^ self.now }
         ensures some_memory { IsLineCount result }
     {
         LINES_PER_PAGE * ARITY.pow(u32::from(self.levels))
@@ -81,6 +83,7 @@ impl Geometry {
     #[tactic(auto, using(crate::proofs::Geometries::few_pages))]
     pub fn size(&self) -> u32
         ensures size { result ≡ memory_size self.now }
+        ensures number { result ≡ 4096 * 4 ^ self.now }
         ensures some_size { IsMemorySize result }
     {
         PAGE_LEN * ARITY.pow(u32::from(self.levels))
@@ -108,7 +111,8 @@ impl Geometry {
 
     /// The number of children of a node above level 0.
     pub fn arity(&self) -> u32
-        ensures { result ≡ arity self.now }
+        ensures arity { result ≡ arity self.now }
+        ensures number { result ≡ 4 }
     {
         ARITY
     }
@@ -171,7 +175,8 @@ impl Geometry {
 /// The page of a line.
 #[inline]
 pub fn page_of(line: u32) -> u32
-    ensures { result ≡ page_of line }
+    ensures page { result ≡ page_of line }
+    ensures number { result ≡ line / 64 }
 {
     line / LINES_PER_PAGE
 }

@@ -4,11 +4,8 @@ ghost use Rattle.sec_base.specs.Image.{IsEntry, IsImage, is_entry};
 
 use crate::segment::Segments;
 
-/// How many segments a program may have.
-pub const MAX_SEGMENTS: usize = 64;
-
 /// A program for a memory of `size` bytes, which it fits: the segments stand over zeros, a later one over an earlier
-/// one, and it begins at `entry`.
+/// one, and it begins at `entry`. There are at most 64 segments.
 #[derive(Debug, Drop)]
 pub struct Image {
     pub entry: u32,
