@@ -1,4 +1,4 @@
--- The texts of words and of instructions are read back as these, and the two parts of a value make it again.
+-- The texts of words, of instructions and in listings are read back as these, and the two parts of a value make it again.
 use Rattle.std.specs.Prelude.{◌≡◌, ℕ, ◌+◌, ◌*◌, ◌%◌, ◌^◌, ◌<◌, ◌≤◌, ◌==◌, pos, ◌+ℤ◌, All, Bool, List, [], ◌∷◌, ◌++◌, Ok, length, map}
 use Rattle.std.specs.Int.{w32, to_le_bytes}
 use Rattle.std.specs.List.{after_first, flat_map, join_with_byte}

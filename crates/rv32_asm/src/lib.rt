@@ -21,10 +21,9 @@ pub use program::assemble;
 pub use rv32_asm_syntax::AsmFault;
 
 /// The texts of words, one line after another, are the program of these words, and the texts in a listing of bytes at 0
-/// are the program of these bytes; a line that is the text of a word at the
-/// line's own address is read back as the word, and the text of an instruction as the instruction's word. It does
-/// nothing: its contract is a theorem over all words and instructions, and all memories and addresses where they can
-/// stand.
+/// are the program of these bytes; a line that is the text of a word at the line's own address is read back as the word,
+/// and the text of an instruction as the instruction's word. It does nothing: its contract is a theorem over all words,
+/// bytes and instructions, and all memories and addresses where they can stand.
 pub fn texts_are_words()
     ensures programs { (size : ℕ) → TextsAreProgram size }
     ensures listings { (size : ℕ) → IsMemorySize size → ListingsAreProgram size }

@@ -16,42 +16,11 @@ use crate::{emission, layout};
 use rv32_asm_syntax::{LineError, first_label, first_line, statement_of, without_comment};
 use std::alloc::Global;
 
-// The lines of a text that are left, and how many came before them.
+/// How far the first pass came: the address that it reached, and the labels on the way.
 #[derive(Drop)]
-struct NumberedLines<'a> {
-    rest: &'a [u8],
-    number: u32,
-}
-
-impl<'a> NumberedLines<'a> {
-    // All lines of a text.
-    fn new(text: &'a [u8]) -> Self
-        ensures rest { result.rest.now ≡ text.now }
-        ensures number { result.number ≡ 0 }
-    {
-        NumberedLines {
-            rest: text,
-            number: 0,
-        }
-    }
-
-    // The next line and its number, counted from 1, where there is one.
-    fn next(&mut self) -> Option<(u32, &'a [u8])>
-        requires { self.old.number + length self.old.rest.now < 2 ^ 32 }
-        ensures line { IfSome result (λ next. IsNextLine self.old.rest.now next.1.now self.new.rest.now) }
-        ensures number { IfSome result (λ next. next.0 ≡ self.old.number + 1) }
-        ensures counted { IfSome result (λ next. self.new.number ≡ next.0) }
-        ensures shorter { IfSome result (λ next. length self.new.rest.now < length self.old.rest.now) }
-        ensures none { result ≡ None → length self.old.rest.now ≡ 0 }
-    {
-        if self.rest.is_empty() {
-            return None;
-        }
-        let (line, rest) = first_line(self.rest);
-        self.rest = rest.unwrap_or(&[]);
-        self.number += 1;
-        Some((self.number, line))
-    }
+pub struct Progress<'a> {
+    pub address: u32,
+    pub labels: Labels<'a>,
 }
 
 /// Where the labels of a text stand, and the address where its bytes end, or its first fault.
@@ -109,13 +78,6 @@ fn after_line<'a>(
         Ok(address) => Ok(Progress { address, labels }),
         Err(fault) => Err(LineError::Fault(fault)),
     }
-}
-
-/// How far the first pass came: the address that it reached, and the labels on the way.
-#[derive(Drop)]
-pub struct Progress<'a> {
-    pub address: u32,
-    pub labels: Labels<'a>,
 }
 
 // Adds the labels of a line without its comment.
@@ -178,5 +140,43 @@ fn in_line(number: u32, error: LineError) -> AsmError
     match error {
         LineError::Fault(code) => AsmError::Fault { line: number, code },
         LineError::NoMemory => AsmError::NoMemory,
+    }
+}
+
+// The lines of a text that are left, and how many came before them.
+#[derive(Drop)]
+struct NumberedLines<'a> {
+    rest: &'a [u8],
+    number: u32,
+}
+
+impl<'a> NumberedLines<'a> {
+    // All lines of a text.
+    fn new(text: &'a [u8]) -> Self
+        ensures rest { result.rest.now ≡ text.now }
+        ensures number { result.number ≡ 0 }
+    {
+        NumberedLines {
+            rest: text,
+            number: 0,
+        }
+    }
+
+    // The next line and its number, counted from 1, where there is one.
+    fn next(&mut self) -> Option<(u32, &'a [u8])>
+        requires { self.old.number + length self.old.rest.now < 2 ^ 32 }
+        ensures line { IfSome result (λ next. IsNextLine self.old.rest.now next.1.now self.new.rest.now) }
+        ensures number { IfSome result (λ next. next.0 ≡ self.old.number + 1) }
+        ensures counted { IfSome result (λ next. self.new.number ≡ next.0) }
+        ensures shorter { IfSome result (λ next. length self.new.rest.now < length self.old.rest.now) }
+        ensures none { result ≡ None → length self.old.rest.now ≡ 0 }
+    {
+        if self.rest.is_empty() {
+            return None;
+        }
+        let (line, rest) = first_line(self.rest);
+        self.rest = rest.unwrap_or(&[]);
+        self.number += 1;
+        Some((self.number, line))
     }
 }

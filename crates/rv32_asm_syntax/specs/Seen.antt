@@ -1,4 +1,4 @@
--- What the code's values say: its types as the definitions see them.
+-- The code's types as the definitions see them. (An enum, or a `Copy` struct with a lifetime, has no model of its own.)
 use Rattle.std.specs.Prelude.{List, map, ℕ, Option, option_map}
 use Rattle.std.specs.Borrow.{Bor}
 use Rattle.rv32_asm_syntax.specs.declared.lines.Quoting.{Quoting}

@@ -1,4 +1,4 @@
--- The code's tables of words: what their rows say.
+-- The code's tables of words: what their rows say, for contracts inside the crate alone.
 use Rattle.std.specs.Prelude.{ℕ, pos, neg_ℤ, ◌^◌, List, Bool, ◌&&◌, Option, find, int_le, map, nat_lt, option_map}
 use Rattle.std.specs.Borrow.{Bor}
 use Rattle.std.specs.Str.{bytes_eq}
