@@ -1,6 +1,6 @@
 -- The ten refusals of an ELF file for a memory of a size, each with its test, in the order in which they are tested.
 -- Sums of addresses and offsets are whole numbers.
-use Rattle.std.specs.Prelude.{◌==◌, ℕ, ◌+◌, ◌*◌, ◌%◌, List, [], ◌∷◌, ◌++◌, length, drop, Bool, not, ◌&&◌, ◌||◌, nat_lt, nat_eq, bit_and, Option, Some, None, if◌then◌else◌}
+use Rattle.std.specs.Prelude.{◌==◌, ℕ, ◌+◌, ◌*◌, List, [], ◌∷◌, ◌++◌, length, drop, Bool, not, ◌&&◌, ◌||◌, nat_lt, nat_eq, bit_and, Option, Some, None, if◌then◌else◌}
 use Rattle.std.specs.List.{list_any, starts_with}
 use Rattle.elf_load.specs.declared.fault.ElfFault.{ElfFault}
 use Rattle.elf_load.specs.declared.fault.ElfFault.TheVariants.{Short, Magic, Class, Kind, Machine, Compressed, Table, Interp, Segment, Entry}
