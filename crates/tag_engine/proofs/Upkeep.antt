@@ -9,11 +9,11 @@ use Rattle.sec_base.specs.declared.sealed.Sealed.{Sealed}
 use Rattle.sec_base.specs.declared.message.Message.{Message}
 use Rattle.sec_base.specs.declared.message.Message.TheVariants.{Line}
 use Rattle.sec_base.specs.declared.evidence.Evidence.{Evidence}
-use Rattle.sec_base.specs.Geometry.{IsNode, line_count, node_end, node_number}
+use Rattle.sec_base.specs.Geometry.{line_count, node_end, node_number}
 use Rattle.sec_base.specs.LastMessage.{data_part, node_part}
 use Rattle.sec_base.proofs.Numbers.{number_inside}
 use Rattle.tag_engine.specs.TagEngine.{TagEngineView, new_engine, after_check_data, forgery_of}
-use Rattle.tag_engine.specs.Invariant.{HasPlaces, IsTagEngine, last_place}
+use Rattle.tag_engine.specs.Invariant.{IsTagEngine, last_place}
 use Rattle.tag_engine.proofs.LastPlaces.{last_place-nothing, last_place-within, last_place-same, last_place-other, last_place-node}
 use Rattle.tag_engine.proofs.Forgeries.{forgery_of-failed, known, genuine, still_genuine}
 
