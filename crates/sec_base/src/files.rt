@@ -1,5 +1,5 @@
 // Where a run reads.
-ghost use Rattle.std.specs.Prelude.{◌≡◌, ◌≢◌, ◌<◌, ◌≤◌, ◌+◌, ◌⊎◌, List, ℕ, [], ◌∷◌, ◌++◌, Ok, Err, length, IfOk};
+ghost use Rattle.std.specs.Prelude.{◌≡◌, ◌≢◌, ◌<◌, ◌≤◌, ◌+◌, ◌⊎◌, List, ℕ, [], ◌∷◌, ◌++◌, Ok, Err, length, IfOk, OnOk};
 ghost use Rattle.sec_base.specs.Count.{Rose, RoseBy};
 ghost use Rattle.sec_base.specs.Files.{FilesState, HasBytes, HasOver};
 ghost use Rattle.sec_base.specs.declared.files.ReadStop.TheVariants.{Failed, Long, NoMemory as no_memory};
@@ -36,6 +36,8 @@ pub trait Files {
     fn read(&mut self, alloc: Global, name: &str, limit: u64) -> Result<Bytes, ReadStop>
         ensures bytes { IfOk result (HasBytes (state self.old).held name.now) }
         ensures within { IfOk result (λ bytes. length bytes ≤ limit) }
+        ensures quiet { OnOk result ((state self.new).faults ≡ (state self.old).faults) }
+        ensures taken_bytes { IfOk result (λ bytes. RoseBy (length bytes) (state self.old).taken (state self.new).taken) }
 
         ensures long { result ≡ Err Long → HasOver (state self.old).held name.now limit }
         ensures taken_long { result ≡ Err Long → RoseBy (limit + 1) (state self.old).taken (state self.new).taken }
