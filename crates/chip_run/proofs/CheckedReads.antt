@@ -1,5 +1,5 @@
 -- What a read of a line answers, and what it makes of a protected memory.
-use Rattle.std.proofs.Common.{◌≡◌, ◌≢◌, ℕ, ◌<◌, true, List, Option, Some, None, Result, Ok, Err, IfOk, slice_index, refl, ap, sym, ◌∙◌, subst}
+use Rattle.std.proofs.Common.{◌≡◌, ◌≢◌, ℕ, ◌<◌, true, List, Option, Some, None, Result, Ok, Err, IfOk, slice_index, ap, sym, ◌∙◌, subst}
 use Rattle.std.specs.Option.{option_or}
 use Rattle.std.specs.Result.{result_err}
 use Rattle.sec_base.specs.Count.{Rose}
@@ -12,14 +12,13 @@ use Rattle.sec_base.specs.declared.evidence.Evidence.TheVariants.{Forgery}
 use Rattle.sec_base.specs.declared.sealed.Sealed.{Sealed}
 use Rattle.sec_base.specs.declared.place.Place.{Place}
 use Rattle.sec_base.specs.declared.place.Place.TheVariants.{Line as line_place}
-use Rattle.sec_base.specs.declared.message.Message.{Message}
 use Rattle.sec_base.specs.declared.stop.MemStop.{MemStop}
-use Rattle.sec_base.specs.declared.stop.MemStop.TheVariants.{Tampered, Spent, NoMemory}
+use Rattle.sec_base.specs.declared.stop.MemStop.TheVariants.{Tampered}
 use Rattle.bus_model.specs.BusHistory.{BusHistory}
 use Rattle.tag_engine.specs.TagEngine.{TagEngineView, forgery_of, tags_of}
 use Rattle.pad_stream.specs.Pad.{cipher_of}
 use Rattle.chip_run.specs.Contents.{counter_of, writes_by}
-use Rattle.chip_run.specs.LineMemory.{LineMemoryView, IsAccountedFor, IsCheckedRead, IsLineMemory, ReadMoved, contents, lasting_stop}
+use Rattle.chip_run.specs.LineMemory.{LineMemoryView, IsCheckedRead, IsLineMemory, ReadMoved, contents, lasting_stop}
 use Rattle.chip_run.proofs.LineMessages.{writes_same}
 use Rattle.chip_run.proofs.Keeping.{passed_bytes, read_accounted, shown_is, tampered_lied}
 use Rattle.chip_run.proofs.LineMoves.{line_there, read_moved}

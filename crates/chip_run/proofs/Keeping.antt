@@ -1,11 +1,11 @@
 -- What a protected memory keeps over a read and a write of a line.
-use Rattle.std.proofs.Common.{◌≡◌, ◌≢◌, ℕ, ◌+◌, ◌<◌, ◌≤◌, ◌⊎◌, inl, inr, Bool, true, false, cond, nat_eq, List, [], ◌∷◌, ◌++◌, length, take, drop, Option, Some, None, IfSome, Contains, Result, Ok, Err, slice_index, slice_set, replicate, refl, ap, sym, ◌∙◌, subst, arith}
+use Rattle.std.proofs.Common.{◌≡◌, ◌≢◌, ℕ, ◌+◌, ◌<◌, ◌⊎◌, inl, inr, Bool, true, false, cond, nat_eq, List, [], ◌∷◌, ◌++◌, length, take, drop, Option, Some, None, IfSome, Contains, Result, Ok, Err, slice_index, slice_set, replicate, refl, ap, sym, ◌∙◌, subst, arith}
 use Rattle.std.specs.Option.{option_or}
 use Rattle.std.specs.Result.{result_err}
 use Rattle.std.proofs.lemmas.Bool.{cases_eq}
 use Rattle.std.proofs.lemmas.Bool.Decides.{Decides-eqb}
 use Rattle.std.proofs.lemmas.List.Elements.{Contains-append_left, Contains-push}
-use Rattle.std.proofs.lemmas.List.{take_at, drop_at, take-append-le, take_all, set-get_or}
+use Rattle.std.proofs.lemmas.List.{take_at, drop_at, take-append-le, take_all}
 use Rattle.sec_base.specs.Count.{more_by, Rose}
 use Rattle.sec_base.specs.Place.{at_place, IsPlace, zeros_of}
 use Rattle.sec_base.specs.declared.place.Place.{Place}
@@ -20,23 +20,21 @@ use Rattle.sec_base.specs.declared.stop.MemStop.{MemStop}
 use Rattle.sec_base.specs.declared.stop.MemStop.TheVariants.{Tampered, Spent, NoMemory}
 use Rattle.sec_base.specs.Evidence.{sealed_bytes, sealed_of, LineFails, IsEvidence, HasLastCounter}
 use Rattle.sec_base.specs.LastMessage.{last_at, last_data, last_pair, data_pairs}
-use Rattle.sec_base.specs.Geometry.{line_count, page_of}
+use Rattle.sec_base.specs.Geometry.{line_count}
 use Rattle.sec_base.specs.Message.{has_message}
 use Rattle.sec_base.proofs.SameMessages.{has_message-Decides}
 use Rattle.sec_base.proofs.SamePlaces.{at_place-here, at_place-there, false_from}
 use Rattle.bus_model.specs.BusHistory.{BusHistory, Lie, NothingWritten, after_read, after_write, after_answer, after_lie, first_lie}
 use Rattle.bus_model.proofs.Steps.{true_or_false, answered, lied, read_levels, read_written}
-use Rattle.tag_engine.specs.TagEngine.{TagEngineView, new_engine, tags_of, forgery_of, after_make, with_room}
+use Rattle.tag_engine.specs.TagEngine.{TagEngineView, new_engine, tags_of, forgery_of}
 use Rattle.tag_engine.proofs.Forgeries.{known, still_genuine}
 use Rattle.pad_stream.specs.Pads.{AreRising}
 use Rattle.pad_stream.proofs.RisingCounters.{rising_nothing, rising_more}
 use Rattle.chip_run.proofs.Pairs.{consecutive_nothing, consecutive_more, data_pairs-append}
-use Rattle.pad_stream.specs.PadEngine.{PadEngineView, new_pads, after_encrypt, with_room as pads_with_room}
-use Rattle.pad_stream.specs.Pad.{cipher_of}
-use Rattle.pad_stream.proofs.Enciphering.{length-cipher_of}
-use Rattle.chip_run.specs.Contents.{AreConsecutive, counter_of, line_writes, sealed_line, IsSpent, IsSealed, HoldsSealed, HoldsLast, NodesAreZeros}
+use Rattle.pad_stream.specs.PadEngine.{PadEngineView, new_pads}
+use Rattle.chip_run.specs.Contents.{counter_of, sealed_line, IsSpent, IsSealed, HoldsSealed, HoldsLast, NodesAreZeros}
 use Rattle.bus_model.specs.FirstLie.{AccountsForLies, HonestOrCaught, IsOfFirstLie}
-use Rattle.chip_run.specs.LineMemory.{LineMemoryView, new_line_memory, IsLineMemory, AreCounted, Passed, IsCheckedRead, lasting_stop, after_line, writes_of, times_tagged}
+use Rattle.chip_run.specs.LineMemory.{LineMemoryView, IsLineMemory, AreCounted, Passed, IsCheckedRead, lasting_stop, after_line, writes_of, times_tagged}
 use Rattle.chip_run.proofs.LineMessages.{some_same, last_data-same, last_data-other, last_made, last_pair-some, counted_new, counted_more, used_up, writes_same, behind}
 
 -- Sealed lines

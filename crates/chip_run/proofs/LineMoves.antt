@@ -24,7 +24,7 @@ use Rattle.pad_stream.specs.PadEngine.{PadEngineView, after_encrypt, with_room a
 use Rattle.chip_run.specs.Contents.{bytes_of, line_bytes, contents_of}
 use Rattle.chip_run.specs.LineLengths.{length-line_bytes}
 use Rattle.chip_run.specs.Moving.{moves_not, moves_on, read_sooner, was_none}
-use Rattle.chip_run.specs.LineMemory.{LineMemoryView, IsAccountedFor, Moves, WereRead, ReadMoved, IsMoved, Passed, IsCheckedRead, AreCounted, writes_of, lasting_stop}
+use Rattle.chip_run.specs.LineMemory.{LineMemoryView, IsAccountedFor, Moves, WereRead, ReadMoved, IsMoved, IsCheckedRead, AreCounted, writes_of, lasting_stop}
 use Rattle.chip_run.proofs.LineMessages.{last_made}
 
 -- Counts of reads

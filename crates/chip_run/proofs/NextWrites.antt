@@ -1,15 +1,13 @@
 -- What a write of a line under its next counter makes of a protected memory.
-use Rattle.std.proofs.Common.{◌≡◌, ◌≢◌, ◌↔◌, ◌⊎◌, inl, inr, ℕ, ◌+◌, ◌<◌, ◌≤◌, List, [], ◌∷◌, ◌++◌, length, Option, Some, None, Result, Ok, Err, OnOk, OnErr, IfErr, slice_index, slice_set, refl, ap, sym, ◌∙◌, subst, arith}
+use Rattle.std.proofs.Common.{◌≡◌, ◌≢◌, ◌↔◌, ◌⊎◌, inl, inr, ℕ, ◌+◌, ◌<◌, ◌≤◌, List, [], ◌∷◌, ◌++◌, length, Option, Some, None, Result, Ok, Err, OnOk, OnErr, IfErr, slice_index, slice_set, refl, ap, sym, ◌∙◌, subst}
 use Rattle.std.specs.Option.{option_or}
 use Rattle.std.specs.Result.{result_err}
 use Rattle.std.proofs.lemmas.List.{set-get_or}
 use Rattle.sec_base.specs.Geometry.{line_count, page_of}
 use Rattle.sec_base.specs.Lines.{with_line}
-use Rattle.sec_base.specs.declared.counter.Counter.{Counter}
 use Rattle.sec_base.specs.declared.message.Message.{Message}
 use Rattle.sec_base.specs.declared.message.Message.TheVariants.{Line}
 use Rattle.sec_base.specs.declared.place.Place.{Place}
-use Rattle.sec_base.specs.declared.place.Place.TheVariants.{Line as line_place}
 use Rattle.sec_base.specs.declared.stop.MemStop.{MemStop}
 use Rattle.sec_base.specs.declared.stop.MemStop.TheVariants.{Tampered, Spent, NoMemory}
 use Rattle.bus_model.specs.BusHistory.{BusHistory, after_write}
@@ -18,9 +16,8 @@ use Rattle.tag_engine.specs.TagEngine.{TagEngineView, after_make, tags_of, with_
 use Rattle.pad_stream.specs.Pad.{cipher_of}
 use Rattle.pad_stream.specs.PadEngine.{PadEngineView, after_encrypt, with_room as pads_with_room}
 use Rattle.pad_stream.proofs.Enciphering.{length-cipher_of}
-use Rattle.chip_run.specs.Contents.{IsSpent, contents_of, counter_of, line_writes, sealed_line}
-use Rattle.chip_run.specs.LineMemory.{LineMemoryView, WriteParts, IsAccountedFor, IsLineMemory, IsMadeNext, IsNextWrite, IsUnmade, Moves, contents, lasting_stop, next_cipher, times_tagged}
-use Rattle.chip_run.specs.Moving.{was_none}
+use Rattle.chip_run.specs.Contents.{contents_of, counter_of, line_writes}
+use Rattle.chip_run.specs.LineMemory.{LineMemoryView, WriteParts, IsAccountedFor, IsLineMemory, IsMadeNext, IsNextWrite, IsUnmade, Moves, contents, lasting_stop}
 use Rattle.chip_run.proofs.LineMessages.{contents_more, not_used_up, raised_used, used_up, writes_same}
 use Rattle.chip_run.proofs.Keeping.{tampered, ended_kept, ended_accounted, next_written, written_accounted, next_unwritten, unwritten_accounted}
 use Rattle.chip_run.proofs.LineMoves.{made_moves, stop_moves}
