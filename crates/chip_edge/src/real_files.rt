@@ -1,4 +1,7 @@
-ghost use Rattle.std.specs.Prelude.{◌≡◌, ◌≤◌, ◌++◌, ◌∷◌, [], None, length, IfOk, OnOk, OnErr};
+// The files of the file system.
+ghost use Rattle.std.specs.Prelude.{◌≡◌, ◌≢◌, ◌<◌, ◌≤◌, ◌++◌, ◌∷◌, [], Err, None, length, IfOk, IfSome, OnOk, OnErr};
+ghost use Rattle.sec_base.specs.Count.{top};
+ghost use Rattle.sec_base.specs.declared.files.ReadStop.TheVariants.{Long};
 
 use sec_base::{Bytes, NoMemory, ReadStop};
 use std::alloc::Global;
@@ -16,7 +19,12 @@ pub struct RealFiles<'a, R> {
 }
 
 impl<'a, R: Files + AllocGlobal> RealFiles<'a, R> {
-    pub fn new(rt: &'a R) -> Self {
+    /// Nothing was asked of them yet.
+    pub fn new(rt: &'a R) -> Self
+        ensures faults { result.faults ≡ 0 }
+        ensures taken { result.taken ≡ 0 }
+        ensures asked { result.asked.items ≡ [] }
+    {
         RealFiles {
             rt,
             faults: 0,
@@ -61,28 +69,37 @@ fn ask(asked: &mut Vec<Bytes>, alloc: Global, name: &str) -> Result<(), NoMemory
     ensures ok { OnOk result (asked.new.items ≡ asked.old.items ++ name.now ∷ []) }
     ensures err { OnErr result (asked.new.items ≡ asked.old.items) }
 {
-    let name = Bytes::from_vec(Vec::from_slice(alloc, name.as_bytes())?);
+    let name = Bytes::from_slice(alloc, name.as_bytes())?;
     asked.push(name)?;
     Ok(())
 }
 
-// Reads at most one byte more than the limit.
 fn read_file<R: Files>(rt: &R, alloc: Global, name: &str, limit: u64) -> Result<Bytes, ReadStop>
     ensures { IfOk result (λ bytes. length bytes ≤ limit) }
 {
-    let file = match fs::open(rt, name) {
-        Ok(file) => file,
-        Err(error) => return Err(stop_of(&error)),
-    };
+    match fs::open(rt, name) {
+        Ok(file) => read_all(alloc, file, limit),
+        Err(error) => Err(stop_of(&error)),
+    }
+}
+
+/// All that a reader has left, which is at most `limit` bytes. At most one byte more is read.
+pub fn read_all<R: Read + Drop>(alloc: Global, reader: R, limit: u64) -> Result<Bytes, ReadStop>
+    ensures bytes { limit < top → IfOk result (λ bytes. IfSome (R.remaining reader) (λ left. bytes ≡ left)) }
+    ensures long { limit < top → result ≡ Err Long → IfSome (R.remaining reader) (λ left. limit < length left) }
+    ensures within { IfOk result (λ bytes. length bytes ≤ limit) }
+{
     let mut bytes = Vec::new(alloc);
-    match file.take(limit.saturating_add(1)).read_to_end(&mut bytes) {
+    match reader.take(limit.saturating_add(1)).read_to_end(&mut bytes) {
         Ok(_) if bytes.len() as u64 > limit => Err(ReadStop::Long),
         Ok(_) => Ok(Bytes::from_vec(bytes)),
         Err(error) => Err(stop_of(&error)),
     }
 }
 
-fn stop_of(error: &io::Error) -> ReadStop {
+fn stop_of(error: &io::Error) -> ReadStop
+    ensures { result ≢ Long }
+{
     match error.kind() {
         io::ErrorKind::OutOfMemory => ReadStop::NoMemory,
         _ => ReadStop::Failed,

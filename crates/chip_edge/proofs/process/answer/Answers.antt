@@ -1,0 +1,12 @@
+use Rattle.std.proofs.Common.{refl, inl}
+use Rattle.chip_edge.proofs.process.answer.Goals as goal
+
+pub returns : goal.returns
+returns g c = inl (record {
+  files = _;
+  done = c.run_words.result;
+  status_is = refl;
+  says = rw (c.as_slice.ensures.value, c.in-Ok.ensures, c.new-files.ensures.faults, c.new-files.ensures.taken, c.new-files.ensures.asked) at c.run_words.ensures.statuses;
+  gives = rw (c.as_slice.ensures.value, c.in-Ok.ensures, c.new-files.ensures.faults, c.new-files.ensures.taken, c.new-files.ensures.asked) at c.run_words.ensures.commands;
+  due = rw (c.as_slice.ensures.value, c.in-Ok.ensures, c.new-files.ensures.faults, c.new-files.ensures.taken, c.new-files.ensures.asked) at c.run_words.ensures.due;
+})

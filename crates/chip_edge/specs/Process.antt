@@ -1,0 +1,46 @@
+-- What a process does with its words.
+use Rattle.std.specs.Prelude.{◌≡◌, ◌⊎◌, [], List, ℕ, None, codes}
+use Rattle.sec_base.specs.Files.{FilesState}
+use Rattle.sec_base.specs.Sink.{GainsFront, IsSilent, SinkState}
+use Rattle.chip_words.specs.Request.{request_of}
+use Rattle.chip_main.specs.declared.Done.{Done}
+use Rattle.chip_main.specs.declared.status.Status.TheVariants.{NoMemory, Usage}
+use Rattle.chip_main.specs.Status.{code_of}
+use Rattle.chip_main.specs.World.{world}
+use Rattle.chip_main.specs.Call.{GivesAsked, GivesDue, SaysStatus}
+
+-- the files of the file system before anything was asked of them
+abbrev pub fresh_files : FilesState
+fresh_files = record { held = None; faults = 0; taken = 0; asked = [] }
+
+-- what these words ask for was done: results went to `out` and all else to `note`, and the status is the call's
+pub record IsCall (words : List (List ℕ)) (out out' note note' : SinkState) (status : ℕ) : Type 0 where
+  pub files : FilesState
+  pub done : Done
+  pub status_is : status ≡ done.status
+  pub says : SaysStatus (request_of words) (world fresh_files out note) (world files out' note') done
+  pub gives : GivesAsked (request_of words) (world fresh_files out note) (world files out' note') done
+  pub due : GivesDue (request_of words) (world fresh_files out note) (world files out' note') done
+
+-- nothing was done: out of memory
+pub record IsOutOfMemory (out out' note note' : SinkState) (status : ℕ) : Type 0 where
+  pub status_is : status ≡ code_of NoMemory
+  pub out_silent : IsSilent out out'
+  pub note_silent : IsSilent note note'
+
+-- nothing was done: the words are no text
+pub record AreNoText (out out' note note' : SinkState) (status : ℕ) : Type 0 where
+  pub status_is : status ≡ code_of Usage
+  pub out_silent : IsSilent out out'
+  pub told : GainsFront note (codes "usage\n") note'
+
+-- these words were answered by this status
+abbrev pub IsAnswered : List (List ℕ) → SinkState → SinkState → SinkState → SinkState → ℕ → Type 0
+IsAnswered words out out' note note' status =
+    IsCall words out out' note note' status ⊎ IsOutOfMemory out out' note note' status
+
+-- the words of the process were, where they are text
+abbrev pub IsProcess : SinkState → SinkState → SinkState → SinkState → ℕ → Type 0
+IsProcess out out' note note' status =
+    ((words : List (List ℕ)) × IsAnswered words out out' note note' status)
+    ⊎ (IsOutOfMemory out out' note note' status ⊎ AreNoText out out' note note' status)
