@@ -1,6 +1,6 @@
 -- Bytes that are laid over a memory one after another.
-use Rattle.std.proofs.Common.{◌≡◌, ◌≤◌, ◌<◌, ℕ, suc, ◌+◌, ◌*◌, ◌/◌, ◌%◌, ◌^◌, List, [], ◌∷◌, ◌++◌, length, take, drop, get_or, set, replicate, fold, refl, sym, ap, ◌∙◌, arith, length-append, length-drop, add-zero}
-use Rattle.std.proofs.lemmas.List.{append-nil, take-append-drop, take_all, drop_more, length-take, length-replicate}
+use Rattle.std.proofs.Common.{◌≡◌, ◌≤◌, ◌<◌, ℕ, ◌+◌, ◌*◌, ◌/◌, ◌%◌, ◌^◌, List, [], ◌∷◌, ◌++◌, length, take, drop, get_or, replicate, fold, refl, sym, ap, ◌∙◌, arith, length-append, length-drop}
+use Rattle.std.proofs.lemmas.List.{take_all, drop_more, length-take, length-replicate}
 use Rattle.std.proofs.lemmas.List.Sums.{fold_more}
 use Rattle.std.proofs.Math.Seq.{take-add}
 use Rattle.sec_base.specs.declared.width.Width.TheVariants.{One, Four}

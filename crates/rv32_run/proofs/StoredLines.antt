@@ -1,5 +1,5 @@
 -- The lines in which a segment, and a program, is stored.
-use Rattle.std.proofs.Common.{◌≡◌, ◌≢◌, ◌⊎◌, ◌<◌, ◌≤◌, ℕ, ◌+◌, ◌-◌, ◌%◌, Bool, true, false, cond, ◌||◌, List, [], ◌∷◌, ◌++◌, map, length, take, drop, get_or, refl, sym, ap, ◌∙◌, subst, arith, inl, inr, append_assoc, ne_eqb}
+use Rattle.std.proofs.Common.{◌≡◌, ◌≢◌, ◌<◌, ◌≤◌, ℕ, ◌+◌, ◌-◌, ◌%◌, Bool, true, false, cond, ◌||◌, List, [], ◌∷◌, ◌++◌, map, length, take, drop, get_or, refl, sym, ap, ◌∙◌, subst, arith, inl, inr, ne_eqb}
 use Rattle.std.specs.List.{filter, flat_map, range_with_len}
 use Rattle.std.proofs.lemmas.Bool.{cases_lt, le-leb, lt-leb}
 use Rattle.std.proofs.lemmas.Grind.{flat_map-append}
@@ -9,7 +9,7 @@ use Rattle.std.proofs.lemmas.List.FromFn.{filter_of_map_range_with_len_more, tak
 use Rattle.sec_base.specs.Geometry.{line_of}
 use Rattle.sec_base.specs.Prefix.{IsPrefix}
 use Rattle.sec_base.specs.declared.segment.Segment.{Segment}
-use Rattle.rv32_core.proofs.TouchedLines.{prefix_behind, prefix_more, prefix_prefix}
+use Rattle.rv32_core.proofs.TouchedLines.{prefix_behind, prefix_prefix}
 use Rattle.rv32_run.specs.StoredLines.{IsStoreOf, begins_store, front_lines, image_lines, segment_lines}
 
 -- no word that lies in the segment whole has this address behind its first

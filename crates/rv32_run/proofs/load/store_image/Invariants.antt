@@ -1,4 +1,4 @@
-use Rattle.std.proofs.Common.{◌≡◌, ℕ, List, None, take, fold}
+use Rattle.std.proofs.Common.{◌≡◌, None, take, fold}
 use Rattle.sec_base.specs.Ram.{GoesOn}
 use Rattle.sec_base.specs.Opening.{with_segment}
 use Rattle.rv32_run.specs.StoredLines.{image_lines}

@@ -1,4 +1,4 @@
-use Rattle.std.proofs.Common.{◌≡◌, ◌≤◌, ◌+◌, ◌-◌, ℕ, List, None, take}
+use Rattle.std.proofs.Common.{◌≡◌, ◌≤◌, ◌+◌, ◌-◌, None, take}
 use Rattle.sec_base.specs.Ram.{GoesOn}
 use Rattle.sec_base.specs.Opening.{segment_memory}
 use Rattle.rv32_core.specs.State.{with_bytes}
