@@ -31,7 +31,7 @@ at_err (Err error) P each = each error refl
 -- ---- one file
 
 no_later : (files : FilesState) → IsLater files files
-no_later files = record { held = refl; faults = omega arith; taken = omega arith }
+no_later files = record { held = refl; faults = refl; taken = omega arith }
 
 pub stops_here : (refusal : Refusal) (need : Need) (old new : FilesState) → Asks (need ∷ []) old new → IsCause refusal need old new → IsStoppedBy (Refused refusal) (need ∷ []) old new
 stops_here refusal need old new asked cause = record {
@@ -138,13 +138,13 @@ text_image size text image is =
 
 -- ---- one file and then others
 
-pub later_by : {old new : FilesState} → new.held ≡ old.held → old.faults ≤ new.faults → old.taken ≤ new.taken → IsLater old new
+pub later_by : {old new : FilesState} → new.held ≡ old.held → new.faults ≡ old.faults → old.taken ≤ new.taken → IsLater old new
 later_by held faults taken = record { held = held; faults = faults; taken = taken }
 
 later_on : (old mid new : FilesState) → IsLater old mid → IsLater mid new → IsLater old new
 later_on old mid new first then = record {
   held = then.held ∙ first.held;
-  faults = let more = first.faults in let yet = then.faults in omega arith;
+  faults = then.faults ∙ first.faults;
   taken = let more = first.taken in let yet = then.taken in omega arith;
 }
 

@@ -40,10 +40,10 @@ IsCause TooLong need old new = HasOver old.held need.name need.limit × RoseBy (
 IsCause (Elf fault) need old new = IsMisformed (Elf fault) need old
 IsCause (Asm line fault) need old new = IsMisformed (Asm line fault) need old
 
--- other files were read since, whole or in vain
+-- other files were read since, each whole and without a fault
 pub record IsLater (old new : FilesState) : Type 0 where
   pub held : new.held ≡ old.held
-  pub faults : old.faults ≤ new.faults
+  pub faults : new.faults ≡ old.faults
   pub taken : old.taken ≤ new.taken
 
 -- One of the files was refused: those before it were accepted, its own read is why, and those behind it were not asked

@@ -51,6 +51,7 @@ pub fn take_program<F: Files>(
     ensures stopped { IfErr result (λ stop.
         IsStoppedBy stop (program_need (file_asked file.now) ∷ []) (F.state files.old) (F.state files.new)) }
     ensures held { (F.state files.new).held ≡ (F.state files.old).held }
+    ensures quiet { OnOk result ((F.state files.new).faults ≡ (F.state files.old).faults) }
     ensures faults { (F.state files.old).faults ≤ (F.state files.new).faults }
     ensures bytes_taken { (F.state files.old).taken ≤ (F.state files.new).taken }
 {
@@ -83,6 +84,7 @@ fn read_file<F: Files>(alloc: Global, name: &str, limit: u64, files: &mut F) -> 
     ensures stopped { IfErr result (λ stop. (fault : List ℕ → Option Refusal) → IsStoppedBy stop
         (record { name = name.now; limit = limit; fault = fault } ∷ []) (F.state files.old) (F.state files.new)) }
     ensures held { (F.state files.new).held ≡ (F.state files.old).held }
+    ensures quiet { OnOk result ((F.state files.new).faults ≡ (F.state files.old).faults) }
     ensures faults { (F.state files.old).faults ≤ (F.state files.new).faults }
     ensures bytes_taken { (F.state files.old).taken ≤ (F.state files.new).taken }
 {

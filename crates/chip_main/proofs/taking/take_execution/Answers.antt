@@ -19,4 +19,4 @@ returns-in_err-input-clause-stopped g c =
     rw (p.1, p.2) (stops_later c.in_err-input.field-0.0
     (program_need (file_asked c.args.execution.now.file)) told.bytes
     (input_needs (option_map (λ n. n.now) c.args.execution.now.input)) _ _ _
-    told.accepted c.in_ok-image.ensures.asked (later_by c.in_ok-image.ensures.held c.in_ok-image.ensures.faults c.in_ok-image.ensures.bytes_taken) c.in_err-input.ensures.stopped)
+    told.accepted c.in_ok-image.ensures.asked (later_by c.in_ok-image.ensures.held c.in_ok-image.ensures.quiet c.in_ok-image.ensures.bytes_taken) c.in_err-input.ensures.stopped)
