@@ -37,7 +37,7 @@ abbrev pub plain_text : PlainRecord → List ℕ
 plain_text run = ending_line run.ending ++ retired_line run.retired
 
 -- the line of a program's file that doesn't have its form: the number and the name of the first rule that it breaks,
--- and of an file text the line where it does
+-- and of an assembly text the line where it does
 abbrev pub elf_line : ElfFault → List ℕ
 elf_line fault = codes "refused elf " ++ decimal (elf_code fault) ++ codes " " ++ elf_name fault ++ codes "\n"
 

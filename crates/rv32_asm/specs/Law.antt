@@ -14,8 +14,8 @@ use Rattle.sec_base.specs.Segment.{from_zero}
 use Rattle.rv32_asm.specs.Passes.{Progress, after_line, line_bytes}
 use Rattle.rv32_asm.specs.Values.{lower_part, modulo, upper_part}
 
-abbrev pub is_space : ℕ → Bool
-is_space byte = byte == space
+abbrev pub is_blank_byte : ℕ → Bool
+is_blank_byte byte = byte == space
 
 -- the texts of words from an address on, each at its word's address and in a line of its own
 abbrev pub source : ℕ → List ℕ → List ℕ
@@ -29,7 +29,7 @@ TextsAreProgram size = (words : List ℕ) → All (λ word. word < 2 ^ 32) words
 
 -- a line of a listing without its columns of the address and of the word
 abbrev pub text_column : List ℕ → List ℕ
-text_column line = after_first is_space (after_first is_space line)
+text_column line = after_first is_blank_byte (after_first is_blank_byte line)
 
 -- the texts in a listing, each in a line of its own
 abbrev pub listed_texts : List ℕ → List ℕ

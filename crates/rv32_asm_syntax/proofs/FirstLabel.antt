@@ -16,9 +16,9 @@ len_of text = position_or_len at_colon text
 pub cut_at : (text : List ℕ) → len_of text < length text → parts text ≡ take (len_of text) text ∷ parts (drop (len_of text + 1) text)
 cut_at text below = slice_split_first at_colon text 0 below
 
-keyword_in : (part : List ℕ) (ps : List (List ℕ)) → 0 < length ps → is_name (skip_blanks part) ≡ true → labels_in (part ∷ ps) ≡ skip_blanks part ∷ labels_in ps
-keyword_in part [] some e = elim some [ ]
-keyword_in part (p ∷ ps) some e = rw e refl
+label_in : (part : List ℕ) (ps : List (List ℕ)) → 0 < length ps → is_name (skip_blanks part) ≡ true → labels_in (part ∷ ps) ≡ skip_blanks part ∷ labels_in ps
+label_in part [] some e = elim some [ ]
+label_in part (p ∷ ps) some e = rw e refl
 
 named_behind : (part : List ℕ) (ps : List (List ℕ)) → 0 < length ps → is_name (skip_blanks part) ≡ true → behind_labels (part ∷ ps) ≡ behind_labels ps
 named_behind part [] some e = elim some [ ]
@@ -36,7 +36,7 @@ join_of : (text part : List ℕ) (ps : List (List ℕ)) → parts text ≡ part 
 join_of text part ps e = let j = rw e at (join_with_byte-slice_split 58 text) in j
 
 pub name_found : (text part rest : List ℕ) → parts text ≡ part ∷ parts rest → is_name (skip_blanks part) ≡ true → labels_in (parts text) ≡ skip_blanks part ∷ labels_in (parts rest)
-name_found text part rest e n = rw e (keyword_in part (parts rest) (some_parts at_colon rest) n)
+name_found text part rest e n = rw e (label_in part (parts rest) (some_parts at_colon rest) n)
 
 pub behind_found : (text part rest : List ℕ) → parts text ≡ part ∷ parts rest → is_name (skip_blanks part) ≡ true → behind_labels (parts text) ≡ behind_labels (parts rest)
 behind_found text part rest e n = rw e (named_behind part (parts rest) (some_parts at_colon rest) n)

@@ -121,7 +121,7 @@ pub fn without_comment(line: &[u8]) -> &[u8]
 /// colon.
 pub fn first_label(text: &[u8]) -> Option<(&[u8], &[u8])>
     ensures cut { IfSome result (λ label. characters.skip_blanks text.now ≡ label.0.now ++ colon ∷ label.1.now) }
-    ensures keyword_in { IfSome result (λ label. characters.is_name label.0.now ≡ true) }
+    ensures named { IfSome result (λ label. characters.is_name label.0.now ≡ true) }
     ensures labels { IsFirstLabel text.now result }
 {
     let len = len_before(b':', text);

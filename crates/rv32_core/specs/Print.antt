@@ -13,13 +13,13 @@ piece_length at end = min (64 - at % 64) (end - at)
 
 -- all was printed, or a front part and then came a stop; nothing traps
 abbrev pub IsPrinted : Result Unit StepStop → List ℕ → List ℕ → Type 0
-IsPrinted (Ok after_result) whole printed = printed ≡ whole
+IsPrinted (Ok value) whole printed = printed ≡ whole
 IsPrinted (Err stop) whole printed = IsPrefix printed whole
 
 -- the call returns the stop that the memory gave in it, and else none but that the emulator is out of memory
 abbrev pub StopsAs : Option MemStop → Result Unit StepStop → Type 0
 StopsAs (Some stop) result = result ≡ Err (Mem stop)
-StopsAs None (Ok after_result) = Unit {0}
+StopsAs None (Ok value) = Unit {0}
 StopsAs None (Err (Trap cause)) = ⊥
 StopsAs None (Err (Mem stop)) = stop ≡ NoMemory
 StopsAs None (Err WriteFault) = Unit {0}
