@@ -1,5 +1,5 @@
 -- What a process does with its words.
-use Rattle.std.specs.Prelude.{◌≡◌, ◌⊎◌, [], List, ℕ, None, codes}
+use Rattle.std.specs.Prelude.{◌≡◌, ◌≤◌, ◌⊎◌, [], List, ℕ, None, codes}
 use Rattle.sec_base.specs.Files.{FilesState}
 use Rattle.sec_base.specs.Sink.{GainsFront, IsSilent, SinkState}
 use Rattle.chip_words.specs.Request.{request_of}
@@ -7,7 +7,9 @@ use Rattle.chip_main.specs.declared.Done.{Done}
 use Rattle.chip_main.specs.declared.status.Status.TheVariants.{NoMemory, Usage}
 use Rattle.chip_main.specs.Status.{code_of}
 use Rattle.chip_main.specs.World.{world}
-use Rattle.chip_main.specs.Call.{GivesAsked, GivesDue, SaysStatus}
+use Rattle.chip_main.specs.Call.{GivesAsked, SaysStatus}
+use Rattle.chip_main.specs.Causes.{AsksFront}
+use Rattle.chip_main.specs.Needs.{needs_of}
 
 -- the files of the file system before anything was asked of them
 abbrev pub fresh_files : FilesState
@@ -20,7 +22,9 @@ pub record IsCall (words : List (List ℕ)) (out out' note note' : SinkState) (s
   pub status_is : status ≡ done.status
   pub says : SaysStatus (request_of words) (world fresh_files out note) (world files out' note') done
   pub gives : GivesAsked (request_of words) (world fresh_files out note) (world files out' note') done
-  pub due : GivesDue (request_of words) (world fresh_files out note) (world files out' note') done
+  pub asks : AsksFront (needs_of (request_of words)) fresh_files files
+  pub out_faults : out.faults ≤ out'.faults
+  pub note_faults : note.faults ≤ note'.faults
 
 -- nothing was done: out of memory
 pub record IsOutOfMemory (out out' note note' : SinkState) (status : ℕ) : Type 0 where

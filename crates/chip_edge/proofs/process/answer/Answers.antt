@@ -8,5 +8,7 @@ returns g c = inl (record {
   status_is = refl;
   says = rw (c.as_slice.ensures.value, c.in-Ok.ensures, c.new-files.ensures.faults, c.new-files.ensures.taken, c.new-files.ensures.asked) at c.run_words.ensures.statuses;
   gives = rw (c.as_slice.ensures.value, c.in-Ok.ensures, c.new-files.ensures.faults, c.new-files.ensures.taken, c.new-files.ensures.asked) at c.run_words.ensures.commands;
-  due = rw (c.as_slice.ensures.value, c.in-Ok.ensures, c.new-files.ensures.faults, c.new-files.ensures.taken, c.new-files.ensures.asked) at c.run_words.ensures.due;
+  asks = rw (c.as_slice.ensures.value, c.in-Ok.ensures, c.new-files.ensures.asked) at c.run_words.ensures.asked;
+  out_faults = c.run_words.ensures.out_faults;
+  note_faults = c.run_words.ensures.note_faults;
 })
