@@ -118,12 +118,52 @@ pub fn pattern_of(op: Op) -> u32
     row_named(op).pattern
 }
 
-/// The format of a row.
+/// The format of a row. It is a match and no look-up, since decoding knows the name: a compiler folds the match.
 #[inline(always)]
+#[tactic(auto, unfolding(crate::specs::Table::row_of))]
 pub fn format_of(op: Op) -> Format
     ensures { result ≡ (row_of op).format }
 {
-    row_named(op).format
+    match op {
+        Op::Add
+        | Op::Sub
+        | Op::Sll
+        | Op::Slt
+        | Op::Sltu
+        | Op::Xor
+        | Op::Srl
+        | Op::Sra
+        | Op::Or
+        | Op::And
+        | Op::Mul
+        | Op::Mulh
+        | Op::Mulhsu
+        | Op::Mulhu
+        | Op::Div
+        | Op::Divu
+        | Op::Rem
+        | Op::Remu => Format::R,
+        Op::Jalr
+        | Op::Lb
+        | Op::Lh
+        | Op::Lw
+        | Op::Lbu
+        | Op::Lhu
+        | Op::Addi
+        | Op::Slti
+        | Op::Sltiu
+        | Op::Xori
+        | Op::Ori
+        | Op::Andi
+        | Op::Fence
+        | Op::FenceI => Format::I,
+        Op::Sb | Op::Sh | Op::Sw => Format::S,
+        Op::Beq | Op::Bne | Op::Blt | Op::Bge | Op::Bltu | Op::Bgeu => Format::B,
+        Op::Lui | Op::Auipc => Format::U,
+        Op::Jal => Format::J,
+        Op::Slli | Op::Srli | Op::Srai => Format::Shift,
+        Op::Ecall | Op::Ebreak => Format::Fieldless,
+    }
 }
 
 // The row of a name.
