@@ -1,5 +1,5 @@
 // One line of a protected memory, written and read as a run does it.
-ghost use Rattle.std.specs.Prelude.{◌≡◌, ◌<◌, None, OnOk};
+ghost use Rattle.std.specs.Prelude.{◌≡◌, ◌<◌, OnOk};
 ghost use Rattle.sec_base.specs.Lines.{line_at, with_line};
 ghost use Rattle.chip_run.specs.LineMemory.{IsQuiet, contents, lines_of};
 
@@ -36,7 +36,7 @@ impl TimedLine {
 
     /// Writes the bytes.
     pub(crate) fn write(&mut self) -> Result<(), MemStop>
-        ensures { self.old.memory.stopped ≡ None → IsQuiet self.new.memory →
+        ensures { IsQuiet self.new.memory →
             OnOk result (contents self.new.memory ≡ with_line (contents self.old.memory) 0 self.old.bytes) }
     {
         self.memory.write_line(LINE, &self.bytes)
@@ -44,7 +44,7 @@ impl TimedLine {
 
     /// Reads the bytes.
     pub(crate) fn read(&mut self) -> Result<(), MemStop>
-        ensures { self.old.memory.stopped ≡ None → IsQuiet self.new.memory →
+        ensures { IsQuiet self.new.memory →
             OnOk result (self.new.bytes ≡ line_at (contents self.old.memory) 0) }
     {
         self.bytes = self.memory.read_line(LINE)?;
