@@ -1,0 +1,4 @@
+pub mod Contents
+pub mod LineLengths
+pub mod SealedLines
+pub mod SealedLinesInside

@@ -1,0 +1,2 @@
+pub mod SecureMemory
+pub mod Moving

@@ -1,0 +1,2 @@
+-- What calls make of a memory, one after another.
+use Rattle.std.proofs.Common.{◌≡◌, List, [], ◌++◌}

@@ -1,0 +1,1 @@
+// The memory over buses that tell the truth and one that does not.
