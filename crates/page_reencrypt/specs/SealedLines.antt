@@ -120,13 +120,13 @@ pub record IsBooted (old new : BusHistory) : Type 0 where
 -- a memory over this bus of which no line was written
 pub record AreNew {B T : Type 0} (history : B → BusHistory) (bus_moved : B → B → Type 0) (bus : B) (tagger : T) (key : List ℕ) (depth limit : ℕ)
     (lines : SealedLinesView B T) : Type 0 where
-  pub bus : bus_moved bus lines.bus
+  pub bus_led : bus_moved bus lines.bus
   pub booted : IsBooted (history bus) (history lines.bus)
   pub counted : AreCounted (history bus) (history lines.bus) (length (made lines))
-  pub tagger : lines.engine.tagger ≡ tagger
+  pub tagger_is : lines.engine.tagger ≡ tagger
   pub depth_is : levels lines ≡ depth
-  pub key : enc_key lines ≡ key
-  pub limit : lines.limit ≡ limit
+  pub key_is : enc_key lines ≡ key
+  pub limit_is : lines.limit ≡ limit
   pub unused : used lines ≡ []
   pub untagged : data_pairs (made lines) ≡ []
   pub quiet : IsQuiet lines
