@@ -1,7 +1,7 @@
 -- What contracts see of the lines outside, and what calls make of them.
 use Rattle.std.specs.Prelude.{◌≡◌, ◌≢◌, ◌⊎◌, ℕ, ◌+◌, ◌<◌, ◌≤◌, List, [], ◌∷◌, ◌++◌, length, Option, Some, None, Contains, IfSome, slice_index}
 use Rattle.sec_base.specs.declared.place.Place.{Place}
-use Rattle.sec_base.specs.declared.place.Place.TheVariants.{Line as line_place}
+use Rattle.sec_base.specs.declared.place.Place.TheVariants.{Line as line_place, Node}
 use Rattle.sec_base.specs.declared.counter.Counter.{Counter}
 use Rattle.sec_base.specs.declared.evidence.Evidence.{Evidence}
 use Rattle.sec_base.specs.declared.message.Message.{Message}
@@ -116,6 +116,12 @@ pub record IsBooted (old new : BusHistory) : Type 0 where
   pub reads : new.reads ≡ old.reads
   pub lines : (line : ℕ) → new.written (line_place line) ≡ old.written (line_place line)
   pub accesses : RoseBy 0 old.accesses new.accesses
+
+-- What a boot that was refused leaves of a bus: there was no access but reads of lines, and no node's place was written.
+pub record IsUnbooted (old new : BusHistory) : Type 0 where
+  pub booted : IsBooted old new
+  pub counted : AreCounted old new 0
+  pub nodes : (level index : ℕ) → new.written (Node level index) ≡ old.written (Node level index)
 
 -- a memory over this bus of which no line was written
 pub record AreNew {B T : Type 0} (history : B → BusHistory) (bus_moved : B → B → Type 0) (bus : B) (tagger : T) (key : List ℕ) (depth limit : ℕ)

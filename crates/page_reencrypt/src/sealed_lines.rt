@@ -19,7 +19,7 @@ ghost use Rattle.bus_model.specs.BusHistory.{NothingWritten};
 ghost use Rattle.tag_engine.specs.TagEngine.{tags_of};
 ghost use Rattle.pad_stream.specs.Pad.{cipher_of};
 ghost use Rattle.page_reencrypt.specs.Contents.{counter_in, next_counter};
-ghost use Rattle.page_reencrypt.specs.SealedLines.{AreNew, AreProtected, IsBooted, IsQuiet, IsSealedAnew, IsUnsealed, Moves, ReadMoved, contents, enc_key, evidence, lasting_stop, lines_of, made, tag_in, used};
+ghost use Rattle.page_reencrypt.specs.SealedLines.{AreNew, AreProtected, IsUnbooted, IsQuiet, IsSealedAnew, IsUnsealed, Moves, ReadMoved, contents, enc_key, evidence, lasting_stop, lines_of, made, tag_in, used};
 
 use crate::account::Account;
 use bus_model::Bus;
@@ -75,7 +75,7 @@ impl<B: Bus, T: Tagger> SealedLines<B, T> {
         requires nothing_written { NothingWritten (B.history bus) }
 
         ensures new { IfOk result (AreNew B.history B.moved bus tagger enc_key.now geometry page_limit) }
-        ensures refused { IfErr result (λ refusal. IsBooted (B.history bus) (B.history refusal.0) × B.moved bus refusal.0) }
+        ensures refused { IfErr result (λ refusal. IsUnbooted (B.history bus) (B.history refusal.0) × B.moved bus refusal.0) }
     {
         let Ok(tags) = TagEngine::new(alloc, tagger, geometry) else {
             return Err(NoMemoryWith(bus));

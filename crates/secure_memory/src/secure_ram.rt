@@ -13,7 +13,7 @@ ghost use Rattle.sec_base.specs.declared.stop.MemStop.TheVariants.{Tampered, Spe
 ghost use Rattle.bus_model.specs.BusHistory.{NothingWritten};
 ghost use Rattle.tag_engine.specs.TagEngine.{tags_of};
 ghost use Rattle.page_reencrypt.specs.Contents.{IsSpent, counter_in};
-ghost use Rattle.page_reencrypt.specs.SealedLines.{AreNew, AreProtected, IsBooted, IsUnsealed, tag_in};
+ghost use Rattle.page_reencrypt.specs.SealedLines.{AreNew, AreProtected, IsUnbooted, IsUnsealed, tag_in};
 ghost use Rattle.secure_memory.specs.SecureMemory.{IsMoved, IsQuiet, IsSealedOnce, contents, evidence, held_lines, lines_of, made, most_held, stopped, used};
 
 use bus_model::Bus;
@@ -55,7 +55,7 @@ impl<B: Bus, T: Tagger> SecureRam<B, T> {
         ensures new { IfOk result (λ memory.
             AreNew B.history B.moved bus tagger keys.now.enc_key geometry page_limit memory.lines) }
         ensures none_held { IfOk result (λ memory. held_lines memory ≡ []) }
-        ensures refused { IfErr result (λ refusal. IsBooted (B.history bus) (B.history refusal.0) × B.moved bus refusal.0) }
+        ensures refused { IfErr result (λ refusal. IsUnbooted (B.history bus) (B.history refusal.0) × B.moved bus refusal.0) }
     {
         match SealedLines::boot(alloc, bus, tagger, &keys.enc_key, geometry, page_limit) {
             Ok(lines) => Ok(SecureRam { lines }),
