@@ -34,6 +34,7 @@ pub record Failed {T : Type 0} (tag_of : Message → List ℕ) (line : ℕ) (cou
   pub answered : history' ≡ after_line line sealed history
   pub unchanged : engine' ≡ engine
   pub long : length sealed.cipher ≡ 64
+  pub tag_long : length sealed.tag ≡ 16
 
 -- a line was read from its place and checked, or there was no memory to read it
 abbrev pub IsCheckedRead : {T : Type 0} → (Message → List ℕ) → ℕ → Counter → BusHistory → BusHistory → TagEngineView T →

@@ -1,5 +1,6 @@
-//! The chip's side of the bus: a line that is read is checked at once, and a line that is written is tagged. Nothing
-//! else of the chip touches the bus or asks the tag engine.
+//! The chip's side of the bus. A line is read from its place and checked at once, and a line is tagged and written; what
+//! each call makes of the bus and of the tag engine is said once here, for all that stands above. No call keeps state
+//! of its own.
 #![tactic(auto)]
 
 mod line;
