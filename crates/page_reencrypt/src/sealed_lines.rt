@@ -1,7 +1,7 @@
 // The lines of the protected memory: they stand outside the chip, encrypted, each with a tag beside it and a counter
 // on the chip.
-ghost use Rattle.std.specs.Prelude.{◌≡◌, ◌≢◌, ◌↔◌, ◌<◌, ◌≤◌, ◌⊎◌, ◌∷◌, [], ℕ, None, Some, Ok, Err, IfOk, IfErr, IsOk, OnOk, OnErr, IfSome, replicate};
-ghost use Rattle.sec_base.specs.Count.{Rose, more_by};
+ghost use Rattle.std.specs.Prelude.{◌≡◌, ◌≢◌, ◌↔◌, ◌+◌, ◌<◌, ◌≤◌, ◌⊎◌, ◌∷◌, [], ℕ, None, Some, Ok, Err, IfOk, IfErr, IsOk, OnOk, OnErr, IfSome, replicate};
+ghost use Rattle.sec_base.specs.Count.{Rose};
 ghost use Rattle.sec_base.specs.Evidence.{IsEvidence};
 ghost use Rattle.sec_base.specs.Geometry.{line_count, page_of};
 ghost use Rattle.sec_base.specs.LastMessage.{IsFresh};
@@ -187,7 +187,7 @@ impl<B: Bus, T: Tagger> LineStore for SealedLines<B, T> {
             (result ≡ Err stop) × (self.new ≡ self.old) }
 
         // It is one access at most, and nothing is encrypted, tagged or written.
-        ensures once { (B.history self.new.bus).accesses ≤ more_by 1 (B.history self.old.bus).accesses }
+        ensures once { (B.history self.new.bus).accesses ≤ (B.history self.old.bus).accesses + 1 }
         ensures unsealed { IsUnsealed B.history self.old self.new }
 
         // What passed though it was never tagged is answered as it was decrypted.
@@ -239,7 +239,7 @@ impl<B: Bus, T: Tagger> LineStore for SealedLines<B, T> {
 
         // It is one access at most, and no read. The line is encrypted and tagged once, under its next counter; where
         // it is refused, that was done or nothing.
-        ensures once { ((B.history self.new.bus).accesses ≤ more_by 1 (B.history self.old.bus).accesses)
+        ensures once { ((B.history self.new.bus).accesses ≤ (B.history self.old.bus).accesses + 1)
             × ((B.history self.new.bus).reads ≡ (B.history self.old.bus).reads) }
         ensures sealed { OnOk result (IsSealedAnew line bytes.now self.old self.new) }
         ensures refused_lists { OnErr result (IsUnsealed B.history self.old self.new
