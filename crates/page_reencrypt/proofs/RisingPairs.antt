@@ -8,15 +8,13 @@ use Rattle.sec_base.specs.declared.counter.Counter.{Counter}
 use Rattle.sec_base.specs.declared.message.Message.{Message}
 use Rattle.sec_base.specs.declared.message.Message.TheVariants.{Line, Node}
 use Rattle.sec_base.specs.declared.place.Place.{Place}
-use Rattle.sec_base.specs.LastMessage.{after_item, counter_part, data_pairs, data_part, last_at, last_data, last_of, last_pair, pair_of, IsFresh}
-use Rattle.sec_base.proofs.LastMessages.{HasPart, last_pair-data_pairs, linked, no_part}
+use Rattle.sec_base.specs.LastMessage.{after_item, counter_part, data_pairs, last_at, last_data, last_of, last_pair, pair_of, IsFresh}
+use Rattle.sec_base.proofs.LastMessages.{last_pair-data_pairs, no_part}
 use Rattle.sec_base.proofs.SamePlaces.{false_from}
+use Rattle.checked_bus.proofs.LineMessages.{last_made, some_same}
 use Rattle.pad_stream.specs.Pads.{AreRising, IsBefore, of_lines}
 use Rattle.page_reencrypt.specs.Contents.{AreWithin, HoldsLast, counter_in, never_written, next_counter}
 use Rattle.checked_bus.specs.Steps.{IsCurrent}
-
-some_same : {A : Type 0} (x y : A) → Some x ≡ Some y → x ≡ y
-some_same x y same = cc
 
 -- What a list holds
 
@@ -262,45 +260,6 @@ counter_limited limit used line within = limit_by limit used line (last_pair lin
 mapped_none : (last : Option (Counter × List ℕ)) → option_map (λ found. found.0) last ≡ None → last ≡ None
 mapped_none None e = refl
 mapped_none (Some last) e = absurd (cc)
-
-abbrev some_if : Bool → Counter × List ℕ → Option (Counter × List ℕ)
-some_if same part = cond same (Some part) None
-
-data_if : (line other : ℕ) (counter later : Counter) (cipher bytes : List ℕ) (same : Bool) → nat_eq other line ≡ same →
-    some_if same (later, bytes) ≡ Some (counter, cipher) → Line other later bytes ≡ Line line counter cipher
-data_if line other counter later cipher bytes false is e = absurd (cc)
-data_if line other counter later cipher bytes true is e =
-    let mine : Counter × List ℕ = (counter, cipher) in
-    let theirs : Counter × List ℕ = (later, bytes) in
-    let parts : theirs ≡ mine = some_same theirs mine e in
-    let lines : other ≡ line = (Decides-eqb other line).0 is in
-    ap (λ (n : ℕ). Line n later bytes) lines ∙ ap (λ (p : Counter × List ℕ). Line line p.0 p.1) parts
-
-part_message : (line : ℕ) (counter : Counter) (cipher : List ℕ) (message : Message) → data_part line message ≡ Some (counter, cipher) →
-    message ≡ Line line counter cipher
-part_message line counter cipher (Line other later bytes) e = data_if line other counter later cipher bytes (nat_eq other line) refl e
-part_message line counter cipher (Node level index block) e = absurd (cc)
-
-get_listed : {A : Type 0} (items : List A) (at : ℕ) (item : A) → slice_get items at ≡ Some item → Contains items item
-get_listed [] at item there = absurd (cc)
-get_listed (x ∷ items) zero item there = (zero, omega arith, cc)
-get_listed (x ∷ items) (suc at) item there = Contains-skip x items item (get_listed items at item there)
-
-last_among_made : (made : List Message) (line : ℕ) (counter : Counter) (cipher : List ℕ) (last : Option (ℕ × (Counter × List ℕ))) →
-    last_at (data_part line) made ≡ last → option_map (λ found. found.1) last ≡ Some (counter, cipher) → Contains made (Line line counter cipher)
-last_among_made made line counter cipher None is e = absurd (cc)
-last_among_made made line counter cipher (Some found) is e =
-    let there : HasPart (data_part line) made found.0 found.1 = linked (data_part line) made found.0 found.1 is in
-    let is_part : Counter × List ℕ = (counter, cipher) in
-    let part : found.1 ≡ is_part = some_same found.1 is_part e in
-    let message : there.item ≡ Line line counter cipher =
-    part_message line counter cipher there.item (there.part_is ∙ ap (λ (p : Counter × List ℕ). Some p) part) in
-    subst (λ (m : Message). Contains made m) message (get_listed made found.0 there.item there.there)
-
--- the last message of a line is one of those made
-pub last_made : (made : List Message) (line : ℕ) (counter : Counter) (cipher : List ℕ) →
-    last_data line made ≡ Some (counter, cipher) → Contains made (Line line counter cipher)
-last_made made line counter cipher e = last_among_made made line counter cipher (last_at (data_part line) made) refl e
 
 -- Under a line's counter one message was tagged, and it is the line's last.
 pub record HasLast (made : List Message) (line : ℕ) (counter : Counter) : Type 0 where
