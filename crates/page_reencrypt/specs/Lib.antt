@@ -2,3 +2,4 @@ pub mod Contents
 pub mod LineLengths
 pub mod SealedLines
 pub mod SealedLinesInside
+pub mod NextWrites

@@ -1,6 +1,6 @@
 // The lines of the protected memory: they stand outside the chip, encrypted, each with a tag beside it and a counter
 // on the chip.
-ghost use Rattle.std.specs.Prelude.{◌≡◌, ◌≢◌, ◌↔◌, ◌+◌, ◌<◌, ◌≤◌, ◌⊎◌, ◌∷◌, [], ℕ, None, Some, Ok, Err, IfOk, IfErr, IsOk, OnOk, OnErr, IfSome, replicate};
+ghost use Rattle.std.specs.Prelude.{◌≡◌, ◌≢◌, ◌↔◌, ◌+◌, ◌<◌, ◌≤◌, ◌⊎◌, ◌∷◌, [], ℕ, List, None, Some, Ok, Err, IfOk, IfErr, IsOk, OnOk, OnErr, IfSome, replicate};
 ghost use Rattle.sec_base.specs.Count.{Rose};
 ghost use Rattle.sec_base.specs.Evidence.{IsEvidence};
 ghost use Rattle.sec_base.specs.Geometry.{line_count, page_of};
@@ -18,6 +18,8 @@ ghost use Rattle.sec_base.specs.declared.stop.MemStop.TheVariants.{Tampered, Spe
 ghost use Rattle.bus_model.specs.BusHistory.{NothingWritten};
 ghost use Rattle.tag_engine.specs.TagEngine.{tags_of};
 ghost use Rattle.pad_stream.specs.Pad.{cipher_of};
+ghost use Rattle.checked_bus.specs.Steps.{IsAccounted, Moves as StepMoves};
+ghost use Rattle.page_reencrypt.specs.NextWrites.{IsNextWrite};
 ghost use Rattle.page_reencrypt.specs.Contents.{counter_in, next_counter};
 ghost use Rattle.page_reencrypt.specs.SealedLines.{AreNew, AreProtected, IsUnbooted, IsQuiet, IsSealedAnew, IsUnsealed, Moves, ReadMoved, contents, enc_key, evidence, lasting_stop, lines_of, made, tag_in, used};
 
@@ -305,6 +307,16 @@ fn write_next<B: Bus, T: Tagger>(
     requires place { IsPlace (B.history bus.old).levels (line_place line) }
     requires line { line < line_count tags.old.levels }
 
+    ensures written { IsNextWrite (tags_of T.data_tag_of T.node_tag_of tags.old) limit line bytes.now
+        (record { history = B.history bus.old; engine = tags.old; pads = pads.old; writes = writes.old })
+        (record { history = B.history bus.new; engine = tags.new; pads = pads.new; writes = writes.new }) result }
+
+    ensures moves { StepMoves (B.history bus.old) tags.old (B.history bus.new) tags.new }
+
+    // No answer was false.
+    ensures honest { (used more : List (ℕ × Counter)) →
+        IsAccounted (tags_of T.data_tag_of T.node_tag_of tags.old) used tags.old.made (B.history bus.old) None tags.old.evidence →
+        IsAccounted (tags_of T.data_tag_of T.node_tag_of tags.old) more tags.new.made (B.history bus.new) None tags.new.evidence }
     ensures moved { B.moved bus.old bus.new }
 {
     if *writes >= limit {
