@@ -24,7 +24,7 @@ use Rattle.rv32_core.specs.Outcome.{prints_of}
 use Rattle.rv32_core.specs.Turnover.{turnover}
 use Rattle.rv32_run.specs.Session.{IsMemoryEnding, IsStop}
 use Rattle.checked_bus.specs.Accesses.{AreCounted}
-use Rattle.page_reencrypt.specs.Contents.{AreWithin, HoldsLast, HoldsSealed, IsSpent, NodesAreZeros, line_bytes}
+use Rattle.page_reencrypt.specs.Contents.{AreUnskipped, AreWithin, HoldsLast, HoldsSealed, IsSpent, NodesAreZeros, line_bytes}
 use Rattle.secure_memory.specs.SecureMemory.{most_held}
 use Rattle.chip_run.specs.declared.record.RunRecord.{RunRecord}
 
@@ -55,7 +55,8 @@ unwritten_at (Spent page) = 0
 unwritten_at WriteFault = 0
 unwritten_at NoMemory = 1
 
--- Each access was a read of a line or wrote a message of its own, and each message but one at most was written.
+-- There were as many accesses as reads of lines and messages, but for one message where the run ended out of memory; as
+-- far as counts that stand still at their ends can tell.
 pub record WritesItsMessages (before after : BusHistory) (made : List Message) (ending : Ending) : Type 0 where
   pub writes : ℕ
   pub counted : AreCounted before after writes
@@ -72,18 +73,23 @@ pub record HoldsAlways (terms : Terms) (out out' : SinkState) (before after : Bu
   -- a write fault is one of the sink
   pub write_fault : run.ending ≡ WriteFault → Rose out.faults out'.faults
   pub faults : out.faults ≤ out'.faults
-  -- no two entries of `used` are equal: each line's counters rise, begin behind that of a line that was never written,
-  -- and keep to the limit; a page is spent only where one of its lines has the last counter that the limit allows
+  -- no two entries of `used` are equal: each is of a line of the memory, and each line's counters rise, begin behind that
+  -- of a line that was never written, skip no page counter, and keep to the limit; a page is spent only where one of its
+  -- lines has the last counter that the limit allows
   pub no_repeat : NoRepeat run.used
   pub rising : AreRising run.used
+  pub inside : (line : ℕ) (counter : Counter) → Contains run.used (line, counter) → line < line_count terms.levels
   pub counters : AreWithin terms.page_limit run.used
+  pub unskipped : AreUnskipped run.used
   pub spent : (page : ℕ) → run.ending ≡ Spent page → IsSpent (line_count terms.levels) terms.page_limit run.used page
   -- each line of the memory was tagged under the counters that it was encrypted under, in the same order
   pub paired : data_pairs run.made ≡ of_lines (line_count terms.levels) run.used
-  -- each line's place that isn't zeros holds what was encrypted and tagged for it, and a node's place holds zeros
+  -- each line's place that isn't zeros holds what was encrypted and tagged for it, and the last that was, unless the run
+  -- ended out of memory; a node's place holds zeros
   pub sealed : HoldsSealed terms.tag_of (line_count terms.levels) run.made run.used after.written
+  pub holds_last : run.ending ≢ NoMemory → HoldsLast terms.tag_of (line_count terms.levels) run.made after.written
   pub nodes : NodesAreZeros terms.levels after.written
-  -- the bus was asked for no more, and told no less, than the lists say
+  -- the accesses are told by the lists and by the counts of reads, no count of reads fell, and the bus fits the memory
   pub accesses : WritesItsMessages before after run.made run.ending
   pub reads : (place : Place) → RoseBy 0 (before.reads place) (after.reads place)
   pub levels_are : after.levels ≡ terms.levels
@@ -101,9 +107,7 @@ pub record HoldsWithoutEvidence (terms : Terms) (printed : List ℕ) (before aft
   -- no answer of the bus was false, and the run did not end as tampering; or one was, fails its check, was the last
   -- access, and the run ended as tampering of its place
   pub answers : HonestOrCaught terms.tag_of run.used run.made after (λ place. run.ending ≡ Tampered place)
-  -- each line that was written has its last message at its place, unless the run ended out of memory; and where the
-  -- memory did not end it, the messages are the plain machine's memory
-  pub holds_last : run.ending ≢ NoMemory → HoldsLast terms.tag_of (line_count terms.levels) run.made after.written
+  -- where the memory did not end it, the last messages are the plain machine's memory
   pub written_out : ¬ IsMemoryEnding run.ending →
       IsWrittenOut terms.enc_key (line_count terms.levels) run.made (plain terms.start run.retired).state.memory
   -- the budget ends it exactly where it is used up by a program that goes on

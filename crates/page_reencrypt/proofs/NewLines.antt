@@ -71,13 +71,15 @@ new_current lines counters key pads zeros unused =
 pub new_protected : {T : Type 0} (d n : T → List ℕ → List ℕ) (history : BusHistory) (tagger : T) (key : List ℕ) (levels limit : ℕ)
     (engine : TagEngineView T) (pads : PadEngineView) → engine ≡ new_engine tagger levels → pads ≡ new_pads key →
     history.levels ≡ levels → NothingWritten history →
-    IsProtected (tags_of d n engine) engine.levels limit history engine.made engine.evidence pads.used None
+    IsProtected (tags_of d n engine) engine.levels limit history engine.made pads.used None
 unfolding last_at data_pairs
 new_protected {T} d n history tagger key levels limit engine pads untagged unused same empty =
-    subst (λ (e : TagEngineView T). IsProtected (tags_of d n e) e.levels limit history e.made e.evidence pads.used None) (sym untagged)
-    (subst (λ (p : PadEngineView). IsProtected (tags_of d n (new_engine tagger levels)) levels limit history [] None p.used None) (sym unused)
+    subst (λ (e : TagEngineView T). IsProtected (tags_of d n e) e.levels limit history e.made pads.used None) (sym untagged)
+    (subst (λ (p : PadEngineView). IsProtected (tags_of d n (new_engine tagger levels)) levels limit history [] p.used None) (sym unused)
     (record {
       bus_levels = same;
+      inside = λ line counter has. absurd (omega (arith, has.1));
+      unskipped = record { reached = λ line counter has. absurd (omega (arith, has.1)) };
       rising = record { rise = λ first second line counter later before at after. absurd (cc) };
       within = record { started = λ line counter has. absurd (omega (arith, has.1)); limited = λ line counter has. absurd (omega (arith, has.1)) };
       paired = refl;
@@ -85,6 +87,6 @@ new_protected {T} d n history tagger key levels limit engine pads untagged unuse
       sealed = record { holds = λ line inside. inl (empty.zeros (line_place line) (subst (λ (l : ℕ). line < line_count l) (sym same) inside)) };
       nodes = record { zeros = λ level index inside. empty.zeros (Node level index) (subst (λ (l : ℕ). IsPlace l (Node level index)) (sym same) inside) };
       no_nodes = λ level index. refl;
-      holds_last = λ quiet written. record { holds = λ line counter cipher inside last. absurd (cc) };
+      holds_last = λ written. record { holds = λ line counter cipher inside last. absurd (cc) };
       spent = λ page is. absurd (cc);
     }))

@@ -3,7 +3,8 @@ use Rattle.std.proofs.Common.{◌≡◌, ◌≢◌, ◌⊎◌, inl, inr, ℕ, �
 use Rattle.std.proofs.lemmas.Bool.{cases_eq, lt-ltb}
 use Rattle.std.proofs.lemmas.Bool.Decides.{Decides-eqb}
 use Rattle.std.proofs.lemmas.Grind.{get_or-set_at}
-use Rattle.std.proofs.lemmas.List.{length-set, length-replicate, get_or-replicate}
+use Rattle.std.specs.List.{filter}
+use Rattle.std.proofs.lemmas.List.{length-append, length-set, length-replicate, get_or-replicate}
 use Rattle.std.proofs.lemmas.List.Elements.{Contains-append_left, Contains-push, Contains-push_cases, filter-append}
 use Rattle.sec_base.specs.declared.counter.Counter.{Counter}
 use Rattle.sec_base.specs.declared.evidence.Evidence.{Evidence}
@@ -24,11 +25,11 @@ use Rattle.tag_engine.specs.Tag.{engine_tag}
 use Rattle.checked_bus.proofs.LineMessages.{last_data-same, last_data-other, some_same}
 use Rattle.pad_stream.specs.Pads.{AreRising, of_lines}
 use Rattle.pad_stream.proofs.RisingCounters.{rising_more, rising_nothing}
-use Rattle.page_reencrypt.specs.Contents.{AreWithin, HoldsLast, HoldsSealed, IsSealed, IsSpent, NodesAreZeros, counter_in, never_written, next_counter}
+use Rattle.page_reencrypt.specs.Contents.{AreUnskipped, AreWithin, HoldsLast, HoldsSealed, IsSealed, IsSpent, NodesAreZeros, counter_in, entries_of, never_written, next_counter}
 use Rattle.checked_bus.specs.SealedLine.{sealed_line}
 use Rattle.checked_bus.specs.Steps.{Moves}
 use Rattle.page_reencrypt.specs.SealedLines.{AreCurrent, AreProtected, IsProtected, SealedLinesView}
-use Rattle.page_reencrypt.proofs.RisingPairs.{before_next}
+use Rattle.page_reencrypt.proofs.RisingPairs.{before_next, counter_reached}
 
 -- the tags of an engine with the same tagger and the same levels
 pub same_tags : {T : Type 0} (d n : T → List ℕ → List ℕ) (engine engine' : TagEngineView T) → engine'.tagger ≡ engine.tagger → engine'.levels ≡ engine.levels →
@@ -44,15 +45,17 @@ quiet_before (Some evidence) new stays none = let is : new ≡ Some evidence = s
 
 -- Where nothing was made or written
 
-module _ (tag_of : Message → List ℕ) (levels limit : ℕ) (history : BusHistory) (made : List Message) (evidence : Option Evidence) (used : List (ℕ × Counter))
-    (stopped : Option MemStop) (kept : IsProtected tag_of levels limit history made evidence used stopped) where
-  same_protected : (history' : BusHistory) (evidence' : Option Evidence) (stopped' : Option MemStop) →
-      history'.levels ≡ history.levels → history'.written ≡ history.written → (evidence' ≡ None → evidence ≡ None) →
+module _ (tag_of : Message → List ℕ) (levels limit : ℕ) (history : BusHistory) (made : List Message) (used : List (ℕ × Counter))
+    (stopped : Option MemStop) (kept : IsProtected tag_of levels limit history made used stopped) where
+  same_protected : (history' : BusHistory) (stopped' : Option MemStop) →
+      history'.levels ≡ history.levels → history'.written ≡ history.written →
       (stopped' ≢ Some NoMemory → stopped ≢ Some NoMemory) →
       ((page : ℕ) → stopped' ≡ Some (Spent page) → IsSpent (line_count levels) limit used page) →
-      IsProtected tag_of levels limit history' made evidence' used stopped'
-  same_protected history' evidence' stopped' same written quiet goes spent = record {
+      IsProtected tag_of levels limit history' made used stopped'
+  same_protected history' stopped' same written goes spent = record {
     bus_levels = same ∙ kept.bus_levels;
+    inside = kept.inside;
+    unskipped = kept.unskipped;
     rising = kept.rising;
     within = kept.within;
     paired = kept.paired;
@@ -60,7 +63,7 @@ module _ (tag_of : Message → List ℕ) (levels limit : ℕ) (history : BusHist
     sealed = subst (HoldsSealed tag_of (line_count levels) made used) (sym written) kept.sealed;
     nodes = subst (NodesAreZeros levels) (sym written) kept.nodes;
     no_nodes = kept.no_nodes;
-    holds_last = λ none goes_on. subst (HoldsLast tag_of (line_count levels) made) (sym written) (kept.holds_last (quiet none) (goes goes_on));
+    holds_last = λ goes_on. subst (HoldsLast tag_of (line_count levels) made) (sym written) (kept.holds_last (goes goes_on));
     spent = spent;
   }
 
@@ -70,18 +73,17 @@ pub same_kept : {B T : Type 0} (d n : T → List ℕ → List ℕ) (history : B 
     (history new.bus).levels ≡ (history old.bus).levels → (history new.bus).written ≡ (history old.bus).written →
     new.engine.tagger ≡ old.engine.tagger → new.engine.levels ≡ old.engine.levels → new.engine.made ≡ old.engine.made →
     new.pads.used ≡ old.pads.used → new.limit ≡ old.limit →
-    (new.engine.evidence ≡ None → old.engine.evidence ≡ None) →
     (new.stopped ≢ Some NoMemory → old.stopped ≢ Some NoMemory) →
     ((page : ℕ) → new.stopped ≡ Some (Spent page) → IsSpent (line_count old.engine.levels) old.limit old.pads.used page) →
     AreProtected d n history new
-same_kept d n history old new kept bus_levels written tagger levels made used limit quiet goes spent =
-    let is = same_protected (tags_of d n old.engine) old.engine.levels old.limit (history old.bus) old.engine.made old.engine.evidence old.pads.used old.stopped kept
-    (history new.bus) new.engine.evidence new.stopped bus_levels written quiet goes spent in
-    subst (λ (t : Message → List ℕ). IsProtected t new.engine.levels new.limit (history new.bus) new.engine.made new.engine.evidence new.pads.used new.stopped) (sym (same_tags d n old.engine new.engine tagger levels))
-    (subst (λ (l : ℕ). IsProtected (tags_of d n old.engine) l new.limit (history new.bus) new.engine.made new.engine.evidence new.pads.used new.stopped) (sym levels)
-    (subst (λ (l : ℕ). IsProtected (tags_of d n old.engine) old.engine.levels l (history new.bus) new.engine.made new.engine.evidence new.pads.used new.stopped) (sym limit)
-    (subst (λ (m : List Message). IsProtected (tags_of d n old.engine) old.engine.levels old.limit (history new.bus) m new.engine.evidence new.pads.used new.stopped) (sym made)
-    (subst (λ (u : List (ℕ × Counter)). IsProtected (tags_of d n old.engine) old.engine.levels old.limit (history new.bus) old.engine.made new.engine.evidence u new.stopped) (sym used) is))))
+same_kept d n history old new kept bus_levels written tagger levels made used limit goes spent =
+    let is = same_protected (tags_of d n old.engine) old.engine.levels old.limit (history old.bus) old.engine.made old.pads.used old.stopped kept
+    (history new.bus) new.stopped bus_levels written goes spent in
+    subst (λ (t : Message → List ℕ). IsProtected t new.engine.levels new.limit (history new.bus) new.engine.made new.pads.used new.stopped) (sym (same_tags d n old.engine new.engine tagger levels))
+    (subst (λ (l : ℕ). IsProtected (tags_of d n old.engine) l new.limit (history new.bus) new.engine.made new.pads.used new.stopped) (sym levels)
+    (subst (λ (l : ℕ). IsProtected (tags_of d n old.engine) old.engine.levels l (history new.bus) new.engine.made new.pads.used new.stopped) (sym limit)
+    (subst (λ (m : List Message). IsProtected (tags_of d n old.engine) old.engine.levels old.limit (history new.bus) m new.pads.used new.stopped) (sym made)
+    (subst (λ (u : List (ℕ × Counter)). IsProtected (tags_of d n old.engine) old.engine.levels old.limit (history new.bus) old.engine.made u new.stopped) (sym used) is))))
 
 -- what they keep over a read that was checked
 pub read_protected : {B T : Type 0} (d n : T → List ℕ → List ℕ) (history : B → BusHistory) (old new : SealedLinesView B T) → AreProtected d n history old →
@@ -92,7 +94,7 @@ pub read_protected : {B T : Type 0} (d n : T → List ℕ → List ℕ) (history
     AreProtected d n history new
 read_protected d n history old new kept moves made written used limit goes spent =
     same_kept d n history old new kept moves.bus_levels written moves.tagger moves.levels made used limit
-    (quiet_before old.engine.evidence new.engine.evidence moves.evidence) goes (λ page is. kept.spent page (spent page is))
+    goes (λ page is. kept.spent page (spent page is))
 
 -- One entry more
 
@@ -112,6 +114,46 @@ counter_in-same used line counter = ap (λ (last : Option Counter). unwrap_or la
 
 pub counter_in-other : (used : List (ℕ × Counter)) (line other : ℕ) (counter : Counter) → other ≢ line → counter_in (used ++ (line, counter) ∷ []) other ≡ counter_in used other
 counter_in-other used line other counter differs = ap (λ (last : Option Counter). unwrap_or last never_written) (last_pair-other used line other counter differs)
+
+-- how many entries name a line, when there is one more
+
+entries_step : (used : List (ℕ × Counter)) (line other : ℕ) (counter : Counter) (b : Bool) → nat_eq line other ≡ b →
+    entries_of (used ++ (line, counter) ∷ []) other ≡ entries_of used other + cond b 1 0
+entries_step used line other counter true same =
+    let names : ℕ × Counter → Bool = λ entry. nat_eq entry.0 other in
+    let entry : ℕ × Counter = (line, counter) in
+    ap (λ (xs : List (ℕ × Counter)). length xs) (filter-append names used (entry ∷ []))
+    ∙ length-append (filter names used) (filter names (entry ∷ []))
+    ∙ ap (λ (b : Bool). length (filter names used) + length (cond b (entry ∷ []) [])) same
+entries_step used line other counter false differs =
+    let names : ℕ × Counter → Bool = λ entry. nat_eq entry.0 other in
+    let entry : ℕ × Counter = (line, counter) in
+    ap (λ (xs : List (ℕ × Counter)). length xs) (filter-append names used (entry ∷ []))
+    ∙ length-append (filter names used) (filter names (entry ∷ []))
+    ∙ ap (λ (b : Bool). length (filter names used) + length (cond b (entry ∷ []) [])) differs
+
+entries_more : (used : List (ℕ × Counter)) (line other : ℕ) (counter : Counter) → entries_of used other ≤ entries_of (used ++ (line, counter) ∷ []) other
+entries_more used line other counter =
+    let step = entries_step used line other counter (nat_eq line other) refl in omega (arith, step)
+
+entries_here : (used : List (ℕ × Counter)) (line : ℕ) (counter : Counter) → entries_of (used ++ (line, counter) ∷ []) line ≡ entries_of used line + 1
+entries_here used line counter = entries_step used line line counter true ((Decides-eqb line line).1 refl)
+
+unskipped_more : (used : List (ℕ × Counter)) (line : ℕ) → AreUnskipped used → AreUnskipped (used ++ (line, next_counter (counter_in used line)) ∷ [])
+unskipped_more used line was =
+    let counter : Counter = next_counter (counter_in used line) in
+    record {
+      reached = λ other found listed.
+          elim (Contains-push_cases used (line, counter) (other, found) listed) [
+            | inl early ↦ let most = was.reached other found early in let more = entries_more used line other counter in omega (arith, most, more)
+            | inr last ↦
+                let same : line ≡ other = ap (λ (e : ℕ × Counter). e.0) last in
+                let next : counter.page ≡ found.page = ap (λ (e : ℕ × Counter). e.1.page) last in
+                let most = counter_reached used line was in
+                let here = entries_here used line counter in
+                subst (λ (l : ℕ). found.page ≤ entries_of (used ++ (line, counter) ∷ []) l) same (omega (arith, next, most, here))
+          ];
+    }
 
 pairs-append : (front more : List Message) → data_pairs (front ++ more) ≡ data_pairs front ++ data_pairs more
 unfolding data_pairs
@@ -154,8 +196,8 @@ holds_more tag_of lines made more used more_used written was = record {
 
 -- A line was encrypted and tagged under its next counter
 
-module _ (tag_of : Message → List ℕ) (levels limit : ℕ) (history : BusHistory) (made : List Message) (evidence : Option Evidence) (used : List (ℕ × Counter))
-    (stopped : Option MemStop) (line : ℕ) (cipher : List ℕ) (kept : IsProtected tag_of levels limit history made evidence used stopped)
+module _ (tag_of : Message → List ℕ) (levels limit : ℕ) (history : BusHistory) (made : List Message) (used : List (ℕ × Counter))
+    (stopped : Option MemStop) (line : ℕ) (cipher : List ℕ) (kept : IsProtected tag_of levels limit history made used stopped)
     (inside : line < line_count levels) (below : (counter_in used line).page < limit) (long : length cipher ≡ 64) where
   abbrev counter : Counter
   counter = next_counter (counter_in used line)
@@ -165,6 +207,13 @@ module _ (tag_of : Message → List ℕ) (levels limit : ℕ) (history : BusHist
 
   abbrev used_now : List (ℕ × Counter)
   used_now = used ++ (line, next_counter (counter_in used line)) ∷ []
+
+  now_inside : (other : ℕ) (found : Counter) → Contains used_now (other, found) → other < line_count levels
+  now_inside other found listed =
+      elim (Contains-push_cases used (line, counter) (other, found) listed) [
+        | inl early ↦ kept.inside other found early
+        | inr last ↦ let same : line ≡ other = ap (λ (e : ℕ × Counter). e.0) last in subst (λ (l : ℕ). l < line_count levels) same inside
+      ]
 
   now_within : AreWithin limit used_now
   now_within = record {
@@ -260,13 +309,15 @@ module _ (tag_of : Message → List ℕ) (levels limit : ℕ) (history : BusHist
 
   next_protected : (history' : BusHistory) (stopped' : Option MemStop) → history'.levels ≡ history.levels →
       HoldsSealed tag_of (line_count levels) made_now used_now history'.written → NodesAreZeros levels history'.written →
-      (evidence ≡ None → stopped' ≢ Some NoMemory → HoldsLast tag_of (line_count levels) made_now history'.written) →
+      (stopped' ≢ Some NoMemory → HoldsLast tag_of (line_count levels) made_now history'.written) →
       ((page : ℕ) → stopped' ≡ Some (Spent page) → stopped ≡ Some (Spent page)) →
-      IsProtected tag_of levels limit history' made_now evidence used_now stopped'
+      IsProtected tag_of levels limit history' made_now used_now stopped'
   next_protected history' stopped' same sealed nodes stored spent = record {
     bus_levels = same ∙ kept.bus_levels;
     rising = rising_more used line counter kept.rising (λ before listed. before_next used line before kept.rising listed);
+    inside = now_inside;
     within = now_within;
+    unskipped = unskipped_more used line kept.unskipped;
     paired = paired_more (line_count levels) made used line counter cipher kept.paired inside;
     long = λ other found bytes listed.
         elim (Contains-push_cases made (Line line counter cipher) (Line other found bytes) listed) [
@@ -282,22 +333,22 @@ module _ (tag_of : Message → List ℕ) (levels limit : ℕ) (history : BusHist
 
   -- it was written with its tag
   pub written_protected : (history' : BusHistory) → history'.levels ≡ history.levels → history'.written ≡ at_place (line_place line) line_now history.written →
-      stopped ≢ Some NoMemory → IsProtected tag_of levels limit history' made_now evidence used_now stopped
+      stopped ≢ Some NoMemory → IsProtected tag_of levels limit history' made_now used_now stopped
   written_protected history' same wrote goes =
       next_protected history' stopped same
       (subst (HoldsSealed tag_of (line_count levels) made_now used_now) (sym wrote) sealed_after)
       (subst (NodesAreZeros levels) (sym wrote) nodes_after)
-      (λ quiet goes_on. subst (HoldsLast tag_of (line_count levels) made_now) (sym wrote) (stored_after (kept.holds_last quiet goes)))
+      (λ goes_on. subst (HoldsLast tag_of (line_count levels) made_now) (sym wrote) (stored_after (kept.holds_last goes)))
       (λ page is. is)
 
   -- there was no memory to write it
   pub unwritten_protected : (history' : BusHistory) → history'.levels ≡ history.levels → history'.written ≡ history.written →
-      IsProtected tag_of levels limit history' made_now evidence used_now (Some NoMemory)
+      IsProtected tag_of levels limit history' made_now used_now (Some NoMemory)
   unwritten_protected history' same unwritten =
       next_protected history' (Some NoMemory) same
       (subst (HoldsSealed tag_of (line_count levels) made_now used_now) (sym unwritten) sealed_before)
       (subst (NodesAreZeros levels) (sym unwritten) kept.nodes)
-      (λ quiet goes_on. absurd (goes_on refl))
+      (λ goes_on. absurd (goes_on refl))
       (λ page is. absurd (cc))
 
 -- The numbers of writes on the chip
@@ -336,10 +387,12 @@ current_new lines = record {
 -- A memory that was never written
 
 pub new_protected : (tag_of : Message → List ℕ) (levels limit : ℕ) (history : BusHistory) → history.levels ≡ levels → NothingWritten history →
-    IsProtected tag_of levels limit history [] None [] None
+    IsProtected tag_of levels limit history [] [] None
 unfolding last_at data_pairs
 new_protected tag_of levels limit history same empty = record {
   bus_levels = same;
+  inside = λ line counter listed. absurd (omega (arith, listed.1));
+  unskipped = record { reached = λ line counter listed. absurd (omega (arith, listed.1)) };
   rising = rising_nothing;
   within = record {
     started = λ line counter listed. absurd (omega (arith, listed.1));
@@ -350,6 +403,6 @@ new_protected tag_of levels limit history same empty = record {
   sealed = record { holds = λ line inside. inl (empty.zeros (line_place line) (subst (λ (l : ℕ). line < line_count l) (sym same) inside)) };
   nodes = record { zeros = λ level index inside. empty.zeros (Node level index) (subst (λ (l : ℕ). IsPlace l (Node level index)) (sym same) inside) };
   no_nodes = λ level index. refl;
-  holds_last = λ quiet goes_on. record { holds = λ line counter cipher inside last. absurd (cc) };
+  holds_last = λ goes_on. record { holds = λ line counter cipher inside last. absurd (cc) };
   spent = λ page is. absurd (cc);
 }

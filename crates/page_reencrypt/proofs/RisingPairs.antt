@@ -13,7 +13,7 @@ use Rattle.sec_base.proofs.LastMessages.{last_pair-data_pairs, no_part}
 use Rattle.sec_base.proofs.SamePlaces.{false_from}
 use Rattle.checked_bus.proofs.LineMessages.{last_made, some_same}
 use Rattle.pad_stream.specs.Pads.{AreRising, IsBefore, of_lines}
-use Rattle.page_reencrypt.specs.Contents.{AreWithin, HoldsLast, counter_in, never_written, next_counter}
+use Rattle.page_reencrypt.specs.Contents.{AreUnskipped, AreWithin, HoldsLast, counter_in, entries_of, never_written, next_counter}
 use Rattle.checked_bus.specs.Steps.{IsCurrent}
 
 -- What a list holds
@@ -254,6 +254,15 @@ limit_by limit used line (Some last) within is = within.limited line last (last_
 -- no line's counter is past the limit
 pub counter_limited : (limit : ℕ) (used : List (ℕ × Counter)) (line : ℕ) → AreWithin limit used → (counter_in used line).page ≤ limit
 counter_limited limit used line within = limit_by limit used line (last_pair line used) within refl
+
+reached_by : (used : List (ℕ × Counter)) (line : ℕ) (last : Option Counter) → AreUnskipped used → last_pair line used ≡ last →
+    (unwrap_or last never_written).page ≤ entries_of used line
+reached_by used line None was is = omega arith
+reached_by used line (Some last) was is = was.reached line last (last_listed line used last is)
+
+-- a line was encrypted as often as its page counter says, at least
+pub counter_reached : (used : List (ℕ × Counter)) (line : ℕ) → AreUnskipped used → (counter_in used line).page ≤ entries_of used line
+counter_reached used line was = reached_by used line (last_pair line used) was refl
 
 -- A line's last message
 

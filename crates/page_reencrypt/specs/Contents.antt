@@ -1,5 +1,6 @@
 -- What a memory of lines holds, by the messages that were tagged and the key that lines are encrypted under.
-use Rattle.std.specs.Prelude.{◌≡◌, ◌≢◌, ◌⊎◌, ℕ, ◌+◌, ◌<◌, ◌≤◌, List, replicate, Option, Some, None, Contains, unwrap_or}
+use Rattle.std.specs.Prelude.{◌==◌, ◌≡◌, ◌≢◌, ◌⊎◌, ℕ, ◌+◌, ◌<◌, ◌≤◌, List, length, replicate, Option, Some, None, Contains, unwrap_or}
+use Rattle.std.specs.List.{filter}
 use Rattle.sec_base.specs.declared.place.Place.{Place}
 use Rattle.sec_base.specs.declared.place.Place.TheVariants.{Line as line_place, Node}
 use Rattle.sec_base.specs.declared.counter.Counter.{Counter}
@@ -36,6 +37,18 @@ counter_in used line = unwrap_or (last_pair line used) never_written
 abbrev pub next_counter : Counter → Counter
 next_counter counter = record { page = counter.page + 1; line = 0 }
 
+-- the last counter that a limit of page counters allows
+abbrev pub last_counter : ℕ → Counter
+last_counter limit = record { page = limit; line = 0 }
+
+-- how many entries name the line
+abbrev pub entries_of : List (ℕ × Counter) → ℕ → ℕ
+entries_of used line = length (filter (λ entry. entry.0 == line) used)
+
+-- No page counter was skipped: a line that was encrypted under (M, m) was encrypted M times at least.
+pub record AreUnskipped (used : List (ℕ × Counter)) : Type 0 where
+  pub reached : (line : ℕ) (counter : Counter) → Contains used (line, counter) → counter.page ≤ entries_of used line
+
 -- No line was encrypted under the counter of one that was never written, or under one past the limit.
 pub record AreWithin (limit : ℕ) (used : List (ℕ × Counter)) : Type 0 where
   pub started : (line : ℕ) (counter : Counter) → Contains used (line, counter) → counter ≢ never_written
@@ -46,7 +59,7 @@ pub record IsSpent (lines limit : ℕ) (used : List (ℕ × Counter)) (page : �
   pub line : ℕ
   pub inside : line < lines
   pub of_page : page_of line ≡ page
-  pub used_up : counter_in used line ≡ record { page = limit; line = 0 }
+  pub used_up : counter_in used line ≡ last_counter limit
 
 -- a line's place holds a message that was tagged, under a counter that was used for it, with its tag
 pub record IsSealed (tag_of : Message → List ℕ) (made : List Message) (used : List (ℕ × Counter)) (line : ℕ) (bytes : List ℕ) : Type 0 where

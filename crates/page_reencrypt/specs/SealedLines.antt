@@ -18,7 +18,7 @@ use Rattle.pad_stream.specs.Pads.{AreRising, of_lines}
 use Rattle.pad_stream.specs.PadEngine.{PadEngineView}
 use Rattle.checked_bus.specs.Accesses.{AreCounted}
 use Rattle.checked_bus.specs.Steps.{IsAccounted, Moves as StepMoves}
-use Rattle.page_reencrypt.specs.Contents.{AreWithin, HoldsLast, HoldsSealed, IsSpent, NodesAreZeros, contents_of, counter_in, next_counter}
+use Rattle.page_reencrypt.specs.Contents.{AreUnskipped, AreWithin, HoldsLast, HoldsSealed, IsSpent, NodesAreZeros, contents_of, counter_in, next_counter}
 
 -- the bus, the tag engine, the pads, how often each line was written, how high a page counter may rise, and the stop
 -- that was answered, if one was
@@ -79,24 +79,26 @@ unwritten (Some NoMemory) = 1
 
 -- What holds at all times, by the parts: the messages, the list of what was used, the bus and the stop.
 pub record IsProtected (tag_of : Message → List ℕ) (levels limit : ℕ) (history : BusHistory) (made : List Message)
-    (evidence : Option Evidence) (used : List (ℕ × Counter)) (stopped : Option MemStop) : Type 0 where
+    (used : List (ℕ × Counter)) (stopped : Option MemStop) : Type 0 where
   pub bus_levels : history.levels ≡ levels
-  -- the counters of each line rise within the limit, and its messages were tagged under them in order
+  -- the counters of each line rise within the limit, none is skipped, and its messages were tagged under them in order
+  pub inside : (line : ℕ) (counter : Counter) → Contains used (line, counter) → line < line_count levels
   pub rising : AreRising used
   pub within : AreWithin limit used
+  pub unskipped : AreUnskipped used
   pub paired : data_pairs made ≡ of_lines (line_count levels) used
   pub long : (line : ℕ) (counter : Counter) (cipher : List ℕ) → Contains made (Line line counter cipher) → length cipher ≡ 64
   -- what stands outside was encrypted and tagged, and what was tagged last stands there
   pub sealed : HoldsSealed tag_of (line_count levels) made used history.written
   pub nodes : NodesAreZeros levels history.written
   pub no_nodes : (level index : ℕ) → last_node level index made ≡ None
-  pub holds_last : evidence ≡ None → stopped ≢ Some NoMemory → HoldsLast tag_of (line_count levels) made history.written
+  pub holds_last : stopped ≢ Some NoMemory → HoldsLast tag_of (line_count levels) made history.written
   pub spent : (page : ℕ) → stopped ≡ Some (Spent page) → IsSpent (line_count levels) limit used page
 
 abbrev pub AreProtected : {B T : Type 0} → (T → List ℕ → List ℕ) → (T → List ℕ → List ℕ) → (B → BusHistory) → SealedLinesView B T → Type 0
 AreProtected data_tag_of node_tag_of history lines =
     IsProtected (tag_in data_tag_of node_tag_of lines) (levels lines) lines.limit (history lines.bus)
-    (made lines) (evidence lines) (used lines) lines.stopped
+    (made lines) (used lines) lines.stopped
 
 -- each line's number of writes on the chip says its counter
 pub record AreCurrent (counters : List ℕ) (lines : ℕ) (used : List (ℕ × Counter)) : Type 0 where
@@ -117,7 +119,7 @@ pub record IsBooted (old new : BusHistory) : Type 0 where
   pub lines : (line : ℕ) → new.written (line_place line) ≡ old.written (line_place line)
   pub accesses : RoseBy 0 old.accesses new.accesses
 
--- What a boot that was refused leaves of a bus: there was no access but reads of lines, and no node's place was written.
+-- What a boot that was refused leaves of a bus: there was no access, and no node's place was written.
 pub record IsUnbooted (old new : BusHistory) : Type 0 where
   pub booted : IsBooted old new
   pub counted : AreCounted old new 0
@@ -147,7 +149,7 @@ pub record Moves {B T : Type 0} (history : B → BusHistory) (bus_moved : B → 
   pub limit : new.limit ≡ old.limit
   pub entries : List (ℕ × Counter)
   pub used_more : used new ≡ used old ++ entries
-  -- each access is a read of a line, or writes a message of its own
+  -- there are as many accesses as reads of lines and messages, but for one message that there was no memory to write
   pub writes : ℕ
   pub counted : AreCounted (history old.bus) (history new.bus) writes
   pub at_most : writes ≤ length step.more
@@ -156,9 +158,9 @@ pub record Moves {B T : Type 0} (history : B → BusHistory) (bus_moved : B → 
   pub idle : (stop : MemStop) → lasting_stop old.stopped ≡ Some stop → new ≡ old
   pub accounted : AccountsForAll tags history old → AccountsForAll tags history new
 
--- The line was read from the bus or had never been tagged, where there is neither a stop nor evidence.
+-- The line was read from the bus or had never been tagged, where there is neither a stop that lasts nor evidence.
 pub record WasRead {B T : Type 0} (history : B → BusHistory) (old : SealedLinesView B T) (line : ℕ) (new : SealedLinesView B T) : Type 0 where
-  pub read : new.stopped ≡ None → IsQuiet new →
+  pub read : lasting_stop new.stopped ≡ None → IsQuiet new →
       (last_data line (made old) ≡ None) ⊎ Rose ((history old.bus).reads (line_place line)) ((history new.bus).reads (line_place line))
 
 -- a read of a line, whatever it answered

@@ -20,7 +20,7 @@ ghost use Rattle.tag_engine.specs.TagEngine.{tags_of};
 ghost use Rattle.pad_stream.specs.Pad.{cipher_of};
 ghost use Rattle.checked_bus.specs.Steps.{IsAccounted, Moves as StepMoves};
 ghost use Rattle.page_reencrypt.specs.NextWrites.{IsNextWrite};
-ghost use Rattle.page_reencrypt.specs.Contents.{counter_in, next_counter};
+ghost use Rattle.page_reencrypt.specs.Contents.{counter_in, last_counter};
 ghost use Rattle.page_reencrypt.specs.SealedLines.{AreNew, AreProtected, IsUnbooted, IsQuiet, IsSealedAnew, IsUnsealed, Moves, ReadMoved, contents, enc_key, evidence, lasting_stop, lines_of, made, tag_in, used};
 
 use crate::account::Account;
@@ -178,7 +178,7 @@ impl<B: Bus, T: Tagger> LineStore for SealedLines<B, T> {
         ensures contents { contents self.new ≡ contents self.old }
 
         ensures goes_on { OnOk result (self.new.stopped ≡ self.old.stopped) }
-        ensures stops { self.old.stopped ≡ None → IfErr result (λ stop. self.new.stopped ≡ Some stop) }
+        ensures stops { IfErr result (λ stop. self.new.stopped ≡ Some stop) }
 
         ensures extent { lines_of self.new ≡ lines_of self.old }
         ensures lost { IsQuiet self.new → IsQuiet self.old }
@@ -229,7 +229,7 @@ impl<B: Bus, T: Tagger> LineStore for SealedLines<B, T> {
             ⊎ (contents self.new ≡ with_line (contents self.old) line bytes.now)) }
 
         ensures goes_on { OnOk result (self.new.stopped ≡ self.old.stopped) }
-        ensures stops { self.old.stopped ≡ None → IfErr result (λ stop. self.new.stopped ≡ Some stop) }
+        ensures stops { IfErr result (λ stop. self.new.stopped ≡ Some stop) }
 
         ensures extent { lines_of self.new ≡ lines_of self.old }
         ensures lost { IsQuiet self.new → IsQuiet self.old }
@@ -251,7 +251,7 @@ impl<B: Bus, T: Tagger> LineStore for SealedLines<B, T> {
         // is encrypted, tagged and written stays.
         ensures spent { lasting_stop self.old.stopped ≡ None →
             ((result ≡ Err (Spent (page_of line)))
-            ↔ (counter_in (used self.old) line ≡ record { page = self.old.limit; line = 0 })) }
+            ↔ (counter_in (used self.old) line ≡ last_counter self.old.limit)) }
         ensures spent_stays { (page : ℕ) → result ≡ Err (Spent page) → (page ≡ page_of line)
             × IsUnsealed B.history self.old self.new }
         ensures untampered { (place : Place) → lasting_stop self.old.stopped ≡ None →
