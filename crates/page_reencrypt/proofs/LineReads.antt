@@ -1,0 +1,255 @@
+-- What a read of a line answers, and what it makes of the lines outside, by what the checked read says.
+use Rattle.std.proofs.Common.{◌≡◌, ◌≢◌, ℕ, ◌<◌, inl, inr, List, [], length, Option, Some, None, Contains, Result, Ok, Err, unwrap_or, slice_index, refl, ap, sym, ◌∙◌, subst, arith, length-append}
+use Rattle.std.specs.Option.{option_or}
+use Rattle.std.specs.Result.{result_err}
+use Rattle.std.proofs.lemmas.List.{append-nil}
+use Rattle.sec_base.specs.Count.{Rose}
+use Rattle.sec_base.specs.Geometry.{line_count}
+use Rattle.sec_base.specs.LastMessage.{last_data, last_pair, IsFresh}
+use Rattle.sec_base.specs.Lines.{line_at}
+use Rattle.sec_base.specs.declared.counter.Counter.{Counter}
+use Rattle.sec_base.specs.declared.evidence.Evidence.{Evidence}
+use Rattle.sec_base.specs.declared.message.Message.{Message}
+use Rattle.sec_base.specs.declared.message.Message.TheVariants.{Line}
+use Rattle.sec_base.specs.declared.place.Place.{Place}
+use Rattle.sec_base.specs.declared.place.Place.TheVariants.{Line as line_place}
+use Rattle.sec_base.specs.declared.stop.MemStop.{MemStop}
+use Rattle.sec_base.specs.declared.stop.MemStop.TheVariants.{Tampered, Spent, NoMemory}
+use Rattle.sec_base.proofs.JoinedLines.{line_at-joined_lines}
+use Rattle.bus_model.specs.BusHistory.{BusHistory}
+use Rattle.bus_model.specs.FirstLie.{IsOfFirstLie}
+use Rattle.tag_engine.specs.TagEngine.{TagEngineView, tags_of}
+use Rattle.pad_stream.specs.Pad.{cipher_of}
+use Rattle.checked_bus.specs.Checks.{IsCheckedRead}
+use Rattle.checked_bus.specs.Steps.{IsAccounted, IsCurrent, Moves as StepMoves, ReadsOnce, stop_of}
+use Rattle.checked_bus.proofs.FalseAnswers.{first_lie_stays}
+use Rattle.page_reencrypt.specs.Contents.{bytes_of, contents_of, counter_in, line_bytes, never_written}
+use Rattle.page_reencrypt.specs.LineLengths.{length-line_bytes}
+use Rattle.page_reencrypt.specs.SealedLines.{AreCurrent, AreProtected, ReadMoved, SealedLinesView, contents, lasting_stop}
+use Rattle.page_reencrypt.proofs.Moves.{moves_not}
+use Rattle.page_reencrypt.proofs.Protected.{read_protected, same_tags}
+use Rattle.page_reencrypt.proofs.RisingPairs.{counter_fresh, is_current, last_none, last_under_last}
+
+-- Lines and their counters
+
+-- the bytes of a line
+pub line_there : (key : List ℕ) (lines : ℕ) (made : List Message) (line : ℕ) (last : Option (Counter × List ℕ)) → line < lines → last_data line made ≡ last →
+    line_at (contents_of key lines made) line ≡ bytes_of key line last
+line_there key lines made line last inside is =
+    line_at-joined_lines (line_bytes key made) lines line (length-line_bytes key made) inside ∙ ap (bytes_of key line) is
+
+-- a line that has a counter has an entry with it
+written_by : (last : Option Counter) → (unwrap_or last never_written).page ≢ 0 → last ≡ Some (unwrap_or last never_written)
+written_by None some = absurd (some refl)
+written_by (Some counter) some = refl
+
+pub written : (used : List (ℕ × Counter)) (line : ℕ) → (counter_in used line).page ≢ 0 → last_pair line used ≡ Some (counter_in used line)
+written used line some = written_by (last_pair line used) some
+
+-- Stops
+
+-- a stop that does not last is none of these
+going_not_memory : (stopped : Option MemStop) → lasting_stop stopped ≡ None → stopped ≢ Some NoMemory
+going_not_memory None going = λ is. absurd (cc)
+going_not_memory (Some (Spent page)) going = λ is. absurd (cc)
+going_not_memory (Some (Tampered place)) going = absurd (cc)
+going_not_memory (Some NoMemory) going = absurd (cc)
+
+going_not_tampered : (stopped : Option MemStop) (place : Place) → lasting_stop stopped ≡ None → stopped ≢ Some (Tampered place)
+going_not_tampered None place going = λ is. absurd (cc)
+going_not_tampered (Some (Spent page)) place going = λ is. absurd (cc)
+going_not_tampered (Some (Tampered other)) place going = absurd (cc)
+going_not_tampered (Some NoMemory) place going = absurd (cc)
+
+-- a stop that lasts is a stop
+lasting_some : (stopped : Option MemStop) (stop : MemStop) → lasting_stop stopped ≡ Some stop → stopped ≢ None
+lasting_some None stop lasting = λ none. absurd (cc)
+lasting_some (Some other) stop lasting = λ none. absurd (cc)
+
+-- Where no line was read
+
+abbrev counter_of : ℕ → Counter
+counter_of writes = record { page = writes; line = 0 }
+
+pub lasting_read : {B T : Type 0} (history : B → BusHistory) (bus_moved : B → B → Type 0) (tags : TagEngineView T → Message → List ℕ) →
+    ((bus : B) → bus_moved bus bus) → (d n : T → List ℕ → List ℕ) (lines : SealedLinesView B T) (line : ℕ) (stop : MemStop) →
+    AreProtected d n history lines → lasting_stop lines.stopped ≡ Some stop → ReadMoved history bus_moved tags lines line lines
+lasting_read history bus_moved tags bus_unmoved d n lines line stop kept lasting = record {
+  moves = moves_not history bus_moved tags bus_unmoved lines;
+  read = record { read = λ going quiet. absurd (lasting_some lines.stopped stop lasting going) };
+  no_nodes = kept.no_nodes;
+}
+
+module _ {B T : Type 0} (d n : T → List ℕ → List ℕ) (history : B → BusHistory) (lines : SealedLinesView B T) (line : ℕ)
+    (kept : AreProtected d n history lines) (counters : AreCurrent lines.counters (line_count lines.engine.levels) lines.pads.used)
+    (inside : line < line_count lines.engine.levels) (counter : Counter) (is : counter ≡ counter_in lines.pads.used line) (none : counter.page ≡ 0) where
+  fresh : IsFresh line lines.pads.used
+  fresh =
+      let here = counters.current line inside in
+      let zero : slice_index lines.counters line ≡ 0 = sym (ap (λ (c : Counter). c.page) (is ∙ here)) ∙ none in
+      (counter_fresh lines.limit lines.pads.used line kept.within).0 (here ∙ ap counter_of zero)
+
+  untagged : last_data line lines.engine.made ≡ None
+  untagged = last_none (line_count lines.engine.levels) lines.engine.made lines.pads.used line kept.paired inside fresh
+
+  pub fresh_value : line_at (contents lines) line ≡ bytes_of lines.pads.key line None
+  fresh_value = line_there lines.pads.key (line_count lines.engine.levels) lines.engine.made line None inside untagged
+
+  pub fresh_read : (bus_moved : B → B → Type 0) (tags : TagEngineView T → Message → List ℕ) → ((bus : B) → bus_moved bus bus) →
+      ReadMoved history bus_moved tags lines line lines
+  fresh_read bus_moved tags bus_unmoved = record {
+    moves = moves_not history bus_moved tags bus_unmoved lines;
+    read = record { read = λ going quiet. inl untagged };
+    no_nodes = kept.no_nodes;
+  }
+
+-- What is accounted for
+
+-- by a stop that is tampering with the same places
+other_stop : (tag_of : Message → List ℕ) (used : List (ℕ × Counter)) (made : List Message) (history : BusHistory) (stop stop' : Option MemStop) (evidence : Option Evidence) →
+    ((place : Place) → stop ≡ Some (Tampered place) → stop' ≡ Some (Tampered place)) →
+    ((place : Place) → stop' ≡ Some (Tampered place) → stop ≡ Some (Tampered place)) →
+    IsAccounted tag_of used made history stop evidence → IsAccounted tag_of used made history stop' evidence
+other_stop tag_of used made history stop stop' evidence there back was = record {
+  account = record {
+    answers = λ quiet. elim (was.account.answers quiet) [
+      | inl honest ↦ inl (record { lies = honest.lies; untampered = λ place is. honest.untampered place (back place is) })
+      | inr caught ↦ inr (record {
+        lies = caught.lies;
+        lie = caught.lie;
+        first = caught.first;
+        last = caught.last;
+        fails = caught.fails;
+        ended = there caught.lie.place caught.ended;
+      })
+    ];
+    shown = was.account.shown;
+  };
+  genuine = was.genuine;
+}
+
+-- the first false answer stays the first
+lie_stays : {T : Type 0} (tag_of : Message → List ℕ) (line : ℕ) (counter : Counter) (history history' : BusHistory) (engine engine' : TagEngineView T)
+    (made : List Message) (evidence : Evidence) (result : Result (List ℕ) MemStop) → IsCheckedRead tag_of line counter history history' engine engine' result →
+    IsOfFirstLie made history evidence → IsOfFirstLie made history' evidence
+lie_stays tag_of line counter history history' engine engine' made evidence (Ok cipher) passed was =
+    subst (λ (t : BusHistory). IsOfFirstLie made t evidence) (sym passed.answered) (first_lie_stays history made (line_place line) _ evidence was)
+lie_stays tag_of line counter history history' engine engine' made evidence (Err (Tampered place)) failed was =
+    subst (λ (t : BusHistory). IsOfFirstLie made t evidence) (sym failed.1.answered) (first_lie_stays history made (line_place line) _ evidence was)
+lie_stays tag_of line counter history history' engine engine' made evidence (Err (Spent page)) read was = absurd read
+lie_stays tag_of line counter history history' engine engine' made evidence (Err NoMemory) read was =
+    subst (λ (t : BusHistory). IsOfFirstLie made t evidence) (sym read.0) was
+
+-- A line that was written
+
+module _ {B T : Type 0} (d n : T → List ℕ → List ℕ) (history : B → BusHistory) (lines : SealedLinesView B T) (line : ℕ)
+    (kept : AreProtected d n history lines) (going : lasting_stop lines.stopped ≡ None) (inside : line < line_count lines.engine.levels)
+    (counter : Counter) (counted : counter ≡ counter_in lines.pads.used line) (some : counter.page ≢ 0) where
+  entry : last_pair line lines.pads.used ≡ Some counter
+  entry =
+      let here : (counter_in lines.pads.used line).page ≢ 0 = λ none. some (ap (λ (c : Counter). c.page) counted ∙ none) in
+      written lines.pads.used line here ∙ ap (λ (c : Counter). Some c) (sym counted)
+
+  current : lines.engine.evidence ≡ None →
+      IsCurrent (tags_of d n lines.engine) lines.pads.used lines.engine.made (history lines.bus).written line counter
+  current quiet =
+      is_current (tags_of d n lines.engine) (line_count lines.engine.levels) lines.engine.made lines.pads.used (history lines.bus).written line counter
+      kept.paired kept.rising (kept.holds_last quiet (going_not_memory lines.stopped going)) inside entry
+
+  pub not_fresh : IsFresh line lines.pads.used → ⊥
+  not_fresh none = absurd (let is : Some counter ≡ None = sym entry ∙ none in cc)
+
+  -- what was tagged under the counter is what the line holds
+  pub read_value : (cipher : List ℕ) → Contains lines.engine.made (Line line counter cipher) →
+      cipher_of lines.pads.key line counter cipher ≡ line_at (contents lines) line
+  read_value cipher listed =
+      sym (line_there lines.pads.key (line_count lines.engine.levels) lines.engine.made line (Some (counter, cipher)) inside
+      (last_under_last (line_count lines.engine.levels) lines.engine.made lines.pads.used line counter cipher kept.paired kept.rising inside entry listed))
+
+  -- tampering comes where an answer was false
+  pub read_lied : (lies : ℕ) → ((used : List (ℕ × Counter)) →
+      IsCurrent (tags_of d n lines.engine) used lines.engine.made (history lines.bus).written line counter → Rose (history lines.bus).lies lies) →
+      lines.engine.evidence ≡ None → Rose (history lines.bus).lies lies
+  read_lied lies lied quiet = lied lines.pads.used (current quiet)
+
+  module _ (bus_moved : B → B → Type 0) (bus : B) (engine : TagEngineView T) (result : Result (List ℕ) MemStop) (went : bus_moved lines.bus bus)
+      (read : IsCheckedRead (tags_of d n lines.engine) line counter (history lines.bus) (history bus) lines.engine engine result)
+      (step : StepMoves (history lines.bus) lines.engine (history bus) engine)
+      (once : ReadsOnce line (history lines.bus) lines.engine (history bus) engine (stop_of result))
+      (honest : (used : List (ℕ × Counter)) → IsCurrent (tags_of d n lines.engine) used lines.engine.made (history lines.bus).written line counter →
+      IsAccounted (tags_of d n lines.engine) used lines.engine.made (history lines.bus) None lines.engine.evidence →
+      IsAccounted (tags_of d n lines.engine) used engine.made (history bus) (stop_of result) engine.evidence)
+      (unspent : (page : ℕ) → result ≢ Err (Spent page)) (stopped : Option MemStop) (stops : stopped ≡ option_or (result_err result) lines.stopped) where
+    abbrev after : SealedLinesView B T
+    after = record lines { bus = bus; engine = engine; stopped = stopped }
+
+    spent_of : (given : Result (List ℕ) MemStop) → result ≡ given → stopped ≡ option_or (result_err given) lines.stopped →
+        (page : ℕ) → stopped ≡ Some (Spent page) → lines.stopped ≡ Some (Spent page)
+    spent_of (Ok cipher) is same page spent = sym same ∙ spent
+    spent_of (Err stop) is same page spent = absurd (let here : stop ≡ Spent page = cc in unspent page (is ∙ ap (λ (s : MemStop). Err s) here))
+
+    -- what held holds after it
+    pub read_kept : AreProtected d n history after
+    read_kept =
+        read_protected d n history lines after kept step once.made once.written refl refl
+        (λ goes_on. going_not_memory lines.stopped going) (spent_of result refl stops)
+
+    unlied : IsAccounted (tags_of d n lines.engine) lines.pads.used lines.engine.made (history lines.bus) lines.stopped lines.engine.evidence →
+        IsAccounted (tags_of d n lines.engine) lines.pads.used lines.engine.made (history lines.bus) None lines.engine.evidence
+    unlied was =
+        other_stop (tags_of d n lines.engine) lines.pads.used lines.engine.made (history lines.bus) lines.stopped None lines.engine.evidence
+        (λ place is. absurd (going_not_tampered lines.stopped place going is)) (λ place is. absurd (cc)) was
+
+    by_stop : (given : Result (List ℕ) MemStop) → stopped ≡ option_or (result_err given) lines.stopped →
+        IsAccounted (tags_of d n lines.engine) lines.pads.used engine.made (history bus) (stop_of given) engine.evidence →
+        IsAccounted (tags_of d n lines.engine) lines.pads.used engine.made (history bus) stopped engine.evidence
+    by_stop (Ok cipher) same was =
+        other_stop (tags_of d n lines.engine) lines.pads.used engine.made (history bus) None stopped engine.evidence
+        (λ place is. absurd (cc)) (λ place is. absurd (going_not_tampered lines.stopped place going (sym same ∙ is))) was
+    by_stop (Err stop) same was = subst (λ (s : Option MemStop). IsAccounted (tags_of d n lines.engine) lines.pads.used engine.made (history bus) s engine.evidence) (sym same) was
+
+    accounted_by : (evidence : Option Evidence) → lines.engine.evidence ≡ evidence →
+        IsAccounted (tags_of d n lines.engine) lines.pads.used lines.engine.made (history lines.bus) lines.stopped lines.engine.evidence →
+        IsAccounted (tags_of d n lines.engine) lines.pads.used engine.made (history bus) stopped engine.evidence
+    accounted_by None quiet was = by_stop result stops (honest lines.pads.used (current quiet) (unlied was))
+    accounted_by (Some shown) is was =
+        let still : engine.evidence ≡ Some shown = step.evidence shown is in
+        subst (λ (m : List Message). IsAccounted (tags_of d n lines.engine) lines.pads.used m (history bus) stopped engine.evidence) (sym once.made)
+        (subst (λ (e : Option Evidence). IsAccounted (tags_of d n lines.engine) lines.pads.used lines.engine.made (history bus) stopped e) (is ∙ sym still)
+        (record {
+          account = record {
+            answers = λ quiet. absurd (cc);
+            shown = λ evidence here. lie_stays (tags_of d n lines.engine) line counter (history lines.bus) (history bus) lines.engine engine
+                lines.engine.made evidence result read (was.account.shown evidence here);
+          };
+          genuine = was.genuine;
+        }))
+
+    nothing_more : length step.more ≡ 0
+    nothing_more = omega (arith, ap length step.made, length-append lines.engine.made step.more, ap length once.made)
+
+    rose_by : (given : Result (List ℕ) MemStop) → result ≡ given → stopped ≡ option_or (result_err given) lines.stopped → stopped ≡ None → stop_of result ≢ Some NoMemory
+    rose_by (Ok cipher) is same goes_on = λ memory. let none : stop_of result ≡ None = ap stop_of is in absurd (cc)
+    rose_by (Err stop) is same goes_on = λ memory. absurd (cc)
+
+    pub read_moved : ReadMoved history bus_moved (tags_of d n) lines line after
+    read_moved = record {
+      moves = record {
+        bus = went;
+        step = step;
+        key = refl;
+        limit = refl;
+        entries = [];
+        used_more = sym (append-nil lines.pads.used);
+        writes = 0;
+        counted = once.counted;
+        at_most = omega arith;
+        at_least = omega (arith, nothing_more);
+        idle = λ stop is. absurd (cc);
+        accounted = λ was.
+            subst (λ (t : Message → List ℕ). IsAccounted t lines.pads.used engine.made (history bus) stopped engine.evidence)
+            (sym (same_tags d n lines.engine engine step.tagger step.levels)) (accounted_by lines.engine.evidence refl was);
+      };
+      read = record { read = λ goes_on quiet. inr (once.rose (rose_by result refl stops goes_on)) };
+      no_nodes = kept.no_nodes;
+    }
