@@ -67,6 +67,17 @@ module _ (tag_of : Message → List ℕ) (levels limit : ℕ) (history : BusHist
     spent = spent;
   }
 
+-- the same, said of an engine with the same tags
+pub protected_as : {T : Type 0} (d n : T → List ℕ → List ℕ) (history : BusHistory) (limit : ℕ) (engine engine' : TagEngineView T) (made : List Message)
+    (used used' : List (ℕ × Counter)) (stopped : Option MemStop) → engine'.tagger ≡ engine.tagger → engine'.levels ≡ engine.levels →
+    engine'.made ≡ made → used' ≡ used → IsProtected (tags_of d n engine) engine.levels limit history made used stopped →
+    IsProtected (tags_of d n engine') engine'.levels limit history engine'.made used' stopped
+protected_as d n history limit engine engine' made used used' stopped tagger levels same_made same_used is =
+    subst (λ (t : Message → List ℕ). IsProtected t engine'.levels limit history engine'.made used' stopped) (sym (same_tags d n engine engine' tagger levels))
+    (subst (λ (l : ℕ). IsProtected (tags_of d n engine) l limit history engine'.made used' stopped) (sym levels)
+    (subst (λ (m : List Message). IsProtected (tags_of d n engine) engine.levels limit history m used' stopped) (sym same_made)
+    (subst (λ (u : List (ℕ × Counter)). IsProtected (tags_of d n engine) engine.levels limit history made u stopped) (sym same_used) is)))
+
 -- What the lines outside keep where the bus's places, the messages and what was used stay. Evidence stays or comes, and
 -- a stop that is new is as it says.
 pub same_kept : {B T : Type 0} (d n : T → List ℕ → List ℕ) (history : B → BusHistory) (old new : SealedLinesView B T) → AreProtected d n history old →
@@ -77,13 +88,10 @@ pub same_kept : {B T : Type 0} (d n : T → List ℕ → List ℕ) (history : B 
     ((page : ℕ) → new.stopped ≡ Some (Spent page) → IsSpent (line_count old.engine.levels) old.limit old.pads.used page) →
     AreProtected d n history new
 same_kept d n history old new kept bus_levels written tagger levels made used limit goes spent =
-    let is = same_protected (tags_of d n old.engine) old.engine.levels old.limit (history old.bus) old.engine.made old.pads.used old.stopped kept
-    (history new.bus) new.stopped bus_levels written goes spent in
-    subst (λ (t : Message → List ℕ). IsProtected t new.engine.levels new.limit (history new.bus) new.engine.made new.pads.used new.stopped) (sym (same_tags d n old.engine new.engine tagger levels))
-    (subst (λ (l : ℕ). IsProtected (tags_of d n old.engine) l new.limit (history new.bus) new.engine.made new.pads.used new.stopped) (sym levels)
-    (subst (λ (l : ℕ). IsProtected (tags_of d n old.engine) old.engine.levels l (history new.bus) new.engine.made new.pads.used new.stopped) (sym limit)
-    (subst (λ (m : List Message). IsProtected (tags_of d n old.engine) old.engine.levels old.limit (history new.bus) m new.pads.used new.stopped) (sym made)
-    (subst (λ (u : List (ℕ × Counter)). IsProtected (tags_of d n old.engine) old.engine.levels old.limit (history new.bus) old.engine.made u new.stopped) (sym used) is))))
+    subst (λ (l : ℕ). IsProtected (tags_of d n new.engine) new.engine.levels l (history new.bus) new.engine.made new.pads.used new.stopped) (sym limit)
+    (protected_as d n (history new.bus) old.limit old.engine new.engine old.engine.made old.pads.used new.pads.used new.stopped tagger levels made used
+    (same_protected (tags_of d n old.engine) old.engine.levels old.limit (history old.bus) old.engine.made old.pads.used old.stopped kept
+    (history new.bus) new.stopped bus_levels written goes spent))
 
 -- what they keep over a read that was checked
 pub read_protected : {B T : Type 0} (d n : T → List ℕ → List ℕ) (history : B → BusHistory) (old new : SealedLinesView B T) → AreProtected d n history old →
@@ -376,33 +384,3 @@ current_more counters counters' lines line writes used was inside set count =
                 ∙ ap (λ (n : ℕ). let c : Counter = record { page = n; line = 0 } in c) (sym there)
           ];
     }
-
-pub current_new : (lines : ℕ) → AreCurrent (replicate lines 0) lines []
-unfolding last_at
-current_new lines = record {
-  long = length-replicate lines 0;
-  current = λ line inside. ap (λ (n : ℕ). let c : Counter = record { page = n; line = 0 } in c) (sym (get_or-replicate lines line 0 0 inside));
-}
-
--- A memory that was never written
-
-pub new_protected : (tag_of : Message → List ℕ) (levels limit : ℕ) (history : BusHistory) → history.levels ≡ levels → NothingWritten history →
-    IsProtected tag_of levels limit history [] [] None
-unfolding last_at data_pairs
-new_protected tag_of levels limit history same empty = record {
-  bus_levels = same;
-  inside = λ line counter listed. absurd (omega (arith, listed.1));
-  unskipped = record { reached = λ line counter listed. absurd (omega (arith, listed.1)) };
-  rising = rising_nothing;
-  within = record {
-    started = λ line counter listed. absurd (omega (arith, listed.1));
-    limited = λ line counter listed. absurd (omega (arith, listed.1));
-  };
-  paired = refl;
-  long = λ line counter cipher listed. absurd (omega (arith, listed.1));
-  sealed = record { holds = λ line inside. inl (empty.zeros (line_place line) (subst (λ (l : ℕ). line < line_count l) (sym same) inside)) };
-  nodes = record { zeros = λ level index inside. empty.zeros (Node level index) (subst (λ (l : ℕ). IsPlace l (Node level index)) (sym same) inside) };
-  no_nodes = λ level index. refl;
-  holds_last = λ goes_on. record { holds = λ line counter cipher inside last. absurd (cc) };
-  spent = λ page is. absurd (cc);
-}
