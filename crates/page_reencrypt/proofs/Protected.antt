@@ -1,13 +1,12 @@
 -- What the lines outside keep: over a read that was checked, over a write of a line under its next counter, and at a stop.
-use Rattle.std.proofs.Common.{◌≡◌, ◌≢◌, ◌⊎◌, inl, inr, ℕ, ◌+◌, ◌<◌, ◌≤◌, Bool, true, false, cond, nat_eq, nat_lt, List, [], ◌∷◌, ◌++◌, length, Option, Some, None, Contains, unwrap_or, replicate, slice_index, slice_set, refl, ap, sym, ◌∙◌, subst, arith, get_or-set_other}
+use Rattle.std.proofs.Common.{◌≡◌, ◌≢◌, ◌⊎◌, inl, inr, ℕ, ◌+◌, ◌<◌, ◌≤◌, Bool, true, false, cond, nat_eq, nat_lt, List, [], ◌∷◌, ◌++◌, length, Option, Some, None, Contains, unwrap_or, slice_index, slice_set, refl, ap, sym, ◌∙◌, subst, arith, get_or-set_other}
 use Rattle.std.proofs.lemmas.Bool.{cases_eq, lt-ltb}
 use Rattle.std.proofs.lemmas.Bool.Decides.{Decides-eqb}
 use Rattle.std.proofs.lemmas.Grind.{get_or-set_at}
 use Rattle.std.specs.List.{filter}
-use Rattle.std.proofs.lemmas.List.{length-append, length-set, length-replicate, get_or-replicate}
+use Rattle.std.proofs.lemmas.List.{length-append, length-set}
 use Rattle.std.proofs.lemmas.List.Elements.{Contains-append_left, Contains-push, Contains-push_cases, filter-append}
 use Rattle.sec_base.specs.declared.counter.Counter.{Counter}
-use Rattle.sec_base.specs.declared.evidence.Evidence.{Evidence}
 use Rattle.sec_base.specs.declared.message.Message.{Message}
 use Rattle.sec_base.specs.declared.message.Message.TheVariants.{Line, Node as Node_message}
 use Rattle.sec_base.specs.declared.place.Place.{Place}
@@ -15,16 +14,16 @@ use Rattle.sec_base.specs.declared.place.Place.TheVariants.{Line as line_place, 
 use Rattle.sec_base.specs.declared.stop.MemStop.{MemStop}
 use Rattle.sec_base.specs.declared.stop.MemStop.TheVariants.{Spent, NoMemory}
 use Rattle.sec_base.specs.Geometry.{line_count}
-use Rattle.sec_base.specs.LastMessage.{counter_part, data_pairs, data_part, last_at, last_data, last_node, last_pair, node_part}
-use Rattle.sec_base.specs.Place.{IsPlace, at_place, zeros_of}
+use Rattle.sec_base.specs.LastMessage.{counter_part, data_pairs, last_data, last_pair, node_part}
+use Rattle.sec_base.specs.Place.{at_place, zeros_of}
 use Rattle.sec_base.proofs.LastMessages.{last_of_same, last_of_other}
 use Rattle.sec_base.proofs.SamePlaces.{at_place-here, at_place-there, false_from}
-use Rattle.bus_model.specs.BusHistory.{BusHistory, NothingWritten}
+use Rattle.bus_model.specs.BusHistory.{BusHistory}
 use Rattle.tag_engine.specs.TagEngine.{TagEngineView, tags_of}
 use Rattle.tag_engine.specs.Tag.{engine_tag}
 use Rattle.checked_bus.proofs.LineMessages.{last_data-same, last_data-other, some_same}
-use Rattle.pad_stream.specs.Pads.{AreRising, of_lines}
-use Rattle.pad_stream.proofs.RisingCounters.{rising_more, rising_nothing}
+use Rattle.pad_stream.specs.Pads.{of_lines}
+use Rattle.pad_stream.proofs.RisingCounters.{rising_more}
 use Rattle.page_reencrypt.specs.Contents.{AreUnskipped, AreWithin, HoldsLast, HoldsSealed, IsSealed, IsSpent, NodesAreZeros, counter_in, entries_of, never_written, next_counter}
 use Rattle.checked_bus.specs.SealedLine.{sealed_line}
 use Rattle.checked_bus.specs.Steps.{Moves}
@@ -37,11 +36,6 @@ pub same_tags : {T : Type 0} (d n : T → List ℕ → List ℕ) (engine engine'
 same_tags {T} d n engine engine' tagger levels =
     ap (λ (t : T). engine_tag (d t) (n t) engine'.levels) tagger
     ∙ ap (λ (l : ℕ). engine_tag (d engine.tagger) (n engine.tagger) l) levels
-
--- where there is no evidence, there was none
-pub quiet_before : (old new : Option Evidence) → ((evidence : Evidence) → old ≡ Some evidence → new ≡ Some evidence) → new ≡ None → old ≡ None
-quiet_before None new stays none = refl
-quiet_before (Some evidence) new stays none = let is : new ≡ Some evidence = stays evidence refl in absurd (cc)
 
 -- Where nothing was made or written
 
@@ -78,8 +72,8 @@ protected_as d n history limit engine engine' made used used' stopped tagger lev
     (subst (λ (m : List Message). IsProtected (tags_of d n engine) engine.levels limit history m used' stopped) (sym same_made)
     (subst (λ (u : List (ℕ × Counter)). IsProtected (tags_of d n engine) engine.levels limit history made u stopped) (sym same_used) is)))
 
--- What the lines outside keep where the bus's places, the messages and what was used stay. Evidence stays or comes, and
--- a stop that is new is as it says.
+-- What the lines outside keep where the bus's places, the messages and what was used stay. A stop that is new is as it
+-- says.
 pub same_kept : {B T : Type 0} (d n : T → List ℕ → List ℕ) (history : B → BusHistory) (old new : SealedLinesView B T) → AreProtected d n history old →
     (history new.bus).levels ≡ (history old.bus).levels → (history new.bus).written ≡ (history old.bus).written →
     new.engine.tagger ≡ old.engine.tagger → new.engine.levels ≡ old.engine.levels → new.engine.made ≡ old.engine.made →

@@ -1,14 +1,14 @@
 -- Lines and counters that rise, and the messages that they are of.
-use Rattle.std.proofs.Common.{◌≡◌, ◌≢◌, ◌↔◌, ◌⊎◌, inl, inr, ℕ, zero, suc, ◌+◌, ◌<◌, ◌≤◌, Bool, true, false, cond, nat_eq, nat_lt, List, [], ◌∷◌, ◌++◌, length, fold, Option, Some, None, Contains, unwrap_or, refl, ap, sym, ◌∙◌, subst, arith}
+use Rattle.std.proofs.Common.{◌≡◌, ◌↔◌, ◌⊎◌, inl, inr, ℕ, zero, suc, ◌+◌, ◌<◌, ◌≤◌, Bool, true, false, cond, nat_eq, nat_lt, List, [], ◌∷◌, length, fold, Option, Some, None, Contains, unwrap_or, refl, ap, sym, ◌∙◌, subst, arith}
 use Rattle.std.specs.Option.{option_map, option_or}
-use Rattle.std.specs.List.{filter, filter_map, slice_get}
+use Rattle.std.specs.List.{filter, slice_get}
 use Rattle.std.proofs.lemmas.Bool.Decides.{Decides-eqb}
 use Rattle.std.proofs.lemmas.Bool.{lt-ltb}
 use Rattle.sec_base.specs.declared.counter.Counter.{Counter}
 use Rattle.sec_base.specs.declared.message.Message.{Message}
 use Rattle.sec_base.specs.declared.message.Message.TheVariants.{Line, Node}
 use Rattle.sec_base.specs.declared.place.Place.{Place}
-use Rattle.sec_base.specs.LastMessage.{after_item, counter_part, data_pairs, last_at, last_data, last_of, last_pair, pair_of, IsFresh}
+use Rattle.sec_base.specs.LastMessage.{after_item, counter_part, data_pairs, last_at, last_data, last_pair, IsFresh}
 use Rattle.sec_base.proofs.LastMessages.{last_pair-data_pairs, no_part}
 use Rattle.sec_base.proofs.SamePlaces.{false_from}
 use Rattle.checked_bus.proofs.LineMessages.{last_made, some_same}

@@ -27,7 +27,7 @@ use Rattle.checked_bus.specs.Steps.{IsAccounted, Moves as StepMoves}
 use Rattle.checked_bus.proofs.CheckedReads.{none_lied, still_honest}
 use Rattle.checked_bus.proofs.LineMessages.{last_data-same, last_data-other}
 use Rattle.checked_bus.proofs.Steps.{counted_not}
-use Rattle.page_reencrypt.specs.Contents.{IsSpent, bytes_of, contents_of, counter_in, line_bytes, next_counter}
+use Rattle.page_reencrypt.specs.Contents.{IsSpent, bytes_of, contents_of, counter_in, last_counter, line_bytes, next_counter}
 use Rattle.page_reencrypt.specs.LineLengths.{length-line_bytes}
 use Rattle.page_reencrypt.specs.NextWrites.{IsMadeNext, IsNextWrite, IsUnmade, WriteParts, cipher_next, counter_next}
 use Rattle.page_reencrypt.specs.SealedLines.{AccountsForAll, AreCurrent, AreProtected, IsProtected, Moves, SealedLinesView, contents, lasting_stop, unwritten}
@@ -158,12 +158,12 @@ module _ {B T : Type 0} (d n : T → List ℕ → List ℕ) (history : B → Bus
   page_is : (counter_in m.pads.used line).page ≡ writes
   page_is = ap (λ (c : Counter). c.page) count
 
-  full : m.limit ≤ writes → counter_in m.pads.used line ≡ record { page = m.limit; line = 0 }
+  full : m.limit ≤ writes → counter_in m.pads.used line ≡ last_counter m.limit
   full most =
       let same : writes ≡ m.limit = omega (arith, page_is, counter_limited m.limit m.pads.used line kept.within) in
-      count ∙ ap (λ (k : ℕ). let c : Counter = record { page = k; line = 0 } in c) same
+      count ∙ ap last_counter same
 
-  not_full : writes < m.limit → counter_in m.pads.used line ≡ record { page = m.limit; line = 0 } → ⊥
+  not_full : writes < m.limit → counter_in m.pads.used line ≡ last_counter m.limit → ⊥
   not_full below is =
       let page : (counter_in m.pads.used line).page ≡ m.limit = ap (λ (c : Counter). c.page) is in
       omega (arith, page, page_is, below)
@@ -289,7 +289,7 @@ module _ {B T : Type 0} (d n : T → List ℕ → List ℕ) (history : B → Bus
       ]
 
   pub write_spent : (result : Result (Unit {0}) MemStop) → Wrote result →
-      (result ≡ Err (Spent (page_of line))) ↔ (counter_in m.pads.used line ≡ record { page = m.limit; line = 0 })
+      (result ≡ Err (Spent (page_of line))) ↔ (counter_in m.pads.used line ≡ last_counter m.limit)
   write_spent (Ok _) wrote = (λ is. absurd (cc), λ is. absurd (not_full wrote.0 is))
   write_spent (Err (Tampered place)) impossible = absurd impossible
   write_spent (Err (Spent page)) spent = (λ is. full spent.0, λ is. ap (λ (p : ℕ). Err (Spent p)) spent.1)

@@ -31,7 +31,6 @@ cipher_next line bytes parts = cipher_of parts.pads.key line (counter_next parts
 -- the line was encrypted and tagged under its next counter
 pub record IsMadeNext {T : Type 0} (line : ℕ) (bytes : List ℕ) (old new : WriteParts T) : Type 0 where
   pub made : new.engine.made ≡ old.engine.made ++ Line line (counter_next old) (cipher_next line bytes old) ∷ []
-  pub evidence : new.engine.evidence ≡ old.engine.evidence
   pub used : new.pads.used ≡ old.pads.used ++ (line, counter_next old) ∷ []
   pub key : new.pads.key ≡ old.pads.key
   pub writes : new.writes ≡ old.writes + 1
@@ -41,7 +40,6 @@ pub record IsMadeNext {T : Type 0} (line : ℕ) (bytes : List ℕ) (old new : Wr
 pub record IsUnmade {T : Type 0} (old new : WriteParts T) : Type 0 where
   pub history : new.history ≡ old.history
   pub made : new.engine.made ≡ old.engine.made
-  pub evidence : new.engine.evidence ≡ old.engine.evidence
   pub pads : new.pads ≡ old.pads
   pub writes : new.writes ≡ old.writes
 
