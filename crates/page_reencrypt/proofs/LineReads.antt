@@ -61,11 +61,6 @@ going_not_tampered (Some (Spent page)) place going = λ is. absurd (cc)
 going_not_tampered (Some (Tampered other)) place going = absurd (cc)
 going_not_tampered (Some NoMemory) place going = absurd (cc)
 
--- a stop that lasts is a stop
-lasting_some : (stopped : Option MemStop) (stop : MemStop) → lasting_stop stopped ≡ Some stop → stopped ≢ None
-lasting_some None stop lasting = λ none. absurd (cc)
-lasting_some (Some other) stop lasting = λ none. absurd (cc)
-
 -- Where no line was read
 
 abbrev counter_of : ℕ → Counter
@@ -76,7 +71,7 @@ pub lasting_read : {B T : Type 0} (history : B → BusHistory) (bus_moved : B �
     AreProtected d n history lines → lasting_stop lines.stopped ≡ Some stop → ReadMoved history bus_moved tags lines line lines
 lasting_read history bus_moved tags bus_unmoved d n lines line stop kept lasting = record {
   moves = moves_not history bus_moved tags bus_unmoved lines;
-  read = record { read = λ going quiet. absurd (lasting_some lines.stopped stop lasting going) };
+  read = record { read = λ going quiet. absurd (cc) };
   no_nodes = kept.no_nodes;
 }
 
@@ -128,18 +123,6 @@ other_stop tag_of used made history stop stop' evidence there back was = record 
   genuine = was.genuine;
 }
 
--- the first false answer stays the first
-lie_stays : {T : Type 0} (tag_of : Message → List ℕ) (line : ℕ) (counter : Counter) (history history' : BusHistory) (engine engine' : TagEngineView T)
-    (made : List Message) (evidence : Evidence) (result : Result (List ℕ) MemStop) → IsCheckedRead tag_of line counter history history' engine engine' result →
-    IsOfFirstLie made history evidence → IsOfFirstLie made history' evidence
-lie_stays tag_of line counter history history' engine engine' made evidence (Ok cipher) passed was =
-    subst (λ (t : BusHistory). IsOfFirstLie made t evidence) (sym passed.answered) (first_lie_stays history made (line_place line) _ evidence was)
-lie_stays tag_of line counter history history' engine engine' made evidence (Err (Tampered place)) failed was =
-    subst (λ (t : BusHistory). IsOfFirstLie made t evidence) (sym failed.1.answered) (first_lie_stays history made (line_place line) _ evidence was)
-lie_stays tag_of line counter history history' engine engine' made evidence (Err (Spent page)) read was = absurd read
-lie_stays tag_of line counter history history' engine engine' made evidence (Err NoMemory) read was =
-    subst (λ (t : BusHistory). IsOfFirstLie made t evidence) (sym read.0) was
-
 -- A line that was written
 
 module _ {B T : Type 0} (d n : T → List ℕ → List ℕ) (history : B → BusHistory) (lines : SealedLinesView B T) (line : ℕ)
@@ -150,11 +133,10 @@ module _ {B T : Type 0} (d n : T → List ℕ → List ℕ) (history : B → Bus
       let here : (counter_in lines.pads.used line).page ≢ 0 = λ none. some (ap (λ (c : Counter). c.page) counted ∙ none) in
       written lines.pads.used line here ∙ ap (λ (c : Counter). Some c) (sym counted)
 
-  current : lines.engine.evidence ≡ None →
-      IsCurrent (tags_of d n lines.engine) lines.pads.used lines.engine.made (history lines.bus).written line counter
-  current quiet =
+  current : IsCurrent (tags_of d n lines.engine) lines.pads.used lines.engine.made (history lines.bus).written line counter
+  current =
       is_current (tags_of d n lines.engine) (line_count lines.engine.levels) lines.engine.made lines.pads.used (history lines.bus).written line counter
-      kept.paired kept.rising (kept.holds_last quiet (going_not_memory lines.stopped going)) inside entry
+      kept.paired kept.rising (kept.holds_last (going_not_memory lines.stopped going)) inside entry
 
   pub not_fresh : IsFresh line lines.pads.used → ⊥
   not_fresh none = absurd (let is : Some counter ≡ None = sym entry ∙ none in cc)
@@ -169,11 +151,10 @@ module _ {B T : Type 0} (d n : T → List ℕ → List ℕ) (history : B → Bus
   -- tampering comes where an answer was false
   pub read_lied : (lies : ℕ) → ((used : List (ℕ × Counter)) →
       IsCurrent (tags_of d n lines.engine) used lines.engine.made (history lines.bus).written line counter → Rose (history lines.bus).lies lies) →
-      lines.engine.evidence ≡ None → Rose (history lines.bus).lies lies
-  read_lied lies lied quiet = lied lines.pads.used (current quiet)
+      Rose (history lines.bus).lies lies
+  read_lied lies lied = lied lines.pads.used current
 
   module _ (bus_moved : B → B → Type 0) (bus : B) (engine : TagEngineView T) (result : Result (List ℕ) MemStop) (went : bus_moved lines.bus bus)
-      (read : IsCheckedRead (tags_of d n lines.engine) line counter (history lines.bus) (history bus) lines.engine engine result)
       (step : StepMoves (history lines.bus) lines.engine (history bus) engine)
       (once : ReadsOnce line (history lines.bus) lines.engine (history bus) engine (stop_of result))
       (honest : (used : List (ℕ × Counter)) → IsCurrent (tags_of d n lines.engine) used lines.engine.made (history lines.bus).written line counter →
@@ -208,29 +189,14 @@ module _ {B T : Type 0} (d n : T → List ℕ → List ℕ) (history : B → Bus
         (λ place is. absurd (cc)) (λ place is. absurd (going_not_tampered lines.stopped place going (sym same ∙ is))) was
     by_stop (Err stop) same was = subst (λ (s : Option MemStop). IsAccounted (tags_of d n lines.engine) lines.pads.used engine.made (history bus) s engine.evidence) (sym same) was
 
-    accounted_by : (evidence : Option Evidence) → lines.engine.evidence ≡ evidence →
-        IsAccounted (tags_of d n lines.engine) lines.pads.used lines.engine.made (history lines.bus) lines.stopped lines.engine.evidence →
-        IsAccounted (tags_of d n lines.engine) lines.pads.used engine.made (history bus) stopped engine.evidence
-    accounted_by None quiet was = by_stop result stops (honest lines.pads.used (current quiet) (unlied was))
-    accounted_by (Some shown) is was =
-        let still : engine.evidence ≡ Some shown = step.evidence shown is in
-        subst (λ (m : List Message). IsAccounted (tags_of d n lines.engine) lines.pads.used m (history bus) stopped engine.evidence) (sym once.made)
-        (subst (λ (e : Option Evidence). IsAccounted (tags_of d n lines.engine) lines.pads.used lines.engine.made (history bus) stopped e) (is ∙ sym still)
-        (record {
-          account = record {
-            answers = λ quiet. absurd (cc);
-            shown = λ evidence here. lie_stays (tags_of d n lines.engine) line counter (history lines.bus) (history bus) lines.engine engine
-                lines.engine.made evidence result read (was.account.shown evidence here);
-          };
-          genuine = was.genuine;
-        }))
-
     nothing_more : length step.more ≡ 0
     nothing_more = omega (arith, ap length step.made, length-append lines.engine.made step.more, ap length once.made)
 
-    rose_by : (given : Result (List ℕ) MemStop) → result ≡ given → stopped ≡ option_or (result_err given) lines.stopped → stopped ≡ None → stop_of result ≢ Some NoMemory
-    rose_by (Ok cipher) is same goes_on = λ memory. let none : stop_of result ≡ None = ap stop_of is in absurd (cc)
-    rose_by (Err stop) is same goes_on = λ memory. absurd (cc)
+    remembered : (given : Result (List ℕ) MemStop) → result ≡ given → stopped ≡ option_or (result_err given) lines.stopped →
+        lasting_stop stopped ≡ None → stop_of result ≢ Some NoMemory
+    remembered (Ok cipher) is same goes_on = λ memory. let none : stop_of result ≡ None = ap stop_of is in absurd (cc)
+    remembered (Err stop) is same goes_on = λ memory.
+        going_not_memory stopped goes_on (same ∙ ap stop_of (sym is) ∙ memory)
 
     pub read_moved : ReadMoved history bus_moved (tags_of d n) lines line after
     read_moved = record {
@@ -248,8 +214,8 @@ module _ {B T : Type 0} (d n : T → List ℕ → List ℕ) (history : B → Bus
         idle = λ stop is. absurd (cc);
         accounted = λ was.
             subst (λ (t : Message → List ℕ). IsAccounted t lines.pads.used engine.made (history bus) stopped engine.evidence)
-            (sym (same_tags d n lines.engine engine step.tagger step.levels)) (accounted_by lines.engine.evidence refl was);
+            (sym (same_tags d n lines.engine engine step.tagger step.levels)) (by_stop result stops (honest lines.pads.used current (unlied was)));
       };
-      read = record { read = λ goes_on quiet. inr (once.rose (rose_by result refl stops goes_on)) };
+      read = record { read = λ goes_on quiet. inr (once.rose (remembered result refl stops goes_on)) };
       no_nodes = kept.no_nodes;
     }

@@ -49,7 +49,7 @@ invariant_of-self g c =
     let levels : c.read_line-cipher.new.tags.levels ≡ lines.engine.levels = c.read_line-cipher.ensures.moves.levels in (
       c.self.invariant.0 ∙ sym levels,
       read_kept g.T.Tagger.data_tag_of g.T.Tagger.node_tag_of g.B.Bus.history lines c.args.line c.self.invariant.1 going inside c.counter-counter.result counted c.if-counter-eq0.false
-          g.B.Bus.moved c.read_line-cipher.new.bus c.read_line-cipher.new.tags c.read_line-cipher.result c.read_line-cipher.ensures.moved c.read_line-cipher.ensures.read
+          g.B.Bus.moved c.read_line-cipher.new.bus c.read_line-cipher.new.tags c.read_line-cipher.result c.read_line-cipher.ensures.moved
           c.read_line-cipher.ensures.moves c.read_line-cipher.ensures.once c.read_line-cipher.ensures.honest c.read_line-cipher.ensures.unspent
           c.or-self-inside.result stops,
       subst (λ (l : ℕ). AreCurrent lines.counters (line_count l) lines.pads.used) (sym levels) c.self.invariant.2,
@@ -67,23 +67,22 @@ returns-in_err-cipher-clause-moved g c =
     subst (λ (seen : SealedLinesView g.row.B.Denot g.row.T.Denot). ReadMoved g.B.Bus.history g.B.Bus.moved tags seen c.args.line
     (record lines { bus = c.read_line-cipher.new.bus; engine = c.read_line-cipher.new.tags; stopped = c.or-self-inside.result })) c.self.view_is
     (read_moved g.T.Tagger.data_tag_of g.T.Tagger.node_tag_of g.B.Bus.history lines c.args.line c.self.invariant.1 going inside c.counter-counter.result counted c.if-counter-eq0.false
-    g.B.Bus.moved c.read_line-cipher.new.bus c.read_line-cipher.new.tags c.read_line-cipher.result c.read_line-cipher.ensures.moved c.read_line-cipher.ensures.read
+    g.B.Bus.moved c.read_line-cipher.new.bus c.read_line-cipher.new.tags c.read_line-cipher.result c.read_line-cipher.ensures.moved
     c.read_line-cipher.ensures.moves c.read_line-cipher.ensures.once c.read_line-cipher.ensures.honest c.read_line-cipher.ensures.unspent
     c.or-self-inside.result stops)
 
 pub returns-in_err-cipher-clause-tampered : goal.returns-in_err-cipher-clause-tampered
-returns-in_err-cipher-clause-tampered g c = λ place _ quiet stops.
+returns-in_err-cipher-clause-tampered g c = λ place _ _ stops.
     let lines = sealed_lines_view c.self.inside in
     let inside : c.args.line < line_count lines.engine.levels = rw (← c.self.view_is) at c.requires.inside in
     let counted : c.counter-counter.result ≡ counter_in lines.pads.used c.args.line = rw (← c.self.view_is) at c.counter-counter.ensures in
     let going : lasting_stop lines.stopped ≡ None = sym c.lasting.ensures ∙ c.in_default.is in
-    let before : lines.engine.evidence ≡ None = rw (← c.self.view_is) at quiet in
     let refused : c.read_line-cipher.result ≡ Err (Tampered place) = search rules in
     let tampered = c.read_line-cipher.ensures.tampered place refused in
     rw (← c.self.view_is) (
       tampered.0,
       read_lied g.T.Tagger.data_tag_of g.T.Tagger.node_tag_of g.B.Bus.history lines c.args.line c.self.invariant.1 going inside
-          c.counter-counter.result counted c.if-counter-eq0.false (g.B.Bus.history c.read_line-cipher.new.bus).lies tampered.1 before,
+          c.counter-counter.result counted c.if-counter-eq0.false (g.B.Bus.history c.read_line-cipher.new.bus).lies tampered.1,
     )
 
 pub invariant_of-self-2 : goal.invariant_of-self-2
@@ -97,7 +96,7 @@ invariant_of-self-2 g c =
     let levels : c.read_line-cipher.new.tags.levels ≡ lines.engine.levels = c.read_line-cipher.ensures.moves.levels in (
       c.self.invariant.0 ∙ sym levels,
       read_kept g.T.Tagger.data_tag_of g.T.Tagger.node_tag_of g.B.Bus.history lines c.args.line c.self.invariant.1 going inside c.counter-counter.result counted c.if-counter-eq0.false
-          g.B.Bus.moved c.read_line-cipher.new.bus c.read_line-cipher.new.tags c.read_line-cipher.result c.read_line-cipher.ensures.moved c.read_line-cipher.ensures.read
+          g.B.Bus.moved c.read_line-cipher.new.bus c.read_line-cipher.new.tags c.read_line-cipher.result c.read_line-cipher.ensures.moved
           c.read_line-cipher.ensures.moves c.read_line-cipher.ensures.once c.read_line-cipher.ensures.honest c.read_line-cipher.ensures.unspent
           c.or-self-inside.result stops,
       subst (λ (l : ℕ). AreCurrent lines.counters (line_count l) lines.pads.used) (sym levels) c.self.invariant.2,
@@ -127,6 +126,6 @@ returns-clause-moved g c =
     subst (λ (seen : SealedLinesView g.row.B.Denot g.row.T.Denot). ReadMoved g.B.Bus.history g.B.Bus.moved tags seen c.args.line
     (record lines { bus = c.read_line-cipher.new.bus; engine = c.read_line-cipher.new.tags; stopped = c.or-self-inside.result })) c.self.view_is
     (read_moved g.T.Tagger.data_tag_of g.T.Tagger.node_tag_of g.B.Bus.history lines c.args.line c.self.invariant.1 going inside c.counter-counter.result counted c.if-counter-eq0.false
-    g.B.Bus.moved c.read_line-cipher.new.bus c.read_line-cipher.new.tags c.read_line-cipher.result c.read_line-cipher.ensures.moved c.read_line-cipher.ensures.read
+    g.B.Bus.moved c.read_line-cipher.new.bus c.read_line-cipher.new.tags c.read_line-cipher.result c.read_line-cipher.ensures.moved
     c.read_line-cipher.ensures.moves c.read_line-cipher.ensures.once c.read_line-cipher.ensures.honest c.read_line-cipher.ensures.unspent
     c.or-self-inside.result stops)
