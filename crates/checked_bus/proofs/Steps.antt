@@ -1,15 +1,18 @@
 -- What holds of no call, and of two calls one after the other.
-use Rattle.std.proofs.Common.{◌≡◌, ℕ, ◌+◌, ◌<◌, ◌≤◌, ◌⊎◌, inl, inr, List, [], ◌++◌, refl, ap, sym, ◌∙◌, subst, arith, append_assoc}
+use Rattle.std.proofs.Common.{◌≡◌, ℕ, ◌+◌, ◌<◌, ◌≤◌, ◌⊎◌, inl, inr, List, [], ◌∷◌, ◌++◌, refl, ap, sym, ◌∙◌, subst, arith, append_assoc}
 use Rattle.std.proofs.lemmas.List.{append-nil}
 use Rattle.sec_base.specs.Count.{top, RoseBy}
 use Rattle.sec_base.specs.Geometry.{line_count}
+use Rattle.sec_base.specs.LastMessage.{data_pairs}
+use Rattle.sec_base.specs.declared.counter.Counter.{Counter}
 use Rattle.sec_base.specs.declared.message.Message.{Message}
+use Rattle.sec_base.specs.declared.message.Message.TheVariants.{Line, Node}
 use Rattle.sec_base.specs.declared.place.Place.{Place}
 use Rattle.sec_base.specs.declared.place.Place.TheVariants.{Line as line_place}
 use Rattle.bus_model.specs.BusHistory.{BusHistory}
 use Rattle.tag_engine.specs.TagEngine.{TagEngineView}
 use Rattle.checked_bus.specs.Accesses.{line_reads, HasFullCount, AreCounted}
-use Rattle.checked_bus.specs.Steps.{Moves, SameLine}
+use Rattle.checked_bus.specs.Steps.{Moves, SameLine, SameLines}
 
 pub moves_not : {T : Type 0} (history : BusHistory) (engine : TagEngineView T) → Moves history engine history engine
 moves_not history engine = record {
@@ -48,6 +51,39 @@ same_line_on line first second third made made' made'' same more = record {
   reads = more.reads ∙ same.reads;
   last = more.last ∙ same.last;
 }
+
+-- the lines and counters of messages that follow one another
+pub data_pairs-append : (front more : List Message) → data_pairs (front ++ more) ≡ data_pairs front ++ data_pairs more
+unfolding data_pairs
+data_pairs-append [] more = refl
+data_pairs-append (Node level index block ∷ front) more = data_pairs-append front more
+data_pairs-append (Line line counter cipher ∷ front) more = ap (λ (pairs : List (ℕ × Counter)). (line, counter) ∷ pairs) (data_pairs-append front more)
+
+pub same_lines_not : (history : BusHistory) (made : List Message) → SameLines history made history made
+unfolding data_pairs
+same_lines_not history made = record {
+  written = λ line. refl;
+  reads = λ line. refl;
+  more = [];
+  made_more = sym (append-nil made);
+  no_lines = refl;
+}
+
+pub same_lines_on : (first second third : BusHistory) (made made' made'' : List Message) →
+    SameLines first made second made' → SameLines second made' third made'' → SameLines first made third made''
+same_lines_on first second third made made' made'' same more = record {
+  written = λ line. more.written line ∙ same.written line;
+  reads = λ line. more.reads line ∙ same.reads line;
+  more = same.more ++ more.more;
+  made_more = more.made_more ∙ ap (λ (xs : List Message). xs ++ more.more) same.made_more ∙ append_assoc made same.more more.more;
+  no_lines = data_pairs-append same.more more.more ∙ ap (λ (pairs : List (ℕ × Counter)). pairs ++ data_pairs more.more) same.no_lines ∙ more.no_lines;
+}
+
+-- the lines and counters that were tagged are the same
+pub same_pairs : (old new : BusHistory) (made made' : List Message) → SameLines old made new made' → data_pairs made' ≡ data_pairs made
+same_pairs old new made made' same =
+    ap data_pairs same.made_more ∙ data_pairs-append made same.more
+    ∙ ap (λ (pairs : List (ℕ × Counter)). data_pairs made ++ pairs) same.no_lines ∙ append-nil (data_pairs made)
 
 pub counted_not : (history : BusHistory) → AreCounted history history 0
 counted_not history = record { most = inl (omega arith); least = inl (omega arith) }

@@ -1,6 +1,6 @@
--- What a call makes of a bus and a tag engine, seen by the bus's history and by what the engine made and shows. All
--- of it holds of no call, and of two calls one after the other where it holds of each.
-use Rattle.std.specs.Prelude.{◌≡◌, ◌≢◌, ◌⊎◌, ℕ, List, ◌++◌, Option, Some, None, Contains, IfSome, Result, Ok, Err}
+-- What a call makes of a bus and a tag engine, seen by the bus's history and by what the engine made and shows.
+-- `Moves`, `SameLine` and `SameLines` hold of no call, and of two calls one after the other where they hold of each.
+use Rattle.std.specs.Prelude.{◌≡◌, ◌≢◌, ◌⊎◌, ℕ, List, [], ◌++◌, Option, Some, None, Contains, IfSome, Result, Ok, Err}
 use Rattle.sec_base.specs.declared.counter.Counter.{Counter}
 use Rattle.sec_base.specs.declared.evidence.Evidence.{Evidence}
 use Rattle.sec_base.specs.declared.message.Message.{Message}
@@ -11,7 +11,7 @@ use Rattle.sec_base.specs.declared.stop.MemStop.{MemStop}
 use Rattle.sec_base.specs.declared.stop.MemStop.TheVariants.{Tampered, NoMemory}
 use Rattle.sec_base.specs.Count.{Rose, RoseBy, more_by}
 use Rattle.sec_base.specs.Evidence.{IsEvidence}
-use Rattle.sec_base.specs.LastMessage.{last_data, last_pair}
+use Rattle.sec_base.specs.LastMessage.{data_pairs, last_data, last_pair}
 use Rattle.sec_base.specs.Place.{at_place}
 use Rattle.bus_model.specs.BusHistory.{BusHistory}
 use Rattle.bus_model.specs.FirstLie.{AccountsForLies}
@@ -36,6 +36,14 @@ pub record SameLine (line : ℕ) (old : BusHistory) (made : List Message) (new :
   pub written : new.written (line_place line) ≡ old.written (line_place line)
   pub reads : new.reads (line_place line) ≡ old.reads (line_place line)
   pub last : last_data line made' ≡ last_data line made
+
+-- No call touched any line: the places of lines hold what they held and were not read, and only messages of nodes were made.
+pub record SameLines (old : BusHistory) (made : List Message) (new : BusHistory) (made' : List Message) : Type 0 where
+  pub written : (line : ℕ) → new.written (line_place line) ≡ old.written (line_place line)
+  pub reads : (line : ℕ) → new.reads (line_place line) ≡ old.reads (line_place line)
+  pub more : List Message
+  pub made_more : made' ≡ made ++ more
+  pub no_lines : data_pairs more ≡ []
 
 -- The false answers are accounted for where a call stopped so, or did not stop, and evidence is what it says.
 pub record IsAccounted (tag_of : Message → List ℕ) (used : List (ℕ × Counter)) (made : List Message) (history : BusHistory)
