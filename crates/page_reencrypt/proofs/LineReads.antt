@@ -8,26 +8,21 @@ use Rattle.sec_base.specs.Geometry.{line_count}
 use Rattle.sec_base.specs.LastMessage.{last_data, last_pair, IsFresh}
 use Rattle.sec_base.specs.Lines.{line_at}
 use Rattle.sec_base.specs.declared.counter.Counter.{Counter}
-use Rattle.sec_base.specs.declared.evidence.Evidence.{Evidence}
 use Rattle.sec_base.specs.declared.message.Message.{Message}
 use Rattle.sec_base.specs.declared.message.Message.TheVariants.{Line}
-use Rattle.sec_base.specs.declared.place.Place.{Place}
-use Rattle.sec_base.specs.declared.place.Place.TheVariants.{Line as line_place}
 use Rattle.sec_base.specs.declared.stop.MemStop.{MemStop}
-use Rattle.sec_base.specs.declared.stop.MemStop.TheVariants.{Tampered, Spent, NoMemory}
+use Rattle.sec_base.specs.declared.stop.MemStop.TheVariants.{Spent, NoMemory}
 use Rattle.sec_base.proofs.JoinedLines.{line_at-joined_lines}
 use Rattle.bus_model.specs.BusHistory.{BusHistory}
-use Rattle.bus_model.specs.FirstLie.{IsOfFirstLie}
 use Rattle.tag_engine.specs.TagEngine.{TagEngineView, tags_of}
 use Rattle.pad_stream.specs.Pad.{cipher_of}
-use Rattle.checked_bus.specs.Checks.{IsCheckedRead}
 use Rattle.checked_bus.specs.Steps.{IsAccounted, IsCurrent, Moves as StepMoves, ReadsOnce, stop_of}
-use Rattle.checked_bus.proofs.FalseAnswers.{first_lie_stays}
 use Rattle.page_reencrypt.specs.Contents.{bytes_of, contents_of, counter_in, line_bytes, never_written}
 use Rattle.page_reencrypt.specs.LineLengths.{length-line_bytes}
 use Rattle.page_reencrypt.specs.SealedLines.{AreCurrent, AreProtected, ReadMoved, SealedLinesView, contents, lasting_stop}
 use Rattle.page_reencrypt.proofs.Moves.{moves_not}
 use Rattle.page_reencrypt.proofs.Protected.{read_protected, same_tags}
+use Rattle.page_reencrypt.proofs.Stops.{going_not_memory, going_not_tampered, other_stop}
 use Rattle.page_reencrypt.proofs.RisingPairs.{counter_fresh, is_current, last_none, last_under_last}
 
 -- Lines and their counters
@@ -45,21 +40,6 @@ written_by (Some counter) some = refl
 
 pub written : (used : List (ℕ × Counter)) (line : ℕ) → (counter_in used line).page ≢ 0 → last_pair line used ≡ Some (counter_in used line)
 written used line some = written_by (last_pair line used) some
-
--- Stops
-
--- a stop that does not last is none of these
-going_not_memory : (stopped : Option MemStop) → lasting_stop stopped ≡ None → stopped ≢ Some NoMemory
-going_not_memory None going = λ is. absurd (cc)
-going_not_memory (Some (Spent page)) going = λ is. absurd (cc)
-going_not_memory (Some (Tampered place)) going = absurd (cc)
-going_not_memory (Some NoMemory) going = absurd (cc)
-
-going_not_tampered : (stopped : Option MemStop) (place : Place) → lasting_stop stopped ≡ None → stopped ≢ Some (Tampered place)
-going_not_tampered None place going = λ is. absurd (cc)
-going_not_tampered (Some (Spent page)) place going = λ is. absurd (cc)
-going_not_tampered (Some (Tampered other)) place going = absurd (cc)
-going_not_tampered (Some NoMemory) place going = absurd (cc)
 
 -- Where no line was read
 
@@ -97,31 +77,6 @@ module _ {B T : Type 0} (d n : T → List ℕ → List ℕ) (history : B → Bus
     read = record { read = λ going quiet. inl untagged };
     no_nodes = kept.no_nodes;
   }
-
--- What is accounted for
-
--- by a stop that is tampering with the same places
-other_stop : (tag_of : Message → List ℕ) (used : List (ℕ × Counter)) (made : List Message) (history : BusHistory) (stop stop' : Option MemStop) (evidence : Option Evidence) →
-    ((place : Place) → stop ≡ Some (Tampered place) → stop' ≡ Some (Tampered place)) →
-    ((place : Place) → stop' ≡ Some (Tampered place) → stop ≡ Some (Tampered place)) →
-    IsAccounted tag_of used made history stop evidence → IsAccounted tag_of used made history stop' evidence
-other_stop tag_of used made history stop stop' evidence there back was = record {
-  account = record {
-    answers = λ quiet. elim (was.account.answers quiet) [
-      | inl honest ↦ inl (record { lies = honest.lies; untampered = λ place is. honest.untampered place (back place is) })
-      | inr caught ↦ inr (record {
-        lies = caught.lies;
-        lie = caught.lie;
-        first = caught.first;
-        last = caught.last;
-        fails = caught.fails;
-        ended = there caught.lie.place caught.ended;
-      })
-    ];
-    shown = was.account.shown;
-  };
-  genuine = was.genuine;
-}
 
 -- A line that was written
 
@@ -179,14 +134,14 @@ module _ {B T : Type 0} (d n : T → List ℕ → List ℕ) (history : B → Bus
         IsAccounted (tags_of d n lines.engine) lines.pads.used lines.engine.made (history lines.bus) None lines.engine.evidence
     unlied was =
         other_stop (tags_of d n lines.engine) lines.pads.used lines.engine.made (history lines.bus) lines.stopped None lines.engine.evidence
-        (λ place is. absurd (going_not_tampered lines.stopped place going is)) (λ place is. absurd (cc)) was
+        (λ place. going_not_tampered lines.stopped place going) (λ place is. cc) was
 
     by_stop : (given : Result (List ℕ) MemStop) → stopped ≡ option_or (result_err given) lines.stopped →
         IsAccounted (tags_of d n lines.engine) lines.pads.used engine.made (history bus) (stop_of given) engine.evidence →
         IsAccounted (tags_of d n lines.engine) lines.pads.used engine.made (history bus) stopped engine.evidence
     by_stop (Ok cipher) same was =
         other_stop (tags_of d n lines.engine) lines.pads.used engine.made (history bus) None stopped engine.evidence
-        (λ place is. absurd (cc)) (λ place is. absurd (going_not_tampered lines.stopped place going (sym same ∙ is))) was
+        (λ place is. cc) (λ place is. going_not_tampered lines.stopped place going (sym same ∙ is)) was
     by_stop (Err stop) same was = subst (λ (s : Option MemStop). IsAccounted (tags_of d n lines.engine) lines.pads.used engine.made (history bus) s engine.evidence) (sym same) was
 
     nothing_more : length step.more ≡ 0

@@ -1,19 +1,15 @@
 -- A memory of which no line was written.
-use Rattle.std.proofs.Common.{◌≡◌, ℕ, zero, suc, ◌<◌, inl, List, [], ◌∷◌, length, replicate, slice_index, Option, Some, None, refl, ap, sym, ◌∙◌, subst, arith}
+use Rattle.std.proofs.Common.{◌≡◌, ℕ, ◌<◌, inl, List, [], replicate, None, refl, ap, sym, subst, arith}
 use Rattle.std.proofs.lemmas.List.{get_or-replicate, length-replicate}
-use Rattle.sec_base.specs.Count.{RoseBy}
 use Rattle.sec_base.specs.Geometry.{line_count}
 use Rattle.sec_base.specs.LastMessage.{last_at, data_pairs}
 use Rattle.sec_base.specs.Place.{IsPlace}
 use Rattle.sec_base.specs.declared.counter.Counter.{Counter}
-use Rattle.sec_base.specs.declared.message.Message.{Message}
 use Rattle.sec_base.specs.declared.place.Place.TheVariants.{Line as line_place, Node}
 use Rattle.bus_model.specs.BusHistory.{BusHistory, NothingWritten}
 use Rattle.tag_engine.specs.TagEngine.{TagEngineView, new_engine, tags_of}
-use Rattle.pad_stream.specs.Pads.{AreRising}
 use Rattle.pad_stream.specs.PadEngine.{PadEngineView, new_pads}
-use Rattle.page_reencrypt.specs.Contents.{AreWithin, HoldsLast, HoldsSealed, NodesAreZeros, counter_in, never_written}
-use Rattle.page_reencrypt.specs.SealedLines.{AreCurrent, AreNew, IsBooted, IsProtected, IsUnbooted, SealedLinesView}
+use Rattle.page_reencrypt.specs.SealedLines.{AreCurrent, AreNew, IsBooted, IsProtected, IsUnbooted}
 use Rattle.checked_bus.proofs.Steps.{counted_not}
 
 -- What boot leaves of a bus that it did not touch

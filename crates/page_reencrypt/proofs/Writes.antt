@@ -4,7 +4,6 @@ use Rattle.std.specs.Option.{option_or}
 use Rattle.std.specs.Result.{result_err}
 use Rattle.std.proofs.lemmas.List.{append-nil, get_or_read, set-get_or}
 use Rattle.sec_base.specs.declared.counter.Counter.{Counter}
-use Rattle.sec_base.specs.declared.evidence.Evidence.{Evidence}
 use Rattle.sec_base.specs.declared.message.Message.{Message}
 use Rattle.sec_base.specs.declared.message.Message.TheVariants.{Line}
 use Rattle.sec_base.specs.declared.place.Place.{Place}
@@ -16,7 +15,6 @@ use Rattle.sec_base.specs.Lines.{with_line}
 use Rattle.sec_base.specs.Place.{at_place}
 use Rattle.sec_base.proofs.JoinedLines.{with_line-joined_lines}
 use Rattle.bus_model.specs.BusHistory.{BusHistory}
-use Rattle.bus_model.specs.FirstLie.{HonestOrCaught}
 use Rattle.tag_engine.specs.TagEngine.{TagEngineView, tags_of, with_room}
 use Rattle.pad_stream.specs.Pad.{cipher_of}
 use Rattle.pad_stream.specs.PadEngine.{PadEngineView}
@@ -24,7 +22,6 @@ use Rattle.pad_stream.proofs.Enciphering.{length-cipher_of}
 use Rattle.checked_bus.specs.Accesses.{AreCounted}
 use Rattle.checked_bus.specs.SealedLine.{sealed_line}
 use Rattle.checked_bus.specs.Steps.{IsAccounted, Moves as StepMoves}
-use Rattle.checked_bus.proofs.CheckedReads.{none_lied, still_honest}
 use Rattle.checked_bus.proofs.LineMessages.{last_data-same, last_data-other}
 use Rattle.checked_bus.proofs.Steps.{counted_not}
 use Rattle.page_reencrypt.specs.Contents.{IsSpent, bytes_of, contents_of, counter_in, last_counter, line_bytes, next_counter}
@@ -32,35 +29,25 @@ use Rattle.page_reencrypt.specs.LineLengths.{length-line_bytes}
 use Rattle.page_reencrypt.specs.NextWrites.{IsMadeNext, IsNextWrite, IsUnmade, WriteParts, cipher_next, counter_next}
 use Rattle.page_reencrypt.specs.SealedLines.{AccountsForAll, AreCurrent, AreProtected, IsProtected, Moves, SealedLinesView, contents, lasting_stop, unwritten}
 use Rattle.page_reencrypt.proofs.Protected.{current_more, protected_as, same_kept, same_tags, unwritten_protected, written_protected}
+use Rattle.page_reencrypt.proofs.Stops.{going_not_memory, going_not_tampered, other_account, other_stop}
 use Rattle.page_reencrypt.proofs.RisingPairs.{counter_limited}
 
 -- False answers, where no call stopped
-
--- what was used says nothing of them
-pub unused_accounted : (tag_of : Message → List ℕ) (history : BusHistory) (made : List Message) (evidence : Option Evidence) (used more : List (ℕ × Counter)) →
-    IsAccounted tag_of used made history None evidence → IsAccounted tag_of more made history None evidence
-unused_accounted tag_of history made evidence used more was = record {
-  account = record {
-    answers = λ quiet. still_honest tag_of more made history None (none_lied tag_of used made history (was.account.answers quiet)) (λ place is. absurd (cc));
-    shown = was.account.shown;
-  };
-  genuine = was.genuine;
-}
 
 module _ {T : Type 0} (d n : T → List ℕ → List ℕ) (history : BusHistory) (engine engine' : TagEngineView T) where
   abbrev Accounted : TagEngineView T → TagEngineView T → List (ℕ × Counter) → BusHistory → Type 0
   Accounted tagging seen used found = IsAccounted (tags_of d n tagging) used seen.made found None seen.evidence
 
-  -- nor does memory for another message
+  -- what was used, and memory for another message, say nothing of them
   pub roomy_accounted : engine' ≡ with_room 1 engine → (used more : List (ℕ × Counter)) → Accounted engine engine used history → Accounted engine engine' more history
   roomy_accounted roomy used more was =
       subst (λ (e : TagEngineView T). Accounted engine e more history) (sym roomy)
-      (unused_accounted (tags_of d n engine) history engine.made engine.evidence used more was)
+      (other_account (tags_of d n engine) used more engine.made history None None engine.evidence (λ place is. cc) (λ place is. cc) was)
 
   pub same_accounted : engine' ≡ engine → (used more : List (ℕ × Counter)) → Accounted engine engine used history → Accounted engine engine' more history
   same_accounted same used more was =
       subst (λ (e : TagEngineView T). Accounted engine e more history) (sym same)
-      (unused_accounted (tags_of d n engine) history engine.made engine.evidence used more was)
+      (other_account (tags_of d n engine) used more engine.made history None None engine.evidence (λ place is. cc) (λ place is. cc) was)
 
   -- what is so of an engine with such memory is so of it
   pub honest_on : (history' : BusHistory) (after : TagEngineView T) → engine' ≡ with_room 1 engine →
@@ -68,32 +55,6 @@ module _ {T : Type 0} (d n : T → List ℕ → List ℕ) (history : BusHistory)
       (used more : List (ℕ × Counter)) → Accounted engine engine used history → Accounted engine after more history'
   honest_on history' after roomy honest used more =
       subst (λ (e : TagEngineView T). Accounted e e used history → Accounted e after more history') roomy (honest used more)
-
-honest_by : (tag_of : Message → List ℕ) (history : BusHistory) (made : List Message) (used : List (ℕ × Counter)) (stopped : Option MemStop) →
-    ((place : Place) → stopped ≢ Some (Tampered place)) → HonestOrCaught tag_of used made history (λ place. stopped ≡ Some (Tampered place)) → history.lies ≡ 0
-honest_by tag_of history made used stopped untampered (inl honest) = honest.lies
-honest_by tag_of history made used stopped untampered (inr caught) = absurd (untampered caught.lie.place caught.ended)
-
--- what is so where nothing stopped is so after a stop that is no tampering, and the other way round
-pub going_accounted : (tag_of : Message → List ℕ) (history : BusHistory) (made : List Message) (evidence : Option Evidence) (used : List (ℕ × Counter)) (stopped : Option MemStop) →
-    ((place : Place) → stopped ≢ Some (Tampered place)) → IsAccounted tag_of used made history stopped evidence → IsAccounted tag_of used made history None evidence
-going_accounted tag_of history made evidence used stopped untampered was = record {
-  account = record {
-    answers = λ quiet. still_honest tag_of used made history None (honest_by tag_of history made used stopped untampered (was.account.answers quiet)) (λ place is. absurd (cc));
-    shown = was.account.shown;
-  };
-  genuine = was.genuine;
-}
-
-pub stopped_accounted : (tag_of : Message → List ℕ) (history : BusHistory) (made : List Message) (evidence : Option Evidence) (used : List (ℕ × Counter)) (stopped : Option MemStop) →
-    ((place : Place) → stopped ≢ Some (Tampered place)) → IsAccounted tag_of used made history None evidence → IsAccounted tag_of used made history stopped evidence
-stopped_accounted tag_of history made evidence used stopped untampered was = record {
-  account = record {
-    answers = λ quiet. still_honest tag_of used made history stopped (none_lied tag_of used made history (was.account.answers quiet)) untampered;
-    shown = was.account.shown;
-  };
-  genuine = was.genuine;
-}
 
 -- What the memory holds
 
@@ -112,14 +73,6 @@ pub counter_read : (counters : List ℕ) (lines : ℕ) (used : List (ℕ × Coun
     writes ≡ slice_index_or counters line writes → writes ≡ slice_index counters line
 counter_read counters lines used line writes current inside read =
     let below : line < length counters = omega (arith, current.long) in get_or_read counters line writes below read 0
-
--- A stop that does not last
-
-pub no_memory_yet : (stopped : Option MemStop) → lasting_stop stopped ≡ None → stopped ≢ Some NoMemory
-no_memory_yet stopped going is = let lasts : lasting_stop stopped ≡ Some NoMemory = ap lasting_stop is in cc
-
-pub untampered_yet : (stopped : Option MemStop) → lasting_stop stopped ≡ None → (place : Place) → stopped ≢ Some (Tampered place)
-untampered_yet stopped going place is = let lasts : lasting_stop stopped ≡ Some (Tampered place) = ap lasting_stop is in cc
 
 module _ {B T : Type 0} (d n : T → List ℕ → List ℕ) (history : B → BusHistory) (bus_moved : B → B → Type 0) (m : SealedLinesView B T) (line writes : ℕ) (bytes : List ℕ)
     (bus' : B) (engine' : TagEngineView T) (pads' : PadEngineView) (writes' : ℕ) (counters' : List ℕ)
@@ -209,7 +162,7 @@ module _ {B T : Type 0} (d n : T → List ℕ → List ℕ) (history : B → Bus
       ((page : ℕ) → stopped ≡ Some (Spent page) → IsSpent (line_count m.engine.levels) m.limit m.pads.used page) → AreProtected d n history (after stopped)
   unmade_kept stopped unmade spent =
       same_kept d n history m (after stopped) kept step.bus_levels (ap (λ (t : BusHistory). t.written) unmade.history) step.tagger step.levels unmade.made
-      (ap (λ (p : PadEngineView). p.used) unmade.pads) refl (λ goes. no_memory_yet m.stopped going) spent
+      (ap (λ (p : PadEngineView). p.used) unmade.pads) refl (λ goes. going_not_memory m.stopped going) spent
 
   unset : IsUnmade old new → counters' ≡ m.counters
   unset unmade = set ∙ ap (λ (k : ℕ). slice_set m.counters line k) (unmade.writes ∙ read) ∙ set-get_or m.counters line 0
@@ -247,7 +200,7 @@ module _ {B T : Type 0} (d n : T → List ℕ → List ℕ) (history : B → Bus
       wrote.2.written ∙ ap (λ (c : Counter). at_place (line_place line) (sealed_line (tags_of d n m.engine) line c cipher) (history m.bus).written) (sym next) in
       made_kept m.stopped wrote.1
       (written_protected (tags_of d n m.engine) m.engine.levels m.limit (history m.bus) m.engine.made m.pads.used m.stopped line cipher
-      kept inside below long (history bus') step.bus_levels put (no_memory_yet m.stopped going))
+      kept inside below long (history bus') step.bus_levels put (going_not_memory m.stopped going))
   write_kept (Err (Tampered place)) impossible = absurd impossible
   write_kept (Err (Spent page)) spent =
       unmade_kept (Some (Spent page)) spent.2
@@ -303,10 +256,12 @@ module _ {B T : Type 0} (d n : T → List ℕ → List ℕ) (history : B → Bus
     accounted : (stopped : Option MemStop) → ((place : Place) → stopped ≢ Some (Tampered place)) →
         AccountsForAll (tags_of d n) history m → AccountsForAll (tags_of d n) history (after stopped)
     accounted stopped untampered was =
-        let before = going_accounted (tags_of d n m.engine) (history m.bus) m.engine.made m.engine.evidence m.pads.used m.stopped (untampered_yet m.stopped going) was in
+        let before = other_stop (tags_of d n m.engine) m.pads.used m.engine.made (history m.bus) m.stopped None m.engine.evidence
+        (λ place. going_not_tampered m.stopped place going) (λ place is. cc) was in
         subst (λ (t : Message → List ℕ). IsAccounted t pads'.used engine'.made (history bus') stopped engine'.evidence)
         (sym (same_tags d n m.engine engine' step.tagger step.levels))
-        (stopped_accounted (tags_of d n m.engine) (history bus') engine'.made engine'.evidence pads'.used stopped untampered (honest m.pads.used pads'.used before))
+        (other_stop (tags_of d n m.engine) pads'.used engine'.made (history bus') None stopped engine'.evidence (λ place is. cc) untampered
+        (honest m.pads.used pads'.used before))
 
     idle : (stopped : Option MemStop) (stop : MemStop) → lasting_stop m.stopped ≡ Some stop → after stopped ≡ m
     idle stopped stop is = absurd (cc)
@@ -347,7 +302,7 @@ module _ {B T : Type 0} (d n : T → List ℕ → List ℕ) (history : B → Bus
     }
 
     pub write_moves : (result : Result (Unit {0}) MemStop) → Wrote result → Moves history bus_moved (tags_of d n) m (after (stop_after result))
-    write_moves (Ok _) wrote = made_moves m.stopped (untampered_yet m.stopped going) wrote.1 1 wrote.2.counted (omega arith) (omega arith)
+    write_moves (Ok _) wrote = made_moves m.stopped (λ place. going_not_tampered m.stopped place going) wrote.1 1 wrote.2.counted (omega arith) (omega arith)
     write_moves (Err (Tampered place)) impossible = absurd impossible
     write_moves (Err (Spent page)) spent = unmade_moves (Some (Spent page)) (λ place is. cc) spent.2
     write_moves (Err NoMemory) refused =
