@@ -1,9 +1,8 @@
 // The memory that the processor sees.
 ghost use Rattle.std.specs.Prelude.{◌≡◌, ◌≢◌, ◌+◌, ◌*◌, ◌%◌, ◌^◌, ◌<◌, ◌≤◌, ◌↔◌, ◌⊎◌, ◌∷◌, ◌++◌, [], ℕ, List, None, Some, Err, IfOk, IfErr, IfSome, IsTrue, OnOk, OnErr, Contains, length};
-ghost use Rattle.sec_base.specs.Count.{Rose, more_by};
+ghost use Rattle.sec_base.specs.Count.{Rose};
 ghost use Rattle.sec_base.specs.Evidence.{IsEvidence};
 ghost use Rattle.sec_base.specs.Geometry.{line_of, page_of};
-ghost use Rattle.sec_base.specs.LastMessage.{IsFresh};
 ghost use Rattle.sec_base.specs.Width.{width_bytes, number_at, with_number};
 ghost use Rattle.sec_base.specs.declared.counter.Counter.{Counter};
 ghost use Rattle.sec_base.specs.declared.place.Place.{Place};
@@ -14,7 +13,7 @@ ghost use Rattle.bus_model.specs.BusHistory.{NothingWritten};
 ghost use Rattle.tag_engine.specs.TagEngine.{tags_of};
 ghost use Rattle.page_reencrypt.specs.Contents.{IsSpent, counter_in};
 ghost use Rattle.page_reencrypt.specs.SealedLines.{AreNew, AreProtected, IsUnbooted, IsUnsealed, tag_in};
-ghost use Rattle.secure_memory.specs.SecureMemory.{IsMoved, IsQuiet, IsSealedOnce, contents, evidence, held_lines, lines_of, made, most_held, stopped, used};
+ghost use Rattle.secure_memory.specs.SecureMemory.{IsMoved, IsQuiet, IsSealedOnce, LineHad, contents, evidence, held_lines, lines_of, made, most_held, stopped, used};
 
 use bus_model::Bus;
 use hmac_tag::Keys;
@@ -142,12 +141,11 @@ impl<B: Bus, T: Tagger> Ram for SecureRam<B, T> {
         ensures latched { (stop : MemStop) → stopped self.old ≡ Some stop → (result ≡ Err stop) × (self.new ≡ self.old) }
 
         // It is one access at most, and nothing is encrypted, tagged or written.
-        ensures once { (B.history self.new.lines.bus).accesses ≤ more_by 1 (B.history self.old.lines.bus).accesses }
+        ensures once { (B.history self.new.lines.bus).accesses ≤ (B.history self.old.lines.bus).accesses + 1 }
         ensures unsealed { IsUnsealed B.history self.old.lines self.new.lines }
 
-        // A line that is neither held nor fresh was read from its place, unless the call stopped or found evidence.
-        ensures read { IsQuiet self.new → OnOk result (Contains (held_lines self.old) (line_of addr) ⊎ (IsFresh (line_of addr) (used self.old)
-            ⊎ Rose ((B.history self.old.lines.bus).reads (line_place (line_of addr))) ((B.history self.new.lines.bus).reads (line_place (line_of addr))))) }
+        // A line that was not held and was written before was read from its place, unless the call stopped or found evidence.
+        ensures read { IsQuiet self.new → OnOk result (LineHad B.history self.old self.new (line_of addr)) }
         ensures held { (line : ℕ) → Contains (held_lines self.new) line → Contains (held_lines self.old) line ⊎ (line ≡ line_of addr) }
 
         // Tampering comes only of the line, and where an answer was false.
@@ -182,13 +180,12 @@ impl<B: Bus, T: Tagger> Ram for SecureRam<B, T> {
         ensures latched { (stop : MemStop) → stopped self.old ≡ Some stop → (result ≡ Err stop) × (self.new ≡ self.old) }
 
         // It is two accesses at most. The line is encrypted once; where the store is refused, once or not at all.
-        ensures once { (B.history self.new.lines.bus).accesses ≤ more_by 2 (B.history self.old.lines.bus).accesses }
+        ensures once { (B.history self.new.lines.bus).accesses ≤ (B.history self.old.lines.bus).accesses + 2 }
         ensures sealed { OnOk result (IsSealedOnce (line_of addr) (used self.old) (used self.new)) }
         ensures unsealed { OnErr result ((used self.new ≡ used self.old) ⊎ IsSealedOnce (line_of addr) (used self.old) (used self.new)) }
 
-        // A line that is neither held nor fresh was read from its place, unless the call stopped or found evidence.
-        ensures read { IsQuiet self.new → OnOk result (Contains (held_lines self.old) (line_of addr) ⊎ (IsFresh (line_of addr) (used self.old)
-            ⊎ Rose ((B.history self.old.lines.bus).reads (line_place (line_of addr))) ((B.history self.new.lines.bus).reads (line_place (line_of addr))))) }
+        // A line that was not held and was written before was read from its place, unless the call stopped or found evidence.
+        ensures read { IsQuiet self.new → OnOk result (LineHad B.history self.old self.new (line_of addr)) }
         ensures held { (line : ℕ) → Contains (held_lines self.new) line → Contains (held_lines self.old) line ⊎ (line ≡ line_of addr) }
 
         // Tampering comes only of the line, and where an answer was false. A line's counters are used up exactly where
