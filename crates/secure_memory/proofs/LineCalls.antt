@@ -1,12 +1,12 @@
 -- What a load and a store make of a memory.
-use Rattle.std.proofs.Common.{◌≡◌, ◌⊎◌, inl, inr, ℕ, zero, suc, List, [], ◌∷◌, Some, None, Contains, refl, sym, subst, arith}
+use Rattle.std.proofs.Common.{◌≡◌, ◌⊎◌, inl, inr, ℕ, zero, suc, List, [], ◌∷◌, Some, None, Contains, ap, sym, subst, arith}
 use Rattle.sec_base.specs.Geometry.{page_of}
 use Rattle.sec_base.specs.declared.message.Message.{Message}
 use Rattle.sec_base.specs.declared.stop.MemStop.{MemStop}
 use Rattle.bus_model.specs.BusHistory.{BusHistory}
 use Rattle.tag_engine.specs.TagEngine.{TagEngineView}
-use Rattle.page_reencrypt.specs.SealedLines.{Moves, ReadMoved}
-use Rattle.secure_memory.specs.FoldMoves.{moves_not, moves_on}
+use Rattle.page_reencrypt.specs.SealedLines.{Moves, ReadMoved, lasting_stop}
+use Rattle.page_reencrypt.proofs.Moves.{moves_not, moves_on}
 use Rattle.secure_memory.specs.SecureMemory.{SecureMemory, IsMoved, IsQuiet, LineHad, PageHad, WereHad, evidence, stopped}
 use Rattle.secure_memory.specs.Moving.{line_sooner, page_sooner, was_none}
 
@@ -30,7 +30,7 @@ module _ {B T : Type 0} (history : B → BusHistory) (bus_moved : B → B → Ty
   module _ (old new : SecureMemory B T) (line : ℕ) where
     -- A line that was read was had, where there is neither a stop nor evidence; nothing of it is held
     pub line_had : ReadMoved history bus_moved tags old.lines line new.lines → stopped new ≡ None → IsQuiet new → LineHad history old new line
-    line_had moved going quiet = inr (moved.read.read going quiet)
+    line_had moved going quiet = inr (moved.read.read (ap lasting_stop going) quiet)
 
     pub were_had : LineHad history old new line → PageHad history old new (page_of line) → WereHad history old (line ∷ []) new
     were_had line_was page_was = record {

@@ -11,7 +11,7 @@ ghost use Rattle.sec_base.specs.declared.stop.MemStop.{MemStop};
 ghost use Rattle.sec_base.specs.declared.stop.MemStop.TheVariants.{Tampered, Spent};
 ghost use Rattle.bus_model.specs.BusHistory.{NothingWritten};
 ghost use Rattle.tag_engine.specs.TagEngine.{tags_of};
-ghost use Rattle.page_reencrypt.specs.Contents.{IsSpent, counter_in};
+ghost use Rattle.page_reencrypt.specs.Contents.{IsSpent, counter_in, last_counter};
 ghost use Rattle.page_reencrypt.specs.SealedLines.{AreNew, AreProtected, IsUnbooted, IsUnsealed, tag_in};
 ghost use Rattle.secure_memory.specs.SecureMemory.{IsMoved, IsQuiet, IsSealedOnce, LineHad, contents, evidence, held_lines, lines_of, made, most_held, stopped, used};
 
@@ -144,7 +144,7 @@ impl<B: Bus, T: Tagger> Ram for SecureRam<B, T> {
         ensures once { (B.history self.new.lines.bus).accesses ≤ (B.history self.old.lines.bus).accesses + 1 }
         ensures unsealed { IsUnsealed B.history self.old.lines self.new.lines }
 
-        // A line that was not held and was written before was read from its place, unless the call stopped or found evidence.
+        // The line was held, or never tagged, or was read from its place, where the call neither stops nor finds evidence.
         ensures read { IsQuiet self.new → OnOk result (LineHad B.history self.old self.new (line_of addr)) }
         ensures held { (line : ℕ) → Contains (held_lines self.new) line → Contains (held_lines self.old) line ⊎ (line ≡ line_of addr) }
 
@@ -184,7 +184,7 @@ impl<B: Bus, T: Tagger> Ram for SecureRam<B, T> {
         ensures sealed { OnOk result (IsSealedOnce (line_of addr) (used self.old) (used self.new)) }
         ensures unsealed { OnErr result ((used self.new ≡ used self.old) ⊎ IsSealedOnce (line_of addr) (used self.old) (used self.new)) }
 
-        // A line that was not held and was written before was read from its place, unless the call stopped or found evidence.
+        // The line was held, or never tagged, or was read from its place, where the call neither stops nor finds evidence.
         ensures read { IsQuiet self.new → OnOk result (LineHad B.history self.old self.new (line_of addr)) }
         ensures held { (line : ℕ) → Contains (held_lines self.new) line → Contains (held_lines self.old) line ⊎ (line ≡ line_of addr) }
 
@@ -194,7 +194,7 @@ impl<B: Bus, T: Tagger> Ram for SecureRam<B, T> {
             (place ≡ line_place (line_of addr)) × Rose (B.history self.old.lines.bus).lies (B.history self.new.lines.bus).lies }
         ensures spent { (page : ℕ) → stopped self.old ≡ None → result ≡ Err (Spent page) → (page ≡ page_of (line_of addr))
             × IsSpent (lines_of self.old) self.old.lines.limit (used self.old) page × IsUnsealed B.history self.old.lines self.new.lines }
-        ensures unspent { OnOk result (counter_in (used self.old) (line_of addr) ≢ record { page = self.old.lines.limit; line = 0 }) }
+        ensures unspent { OnOk result (counter_in (used self.old) (line_of addr) ≢ last_counter self.old.lines.limit) }
     {
         if let Some(stop) = self.lines.stopped() {
             return Err(stop);
