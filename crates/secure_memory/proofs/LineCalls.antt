@@ -24,6 +24,7 @@ module _ {B T : Type 0} (history : B → BusHistory) (bus_moved : B → B → Ty
   stopped_unmoved bus_unmoved memory lines stop is = record {
     moves = moves_not history bus_moved tags bus_unmoved memory.lines;
     stays = λ other was. was;
+    few = λ few. few;
     had = λ going quiet. absurd (cc);
   }
 
@@ -45,6 +46,7 @@ module _ {B T : Type 0} (history : B → BusHistory) (bus_moved : B → B → Ty
     loaded_moved going moved = record {
       moves = moved.moves;
       stays = λ stop is. absurd (cc);
+      few = λ few. omega arith;
       had = λ still quiet. were_had (line_had moved still quiet) (inr (inl (moved.no_nodes 0 (page_of line))));
     }
 
@@ -56,6 +58,7 @@ module _ {B T : Type 0} (history : B → BusHistory) (bus_moved : B → B → Ty
   stored_moved bus_moved_on first second third line going read_on moved wrote = record {
     moves = moves_on history bus_moved tags bus_moved_on first.lines second.lines third.lines moved.moves wrote;
     stays = λ stop is. absurd (cc);
+    few = λ few. omega arith;
     had = λ still quiet.
         were_had first third line
         (line_sooner history bus_moved tags first second third line wrote

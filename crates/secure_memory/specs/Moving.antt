@@ -12,7 +12,7 @@ use Rattle.bus_model.specs.BusHistory.{BusHistory}
 use Rattle.tag_engine.specs.TagEngine.{TagEngineView}
 use Rattle.page_reencrypt.specs.SealedLines.{Moves}
 use Rattle.page_reencrypt.proofs.Moves.{moves_not, moves_on}
-use Rattle.secure_memory.specs.SecureMemory.{SecureMemory, IsMoved, IsQuiet, LineHad, PageHad, WereHad, cached_pages, evidence, held_lines, made, pages_on_chip, stopped}
+use Rattle.secure_memory.specs.SecureMemory.{SecureMemory, IsMoved, IsQuiet, LineHad, PageHad, PageRead, WereHad, cached_pages, evidence, held_lines, made, pages_on_chip, stopped}
 
 none_contained : {A : Type 0} (x : A) → Contains [] x → ⊥
 none_contained x (k, below, at) = omega arith
@@ -48,11 +48,15 @@ module _ {B T : Type 0} (history : B → BusHistory) (bus_moved : B → B → Ty
     line_sooner line moves (inr (inl untagged)) = inr (inl untagged)
     line_sooner line moves (inr (inr rose)) = inr (inr (omega (arith, rose, moves.step.reads (line_place line))))
 
+    read_sooner : (page : ℕ) → Moves history bus_moved tags second.lines third.lines →
+        PageRead history first second page → PageRead history first third page
+    read_sooner page moves (inl untagged) = inl untagged
+    read_sooner page moves (inr rose) = inr (omega (arith, rose, moves.step.reads (Node 0 page)))
+
     pub page_sooner : (page : ℕ) → Moves history bus_moved tags second.lines third.lines →
         PageHad history first second page → PageHad history first third page
     page_sooner page moves (inl on_chip) = inl on_chip
-    page_sooner page moves (inr (inl untagged)) = inr (inl untagged)
-    page_sooner page moves (inr (inr rose)) = inr (inr (omega (arith, rose, moves.step.reads (Node 0 page))))
+    page_sooner page moves (inr read) = inr (read_sooner page moves read)
 
     -- A page of which something is on the chip was had by the calls before
     on_chip_had : (lines : List ℕ) → WereHad history first lines second → (page : ℕ) → Contains (pages_on_chip second) page → PageHad history first second page
@@ -60,7 +64,10 @@ module _ {B T : Type 0} (history : B → BusHistory) (bus_moved : B → B → Ty
         | inl of_line ↦
             let from : (line : ℕ) × Contains (held_lines second) line × (page_of line ≡ page) = mapped_from page_of (held_lines second) page of_line in
             subst (PageHad history first second) from.2 (had.held from.0 from.1).1
-        | inr cached ↦ had.cached page cached
+        | inr cached ↦ elim (had.cached page cached) [
+          | inl was ↦ inl (on_chip_of_page (held_lines first) (cached_pages first) page was)
+          | inr read ↦ inr read
+        ]
       ]
 
     -- What is had by further calls was had by those before or is had by these
@@ -71,12 +78,25 @@ module _ {B T : Type 0} (history : B → BusHistory) (bus_moved : B → B → Ty
         inr (inl (none_front (data_part line) (made first) moves.step.more (subst (λ (made : List Message). last_data line made ≡ None) moves.step.made untagged)))
     line_later lines line moves more had (inr (inr rose)) = inr (inr (omega (arith, rose, moves.step.reads (line_place line))))
 
+    read_later : (page : ℕ) → Moves history bus_moved tags first.lines second.lines → PageRead history second third page → PageRead history first third page
+    read_later page moves (inl untagged) =
+        inl (none_front (node_part 0 page) (made first) moves.step.more (subst (λ (made : List Message). last_node 0 page made ≡ None) moves.step.made untagged))
+    read_later page moves (inr rose) = inr (omega (arith, rose, moves.step.reads (Node 0 page)))
+
     page_later : (lines : List ℕ) (page : ℕ) → Moves history bus_moved tags first.lines second.lines → Moves history bus_moved tags second.lines third.lines →
         WereHad history first lines second → PageHad history second third page → PageHad history first third page
     page_later lines page moves more had (inl on_chip) = page_sooner page more (on_chip_had lines had page on_chip)
-    page_later lines page moves more had (inr (inl untagged)) =
-        inr (inl (none_front (node_part 0 page) (made first) moves.step.more (subst (λ (made : List Message). last_node 0 page made ≡ None) moves.step.made untagged)))
-    page_later lines page moves more had (inr (inr rose)) = inr (inr (omega (arith, rose, moves.step.reads (Node 0 page))))
+    page_later lines page moves more had (inr read) = inr (read_later page moves read)
+
+    -- and so is a cached one
+    cached_later : (lines : List ℕ) (page : ℕ) → Moves history bus_moved tags first.lines second.lines → Moves history bus_moved tags second.lines third.lines →
+        WereHad history first lines second → Contains (cached_pages second) page ⊎ PageRead history second third page →
+        Contains (cached_pages first) page ⊎ PageRead history first third page
+    cached_later lines page moves more had (inl cached) = elim (had.cached page cached) [
+        | inl was ↦ inl was
+        | inr read ↦ inr (read_sooner page more read)
+      ]
+    cached_later lines page moves more had (inr read) = inr (read_later page moves read)
 
     -- The lines of all calls were had
     had_on : (before after : List ℕ) → Moves history bus_moved tags first.lines second.lines → Moves history bus_moved tags second.lines third.lines →
@@ -87,7 +107,7 @@ module _ {B T : Type 0} (history : B → BusHistory) (bus_moved : B → B → Ty
           | inr late ↦ (line_later before line moves more had (later.touched line late).0, page_later before (page_of line) moves more had (later.touched line late).1)
         ];
       held = λ line held. (line_later before line moves more had (later.held line held).0, page_later before (page_of line) moves more had (later.held line held).1);
-      cached = λ page cached. page_later before page moves more had (later.cached page cached);
+      cached = λ page cached. cached_later before page moves more had (later.cached page cached);
     }
 
   -- What calls make after others, they make together
@@ -98,6 +118,7 @@ module _ {B T : Type 0} (history : B → BusHistory) (bus_moved : B → B → Ty
   moved_on bus_moved_on first second third before after a b = record {
     moves = moves_on history bus_moved tags bus_moved_on first.lines second.lines third.lines a.moves b.moves;
     stays = λ stop is. b.stays stop (a.stays stop is);
+    few = λ few. b.few (a.few few);
     had = λ going quiet.
         let was_going = was_none (stopped second) (stopped third) b.stays going in
         let was_quiet = was_none (evidence second) (evidence third) b.moves.step.evidence quiet in
@@ -109,9 +130,10 @@ module _ {B T : Type 0} (history : B → BusHistory) (bus_moved : B → B → Ty
   unmoved bus_unmoved memory = record {
     moves = moves_not history bus_moved tags bus_unmoved memory.lines;
     stays = λ stop is. is;
+    few = λ few. few;
     had = λ going quiet. record {
       touched = λ line listed. absurd (none_contained line listed);
       held = λ line held. (inl held, inl (on_chip_of_line (held_lines memory) (cached_pages memory) line held));
-      cached = λ page cached. inl (on_chip_of_page (held_lines memory) (cached_pages memory) page cached);
+      cached = λ page cached. inl cached;
     };
   }

@@ -1,5 +1,5 @@
 -- What contracts see of the memory that the processor sees, and what calls make of it.
-use Rattle.std.specs.Prelude.{◌≡◌, ◌⊎◌, ℕ, ◌≤◌, List, [], ◌∷◌, ◌++◌, map, Option, Some, None, Contains}
+use Rattle.std.specs.Prelude.{◌≡◌, ◌⊎◌, ℕ, ◌≤◌, List, [], ◌∷◌, ◌++◌, length, map, Option, Some, None, Contains}
 use Rattle.sec_base.specs.declared.counter.Counter.{Counter}
 use Rattle.sec_base.specs.declared.evidence.Evidence.{Evidence}
 use Rattle.sec_base.specs.declared.message.Message.{Message}
@@ -43,7 +43,7 @@ contents memory = sealed_lines.contents memory.lines
 abbrev pub IsQuiet : {B T : Type 0} → SecureMemory B T → Type 0
 IsQuiet memory = evidence memory ≡ None
 
--- the lines that have a copy on the chip, and the pages whose counters do
+-- the lines that have a copy on the chip, and the pages whose counter blocks do; none while counters do not stand outside
 abbrev pub held_lines : {B T : Type 0} → SecureMemory B T → List ℕ
 held_lines memory = []
 
@@ -63,22 +63,28 @@ abbrev pub LineHad : {B T : Type 0} → (B → BusHistory) → SecureMemory B T 
 LineHad history old new line = Contains (held_lines old) line ⊎ ((last_data line (made old) ≡ None)
     ⊎ Rose ((history old.lines.bus).reads (line_place line)) ((history new.lines.bus).reads (line_place line)))
 
--- Something of the page was on the chip before, or its counter block was never tagged, or was read from its place.
-abbrev pub PageHad : {B T : Type 0} → (B → BusHistory) → SecureMemory B T → SecureMemory B T → ℕ → Type 0
-PageHad history old new page = Contains (pages_on_chip old) page ⊎ ((last_node 0 page (made old) ≡ None)
-    ⊎ Rose ((history old.lines.bus).reads (Node 0 page)) ((history new.lines.bus).reads (Node 0 page)))
+-- The page's counter block was never tagged, or was read from its place.
+abbrev pub PageRead : {B T : Type 0} → (B → BusHistory) → SecureMemory B T → SecureMemory B T → ℕ → Type 0
+PageRead history old new page = (last_node 0 page (made old) ≡ None)
+    ⊎ Rose ((history old.lines.bus).reads (Node 0 page)) ((history new.lines.bus).reads (Node 0 page))
 
--- Each line that was touched or is held was held before, or came from the bus; and so did its page's counters.
+-- Something of the page was on the chip before, or its counter block came from the bus.
+abbrev pub PageHad : {B T : Type 0} → (B → BusHistory) → SecureMemory B T → SecureMemory B T → ℕ → Type 0
+PageHad history old new page = Contains (pages_on_chip old) page ⊎ PageRead history old new page
+
+-- Each line that was touched or is held was held before, or came from the bus, and so did its page's counters; and each
+-- counter block that is cached was cached before, or came from the bus.
 pub record WereHad {B T : Type 0} (history : B → BusHistory) (old : SecureMemory B T) (lines : List ℕ) (new : SecureMemory B T) : Type 0 where
   pub touched : (line : ℕ) → Contains lines line → LineHad history old new line × PageHad history old new (page_of line)
   pub held : (line : ℕ) → Contains (held_lines new) line → LineHad history old new line × PageHad history old new (page_of line)
-  pub cached : (page : ℕ) → Contains (cached_pages new) page → PageHad history old new page
+  pub cached : (page : ℕ) → Contains (cached_pages new) page → Contains (cached_pages old) page ⊎ PageRead history old new page
 
 -- what calls with these lines make of a memory that answers its first stop to each later call
 pub record IsMoved {B T : Type 0} (history : B → BusHistory) (bus_moved : B → B → Type 0) (tags : TagEngineView T → Message → List ℕ)
     (old : SecureMemory B T) (lines : List ℕ) (new : SecureMemory B T) : Type 0 where
   pub moves : Moves history bus_moved tags old.lines new.lines
   pub stays : (stop : MemStop) → stopped old ≡ Some stop → stopped new ≡ Some stop
+  pub few : length (held_lines old) ≤ most_held → length (held_lines new) ≤ most_held
   pub had : stopped new ≡ None → IsQuiet new → WereHad history old lines new
 
 -- one line was encrypted once, under its next counter

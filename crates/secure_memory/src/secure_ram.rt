@@ -11,7 +11,7 @@ ghost use Rattle.sec_base.specs.declared.stop.MemStop.{MemStop};
 ghost use Rattle.sec_base.specs.declared.stop.MemStop.TheVariants.{Tampered, Spent};
 ghost use Rattle.bus_model.specs.BusHistory.{NothingWritten};
 ghost use Rattle.tag_engine.specs.TagEngine.{tags_of};
-ghost use Rattle.page_reencrypt.specs.Contents.{IsSpent, counter_in, last_counter};
+ghost use Rattle.page_reencrypt.specs.Contents.{counter_in, last_counter};
 ghost use Rattle.page_reencrypt.specs.SealedLines.{AreNew, AreProtected, IsUnbooted, IsUnsealed, tag_in};
 ghost use Rattle.secure_memory.specs.SecureMemory.{IsMoved, IsQuiet, IsSealedOnce, LineHad, contents, evidence, held_lines, lines_of, made, most_held, stopped, used};
 
@@ -188,12 +188,12 @@ impl<B: Bus, T: Tagger> Ram for SecureRam<B, T> {
         ensures read { IsQuiet self.new → OnOk result (LineHad B.history self.old self.new (line_of addr)) }
         ensures held { (line : ℕ) → Contains (held_lines self.new) line → Contains (held_lines self.old) line ⊎ (line ≡ line_of addr) }
 
-        // Tampering comes only of the line, and where an answer was false. A line's counters are used up exactly where
-        // its last one is the limit's, and then all stays as it was but that it stopped.
+        // Tampering comes only of the line, and where an answer was false. It is spent only where the line has the last
+        // counter that the limit allows, and then nothing is encrypted, tagged or written.
         ensures tampered { (place : Place) → stopped self.old ≡ None → IsQuiet self.old → result ≡ Err (Tampered place) →
             (place ≡ line_place (line_of addr)) × Rose (B.history self.old.lines.bus).lies (B.history self.new.lines.bus).lies }
         ensures spent { (page : ℕ) → stopped self.old ≡ None → result ≡ Err (Spent page) → (page ≡ page_of (line_of addr))
-            × IsSpent (lines_of self.old) self.old.lines.limit (used self.old) page × IsUnsealed B.history self.old.lines self.new.lines }
+            × (counter_in (used self.old) (line_of addr) ≡ last_counter self.old.lines.limit) × IsUnsealed B.history self.old.lines self.new.lines }
         ensures unspent { OnOk result (counter_in (used self.old) (line_of addr) ≢ last_counter self.old.lines.limit) }
     {
         if let Some(stop) = self.lines.stopped() {
