@@ -4,7 +4,7 @@ use Rattle.std.specs.Option.{option_or}
 use Rattle.std.specs.Result.{result_err}
 use Rattle.std.proofs.lemmas.List.{append-nil}
 use Rattle.sec_base.specs.Count.{Rose}
-use Rattle.sec_base.specs.Geometry.{line_count}
+use Rattle.sec_base.specs.Geometry.{line_count, page_of}
 use Rattle.sec_base.specs.LastMessage.{last_data, last_pair, IsFresh}
 use Rattle.sec_base.specs.Lines.{line_at}
 use Rattle.sec_base.specs.declared.counter.Counter.{Counter}
@@ -47,12 +47,11 @@ abbrev counter_of : ℕ → Counter
 counter_of writes = record { page = writes; line = 0 }
 
 pub lasting_read : {B T : Type 0} (history : B → BusHistory) (bus_moved : B → B → Type 0) (tags : TagEngineView T → Message → List ℕ) →
-    ((bus : B) → bus_moved bus bus) → (d n : T → List ℕ → List ℕ) (lines : SealedLinesView B T) (line : ℕ) (stop : MemStop) →
-    AreProtected d n history lines → lasting_stop lines.stopped ≡ Some stop → ReadMoved history bus_moved tags lines line lines
-lasting_read history bus_moved tags bus_unmoved d n lines line stop kept lasting = record {
+    ((bus : B) → bus_moved bus bus) → (lines : SealedLinesView B T) (line : ℕ) (stop : MemStop) →
+    lasting_stop lines.stopped ≡ Some stop → ReadMoved history bus_moved tags lines line lines
+lasting_read history bus_moved tags bus_unmoved lines line stop lasting = record {
   moves = moves_not history bus_moved tags bus_unmoved lines;
-  read = record { read = λ going quiet. absurd (cc) };
-  no_nodes = kept.no_nodes;
+  read = record { read = λ going quiet. absurd (cc); page = λ going quiet. absurd (cc) };
 }
 
 module _ {B T : Type 0} (d n : T → List ℕ → List ℕ) (history : B → BusHistory) (lines : SealedLinesView B T) (line : ℕ)
@@ -74,8 +73,7 @@ module _ {B T : Type 0} (d n : T → List ℕ → List ℕ) (history : B → Bus
       ReadMoved history bus_moved tags lines line lines
   fresh_read bus_moved tags bus_unmoved = record {
     moves = moves_not history bus_moved tags bus_unmoved lines;
-    read = record { read = λ going quiet. inl untagged };
-    no_nodes = kept.no_nodes;
+    read = record { read = λ going quiet. inl untagged; page = λ going quiet. inl (kept.no_nodes 0 (page_of line)) };
   }
 
 -- A line that was written
@@ -171,6 +169,8 @@ module _ {B T : Type 0} (d n : T → List ℕ → List ℕ) (history : B → Bus
             subst (λ (t : Message → List ℕ). IsAccounted t lines.pads.used engine.made (history bus) stopped engine.evidence)
             (sym (same_tags d n lines.engine engine step.tagger step.levels)) (by_stop result stops (honest lines.pads.used current (unlied was)));
       };
-      read = record { read = λ goes_on quiet. inr (once.rose (remembered result refl stops goes_on)) };
-      no_nodes = kept.no_nodes;
+      read = record {
+        read = λ goes_on quiet. inr (once.rose (remembered result refl stops goes_on));
+        page = λ goes_on quiet. inl (kept.no_nodes 0 (page_of line));
+      };
     }

@@ -22,6 +22,7 @@ use Rattle.bus_model.specs.BusHistory.{BusHistory}
 use Rattle.tag_engine.specs.TagEngine.{TagEngineView, tags_of}
 use Rattle.tag_engine.specs.Tag.{engine_tag}
 use Rattle.checked_bus.proofs.LineMessages.{last_data-same, last_data-other, some_same}
+use Rattle.checked_bus.proofs.Steps.{data_pairs-append}
 use Rattle.pad_stream.specs.Pads.{of_lines}
 use Rattle.pad_stream.proofs.RisingCounters.{rising_more}
 use Rattle.page_reencrypt.specs.Contents.{AreUnskipped, AreWithin, HoldsLast, HoldsSealed, IsSealed, IsSpent, NodesAreZeros, counter_in, entries_of, never_written, next_counter}
@@ -157,19 +158,13 @@ unskipped_more used line was =
           ];
     }
 
-pairs-append : (front more : List Message) → data_pairs (front ++ more) ≡ data_pairs front ++ data_pairs more
-unfolding data_pairs
-pairs-append [] more = refl
-pairs-append (Node_message level index block ∷ front) more = pairs-append front more
-pairs-append (Line line counter cipher ∷ front) more = ap (λ (pairs : List (ℕ × Counter)). (line, counter) ∷ pairs) (pairs-append front more)
-
 paired_more : (lines : ℕ) (made : List Message) (used : List (ℕ × Counter)) (line : ℕ) (counter : Counter) (cipher : List ℕ) → data_pairs made ≡ of_lines lines used → line < lines →
     data_pairs (made ++ Line line counter cipher ∷ []) ≡ of_lines lines (used ++ (line, counter) ∷ [])
 unfolding data_pairs
 paired_more lines made used line counter cipher paired inside =
     let entry : ℕ × Counter = (line, counter) in
     let passes : nat_lt line lines ≡ true = lt-ltb line lines inside in
-    pairs-append made (Line line counter cipher ∷ [])
+    data_pairs-append made (Line line counter cipher ∷ [])
     ∙ ap (λ (xs : List (ℕ × Counter)). xs ++ entry ∷ []) paired
     ∙ ap (λ (b : Bool). of_lines lines used ++ cond b (entry ∷ []) []) (sym passes)
     ∙ sym (filter-append (λ (e : ℕ × Counter). nat_lt e.0 lines) used (entry ∷ []))

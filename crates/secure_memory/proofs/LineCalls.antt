@@ -47,7 +47,7 @@ module _ {B T : Type 0} (history : B → BusHistory) (bus_moved : B → B → Ty
       moves = moved.moves;
       stays = λ stop is. absurd (cc);
       few = λ few. omega arith;
-      had = λ still quiet. were_had (line_had moved still quiet) (inr (inl (moved.no_nodes 0 (page_of line))));
+      had = λ still quiet. were_had (line_had moved still quiet) (inr (moved.read.page (ap lasting_stop still) quiet));
     }
 
   -- a line that was read and then written
@@ -63,5 +63,6 @@ module _ {B T : Type 0} (history : B → BusHistory) (bus_moved : B → B → Ty
         were_had first third line
         (line_sooner history bus_moved tags first second third line wrote
         (line_had first second line moved read_on (was_none (evidence second) (evidence third) wrote.step.evidence quiet)))
-        (inr (inl (moved.no_nodes 0 (page_of line))));
+        (page_sooner history bus_moved tags first second third (page_of line) wrote
+        (inr (moved.read.page (ap lasting_stop read_on) (was_none (evidence second) (evidence third) wrote.step.evidence quiet))));
   }

@@ -61,14 +61,14 @@ module _ {B T : Type 0} (history : B → BusHistory) (bus_moved : B → B → Ty
     -- A page of which something is on the chip was had by the calls before
     on_chip_had : (lines : List ℕ) → WereHad history first lines second → (page : ℕ) → Contains (pages_on_chip second) page → PageHad history first second page
     on_chip_had lines had page on_chip = elim (Contains-append_cases (map page_of (held_lines second)) (cached_pages second) page on_chip) [
-        | inl of_line ↦
-            let from : (line : ℕ) × Contains (held_lines second) line × (page_of line ≡ page) = mapped_from page_of (held_lines second) page of_line in
-            subst (PageHad history first second) from.2 (had.held from.0 from.1).1
-        | inr cached ↦ elim (had.cached page cached) [
-          | inl was ↦ inl (on_chip_of_page (held_lines first) (cached_pages first) page was)
-          | inr read ↦ inr read
-        ]
+      | inl of_line ↦
+          let from : (line : ℕ) × Contains (held_lines second) line × (page_of line ≡ page) = mapped_from page_of (held_lines second) page of_line in
+          subst (PageHad history first second) from.2 (had.held from.0 from.1).1
+      | inr cached ↦ elim (had.cached page cached) [
+        | inl was ↦ inl (on_chip_of_page (held_lines first) (cached_pages first) page was)
+        | inr read ↦ inr read
       ]
+    ]
 
     -- What is had by further calls was had by those before or is had by these
     line_later : (lines : List ℕ) (line : ℕ) → Moves history bus_moved tags first.lines second.lines → Moves history bus_moved tags second.lines third.lines →
@@ -93,9 +93,9 @@ module _ {B T : Type 0} (history : B → BusHistory) (bus_moved : B → B → Ty
         WereHad history first lines second → Contains (cached_pages second) page ⊎ PageRead history second third page →
         Contains (cached_pages first) page ⊎ PageRead history first third page
     cached_later lines page moves more had (inl cached) = elim (had.cached page cached) [
-        | inl was ↦ inl was
-        | inr read ↦ inr (read_sooner page more read)
-      ]
+      | inl was ↦ inl was
+      | inr read ↦ inr (read_sooner page more read)
+    ]
     cached_later lines page moves more had (inr read) = inr (read_later page moves read)
 
     -- The lines of all calls were had
@@ -103,9 +103,9 @@ module _ {B T : Type 0} (history : B → BusHistory) (bus_moved : B → B → Ty
         WereHad history first before second → WereHad history second after third → WereHad history first (before ++ after) third
     had_on before after moves more had later = record {
       touched = λ line listed. elim (Contains-append_cases before after line listed) [
-          | inl early ↦ (line_sooner line more (had.touched line early).0, page_sooner (page_of line) more (had.touched line early).1)
-          | inr late ↦ (line_later before line moves more had (later.touched line late).0, page_later before (page_of line) moves more had (later.touched line late).1)
-        ];
+        | inl early ↦ (line_sooner line more (had.touched line early).0, page_sooner (page_of line) more (had.touched line early).1)
+        | inr late ↦ (line_later before line moves more had (later.touched line late).0, page_later before (page_of line) moves more had (later.touched line late).1)
+      ];
       held = λ line held. (line_later before line moves more had (later.held line held).0, page_later before (page_of line) moves more had (later.held line held).1);
       cached = λ page cached. cached_later before page moves more had (later.cached page cached);
     }

@@ -17,8 +17,8 @@ pub returns-in-Some-clause-moved : goal.returns-in-Some-clause-moved
 returns-in-Some-clause-moved g c =
     let tags = tags_of g.T.Tagger.data_tag_of g.T.Tagger.node_tag_of in
     subst (λ (seen : SealedLinesView g.row.B.Denot g.row.T.Denot). ReadMoved g.B.Bus.history g.B.Bus.moved tags seen c.args.line seen) c.self.view_is
-    (lasting_read g.B.Bus.history g.B.Bus.moved tags g.met.B.Bus.unmoved g.T.Tagger.data_tag_of g.T.Tagger.node_tag_of
-    (sealed_lines_view c.self.inside) c.args.line c.in-Some.stop c.self.invariant.1 (sym c.lasting.ensures ∙ c.in-Some.is))
+    (lasting_read g.B.Bus.history g.B.Bus.moved tags g.met.B.Bus.unmoved
+    (sealed_lines_view c.self.inside) c.args.line c.in-Some.stop (sym c.lasting.ensures ∙ c.in-Some.is))
 
 pub returns-then-counter-eq0-clause-value : goal.returns-then-counter-eq0-clause-value
 returns-then-counter-eq0-clause-value g c = λ _ _.
