@@ -1,6 +1,6 @@
 // The memory over a bus that tells the truth and over one that does not.
 ghost use Rattle.std.specs.Prelude.{◌≡◌, IfOk};
-ghost use Rattle.bus_model.specs.BusHistory.{NothingWritten};
+ghost use Rattle.bus_model.specs.BusHistory.{new_history};
 ghost use Rattle.secure_memory.specs.SecureMemory.{lines_of};
 
 use crate::SecureRam;
@@ -21,13 +21,13 @@ fn smallest() -> Result<Geometry, Fail>
 fn over<B: Bus + Drop>(
     alloc: Global,
     bus: B,
+    geometry: Geometry,
     page_limit: u64,
 ) -> Result<SecureRam<B, HmacTagger>, Fail>
-    requires levels { (B.history bus).levels ≡ 1 }
-    requires nothing_written { NothingWritten (B.history bus) }
+    requires bus { B.history bus ≡ new_history geometry }
+    requires smallest { geometry ≡ 1 }
     ensures { IfOk result (λ memory. lines_of memory ≡ 256) }
 {
-    let geometry = smallest()?;
     let keys = derive(&[0; 32]);
     let tagger = HmacTagger::new(&keys);
     match SecureRam::boot(alloc, bus, tagger, &keys, geometry, page_limit) {
@@ -38,8 +38,9 @@ fn over<B: Bus + Drop>(
 
 #[test]
 fn a_number_is_stored_with_its_lowest_byte_first(rt: HostRuntime) -> Result<(), Fail> {
-    let bus = HonestBus::new(rt.alloc(), smallest()?)?;
-    let mut memory = over(rt.alloc(), bus, u64::MAX)?;
+    let geometry = smallest()?;
+    let bus = HonestBus::new(rt.alloc(), geometry)?;
+    let mut memory = over(rt.alloc(), bus, geometry, u64::MAX)?;
     assert_eq!(rt; memory.size(), 16384);
     assert_eq!(rt; memory.store(64, Width::Four, 0x89ab_cdef), Ok(()));
     assert_eq!(rt; memory.load(64, Width::Four), Ok(0x89ab_cdef));
@@ -51,8 +52,9 @@ fn a_number_is_stored_with_its_lowest_byte_first(rt: HostRuntime) -> Result<(), 
 
 #[test]
 fn a_store_changes_as_many_bytes_as_its_width(rt: HostRuntime) -> Result<(), Fail> {
-    let bus = HonestBus::new(rt.alloc(), smallest()?)?;
-    let mut memory = over(rt.alloc(), bus, u64::MAX)?;
+    let geometry = smallest()?;
+    let bus = HonestBus::new(rt.alloc(), geometry)?;
+    let mut memory = over(rt.alloc(), bus, geometry, u64::MAX)?;
     assert_eq!(rt; memory.store(16380, Width::Two, 0x1_2345), Ok(()));
     assert_eq!(rt; memory.store(16383, Width::One, 0x1ff), Ok(()));
     assert_eq!(rt; memory.load(16380, Width::Four), Ok(0xff00_2345));
@@ -65,8 +67,9 @@ fn a_store_changes_as_many_bytes_as_its_width(rt: HostRuntime) -> Result<(), Fai
 
 #[test]
 fn the_first_stop_is_answered_again(rt: HostRuntime) -> Result<(), Fail> {
-    let bus = HonestBus::new(rt.alloc(), smallest()?)?;
-    let mut memory = over(rt.alloc(), bus, 0)?;
+    let geometry = smallest()?;
+    let bus = HonestBus::new(rt.alloc(), geometry)?;
+    let mut memory = over(rt.alloc(), bus, geometry, 0)?;
     assert_eq!(rt; memory.load(0, Width::Four), Ok(0));
     assert_eq!(rt; memory.stopped(), None);
     let spent = MemStop::Spent(0);
@@ -81,8 +84,9 @@ fn the_first_stop_is_answered_again(rt: HostRuntime) -> Result<(), Fail> {
 #[test]
 fn a_flipped_bit_is_tampering(rt: HostRuntime) -> Result<(), Fail> {
     let place = Place::Line(1);
-    let bus = FlipBus::new(rt.alloc(), smallest()?, place, 1, 0, 1)?;
-    let mut memory = over(rt.alloc(), bus, u64::MAX)?;
+    let geometry = smallest()?;
+    let bus = FlipBus::new(rt.alloc(), geometry, place, 1, 0, 1)?;
+    let mut memory = over(rt.alloc(), bus, geometry, u64::MAX)?;
     assert_eq!(rt; memory.store(64, Width::Four, 7), Ok(()));
     assert!(rt; !memory.held(1));
     assert_eq!(rt; memory.held_count(), 0);
