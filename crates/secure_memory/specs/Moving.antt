@@ -1,8 +1,7 @@
 -- What calls make of a memory, one after another.
-use Rattle.std.proofs.Common.{◌≡◌, ◌⊎◌, inl, inr, ℕ, ◌<◌, List, [], ◌∷◌, ◌++◌, map, get_or, Option, Some, None, Contains, length, refl, ap, sym, ◌∙◌, subst, arith}
+use Rattle.std.proofs.Common.{◌≡◌, ◌⊎◌, inl, inr, ℕ, ◌<◌, List, [], ◌++◌, map, get_or, Option, Some, None, Contains, length, refl, ap, sym, ◌∙◌, subst, arith}
 use Rattle.std.proofs.lemmas.List.{get_or-map, length-map}
 use Rattle.std.proofs.lemmas.List.Elements.{Contains-append_cases, Contains-append_left, Contains-append_right, Contains-get_or}
-use Rattle.sec_base.specs.Count.{Rose}
 use Rattle.sec_base.specs.Geometry.{page_of}
 use Rattle.sec_base.specs.LastMessage.{data_part, last_data, last_node, node_part}
 use Rattle.sec_base.specs.declared.message.Message.{Message}
@@ -12,7 +11,7 @@ use Rattle.bus_model.specs.BusHistory.{BusHistory}
 use Rattle.tag_engine.specs.TagEngine.{TagEngineView}
 use Rattle.page_reencrypt.specs.SealedLines.{Moves}
 use Rattle.page_reencrypt.proofs.Moves.{moves_not, moves_on}
-use Rattle.secure_memory.specs.SecureMemory.{SecureMemory, IsMoved, IsQuiet, LineHad, PageHad, PageRead, WereHad, cached_pages, evidence, held_lines, made, pages_on_chip, stopped}
+use Rattle.secure_memory.specs.SecureMemory.{SecureMemory, IsMoved, LineHad, PageHad, PageRead, WereHad, cached_pages, evidence, held_lines, made, pages_on_chip, stopped}
 
 none_contained : {A : Type 0} (x : A) → Contains [] x → ⊥
 none_contained x (k, below, at) = omega arith

@@ -196,7 +196,7 @@ impl<B: Bus, T: Tagger> Ram for SecureRam<B, T> {
             × (counter_in (used self.old) (line_of addr) ≡ last_counter self.old.lines.limit) × IsUnsealed B.history self.old.lines self.new.lines }
         ensures unspent { OnOk result (counter_in (used self.old) (line_of addr) ≢ last_counter self.old.lines.limit) }
     {
-        if let Some(stop) = self.lines.stopped() {
+        if let Some(stop) = self.stopped() {
             return Err(stop);
         }
         let mut line = self.lines.read_line(addr / LINE_LEN)?;

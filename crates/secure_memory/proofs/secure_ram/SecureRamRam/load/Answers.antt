@@ -1,4 +1,4 @@
-use Rattle.std.proofs.Common.{◌≡◌, ◌∷◌, [], Some, None, ap, sym, ◌∙◌, subst, rules}
+use Rattle.std.proofs.Common.{◌≡◌, ◌∷◌, [], Some, None, ap, ◌∙◌, subst, rules}
 use Rattle.sec_base.specs.Geometry.{line_of}
 use Rattle.sec_base.specs.Width.{number_at}
 use Rattle.sec_base.proofs.LineNumbers.{number_read}

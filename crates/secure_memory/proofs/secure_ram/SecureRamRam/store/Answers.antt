@@ -1,4 +1,4 @@
-use Rattle.std.proofs.Common.{◌≡◌, ◌⊎◌, ◌∷◌, [], Some, None, Ok, Err, OnOk, OnErr, ap, sym, ◌∙◌, subst, rules}
+use Rattle.std.proofs.Common.{◌≡◌, ◌⊎◌, ◌∷◌, [], Some, None, OnOk, OnErr, ap, ◌∙◌, subst, rules}
 use Rattle.std.proofs.lemmas.Result.{on_err_weaker, on_ok_weaker}
 use Rattle.sec_base.specs.Geometry.{line_of}
 use Rattle.sec_base.specs.Width.{with_number}
