@@ -1,5 +1,5 @@
 -- What a run on protected memory comes to.
-use Rattle.std.specs.Prelude.{◌≡◌, ◌≢◌, ◌+◌, ◌<◌, ◌≤◌, ◌↔◌, ◌⊎◌, ◌×◌, ℕ, List, Option, Some, None, IfSome, length, Contains}
+use Rattle.std.specs.Prelude.{◌≡◌, ◌≢◌, ◌+◌, ◌<◌, ◌≤◌, ◌↔◌, ◌⊎◌, ℕ, List, Option, Some, None, IfSome, length, Contains}
 use Rattle.sec_base.specs.declared.counter.Counter.{Counter}
 use Rattle.sec_base.specs.declared.ending.Ending.{Ending}
 use Rattle.sec_base.specs.declared.ending.Ending.TheVariants.{Halted, Trapped, OutOfSteps, Tampered, Spent, WriteFault, NoMemory}
@@ -25,7 +25,6 @@ use Rattle.rv32_core.specs.Turnover.{turnover}
 use Rattle.rv32_run.specs.Session.{IsMemoryEnding, IsStop}
 use Rattle.checked_bus.specs.Accesses.{AreCounted}
 use Rattle.page_reencrypt.specs.Contents.{AreUnskipped, AreWithin, HoldsLast, HoldsSealed, IsSpent, NodesAreZeros, line_bytes}
-use Rattle.secure_memory.specs.SecureMemory.{most_held}
 use Rattle.chip_run.specs.declared.record.RunRecord.{RunRecord}
 
 -- What a run is of: the plain machine as the program begins on its input, how many instructions may be retired, the
@@ -39,11 +38,15 @@ pub record Terms : Type 0 where
   pub tag_of : Message → List ℕ
   pub enc_key : List ℕ
 
--- All lines but those that the chip may hold have the memory's bytes.
+-- how many lines may stand on the chip alone as a run ends
+abbrev pub most_left : ℕ
+most_left = 0
+
+-- All lines but those that are left on the chip have the memory's bytes.
 pub record IsWrittenOut (key : List ℕ) (lines : ℕ) (made : List Message) (memory : List ℕ) : Type 0 where
-  pub held : List ℕ
-  pub few : length held ≤ most_held
-  pub out : (line : ℕ) → line < lines → ¬ Contains held line → line_bytes key made line ≡ line_at memory line
+  pub left : List ℕ
+  pub few : length left ≤ most_left
+  pub out : (line : ℕ) → line < lines → ¬ Contains left line → line_bytes key made line ≡ line_at memory line
 
 -- how many messages may be made that were not written: the last one, where the run ended out of memory
 abbrev pub unwritten_at : Ending → ℕ
