@@ -9,7 +9,6 @@ use Rattle.rv32_core.specs.Turnover.{Window, blank_groups, next_window, old_grou
 abbrev window : List ℕ → Window
 window touched = record { memory = replicate 128 1 ++ replicate 128 0; touched = touched; turnover = 5 }
 
-
 -- A line counts once. One past the end is blank.
 
 two_old : old_groups (λ line. line) (window (0 ∷ 1 ∷ 0 ∷ 2 ∷ 9 ∷ [])) ≡ 2

@@ -39,12 +39,12 @@ pub fn run<B: Bus, T: Tagger, S: Sink>(
 
     // The theorem of a run, of its program, input, budget, keys and limit.
     ensures run { RunsProtected (record {
-        start = opening image.now input.now;
-        budget = setup.now.budget;
-        levels = setup.now.geometry;
-        page_limit = setup.now.page_limit;
-        tag_of = engine_tag (T.data_tag_of tagger) (T.node_tag_of tagger) setup.now.geometry;
-        enc_key = setup.now.keys.enc_key;
+      start = opening image.now input.now;
+      budget = setup.now.budget;
+      levels = setup.now.geometry;
+      page_limit = setup.now.page_limit;
+      tag_of = engine_tag (T.data_tag_of tagger) (T.node_tag_of tagger) setup.now.geometry;
+      enc_key = setup.now.keys.enc_key;
     }) (S.state out.old) (S.state out.new) (B.history bus) (B.history result.1) result.0 }
 
     // The bus is what calls made of the one that was given.
