@@ -25,7 +25,7 @@ use Rattle.checked_bus.specs.Accesses.{AreCounted}
 use Rattle.checked_bus.specs.Steps.{IsAccounted}
 use Rattle.page_reencrypt.specs.Contents.{AreWithin, HoldsSealed, NodesAreZeros, contents_of}
 use Rattle.page_reencrypt.specs.SealedLines.{AccountsForAll, AreNew, AreProtected, IsProtected, IsUnbooted, Moves, SealedLinesView, contents, enc_key, evidence, levels, made, unwritten, used}
-use Rattle.secure_memory.specs.SecureMemory.{IsMoved, SecureMemory}
+use Rattle.secure_memory.specs.SecureRam.{IsMoved, SecureRamView}
 use Rattle.chip_run.specs.Run.{Terms, WritesItsMessages, unwritten_at}
 use Rattle.chip_run.specs.declared.record.RunRecord.{RunRecord}
 use Rattle.checked_bus.proofs.Steps.{counted_on}
@@ -195,9 +195,9 @@ module _ {B T : Type 0} (d n : T → List ℕ → List ℕ) (history : B → Bus
 
 -- what running on made of a memory in which a program was stored
 pub whole_moves : {B T : Type 0} (history : B → BusHistory) (bus_moved : B → B → Type 0) (tags : TagEngineView T → Message → List ℕ) → ((a b c : B) → bus_moved a b → bus_moved b c → bus_moved a c) →
-    (opened stored begun ended closed : SecureMemory B T) (storing running : List ℕ) → begun ≡ stored → closed ≡ ended →
+    (opened stored begun ended closed : SecureRamView B T) (storing running : List ℕ) → begun ≡ stored → closed ≡ ended →
     IsMoved history bus_moved tags opened storing stored → IsMoved history bus_moved tags begun running ended → Moves history bus_moved tags opened.lines closed.lines
 whole_moves {B} {T} history bus_moved tags bus_moved_on opened stored begun ended closed storing running begins closes before after =
-    subst (λ (m : SecureMemory B T). Moves history bus_moved tags opened.lines m.lines) (sym closes)
+    subst (λ (m : SecureRamView B T). Moves history bus_moved tags opened.lines m.lines) (sym closes)
     (moves_on history bus_moved tags bus_moved_on opened.lines stored.lines ended.lines before.moves
-    (subst (λ (m : SecureMemory B T). Moves history bus_moved tags m.lines ended.lines) begins after.moves))
+    (subst (λ (m : SecureRamView B T). Moves history bus_moved tags m.lines ended.lines) begins after.moves))

@@ -25,7 +25,7 @@ use Rattle.rv32_run.proofs.Windows.{Chip, turnover_begun}
 use Rattle.page_reencrypt.specs.Contents.{bytes_of, contents_of, line_bytes}
 use Rattle.page_reencrypt.specs.LineLengths.{length-contents_of, length-line_bytes}
 use Rattle.page_reencrypt.specs.SealedLines.{enc_key, levels}
-use Rattle.secure_memory.specs.SecureMemory.{IsMoved, IsQuiet, SecureMemory, contents, held_lines, lines_of, made, stopped}
+use Rattle.secure_memory.specs.SecureRam.{IsMoved, IsQuiet, SecureRamView, contents, held_lines, lines_of, made, stopped}
 use Rattle.secure_memory.specs.Moving.{moved_on, unmoved, was_none}
 use Rattle.chip_run.proofs.TurnoverCases.{turned_by_none}
 
@@ -47,7 +47,7 @@ old_is_inside key lines made line old =
     ]
 
 -- an old line was held, or was read
-old_was_had : {B T : Type 0} (history : B → BusHistory) (bus_moved : B → B → Type 0) (tags : TagEngineView T → Message → List ℕ) (old new : SecureMemory B T) (lines : List ℕ) (line : ℕ) →
+old_was_had : {B T : Type 0} (history : B → BusHistory) (bus_moved : B → B → Type 0) (tags : TagEngineView T → Message → List ℕ) (old new : SecureRamView B T) (lines : List ℕ) (line : ℕ) →
     IsMoved history bus_moved tags old lines new → stopped new ≡ None → IsQuiet new → Contains lines line → is_old (contents old) line ≡ true →
     Contains (held_lines old) line ⊎ Rose ((history old.lines.bus).reads (line_place line)) ((history new.lines.bus).reads (line_place line))
 old_was_had history bus_moved tags old new lines line moved going quiet listed is =
@@ -65,7 +65,7 @@ old_was_had history bus_moved tags old new lines line moved going quiet listed i
 chip_of : {B T : Type 0} → (history : B → BusHistory) → (bus_moved : B → B → Type 0) → (tags : TagEngineView T → Message → List ℕ) →
     ((bus : B) → bus_moved bus bus) → ((a b c : B) → bus_moved a b → bus_moved b c → bus_moved a c) → ℕ → Chip
 chip_of {B} {T} history bus_moved tags bus_unmoved bus_moved_on depth = record {
-  M = SecureMemory B T;
+  M = SecureRamView B T;
   contents = λ m. contents m;
   stopped = λ m. stopped m;
   moved = λ a xs b. IsMoved history bus_moved tags a xs b;
@@ -96,7 +96,7 @@ nothing_turned start places n old new none rises =
 -- a whole run
 pub run_turned : {B T : Type 0} (history : B → BusHistory) (bus_moved : B → B → Type 0) (tags : TagEngineView T → Message → List ℕ)
     (bus_unmoved : (bus : B) → bus_moved bus bus) (bus_moved_on : (a b c : B) → bus_moved a b → bus_moved b c → bus_moved a c)
-    (depth from n count : ℕ) (start : Machine) (bus closed : B) (first end : SecureMemory B T) (listed : List ℕ) →
+    (depth from n count : ℕ) (start : Machine) (bus closed : B) (first end : SecureRamView B T) (listed : List ℕ) →
     IsMoved history bus_moved tags first listed end → from ≡ 0 → contents first ≡ start.state.memory → levels first.lines ≡ depth → IsQuiet end →
     HasTrail (λ m. stopped m) (λ m. contents m) (λ a xs b. IsMoved history bus_moved tags a xs b) start from n first end →
     count ≡ n → ((place : Place) → RoseBy 0 ((history bus).reads place) ((history first.lines.bus).reads place)) → closed ≡ end.lines.bus →

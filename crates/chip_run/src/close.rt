@@ -3,7 +3,7 @@ ghost use Rattle.std.specs.Prelude.{◌≡◌, [], None, Some, IfSome};
 ghost use Rattle.sec_base.specs.Evidence.{IsEvidence};
 ghost use Rattle.sec_base.specs.declared.ending.Ending.TheVariants.{NoMemory as memory_ended};
 ghost use Rattle.page_reencrypt.specs.SealedLines.{AreProtected, tag_in};
-ghost use Rattle.secure_memory.specs.SecureMemory.{evidence as evidence_of, made as made_by, used as used_by};
+ghost use Rattle.secure_memory.specs.SecureRam.{evidence as evidence_of, made as made_by, used as used_by};
 
 use crate::record::RunRecord;
 use bus_model::Bus;

@@ -7,7 +7,7 @@ use Rattle.bus_model.specs.BusHistory.{BusHistory}
 use Rattle.tag_engine.specs.TagEngine.{TagEngineView}
 use Rattle.page_reencrypt.specs.SealedLines.{Moves, ReadMoved, lasting_stop}
 use Rattle.page_reencrypt.proofs.Moves.{moves_not, moves_on}
-use Rattle.secure_memory.specs.SecureMemory.{SecureMemory, IsMoved, IsQuiet, LineHad, PageHad, WereHad, evidence, stopped}
+use Rattle.secure_memory.specs.SecureRam.{SecureRamView, IsMoved, IsQuiet, LineHad, PageHad, WereHad, evidence, stopped}
 use Rattle.secure_memory.specs.Moving.{line_sooner, page_sooner, was_none}
 
 only_line : (line other : ℕ) → Contains (line ∷ []) other → other ≡ line
@@ -19,7 +19,7 @@ none_contained x (k, below, at) = omega (arith, below)
 
 module _ {B T : Type 0} (history : B → BusHistory) (bus_moved : B → B → Type 0) (tags : TagEngineView T → Message → List ℕ) where
   -- a memory that answers its stop again
-  pub stopped_unmoved : ((bus : B) → bus_moved bus bus) → (memory : SecureMemory B T) (lines : List ℕ) (stop : MemStop) →
+  pub stopped_unmoved : ((bus : B) → bus_moved bus bus) → (memory : SecureRamView B T) (lines : List ℕ) (stop : MemStop) →
       stopped memory ≡ Some stop → IsMoved history bus_moved tags memory lines memory
   stopped_unmoved bus_unmoved memory lines stop is = record {
     moves = moves_not history bus_moved tags bus_unmoved memory.lines;
@@ -28,7 +28,7 @@ module _ {B T : Type 0} (history : B → BusHistory) (bus_moved : B → B → Ty
     had = λ going quiet. absurd (cc);
   }
 
-  module _ (old new : SecureMemory B T) (line : ℕ) where
+  module _ (old new : SecureRamView B T) (line : ℕ) where
     -- A line that was read was had, where there is neither a stop nor evidence; nothing of it is held
     pub line_had : ReadMoved history bus_moved tags old.lines line new.lines → stopped new ≡ None → IsQuiet new → LineHad history old new line
     line_had moved going quiet = inr (moved.read.read (ap lasting_stop going) quiet)
@@ -52,7 +52,7 @@ module _ {B T : Type 0} (history : B → BusHistory) (bus_moved : B → B → Ty
 
   -- a line that was read and then written
   pub stored_moved : ((first second third : B) → bus_moved first second → bus_moved second third → bus_moved first third) →
-      (first second third : SecureMemory B T) (line : ℕ) → stopped first ≡ None → stopped second ≡ None →
+      (first second third : SecureRamView B T) (line : ℕ) → stopped first ≡ None → stopped second ≡ None →
       ReadMoved history bus_moved tags first.lines line second.lines → Moves history bus_moved tags second.lines third.lines →
       IsMoved history bus_moved tags first (line ∷ []) third
   stored_moved bus_moved_on first second third line going read_on moved wrote = record {

@@ -1,2 +1,2 @@
-pub mod SecureMemory
+pub mod SecureRam
 pub mod Moving

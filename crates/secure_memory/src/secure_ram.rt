@@ -13,7 +13,7 @@ ghost use Rattle.bus_model.specs.BusHistory.{NothingWritten};
 ghost use Rattle.tag_engine.specs.TagEngine.{tags_of};
 ghost use Rattle.page_reencrypt.specs.Contents.{counter_in, last_counter};
 ghost use Rattle.page_reencrypt.specs.SealedLines.{AreNew, AreProtected, IsUnbooted, IsUnsealed, tag_in};
-ghost use Rattle.secure_memory.specs.SecureMemory.{IsMoved, IsQuiet, IsSealedOnce, LineHad, contents, evidence, held_lines, lines_of, made, most_held, stopped, used};
+ghost use Rattle.secure_memory.specs.SecureRam.{IsMoved, IsQuiet, IsSealedOnce, LineHad, contents, evidence, held_lines, lines_of, made, most_held, stopped, used};
 
 use bus_model::Bus;
 use hmac_tag::Keys;
@@ -30,9 +30,9 @@ pub struct SecureRam<B: Bus, T: Tagger> {
 }
 
 impl<B: Bus, T: Tagger> Model for SecureRam<B, T> {
-    ghost use Rattle.secure_memory.specs.SecureMemory.{SecureMemory};
+    ghost use Rattle.secure_memory.specs.SecureRam.{SecureRamView};
 
-    ghost Value = { SecureMemory B T };
+    ghost Value = { SecureRamView B T };
 
     ghost view = { λ memory. record { lines = memory.lines } };
 }

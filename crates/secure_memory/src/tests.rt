@@ -1,7 +1,7 @@
 // The memory over a bus that tells the truth and over one that does not.
 ghost use Rattle.std.specs.Prelude.{◌≡◌, IfOk};
 ghost use Rattle.bus_model.specs.BusHistory.{new_history};
-ghost use Rattle.secure_memory.specs.SecureMemory.{lines_of};
+ghost use Rattle.secure_memory.specs.SecureRam.{lines_of};
 
 use crate::SecureRam;
 use bus_model::{Bus, FlipBus, HonestBus};

@@ -12,7 +12,7 @@ use Rattle.rv32_core.specs.Turnover.{turnover}
 use Rattle.rv32_run.specs.Session.{CarriesEnding, FollowsWith, IsStop, Reaches}
 use Rattle.rv32_run.proofs.Runs.{opening_begins, opening_follows}
 use Rattle.page_reencrypt.specs.SealedLines.{Moves}
-use Rattle.secure_memory.specs.SecureMemory.{IsQuiet, contents, stopped}
+use Rattle.secure_memory.specs.SecureRam.{IsQuiet, contents, stopped}
 use Rattle.chip_run.proofs.Closing.{ends_as_stop, going_on_fault}
 use Rattle.chip_run.proofs.Ends.{runs_protected}
 use Rattle.chip_run.proofs.Memories.{run_contents, run_memory, run_reads, whole_moves}
