@@ -1,6 +1,5 @@
 -- What the status of a run on protected memory says of how it ended.
 use Rattle.std.proofs.Common.{◌≡◌, ◌≢◌, ◌<◌, ◌≤◌, inl, inr, List, ℕ, Option, Some, None, IfSome, refl, sym, ◌∙◌, subst, arith}
-use Rattle.sec_base.specs.Evidence.{IsEvidence}
 use Rattle.sec_base.specs.Sink.{SinkState}
 use Rattle.sec_base.specs.declared.evidence.Evidence.{Evidence}
 use Rattle.sec_base.specs.declared.message.Message.{Message}
@@ -10,7 +9,7 @@ use Rattle.sec_base.specs.declared.place.Place.{Place}
 use Rattle.bus_model.specs.BusHistory.{BusHistory}
 use Rattle.chip_run.specs.Run.{RunsProtected, ShowsEvidence, Terms}
 use Rattle.chip_run.specs.declared.RunRecord.{RunRecord}
-use Rattle.bus_model.specs.FirstLie.{HonestOrCaught, IsCaught, IsOfFirstLie}
+use Rattle.bus_model.specs.FirstLie.{HonestOrCaught, IsCaught}
 use Rattle.sec_base.specs.Program.{Program}
 use Rattle.chip_words.specs.Request.{RunAsked}
 use Rattle.chip_main.specs.Device.{device_tag, terms_of}

@@ -1,5 +1,5 @@
 -- Where the files tell all that is needed and nothing fails, what was asked for is done whole.
-use Rattle.std.proofs.Common.{◌≡◌, ◌≢◌, ◌<◌, ◌≤◌, ◌⊎◌, inl, inr, List, [], ◌∷◌, ℕ, suc, length, Option, Some, None, Ok, Err, Contains, IsSome, refl, sym, ap, ◌∙◌, subst, arith}
+use Rattle.std.proofs.Common.{◌≡◌, ◌≢◌, ◌<◌, ◌≤◌, ◌⊎◌, inl, inr, List, [], ◌∷◌, ℕ, suc, length, Option, Some, None, Ok, Err, IsSome, refl, sym, ap, ◌∙◌, subst, arith}
 use Rattle.sec_base.specs.Count.{Rose}
 use Rattle.sec_base.specs.Files.{FilesState, HasBytes, HasOver, IsOver}
 use Rattle.sec_base.specs.Sink.{SinkState}
