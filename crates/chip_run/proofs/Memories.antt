@@ -1,5 +1,5 @@
 -- What a run hands out of its memory, from one that was booted to one that is given up.
-use Rattle.std.proofs.Common.{◌≡◌, ◌≢◌, inl, inr, ℕ, ◌+◌, ◌<◌, ◌≤◌, List, [], ◌++◌, length, length-append, Option, Some, None, IfSome, refl, sym, ap, ◌∙◌, subst, arith}
+use Rattle.std.proofs.Common.{◌≡◌, ◌≢◌, inl, ℕ, ◌+◌, ◌<◌, ◌≤◌, List, [], ◌++◌, length, length-append, Option, Some, None, IfSome, refl, sym, ap, ◌∙◌, subst, arith}
 use Rattle.sec_base.specs.Count.{RoseBy}
 use Rattle.sec_base.specs.Evidence.{IsEvidence}
 use Rattle.sec_base.specs.Geometry.{line_count}
@@ -14,19 +14,17 @@ use Rattle.sec_base.specs.declared.place.Place.TheVariants.{Line as line_place, 
 use Rattle.sec_base.specs.declared.stop.MemStop.{MemStop}
 use Rattle.sec_base.specs.declared.stop.MemStop.TheVariants.{Tampered, NoMemory as no_memory}
 use Rattle.bus_model.specs.BusHistory.{BusHistory, NothingWritten}
-use Rattle.bus_model.specs.FirstLie.{AccountsForLies}
 use Rattle.tag_engine.specs.Tag.{engine_tag}
 use Rattle.tag_engine.specs.TagEngine.{TagEngineView, tags_of}
-use Rattle.pad_stream.specs.PadEngine.{PadEngineView}
 use Rattle.pad_stream.proofs.RisingCounters.{rising_nothing}
 use Rattle.rv32_core.specs.Machine.{Machine}
 use Rattle.rv32_run.specs.Session.{CarriesEnding}
 use Rattle.checked_bus.specs.Accesses.{AreCounted}
 use Rattle.checked_bus.specs.Steps.{IsAccounted}
-use Rattle.page_reencrypt.specs.Contents.{AreWithin, HoldsSealed, NodesAreZeros, contents_of}
+use Rattle.page_reencrypt.specs.Contents.{AreWithin, HoldsSealed, contents_of}
 use Rattle.page_reencrypt.specs.SealedLines.{AccountsForAll, AreNew, AreProtected, IsProtected, IsUnbooted, Moves, SealedLinesView, contents, enc_key, evidence, levels, made, unwritten, used}
 use Rattle.secure_memory.specs.SecureRam.{IsMoved, SecureRamView}
-use Rattle.chip_run.specs.Run.{Terms, WritesItsMessages, unwritten_at}
+use Rattle.chip_run.specs.Run.{Terms, WritesItsMessages}
 use Rattle.chip_run.specs.declared.record.RunRecord.{RunRecord}
 use Rattle.checked_bus.proofs.Steps.{counted_on}
 use Rattle.page_reencrypt.proofs.Moves.{moves_on}

@@ -1,7 +1,6 @@
 -- The ways in which a run ends before its first instruction.
-use Rattle.std.proofs.Common.{◌≡◌, ℕ, List, [], Option, Some, None, refl, sym, ap, ◌∙◌, subst, arith}
+use Rattle.std.proofs.Common.{◌≡◌, ℕ, List, [], None}
 use Rattle.sec_base.specs.Sink.{SinkState}
-use Rattle.sec_base.specs.declared.ending.Ending.{Ending}
 use Rattle.sec_base.specs.declared.ending.Ending.TheVariants.{NoMemory}
 use Rattle.sec_base.specs.declared.segment.Segment.{Segment}
 use Rattle.sec_base.specs.declared.stop.MemStop.{MemStop}

@@ -1,5 +1,5 @@
 -- The definition of turnover, computed at small numbers.
-use Rattle.std.proofs.Common.{◌≡◌, ℕ, List, [], ◌∷◌, ◌++◌, replicate, None, refl}
+use Rattle.std.proofs.Common.{◌≡◌, ℕ, List, [], ◌∷◌, ◌++◌, replicate, refl}
 use Rattle.sec_base.specs.Geometry.{page_of}
 use Rattle.rv32_core.specs.Machine.{Machine, plain}
 use Rattle.rv32_core.specs.TouchedLines.{touched_lines}
