@@ -40,7 +40,7 @@ abbrev pub IsDone : Option Asked → World → World → Done → Type 0
 IsDone request old new done = Ended IsHalted request old new done
     ⊎ WritesRequest request old.files new.files old.out new.out (Ok tt)
 
--- the request is for a run on protected memory, and this holds of what was asked, of that run and of what its bus was told
+-- the request is for a run on protected memory, and this holds of what it asks, of that run and of what its bus was told
 abbrev pub RanAnd : (RunAsked → RunRecord → BusHistory → Type 0) → Option Asked → Done → Type 0
 RanAnd P request done = ByCommand request (λ asked. IsRunAnd done (P asked)) (λ _. ⊥) (λ _ _. ⊥)
 

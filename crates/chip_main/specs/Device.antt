@@ -16,7 +16,7 @@ use Rattle.chip_main.specs.Program.{opening}
 abbrev pub tag_under : Tags → List ℕ → List ℕ → List ℕ
 tag_under Hmac key = tag_of key
 
--- the tag of a message, in the memory below a tree of so many levels, is under the device's line key or tree key
+-- the tag of a message in the memory below a tree of so many levels, under the device's line key or tree key
 unfoldable pub device_tag : Terms → ℕ → Message → List ℕ
 device_tag terms levels message = engine_tag (tag_under terms.tags (keys_of terms.device_key).line_key)
     (tag_under terms.tags (keys_of terms.device_key).tree_key) levels message
@@ -25,7 +25,7 @@ device_tag terms levels message = engine_tag (tag_under terms.tags (keys_of term
 unfoldable pub device_enc_key : Terms → List ℕ
 device_enc_key terms = (keys_of terms.device_key).enc_key
 
--- what a run on protected memory is of that was asked for, of this program and this input
+-- what a run on protected memory is of, as it was asked for: of this program and this input
 abbrev pub terms_of : RunAsked → Program → List ℕ → RunTerms
 terms_of asked program input = record {
   start = opening asked.execution.file.levels program input;

@@ -30,7 +30,8 @@ pub record EndedWithoutEvidence (P : Ending → Type 0) (run : RunRecord) (told 
 -- The one false answer of the bus failed its check, was the last access, and ended the run as tampering of its place.
 pub record EndedTampered (asked : RunAsked) (run : RunRecord) (told : BusHistory) : Type 0 where
   pub no_evidence : run.evidence ≡ None
-  pub caught : IsCaught (device_tag asked.terms asked.execution.file.levels) run.used run.made told (λ place. run.ending ≡ Tampered place)
+  pub caught : IsCaught (device_tag asked.terms asked.execution.file.levels) run.used run.made told
+      (λ place. run.ending ≡ Tampered place)
 
 -- Some line of the page has the last counter that the limit allows.
 pub record EndedSpent (asked : RunAsked) (run : RunRecord) (told : BusHistory) : Type 0 where
