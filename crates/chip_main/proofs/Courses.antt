@@ -5,7 +5,7 @@ use Rattle.sec_base.specs.Files.{FilesState}
 use Rattle.sec_base.specs.Sink.{SinkState, IsSilent}
 use Rattle.sec_base.specs.declared.image.Image.{Image}
 use Rattle.sec_base.specs.Sink.{IsWritten}
-use Rattle.chip_words.specs.Request.{Asked, ExecutionAsked, to_run, FileAsked}
+use Rattle.chip_words.specs.Request.{Asked, ExecutionAsked, FileAsked, RunAsked, to_run}
 use Rattle.sec_base.specs.Program.{IsImageOf, Program}
 use Rattle.chip_words.specs.Words.{IfUsage}
 use Rattle.chip_words.specs.declared.request.WordsError.{WordsError}
@@ -58,9 +58,9 @@ ran_out needs files files' accepted asked = record {
   asked = subst (λ (n : List Need). Asks n files files') (sym (append-nil needs)) asked;
 }
 
-pub came_without_memory : (execution : ExecutionAsked) (files files' : FilesState) (program : Program) (input : List ℕ) → ReadsExecution execution files files' program input → RunsOut (needs_of (Some (to_run execution))) files files'
-came_without_memory execution files files' program input takes =
-    ran_out (execution_needs execution) files files' (execution_accepted execution files files' program input takes) takes.asked
+pub came_without_memory : (asked : RunAsked) (files files' : FilesState) (program : Program) (input : List ℕ) → ReadsExecution asked.execution files files' program input → RunsOut (needs_of (Some (to_run asked))) files files'
+came_without_memory asked files files' program input takes =
+    ran_out (execution_needs asked.execution) files files' (execution_accepted asked.execution files files' program input takes) takes.asked
 
 -- nothing was read yet
 pub came_unread : (request : Option Asked) (files : FilesState) → RunsOut (needs_of request) files files

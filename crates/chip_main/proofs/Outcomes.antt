@@ -1,5 +1,5 @@
 -- What the course of a call says of its status and of what was told.
-use Rattle.std.proofs.Common.{◌≡◌, ◌≢◌, ◌<◌, ◌≤◌, ◌⊎◌, inl, inr, List, [], ◌∷◌, ℕ, Option, Some, None, Ok, Err, Contains, IfSome, refl, sym, ◌∙◌, subst, arith}
+use Rattle.std.proofs.Common.{◌≡◌, ◌≢◌, ◌<◌, ◌≤◌, ◌⊎◌, inl, inr, List, ℕ, Option, Some, None, Ok, Err, IfSome, refl, sym, ◌∙◌, subst, arith}
 use Rattle.sec_base.specs.Count.{Rose}
 use Rattle.sec_base.specs.Files.{FilesState}
 use Rattle.sec_base.specs.Sink.{SinkState}
@@ -24,7 +24,7 @@ use Rattle.chip_main.specs.declared.status.Status.TheVariants as status
 use Rattle.chip_main.specs.Buses.{lies_of, run_history}
 use Rattle.chip_main.specs.Answer.{FileRefused, TellsEnding, TellsPlain, TellsRun}
 use Rattle.chip_main.specs.Texts.{plain_text, record_text}
-use Rattle.chip_main.specs.Course.{CameAbout, Outcome, TellsCourse, course_bus, course_run, course_status, status_of, untold_status}
+use Rattle.chip_main.specs.Course.{CameAbout, Outcome, TellsCourse, course_bus, course_run, course_status, status_of}
 
 -- ---- the whole of a call
 

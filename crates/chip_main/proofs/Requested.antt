@@ -1,5 +1,5 @@
 -- What was asked of the files, and what each request came to.
-use Rattle.std.proofs.Common.{◌≡◌, ◌≢◌, ◌⊎◌, inl, inr, List, [], ◌∷◌, ◌++◌, ℕ, length, Option, Some, None, Ok, Err, Contains, IfSome, refl, sym, ap, ◌∙◌, subst, arith, append-nil, append_assoc}
+use Rattle.std.proofs.Common.{◌≡◌, ◌≢◌, ◌⊎◌, inl, inr, List, [], ◌∷◌, ◌++◌, ℕ, length, Option, Some, None, Ok, Err, IfSome, refl, sym, ap, ◌∙◌, subst, arith, append-nil, append_assoc}
 use Rattle.sec_base.specs.Files.{FilesState, HasBytes}
 use Rattle.sec_base.specs.Sink.{SinkState}
 use Rattle.sec_base.specs.declared.image.Image.{Image}
@@ -7,7 +7,7 @@ use Rattle.sec_base.specs.declared.sink.SinkStop.TheVariants.{Failed, NoMemory a
 use Rattle.bus_model.specs.BusHistory.{BusHistory}
 use Rattle.plain_machine.specs.declared.PlainRecord.{PlainRecord}
 use Rattle.chip_run.specs.declared.RunRecord.{RunRecord}
-use Rattle.chip_words.specs.Request.{Asked, FileAsked, ExecutionAsked, to_assemble, to_disassemble, to_measure, to_run, to_run_plain, asked_file}
+use Rattle.chip_words.specs.Request.{Asked, FileAsked, ExecutionAsked, RunAsked, to_assemble, to_disassemble, to_measure, to_run, to_run_plain, asked_file}
 use Rattle.chip_main.specs.declared.refusal.Refusal.{Refusal}
 use Rattle.chip_main.specs.declared.refusal.Refusal.TheVariants.{Usage, Unread, TooLong, Elf, Asm}
 use Rattle.chip_main.specs.declared.run_bus.RunBus.{RunBus}
@@ -36,7 +36,7 @@ pub record AllTaken (request : Option Asked) (files files' : FilesState) : Type 
   pub accepted : AreAccepted files (needs_of request)
 
 some_needs : (asked : Asked) → asked_needs asked ≢ []
-some_needs (to_run execution) none = cc
+some_needs (to_run asked) none = cc
 some_needs (to_run_plain execution) none = cc
 some_needs (to_assemble file) none = cc
 some_needs (to_disassemble file) none = cc
@@ -47,8 +47,8 @@ all_taken asked files files' asks accepted = record { some = some_needs asked; a
 
 ran_taken : (request : Option Asked) (files files' : FilesState) (out out' : SinkState) (run : RunRecord) (told : BusHistory) → RunsRequest request files files' out out' run told → AllTaken request files files'
 ran_taken None files files' out out' run told came = absurd came
-ran_taken (Some (to_run execution)) files files' out out' run told came =
-    all_taken (to_run execution) files files' came.2.asked (execution_accepted execution files files' came.0 came.1 came.2)
+ran_taken (Some (to_run asked)) files files' out out' run told came =
+    all_taken (to_run asked) files files' came.2.asked (execution_accepted asked.execution files files' came.0 came.1 came.2)
 ran_taken (Some (to_run_plain execution)) files files' out out' run told came = absurd came
 ran_taken (Some (to_assemble file)) files files' out out' run told came = absurd came
 ran_taken (Some (to_disassemble file)) files files' out out' run told came = absurd came
@@ -56,7 +56,7 @@ ran_taken (Some (to_measure file)) files files' out out' run told came = absurd 
 
 plainly_ran_taken : (request : Option Asked) (files files' : FilesState) (out out' : SinkState) (run : PlainRecord) → PlainlyRunsRequest request files files' out out' run → AllTaken request files files'
 plainly_ran_taken None files files' out out' run came = absurd came
-plainly_ran_taken (Some (to_run execution)) files files' out out' run came = absurd came
+plainly_ran_taken (Some (to_run asked)) files files' out out' run came = absurd came
 plainly_ran_taken (Some (to_run_plain execution)) files files' out out' run came =
     all_taken (to_run_plain execution) files files' came.2.asked (execution_accepted execution files files' came.0 came.1 came.2)
 plainly_ran_taken (Some (to_assemble file)) files files' out out' run came = absurd came
@@ -72,7 +72,7 @@ text_taken asked file text files files' out out' telling needs writes = all_take
 
 written_taken : (request : Option Asked) (files files' : FilesState) (out out' : SinkState) (telling : Telling) → WritesRequest request files files' out out' telling → AllTaken request files files'
 written_taken None files files' out out' telling came = absurd came
-written_taken (Some (to_run execution)) files files' out out' telling came = absurd came
+written_taken (Some (to_run asked)) files files' out out' telling came = absurd came
 written_taken (Some (to_run_plain execution)) files files' out out' telling came = absurd came
 written_taken (Some (to_assemble file)) files files' out out' telling came = text_taken (to_assemble file) file elf_file files files' out out' telling refl came
 written_taken (Some (to_disassemble file)) files files' out out' telling came = text_taken (to_disassemble file) file listing files files' out out' telling refl came
@@ -245,22 +245,22 @@ pub none : {request : Option Asked} {old new : World} {done : Done} → Outcome 
 none {request} {old} {new} {done} o is =
     (unasked o is, undone_without o.course (Undone None old new done) old.files new.files old.out new.out (came_as o None is) (undone o None is))
 
-ran : (course : Course) (execution : ExecutionAsked) (P : Type 0) (old new : World) (done : Done) → CameAbout course (Some (to_run execution)) old.files new.files old.out new.out →
+ran : (course : Course) (asked : RunAsked) (P : Type 0) (old new : World) (done : Done) → CameAbout course (Some (to_run asked)) old.files new.files old.out new.out →
     IfSome (course_run course) (λ run. TellsRun done.status run done.lies old.note new.note) → IfUndone course P →
-    AreBothAnd (course_run course) (course_bus course) (RanAndTold execution old new done) ⊎ P
-ran (Refused refusal) execution P old new done came tells holds = inr holds
-ran NoMemory execution P old new done came tells holds = inr holds
-ran (Ran run bus) execution P old new done came tells holds = inl (record { runs = came; tells = tells })
-ran (RanPlain run) execution P old new done came tells holds = absurd came
-ran (Written written) execution P old new done came tells holds = absurd came
+    AreBothAnd (course_run course) (course_bus course) (RanAndTold asked old new done) ⊎ P
+ran (Refused refusal) asked P old new done came tells holds = inr holds
+ran NoMemory asked P old new done came tells holds = inr holds
+ran (Ran run bus) asked P old new done came tells holds = inl (record { runs = came; tells = tells })
+ran (RanPlain run) asked P old new done came tells holds = absurd came
+ran (Written written) asked P old new done came tells holds = absurd came
 
-pub run : {request : Option Asked} {old new : World} {done : Done} → Outcome request old new done → (execution : ExecutionAsked) → request ≡ Some (to_run execution) → GivesRun execution old new done
-run {request} {old} {new} {done} o execution asks =
+pub run : {request : Option Asked} {old new : World} {done : Done} → Outcome request old new done → (asked : RunAsked) → request ≡ Some (to_run asked) → GivesRun asked old new done
+run {request} {old} {new} {done} o asked asks =
     let tells : IfSome (course_run o.course) (λ run. TellsRun done.status run done.lies old.note new.note) = rw (o.status, o.lies) (told_run o.course o.told old.note new.note o.tells) in
-    let at = ran o.course execution (Undone (Some (to_run execution)) old new done) old new done
-    (came_as o (Some (to_run execution)) asks) tells (undone o (Some (to_run execution)) asks) in
-    let with_run = subst (λ (r : Option RunRecord). AreBothAnd r (course_bus o.course) (RanAndTold execution old new done) ⊎ Undone (Some (to_run execution)) old new done) (sym o.run) at in
-    subst (λ (b : Option RunBus). AreBothAnd done.run b (RanAndTold execution old new done) ⊎ Undone (Some (to_run execution)) old new done) (sym o.bus) with_run
+    let at = ran o.course asked (Undone (Some (to_run asked)) old new done) old new done
+    (came_as o (Some (to_run asked)) asks) tells (undone o (Some (to_run asked)) asks) in
+    let with_run = subst (λ (r : Option RunRecord). AreBothAnd r (course_bus o.course) (RanAndTold asked old new done) ⊎ Undone (Some (to_run asked)) old new done) (sym o.run) at in
+    subst (λ (b : Option RunBus). AreBothAnd done.run b (RanAndTold asked old new done) ⊎ Undone (Some (to_run asked)) old new done) (sym o.bus) with_run
 
 plainly_ran : (course : Course) (telling : Telling) (execution : ExecutionAsked) (P : Type 0) (old new : World) (done : Done) → CameAbout course (Some (to_run_plain execution)) old.files new.files old.out new.out →
     TellsCourse course old.note new.note telling → done.status ≡ code_of (status_of course telling) → done.run ≡ course_run course → IfUndone course P → PlainlyRan execution old new done ⊎ P

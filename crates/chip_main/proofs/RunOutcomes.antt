@@ -12,7 +12,7 @@ use Rattle.bus_model.specs.BusHistory.{BusHistory}
 use Rattle.plain_machine.specs.declared.PlainRecord.{PlainRecord}
 use Rattle.sec_base.specs.Sink.{IsWritten}
 use Rattle.chip_run.specs.declared.RunRecord.{RunRecord}
-use Rattle.chip_words.specs.Request.{Asked, ExecutionAsked, to_assemble, to_disassemble, to_measure, to_run, to_run_plain, FileAsked}
+use Rattle.chip_words.specs.Request.{Asked, ExecutionAsked, FileAsked, RunAsked, to_assemble, to_disassemble, to_measure, to_run, to_run_plain}
 use Rattle.chip_main.specs.declared.refusal.Refusal.{Refusal}
 use Rattle.chip_main.specs.declared.refusal.Refusal.TheVariants.{Usage, Unread, TooLong, Elf, Asm}
 use Rattle.chip_main.specs.declared.run_bus.RunBus.{RunBus}
@@ -56,43 +56,43 @@ honest o = o.lies ∙ none_false o.course
 -- ---- what a status says of what was done, by the command
 
 -- what a status says of a run on protected memory, of one on the plain machine, and of a text
-pub record Says (status : ℕ) (Run : RunRecord → BusHistory → Type 0) (Plain : ExecutionAsked → Type 0) (Text : FileAsked → (Image → List ℕ) → Type 0) (files files' : FilesState) (out out' : SinkState) : Type 0 where
+pub record Says (status : ℕ) (Run : RunAsked → RunRecord → BusHistory → Type 0) (Plain : ExecutionAsked → Type 0) (Text : FileAsked → (Image → List ℕ) → Type 0) (files files' : FilesState) (out out' : SinkState) : Type 0 where
   pub refuses : (refusal : Refusal) → code_of (refusal_status refusal) ≢ status
   pub low : status < 9
-  pub of_run : (execution : ExecutionAsked) (run : RunRecord) (told : BusHistory) → RunsExecution execution files files' out out' run told → code_of (run_status run) ≡ status → Run run told
+  pub of_run : (asked : RunAsked) (run : RunRecord) (told : BusHistory) → RunsExecution asked files files' out out' run told → code_of (run_status run) ≡ status → Run asked run told
   pub of_plain : (execution : ExecutionAsked) (run : PlainRecord) → PlainlyRuns execution files files' out out' run → code_of (ending_status run.ending) ≡ status → Plain execution
   pub of_text : (file : FileAsked) (text : Image → List ℕ) (telling : Telling) → Writes file text files files' out out' telling → code_of (text_status telling) ≡ status → Text file text
 
-said_of_run : (request : Option Asked) (run : RunRecord) (told : BusHistory) (status : ℕ) (Run : RunRecord → BusHistory → Type 0) (Plain : ExecutionAsked → Type 0) (Text : FileAsked → (Image → List ℕ) → Type 0) (files files' : FilesState) (out out' : SinkState) →
-    Says status Run Plain Text files files' out out' → RunsRequest request files files' out out' run told → code_of (run_status run) ≡ status → ByCommand request (λ _. Run run told) Plain Text
+said_of_run : (request : Option Asked) (run : RunRecord) (told : BusHistory) (status : ℕ) (Run : RunAsked → RunRecord → BusHistory → Type 0) (Plain : ExecutionAsked → Type 0) (Text : FileAsked → (Image → List ℕ) → Type 0) (files files' : FilesState) (out out' : SinkState) →
+    Says status Run Plain Text files files' out out' → RunsRequest request files files' out out' run told → code_of (run_status run) ≡ status → ByCommand request (λ asked. Run asked run told) Plain Text
 said_of_run None run told status Run Plain Text files files' out out' says came is = absurd came
-said_of_run (Some (to_run execution)) run told status Run Plain Text files files' out out' says came is = says.of_run execution run told came is
+said_of_run (Some (to_run asked)) run told status Run Plain Text files files' out out' says came is = says.of_run asked run told came is
 said_of_run (Some (to_run_plain execution)) run told status Run Plain Text files files' out out' says came is = absurd came
 said_of_run (Some (to_assemble file)) run told status Run Plain Text files files' out out' says came is = absurd came
 said_of_run (Some (to_disassemble file)) run told status Run Plain Text files files' out out' says came is = absurd came
 said_of_run (Some (to_measure file)) run told status Run Plain Text files files' out out' says came is = absurd came
 
-said_of_plain : (request : Option Asked) (run : PlainRecord) (status : ℕ) (Run : RunRecord → BusHistory → Type 0) (Plain : ExecutionAsked → Type 0) (Text : FileAsked → (Image → List ℕ) → Type 0) (files files' : FilesState) (out out' : SinkState) →
+said_of_plain : (request : Option Asked) (run : PlainRecord) (status : ℕ) (Run : RunAsked → RunRecord → BusHistory → Type 0) (Plain : ExecutionAsked → Type 0) (Text : FileAsked → (Image → List ℕ) → Type 0) (files files' : FilesState) (out out' : SinkState) →
     Says status Run Plain Text files files' out out' → PlainlyRunsRequest request files files' out out' run → code_of (ending_status run.ending) ≡ status → ByCommand request (λ _. ⊥) Plain Text
 said_of_plain None run status Run Plain Text files files' out out' says came is = absurd came
-said_of_plain (Some (to_run execution)) run status Run Plain Text files files' out out' says came is = absurd came
+said_of_plain (Some (to_run asked)) run status Run Plain Text files files' out out' says came is = absurd came
 said_of_plain (Some (to_run_plain execution)) run status Run Plain Text files files' out out' says came is = says.of_plain execution run came is
 said_of_plain (Some (to_assemble file)) run status Run Plain Text files files' out out' says came is = absurd came
 said_of_plain (Some (to_disassemble file)) run status Run Plain Text files files' out out' says came is = absurd came
 said_of_plain (Some (to_measure file)) run status Run Plain Text files files' out out' says came is = absurd came
 
-said_of_text : (request : Option Asked) (telling : Telling) (status : ℕ) (Run : RunRecord → BusHistory → Type 0) (Plain : ExecutionAsked → Type 0) (Text : FileAsked → (Image → List ℕ) → Type 0) (files files' : FilesState) (out out' : SinkState) →
+said_of_text : (request : Option Asked) (telling : Telling) (status : ℕ) (Run : RunAsked → RunRecord → BusHistory → Type 0) (Plain : ExecutionAsked → Type 0) (Text : FileAsked → (Image → List ℕ) → Type 0) (files files' : FilesState) (out out' : SinkState) →
     Says status Run Plain Text files files' out out' → WritesRequest request files files' out out' telling → code_of (text_status telling) ≡ status → ByCommand request (λ _. ⊥) Plain Text
 said_of_text None telling status Run Plain Text files files' out out' says came is = absurd came
-said_of_text (Some (to_run execution)) telling status Run Plain Text files files' out out' says came is = absurd came
+said_of_text (Some (to_run asked)) telling status Run Plain Text files files' out out' says came is = absurd came
 said_of_text (Some (to_run_plain execution)) telling status Run Plain Text files files' out out' says came is = absurd came
 said_of_text (Some (to_assemble file)) telling status Run Plain Text files files' out out' says came is = says.of_text file elf_file telling came is
 said_of_text (Some (to_disassemble file)) telling status Run Plain Text files files' out out' says came is = says.of_text file listing telling came is
 said_of_text (Some (to_measure file)) telling status Run Plain Text files files' out out' says came is = says.of_text file measurement_line telling came is
 
-said : (course : Course) (request : Option Asked) (status : ℕ) (Run : RunRecord → BusHistory → Type 0) (Plain : ExecutionAsked → Type 0) (Text : FileAsked → (Image → List ℕ) → Type 0) (files files' : FilesState) (out out' : SinkState) →
+said : (course : Course) (request : Option Asked) (status : ℕ) (Run : RunAsked → RunRecord → BusHistory → Type 0) (Plain : ExecutionAsked → Type 0) (Text : FileAsked → (Image → List ℕ) → Type 0) (files files' : FilesState) (out out' : SinkState) →
     Says status Run Plain Text files files' out out' → CameAbout course request files files' out out' → code_of (course_status course) ≡ status →
-    ByCommand request (λ _. AreBothAnd (course_run course) (course_bus course) Run) Plain Text
+    ByCommand request (λ asked. AreBothAnd (course_run course) (course_bus course) (Run asked)) Plain Text
 said (Refused refusal) request status Run Plain Text files files' out out' says came is = absurd (says.refuses refusal is)
 said NoMemory request status Run Plain Text files files' out out' says came is = absurd (omega (arith, says.low))
 said (Ran run bus) request status Run Plain Text files files' out out' says came is =
@@ -102,8 +102,8 @@ said (RanPlain run) request status Run Plain Text files files' out out' says cam
 said (Written telling) request status Run Plain Text files files' out out' says came is =
     said_of_text request telling status Run Plain Text files files' out out' says came is
 
-by_command : (status : ℕ) (Run : RunRecord → BusHistory → Type 0) (Plain : ExecutionAsked → Type 0) (Text : FileAsked → (Image → List ℕ) → Type 0) {request : Option Asked} {old new : World} {done : Done} →
-    Says status Run Plain Text old.files new.files old.out new.out → Outcome request old new done → done.status ≡ status → ByCommand request (λ _. IsRunAnd done Run) Plain Text
+by_command : (status : ℕ) (Run : RunAsked → RunRecord → BusHistory → Type 0) (Plain : ExecutionAsked → Type 0) (Text : FileAsked → (Image → List ℕ) → Type 0) {request : Option Asked} {old new : World} {done : Done} →
+    Says status Run Plain Text old.files new.files old.out new.out → Outcome request old new done → done.status ≡ status → ByCommand request (λ asked. IsRunAnd done (Run asked)) Plain Text
 by_command status Run Plain Text {request} {old} {new} says o is =
     rw (o.run, o.bus) (said o.course request status Run Plain Text old.files new.files old.out new.out says o.came (own_status o status says.low is))
 
@@ -131,7 +131,7 @@ written_whole file text (Err no_memory) files files' out out' writes is = absurd
 ran_or_written : (request : Option Asked) (Run : Type 0) (Plain : ExecutionAsked → Type 0) (Text : FileAsked → (Image → List ℕ) → Type 0) → ByCommand request (λ _. Run) Plain Text →
     ByCommand request (λ _. Run) Plain (λ _ _. ⊥) ⊎ ByCommand request (λ _. ⊥) (λ _. ⊥) Text
 ran_or_written None Run Plain Text holds = absurd holds
-ran_or_written (Some (to_run execution)) Run Plain Text holds = inl holds
+ran_or_written (Some (to_run asked)) Run Plain Text holds = inl holds
 ran_or_written (Some (to_run_plain execution)) Run Plain Text holds = inl holds
 ran_or_written (Some (to_assemble file)) Run Plain Text holds = inr holds
 ran_or_written (Some (to_disassemble file)) Run Plain Text holds = inr holds
@@ -141,30 +141,30 @@ pub is_done : {request : Option Asked} {old new : World} {done : Done} → Outco
 is_done {request = request} {old = old} {new = new} {done = done} o is =
     let text : FileAsked → (Image → List ℕ) → Type 0 = λ file text. Writes file text old.files new.files old.out new.out (Ok tt) in
     ran_or_written request (IsRunAnd done (EndedWithoutEvidence IsHalted)) (λ execution. PlainlyEnded IsHalted execution old new) text
-    (by_command 0 (EndedWithoutEvidence IsHalted) (λ execution. PlainlyEnded IsHalted execution old new) text (record {
+    (by_command 0 (λ _. EndedWithoutEvidence IsHalted) (λ execution. PlainlyEnded IsHalted execution old new) text (record {
       refuses = unrefused 0 (omega arith) (omega arith) (omega arith);
       low = omega arith;
-      of_run = λ execution run told runs is. halted_cause runs.3 is;
+      of_run = λ asked run told runs is. halted_cause runs.3 is;
       of_plain = λ execution run runs is. (run, runs, halted_of run.ending is);
       of_text = λ file text telling writes is. written_whole file text telling old.files new.files old.out new.out writes is;
     }) o is)
 
 pub trapped : {request : Option Asked} {old new : World} {done : Done} → Outcome request old new done → done.status ≡ 1 → Ended IsTrapped request old new done
 trapped {old = old} {new = new} o is =
-    by_command 1 (EndedWithoutEvidence IsTrapped) (λ execution. PlainlyEnded IsTrapped execution old new) (λ _ _. ⊥) (record {
+    by_command 1 (λ _. EndedWithoutEvidence IsTrapped) (λ execution. PlainlyEnded IsTrapped execution old new) (λ _ _. ⊥) (record {
       refuses = unrefused 1 (omega arith) (omega arith) (omega arith);
       low = omega arith;
-      of_run = λ execution run told runs is. trapped_cause runs.3 is;
+      of_run = λ asked run told runs is. trapped_cause runs.3 is;
       of_plain = λ execution run runs is. (run, runs, trapped_of run.ending is);
       of_text = λ file text telling writes is. unwritten 1 (omega arith) (omega arith) telling is;
     }) o is
 
 pub out_of_steps : {request : Option Asked} {old new : World} {done : Done} → Outcome request old new done → done.status ≡ 4 → Ended IsOutOfSteps request old new done
 out_of_steps {old = old} {new = new} o is =
-    by_command 4 (EndedWithoutEvidence IsOutOfSteps) (λ execution. PlainlyEnded IsOutOfSteps execution old new) (λ _ _. ⊥) (record {
+    by_command 4 (λ _. EndedWithoutEvidence IsOutOfSteps) (λ execution. PlainlyEnded IsOutOfSteps execution old new) (λ _ _. ⊥) (record {
       refuses = unrefused 4 (omega arith) (omega arith) (omega arith);
       low = omega arith;
-      of_run = λ execution run told runs is. out_of_steps_cause runs.3 is;
+      of_run = λ asked run told runs is. out_of_steps_cause runs.3 is;
       of_plain = λ execution run runs is. (run, runs, out_of_steps_of run.ending is);
       of_text = λ file text telling writes is. unwritten 4 (omega arith) (omega arith) telling is;
     }) o is
@@ -174,7 +174,7 @@ tampered_ending : {request : Option Asked} {old new : World} {done : Done} → O
 tampered_ending o is = by_command 5 EndedTampered (λ _. ⊥) (λ _ _. ⊥) (record {
   refuses = unrefused 5 (omega arith) (omega arith) (omega arith);
   low = omega arith;
-  of_run = λ execution run told runs is. tampered_cause runs.3 is;
+  of_run = λ asked run told runs is. tampered_cause asked runs.0 runs.1 runs.3 is;
   of_plain = λ execution run runs is. let place = tampered_of run.ending is in runs.3.untampered place.0 place.1;
   of_text = λ file text telling writes is. unwritten 5 (omega arith) (omega arith) telling is;
 }) o is
@@ -184,7 +184,7 @@ pub spent : {request : Option Asked} {old new : World} {done : Done} → Outcome
 spent o is = by_command 6 EndedSpent (λ _. ⊥) (λ _ _. ⊥) (record {
   refuses = unrefused 6 (omega arith) (omega arith) (omega arith);
   low = omega arith;
-  of_run = λ execution run told runs is. spent_cause runs.3 is;
+  of_run = λ asked run told runs is. spent_cause asked runs.0 runs.1 runs.3 is;
   of_plain = λ execution run runs is. let page = spent_of run.ending is in runs.3.unspent page.0 page.1;
   of_text = λ file text telling writes is. unwritten 6 (omega arith) (omega arith) telling is;
 }) o is
@@ -194,29 +194,29 @@ pub with_evidence : {request : Option Asked} {old new : World} {done : Done} →
 with_evidence o is = by_command 7 EndedWithEvidence (λ _. ⊥) (λ _ _. ⊥) (record {
   refuses = unrefused 7 (omega arith) (omega arith) (omega arith);
   low = omega arith;
-  of_run = λ execution run told runs is. evidence_cause runs.3 is;
+  of_run = λ asked run told runs is. evidence_cause asked runs.0 runs.1 runs.3 is;
   of_plain = λ execution run runs is. no_seven run.ending is;
   of_text = λ file text telling writes is. unwritten 7 (omega arith) (omega arith) telling is;
 }) o is
 
 -- the one false answer of a bus that was caught
-caught_once : (run : Option RunRecord) (bus : Option RunBus) → AreBothAnd run bus EndedTampered → lies_of bus ≡ 1
-caught_once None bus ended = absurd ended
-caught_once (Some run) None ended = absurd ended
-caught_once (Some run) (Some bus) ended = ended.caught.lies
+caught_once : (asked : RunAsked) (run : Option RunRecord) (bus : Option RunBus) → AreBothAnd run bus (EndedTampered asked) → lies_of bus ≡ 1
+caught_once asked None bus ended = absurd ended
+caught_once asked (Some run) None ended = absurd ended
+caught_once asked (Some run) (Some bus) ended = ended.caught.lies
 
-of_command : (request : Option Asked) (P : Type 0) → ByCommand request (λ _. P) (λ _. ⊥) (λ _ _. ⊥) → P
-of_command None P holds = absurd holds
-of_command (Some (to_run execution)) P holds = holds
-of_command (Some (to_run_plain execution)) P holds = absurd holds
-of_command (Some (to_assemble file)) P holds = absurd holds
-of_command (Some (to_disassemble file)) P holds = absurd holds
-of_command (Some (to_measure file)) P holds = absurd holds
+tampered_once : (request : Option Asked) (done : Done) → RanAnd EndedTampered request done → lies_of done.bus ≡ 1
+tampered_once None done ended = absurd ended
+tampered_once (Some (to_run asked)) done ended = caught_once asked done.run done.bus ended
+tampered_once (Some (to_run_plain execution)) done ended = absurd ended
+tampered_once (Some (to_assemble file)) done ended = absurd ended
+tampered_once (Some (to_disassemble file)) done ended = absurd ended
+tampered_once (Some (to_measure file)) done ended = absurd ended
 
 pub tampered : {request : Option Asked} {old new : World} {done : Done} → Outcome request old new done → done.status ≡ 5 → RanAnd EndedTampered request done × (done.lies ≡ 1)
 tampered {request = request} {done = done} o is =
     let ended = tampered_ending o is in
-    (ended, o.lies ∙ rw (← o.bus) (caught_once done.run done.bus (of_command request (IsRunAnd done EndedTampered) ended)))
+    (ended, o.lies ∙ rw (← o.bus) (tampered_once request done ended))
 
 -- ---- failed writes
 
@@ -253,7 +253,7 @@ refusal_no_fault (Asm line fault) is = omega arith
 pub text_written : (request : Option Asked) (files files' : FilesState) (out out' : SinkState) (telling : Telling) → WritesRequest request files files' out out' telling →
     (file : FileAsked) × (text : Image → List ℕ) × Writes file text files files' out out' telling
 text_written None files files' out out' telling came = absurd came
-text_written (Some (to_run execution)) files files' out out' telling came = absurd came
+text_written (Some (to_run asked)) files files' out out' telling came = absurd came
 text_written (Some (to_run_plain execution)) files files' out out' telling came = absurd came
 text_written (Some (to_assemble file)) files files' out out' telling came = (file, elf_file, came)
 text_written (Some (to_disassemble file)) files files' out out' telling came = (file, listing, came)
@@ -269,13 +269,13 @@ out_failed : (course : Course) (request : Option Asked) (files files' : FilesSta
 out_failed (Refused refusal) request files files' out out' came is = absurd (refusal_no_fault refusal is)
 out_failed NoMemory request files files' out out' came is = absurd (omega arith)
 out_failed (Ran run bus) None files files' out out' came is = absurd came
-out_failed (Ran run bus) (Some (to_run execution)) files files' out out' came is = came.3.write_fault (run_fault_of run.evidence run.ending is)
+out_failed (Ran run bus) (Some (to_run asked)) files files' out out' came is = came.3.always.write_fault (run_fault_of run.evidence run.ending is)
 out_failed (Ran run bus) (Some (to_run_plain execution)) files files' out out' came is = absurd came
 out_failed (Ran run bus) (Some (to_assemble file)) files files' out out' came is = absurd came
 out_failed (Ran run bus) (Some (to_disassemble file)) files files' out out' came is = absurd came
 out_failed (Ran run bus) (Some (to_measure file)) files files' out out' came is = absurd came
 out_failed (RanPlain run) None files files' out out' came is = absurd came
-out_failed (RanPlain run) (Some (to_run execution)) files files' out out' came is = absurd came
+out_failed (RanPlain run) (Some (to_run asked)) files files' out out' came is = absurd came
 out_failed (RanPlain run) (Some (to_run_plain execution)) files files' out out' came is = came.3.write_fault (fault_of run.ending is)
 out_failed (RanPlain run) (Some (to_assemble file)) files files' out out' came is = absurd came
 out_failed (RanPlain run) (Some (to_disassemble file)) files files' out out' came is = absurd came

@@ -1,6 +1,5 @@
 -- What the status of a run on protected memory says of how it ended.
 use Rattle.std.proofs.Common.{◌≡◌, ◌≢◌, ◌<◌, ◌≤◌, inl, inr, List, ℕ, Option, Some, None, IfSome, refl, sym, ◌∙◌, subst, arith}
-use Rattle.sec_base.specs.Evidence.{IsEvidence}
 use Rattle.sec_base.specs.Sink.{SinkState}
 use Rattle.sec_base.specs.declared.evidence.Evidence.{Evidence}
 use Rattle.sec_base.specs.declared.message.Message.{Message}
@@ -8,12 +7,13 @@ use Rattle.sec_base.specs.declared.ending.Ending.{Ending}
 use Rattle.sec_base.specs.declared.ending.Ending.TheVariants.{Halted, Trapped, OutOfSteps, Tampered, Spent, WriteFault, NoMemory}
 use Rattle.sec_base.specs.declared.place.Place.{Place}
 use Rattle.bus_model.specs.BusHistory.{BusHistory}
+use Rattle.chip_run.specs.Run.{RunsProtected, ShowsEvidence, Terms}
 use Rattle.chip_run.specs.declared.RunRecord.{RunRecord}
-use Rattle.bus_model.specs.FirstLie.{HonestOrCaught, IsCaught, IsOfFirstLie}
+use Rattle.bus_model.specs.FirstLie.{HonestOrCaught, IsCaught}
 use Rattle.sec_base.specs.Program.{Program}
-use Rattle.chip_main.specs.Device.{device_tag}
+use Rattle.chip_words.specs.Request.{RunAsked}
+use Rattle.chip_main.specs.Device.{device_tag, terms_of}
 use Rattle.chip_main.specs.Status.{code_of, ending_status, evidence_status, status_with, run_status}
-use Rattle.chip_main.specs.ProtectedRun.{RunsProtected}
 use Rattle.chip_main.specs.Endings.{EndedWithoutEvidence, IsHalted, IsTrapped, IsOutOfSteps, EndedTampered, EndedSpent, EndedWithEvidence}
 
 -- with evidence the status is 7 or more
@@ -126,55 +126,55 @@ caught tag_of run told place ended (inl honest) = absurd (honest.untampered plac
 caught tag_of run told place ended (inr is) = is
 
 -- the causes of the statuses
-pub halted_cause : {levels steps : ℕ} {program : Program} {input : List ℕ} {old new : SinkState} {run : RunRecord} {told : BusHistory} → RunsProtected levels steps program input old new run told → code_of (run_status run) ≡ 0 → EndedWithoutEvidence IsHalted run told
+pub halted_cause : {terms : Terms} {old new : SinkState} {before told : BusHistory} {run : RunRecord} → RunsProtected terms old new before told run → code_of (run_status run) ≡ 0 → EndedWithoutEvidence IsHalted run told
 unfolding HasNoEvidence
 halted_cause {run = run} runs is =
     let low = low_status run 0 is (omega arith) in record { no_evidence = low.0; ended = halted_of run.ending low.1 }
 
-pub trapped_cause : {levels steps : ℕ} {program : Program} {input : List ℕ} {old new : SinkState} {run : RunRecord} {told : BusHistory} → RunsProtected levels steps program input old new run told → code_of (run_status run) ≡ 1 → EndedWithoutEvidence IsTrapped run told
+pub trapped_cause : {terms : Terms} {old new : SinkState} {before told : BusHistory} {run : RunRecord} → RunsProtected terms old new before told run → code_of (run_status run) ≡ 1 → EndedWithoutEvidence IsTrapped run told
 unfolding HasNoEvidence
 trapped_cause {run = run} runs is =
     let low = low_status run 1 is (omega arith) in record { no_evidence = low.0; ended = trapped_of run.ending low.1 }
 
-pub out_of_steps_cause : {levels steps : ℕ} {program : Program} {input : List ℕ} {old new : SinkState} {run : RunRecord} {told : BusHistory} → RunsProtected levels steps program input old new run told → code_of (run_status run) ≡ 4 → EndedWithoutEvidence IsOutOfSteps run told
+pub out_of_steps_cause : {terms : Terms} {old new : SinkState} {before told : BusHistory} {run : RunRecord} → RunsProtected terms old new before told run → code_of (run_status run) ≡ 4 → EndedWithoutEvidence IsOutOfSteps run told
 unfolding HasNoEvidence
 out_of_steps_cause {run = run} runs is =
     let low = low_status run 4 is (omega arith) in record { no_evidence = low.0; ended = out_of_steps_of run.ending low.1 }
 
-pub tampered_cause : {levels steps : ℕ} {program : Program} {input : List ℕ} {old new : SinkState} {run : RunRecord} {told : BusHistory} → RunsProtected levels steps program input old new run told → code_of (run_status run) ≡ 5 → EndedTampered run told
+pub tampered_cause : (asked : RunAsked) (program : Program) (input : List ℕ) {old new : SinkState} {before told : BusHistory} {run : RunRecord} → RunsProtected (terms_of asked program input) old new before told run → code_of (run_status run) ≡ 5 → EndedTampered asked run told
 unfolding HasNoEvidence
-tampered_cause {levels = levels} {run = run} {told = told} runs is =
+tampered_cause asked program input {told = told} {run = run} runs is =
     let low = low_status run 5 is (omega arith) in
     let ending = tampered_of run.ending low.1 in
     record {
       no_evidence = low.0;
-      caught = subst (λ (n : ℕ). IsCaught (device_tag n) run.used run.made told (λ p. run.ending ≡ Tampered p)) (sym runs.bus_levels)
-          (caught (device_tag levels) run told ending.0 ending.1 (runs.answers low.0));
+      caught = caught (device_tag asked.terms asked.execution.file.levels) run told ending.0 ending.1 (runs.without_evidence low.0).answers;
     }
 
-pub spent_cause : {levels steps : ℕ} {program : Program} {input : List ℕ} {old new : SinkState} {run : RunRecord} {told : BusHistory} → RunsProtected levels steps program input old new run told → code_of (run_status run) ≡ 6 → EndedSpent run told
+pub spent_cause : (asked : RunAsked) (program : Program) (input : List ℕ) {old new : SinkState} {before told : BusHistory} {run : RunRecord} → RunsProtected (terms_of asked program input) old new before told run → code_of (run_status run) ≡ 6 → EndedSpent asked run told
 unfolding HasNoEvidence
-spent_cause {run = run} runs is =
+spent_cause asked program input {run = run} runs is =
     let low = low_status run 6 is (omega arith) in
     let ending = spent_of run.ending low.1 in
-    record { no_evidence = low.0; page = ending.0; ended = ending.1; used_up = rw runs.bus_levels (runs.spent ending.0 low.0 ending.1) }
+    record { no_evidence = low.0; page = ending.0; ended = ending.1; used_up = runs.always.spent ending.0 ending.1 }
 
-pub evidence_cause : {levels steps : ℕ} {program : Program} {input : List ℕ} {old new : SinkState} {run : RunRecord} {told : BusHistory} → RunsProtected levels steps program input old new run told → code_of (run_status run) ≡ 7 → EndedWithEvidence run told
-evidence_cause {levels = levels} {run = run} {told = told} runs is =
+pub evidence_cause : (asked : RunAsked) (program : Program) (input : List ℕ) {old new : SinkState} {before told : BusHistory} {run : RunRecord} → RunsProtected (terms_of asked program input) old new before told run → code_of (run_status run) ≡ 7 → EndedWithEvidence asked run told
+evidence_cause asked program input {told = told} {run = run} runs is =
     let found = evidence_of run.evidence run.ending is in
+    let shown = if_some (ShowsEvidence (terms_of asked program input) told run) run.evidence found.0 found.1 runs.with_evidence in
     record {
       evidence = found.0;
       there = found.1;
-      genuine = rw runs.bus_levels (if_some (IsEvidence (device_tag levels) run.made) run.evidence found.0 found.1 runs.genuine);
-      first_lie = if_some (IsOfFirstLie run.made told) run.evidence found.0 found.1 runs.first_lie;
+      genuine = shown.genuine;
+      first_lie = shown.first_lie;
       written = fault_is_no_seven run.evidence run.ending is;
       in_memory = memory_is_no_seven run.evidence run.ending is;
     }
 
 -- evidence is of a false answer
-none_without_lie : (evidence : Option Evidence) (run : RunRecord) (told : BusHistory) → IfSome evidence (IsOfFirstLie run.made told) → told.lies ≡ 0 → evidence ≡ None
-none_without_lie None run told first none = refl
-none_without_lie (Some evidence) run told first none = let some : 0 < told.lies = first.lies in absurd (omega arith)
+none_without_lie : (terms : Terms) (evidence : Option Evidence) (run : RunRecord) (told : BusHistory) → IfSome evidence (ShowsEvidence terms told run) → told.lies ≡ 0 → evidence ≡ None
+none_without_lie terms None run told shown none = refl
+none_without_lie terms (Some evidence) run told shown none = let some : 0 < told.lies = shown.first_lie.lies in absurd (omega arith)
 
-pub honest_without_evidence : {levels steps : ℕ} {program : Program} {input : List ℕ} {old new : SinkState} {run : RunRecord} {told : BusHistory} → RunsProtected levels steps program input old new run told → told.lies ≡ 0 → run.evidence ≡ None
-honest_without_evidence {run = run} {told = told} runs none = none_without_lie run.evidence run told runs.first_lie none
+pub honest_without_evidence : {terms : Terms} {old new : SinkState} {before told : BusHistory} {run : RunRecord} → RunsProtected terms old new before told run → told.lies ≡ 0 → run.evidence ≡ None
+honest_without_evidence {terms = terms} {told = told} {run = run} runs none = none_without_lie terms run.evidence run told runs.with_evidence none

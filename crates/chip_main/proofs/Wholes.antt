@@ -1,5 +1,5 @@
 -- Where the files tell all that is needed and nothing fails, what was asked for is done whole.
-use Rattle.std.proofs.Common.{◌≡◌, ◌≢◌, ◌<◌, ◌≤◌, ◌⊎◌, inl, inr, List, [], ◌∷◌, ℕ, suc, length, Option, Some, None, Ok, Err, Contains, IsSome, refl, sym, ap, ◌∙◌, subst, arith}
+use Rattle.std.proofs.Common.{◌≡◌, ◌≢◌, ◌<◌, ◌≤◌, ◌⊎◌, inl, inr, List, [], ◌∷◌, ℕ, suc, length, Option, Some, None, Ok, Err, IsSome, refl, sym, ap, ◌∙◌, subst, arith}
 use Rattle.sec_base.specs.Count.{Rose}
 use Rattle.sec_base.specs.Files.{FilesState, HasBytes, HasOver, IsOver}
 use Rattle.sec_base.specs.Sink.{SinkState}
@@ -7,11 +7,12 @@ use Rattle.sec_base.specs.declared.ending.Ending.{Ending}
 use Rattle.sec_base.specs.declared.ending.Ending.TheVariants.{Halted, Trapped, OutOfSteps, Tampered, Spent, WriteFault, NoMemory as memory_ended}
 use Rattle.sec_base.specs.declared.image.Image.{Image}
 use Rattle.sec_base.specs.declared.sink.SinkStop.TheVariants.{Failed, NoMemory as no_memory}
-use Rattle.bus_model.specs.BusHistory.{BusHistory}
+use Rattle.bus_model.specs.BusHistory.{BusHistory, new_history}
 use Rattle.rv32_core.specs.Follows.{IsWhole}
 use Rattle.plain_machine.specs.declared.PlainRecord.{PlainRecord}
+use Rattle.chip_run.specs.Run.{RunsProtected}
 use Rattle.chip_run.specs.declared.RunRecord.{RunRecord}
-use Rattle.chip_words.specs.Request.{Asked, ExecutionAsked, to_assemble, to_disassemble, to_measure, to_run, to_run_plain, FileAsked, asked_file}
+use Rattle.chip_words.specs.Request.{Asked, ExecutionAsked, FileAsked, RunAsked, asked_file, to_assemble, to_disassemble, to_measure, to_run, to_run_plain}
 use Rattle.sec_base.specs.Program.{Program}
 use Rattle.chip_main.specs.declared.refusal.Refusal.{Refusal}
 use Rattle.chip_main.specs.declared.refusal.Refusal.TheVariants.{Usage, Unread, TooLong, Elf, Asm}
@@ -20,8 +21,8 @@ use Rattle.chip_main.specs.declared.course.Course.{Course}
 use Rattle.chip_main.specs.declared.course.Course.TheVariants.{Refused, NoMemory, Ran, RanPlain, Written}
 use Rattle.chip_main.specs.declared.Done.{Done}
 use Rattle.chip_main.specs.World.{World}
+use Rattle.chip_main.specs.Device.{terms_of}
 use Rattle.chip_main.specs.Program.{opening, program_of_file}
-use Rattle.chip_main.specs.ProtectedRun.{RunsProtected}
 use Rattle.chip_main.specs.PlainRun.{RunsPlain}
 use Rattle.chip_main.specs.Needs.{Need, AreAccepted, HasTold, IsAccepted, asked_needs}
 use Rattle.chip_main.specs.Causes.{IsCause, IsMisformed, IsRefused, Stops}
@@ -82,8 +83,8 @@ unrefused (Asm line fault) asked files files' tells accepted quiet cause = no_st
 
 -- all that is needed is accepted
 ready_accepted : (asked : Asked) (files : FilesState) (program : Program) (input : List ℕ) → Ready asked files program input → AreAccepted files (asked_needs asked)
-ready_accepted (to_run execution) files program input ready =
-    (program_accepted execution.file program files ready.program_is, input_accepted execution.input input files ready.input_is)
+ready_accepted (to_run asked) files program input ready =
+    (program_accepted asked.execution.file program files ready.program_is, input_accepted asked.execution.input input files ready.input_is)
 ready_accepted (to_run_plain execution) files program input ready =
     (program_accepted execution.file program files ready.program_is, input_accepted execution.input input files ready.input_is)
 ready_accepted (to_assemble file) files program input ready = (program_accepted file program files ready.program_is, tt)
@@ -126,47 +127,49 @@ other status is = subst (λ (n : ℕ). IsOneOf other_statuses n) (sym is) (1, om
 used_up : (status : ℕ) → status ≡ 6 → IsOneOf other_statuses status
 used_up status is = subst (λ (n : ℕ). IsOneOf other_statuses n) (sym is) (0, omega arith, refl)
 
-ran_whole : (execution : ExecutionAsked) (program : Program) (input : List ℕ) (out out' : SinkState) (run : RunRecord) (told : BusHistory) → RunsProtected execution.file.levels execution.steps program input out out' run told → told.lies ≡ 0 → ¬ Rose out.faults out'.faults →
-    IsOneOf other_statuses (code_of (run_status run)) ⊎ IsRunWhole execution program input (code_of (run_status run)) run told
-ran_whole execution program input out out' run told runs none quiet =
+ran_whole : (asked : RunAsked) (program : Program) (input : List ℕ) (out out' : SinkState) (before told : BusHistory) (run : RunRecord) → RunsProtected (terms_of asked program input) out out' before told run → told.lies ≡ 0 → ¬ Rose out.faults out'.faults →
+    IsOneOf other_statuses (code_of (run_status run)) ⊎ IsRunWhole asked.execution program input (code_of (run_status run)) run told
+ran_whole asked program input out out' before told run runs none quiet =
     let ending_is = run_status_without_evidence run (honest_without_evidence runs none) in
     elim (memory_cases run.ending) [
       | inl gone ↦ inl (other (code_of (run_status run)) (ending_is ∙ ap (λ e. code_of (ending_status e)) gone))
-      | inr had ↦ elim (runs.whole quiet none had) [
+      | inr had ↦ elim (runs.always.whole quiet none had) [
         | inl whole ↦ inr (whole, ending_is)
         | inr spent ↦ inl (used_up (code_of (run_status run)) (ending_is ∙ ap (λ e. code_of (ending_status e)) spent.1))
       ]
     ]
 
-ran_ready : (execution : ExecutionAsked) (program : Program) (input : List ℕ) (files files' : FilesState) (out out' : SinkState) (run : RunRecord) (told : BusHistory) → Ready (to_run execution) files program input → RunsExecution execution files files' out out' run told →
-    told.lies ≡ 0 → ¬ Rose out.faults out'.faults → IsOneOf other_statuses (code_of (run_status run)) ⊎ IsRunWhole execution program input (code_of (run_status run)) run told
-ran_ready execution program input files files' out out' run told ready came none quiet =
-    let same = same_program files execution.file program came.0 ready.tells ready.program_is came.2.program_is in
-    let same_in = same_input execution.input input came.1 files ready.tells ready.input_is came.2.input_is in
-    ran_whole execution program input out out' run told (rw (← same, ← same_in) came.3) none quiet
+ran_ready : (asked : RunAsked) (program : Program) (input : List ℕ) (files files' : FilesState) (out out' : SinkState) (run : RunRecord) (told : BusHistory) → Ready (to_run asked) files program input → RunsExecution asked files files' out out' run told →
+    told.lies ≡ 0 → ¬ Rose out.faults out'.faults → IsOneOf other_statuses (code_of (run_status run)) ⊎ IsRunWhole asked.execution program input (code_of (run_status run)) run told
+ran_ready asked program input files files' out out' run told ready came none quiet =
+    let same = same_program files asked.execution.file program came.0 ready.tells ready.program_is came.2.program_is in
+    let same_in = same_input asked.execution.input input came.1 files ready.tells ready.input_is came.2.input_is in
+    ran_whole asked program input out out' (new_history asked.execution.file.levels) told run
+    (subst (λ (p : Program). RunsProtected (terms_of asked p input) out out' (new_history asked.execution.file.levels) told run) same
+    (subst (λ (i : List ℕ). RunsProtected (terms_of asked came.0 i) out out' (new_history asked.execution.file.levels) told run) same_in came.3)) none quiet
 
-whole_of : (course : Course) (telling : Telling) (execution : ExecutionAsked) (program : Program) (input : List ℕ) (files files' : FilesState) (out out' note note' : SinkState) → CameAbout course (Some (to_run execution)) files files' out out' →
-    TellsCourse course note note' telling → Ready (to_run execution) files program input → lies_of (course_bus course) ≡ 0 → ¬ Rose files.faults files'.faults → ¬ Rose out.faults out'.faults → ¬ Rose note.faults note'.faults →
-    IsOneOf other_statuses (code_of (status_of course telling)) ⊎ AreBothAnd (course_run course) (course_bus course) (IsRunWhole execution program input (code_of (status_of course telling)))
-whole_of course (Err no_memory) execution program input files files' out out' note note' came tells ready none quiet_files quiet_out quiet_note = inl (other 10 refl)
-whole_of (Refused refusal) (Ok _) execution program input files files' out out' note note' came tells ready none quiet_files quiet_out quiet_note =
-    absurd (unrefused refusal (to_run execution) files files' ready.tells (ready_accepted (to_run execution) files program input ready) quiet_files came.0)
-whole_of (Refused refusal) (Err Failed) execution program input files files' out out' note note' came tells ready none quiet_files quiet_out quiet_note = absurd (quiet_note tells.1)
-whole_of NoMemory (Ok _) execution program input files files' out out' note note' came tells ready none quiet_files quiet_out quiet_note = inl (other 10 refl)
-whole_of NoMemory (Err Failed) execution program input files files' out out' note note' came tells ready none quiet_files quiet_out quiet_note = inl (other 10 refl)
-whole_of (Ran run bus) (Ok _) execution program input files files' out out' note note' came tells ready none quiet_files quiet_out quiet_note =
-    ran_ready execution program input files files' out out' run (run_history bus) ready came none quiet_out
-whole_of (Ran run bus) (Err Failed) execution program input files files' out out' note note' came tells ready none quiet_files quiet_out quiet_note = absurd (quiet_note tells.1)
-whole_of (RanPlain run) (Ok _) execution program input files files' out out' note note' came tells ready none quiet_files quiet_out quiet_note = absurd came
-whole_of (RanPlain run) (Err Failed) execution program input files files' out out' note note' came tells ready none quiet_files quiet_out quiet_note = absurd came
-whole_of (Written written) (Ok _) execution program input files files' out out' note note' came tells ready none quiet_files quiet_out quiet_note = absurd came
-whole_of (Written written) (Err Failed) execution program input files files' out out' note note' came tells ready none quiet_files quiet_out quiet_note = absurd came
+whole_of : (course : Course) (telling : Telling) (asked : RunAsked) (program : Program) (input : List ℕ) (files files' : FilesState) (out out' note note' : SinkState) → CameAbout course (Some (to_run asked)) files files' out out' →
+    TellsCourse course note note' telling → Ready (to_run asked) files program input → lies_of (course_bus course) ≡ 0 → ¬ Rose files.faults files'.faults → ¬ Rose out.faults out'.faults → ¬ Rose note.faults note'.faults →
+    IsOneOf other_statuses (code_of (status_of course telling)) ⊎ AreBothAnd (course_run course) (course_bus course) (IsRunWhole asked.execution program input (code_of (status_of course telling)))
+whole_of course (Err no_memory) asked program input files files' out out' note note' came tells ready none quiet_files quiet_out quiet_note = inl (other 10 refl)
+whole_of (Refused refusal) (Ok _) asked program input files files' out out' note note' came tells ready none quiet_files quiet_out quiet_note =
+    absurd (unrefused refusal (to_run asked) files files' ready.tells (ready_accepted (to_run asked) files program input ready) quiet_files came.0)
+whole_of (Refused refusal) (Err Failed) asked program input files files' out out' note note' came tells ready none quiet_files quiet_out quiet_note = absurd (quiet_note tells.1)
+whole_of NoMemory (Ok _) asked program input files files' out out' note note' came tells ready none quiet_files quiet_out quiet_note = inl (other 10 refl)
+whole_of NoMemory (Err Failed) asked program input files files' out out' note note' came tells ready none quiet_files quiet_out quiet_note = inl (other 10 refl)
+whole_of (Ran run bus) (Ok _) asked program input files files' out out' note note' came tells ready none quiet_files quiet_out quiet_note =
+    ran_ready asked program input files files' out out' run (run_history bus) ready came none quiet_out
+whole_of (Ran run bus) (Err Failed) asked program input files files' out out' note note' came tells ready none quiet_files quiet_out quiet_note = absurd (quiet_note tells.1)
+whole_of (RanPlain run) (Ok _) asked program input files files' out out' note note' came tells ready none quiet_files quiet_out quiet_note = absurd came
+whole_of (RanPlain run) (Err Failed) asked program input files files' out out' note note' came tells ready none quiet_files quiet_out quiet_note = absurd came
+whole_of (Written written) (Ok _) asked program input files files' out out' note note' came tells ready none quiet_files quiet_out quiet_note = absurd came
+whole_of (Written written) (Err Failed) asked program input files files' out out' note note' came tells ready none quiet_files quiet_out quiet_note = absurd came
 
-pub whole_run : {request : Option Asked} {old new : World} {done : Done} → Outcome request old new done → (execution : ExecutionAsked) (program : Program) (input : List ℕ) →
-    request ≡ Some (to_run execution) → Ready (to_run execution) old.files program input → Faultless (to_run execution) old new done → IsOneOf other_statuses done.status ⊎ RanWhole execution program input done
-whole_run {request} {old} {new} {done} o execution program input asks ready sound =
-    rw (o.run, o.bus, o.status) (whole_of o.course o.told execution program input old.files new.files old.out new.out old.note new.note
-    (came_as o (Some (to_run execution)) asks) o.tells ready (sym o.lies ∙ sound.bus) sound.files sound.out sound.note)
+pub whole_run : {request : Option Asked} {old new : World} {done : Done} → Outcome request old new done → (asked : RunAsked) (program : Program) (input : List ℕ) →
+    request ≡ Some (to_run asked) → Ready (to_run asked) old.files program input → Faultless (to_run asked) old new done → IsOneOf other_statuses done.status ⊎ RanWhole asked.execution program input done
+whole_run {request} {old} {new} {done} o asked program input asks ready sound =
+    rw (o.run, o.bus, o.status) (whole_of o.course o.told asked program input old.files new.files old.out new.out old.note new.note
+    (came_as o (Some (to_run asked)) asks) o.tells ready (sym o.lies ∙ sound.bus) sound.files sound.out sound.note)
 
 -- the status of a whole run is the plain machine's
 status_of_whole : (run : Option RunRecord) (bus : Option RunBus) (execution : ExecutionAsked) (program : Program) (input : List ℕ) (status : ℕ) → AreBothAnd run bus (IsRunWhole execution program input status) → status ≡ code_of (plain_status execution program input)
@@ -260,8 +263,8 @@ text_whole {request} {old} {new} {done} o asked text program input asks writes r
 
 pub whole : {request : Option Asked} {old new : World} {done : Done} → Outcome request old new done → (asked : Asked) (program : Program) (input : List ℕ) →
     request ≡ Some asked → Ready asked old.files program input → Faultless asked old new done → IsOneOf (whole_statuses asked program input) done.status
-whole {done = done} o (to_run execution) program input asks ready sound =
-    run_whole execution program input done (whole_run o execution program input asks ready sound)
+whole {done = done} o (to_run asked) program input asks ready sound =
+    run_whole asked.execution program input done (whole_run o asked program input asks ready sound)
 whole o (to_run_plain execution) program input asks ready sound = plain_whole o execution program input asks ready sound
 whole {old = old} {new = new} o (to_assemble file) program input asks ready sound =
     let writes = asm_came o.course file old.files new.files old.out new.out (came_as o (Some (to_assemble file)) asks) in

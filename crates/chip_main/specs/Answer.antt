@@ -1,5 +1,5 @@
 -- What an answer says of what was done and told.
-use Rattle.std.specs.Prelude.{◌≡◌, ◌≢◌, ◌⊎◌, List, [], ◌∷◌, ℕ, Option, Some, None, Ok, Contains}
+use Rattle.std.specs.Prelude.{◌≡◌, ◌≢◌, ◌⊎◌, List, [], ◌∷◌, ℕ, Option, Some, None, Ok}
 use Rattle.sec_base.specs.Count.{Rose}
 use Rattle.sec_base.specs.Files.{FilesState}
 use Rattle.sec_base.specs.Sink.{SinkState, Gains, GainsFront, IsSilent}
@@ -9,7 +9,7 @@ use Rattle.sec_base.specs.declared.image.Image.{Image}
 use Rattle.bus_model.specs.BusHistory.{BusHistory}
 use Rattle.plain_machine.specs.declared.PlainRecord.{PlainRecord}
 use Rattle.chip_run.specs.declared.RunRecord.{RunRecord}
-use Rattle.chip_words.specs.Request.{Asked, ExecutionAsked, FileAsked, asked_file, to_run, to_run_plain}
+use Rattle.chip_words.specs.Request.{Asked, ExecutionAsked, FileAsked, RunAsked, asked_file, to_run, to_run_plain}
 use Rattle.chip_main.specs.declared.refusal.Refusal.{Refusal}
 use Rattle.chip_main.specs.declared.Done.{Done}
 use Rattle.chip_main.specs.World.{World}
@@ -40,9 +40,9 @@ abbrev pub IsDone : Option Asked → World → World → Done → Type 0
 IsDone request old new done = Ended IsHalted request old new done
     ⊎ WritesRequest request old.files new.files old.out new.out (Ok tt)
 
--- the request is for a run on protected memory, and this holds of that run and of what its bus was told
-abbrev pub RanAnd : (RunRecord → BusHistory → Type 0) → Option Asked → Done → Type 0
-RanAnd P request done = ByCommand request (λ _. IsRunAnd done P) (λ _. ⊥) (λ _ _. ⊥)
+-- the request is for a run on protected memory, and this holds of what it asks, of that run and of what its bus was told
+abbrev pub RanAnd : (RunAsked → RunRecord → BusHistory → Type 0) → Option Asked → Done → Type 0
+RanAnd P request done = ByCommand request (λ asked. IsRunAnd done (P asked)) (λ _. ⊥) (λ _ _. ⊥)
 
 -- one of the files was refused, for its length or its form
 abbrev pub FileRefused : Option Asked → FilesState → FilesState → Type 0
@@ -99,8 +99,8 @@ pub record Undone (request : Option Asked) (old new : World) (done : Done) : Typ
   pub silent : IsSilent old.out new.out
 
 -- the request's program ran on protected memory, and that was told
-pub record RanAndTold (execution : ExecutionAsked) (old new : World) (done : Done) (run : RunRecord) (told : BusHistory) : Type 0 where
-  pub runs : RunsExecution execution old.files new.files old.out new.out run told
+pub record RanAndTold (asked : RunAsked) (old new : World) (done : Done) (run : RunRecord) (told : BusHistory) : Type 0 where
+  pub runs : RunsExecution asked old.files new.files old.out new.out run told
   pub tells : TellsRun done.status run done.lies old.note new.note
 
 -- the request's program ran on the plain machine, and that was told
@@ -119,9 +119,9 @@ pub record Delivers (file : FileAsked) (text : Image → List ℕ) (old new : Wo
   pub silent : IsSilent old.note new.note
 
 -- what each command gives, or nothing was done
-abbrev pub GivesRun : ExecutionAsked → World → World → Done → Type 0
-GivesRun execution old new done =
-    IsRunAnd done (RanAndTold execution old new done) ⊎ Undone (Some (to_run execution)) old new done
+abbrev pub GivesRun : RunAsked → World → World → Done → Type 0
+GivesRun asked old new done =
+    IsRunAnd done (RanAndTold asked old new done) ⊎ Undone (Some (to_run asked)) old new done
 
 abbrev pub GivesPlainRun : ExecutionAsked → World → World → Done → Type 0
 GivesPlainRun execution old new done =

@@ -2,7 +2,7 @@
 use Rattle.std.specs.Prelude.{◌≡◌, ◌⊎◌, ◌∷◌, ◌++◌, [], List, ℕ, Option, Some, None}
 use Rattle.sec_base.specs.Count.{Rose}
 use Rattle.sec_base.specs.Program.{Program}
-use Rattle.chip_words.specs.Request.{Asked, ExecutionAsked, FileAsked, to_assemble, to_disassemble, to_measure, to_run, to_run_plain}
+use Rattle.chip_words.specs.Request.{Asked, ExecutionAsked, FileAsked, RunAsked, to_assemble, to_disassemble, to_measure, to_run, to_run_plain}
 use Rattle.chip_main.specs.World.{World}
 use Rattle.chip_main.specs.Needs.{Need, HasTold, IsUnfit, needs_of}
 use Rattle.chip_main.specs.Causes.{AsksNothing, Stops}
@@ -37,7 +37,7 @@ pub record SaysStatus (request : Option Asked) (old new : World) (answer : Done)
 -- nothing is asked of the files.
 pub record GivesAsked (request : Option Asked) (old new : World) (answer : Done) : Type 0 where
   pub none : request ≡ None → AsksNothing old.files new.files × Undone None old new answer
-  pub run : (execution : ExecutionAsked) → request ≡ Some (to_run execution) → GivesRun execution old new answer
+  pub run : (asked : RunAsked) → request ≡ Some (to_run asked) → GivesRun asked old new answer
   pub plain : (execution : ExecutionAsked) → request ≡ Some (to_run_plain execution) → GivesPlainRun execution old new answer
   pub asm : (file : FileAsked) → request ≡ Some (to_assemble file) → GivesText (to_assemble file) elf_file old new answer
   pub dis : (file : FileAsked) → request ≡ Some (to_disassemble file) → GivesText (to_disassemble file) listing old new answer
@@ -55,6 +55,6 @@ pub record GivesDue (request : Option Asked) (old new : World) (answer : Done) :
   pub whole : (asked : Asked) (program : Program) (input : List ℕ) → request ≡ Some asked →
       Ready asked old.files program input → Faultless asked old new answer →
       IsOneOf (whole_statuses asked program input) answer.status
-  pub whole_run : (execution : ExecutionAsked) (program : Program) (input : List ℕ) → request ≡ Some (to_run execution) →
-      Ready (to_run execution) old.files program input → Faultless (to_run execution) old new answer →
-      IsOneOf (status.Spent ∷ status.NoMemory ∷ []) answer.status ⊎ RanWhole execution program input answer
+  pub whole_run : (asked : RunAsked) (program : Program) (input : List ℕ) → request ≡ Some (to_run asked) →
+      Ready (to_run asked) old.files program input → Faultless (to_run asked) old new answer →
+      IsOneOf (status.Spent ∷ status.NoMemory ∷ []) answer.status ⊎ RanWhole asked.execution program input answer

@@ -1,25 +1,37 @@
--- The device that programs run on: its keys, and how often a line may be written.
-use Rattle.std.specs.Prelude.{List, [], ◌∷◌, ℕ}
+-- The device that a program runs on, by the terms of the run: its keys, the tags of messages, and what the run is of.
+use Rattle.std.specs.Prelude.{List, ℕ}
+use Rattle.sec_base.specs.Program.{Program}
 use Rattle.sec_base.specs.declared.message.Message.{Message}
 use Rattle.hmac_tag.specs.DeviceKeys.{keys_of}
 use Rattle.hmac_tag.specs.Tags.{tag_of}
 use Rattle.tag_engine.specs.Tag.{engine_tag}
+use Rattle.chip_run.specs.Run.{Terms as RunTerms}
+use Rattle.chip_words.specs.Request.{RunAsked}
+use Rattle.chip_words.specs.declared.request.Tags.{Tags}
+use Rattle.chip_words.specs.declared.request.Tags.TheVariants.{Hmac}
+use Rattle.chip_words.specs.declared.request.Terms.{Terms}
+use Rattle.chip_main.specs.Program.{opening}
 
--- how often a line may be written
-abbrev pub page_limit : ℕ
-page_limit = 18446744073709551615
+-- how bytes are tagged under a key
+abbrev pub tag_under : Tags → List ℕ → List ℕ → List ℕ
+tag_under Hmac key = tag_of key
 
--- the device's key is the bytes 00 to 1f
-abbrev pub device_key : List ℕ
-device_key =
-    0 ∷ 1 ∷ 2 ∷ 3 ∷ 4 ∷ 5 ∷ 6 ∷ 7 ∷ 8 ∷ 9 ∷ 10 ∷ 11 ∷ 12 ∷ 13 ∷ 14 ∷ 15 ∷
-    16 ∷ 17 ∷ 18 ∷ 19 ∷ 20 ∷ 21 ∷ 22 ∷ 23 ∷ 24 ∷ 25 ∷ 26 ∷ 27 ∷ 28 ∷ 29 ∷ 30 ∷ 31 ∷ []
+-- the tag of a message in the memory below a tree of so many levels, under the device's line key or tree key
+unfoldable pub device_tag : Terms → ℕ → Message → List ℕ
+device_tag terms levels message = engine_tag (tag_under terms.tags (keys_of terms.device_key).line_key)
+    (tag_under terms.tags (keys_of terms.device_key).tree_key) levels message
 
--- the tag of a message is its HMAC under the device's line key or tree key
-unfoldable pub device_tag : ℕ → Message → List ℕ
-device_tag levels message =
-    engine_tag (tag_of (keys_of device_key).line_key) (tag_of (keys_of device_key).tree_key) levels message
+-- the key that lines are encrypted under
+unfoldable pub device_enc_key : Terms → List ℕ
+device_enc_key terms = (keys_of terms.device_key).enc_key
 
--- the key that lines are enciphered under
-unfoldable pub device_enc_key : List ℕ
-device_enc_key = (keys_of device_key).enc_key
+-- what a run on protected memory is of, as it was asked for: of this program and this input
+abbrev pub terms_of : RunAsked → Program → List ℕ → RunTerms
+terms_of asked program input = record {
+  start = opening asked.execution.file.levels program input;
+  budget = asked.execution.steps;
+  levels = asked.execution.file.levels;
+  page_limit = asked.terms.page_limit;
+  tag_of = device_tag asked.terms asked.execution.file.levels;
+  enc_key = device_enc_key asked.terms;
+}

@@ -9,8 +9,9 @@ use Rattle.sec_base.specs.declared.ending.Ending.TheVariants.{Halted, Trapped, O
 use Rattle.bus_model.specs.BusHistory.{BusHistory}
 use Rattle.chip_run.specs.declared.RunRecord.{RunRecord}
 use Rattle.bus_model.specs.FirstLie.{IsCaught, IsOfFirstLie}
-use Rattle.chip_run.specs.Contents.{IsSpent}
-use Rattle.chip_main.specs.Device.{device_tag, page_limit}
+use Rattle.page_reencrypt.specs.Contents.{IsSpent}
+use Rattle.chip_words.specs.Request.{RunAsked}
+use Rattle.chip_main.specs.Device.{device_tag}
 
 abbrev pub IsHalted : Ending → Type 0
 IsHalted ending = (code : ℕ) × (ending ≡ Halted code)
@@ -27,22 +28,23 @@ pub record EndedWithoutEvidence (P : Ending → Type 0) (run : RunRecord) (told 
   pub ended : P run.ending
 
 -- The one false answer of the bus failed its check, was the last access, and ended the run as tampering of its place.
-pub record EndedTampered (run : RunRecord) (told : BusHistory) : Type 0 where
+pub record EndedTampered (asked : RunAsked) (run : RunRecord) (told : BusHistory) : Type 0 where
   pub no_evidence : run.evidence ≡ None
-  pub caught : IsCaught (device_tag told.levels) run.used run.made told (λ place. run.ending ≡ Tampered place)
+  pub caught : IsCaught (device_tag asked.terms asked.execution.file.levels) run.used run.made told
+      (λ place. run.ending ≡ Tampered place)
 
--- Some line of the page was written as often as the limit allows.
-pub record EndedSpent (run : RunRecord) (told : BusHistory) : Type 0 where
+-- Some line of the page has the last counter that the limit allows.
+pub record EndedSpent (asked : RunAsked) (run : RunRecord) (told : BusHistory) : Type 0 where
   pub no_evidence : run.evidence ≡ None
   pub page : ℕ
   pub ended : run.ending ≡ Spent page
-  pub used_up : IsSpent (line_count told.levels) page_limit run.used page
+  pub used_up : IsSpent (line_count asked.execution.file.levels) asked.terms.page_limit run.used page
 
 -- There is evidence of the first false answer, and neither the sink nor being out of memory ended the run.
-pub record EndedWithEvidence (run : RunRecord) (told : BusHistory) : Type 0 where
+pub record EndedWithEvidence (asked : RunAsked) (run : RunRecord) (told : BusHistory) : Type 0 where
   pub evidence : Evidence
   pub there : run.evidence ≡ Some evidence
-  pub genuine : IsEvidence (device_tag told.levels) run.made evidence
+  pub genuine : IsEvidence (device_tag asked.terms asked.execution.file.levels) run.made evidence
   pub first_lie : IsOfFirstLie run.made told evidence
   pub written : run.ending ≢ WriteFault
   pub in_memory : run.ending ≢ NoMemory

@@ -5,7 +5,6 @@ pub mod Causes
 pub mod Taken
 pub mod Stop
 pub mod Device
-pub mod ProtectedRun
 pub mod PlainRun
 pub mod Buses
 pub mod Endings

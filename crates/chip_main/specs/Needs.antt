@@ -32,7 +32,7 @@ abbrev pub execution_needs : ExecutionAsked → List Need
 execution_needs execution = program_need execution.file ∷ input_needs execution.input
 
 abbrev pub asked_needs : Asked → List Need
-asked_needs (to_run execution) = execution_needs execution
+asked_needs (to_run asked) = execution_needs asked.execution
 asked_needs (to_run_plain execution) = execution_needs execution
 asked_needs (to_assemble file) = program_need file ∷ []
 asked_needs (to_disassemble file) = program_need file ∷ []

@@ -18,7 +18,7 @@ use Rattle.chip_main.specs.declared.status.Status.TheVariants.{Done as done_stat
 
 -- the name of a request's input, where it has one
 abbrev pub asked_input : Asked → Option (List ℕ)
-asked_input (to_run execution) = execution.input
+asked_input (to_run asked) = asked.execution.input
 asked_input (to_run_plain execution) = execution.input
 asked_input (to_assemble file) = None
 asked_input (to_disassemble file) = None
@@ -32,7 +32,7 @@ pub record Ready (asked : Asked) (files : FilesState) (program : Program) (input
 
 -- no write of what a request tells of itself failed; of a text nothing is told
 abbrev pub NoteFaultless : Asked → SinkState → SinkState → Type 0
-NoteFaultless (to_run execution) old new = ¬ (Rose old.faults new.faults)
+NoteFaultless (to_run asked) old new = ¬ (Rose old.faults new.faults)
 NoteFaultless (to_run_plain execution) old new = ¬ (Rose old.faults new.faults)
 NoteFaultless (to_assemble file) old new = Unit {0}
 NoteFaultless (to_disassemble file) old new = Unit {0}
@@ -52,7 +52,7 @@ plain_status execution program input =
 
 -- The status that is due, or that of no memory; and of a run on protected memory, that of a page that was used up.
 abbrev pub whole_statuses : Asked → Program → List ℕ → List Status
-whole_statuses (to_run execution) program input = plain_status execution program input ∷ Spent ∷ NoMemory ∷ []
+whole_statuses (to_run asked) program input = plain_status asked.execution program input ∷ Spent ∷ NoMemory ∷ []
 whole_statuses (to_run_plain execution) program input = plain_status execution program input ∷ NoMemory ∷ []
 whole_statuses (to_assemble file) program input = done_status ∷ NoMemory ∷ []
 whole_statuses (to_disassemble file) program input = done_status ∷ NoMemory ∷ []

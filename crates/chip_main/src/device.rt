@@ -1,51 +1,52 @@
 // The device that programs run on.
 ghost use Rattle.std.specs.Prelude.{◌≡◌, ◌≤◌, IfOk, OnErr};
 ghost use Rattle.sec_base.specs.Geometry.{memory_size};
-ghost use Rattle.sec_base.specs.Sink.{IsSilent};
-ghost use Rattle.chip_main.specs.Buses.{run_history};
 ghost use Rattle.sec_base.specs.Program.{IsImageOf, Program};
-ghost use Rattle.chip_main.specs.ProtectedRun.{RunsProtected};
+ghost use Rattle.sec_base.specs.Sink.{IsSilent};
+ghost use Rattle.bus_model.specs.BusHistory.{new_history};
+ghost use Rattle.chip_run.specs.Run.{RunsProtected};
+ghost use Rattle.chip_words.specs.Words.{run_asked};
+ghost use Rattle.chip_main.specs.Buses.{run_history};
+ghost use Rattle.chip_main.specs.Device.{terms_of};
 
 use crate::run_bus::RunBus;
 use bus_model::HonestBus;
 use chip_run::{RunRecord, Setup, run};
+use chip_words::{ProtectedRun, Tags};
 use hmac_tag::{HmacTagger, derive};
-use sec_base::{Geometry, Image, NoMemory, Sink};
+use sec_base::{Image, NoMemory, Sink};
 use std::alloc::Global;
 
-// How often a line may be written.
-const PAGE_LIMIT: u64 = u64::MAX;
-
-// The key that the keys of the device are derived from.
-const DEVICE_KEY: [u8; 32] = [
-    0, 1, 2, 3, 4, 5, 6, 7, 8, 9, 10, 11, 12, 13, 14, 15, 16, 17, 18, 19, 20, 21, 22, 23, 24, 25,
-    26, 27, 28, 29, 30, 31,
-];
-
-/// Runs a program on an input, on protected memory over an honest bus.
+/// Runs a program on an input as a request asks, on protected memory over an honest bus.
 pub fn run_on_device<O: Sink>(
     alloc: Global,
     image: &Image,
     input: &[u8],
-    geometry: Geometry,
-    steps: u64,
+    asked: &ProtectedRun<'_>,
     out: &mut O,
 ) -> Result<(RunRecord, RunBus), NoMemory>
-    requires size { image.now.size ≡ memory_size geometry }
-    ensures ran { (program : Program) → IsImageOf (memory_size geometry) program image.now → IfOk result (λ done.
-        RunsProtected geometry steps program input.now (O.state out.old) (O.state out.new) done.0 (run_history done.1)) }
+    requires size { image.now.size ≡ memory_size asked.now.execution.file.geometry }
+    ensures ran { (program : Program) →
+        IsImageOf (memory_size asked.now.execution.file.geometry) program image.now → IfOk result (λ done.
+        RunsProtected (terms_of (run_asked asked.now) program input.now) (O.state out.old) (O.state out.new)
+        (new_history asked.now.execution.file.geometry) (run_history done.1) done.0) }
     ensures silent { OnErr result (IsSilent (O.state out.old) (O.state out.new)) }
     ensures faults { (O.state out.old).faults ≤ (O.state out.new).faults }
 {
+    let geometry = asked.execution.file.geometry;
     let bus = RunBus::Honest(HonestBus::new(alloc, geometry)?);
-    let keys = derive(&DEVICE_KEY);
+    let keys = derive(&asked.terms.device_key);
     let setup = Setup {
         geometry,
         keys,
-        budget: steps,
-        page_limit: PAGE_LIMIT,
-        nonce: [0; 16],
+        budget: asked.execution.steps,
+        page_limit: asked.terms.page_limit,
+        nonce: asked.terms.nonce,
     };
-    let tagger = HmacTagger::new(&keys);
-    Ok(run(alloc, image, input, &setup, tagger, bus, out))
+    match asked.terms.tags {
+        Tags::Hmac => {
+            let tagger = HmacTagger::new(&keys);
+            Ok(run(alloc, image, input, &setup, tagger, bus, out))
+        }
+    }
 }

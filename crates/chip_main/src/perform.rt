@@ -48,16 +48,9 @@ fn course_of<F: Files, O: Sink>(
     ensures out_faults { (O.state out.old).faults ≤ (O.state out.new).faults }
 {
     match read_words(alloc, words)? {
-        Request::Run(execution) => {
-            let (image, input) = take_execution(alloc, &execution, files)?;
-            let (run, bus) = run_on_device(
-                alloc,
-                &image,
-                input.as_slice(),
-                execution.file.geometry,
-                execution.steps,
-                out,
-            )?;
+        Request::Run(asked) => {
+            let (image, input) = take_execution(alloc, &asked.execution, files)?;
+            let (run, bus) = run_on_device(alloc, &image, input.as_slice(), &asked, out)?;
             Ok(Course::Ran(run, bus))
         }
         Request::Plain(execution) => {

@@ -1,9 +1,7 @@
-pub mod Pairs
-pub mod LineMessages
-pub mod Keeping
-pub mod LineMoves
-pub mod CheckedReads
-pub mod NextWrites
+pub mod TurnoverCases
 pub mod Closing
-pub mod Runs
+pub mod Ends
+pub mod Memories
 pub mod Turned
+pub mod Runs
+pub mod Outcomes

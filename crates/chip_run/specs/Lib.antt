@@ -1,5 +1,1 @@
-pub mod Contents
-pub mod LineMemory
-pub mod LineMemoryInside
-pub mod LineLengths
-pub mod Moving
+pub mod Run

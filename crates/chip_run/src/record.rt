@@ -11,7 +11,7 @@ pub struct Setup {
     pub keys: Keys,
     /// How many instructions may be retired.
     pub budget: u64,
-    /// How often a line may be written.
+    /// How high a page counter may rise.
     pub page_limit: u64,
     /// What a report of the run is to answer.
     pub nonce: [u8; 16],
@@ -28,7 +28,7 @@ pub struct RunRecord {
     pub evidence: Option<Evidence>,
     /// What was tagged, in order.
     pub made: Messages,
-    /// What lines were enciphered under, in order.
+    /// What lines were encrypted under, in order.
     pub used: Pads,
     /// The signed report of the run, if there is one.
     pub report: Option<[u8; 158]>,

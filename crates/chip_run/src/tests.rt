@@ -330,6 +330,27 @@ const PRINT_A: [u32; 10] = [
     0x0000_0073,
 ];
 
+// Stores a word in each of the 130 lines from 0x1000 to 0x3080, loads one from each of them, loads them all once more,
+// and exits with 0.
+const OVER_130_LINES: [u32; 16] = [
+    0x0000_12b7,
+    0x0000_3337,
+    0x0803_0313,
+    0x0002_8393,
+    0x0053_a023,
+    0x0403_8393,
+    0xfe63_9ce3,
+    0x0020_0413,
+    0x0002_8393,
+    0x0003_a483,
+    0x0403_8393,
+    0xfe63_9ce3,
+    0xfff4_0413,
+    0xfe04_16e3,
+    0x05d0_0893,
+    0x0000_0073,
+];
+
 // The words at 0, and nothing else.
 fn flat(alloc: Global, words: &[u32]) -> Result<Segments, AllocError>
     requires { length words.now ≤ 16 }
@@ -361,7 +382,7 @@ fn honest(
         size: 16384,
         segments: flat(alloc, words)?,
     };
-    let setup = setup(geometry, 99, page_limit);
+    let setup = setup(geometry, 2000, page_limit);
     let tagger = HmacTagger::new(&setup.keys);
     let bus = HonestBus::new(alloc, geometry)?;
     let (record, mut bus) = run(alloc, &image, &[], &setup, tagger, bus, out);
@@ -385,7 +406,7 @@ fn flipped<T: Tagger>(
         size: 16384,
         segments: flat(alloc, words)?,
     };
-    let setup = setup(geometry, 99, u64::MAX);
+    let setup = setup(geometry, 2000, u64::MAX);
     let bus = FlipBus::new(alloc, geometry, Place::Line(64), k, 0, 1)?;
     let mut out = MemorySink::new(alloc, &[])?;
     let (record, bus) = run(alloc, &image, &[], &setup, tagger, bus, &mut out);
@@ -482,6 +503,23 @@ fn a_line_is_read_by_each_access(rt: HostRuntime) -> Result<(), Fail> {
     for (k, retired) in [(1, 3), (2, 4)] {
         let tagger = HmacTagger::new(&keys());
         let (done, lies) = flipped(rt.alloc(), &EXIT_65_AGAIN, k, tagger)?;
+        assert_eq!(rt; done.ending, Ending::Tampered(Place::Line(64)), "read {k}");
+        assert_eq!(rt; done.retired, retired, "read {k}");
+        assert_eq!(rt; lies, 1, "read {k}");
+    }
+    Ok(())
+}
+
+// 130 lines turn over twice what a chip may hold of them: the second load of line 64 comes from the bus too.
+#[test]
+fn lines_past_what_a_chip_may_hold_are_read_again(rt: HostRuntime) -> Result<(), Fail> {
+    let mut out = MemorySink::new(rt.alloc(), &[])?;
+    let (done, _) = honest(rt.alloc(), &OVER_130_LINES, u64::MAX, &mut out)?;
+    assert_eq!(rt; done.ending, Ending::Halted(0));
+    assert_eq!(rt; done.retired, 1183);
+    for (k, retired) in [(1, 396), (2, 789)] {
+        let tagger = HmacTagger::new(&keys());
+        let (done, lies) = flipped(rt.alloc(), &OVER_130_LINES, k, tagger)?;
         assert_eq!(rt; done.ending, Ending::Tampered(Place::Line(64)), "read {k}");
         assert_eq!(rt; done.retired, retired, "read {k}");
         assert_eq!(rt; lies, 1, "read {k}");

@@ -14,7 +14,7 @@ use Rattle.clap.specs.declared.parser.matches.ArgMatches.{ArgMatches}
 use Rattle.clap.proofs.OnLiterals.{clap_on_literals}
 use Rattle.clap.proofs.SimpleLemmas.{is_nil}
 use Rattle.chip_words.specs.App.{chip_app}
-use Rattle.chip_words.specs.Request.{Asked, asked_file, asked_in, execution_of, program_of, request_of, text_of, to_assemble, to_disassemble, to_measure, to_run, to_run_plain}
+use Rattle.chip_words.specs.Request.{Asked, asked_file, asked_in, execution_of, program_of, request_of, run_of, text_of, to_assemble, to_disassemble, to_measure, to_run, to_run_plain}
 use Rattle.chip_words.specs.Words.{IfUsage}
 use Rattle.chip_words.specs.declared.request.WordsError.{WordsError}
 use Rattle.chip_words.specs.declared.request.WordsError.TheVariants.{Usage, NoMemory}
@@ -136,7 +136,7 @@ refusal_asks a words e is fails kept =
 
 -- what holds of each command's values holds of what it asks for
 asked_keeps : (P : Asked → Type 0) (o : Option (Text × List Row)) (r : Asked)
-    → ((values : List Row) → HasExecution values → P (to_run (execution_of values)) × P (to_run_plain (execution_of values)))
+    → ((values : List Row) → HasExecution values → P (to_run (run_of values)) × P (to_run_plain (execution_of values)))
     → ((values : List Row) → HasProgram values
     → P (to_assemble (text_of values)) × P (to_disassemble (program_of values)) × P (to_measure (program_of values)))
     → IfCommand o → asked_in o ≡ Some r → P r
@@ -151,7 +151,7 @@ asked_keeps P (Some p) r executes writes has e =
     go : (a : Bool) → bytes_eq p.0 (codes "run") ≡ a → (b : Bool) → bytes_eq p.0 (codes "plain") ≡ b
         → (c : Bool) → bytes_eq p.0 (codes "asm") ≡ c → (d : Bool) → bytes_eq p.0 (codes "dis") ≡ d
         → (m : Bool) → bytes_eq p.0 (codes "measure") ≡ m → P r
-    go true x b y c z d u m v = at (to_run (execution_of p.1)) (executes p.1 (has.run x)).0 (rw x at e)
+    go true x b y c z d u m v = at (to_run (run_of p.1)) (executes p.1 (has.run x)).0 (rw x at e)
     go false x true y c z d u m v = at (to_run_plain (execution_of p.1)) (executes p.1 (has.plain y)).1 (rw (x, y) at e)
     go false x false y true z d u m v = at (to_assemble (text_of p.1)) (writes p.1 has.program).0 (rw (x, y, z) at e)
     go false x false y false z true u m v = at (to_disassemble (program_of p.1)) (writes p.1 has.program).1 (rw (x, y, z, u) at e)
@@ -159,7 +159,7 @@ asked_keeps P (Some p) r executes writes has e =
     go false x false y false z false u false v = absurd (let bad : None ≡ Some r = rw (x, y, z, u, v) at e in cc)
 
 request_keeps : (P : Asked → Type 0) (words : List Text) (r : Asked)
-    → ((values : List Row) → HasExecution values → P (to_run (execution_of values)) × P (to_run_plain (execution_of values)))
+    → ((values : List Row) → HasExecution values → P (to_run (run_of values)) × P (to_run_plain (execution_of values)))
     → ((values : List Row) → HasProgram values
     → P (to_assemble (text_of values)) × P (to_disassemble (program_of values)) × P (to_measure (program_of values)))
     → request_of words ≡ Some r → P r

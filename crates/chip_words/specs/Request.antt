@@ -1,5 +1,5 @@
 -- What a list of words asks for: what `clap`'s definition of the command line gives for them.
-use Rattle.std.specs.Prelude.{ℕ, Bool, List, [], Option, Some, None, option_and_then, unwrap_or, codes, if◌then◌else◌}
+use Rattle.std.specs.Prelude.{ℕ, Bool, List, [], ◌∷◌, ◌-◌, ◌^◌, replicate, Option, Some, None, option_and_then, unwrap_or, codes, if◌then◌else◌}
 use Rattle.std.specs.Str.{bytes_eq}
 use Rattle.std.specs.Str.Parse.{digits_value, without_leading_plus}
 use Rattle.clap.specs.Walk.{Row, Text, first_of, is_empty, one_of}
@@ -8,6 +8,8 @@ use Rattle.clap.specs.Faults.{fault_of}
 use Rattle.chip_words.specs.App.{chip_app}
 use Rattle.chip_words.specs.declared.request.ProgramForm.{ProgramForm}
 use Rattle.chip_words.specs.declared.request.ProgramForm.TheVariants.{ElfFile, FlatFile, AssemblyText}
+use Rattle.chip_words.specs.declared.request.Tags.TheVariants.{Hmac}
+use Rattle.chip_words.specs.declared.request.Terms.{Terms}
 
 -- a program's file: its name, its form, and the levels of the tree whose memory the program is for
 pub record FileAsked : Type 0 where
@@ -21,9 +23,14 @@ pub record ExecutionAsked : Type 0 where
   pub input : Option Text
   pub steps : ℕ
 
+-- what is to be run on protected memory, and how that memory is protected
+pub record RunAsked : Type 0 where
+  pub execution : ExecutionAsked
+  pub terms : Terms
+
 -- what is to be done, and with which file
 pub data Asked : Type 0 where
-  to_run : ExecutionAsked → Asked
+  to_run : RunAsked → Asked
   to_run_plain : ExecutionAsked → Asked
   to_assemble : FileAsked → Asked
   to_disassemble : FileAsked → Asked
@@ -31,11 +38,24 @@ pub data Asked : Type 0 where
 
 -- the file of a request's program
 abbrev pub asked_file : Asked → FileAsked
-asked_file (to_run execution) = execution.file
+asked_file (to_run run) = run.execution.file
 asked_file (to_run_plain execution) = execution.file
 asked_file (to_assemble file) = file
 asked_file (to_disassemble file) = file
 asked_file (to_measure file) = file
+
+-- ---- the terms of a run
+
+-- the bytes 00 to 1f
+abbrev pub default_key : List ℕ
+default_key =
+    0 ∷ 1 ∷ 2 ∷ 3 ∷ 4 ∷ 5 ∷ 6 ∷ 7 ∷ 8 ∷ 9 ∷ 10 ∷ 11 ∷ 12 ∷ 13 ∷ 14 ∷ 15 ∷
+    16 ∷ 17 ∷ 18 ∷ 19 ∷ 20 ∷ 21 ∷ 22 ∷ 23 ∷ 24 ∷ 25 ∷ 26 ∷ 27 ∷ 28 ∷ 29 ∷ 30 ∷ 31 ∷ []
+
+-- the terms where the words name none
+abbrev pub default_terms : Terms
+default_terms =
+    record { device_key = default_key; tags = Hmac; page_limit = 2 ^ 64 - 1; nonce = replicate 16 0 }
 
 -- ---- the values of a command
 
@@ -79,11 +99,15 @@ abbrev pub execution_of : List Row → ExecutionAsked
 execution_of values =
     record { file = program_of values; input = input_of values; steps = steps_of values }
 
+-- no value names the terms of a run
+abbrev pub run_of : List Row → RunAsked
+run_of values = record { execution = execution_of values; terms = default_terms }
+
 -- ---- the request
 
 -- what the command of this name asks for, with these values
 abbrev pub asked_by : Text → List Row → Option Asked
-asked_by name values = if bytes_eq name (codes "run") then Some (to_run (execution_of values))
+asked_by name values = if bytes_eq name (codes "run") then Some (to_run (run_of values))
     else (if bytes_eq name (codes "plain") then Some (to_run_plain (execution_of values))
     else (if bytes_eq name (codes "asm") then Some (to_assemble (text_of values))
     else (if bytes_eq name (codes "dis") then Some (to_disassemble (program_of values))

@@ -2,9 +2,10 @@
 use Rattle.std.specs.Prelude.{List, map, option_map, ⊤}
 use Rattle.std.specs.Borrow.{Bor}
 use Rattle.clap.specs.Walk.{Text}
-use Rattle.chip_words.specs.Request.{Asked, ExecutionAsked, FileAsked, to_assemble, to_disassemble, to_measure, to_run, to_run_plain}
+use Rattle.chip_words.specs.Request.{Asked, ExecutionAsked, FileAsked, RunAsked, to_assemble, to_disassemble, to_measure, to_run, to_run_plain}
 use Rattle.chip_words.specs.declared.request.Execution.{Execution}
 use Rattle.chip_words.specs.declared.request.ProgramFile.{ProgramFile}
+use Rattle.chip_words.specs.declared.request.ProtectedRun.{ProtectedRun}
 use Rattle.chip_words.specs.declared.request.Request.{Request}
 use Rattle.chip_words.specs.declared.request.Request.TheVariants.{Run, Plain, Asm, Dis, Measure}
 use Rattle.chip_words.specs.declared.request.WordsError.{WordsError}
@@ -24,9 +25,12 @@ execution_asked execution = record {
   steps = execution.steps;
 }
 
+abbrev pub run_asked : ProtectedRun → RunAsked
+run_asked run = record { execution = execution_asked run.execution; terms = run.terms }
+
 -- what the request asks for
 abbrev pub asked : Request → Asked
-asked (Run execution) = to_run (execution_asked execution)
+asked (Run run) = to_run (run_asked run)
 asked (Plain execution) = to_run_plain (execution_asked execution)
 asked (Asm file) = to_assemble (file_asked file)
 asked (Dis file) = to_disassemble (file_asked file)

@@ -17,7 +17,9 @@ mod values;
 
 use clap::Error;
 use clap::error::ErrorKind;
-pub use request::{Execution, ProgramFile, ProgramForm, Request, WordsError};
+pub use request::{
+    Execution, ProgramFile, ProgramForm, ProtectedRun, Request, Tags, Terms, WordsError,
+};
 use std::alloc::Global;
 
 /// What the words of the process ask for, the program's name first. A question for help is refused too, and its answer is

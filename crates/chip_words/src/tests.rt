@@ -2,7 +2,7 @@
 // stands anywhere behind its command, its value stands in the next word or behind `=`, after `--` no word is an option,
 // and no option stands twice.
 use super::ProgramForm::{AssemblyText, ElfFile, FlatFile};
-use super::{Execution, ProgramFile, ProgramForm, Request, WordsError, read_words};
+use super::{Execution, ProgramFile, ProgramForm, Request, Tags, WordsError, read_words};
 use std::alloc::{AllocError, Global};
 use std::test::Fail;
 
@@ -12,7 +12,7 @@ type Parts<'a> = (&'a str, &'a str, ProgramForm, Option<&'a str>, u8, u64);
 
 fn parts<'a>(request: &Request<'a>) -> Parts<'a> {
     match request {
-        Request::Run(execution) => execution_parts("run", execution),
+        Request::Run(run) => execution_parts("run", &run.execution),
         Request::Plain(execution) => execution_parts("plain", execution),
         Request::Asm(file) => file_parts("asm", file),
         Request::Dis(file) => file_parts("dis", file),
@@ -117,6 +117,22 @@ fn requests(rt: HostRuntime) -> Result<(), Fail> {
     for (line, expected) in rows {
         assert!(rt; asks_for(rt.alloc(), line, expected)?, "{line}");
     }
+    Ok(())
+}
+
+// The device's key is the bytes 00 to 1f, tags are HMACs, a page counter may be any number of 64 bits, and the nonce is
+// zeros.
+#[test]
+fn terms_of_a_run(rt: HostRuntime) -> Result<(), Fail> {
+    let Ok(Request::Run(run)) = read_words(rt.alloc(), &["chip", "run", "p"]) else {
+        return Err(Fail::from("no run"));
+    };
+    for (place, byte) in run.terms.device_key.iter().enumerate() {
+        assert_eq!(rt; usize::from(*byte), place);
+    }
+    assert_eq!(rt; run.terms.tags, Tags::Hmac);
+    assert_eq!(rt; run.terms.page_limit, u64::MAX);
+    assert_eq!(rt; run.terms.nonce, [0; 16]);
     Ok(())
 }
 

@@ -3,10 +3,10 @@ ghost use Rattle.std.specs.Prelude.{◌≡◌, IsSome, Some, option_map};
 ghost use Rattle.clap.specs.Walk.{first_of, rows_of};
 ghost use Rattle.clap.specs.Words.{found_of, subcommand_rows_of};
 ghost use Rattle.chip_words.specs.Commands.{HasExecution, HasNumber, HasProgram, HasValue, IfCommand};
-ghost use Rattle.chip_words.specs.Request.{asked_in, execution_of, file_of, form_of, is_flat as is_flat_in, levels_of, numeral_value, program_of, value_of};
-ghost use Rattle.chip_words.specs.Words.{asked, execution_asked, file_asked};
+ghost use Rattle.chip_words.specs.Request.{asked_in, execution_of, file_of, form_of, is_flat as is_flat_in, levels_of, numeral_value, program_of, run_of, value_of};
+ghost use Rattle.chip_words.specs.Words.{asked, execution_asked, file_asked, run_asked};
 
-use crate::request::{Execution, ProgramFile, ProgramForm, Request};
+use crate::request::{Execution, ProgramFile, ProgramForm, ProtectedRun, Request, Terms};
 use clap::ArgMatches;
 use sec_base::Geometry;
 
@@ -18,12 +18,23 @@ pub(crate) fn requested<'a>(matches: &ArgMatches<'a>) -> Request<'a>
 {
     let (name, values) = matches.subcommand().unwrap();
     match name {
-        "run" => Request::Run(execution(values)),
+        "run" => Request::Run(protected_run(values)),
         "plain" => Request::Plain(execution(values)),
         "asm" => Request::Asm(file(values, ProgramForm::AssemblyText)),
         "dis" => Request::Dis(program(values)),
         "measure" => Request::Measure(program(values)),
         _ => unreachable!(),
+    }
+}
+
+// A run on protected memory. No word names its terms yet.
+fn protected_run<'a>(values: &ArgMatches<'a>) -> ProtectedRun<'a>
+    requires { HasExecution (rows_of (found_of values.now)) }
+    ensures { run_asked result ≡ run_of (rows_of (found_of values.now)) }
+{
+    ProtectedRun {
+        execution: execution(values),
+        terms: Terms::default(),
     }
 }
 

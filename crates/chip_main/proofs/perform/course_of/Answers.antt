@@ -1,26 +1,26 @@
 use Rattle.std.proofs.lemmas.Result.{err_from_is_err_and}
-use Rattle.chip_words.specs.Words.{execution_asked, file_asked}
+use Rattle.chip_words.specs.Words.{file_asked, run_asked}
 use Rattle.chip_main.specs.Texts.{elf_file, listing, measurement_line}
 use Rattle.chip_main.proofs.Courses.{came_refused, came_without_memory, writes_of}
 use Rattle.chip_main.proofs.DeviceRuns.{opening_is}
 use Rattle.chip_main.proofs.perform.course_of.Goals as goal
 
-pub returns-in_err-execution-clause-stopped : goal.returns-in_err-execution-clause-stopped
-returns-in_err-execution-clause-stopped g c =
+pub returns-in_err-asked-clause-stopped : goal.returns-in_err-asked-clause-stopped
+returns-in_err-asked-clause-stopped g c =
     let p = err_from_is_err_and c.from_residual.result c.from_residual.ensures.1 in
-    rw (p.1, p.2) (came_refused c.in_err-execution.field-0.0 _ _ _ c.in_err-execution.ensures.refused)
+    rw (p.1, p.2) (came_refused c.in_err-asked.field-0.0 _ _ _ c.in_err-asked.ensures.refused)
 
 pub returns-in_err-run-in-Run-clause-stopped : goal.returns-in_err-run-in-Run-clause-stopped
 returns-in_err-run-in-Run-clause-stopped g c =
     let p = err_from_is_err_and c.from_residual-in_err-run-in-Run.result c.from_residual-in_err-run-in-Run.ensures.1 in
     let taken = c.in_ok-image-in-Run.ensures.taken in
-    rw (p.1, p.2, c.in_ok-execution.ensures.taken, c.in-Run.is)
-    (came_without_memory (execution_asked c.in-Run.execution) _ _ taken.0 c.in_ok-image-in-Run.input taken.2, c.in_err-run-in-Run.ensures.silent)
+    rw (p.1, p.2, c.in_ok-asked.ensures.taken, c.in-Run.is)
+    (came_without_memory (run_asked c.in-Run.asked) _ _ taken.0 c.in_ok-image-in-Run.input taken.2, c.in_err-run-in-Run.ensures.silent)
 
 pub returns-in_ok-run-in-Run-clause-came : goal.returns-in_ok-run-in-Run-clause-came
 returns-in_ok-run-in-Run-clause-came g c =
     let taken = c.in_ok-image-in-Run.ensures.taken in
-    rw (c.in_ok-execution.ensures.taken, c.in-Run.is)
+    rw (c.in_ok-asked.ensures.taken, c.in-Run.is)
     (taken.0, c.in_ok-image-in-Run.input, taken.2, rw c.as_slice.ensures at (c.in_ok-run-in-Run.ensures.ran taken.0 taken.1))
 
 pub returns-in_ok-image-in-Plain-clause-came : goal.returns-in_ok-image-in-Plain-clause-came
@@ -29,7 +29,7 @@ returns-in_ok-image-in-Plain-clause-came g c =
     let input = c.in_ok-image-in-Plain.input in
     let opens = opening_is c.in-Plain.execution.file.geometry taken.0 input c.in_ok-image-in-Plain.image taken.1 in
     let slice = c.as_slice-in-Plain.ensures in
-    rw (c.in_ok-execution.ensures.taken, c.in-Plain.is) (
+    rw (c.in_ok-asked.ensures.taken, c.in-Plain.is) (
       taken.0,
       input,
       taken.2,
@@ -51,17 +51,17 @@ returns-in_ok-image-in-Plain-clause-came g c =
 pub returns-in_ok-image-in-Asm-clause-came : goal.returns-in_ok-image-in-Asm-clause-came
 returns-in_ok-image-in-Asm-clause-came g c =
     let read = c.in_ok-image-in-Asm.ensures in
-    rw (c.in_ok-execution.ensures.taken, c.in-Asm.is)
+    rw (c.in_ok-asked.ensures.taken, c.in-Asm.is)
     (writes_of (file_asked c.in-Asm.file) elf_file read.taken.0 c.in_ok-image-in-Asm.image _ _ _ _ _ read.taken.1 read.taken.2 read.asked c.write_elf_file.ensures.told)
 
 pub returns-in_ok-image-in-Dis-clause-came : goal.returns-in_ok-image-in-Dis-clause-came
 returns-in_ok-image-in-Dis-clause-came g c =
     let read = c.in_ok-image-in-Dis.ensures in
-    rw (c.in_ok-execution.ensures.taken, c.in-Dis.is)
+    rw (c.in_ok-asked.ensures.taken, c.in-Dis.is)
     (writes_of (file_asked c.in-Dis.file) listing read.taken.0 c.in_ok-image-in-Dis.image _ _ _ _ _ read.taken.1 read.taken.2 read.asked c.write_listing.ensures.listed)
 
 pub returns-in_ok-image-in-Measure-clause-came : goal.returns-in_ok-image-in-Measure-clause-came
 returns-in_ok-image-in-Measure-clause-came g c =
     let read = c.in_ok-image-in-Measure.ensures in
-    rw (c.in_ok-execution.ensures.taken, c.in-Measure.is)
+    rw (c.in_ok-asked.ensures.taken, c.in-Measure.is)
     (writes_of (file_asked c.in-Measure.file) measurement_line read.taken.0 c.in_ok-image-in-Measure.image _ _ _ _ _ read.taken.1 read.taken.2 read.asked c.write_measurement.ensures.told)

@@ -1,0 +1,363 @@
+-- What a checked read makes of a bus and a tag engine.
+use Rattle.std.proofs.Common.{◌≡◌, ◌≢◌, ℕ, ◌<◌, inl, inr, Bool, true, false, cond, List, [], ◌++◌, length, take, drop, Option, Some, None, Contains, Result, Ok, Err, refl, ap, sym, ◌∙◌, subst, arith, length-append}
+use Rattle.std.specs.Option.{option_or}
+use Rattle.std.proofs.lemmas.List.{append-nil, take_at, drop_at, take_all}
+use Rattle.sec_base.specs.Count.{more_by, Rose, RoseBy}
+use Rattle.sec_base.specs.Geometry.{line_count}
+use Rattle.sec_base.specs.Place.{place_eq, at_place}
+use Rattle.sec_base.specs.Evidence.{sealed_bytes, sealed_of, LineFails}
+use Rattle.sec_base.specs.LastMessage.{last_data, last_pair, data_pairs}
+use Rattle.sec_base.specs.declared.counter.Counter.{Counter}
+use Rattle.sec_base.specs.declared.evidence.Evidence.{Evidence}
+use Rattle.sec_base.specs.declared.evidence.Evidence.TheVariants.{Forgery}
+use Rattle.sec_base.specs.declared.message.Message.{Message}
+use Rattle.sec_base.specs.declared.message.Message.TheVariants.{Line}
+use Rattle.sec_base.specs.declared.place.Place.{Place}
+use Rattle.sec_base.specs.declared.place.Place.TheVariants.{Line as line_place}
+use Rattle.sec_base.specs.declared.sealed.Sealed.{Sealed}
+use Rattle.sec_base.specs.declared.stop.MemStop.{MemStop}
+use Rattle.sec_base.specs.declared.stop.MemStop.TheVariants.{Tampered, Spent, NoMemory}
+use Rattle.sec_base.proofs.SamePlaces.{place_eq-Decides, at_place-there}
+use Rattle.bus_model.specs.BusHistory.{BusHistory, after_read, after_answer}
+use Rattle.bus_model.specs.FirstLie.{AccountsForLies, HonestOrCaught, IsOfFirstLie}
+use Rattle.bus_model.proofs.Steps.{true_or_false, answered, read_levels, read_written, read_reads, read_accesses, read_rose}
+use Rattle.tag_engine.specs.TagEngine.{TagEngineView, forgery_of}
+use Rattle.tag_engine.proofs.Forgeries.{known}
+use Rattle.checked_bus.specs.Checks.{after_line, Passed, Failed, IsCheckedRead}
+use Rattle.checked_bus.specs.Accesses.{AreCounted}
+use Rattle.checked_bus.specs.SealedLine.{sealed_line}
+use Rattle.checked_bus.specs.Steps.{IsAccounted, IsCurrent, Moves, ReadsOnce, SameLine, stop_of}
+use Rattle.checked_bus.proofs.LineMessages.{last_made, last_pair-some, some_same}
+use Rattle.checked_bus.proofs.FalseAnswers.{lie_comes, lie_rises, first_lie_stays}
+use Rattle.checked_bus.proofs.Evidences.{shown_is, first_stays}
+use Rattle.checked_bus.proofs.Counting.{read_counted}
+use Rattle.checked_bus.proofs.Steps.{moves_not, counted_not}
+
+-- The 80 bytes of a place
+
+pub same_cipher : (cipher cipher' tag tag' : List ℕ) → length cipher ≡ 64 → length cipher' ≡ 64 → cipher ++ tag ≡ cipher' ++ tag' → cipher ≡ cipher'
+same_cipher cipher cipher' tag tag' long long' same =
+    sym (take_at cipher tag 64 long) ∙ ap (take 64) same ∙ take_at cipher' tag' 64 long'
+
+pub same_tag : (cipher cipher' tag tag' : List ℕ) → length cipher ≡ 64 → length cipher' ≡ 64 → cipher ++ tag ≡ cipher' ++ tag' → tag ≡ tag'
+same_tag cipher cipher' tag tag' long long' same =
+    sym (drop_at cipher tag 64 long) ∙ ap (drop 64) same ∙ drop_at cipher' tag' 64 long'
+
+same_length : (cipher cipher' tag tag' : List ℕ) → length tag ≡ 16 → length tag' ≡ 16 → length cipher ≡ 64 → cipher ++ tag ≡ cipher' ++ tag' → length cipher' ≡ 64
+same_length cipher cipher' tag tag' tag_long tag_long' long same =
+    omega (arith, ap length same, length-append cipher tag, length-append cipher' tag', tag_long, tag_long', long)
+
+-- Counts that an answer leaves or raises
+
+risen_by : (same : Bool) (place other : Place) (reads : Place → ℕ) → (same ≡ true → other ≡ place) →
+    RoseBy 0 (reads other) (cond same (more_by 1 (reads place)) (reads other))
+risen_by true place other reads tells = let here : reads other ≡ reads place = ap reads (tells refl) in omega (arith, here)
+risen_by false place other reads tells = omega arith
+
+pub reads_kept : (place other : Place) (bytes : List ℕ) (history : BusHistory) → RoseBy 0 (history.reads other) ((after_read place bytes history).reads other)
+reads_kept place other bytes history =
+    let is : (after_read place bytes history).reads other ≡ at_place place (more_by 1 (history.reads place)) history.reads other =
+    ap (λ (f : Place → ℕ). f other) (read_reads place bytes history) in
+    subst (λ (n : ℕ). RoseBy 0 (history.reads other) n) (sym is)
+    (risen_by (place_eq other place) place other history.reads (place_eq-Decides other place).0)
+
+lies_kept : (place : Place) (bytes : List ℕ) (history : BusHistory) → RoseBy 0 history.lies (after_read place bytes history).lies
+lies_kept place bytes history =
+    elim (true_or_false place bytes history) [
+      | inl truly ↦ let same : (after_read place bytes history).lies ≡ history.lies = ap (λ (t : BusHistory). t.lies) truly.1 in omega (arith, same)
+      | inr falsely ↦
+          let more : (after_read place bytes history).lies ≡ more_by 1 history.lies = ap (λ (t : BusHistory). t.lies) falsely.1 in omega (arith, more)
+    ]
+
+-- What was false
+
+abbrev pub tampered : Option MemStop → Place → Type 0
+tampered stopped place = stopped ≡ Some (Tampered place)
+
+-- no answer was, where nothing was taken for tampering
+pub none_lied : (tag_of : Message → List ℕ) (used : List (ℕ × Counter)) (made : List Message) (history : BusHistory) →
+    HonestOrCaught tag_of used made history (tampered None) → history.lies ≡ 0
+none_lied tag_of used made history (inl honest) = honest.lies
+none_lied tag_of used made history (inr caught) = absurd (let ended : tampered None caught.lie.place = caught.ended in cc)
+
+pub still_honest : (tag_of : Message → List ℕ) (used : List (ℕ × Counter)) (made : List Message) (history : BusHistory) (stopped : Option MemStop) →
+    history.lies ≡ 0 → ((place : Place) → ¬ tampered stopped place) → HonestOrCaught tag_of used made history (tampered stopped)
+still_honest tag_of used made history stopped none untampered = inl (record { lies = none; untampered = untampered })
+
+-- a stop that is no tampering
+pub ended_accounted : (tag_of : Message → List ℕ) (used : List (ℕ × Counter)) (made : List Message) (history : BusHistory) (stop : MemStop) (evidence : Option Evidence) →
+    ((place : Place) → stop ≢ Tampered place) → IsAccounted tag_of used made history None evidence → IsAccounted tag_of used made history (Some stop) evidence
+ended_accounted tag_of used made history stop evidence untampered was = record {
+  account = record {
+    answers = λ quiet. still_honest tag_of used made history (Some stop) (none_lied tag_of used made history (was.account.answers quiet))
+        (λ place is. untampered place (some_same stop (Tampered place) is));
+    shown = was.account.shown;
+  };
+  genuine = was.genuine;
+}
+
+module _ {T : Type 0} (tag_of : Message → List ℕ) (line : ℕ) (counter : Counter) (history history' : BusHistory)
+    (engine engine' : TagEngineView T) where
+  -- What an answer moves
+
+  answer_moves : (sealed : Sealed) → history' ≡ after_line line sealed history → engine'.levels ≡ engine.levels → engine'.tagger ≡ engine.tagger →
+      engine'.made ≡ engine.made → ((evidence : Evidence) → engine.evidence ≡ Some evidence → engine'.evidence ≡ Some evidence) →
+      Moves history engine history' engine'
+  answer_moves sealed answer levels tagger made evidence = record {
+    bus_levels = ap (λ (t : BusHistory). t.levels) answer ∙ read_levels (line_place line) (sealed_bytes sealed) history;
+    levels = levels;
+    tagger = tagger;
+    more = [];
+    made = made ∙ sym (append-nil engine.made);
+    evidence = evidence;
+    reads = λ place. subst (λ (t : BusHistory). RoseBy 0 (history.reads place) (t.reads place)) (sym answer)
+        (reads_kept (line_place line) place (sealed_bytes sealed) history);
+    accesses =
+        let is : history'.accesses ≡ more_by 1 history.accesses = ap (λ (t : BusHistory). t.accesses) answer ∙ read_accesses (line_place line) (sealed_bytes sealed) history in
+        omega (arith, is);
+    lies = subst (λ (t : BusHistory). RoseBy 0 history.lies t.lies) (sym answer) (lies_kept (line_place line) (sealed_bytes sealed) history);
+  }
+
+  nothing_moves : history' ≡ history → engine' ≡ engine → Moves history engine history' engine'
+  nothing_moves same unchanged =
+      subst (λ (t : BusHistory). Moves history engine t engine') (sym same)
+      (subst (λ (e : TagEngineView T). Moves history engine history e) (sym unchanged) (moves_not history engine))
+
+  pub read_moves : (result : Result (List ℕ) MemStop) → IsCheckedRead tag_of line counter history history' engine engine' result →
+      Moves history engine history' engine'
+  read_moves (Ok cipher) passed =
+      answer_moves passed.sealed passed.answered (ap (λ (e : TagEngineView T). e.levels) passed.checked)
+      (ap (λ (e : TagEngineView T). e.tagger) passed.checked) (ap (λ (e : TagEngineView T). e.made) passed.checked)
+      (λ evidence is. ap (λ (e : TagEngineView T). e.evidence) passed.checked
+      ∙ first_stays engine.evidence (forgery_of engine.made line counter passed.sealed true) evidence is)
+  read_moves (Err (Spent page)) read = absurd read
+  read_moves (Err NoMemory) read = nothing_moves read.0 read.1
+  read_moves (Err (Tampered place)) read =
+      answer_moves read.1.sealed read.1.answered (ap (λ (e : TagEngineView T). e.levels) read.1.unchanged)
+      (ap (λ (e : TagEngineView T). e.tagger) read.1.unchanged) (ap (λ (e : TagEngineView T). e.made) read.1.unchanged)
+      (λ evidence is. ap (λ (e : TagEngineView T). e.evidence) read.1.unchanged ∙ is)
+
+  -- It is one read
+
+  answer_once : (sealed : Sealed) (stop : Option MemStop) → history' ≡ after_line line sealed history → engine'.made ≡ engine.made →
+      engine'.room ≡ engine.room → line < line_count history.levels → stop ≢ Some NoMemory → ReadsOnce line history engine history' engine' stop
+  answer_once sealed stop answer made room inside remembered =
+      let accesses : history'.accesses ≡ more_by 1 history.accesses = ap (λ (t : BusHistory). t.accesses) answer ∙ read_accesses (line_place line) (sealed_bytes sealed) history in
+      record {
+        made = made;
+        room = room;
+        written = ap (λ (t : BusHistory). t.written) answer ∙ read_written (line_place line) (sealed_bytes sealed) history;
+        once = inl accesses;
+        counted = read_counted history history' line inside
+            (ap (λ (t : BusHistory). t.levels) answer ∙ read_levels (line_place line) (sealed_bytes sealed) history)
+            (ap (λ (t : BusHistory). t.reads) answer ∙ read_reads (line_place line) (sealed_bytes sealed) history) accesses;
+        rose = λ _. subst (λ (t : BusHistory). Rose (history.reads (line_place line)) (t.reads (line_place line))) (sym answer)
+            (read_rose (line_place line) (sealed_bytes sealed) history);
+        refused = λ none. absurd (remembered none);
+      }
+
+  pub read_once : (result : Result (List ℕ) MemStop) → line < line_count history.levels →
+      IsCheckedRead tag_of line counter history history' engine engine' result → ReadsOnce line history engine history' engine' (stop_of result)
+  read_once (Ok cipher) inside passed =
+      answer_once passed.sealed None passed.answered (ap (λ (e : TagEngineView T). e.made) passed.checked)
+      (ap (λ (e : TagEngineView T). e.room) passed.checked) inside (λ none. cc)
+  read_once (Err (Spent page)) inside read = absurd read
+  read_once (Err NoMemory) inside read = record {
+    made = ap (λ (e : TagEngineView T). e.made) read.1;
+    room = ap (λ (e : TagEngineView T). e.room) read.1;
+    written = ap (λ (t : BusHistory). t.written) read.0;
+    once = inr refl;
+    counted = subst (λ (t : BusHistory). AreCounted history t 0) (sym read.0) (counted_not history);
+    rose = λ remembered. absurd (remembered refl);
+    refused = λ none. (read.0, read.1);
+  }
+  read_once (Err (Tampered place)) inside read =
+      answer_once read.1.sealed (Some (Tampered place)) read.1.answered (ap (λ (e : TagEngineView T). e.made) read.1.unchanged)
+      (ap (λ (e : TagEngineView T). e.room) read.1.unchanged) inside (λ none. cc)
+
+  -- No other line is touched
+
+  answer_others : (sealed : Sealed) (other : ℕ) → history' ≡ after_line line sealed history → engine'.made ≡ engine.made → other ≢ line →
+      SameLine other history engine.made history' engine'.made
+  answer_others sealed other answer made differs =
+      let apart : line_place other ≢ line_place line = λ same. differs (cc) in
+      record {
+        written = ap (λ (f : Place → List ℕ). f (line_place other))
+            (ap (λ (t : BusHistory). t.written) answer ∙ read_written (line_place line) (sealed_bytes sealed) history);
+        reads = ap (λ (f : Place → ℕ). f (line_place other))
+            (ap (λ (t : BusHistory). t.reads) answer ∙ read_reads (line_place line) (sealed_bytes sealed) history)
+            ∙ at_place-there (line_place line) (line_place other) (more_by 1 (history.reads (line_place line))) history.reads apart;
+        last = ap (last_data other) made;
+      }
+
+  pub read_others : (result : Result (List ℕ) MemStop) (other : ℕ) → other ≢ line →
+      IsCheckedRead tag_of line counter history history' engine engine' result → SameLine other history engine.made history' engine'.made
+  read_others (Ok cipher) other differs passed =
+      answer_others passed.sealed other passed.answered (ap (λ (e : TagEngineView T). e.made) passed.checked) differs
+  read_others (Err (Spent page)) other differs read = absurd read
+  read_others (Err NoMemory) other differs read = record {
+    written = ap (λ (t : BusHistory). t.written (line_place other)) read.0;
+    reads = ap (λ (t : BusHistory). t.reads (line_place other)) read.0;
+    last = ap (λ (e : TagEngineView T). last_data other e.made) read.1;
+  }
+  read_others (Err (Tampered place)) other differs read =
+      answer_others read.1.sealed other read.1.answered (ap (λ (e : TagEngineView T). e.made) read.1.unchanged) differs
+
+  -- What passed though it was never tagged is answered
+  pub read_accepted : (cipher : List ℕ) (at : ℕ) (under : Counter) (sealed : Sealed) (made_count : ℕ) →
+      Passed tag_of line counter history history' engine engine' cipher → engine.evidence ≡ None →
+      engine'.evidence ≡ Some (Forgery at under sealed made_count) → (at ≡ line) × (under ≡ counter) × (cipher ≡ sealed.cipher)
+  read_accepted cipher at under sealed made_count passed quiet shown =
+      let before : option_or engine.evidence (forgery_of engine.made line counter passed.sealed true) ≡ forgery_of engine.made line counter passed.sealed true =
+      ap (λ (o : Option Evidence). option_or o (forgery_of engine.made line counter passed.sealed true)) quiet in
+      let is : forgery_of engine.made line counter passed.sealed true ≡ Some (Forgery at under sealed made_count) =
+      sym before ∙ sym (ap (λ (e : TagEngineView T). e.evidence) passed.checked) ∙ shown in
+      let same : Forgery at under sealed made_count ≡ Forgery line counter passed.sealed (length engine.made) =
+      (shown_is engine.made line counter passed.sealed (Forgery at under sealed made_count) is).0 in
+      let sealed_is : sealed ≡ passed.sealed = cc in
+      (cc, cc, passed.given ∙ ap (λ (s : Sealed). s.cipher) (sym sealed_is))
+
+  -- Under a line's last counter
+
+  module _ (tag_long : (cipher : List ℕ) → length (tag_of (Line line counter cipher)) ≡ 16) (used : List (ℕ × Counter))
+      (current : IsCurrent tag_of used engine.made history.written line counter) where
+    same_as_made : (sealed : Sealed) → sealed_bytes sealed ≡ history.written (line_place line) →
+        sealed.cipher ++ sealed.tag ≡ current.cipher ++ tag_of (Line line counter current.cipher)
+    same_as_made sealed same = same ∙ current.stored
+
+    made_long : (sealed : Sealed) → sealed_bytes sealed ≡ history.written (line_place line) → length sealed.cipher ≡ 64 → length sealed.tag ≡ 16 →
+        length current.cipher ≡ 64
+    made_long sealed same long long_tag =
+        same_length sealed.cipher current.cipher sealed.tag (tag_of (Line line counter current.cipher)) long_tag (tag_long current.cipher) long
+        (same_as_made sealed same)
+
+    -- a line without its tag is not what was written
+    failed_differs : (sealed : Sealed) → length sealed.cipher ≡ 64 → length sealed.tag ≡ 16 → sealed.tag ≢ tag_of (Line line counter sealed.cipher) →
+        sealed_bytes sealed ≢ history.written (line_place line)
+    failed_differs sealed long long_tag untagged = λ same.
+        let whole : sealed.cipher ++ sealed.tag ≡ current.cipher ++ tag_of (Line line counter current.cipher) = same_as_made sealed same in
+        let made : length current.cipher ≡ 64 = made_long sealed same long long_tag in
+        let cipher : sealed.cipher ≡ current.cipher = same_cipher sealed.cipher current.cipher sealed.tag (tag_of (Line line counter current.cipher)) long made whole in
+        let tag : sealed.tag ≡ tag_of (Line line counter current.cipher) =
+        same_tag sealed.cipher current.cipher sealed.tag (tag_of (Line line counter current.cipher)) long made whole in
+        untagged (tag ∙ ap (λ (x : List ℕ). tag_of (Line line counter x)) (sym cipher))
+
+    -- nor is a line with the tag of a message that was never made
+    forged_differs : (sealed : Sealed) → length sealed.cipher ≡ 64 → sealed.tag ≡ tag_of (Line line counter sealed.cipher) →
+        (Contains engine.made (Line line counter sealed.cipher) → ⊥) → sealed_bytes sealed ≢ history.written (line_place line)
+    forged_differs sealed long tagged never = λ same.
+        let whole : sealed.cipher ++ sealed.tag ≡ current.cipher ++ tag_of (Line line counter current.cipher) = same_as_made sealed same in
+        let made : length current.cipher ≡ 64 = made_long sealed same long (ap length tagged ∙ tag_long sealed.cipher) in
+        let cipher : sealed.cipher ≡ current.cipher = same_cipher sealed.cipher current.cipher sealed.tag (tag_of (Line line counter current.cipher)) long made whole in
+        never (subst (λ (x : List ℕ). Contains engine.made (Line line counter x)) (sym cipher)
+        (last_made engine.made line counter current.cipher current.made_last))
+
+    -- a line with the tag of a message that was made under the counter is what was written
+    passed_same : (sealed : Sealed) → sealed.tag ≡ tag_of (Line line counter sealed.cipher) → Contains engine.made (Line line counter sealed.cipher) →
+        sealed_bytes sealed ≡ history.written (line_place line)
+    passed_same sealed tagged listed =
+        let cipher : sealed.cipher ≡ current.cipher = current.only sealed.cipher listed in
+        ap (λ (t : List ℕ). sealed.cipher ++ t) tagged ∙ ap (λ (x : List ℕ). sealed_line tag_of line counter x) cipher ∙ sym current.stored
+
+    -- a line without its tag fails its check
+    line_fails : (sealed : Sealed) → length sealed.cipher ≡ 64 → sealed.tag ≢ tag_of (Line line counter sealed.cipher) →
+        LineFails tag_of used line (sealed_of (sealed_bytes sealed))
+    line_fails sealed long untagged =
+        let cipher_is : take 64 (sealed.cipher ++ sealed.tag) ≡ sealed.cipher = take_at sealed.cipher sealed.tag 64 long in
+        let tag_is : drop 64 (sealed.cipher ++ sealed.tag) ≡ sealed.tag = drop_at sealed.cipher sealed.tag 64 long in
+        let fails : LineFails tag_of used line sealed = record { counter = counter; last = current.last; fails = untagged } in
+        subst (λ (x : List ℕ). LineFails tag_of used line (record { cipher = x; tag = drop 64 (sealed.cipher ++ sealed.tag) })) (sym cipher_is)
+        (subst (λ (y : List ℕ). LineFails tag_of used line (record { cipher = sealed.cipher; tag = y })) (sym tag_is) fails)
+
+    -- it comes where an answer was false
+    pub tampered_lied : Failed tag_of line counter history history' engine engine' → Rose history.lies history'.lies
+    tampered_lied failed =
+        subst (λ (t : BusHistory). Rose history.lies t.lies) (sym failed.answered)
+        (lie_rises history (line_place line) (sealed_bytes failed.sealed) (failed_differs failed.sealed failed.long failed.tag_long failed.untagged))
+
+    failed_answers : (sealed : Sealed) → length sealed.cipher ≡ 64 → length sealed.tag ≡ 16 → sealed.tag ≢ tag_of (Line line counter sealed.cipher) →
+        history.lies ≡ 0 → HonestOrCaught tag_of used engine.made (after_line line sealed history) (tampered (Some (Tampered (line_place line))))
+    failed_answers sealed long long_tag untagged none =
+        let lie = lie_comes history (line_place line) (sealed_bytes sealed) none (failed_differs sealed long long_tag untagged) in
+        inr (record {
+          lies = lie.lies;
+          lie = record { access = (after_line line sealed history).accesses; place = line_place line; bytes = sealed_bytes sealed };
+          first = lie.first;
+          last = refl;
+          fails = line_fails sealed long untagged;
+          ended = refl;
+        })
+
+    passed_answers : (sealed : Sealed) → sealed.tag ≡ tag_of (Line line counter sealed.cipher) → history.lies ≡ 0 →
+        forgery_of engine.made line counter sealed true ≡ None →
+        HonestOrCaught tag_of used engine.made (after_line line sealed history) (tampered None)
+    passed_answers sealed tagged none unshown =
+        let same = passed_same sealed tagged (known engine.made line counter sealed unshown) in
+        let is : after_line line sealed history ≡ after_answer (line_place line) history = answered (line_place line) (sealed_bytes sealed) history same in
+        still_honest tag_of used engine.made (after_line line sealed history) None (ap (λ (t : BusHistory). t.lies) is ∙ none) (λ place taken. cc)
+
+    shown_first : (sealed : Sealed) (evidence : Evidence) → length sealed.cipher ≡ 64 → sealed.tag ≡ tag_of (Line line counter sealed.cipher) →
+        history.lies ≡ 0 → forgery_of engine.made line counter sealed true ≡ Some evidence →
+        IsOfFirstLie engine.made (after_line line sealed history) evidence
+    shown_first sealed evidence long tagged none shown =
+        let is = shown_is engine.made line counter sealed evidence shown in
+        let lie = lie_comes history (line_place line) (sealed_bytes sealed) none (forged_differs sealed long tagged is.1) in
+        let after : BusHistory = after_line line sealed history in
+        let whole : take (length engine.made) engine.made ≡ engine.made = take_all (length engine.made) engine.made (omega arith) in
+        subst (λ (e : Evidence). IsOfFirstLie engine.made after e) (sym is.0) (record {
+          lies = omega (arith, lie.lies);
+          lie = record { access = after.accesses; place = line_place line; bytes = sealed_bytes sealed };
+          first = lie.first;
+          place = refl;
+          bytes = refl;
+          counter = ap (λ (xs : List Message). last_pair line (data_pairs xs)) whole ∙ last_pair-some engine.made line counter current.cipher current.made_last;
+        })
+
+    passed_accounted : (sealed : Sealed) (before : Option Evidence) → length sealed.cipher ≡ 64 → sealed.tag ≡ tag_of (Line line counter sealed.cipher) →
+        AccountsForLies tag_of used engine.made history (tampered None) before →
+        AccountsForLies tag_of used engine.made (after_line line sealed history) (tampered None)
+        (option_or before (forgery_of engine.made line counter sealed true))
+    passed_accounted sealed None long tagged account =
+        let none : history.lies ≡ 0 = none_lied tag_of used engine.made history (account.answers refl) in
+        record {
+          answers = λ unshown. passed_answers sealed tagged none unshown;
+          shown = λ evidence is. shown_first sealed evidence long tagged none is;
+        }
+    passed_accounted sealed (Some first) long tagged account = record {
+      answers = λ quiet. absurd (cc);
+      shown = λ evidence is. first_lie_stays history engine.made (line_place line) (sealed_bytes sealed) evidence (account.shown evidence is);
+    }
+
+    failed_accounted : (sealed : Sealed) → length sealed.cipher ≡ 64 → length sealed.tag ≡ 16 → sealed.tag ≢ tag_of (Line line counter sealed.cipher) →
+        AccountsForLies tag_of used engine.made history (tampered None) engine.evidence →
+        AccountsForLies tag_of used engine.made (after_line line sealed history) (tampered (Some (Tampered (line_place line)))) engine.evidence
+    failed_accounted sealed long long_tag untagged account = record {
+      answers = λ quiet. failed_answers sealed long long_tag untagged (none_lied tag_of used engine.made history (account.answers quiet));
+      shown = λ evidence is. first_lie_stays history engine.made (line_place line) (sealed_bytes sealed) evidence (account.shown evidence is);
+    }
+
+    pub read_accounted : (result : Result (List ℕ) MemStop) → IsCheckedRead tag_of line counter history history' engine engine' result →
+        IsAccounted tag_of used engine.made history None engine.evidence →
+        IsAccounted tag_of used engine'.made history' (stop_of result) engine'.evidence
+    read_accounted (Ok cipher) passed was =
+        subst (λ (t : BusHistory). IsAccounted tag_of used engine'.made t None engine'.evidence) (sym passed.answered)
+        (subst (λ (made : List Message). IsAccounted tag_of used made (after_line line passed.sealed history) None engine'.evidence)
+        (sym (ap (λ (e : TagEngineView T). e.made) passed.checked)) (record {
+          account = subst (λ (o : Option Evidence). AccountsForLies tag_of used engine.made (after_line line passed.sealed history) (tampered None) o)
+              (sym (ap (λ (e : TagEngineView T). e.evidence) passed.checked))
+              (passed_accounted passed.sealed engine.evidence passed.long passed.tagged was.account);
+          genuine = passed.genuine;
+        }))
+    read_accounted (Err (Spent page)) read was = absurd read
+    read_accounted (Err NoMemory) read was =
+        subst (λ (t : BusHistory). IsAccounted tag_of used engine'.made t (Some NoMemory) engine'.evidence) (sym read.0)
+        (subst (λ (e : TagEngineView T). IsAccounted tag_of used e.made history (Some NoMemory) e.evidence) (sym read.1)
+        (ended_accounted tag_of used engine.made history NoMemory engine.evidence (λ place is. cc) was))
+    read_accounted (Err (Tampered place)) read was =
+        subst (λ (p : Place). IsAccounted tag_of used engine'.made history' (Some (Tampered p)) engine'.evidence) (sym read.0)
+        (subst (λ (t : BusHistory). IsAccounted tag_of used engine'.made t (Some (Tampered (line_place line))) engine'.evidence) (sym read.1.answered)
+        (subst (λ (e : TagEngineView T). IsAccounted tag_of used e.made (after_line line read.1.sealed history) (Some (Tampered (line_place line))) e.evidence)
+        (sym read.1.unchanged) (record {
+          account = failed_accounted read.1.sealed read.1.long read.1.tag_long read.1.untagged was.account;
+          genuine = was.genuine;
+        })))

@@ -1,0 +1,123 @@
+-- What holds of no call, and of two calls one after the other.
+use Rattle.std.proofs.Common.{◌≡◌, ℕ, ◌+◌, ◌<◌, ◌≤◌, ◌⊎◌, inl, inr, List, [], ◌∷◌, ◌++◌, refl, ap, sym, ◌∙◌, subst, arith, append_assoc}
+use Rattle.std.proofs.lemmas.List.{append-nil}
+use Rattle.sec_base.specs.Count.{top, RoseBy}
+use Rattle.sec_base.specs.Geometry.{line_count}
+use Rattle.sec_base.specs.LastMessage.{data_pairs}
+use Rattle.sec_base.specs.declared.counter.Counter.{Counter}
+use Rattle.sec_base.specs.declared.message.Message.{Message}
+use Rattle.sec_base.specs.declared.message.Message.TheVariants.{Line, Node}
+use Rattle.sec_base.specs.declared.place.Place.{Place}
+use Rattle.sec_base.specs.declared.place.Place.TheVariants.{Line as line_place}
+use Rattle.bus_model.specs.BusHistory.{BusHistory}
+use Rattle.tag_engine.specs.TagEngine.{TagEngineView}
+use Rattle.checked_bus.specs.Accesses.{line_reads, HasFullCount, AreCounted}
+use Rattle.checked_bus.specs.Steps.{Moves, SameLine, SameLines}
+
+pub moves_not : {T : Type 0} (history : BusHistory) (engine : TagEngineView T) → Moves history engine history engine
+moves_not history engine = record {
+  bus_levels = refl;
+  levels = refl;
+  tagger = refl;
+  more = [];
+  made = sym (append-nil engine.made);
+  evidence = λ evidence is. is;
+  reads = λ place. omega arith;
+  accesses = omega arith;
+  lies = omega arith;
+}
+
+pub moves_on : {T : Type 0} (first second third : BusHistory) (engine engine' engine'' : TagEngineView T) →
+    Moves first engine second engine' → Moves second engine' third engine'' → Moves first engine third engine''
+moves_on first second third engine engine' engine'' moves more = record {
+  bus_levels = more.bus_levels ∙ moves.bus_levels;
+  levels = more.levels ∙ moves.levels;
+  tagger = more.tagger ∙ moves.tagger;
+  more = moves.more ++ more.more;
+  made = more.made ∙ ap (λ (made : List Message). made ++ more.more) moves.made ∙ append_assoc engine.made moves.more more.more;
+  evidence = λ evidence is. more.evidence evidence (moves.evidence evidence is);
+  reads = λ place. omega (arith, moves.reads place, more.reads place);
+  accesses = omega (arith, moves.accesses, more.accesses);
+  lies = omega (arith, moves.lies, more.lies);
+}
+
+pub same_line_not : (line : ℕ) (history : BusHistory) (made : List Message) → SameLine line history made history made
+same_line_not line history made = record { written = refl; reads = refl; last = refl }
+
+pub same_line_on : (line : ℕ) (first second third : BusHistory) (made made' made'' : List Message) →
+    SameLine line first made second made' → SameLine line second made' third made'' → SameLine line first made third made''
+same_line_on line first second third made made' made'' same more = record {
+  written = more.written ∙ same.written;
+  reads = more.reads ∙ same.reads;
+  last = more.last ∙ same.last;
+}
+
+-- the lines and counters of messages that follow one another
+pub data_pairs-append : (front more : List Message) → data_pairs (front ++ more) ≡ data_pairs front ++ data_pairs more
+unfolding data_pairs
+data_pairs-append [] more = refl
+data_pairs-append (Node level index block ∷ front) more = data_pairs-append front more
+data_pairs-append (Line line counter cipher ∷ front) more = ap (λ (pairs : List (ℕ × Counter)). (line, counter) ∷ pairs) (data_pairs-append front more)
+
+pub same_lines_not : (history : BusHistory) (made : List Message) → SameLines history made history made
+unfolding data_pairs
+same_lines_not history made = record {
+  written = λ line. refl;
+  reads = λ line. refl;
+  more = [];
+  made_more = sym (append-nil made);
+  no_lines = refl;
+}
+
+pub same_lines_on : (first second third : BusHistory) (made made' made'' : List Message) →
+    SameLines first made second made' → SameLines second made' third made'' → SameLines first made third made''
+same_lines_on first second third made made' made'' same more = record {
+  written = λ line. more.written line ∙ same.written line;
+  reads = λ line. more.reads line ∙ same.reads line;
+  more = same.more ++ more.more;
+  made_more = more.made_more ∙ ap (λ (xs : List Message). xs ++ more.more) same.made_more ∙ append_assoc made same.more more.more;
+  no_lines = data_pairs-append same.more more.more ∙ ap (λ (pairs : List (ℕ × Counter)). pairs ++ data_pairs more.more) same.no_lines ∙ more.no_lines;
+}
+
+-- the lines and counters that were tagged are the same
+pub same_pairs : (old new : BusHistory) (made made' : List Message) → SameLines old made new made' → data_pairs made' ≡ data_pairs made
+same_pairs old new made made' same =
+    ap data_pairs same.made_more ∙ data_pairs-append made same.more
+    ∙ ap (λ (pairs : List (ℕ × Counter)). data_pairs made ++ pairs) same.no_lines ∙ append-nil (data_pairs made)
+
+pub counted_not : (history : BusHistory) → AreCounted history history 0
+counted_not history = record { most = inl (omega arith); least = inl (omega arith) }
+
+-- a count that stands at its end stays there
+still_full : (old new : BusHistory) → new.levels ≡ old.levels → ((place : Place) → RoseBy 0 (old.reads place) (new.reads place)) →
+    HasFullCount old → HasFullCount new
+still_full old new levels reads was = record {
+  line = was.line;
+  inside = subst (λ (n : ℕ). was.line < line_count n) (sym levels) was.inside;
+  full = omega (arith, was.full, reads (line_place was.line));
+}
+
+most_on : (first second third : BusHistory) (writes more_writes : ℕ) → (HasFullCount second → HasFullCount third) →
+    (second.accesses + line_reads first ≤ first.accesses + line_reads second + writes) ⊎ HasFullCount second →
+    (third.accesses + line_reads second ≤ second.accesses + line_reads third + more_writes) ⊎ HasFullCount third →
+    (third.accesses + line_reads first ≤ first.accesses + line_reads third + (writes + more_writes)) ⊎ HasFullCount third
+most_on first second third writes more_writes still (inr full) more = inr (still full)
+most_on first second third writes more_writes still (inl most) (inr full) = inr full
+most_on first second third writes more_writes still (inl most) (inl more) = inl (omega (arith, most, more))
+
+least_on : (first second third : BusHistory) (writes more_writes : ℕ) → (top ≤ second.accesses → top ≤ third.accesses) →
+    (first.accesses + line_reads second + writes ≤ second.accesses + line_reads first) ⊎ (top ≤ second.accesses) →
+    (second.accesses + line_reads third + more_writes ≤ third.accesses + line_reads second) ⊎ (top ≤ third.accesses) →
+    (first.accesses + line_reads third + (writes + more_writes) ≤ third.accesses + line_reads first) ⊎ (top ≤ third.accesses)
+least_on first second third writes more_writes still (inr full) more = inr (still full)
+least_on first second third writes more_writes still (inl least) (inr full) = inr full
+least_on first second third writes more_writes still (inl least) (inl more) = inl (omega (arith, least, more))
+
+-- with what the second call raised, as `Moves` has it
+pub counted_on : (first second third : BusHistory) (writes more_writes : ℕ) → third.levels ≡ second.levels →
+    ((place : Place) → RoseBy 0 (second.reads place) (third.reads place)) → RoseBy 0 second.accesses third.accesses →
+    AreCounted first second writes → AreCounted second third more_writes → AreCounted first third (writes + more_writes)
+counted_on first second third writes more_writes levels reads accesses counted more = record {
+  most = most_on first second third writes more_writes (still_full second third levels reads) counted.most more.most;
+  least = least_on first second third writes more_writes (λ full. omega (arith, full, accesses)) counted.least more.least;
+}

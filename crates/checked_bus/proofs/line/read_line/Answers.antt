@@ -1,0 +1,114 @@
+use Rattle.std.proofs.Common.{◌≡◌, Bool, false, Ok, Err, ap, refl, rules, sym, ◌∙◌}
+use Rattle.sec_base.specs.declared.place.Place.TheVariants.{Line as line_place}
+use Rattle.sec_base.specs.declared.stop.MemStop.TheVariants.{Tampered}
+use Rattle.sec_base.specs.Message.{data_bytes}
+use Rattle.tag_engine.specs.Tag.{engine_tag}
+use Rattle.tag_engine.specs.TagEngine.{after_check_data, tags_of}
+use Rattle.tag_engine.proofs.Upkeep.{failed_check}
+use Rattle.checked_bus.proofs.CheckedReads.{read_moves, read_once, read_others, read_accepted, tampered_lied, read_accounted}
+use Rattle.checked_bus.proofs.line.read_line.Goals as goal
+
+-- Refused, out of memory
+
+pub returns-in_err-sealed-clause-read : goal.returns-in_err-sealed-clause-read
+returns-in_err-sealed-clause-read g c = search rules
+
+pub returns-in_err-sealed-clause-honest : goal.returns-in_err-sealed-clause-honest
+unfolding engine_tag
+returns-in_err-sealed-clause-honest g c = λ used current was.
+    read_accounted (tags_of g.T.Tagger.data_tag_of g.T.Tagger.node_tag_of c.args.tags.now) c.args.line c.args.counter
+    (g.B.Bus.history c.args.bus.now) (g.B.Bus.history c.read_data.new.self) c.args.tags.now c.args.tags.now
+    (λ cipher. g.met.T.Tagger.data_tag_long c.args.tags.now.tagger (data_bytes c.args.line c.args.counter cipher))
+    used current c.from_residual.result (returns-in_err-sealed-clause-read g c) was
+
+-- Failed
+
+pub returns-then-not-check_data-clause-read : goal.returns-then-not-check_data-clause-read
+returns-then-not-check_data-clause-read g c =
+    let failed : c.check_data.result ≡ false = search rules in (
+      refl,
+      record {
+        sealed = c.in_ok-sealed.sealed;
+        untagged = λ tagged. let passes = c.check_data.ensures.passes.1 tagged in absurd (cc);
+        answered = c.in_ok-sealed.ensures.ok;
+        long = search rules;
+        tag_long = search rules;
+        unchanged = c.check_data.ensures.state
+            ∙ ap (λ (passes : Bool). after_check_data c.args.line c.args.counter c.in_ok-sealed.sealed passes c.args.tags.now) failed
+            ∙ sym (failed_check c.args.tags.now c.args.line c.args.counter c.in_ok-sealed.sealed);
+      },
+    )
+
+pub returns-then-not-check_data-clause-moves : goal.returns-then-not-check_data-clause-moves
+returns-then-not-check_data-clause-moves g c =
+    read_moves (tags_of g.T.Tagger.data_tag_of g.T.Tagger.node_tag_of c.args.tags.now) c.args.line c.args.counter
+    (g.B.Bus.history c.args.bus.now) (g.B.Bus.history c.read_data.new.self) c.args.tags.now c.check_data.new.self
+    (Err (Tampered (line_place c.args.line))) (returns-then-not-check_data-clause-read g c)
+
+pub returns-then-not-check_data-clause-once : goal.returns-then-not-check_data-clause-once
+returns-then-not-check_data-clause-once g c =
+    read_once (tags_of g.T.Tagger.data_tag_of g.T.Tagger.node_tag_of c.args.tags.now) c.args.line c.args.counter
+    (g.B.Bus.history c.args.bus.now) (g.B.Bus.history c.read_data.new.self) c.args.tags.now c.check_data.new.self
+    (Err (Tampered (line_place c.args.line))) c.requires.place (returns-then-not-check_data-clause-read g c)
+
+pub returns-then-not-check_data-clause-others : goal.returns-then-not-check_data-clause-others
+returns-then-not-check_data-clause-others g c = λ other differs.
+    read_others (tags_of g.T.Tagger.data_tag_of g.T.Tagger.node_tag_of c.args.tags.now) c.args.line c.args.counter
+    (g.B.Bus.history c.args.bus.now) (g.B.Bus.history c.read_data.new.self) c.args.tags.now c.check_data.new.self
+    (Err (Tampered (line_place c.args.line))) other differs (returns-then-not-check_data-clause-read g c)
+
+pub returns-then-not-check_data-clause-honest : goal.returns-then-not-check_data-clause-honest
+unfolding engine_tag
+returns-then-not-check_data-clause-honest g c = λ used current was.
+    read_accounted (tags_of g.T.Tagger.data_tag_of g.T.Tagger.node_tag_of c.args.tags.now) c.args.line c.args.counter
+    (g.B.Bus.history c.args.bus.now) (g.B.Bus.history c.read_data.new.self) c.args.tags.now c.check_data.new.self
+    (λ cipher. g.met.T.Tagger.data_tag_long c.args.tags.now.tagger (data_bytes c.args.line c.args.counter cipher))
+    used current (Err (Tampered (line_place c.args.line))) (returns-then-not-check_data-clause-read g c) was
+
+pub returns-then-not-check_data-clause-tampered : goal.returns-then-not-check_data-clause-tampered
+unfolding engine_tag
+returns-then-not-check_data-clause-tampered g c = λ place is. (
+  cc,
+  λ used current.
+      tampered_lied (tags_of g.T.Tagger.data_tag_of g.T.Tagger.node_tag_of c.args.tags.now) c.args.line c.args.counter
+      (g.B.Bus.history c.args.bus.now) (g.B.Bus.history c.read_data.new.self) c.args.tags.now c.check_data.new.self
+      (λ cipher. g.met.T.Tagger.data_tag_long c.args.tags.now.tagger (data_bytes c.args.line c.args.counter cipher))
+      used current (returns-then-not-check_data-clause-read g c).1,
+)
+
+-- Passed
+
+pub returns-clause-read : goal.returns-clause-read
+returns-clause-read g c = search rules
+
+pub returns-clause-moves : goal.returns-clause-moves
+returns-clause-moves g c =
+    read_moves (tags_of g.T.Tagger.data_tag_of g.T.Tagger.node_tag_of c.args.tags.now) c.args.line c.args.counter
+    (g.B.Bus.history c.args.bus.now) (g.B.Bus.history c.read_data.new.self) c.args.tags.now c.check_data.new.self
+    (Ok c.in_ok-sealed.sealed.cipher) (returns-clause-read g c)
+
+pub returns-clause-once : goal.returns-clause-once
+returns-clause-once g c =
+    read_once (tags_of g.T.Tagger.data_tag_of g.T.Tagger.node_tag_of c.args.tags.now) c.args.line c.args.counter
+    (g.B.Bus.history c.args.bus.now) (g.B.Bus.history c.read_data.new.self) c.args.tags.now c.check_data.new.self
+    (Ok c.in_ok-sealed.sealed.cipher) c.requires.place (returns-clause-read g c)
+
+pub returns-clause-others : goal.returns-clause-others
+returns-clause-others g c = λ other differs.
+    read_others (tags_of g.T.Tagger.data_tag_of g.T.Tagger.node_tag_of c.args.tags.now) c.args.line c.args.counter
+    (g.B.Bus.history c.args.bus.now) (g.B.Bus.history c.read_data.new.self) c.args.tags.now c.check_data.new.self
+    (Ok c.in_ok-sealed.sealed.cipher) other differs (returns-clause-read g c)
+
+pub returns-clause-honest : goal.returns-clause-honest
+unfolding engine_tag
+returns-clause-honest g c = λ used current was.
+    read_accounted (tags_of g.T.Tagger.data_tag_of g.T.Tagger.node_tag_of c.args.tags.now) c.args.line c.args.counter
+    (g.B.Bus.history c.args.bus.now) (g.B.Bus.history c.read_data.new.self) c.args.tags.now c.check_data.new.self
+    (λ cipher. g.met.T.Tagger.data_tag_long c.args.tags.now.tagger (data_bytes c.args.line c.args.counter cipher))
+    used current (Ok c.in_ok-sealed.sealed.cipher) (returns-clause-read g c) was
+
+pub returns-clause-accepted : goal.returns-clause-accepted
+returns-clause-accepted g c = λ at under sealed made_count quiet shown.
+    read_accepted (tags_of g.T.Tagger.data_tag_of g.T.Tagger.node_tag_of c.args.tags.now) c.args.line c.args.counter
+    (g.B.Bus.history c.args.bus.now) (g.B.Bus.history c.read_data.new.self) c.args.tags.now c.check_data.new.self
+    c.in_ok-sealed.sealed.cipher at under sealed made_count (returns-clause-read g c) quiet shown

@@ -1,0 +1,48 @@
+-- A read of a line that is checked: what the bus answered, and what the tag engine found.
+use Rattle.std.specs.Prelude.{◌≡◌, ◌≢◌, ℕ, List, length, Result, Ok, Err, IfSome, true}
+use Rattle.sec_base.specs.declared.counter.Counter.{Counter}
+use Rattle.sec_base.specs.declared.message.Message.{Message}
+use Rattle.sec_base.specs.declared.message.Message.TheVariants.{Line}
+use Rattle.sec_base.specs.declared.place.Place.TheVariants.{Line as line_place}
+use Rattle.sec_base.specs.declared.sealed.Sealed.{Sealed}
+use Rattle.sec_base.specs.declared.stop.MemStop.{MemStop}
+use Rattle.sec_base.specs.declared.stop.MemStop.TheVariants.{Tampered, Spent, NoMemory}
+use Rattle.sec_base.specs.Evidence.{sealed_bytes, IsEvidence}
+use Rattle.bus_model.specs.BusHistory.{BusHistory, after_read}
+use Rattle.tag_engine.specs.TagEngine.{TagEngineView, after_check_data}
+
+-- the place of a line answered these bytes
+abbrev pub after_line : ℕ → Sealed → BusHistory → BusHistory
+after_line line sealed history = after_read (line_place line) (sealed_bytes sealed) history
+
+-- a line that was read has the tag of its message, and its ciphertext is given
+pub record Passed {T : Type 0} (tag_of : Message → List ℕ) (line : ℕ) (counter : Counter) (history history' : BusHistory)
+    (engine engine' : TagEngineView T) (cipher : List ℕ) : Type 0 where
+  pub sealed : Sealed
+  pub tagged : sealed.tag ≡ tag_of (Line line counter sealed.cipher)
+  pub answered : history' ≡ after_line line sealed history
+  pub checked : engine' ≡ after_check_data line counter sealed true engine
+  pub genuine : IfSome engine'.evidence (IsEvidence tag_of engine.made)
+  pub long : length sealed.cipher ≡ 64
+  pub given : cipher ≡ sealed.cipher
+
+-- it has another
+pub record Failed {T : Type 0} (tag_of : Message → List ℕ) (line : ℕ) (counter : Counter) (history history' : BusHistory)
+    (engine engine' : TagEngineView T) : Type 0 where
+  pub sealed : Sealed
+  pub untagged : sealed.tag ≢ tag_of (Line line counter sealed.cipher)
+  pub answered : history' ≡ after_line line sealed history
+  pub unchanged : engine' ≡ engine
+  pub long : length sealed.cipher ≡ 64
+  pub tag_long : length sealed.tag ≡ 16
+
+-- a line was read from its place and checked, or there was no memory to read it
+abbrev pub IsCheckedRead : {T : Type 0} → (Message → List ℕ) → ℕ → Counter → BusHistory → BusHistory → TagEngineView T →
+    TagEngineView T → Result (List ℕ) MemStop → Type 0
+IsCheckedRead tag_of line counter history history' engine engine' (Ok cipher) =
+    Passed tag_of line counter history history' engine engine' cipher
+IsCheckedRead tag_of line counter history history' engine engine' (Err (Tampered place)) =
+    (place ≡ line_place line) × Failed tag_of line counter history history' engine engine'
+IsCheckedRead tag_of line counter history history' engine engine' (Err (Spent page)) = ⊥
+IsCheckedRead tag_of line counter history history' engine engine' (Err NoMemory) =
+    (history' ≡ history) × (engine' ≡ engine)

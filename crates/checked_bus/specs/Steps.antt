@@ -1,0 +1,87 @@
+-- What a call makes of a bus and a tag engine, seen by the bus's history and by what the engine made and shows.
+-- `Moves`, `SameLine` and `SameLines` hold of no call, and of two calls one after the other where they hold of each.
+use Rattle.std.specs.Prelude.{◌≡◌, ◌≢◌, ◌⊎◌, ℕ, List, [], ◌++◌, Option, Some, None, Contains, IfSome, Result, Ok, Err}
+use Rattle.sec_base.specs.declared.counter.Counter.{Counter}
+use Rattle.sec_base.specs.declared.evidence.Evidence.{Evidence}
+use Rattle.sec_base.specs.declared.message.Message.{Message}
+use Rattle.sec_base.specs.declared.message.Message.TheVariants.{Line}
+use Rattle.sec_base.specs.declared.place.Place.{Place}
+use Rattle.sec_base.specs.declared.place.Place.TheVariants.{Line as line_place}
+use Rattle.sec_base.specs.declared.stop.MemStop.{MemStop}
+use Rattle.sec_base.specs.declared.stop.MemStop.TheVariants.{Tampered, NoMemory}
+use Rattle.sec_base.specs.Count.{Rose, RoseBy, more_by}
+use Rattle.sec_base.specs.Evidence.{IsEvidence}
+use Rattle.sec_base.specs.LastMessage.{data_pairs, last_data, last_pair}
+use Rattle.sec_base.specs.Place.{at_place}
+use Rattle.bus_model.specs.BusHistory.{BusHistory}
+use Rattle.bus_model.specs.FirstLie.{AccountsForLies}
+use Rattle.tag_engine.specs.TagEngine.{TagEngineView}
+use Rattle.checked_bus.specs.Accesses.{AreCounted}
+use Rattle.checked_bus.specs.SealedLine.{sealed_line}
+
+-- What each call leaves as it was, adds to, or raises.
+pub record Moves {T : Type 0} (old : BusHistory) (engine : TagEngineView T) (new : BusHistory) (engine' : TagEngineView T) : Type 0 where
+  pub bus_levels : new.levels ≡ old.levels
+  pub levels : engine'.levels ≡ engine.levels
+  pub tagger : engine'.tagger ≡ engine.tagger
+  pub more : List Message
+  pub made : engine'.made ≡ engine.made ++ more
+  pub evidence : (evidence : Evidence) → engine.evidence ≡ Some evidence → engine'.evidence ≡ Some evidence
+  pub reads : (place : Place) → RoseBy 0 (old.reads place) (new.reads place)
+  pub accesses : RoseBy 0 old.accesses new.accesses
+  pub lies : RoseBy 0 old.lies new.lies
+
+-- No call touched the line: its place holds what it held, was not read, and its last message is the same.
+pub record SameLine (line : ℕ) (old : BusHistory) (made : List Message) (new : BusHistory) (made' : List Message) : Type 0 where
+  pub written : new.written (line_place line) ≡ old.written (line_place line)
+  pub reads : new.reads (line_place line) ≡ old.reads (line_place line)
+  pub last : last_data line made' ≡ last_data line made
+
+-- No call touched any line: the places of lines hold what they held and were not read, and only messages of nodes were made.
+pub record SameLines (old : BusHistory) (made : List Message) (new : BusHistory) (made' : List Message) : Type 0 where
+  pub written : (line : ℕ) → new.written (line_place line) ≡ old.written (line_place line)
+  pub reads : (line : ℕ) → new.reads (line_place line) ≡ old.reads (line_place line)
+  pub more : List Message
+  pub made_more : made' ≡ made ++ more
+  pub no_lines : data_pairs more ≡ []
+
+-- The false answers are accounted for where a call stopped so, or did not stop, and evidence is what it says.
+pub record IsAccounted (tag_of : Message → List ℕ) (used : List (ℕ × Counter)) (made : List Message) (history : BusHistory)
+    (stop : Option MemStop) (evidence : Option Evidence) : Type 0 where
+  pub account : AccountsForLies tag_of used made history (λ place. stop ≡ Some (Tampered place)) evidence
+  pub genuine : IfSome evidence (IsEvidence tag_of made)
+
+-- The counter is the line's last, and the place of the line holds what was tagged under it.
+pub record IsCurrent (tag_of : Message → List ℕ) (used : List (ℕ × Counter)) (made : List Message) (written : Place → List ℕ)
+    (line : ℕ) (counter : Counter) : Type 0 where
+  pub last : last_pair line used ≡ Some counter
+  pub cipher : List ℕ
+  pub made_last : last_data line made ≡ Some (counter, cipher)
+  pub only : (other : List ℕ) → Contains made (Line line counter other) → other ≡ cipher
+  pub stored : written (line_place line) ≡ sealed_line tag_of line counter cipher
+
+-- why a call stopped, if it did
+abbrev pub stop_of : {A : Type 0} → Result A MemStop → Option MemStop
+stop_of (Ok value) = None
+stop_of (Err stop) = Some stop
+
+-- A checked read changes neither the messages nor what was written. It is one read of the line's place, or none where
+-- there was no memory for it.
+pub record ReadsOnce {T : Type 0} (line : ℕ) (old : BusHistory) (engine : TagEngineView T) (new : BusHistory)
+    (engine' : TagEngineView T) (stop : Option MemStop) : Type 0 where
+  pub made : engine'.made ≡ engine.made
+  pub room : engine'.room ≡ engine.room
+  pub written : new.written ≡ old.written
+  pub once : new.accesses ≡ more_by 1 old.accesses ⊎ (stop ≡ Some NoMemory)
+  pub counted : AreCounted old new 0
+  pub rose : stop ≢ Some NoMemory → Rose (old.reads (line_place line)) (new.reads (line_place line))
+  pub refused : stop ≡ Some NoMemory → (new ≡ old) × (engine' ≡ engine)
+
+-- A write changes what the line's place holds and nothing else of the bus, but that an access is counted.
+pub record WritesOnce (line : ℕ) (bytes : List ℕ) (old new : BusHistory) : Type 0 where
+  pub written : new.written ≡ at_place (line_place line) bytes old.written
+  pub reads : new.reads ≡ old.reads
+  pub lies : new.lies ≡ old.lies
+  pub lie : new.lie ≡ old.lie
+  pub once : new.accesses ≡ more_by 1 old.accesses
+  pub counted : AreCounted old new 1

@@ -1,0 +1,132 @@
+// Each public call once with ample memory. A tag is what its tagger says, put together by hand: 0x44, the line and the
+// page's counter, the lowest byte first, the line's own counter, and the first two bytes of the ciphertext.
+ghost use Rattle.std.specs.Prelude.{[], ◌∷◌, refl, replicate, slice_index};
+
+use crate::{read_line, write_line};
+use bus_model::{Bus, FlipBus, HonestBus};
+use sec_base::{Counter, Evidence, Geometry, MemStop, Place, Sealed, Tagger};
+use std::test::Fail;
+use tag_engine::TagEngine;
+
+const FIRST: Counter = Counter { page: 1, line: 0 };
+
+const SECOND: Counter = Counter { page: 2, line: 3 };
+
+// Gives the first 16 bytes of a data line's message, and zeros for a node.
+#[derive(Drop)]
+struct FirstBytes;
+
+impl Tagger for FirstBytes {
+    ghost data_tag_of = { λ _ m. slice_index m 0 ∷ slice_index m 1 ∷ slice_index m 2 ∷ slice_index m 3 ∷ slice_index m 4
+        ∷ slice_index m 5 ∷ slice_index m 6 ∷ slice_index m 7 ∷ slice_index m 8 ∷ slice_index m 9 ∷ slice_index m 10
+        ∷ slice_index m 11 ∷ slice_index m 12 ∷ slice_index m 13 ∷ slice_index m 14 ∷ slice_index m 15 ∷ [] };
+
+    ghost node_tag_of = { λ _ _. replicate 16 0 };
+
+    ghost data_tag_long = { λ _ _. refl };
+
+    ghost node_tag_long = { λ _ _. refl };
+
+    fn data_tag(&self, m: &[u8; 78]) -> [u8; 16] {
+        [
+            m[0], m[1], m[2], m[3], m[4], m[5], m[6], m[7], m[8], m[9], m[10], m[11], m[12], m[13],
+            m[14], m[15],
+        ]
+    }
+
+    fn node_tag(&self, _: &[u8; 70]) -> [u8; 16] {
+        [0; 16]
+    }
+}
+
+// Gives zeros to every message.
+#[derive(Drop)]
+struct Zeros;
+
+impl Tagger for Zeros {
+    ghost data_tag_of = { λ _ _. replicate 16 0 };
+
+    ghost node_tag_of = { λ _ _. replicate 16 0 };
+
+    ghost data_tag_long = { λ _ _. refl };
+
+    ghost node_tag_long = { λ _ _. refl };
+
+    fn data_tag(&self, _: &[u8; 78]) -> [u8; 16] {
+        [0; 16]
+    }
+
+    fn node_tag(&self, _: &[u8; 70]) -> [u8; 16] {
+        [0; 16]
+    }
+}
+
+#[test]
+fn what_was_written_last_is_read(rt: HostRuntime) -> Result<(), Fail> {
+    let geometry = Geometry::new(1).ok_or("no geometry")?;
+    let mut bus = HonestBus::new(rt.alloc(), geometry)?;
+    let mut tags = TagEngine::new(rt.alloc(), FirstBytes, geometry)?;
+    tags.reserve(2)?;
+    write_line(&mut bus, &mut tags, 64, FIRST, &[7; 64])?;
+    assert_eq!(rt; read_line(&mut bus, &mut tags, 64, FIRST), Ok([7; 64]));
+    write_line(&mut bus, &mut tags, 64, SECOND, &[8; 64])?;
+    assert_eq!(rt; read_line(&mut bus, &mut tags, 64, SECOND), Ok([8; 64]));
+    let stale = Err(MemStop::Tampered(Place::Line(64)));
+    assert_eq!(rt; read_line(&mut bus, &mut tags, 64, FIRST), stale);
+    let written = Sealed {
+        cipher: [8; 64],
+        tag: [0x44, 64, 0, 0, 0, 2, 0, 0, 0, 0, 0, 0, 0, 3, 8, 8],
+    };
+    assert_eq!(rt; bus.read_data(64)?, written);
+    let (made, evidence) = tags.finish();
+    assert_eq!(rt; made.len(), 2);
+    assert_eq!(rt; evidence, None);
+    Ok(())
+}
+
+#[test]
+fn a_flipped_bit_is_tampering_or_evidence(rt: HostRuntime) -> Result<(), Fail> {
+    let geometry = Geometry::new(1).ok_or("no geometry")?;
+    let tampered = Err(MemStop::Tampered(Place::Line(64)));
+    let mut sixes = [6; 64];
+    sixes[2] = 7;
+    let rows = [
+        ("the first byte", 0, tampered, false),
+        ("the last that the tag covers", 1, tampered, false),
+        ("the first that it does not", 2, Ok(sixes), true),
+        ("the first of the tag", 64, tampered, false),
+        ("the last of the tag", 79, tampered, false),
+    ];
+    for (case, offset, wanted, shown) in rows {
+        let mut bus = FlipBus::new(rt.alloc(), geometry, Place::Line(64), 1, offset, 1)?;
+        let mut tags = TagEngine::new(rt.alloc(), FirstBytes, geometry)?;
+        tags.reserve(1)?;
+        write_line(&mut bus, &mut tags, 64, FIRST, &[6; 64])?;
+        assert_eq!(rt; read_line(&mut bus, &mut tags, 64, FIRST), wanted, "{case}");
+        assert_eq!(rt; bus.lies(), 1, "{case}");
+        let (_made, evidence) = tags.finish();
+        assert_eq!(rt; evidence.is_some(), shown, "{case}");
+    }
+    Ok(())
+}
+
+#[test]
+fn a_line_that_was_never_tagged_is_evidence(rt: HostRuntime) -> Result<(), Fail> {
+    let geometry = Geometry::new(1).ok_or("no geometry")?;
+    let mut bus = HonestBus::new(rt.alloc(), geometry)?;
+    let mut tags = TagEngine::new(rt.alloc(), Zeros, geometry)?;
+    assert_eq!(rt; read_line(&mut bus, &mut tags, 255, FIRST), Ok([0; 64]));
+    let (made, evidence) = tags.finish();
+    assert_eq!(rt; made.len(), 0);
+    let forgery = Evidence::Forgery {
+        line: 255,
+        counter: FIRST,
+        sealed: Sealed {
+            cipher: [0; 64],
+            tag: [0; 16],
+        },
+        made_count: 0,
+    };
+    assert_eq!(rt; evidence, Some(forgery));
+    Ok(())
+}

@@ -1,0 +1,156 @@
+-- The theorem of a run, from what it hands out of its memory and what its session says.
+use Rattle.std.proofs.Common.{◌≡◌, ◌≢◌, ◌⊎◌, ◌↔◌, inl, inr, ◌<◌, ◌≤◌, ℕ, List, Option, Some, None, IfSome, length, refl, subst, arith}
+use Rattle.sec_base.specs.Count.{Rose, RoseBy}
+use Rattle.sec_base.specs.Evidence.{IsEvidence}
+use Rattle.sec_base.specs.Gain.{Gain}
+use Rattle.sec_base.specs.Geometry.{line_count}
+use Rattle.sec_base.specs.Sink.{SinkState, Gains}
+use Rattle.sec_base.specs.declared.counter.Counter.{Counter}
+use Rattle.sec_base.specs.declared.ending.Ending.{Ending}
+use Rattle.sec_base.specs.declared.ending.Ending.TheVariants.{Halted, Trapped, OutOfSteps, Tampered, Spent, WriteFault, NoMemory}
+use Rattle.sec_base.specs.declared.evidence.Evidence.{Evidence}
+use Rattle.sec_base.specs.declared.message.Message.{Message}
+use Rattle.sec_base.specs.declared.place.Place.{Place}
+use Rattle.sec_base.specs.declared.place.Place.TheVariants.{Line}
+use Rattle.sec_base.specs.declared.stop.MemStop.{MemStop}
+use Rattle.bus_model.specs.BusHistory.{BusHistory}
+use Rattle.bus_model.specs.FirstLie.{AccountsForLies, HonestOrCaught, IsOfFirstLie}
+use Rattle.pad_stream.proofs.RisingCounters.{rising_once}
+use Rattle.rv32_core.specs.Effect.{next}
+use Rattle.rv32_core.specs.Follows.{Follows, IsWhole}
+use Rattle.rv32_core.specs.Machine.{Machine, plain}
+use Rattle.rv32_core.specs.Outcome.{prints_of}
+use Rattle.rv32_core.specs.Turnover.{turnover}
+use Rattle.rv32_core.proofs.Plain.{whole_run}
+use Rattle.rv32_run.specs.Session.{CarriesEnding, IsMemoryEnding, IsStop}
+use Rattle.checked_bus.specs.Steps.{IsAccounted}
+use Rattle.page_reencrypt.specs.SealedLines.{IsProtected}
+use Rattle.chip_run.specs.Run.{Terms, WritesItsMessages, IsWrittenOut, HoldsAlways, HoldsWithoutEvidence, ShowsEvidence, RunsProtected}
+use Rattle.chip_run.specs.declared.record.RunRecord.{RunRecord}
+use Rattle.chip_run.proofs.Closing.{ended_account, never_wanting, stopped_spent}
+
+-- What a run hands out of a memory that is protected, the false answers of whose bus are accounted for, and that kept
+-- this stop.
+pub record OfMemory (terms : Terms) (before after : BusHistory) (run : RunRecord) : Type 0 where
+  pub stopped : Option MemStop
+  pub carries : CarriesEnding stopped (Some run.ending)
+  pub kept : IsProtected terms.tag_of terms.levels terms.page_limit after run.made run.used stopped
+  pub accounted : IsAccounted terms.tag_of run.used run.made after stopped run.evidence
+  pub accesses : WritesItsMessages before after run.made run.ending
+  pub reads : (place : Place) → RoseBy 0 (before.reads place) (after.reads place)
+
+-- What the instructions came to, where a memory held them or stopped before the first one.
+pub record OfSession (terms : Terms) (out out' : SinkState) (printed : List ℕ) (before after : BusHistory) (run : RunRecord) : Type 0 where
+  pub gained : Gains out printed out'
+  pub within : run.retired ≤ terms.budget
+  pub budget_used : run.ending ≡ OutOfSteps → run.retired ≡ terms.budget
+  pub early : IsStop run.ending → 0 < terms.budget → run.retired < terms.budget
+  pub write_fault : run.ending ≡ WriteFault → Rose out.faults out'.faults
+  pub faults : out.faults ≤ out'.faults
+  pub follows : run.evidence ≡ None → Follows terms.start terms.budget run.retired run.ending printed
+  pub written_out : run.evidence ≡ None → ¬ IsMemoryEnding run.ending →
+      IsWrittenOut terms.enc_key (line_count terms.levels) run.made (plain terms.start run.retired).state.memory
+  pub out_of_steps : run.evidence ≡ None → ¬ IsMemoryEnding run.ending → ((run.ending ≡ OutOfSteps)
+      ↔ ((run.retired ≡ terms.budget) × ((plain terms.start terms.budget).exit ≡ None)))
+  pub prints : run.evidence ≡ None → run.ending ≡ WriteFault → 0 < length (prints_of (next (plain terms.start run.retired).state))
+  pub turned : run.evidence ≡ None → Gain (line_count terms.levels) (λ line. before.reads (Line line)) (λ line. after.reads (Line line))
+      (turnover terms.start run.retired)
+  pub report : run.report ≡ None
+
+-- Where no answer was false
+
+no_evidence : (made : List Message) (history : BusHistory) (evidence : Option Evidence) →
+    ((shown : Evidence) → evidence ≡ Some shown → IsOfFirstLie made history shown) → history.lies ≡ 0 → evidence ≡ None
+no_evidence made history None shown honest = refl
+no_evidence made history (Some evidence) shown honest = absurd (omega (arith, (shown evidence refl).lies))
+
+untampered : (tag_of : Message → List ℕ) (used : List (ℕ × Counter)) (made : List Message) (history : BusHistory) (ending : Ending) → HonestOrCaught tag_of used made history (λ place. ending ≡ Tampered place) → history.lies ≡ 0 → (place : Place) → ending ≢ Tampered place
+untampered tag_of used made history ending (inl honest) none = honest.untampered
+untampered tag_of used made history ending (inr caught) none = absurd (omega (arith, caught.lies))
+
+spent_or_not : (ending : Ending) → ((page : ℕ) → ending ≢ Spent page) ⊎ ((page : ℕ) × (ending ≡ Spent page))
+spent_or_not (Halted code) = inl (λ page e. cc)
+spent_or_not (Trapped cause pc) = inl (λ page e. cc)
+spent_or_not OutOfSteps = inl (λ page e. cc)
+spent_or_not (Tampered place) = inl (λ page e. cc)
+spent_or_not (Spent page) = inr (page, refl)
+spent_or_not WriteFault = inl (λ page e. cc)
+spent_or_not NoMemory = inl (λ page e. cc)
+
+-- it is the plain machine's over the whole budget, or a page was spent
+honest_run : (start : Machine) (budget n : ℕ) (ending : Ending) (printed : List ℕ) (tag_of : Message → List ℕ) (used : List (ℕ × Counter)) (made : List Message) (history : BusHistory) (evidence : Option Evidence) →
+    history.lies ≡ 0 → AccountsForLies tag_of used made history (λ place. ending ≡ Tampered place) evidence → (evidence ≡ None → Follows start budget n ending printed) →
+    ending ≢ WriteFault → ending ≢ NoMemory → IsWhole start budget n ending ⊎ ((page : ℕ) × (ending ≡ Spent page))
+honest_run start budget n ending printed tag_of used made history evidence honest account follows written memory =
+    let none = no_evidence made history evidence account.shown honest in
+    let true_answers = untampered tag_of used made history ending (account.answers none) honest in
+    elim (spent_or_not ending) [
+      | inl unspent ↦ inl (whole_run start budget n ending printed (follows none) written memory true_answers unspent)
+      | inr spent ↦ inr spent
+    ]
+
+-- The theorem
+
+if_shown : (evidence : Option Evidence) (P : Evidence → Type 0) → IfSome evidence P → (shown : Evidence) → evidence ≡ Some shown → P shown
+if_shown None P holds shown is = absurd (cc)
+if_shown (Some evidence) P holds shown is = let same : evidence ≡ shown = cc in subst P same holds
+
+all_shown : (evidence : Option Evidence) (P : Evidence → Type 0) → ((shown : Evidence) → evidence ≡ Some shown → P shown) → IfSome evidence P
+all_shown None P shown = tt
+all_shown (Some evidence) P shown = shown evidence refl
+
+module _ (terms : Terms) (out out' : SinkState) (printed : List ℕ) (before after : BusHistory) (run : RunRecord)
+    (memory : OfMemory terms before after run) (session : OfSession terms out out' printed before after run) where
+  account : AccountsForLies terms.tag_of run.used run.made after (λ place. run.ending ≡ Tampered place) run.evidence
+  account = ended_account terms.tag_of run.used run.made after memory.stopped run.ending run.evidence memory.carries memory.accounted.account
+
+  holds_always : HoldsAlways terms out out' before after run
+  holds_always = record {
+    within = session.within;
+    budget_used = session.budget_used;
+    early = session.early;
+    write_fault = session.write_fault;
+    faults = session.faults;
+    no_repeat = rising_once run.used memory.kept.rising;
+    rising = memory.kept.rising;
+    inside = memory.kept.inside;
+    counters = memory.kept.within;
+    unskipped = memory.kept.unskipped;
+    spent = λ page is. memory.kept.spent page (stopped_spent memory.stopped run.ending page memory.carries is);
+    paired = memory.kept.paired;
+    sealed = memory.kept.sealed;
+    holds_last = λ some. memory.kept.holds_last (never_wanting memory.stopped run.ending memory.carries some);
+    nodes = memory.kept.nodes;
+    accesses = memory.accesses;
+    reads = memory.reads;
+    levels_are = memory.kept.bus_levels;
+    whole = λ faultless honest some.
+        honest_run terms.start terms.budget run.retired run.ending printed terms.tag_of run.used run.made after run.evidence honest account session.follows
+        (λ fault. faultless (session.write_fault fault)) some;
+    report = session.report;
+  }
+
+  without_evidence : run.evidence ≡ None → HoldsWithoutEvidence terms printed before after run
+  without_evidence quiet = record {
+    follows = session.follows quiet;
+    answers = account.answers quiet;
+    written_out = session.written_out quiet;
+    out_of_steps = session.out_of_steps quiet;
+    prints = session.prints quiet;
+    turnover = session.turned quiet;
+  }
+
+  shows : (evidence : Evidence) → run.evidence ≡ Some evidence → ShowsEvidence terms after run evidence
+  shows evidence is = record {
+    genuine = if_shown run.evidence (IsEvidence terms.tag_of run.made) memory.accounted.genuine evidence is;
+    first_lie = account.shown evidence is;
+  }
+
+  pub runs_protected : RunsProtected terms out out' before after run
+  runs_protected = record {
+    printed = printed;
+    gained = session.gained;
+    always = holds_always;
+    without_evidence = without_evidence;
+    with_evidence = all_shown run.evidence (ShowsEvidence terms after run) shows;
+  }

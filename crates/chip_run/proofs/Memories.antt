@@ -1,0 +1,201 @@
+-- What a run hands out of its memory, from one that was booted to one that is given up.
+use Rattle.std.proofs.Common.{◌≡◌, ◌≢◌, inl, ℕ, ◌+◌, ◌<◌, ◌≤◌, List, [], ◌++◌, length, length-append, Option, Some, None, IfSome, refl, sym, ap, ◌∙◌, subst, arith}
+use Rattle.sec_base.specs.Count.{RoseBy}
+use Rattle.sec_base.specs.Evidence.{IsEvidence}
+use Rattle.sec_base.specs.Geometry.{line_count}
+use Rattle.sec_base.specs.LastMessage.{data_pairs, last_at}
+use Rattle.sec_base.specs.declared.counter.Counter.{Counter}
+use Rattle.sec_base.specs.declared.ending.Ending.{Ending}
+use Rattle.sec_base.specs.declared.ending.Ending.TheVariants.{NoMemory}
+use Rattle.sec_base.specs.declared.evidence.Evidence.{Evidence}
+use Rattle.sec_base.specs.declared.message.Message.{Message}
+use Rattle.sec_base.specs.declared.place.Place.{Place}
+use Rattle.sec_base.specs.declared.place.Place.TheVariants.{Line as line_place, Node}
+use Rattle.sec_base.specs.declared.stop.MemStop.{MemStop}
+use Rattle.sec_base.specs.declared.stop.MemStop.TheVariants.{Tampered, NoMemory as no_memory}
+use Rattle.bus_model.specs.BusHistory.{BusHistory, NothingWritten}
+use Rattle.tag_engine.specs.Tag.{engine_tag}
+use Rattle.tag_engine.specs.TagEngine.{TagEngineView, tags_of}
+use Rattle.pad_stream.proofs.RisingCounters.{rising_nothing}
+use Rattle.rv32_core.specs.Machine.{Machine}
+use Rattle.rv32_run.specs.Session.{CarriesEnding}
+use Rattle.checked_bus.specs.Accesses.{AreCounted}
+use Rattle.checked_bus.specs.Steps.{IsAccounted}
+use Rattle.page_reencrypt.specs.Contents.{AreWithin, HoldsSealed, contents_of}
+use Rattle.page_reencrypt.specs.SealedLines.{AccountsForAll, AreNew, AreProtected, IsProtected, IsUnbooted, Moves, SealedLinesView, contents, enc_key, evidence, levels, made, unwritten, used}
+use Rattle.secure_memory.specs.SecureRam.{IsMoved, SecureRamView}
+use Rattle.chip_run.specs.Run.{Terms, WritesItsMessages}
+use Rattle.chip_run.specs.declared.record.RunRecord.{RunRecord}
+use Rattle.checked_bus.proofs.Steps.{counted_on}
+use Rattle.page_reencrypt.proofs.Moves.{moves_on}
+use Rattle.chip_run.proofs.Closing.{unwritten_most}
+use Rattle.chip_run.proofs.Ends.{OfMemory}
+
+-- The false answers are accounted for as it begins
+
+none_shown : (evidence : Option Evidence) (P : Evidence → Type 0) → evidence ≡ None → IfSome evidence P
+none_shown evidence P none = subst (λ (e : Option Evidence). IfSome e P) (sym none) tt
+
+begins_accounted : (tag_of : Message → List ℕ) (used : List (ℕ × Counter)) (made : List Message) (history : BusHistory) (stopped : Option MemStop) (evidence : Option Evidence) →
+    history.lies ≡ 0 → evidence ≡ None → ((place : Place) → stopped ≢ Some (Tampered place)) → IsAccounted tag_of used made history stopped evidence
+begins_accounted tag_of used made history stopped evidence none quiet untampered = record {
+  account = record {
+    answers = λ _. inl (record { lies = none; untampered = untampered });
+    shown = λ shown is. absurd (cc);
+  };
+  genuine = none_shown evidence (IsEvidence tag_of made) quiet;
+}
+
+-- A run that found no memory to begin with
+
+nothing_within : (limit : ℕ) → AreWithin limit []
+nothing_within limit = record {
+  started = λ line counter listed. absurd (omega (arith, listed.1));
+  limited = λ line counter listed. absurd (omega (arith, listed.1));
+}
+
+nothing_sealed : (tag_of : Message → List ℕ) (levels : ℕ) (before after : BusHistory) → before.levels ≡ levels → NothingWritten before →
+    ((line : ℕ) → after.written (line_place line) ≡ before.written (line_place line)) → HoldsSealed tag_of (line_count levels) [] [] after.written
+nothing_sealed tag_of levels before after as_many empty same = record {
+  holds = λ line inside.
+      inl (same line ∙ empty.zeros (line_place line) (subst (λ (l : ℕ). line < line_count l) (sym as_many) inside));
+}
+
+unbooted_kept : (tag_of : Message → List ℕ) (levels limit : ℕ) (before after : BusHistory) → before.levels ≡ levels → NothingWritten before → IsUnbooted before after →
+    IsProtected tag_of levels limit after [] [] (Some no_memory)
+unfolding data_pairs last_at
+unbooted_kept tag_of levels limit before after as_many empty unbooted = record {
+  bus_levels = unbooted.booted.levels ∙ as_many;
+  inside = λ line counter listed. absurd (omega (arith, listed.1));
+  rising = rising_nothing;
+  within = nothing_within limit;
+  unskipped = record { reached = λ line counter listed. absurd (omega (arith, listed.1)) };
+  paired = refl;
+  long = λ line counter cipher listed. absurd (omega (arith, listed.1));
+  sealed = nothing_sealed tag_of levels before after as_many empty unbooted.booted.lines;
+  nodes = record {
+    zeros = λ level index inside. unbooted.nodes level index ∙ empty.zeros (Node level index) (rw as_many inside);
+  };
+  no_nodes = λ level index. refl;
+  holds_last = λ some. absurd (some refl);
+  spent = λ page is. absurd (cc);
+}
+
+unbooted_accesses : (before after : BusHistory) → IsUnbooted before after → WritesItsMessages before after [] NoMemory
+unbooted_accesses before after unbooted = record {
+  writes = 0;
+  counted = unbooted.counted;
+  at_most = omega arith;
+  at_least = omega arith;
+}
+
+-- a run's record by its fields
+abbrev run_of : ℕ → Ending → Option Evidence → List Message → List (ℕ × Counter) → Option (List ℕ) → RunRecord
+run_of retired ending evidence made used report =
+    record { retired = retired; ending = ending; evidence = evidence; made = made; used = used; report = report }
+
+pub unbooted_memory : (terms : Terms) (before after : BusHistory) (run : RunRecord) → before.levels ≡ terms.levels → before.lies ≡ 0 → NothingWritten before → IsUnbooted before after →
+    run.ending ≡ NoMemory → run.made ≡ [] → run.used ≡ [] → run.evidence ≡ None → OfMemory terms before after run
+unbooted_memory terms before after run as_many honest empty unbooted ended none_made none_used none =
+    let same : run_of run.retired NoMemory None [] [] run.report ≡ run =
+    ap (λ (ending : Ending). run_of run.retired ending None [] [] run.report) (sym ended)
+    ∙ ap (λ (evidence : Option Evidence). run_of run.retired run.ending evidence [] [] run.report) (sym none)
+    ∙ ap (λ (made : List Message). run_of run.retired run.ending run.evidence made [] run.report) (sym none_made)
+    ∙ ap (λ (used : List (ℕ × Counter)). run_of run.retired run.ending run.evidence run.made used run.report) (sym none_used) in
+    subst (λ (r : RunRecord). OfMemory terms before after r) same (record {
+      stopped = Some no_memory;
+      carries = refl;
+      kept = unbooted_kept terms.tag_of terms.levels terms.page_limit before after as_many empty unbooted;
+      accounted = begins_accounted terms.tag_of [] [] after (Some no_memory) None (unbooted.booted.lies ∙ honest) refl (λ place is. cc);
+      accesses = unbooted_accesses before after unbooted;
+      reads = λ place. let same : after.reads place ≡ before.reads place = ap (λ (reads : Place → ℕ). reads place) unbooted.booted.reads in omega (arith, same);
+    })
+
+-- A run that had a memory
+
+-- each access was a read of a line, or wrote a message of its own
+all_counted : (before begun after : BusHistory) (made made' more : List Message) (writes : ℕ) (stopped : Option MemStop) (ending : Ending) →
+    after.levels ≡ begun.levels → ((place : Place) → RoseBy 0 (begun.reads place) (after.reads place)) → RoseBy 0 begun.accesses after.accesses →
+    AreCounted before begun (length made) → AreCounted begun after writes → made' ≡ made ++ more → writes ≤ length more → length more ≤ writes + unwritten stopped →
+    CarriesEnding stopped (Some ending) → WritesItsMessages before after made' ending
+all_counted before begun after made made' more writes stopped ending levels reads accesses booted counted adds most least carries =
+    let as_long : length made' ≡ length made + length more = ap length adds ∙ length-append made more in
+    let wanting = unwritten_most stopped ending carries in
+    record {
+      writes = length made + writes;
+      counted = counted_on before begun after (length made) writes levels reads accesses booted counted;
+      at_most = omega (arith, as_long, most);
+      at_least = omega (arith, as_long, least, wanting);
+    }
+
+-- the lines outside, in other words for their parts
+abbrev in_words : {B T : Type 0} → SealedLinesView B T → B → T → ℕ → List ℕ → ℕ → List Message → Option Evidence → List (ℕ × Counter) → SealedLinesView B T
+in_words lines bus tagger depth key limit made evidence used = record {
+  bus = bus;
+  engine = record { tagger = tagger; levels = depth; made = made; evidence = evidence; room = lines.engine.room };
+  pads = record { key = key; used = used; room = lines.pads.room };
+  counters = lines.counters;
+  limit = limit;
+  stopped = lines.stopped;
+}
+
+same_lines : {B T : Type 0} (lines : SealedLinesView B T) (bus : B) (tagger : T) (depth : ℕ) (key : List ℕ) (limit : ℕ) (made' : List Message) (evidence' : Option Evidence) (used' : List (ℕ × Counter)) →
+    bus ≡ lines.bus → lines.engine.tagger ≡ tagger → levels lines ≡ depth → enc_key lines ≡ key → lines.limit ≡ limit → made' ≡ made lines → evidence' ≡ evidence lines → used' ≡ used lines →
+    lines ≡ in_words lines bus tagger depth key limit made' evidence' used'
+same_lines {B} {T} lines bus tagger depth key limit made' evidence' used' bus_is tagger_is depth_is key_is limit_is made_is evidence_is used_is =
+    ap (λ (b : B). in_words lines b lines.engine.tagger (levels lines) (enc_key lines) lines.limit (made lines) (evidence lines) (used lines)) (sym bus_is)
+    ∙ ap (λ (t : T). in_words lines bus t (levels lines) (enc_key lines) lines.limit (made lines) (evidence lines) (used lines)) tagger_is
+    ∙ ap (λ (l : ℕ). in_words lines bus tagger l (enc_key lines) lines.limit (made lines) (evidence lines) (used lines)) depth_is
+    ∙ ap (λ (k : List ℕ). in_words lines bus tagger depth k lines.limit (made lines) (evidence lines) (used lines)) key_is
+    ∙ ap (λ (n : ℕ). in_words lines bus tagger depth key n (made lines) (evidence lines) (used lines)) limit_is
+    ∙ ap (λ (xs : List Message). in_words lines bus tagger depth key limit xs (evidence lines) (used lines)) (sym made_is)
+    ∙ ap (λ (e : Option Evidence). in_words lines bus tagger depth key limit made' e (used lines)) (sym evidence_is)
+    ∙ ap (λ (xs : List (ℕ × Counter)). in_words lines bus tagger depth key limit made' evidence' xs) (sym used_is)
+
+module _ {B T : Type 0} (d n : T → List ℕ → List ℕ) (history : B → BusHistory) (bus_moved : B → B → Type 0) (bus : B) (tagger : T) (key : List ℕ) (depth limit : ℕ)
+    (booted lines : SealedLinesView B T) (new : AreNew history bus_moved bus tagger key depth limit booted) (moves : Moves history bus_moved (tags_of d n) booted lines) where
+  new_accounted : (history bus).lies ≡ 0 → AccountsForAll (tags_of d n) history booted
+  new_accounted honest =
+      begins_accounted (tags_of d n booted.engine) (used booted) (made booted) (history booted.bus) booted.stopped (evidence booted)
+      (new.booted.lies ∙ honest) new.quiet (λ place is. let going = new.going in cc)
+
+  pub run_reads : (place : Place) → RoseBy 0 ((history bus).reads place) ((history lines.bus).reads place)
+  run_reads place =
+      let same : (history booted.bus).reads place ≡ (history bus).reads place = ap (λ (reads : Place → ℕ). reads place) new.booted.reads in
+      omega (arith, same, moves.step.reads place)
+
+  pub run_memory : (start : Machine) (budget : ℕ) (closed : B) (run : RunRecord) → (history bus).lies ≡ 0 → AreProtected d n history lines →
+      run.made ≡ made lines → run.used ≡ used lines → run.evidence ≡ evidence lines → closed ≡ lines.bus → CarriesEnding lines.stopped (Some run.ending) →
+      OfMemory (record { start = start; budget = budget; levels = depth; page_limit = limit; tag_of = engine_tag (d tagger) (n tagger) depth; enc_key = key })
+      (history bus) (history closed) run
+  run_memory start budget closed run honest kept made_is used_is evidence_is bus_is carries =
+      let words = in_words lines closed tagger depth key limit run.made run.evidence run.used in
+      let same : lines ≡ words =
+      same_lines lines closed tagger depth key limit run.made run.evidence run.used bus_is (moves.step.tagger ∙ new.tagger_is) (moves.step.levels ∙ new.depth_is)
+      (moves.key ∙ new.key_is) (moves.limit ∙ new.limit_is) made_is evidence_is used_is in
+      record {
+        stopped = lines.stopped;
+        carries = carries;
+        kept = subst (λ (m : SealedLinesView B T). AreProtected d n history m) same kept;
+        accounted = subst (λ (m : SealedLinesView B T). AccountsForAll (tags_of d n) history m) same (moves.accounted (new_accounted honest));
+        accesses = subst (λ (b : B). WritesItsMessages (history bus) (history b) run.made run.ending) (sym bus_is)
+            (all_counted (history bus) (history booted.bus) (history lines.bus) (made booted) run.made moves.step.more moves.writes lines.stopped run.ending
+            moves.step.bus_levels moves.step.reads moves.step.accesses new.counted moves.counted (made_is ∙ moves.step.made) moves.at_most moves.at_least carries);
+        reads = λ place. subst (λ (b : B). RoseBy 0 ((history bus).reads place) ((history b).reads place)) (sym bus_is) (run_reads place);
+      }
+
+  -- all its bytes, in the words of the run
+  pub run_contents : (run : RunRecord) → run.made ≡ made lines → contents_of key (line_count depth) run.made ≡ contents lines
+  run_contents run made_is =
+      ap (contents_of key (line_count depth)) made_is
+      ∙ ap (λ (levels : ℕ). contents_of key (line_count levels) (made lines)) (sym (moves.step.levels ∙ new.depth_is))
+      ∙ ap (λ (k : List ℕ). contents_of k (line_count (levels lines)) (made lines)) (sym (moves.key ∙ new.key_is))
+
+-- what running on made of a memory in which a program was stored
+pub whole_moves : {B T : Type 0} (history : B → BusHistory) (bus_moved : B → B → Type 0) (tags : TagEngineView T → Message → List ℕ) → ((a b c : B) → bus_moved a b → bus_moved b c → bus_moved a c) →
+    (opened stored begun ended closed : SecureRamView B T) (storing running : List ℕ) → begun ≡ stored → closed ≡ ended →
+    IsMoved history bus_moved tags opened storing stored → IsMoved history bus_moved tags begun running ended → Moves history bus_moved tags opened.lines closed.lines
+whole_moves {B} {T} history bus_moved tags bus_moved_on opened stored begun ended closed storing running begins closes before after =
+    subst (λ (m : SecureRamView B T). Moves history bus_moved tags opened.lines m.lines) (sym closes)
+    (moves_on history bus_moved tags bus_moved_on opened.lines stored.lines ended.lines before.moves
+    (subst (λ (m : SecureRamView B T). Moves history bus_moved tags m.lines ended.lines) begins after.moves))

@@ -1,0 +1,138 @@
+-- What a run on protected memory comes to.
+use Rattle.std.specs.Prelude.{◌≡◌, ◌≢◌, ◌+◌, ◌<◌, ◌≤◌, ◌↔◌, ◌⊎◌, ℕ, List, None, IfSome, length, Contains}
+use Rattle.sec_base.specs.declared.counter.Counter.{Counter}
+use Rattle.sec_base.specs.declared.ending.Ending.{Ending}
+use Rattle.sec_base.specs.declared.ending.Ending.TheVariants.{Halted, Trapped, OutOfSteps, Tampered, Spent, WriteFault, NoMemory}
+use Rattle.sec_base.specs.declared.evidence.Evidence.{Evidence}
+use Rattle.sec_base.specs.declared.message.Message.{Message}
+use Rattle.sec_base.specs.declared.place.Place.{Place}
+use Rattle.sec_base.specs.declared.place.Place.TheVariants.{Line}
+use Rattle.sec_base.specs.Count.{Rose, RoseBy}
+use Rattle.sec_base.specs.Evidence.{IsEvidence}
+use Rattle.sec_base.specs.Gain.{Gain}
+use Rattle.sec_base.specs.Geometry.{line_count}
+use Rattle.sec_base.specs.LastMessage.{data_pairs}
+use Rattle.sec_base.specs.Lines.{line_at}
+use Rattle.sec_base.specs.Sink.{SinkState, Gains}
+use Rattle.bus_model.specs.BusHistory.{BusHistory}
+use Rattle.bus_model.specs.FirstLie.{HonestOrCaught, IsOfFirstLie}
+use Rattle.pad_stream.specs.Pads.{AreRising, NoRepeat, of_lines}
+use Rattle.rv32_core.specs.Effect.{next}
+use Rattle.rv32_core.specs.Follows.{Follows, IsWhole}
+use Rattle.rv32_core.specs.Machine.{Machine, plain}
+use Rattle.rv32_core.specs.Outcome.{prints_of}
+use Rattle.rv32_core.specs.Turnover.{turnover}
+use Rattle.rv32_run.specs.Session.{IsMemoryEnding, IsStop}
+use Rattle.checked_bus.specs.Accesses.{AreCounted}
+use Rattle.page_reencrypt.specs.Contents.{AreUnskipped, AreWithin, HoldsLast, HoldsSealed, IsSpent, NodesAreZeros, line_bytes}
+use Rattle.chip_run.specs.declared.record.RunRecord.{RunRecord}
+
+-- What a run is of: the plain machine as the program begins on its input, how many instructions may be retired, the
+-- levels of the memory's tree, how high a page counter may rise, the tags of messages, and the key that lines are
+-- encrypted under.
+pub record Terms : Type 0 where
+  pub start : Machine
+  pub budget : ℕ
+  pub levels : ℕ
+  pub page_limit : ℕ
+  pub tag_of : Message → List ℕ
+  pub enc_key : List ℕ
+
+-- how many lines may stand on the chip alone as a run ends
+abbrev pub most_left : ℕ
+most_left = 0
+
+-- All lines but those that are left on the chip have the memory's bytes.
+pub record IsWrittenOut (key : List ℕ) (lines : ℕ) (made : List Message) (memory : List ℕ) : Type 0 where
+  pub left : List ℕ
+  pub few : length left ≤ most_left
+  pub out : (line : ℕ) → line < lines → ¬ Contains left line → line_bytes key made line ≡ line_at memory line
+
+-- how many messages may be made that were not written: the last one, where the run ended out of memory
+abbrev pub unwritten_at : Ending → ℕ
+unwritten_at (Halted code) = 0
+unwritten_at (Trapped cause pc) = 0
+unwritten_at OutOfSteps = 0
+unwritten_at (Tampered place) = 0
+unwritten_at (Spent page) = 0
+unwritten_at WriteFault = 0
+unwritten_at NoMemory = 1
+
+-- There were as many accesses as reads of lines and messages, but for one message where the run ended out of memory; as
+-- far as counts that stand still at their ends can tell.
+pub record WritesItsMessages (before after : BusHistory) (made : List Message) (ending : Ending) : Type 0 where
+  pub writes : ℕ
+  pub counted : AreCounted before after writes
+  pub at_most : writes ≤ length made
+  pub at_least : length made ≤ writes + unwritten_at ending
+
+-- Whatever the bus answered.
+pub record HoldsAlways (terms : Terms) (out out' : SinkState) (before after : BusHistory) (run : RunRecord) : Type 0 where
+  -- the budget is kept, and ends the run only where it is used up; the memory and the sink end it only where the budget
+  -- allows one more instruction, or none at all
+  pub within : run.retired ≤ terms.budget
+  pub budget_used : run.ending ≡ OutOfSteps → run.retired ≡ terms.budget
+  pub early : IsStop run.ending → 0 < terms.budget → run.retired < terms.budget
+  -- a write fault is one of the sink
+  pub write_fault : run.ending ≡ WriteFault → Rose out.faults out'.faults
+  pub faults : out.faults ≤ out'.faults
+  -- no two entries of `used` are equal: each is of a line of the memory, and each line's counters rise, begin behind that
+  -- of a line that was never written, skip no page counter, and keep to the limit; a page is spent only where one of its
+  -- lines has the last counter that the limit allows
+  pub no_repeat : NoRepeat run.used
+  pub rising : AreRising run.used
+  pub inside : (line : ℕ) (counter : Counter) → Contains run.used (line, counter) → line < line_count terms.levels
+  pub counters : AreWithin terms.page_limit run.used
+  pub unskipped : AreUnskipped run.used
+  pub spent : (page : ℕ) → run.ending ≡ Spent page → IsSpent (line_count terms.levels) terms.page_limit run.used page
+  -- each line of the memory was tagged under the counters that it was encrypted under, in the same order
+  pub paired : data_pairs run.made ≡ of_lines (line_count terms.levels) run.used
+  -- each line's place that isn't zeros holds what was encrypted and tagged for it, and the last that was, unless the run
+  -- ended out of memory; a node's place holds zeros
+  pub sealed : HoldsSealed terms.tag_of (line_count terms.levels) run.made run.used after.written
+  pub holds_last : run.ending ≢ NoMemory → HoldsLast terms.tag_of (line_count terms.levels) run.made after.written
+  pub nodes : NodesAreZeros terms.levels after.written
+  -- the accesses are told by the lists and by the counts of reads, no count of reads fell, and the bus fits the memory
+  pub accesses : WritesItsMessages before after run.made run.ending
+  pub reads : (place : Place) → RoseBy 0 (before.reads place) (after.reads place)
+  pub levels_are : after.levels ≡ terms.levels
+  -- where no answer was false and the sink had no fault, it is the plain machine's run over the whole budget, or a page
+  -- was spent, or it ended out of memory
+  pub whole : ¬ (Rose out.faults out'.faults) → after.lies ≡ 0 → run.ending ≢ NoMemory →
+      IsWhole terms.start terms.budget run.retired run.ending ⊎ ((page : ℕ) × (run.ending ≡ Spent page))
+  -- nothing is signed yet
+  pub report : run.report ≡ None
+
+-- Where there is no evidence.
+pub record HoldsWithoutEvidence (terms : Terms) (printed : List ℕ) (before after : BusHistory) (run : RunRecord) : Type 0 where
+  -- the retired instructions and the printed bytes are a prefix of the plain machine's
+  pub follows : Follows terms.start terms.budget run.retired run.ending printed
+  -- no answer of the bus was false, and the run did not end as tampering; or one was, fails its check, was the last
+  -- access, and the run ended as tampering of its place
+  pub answers : HonestOrCaught terms.tag_of run.used run.made after (λ place. run.ending ≡ Tampered place)
+  -- where the memory did not end it, the last messages are the plain machine's memory
+  pub written_out : ¬ IsMemoryEnding run.ending →
+      IsWrittenOut terms.enc_key (line_count terms.levels) run.made (plain terms.start run.retired).state.memory
+  -- the budget ends it exactly where it is used up by a program that goes on
+  pub out_of_steps : ¬ IsMemoryEnding run.ending → ((run.ending ≡ OutOfSteps)
+      ↔ ((run.retired ≡ terms.budget) × ((plain terms.start terms.budget).exit ≡ None)))
+  -- a write fails only at an instruction that prints
+  pub prints : run.ending ≡ WriteFault → 0 < length (prints_of (next (plain terms.start run.retired).state))
+  -- the places of the lines were read together at least as often as the run turned over what the chip can hold
+  pub turnover : Gain (line_count terms.levels) (λ line. before.reads (Line line)) (λ line. after.reads (Line line))
+      (turnover terms.start run.retired)
+
+-- What evidence is: what it says, and of the first false answer.
+pub record ShowsEvidence (terms : Terms) (after : BusHistory) (run : RunRecord) (evidence : Evidence) : Type 0 where
+  pub genuine : IsEvidence terms.tag_of run.made evidence
+  pub first_lie : IsOfFirstLie run.made after evidence
+
+-- The theorem. A run on protected memory printed some bytes to the sink; without evidence it follows the plain machine,
+-- each false answer of the bus ended it as tampering at that access, and no pad encrypted two lines; or else it hands
+-- out evidence.
+pub record RunsProtected (terms : Terms) (out out' : SinkState) (before after : BusHistory) (run : RunRecord) : Type 0 where
+  pub printed : List ℕ
+  pub gained : Gains out printed out'
+  pub always : HoldsAlways terms out out' before after run
+  pub without_evidence : run.evidence ≡ None → HoldsWithoutEvidence terms printed before after run
+  pub with_evidence : IfSome run.evidence (ShowsEvidence terms after run)

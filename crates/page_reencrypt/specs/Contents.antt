@@ -1,0 +1,84 @@
+-- What a memory of lines holds, by the messages that were tagged and the key that lines are encrypted under.
+use Rattle.std.specs.Prelude.{◌==◌, ◌≡◌, ◌≢◌, ◌⊎◌, ℕ, ◌+◌, ◌<◌, ◌≤◌, List, length, replicate, Option, Some, None, Contains, unwrap_or}
+use Rattle.std.specs.List.{filter}
+use Rattle.sec_base.specs.declared.place.Place.{Place}
+use Rattle.sec_base.specs.declared.place.Place.TheVariants.{Line as line_place, Node}
+use Rattle.sec_base.specs.declared.counter.Counter.{Counter}
+use Rattle.sec_base.specs.declared.message.Message.{Message}
+use Rattle.sec_base.specs.declared.message.Message.TheVariants.{Line}
+use Rattle.sec_base.specs.LastMessage.{last_data, last_pair}
+use Rattle.sec_base.specs.Geometry.{page_of}
+use Rattle.sec_base.specs.Place.{IsPlace, zeros_of}
+use Rattle.sec_base.specs.Lines.{joined_lines}
+use Rattle.pad_stream.specs.Pad.{cipher_of}
+use Rattle.checked_bus.specs.SealedLine.{sealed_line}
+
+-- the bytes of a line, by its last message: its ciphertext, decrypted under its counter; zeros where it has none
+abbrev pub bytes_of : List ℕ → ℕ → Option (Counter × List ℕ) → List ℕ
+bytes_of key line None = replicate 64 0
+bytes_of key line (Some last) = cipher_of key line last.0 last.1
+
+abbrev pub line_bytes : List ℕ → List Message → ℕ → List ℕ
+line_bytes key made line = bytes_of key line (last_data line made)
+
+-- all lines, in order
+abbrev pub contents_of : List ℕ → ℕ → List Message → List ℕ
+contents_of key lines made = joined_lines (line_bytes key made) lines
+
+-- the counter of a line that was never written
+abbrev pub never_written : Counter
+never_written = record { page = 0; line = 0 }
+
+-- a line's counter: its last entry
+abbrev pub counter_in : List (ℕ × Counter) → ℕ → Counter
+counter_in used line = unwrap_or (last_pair line used) never_written
+
+-- the counter that the next write of a line uses
+abbrev pub next_counter : Counter → Counter
+next_counter counter = record { page = counter.page + 1; line = 0 }
+
+-- the last counter that a limit of page counters allows
+abbrev pub last_counter : ℕ → Counter
+last_counter limit = record { page = limit; line = 0 }
+
+-- how many entries name the line
+abbrev pub entries_of : List (ℕ × Counter) → ℕ → ℕ
+entries_of used line = length (filter (λ entry. entry.0 == line) used)
+
+-- No page counter was skipped: a line that was encrypted under (M, m) was encrypted M times at least.
+pub record AreUnskipped (used : List (ℕ × Counter)) : Type 0 where
+  pub reached : (line : ℕ) (counter : Counter) → Contains used (line, counter) → counter.page ≤ entries_of used line
+
+-- No line was encrypted under the counter of one that was never written, or under one past the limit.
+pub record AreWithin (limit : ℕ) (used : List (ℕ × Counter)) : Type 0 where
+  pub started : (line : ℕ) (counter : Counter) → Contains used (line, counter) → counter ≢ never_written
+  pub limited : (line : ℕ) (counter : Counter) → Contains used (line, counter) → counter.page ≤ limit
+
+-- some line of the page has the last counter that the limit allows
+pub record IsSpent (lines limit : ℕ) (used : List (ℕ × Counter)) (page : ℕ) : Type 0 where
+  pub line : ℕ
+  pub inside : line < lines
+  pub of_page : page_of line ≡ page
+  pub used_up : counter_in used line ≡ last_counter limit
+
+-- a line's place holds a message that was tagged, under a counter that was used for it, with its tag
+pub record IsSealed (tag_of : Message → List ℕ) (made : List Message) (used : List (ℕ × Counter)) (line : ℕ) (bytes : List ℕ) : Type 0 where
+  pub counter : Counter
+  pub cipher : List ℕ
+  pub made_there : Contains made (Line line counter cipher)
+  pub used_there : Contains used (line, counter)
+  pub sealed : bytes ≡ sealed_line tag_of line counter cipher
+
+-- Each line's place that isn't zeros holds such a message.
+pub record HoldsSealed (tag_of : Message → List ℕ) (lines : ℕ) (made : List Message) (used : List (ℕ × Counter)) (written : Place → List ℕ) : Type 0 where
+  pub holds : (line : ℕ) → line < lines →
+      (written (line_place line) ≡ zeros_of (line_place line)) ⊎ IsSealed tag_of made used line (written (line_place line))
+
+-- The place of each line that was written holds its last message, with its tag.
+pub record HoldsLast (tag_of : Message → List ℕ) (lines : ℕ) (made : List Message) (written : Place → List ℕ) : Type 0 where
+  pub holds : (line : ℕ) (counter : Counter) (cipher : List ℕ) → line < lines → last_data line made ≡ Some (counter, cipher) →
+      written (line_place line) ≡ sealed_line tag_of line counter cipher
+
+-- No place of a node holds anything: the counters stay on the chip.
+pub record NodesAreZeros (levels : ℕ) (written : Place → List ℕ) : Type 0 where
+  pub zeros : (level index : ℕ) → IsPlace levels (Node level index) → written (Node level index) ≡ zeros_of (Node level index)

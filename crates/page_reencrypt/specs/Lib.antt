@@ -1,0 +1,5 @@
+pub mod Contents
+pub mod LineLengths
+pub mod SealedLines
+pub mod SealedLinesInside
+pub mod NextWrites

@@ -1,0 +1,13 @@
+-- What contracts see of the lines outside, by what is in them.
+use Rattle.page_reencrypt.specs.SealedLines.{SealedLinesView}
+use Rattle.page_reencrypt.specs.declared.sealed_lines.SealedLines.TheInside.{Inside}
+
+abbrev pub sealed_lines_view : {B T : Type 0} → Inside B T → SealedLinesView B T
+sealed_lines_view lines = record {
+  bus = lines.bus;
+  engine = lines.tags;
+  pads = lines.pads;
+  counters = lines.counters.items;
+  limit = lines.page_limit;
+  stopped = lines.stopped;
+}

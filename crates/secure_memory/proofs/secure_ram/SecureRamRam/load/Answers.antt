@@ -1,0 +1,41 @@
+use Rattle.std.proofs.Common.{◌≡◌, ◌∷◌, [], Some, None, ap, ◌∙◌, subst, rules}
+use Rattle.sec_base.specs.Geometry.{line_of}
+use Rattle.sec_base.specs.Width.{number_at}
+use Rattle.sec_base.proofs.LineNumbers.{number_read}
+use Rattle.tag_engine.specs.TagEngine.{tags_of}
+use Rattle.page_reencrypt.specs.SealedLines.{contents as line_contents, lasting_stop}
+use Rattle.secure_memory.specs.SecureRam.{SecureRamView, IsMoved, LineHad, contents, stopped}
+use Rattle.secure_memory.proofs.LineCalls.{line_had, loaded_moved, stopped_unmoved}
+use Rattle.secure_memory.proofs.secure_ram.SecureRamRam.load.Goals as goal
+
+pub returns-in-Some-clause-moved : goal.returns-in-Some-clause-moved
+returns-in-Some-clause-moved g c =
+    let is : stopped c.args.self.now ≡ Some c.in-Some.stop = search rules in
+    stopped_unmoved g.B.Bus.history g.B.Bus.moved (tags_of g.T.Tagger.data_tag_of g.T.Tagger.node_tag_of) g.met.B.Bus.unmoved
+    c.args.self.now (line_of c.args.addr ∷ []) c.in-Some.stop is
+
+pub returns-clause-value : goal.returns-clause-value
+returns-clause-value g c = λ going sound.
+    let same = ap (λ (m : SecureRamView g.row.B.Denot g.row.T.Denot). m.lines) c.self.view_is in
+    let was_going : c.self.inside.lines.stopped ≡ None = search rules in
+    subst (λ (m : SecureRamView g.row.B.Denot g.row.T.Denot). c.read.result ≡ number_at (contents m) c.args.addr c.args.width) c.self.view_is
+    (number_read (line_contents c.self.inside.lines) c.in_ok-line.line c.args.addr c.read.result c.args.width
+    c.requires.aligned (c.in_ok-line.ensures.value (ap lasting_stop was_going) sound) c.read.ensures.value)
+
+pub returns-clause-moved : goal.returns-clause-moved
+returns-clause-moved g c =
+    let was_going : c.self.inside.lines.stopped ≡ None = search rules in
+    subst (λ (m : SecureRamView g.row.B.Denot g.row.T.Denot).
+    IsMoved g.B.Bus.history g.B.Bus.moved (tags_of g.T.Tagger.data_tag_of g.T.Tagger.node_tag_of) m (line_of c.args.addr ∷ []) (record { lines = c.read_line.new.self }))
+    c.self.view_is
+    (loaded_moved g.B.Bus.history g.B.Bus.moved (tags_of g.T.Tagger.data_tag_of g.T.Tagger.node_tag_of)
+    (record { lines = c.self.inside.lines }) (record { lines = c.read_line.new.self }) (line_of c.args.addr) was_going c.in_ok-line.ensures.moved)
+
+pub returns-clause-read : goal.returns-clause-read
+returns-clause-read g c = λ quiet.
+    let was_going : c.self.inside.lines.stopped ≡ None = search rules in
+    subst (λ (m : SecureRamView g.row.B.Denot g.row.T.Denot). LineHad g.B.Bus.history m (record { lines = c.read_line.new.self }) (line_of c.args.addr))
+    c.self.view_is
+    (line_had g.B.Bus.history g.B.Bus.moved (tags_of g.T.Tagger.data_tag_of g.T.Tagger.node_tag_of)
+    (record { lines = c.self.inside.lines }) (record { lines = c.read_line.new.self }) (line_of c.args.addr)
+    c.in_ok-line.ensures.moved (c.in_ok-line.ensures.goes_on ∙ was_going) quiet)

@@ -1,0 +1,2 @@
+pub mod SecureRam
+pub mod Moving

@@ -1,0 +1,138 @@
+-- What calls make of a memory, one after another.
+use Rattle.std.proofs.Common.{◌≡◌, ◌⊎◌, inl, inr, ℕ, ◌<◌, List, [], ◌++◌, map, get_or, Option, Some, None, Contains, length, refl, ap, sym, ◌∙◌, subst, arith}
+use Rattle.std.proofs.lemmas.List.{get_or-map, length-map}
+use Rattle.std.proofs.lemmas.List.Elements.{Contains-append_cases, Contains-append_left, Contains-append_right, Contains-get_or}
+use Rattle.sec_base.specs.Geometry.{page_of}
+use Rattle.sec_base.specs.LastMessage.{data_part, last_data, last_node, node_part}
+use Rattle.sec_base.specs.declared.message.Message.{Message}
+use Rattle.sec_base.specs.declared.place.Place.TheVariants.{Line as line_place, Node}
+use Rattle.sec_base.proofs.LastMessages.{none_front}
+use Rattle.bus_model.specs.BusHistory.{BusHistory}
+use Rattle.tag_engine.specs.TagEngine.{TagEngineView}
+use Rattle.page_reencrypt.specs.SealedLines.{Moves}
+use Rattle.page_reencrypt.proofs.Moves.{moves_not, moves_on}
+use Rattle.secure_memory.specs.SecureRam.{SecureRamView, IsMoved, LineHad, PageHad, PageRead, WereHad, cached_pages, evidence, held_lines, made, pages_on_chip, stopped}
+
+none_contained : {A : Type 0} (x : A) → Contains [] x → ⊥
+none_contained x (k, below, at) = omega arith
+
+-- where something was, there is something
+pub was_none : {A : Type 0} (old new : Option A) → ((x : A) → old ≡ Some x → new ≡ Some x) → new ≡ None → old ≡ None
+was_none None new kept none = refl
+was_none (Some x) new kept none = let still = kept x refl in absurd (cc)
+
+-- what stands in a list that was mapped came from something
+mapped_from : (f : ℕ → ℕ) (items : List ℕ) (y : ℕ) → Contains (map f items) y → (x : ℕ) × Contains items x × (f x ≡ y)
+mapped_from f items y (k, below, at) =
+    let inside : k < length items = omega (arith, below, length-map {A = ℕ} {B = ℕ}) in
+    (get_or items k 0, Contains-get_or items k 0 inside, sym (get_or-map f items k 0 y inside) ∙ at)
+
+-- the page of a held line, and a cached page, are among those of which something is on the chip
+mapped_there : (f : ℕ → ℕ) (items : List ℕ) (x : ℕ) → Contains items x → Contains (map f items) (f x)
+mapped_there f items x (k, below, at) =
+    (k, omega (arith, below, length-map {A = ℕ} {B = ℕ}), get_or-map f items k x (f x) below ∙ ap f at)
+
+on_chip_of_line : (held cached : List ℕ) (line : ℕ) → Contains held line → Contains (map page_of held ++ cached) (page_of line)
+on_chip_of_line held cached line within = Contains-append_left (map page_of held) cached (page_of line) (mapped_there page_of held line within)
+
+on_chip_of_page : (held cached : List ℕ) (page : ℕ) → Contains cached page → Contains (map page_of held ++ cached) page
+on_chip_of_page held cached page within = Contains-append_right (map page_of held) cached page within
+
+module _ {B T : Type 0} (history : B → BusHistory) (bus_moved : B → B → Type 0) (tags : TagEngineView T → Message → List ℕ) where
+  module _ (first second third : SecureRamView B T) where
+    -- What was had before further calls is had after them
+    pub line_sooner : (line : ℕ) → Moves history bus_moved tags second.lines third.lines →
+        LineHad history first second line → LineHad history first third line
+    line_sooner line moves (inl held) = inl held
+    line_sooner line moves (inr (inl untagged)) = inr (inl untagged)
+    line_sooner line moves (inr (inr rose)) = inr (inr (omega (arith, rose, moves.step.reads (line_place line))))
+
+    read_sooner : (page : ℕ) → Moves history bus_moved tags second.lines third.lines →
+        PageRead history first second page → PageRead history first third page
+    read_sooner page moves (inl untagged) = inl untagged
+    read_sooner page moves (inr rose) = inr (omega (arith, rose, moves.step.reads (Node 0 page)))
+
+    pub page_sooner : (page : ℕ) → Moves history bus_moved tags second.lines third.lines →
+        PageHad history first second page → PageHad history first third page
+    page_sooner page moves (inl on_chip) = inl on_chip
+    page_sooner page moves (inr read) = inr (read_sooner page moves read)
+
+    -- A page of which something is on the chip was had by the calls before
+    on_chip_had : (lines : List ℕ) → WereHad history first lines second → (page : ℕ) → Contains (pages_on_chip second) page → PageHad history first second page
+    on_chip_had lines had page on_chip = elim (Contains-append_cases (map page_of (held_lines second)) (cached_pages second) page on_chip) [
+      | inl of_line ↦
+          let from : (line : ℕ) × Contains (held_lines second) line × (page_of line ≡ page) = mapped_from page_of (held_lines second) page of_line in
+          subst (PageHad history first second) from.2 (had.held from.0 from.1).1
+      | inr cached ↦ elim (had.cached page cached) [
+        | inl was ↦ inl (on_chip_of_page (held_lines first) (cached_pages first) page was)
+        | inr read ↦ inr read
+      ]
+    ]
+
+    -- What is had by further calls was had by those before or is had by these
+    line_later : (lines : List ℕ) (line : ℕ) → Moves history bus_moved tags first.lines second.lines → Moves history bus_moved tags second.lines third.lines →
+        WereHad history first lines second → LineHad history second third line → LineHad history first third line
+    line_later lines line moves more had (inl held) = line_sooner line more (had.held line held).0
+    line_later lines line moves more had (inr (inl untagged)) =
+        inr (inl (none_front (data_part line) (made first) moves.step.more (subst (λ (made : List Message). last_data line made ≡ None) moves.step.made untagged)))
+    line_later lines line moves more had (inr (inr rose)) = inr (inr (omega (arith, rose, moves.step.reads (line_place line))))
+
+    read_later : (page : ℕ) → Moves history bus_moved tags first.lines second.lines → PageRead history second third page → PageRead history first third page
+    read_later page moves (inl untagged) =
+        inl (none_front (node_part 0 page) (made first) moves.step.more (subst (λ (made : List Message). last_node 0 page made ≡ None) moves.step.made untagged))
+    read_later page moves (inr rose) = inr (omega (arith, rose, moves.step.reads (Node 0 page)))
+
+    page_later : (lines : List ℕ) (page : ℕ) → Moves history bus_moved tags first.lines second.lines → Moves history bus_moved tags second.lines third.lines →
+        WereHad history first lines second → PageHad history second third page → PageHad history first third page
+    page_later lines page moves more had (inl on_chip) = page_sooner page more (on_chip_had lines had page on_chip)
+    page_later lines page moves more had (inr read) = inr (read_later page moves read)
+
+    -- and so is a cached one
+    cached_later : (lines : List ℕ) (page : ℕ) → Moves history bus_moved tags first.lines second.lines → Moves history bus_moved tags second.lines third.lines →
+        WereHad history first lines second → Contains (cached_pages second) page ⊎ PageRead history second third page →
+        Contains (cached_pages first) page ⊎ PageRead history first third page
+    cached_later lines page moves more had (inl cached) = elim (had.cached page cached) [
+      | inl was ↦ inl was
+      | inr read ↦ inr (read_sooner page more read)
+    ]
+    cached_later lines page moves more had (inr read) = inr (read_later page moves read)
+
+    -- The lines of all calls were had
+    had_on : (before after : List ℕ) → Moves history bus_moved tags first.lines second.lines → Moves history bus_moved tags second.lines third.lines →
+        WereHad history first before second → WereHad history second after third → WereHad history first (before ++ after) third
+    had_on before after moves more had later = record {
+      touched = λ line listed. elim (Contains-append_cases before after line listed) [
+        | inl early ↦ (line_sooner line more (had.touched line early).0, page_sooner (page_of line) more (had.touched line early).1)
+        | inr late ↦ (line_later before line moves more had (later.touched line late).0, page_later before (page_of line) moves more had (later.touched line late).1)
+      ];
+      held = λ line held. (line_later before line moves more had (later.held line held).0, page_later before (page_of line) moves more had (later.held line held).1);
+      cached = λ page cached. cached_later before page moves more had (later.cached page cached);
+    }
+
+  -- What calls make after others, they make together
+  pub moved_on : ((first second third : B) → bus_moved first second → bus_moved second third → bus_moved first third) →
+      (first second third : SecureRamView B T) (before after : List ℕ) →
+      IsMoved history bus_moved tags first before second → IsMoved history bus_moved tags second after third →
+      IsMoved history bus_moved tags first (before ++ after) third
+  moved_on bus_moved_on first second third before after a b = record {
+    moves = moves_on history bus_moved tags bus_moved_on first.lines second.lines third.lines a.moves b.moves;
+    stays = λ stop is. b.stays stop (a.stays stop is);
+    few = λ few. b.few (a.few few);
+    had = λ going quiet.
+        let was_going = was_none (stopped second) (stopped third) b.stays going in
+        let was_quiet = was_none (evidence second) (evidence third) b.moves.step.evidence quiet in
+        had_on first second third before after a.moves b.moves (a.had was_going was_quiet) (b.had going quiet);
+  }
+
+  -- No call makes nothing of a memory
+  pub unmoved : ((bus : B) → bus_moved bus bus) → (memory : SecureRamView B T) → IsMoved history bus_moved tags memory [] memory
+  unmoved bus_unmoved memory = record {
+    moves = moves_not history bus_moved tags bus_unmoved memory.lines;
+    stays = λ stop is. is;
+    few = λ few. few;
+    had = λ going quiet. record {
+      touched = λ line listed. absurd (none_contained line listed);
+      held = λ line held. (inl held, inl (on_chip_of_line (held_lines memory) (cached_pages memory) line held));
+      cached = λ page cached. inl cached;
+    };
+  }

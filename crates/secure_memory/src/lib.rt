@@ -1,0 +1,9 @@
+//! The memory that the processor sees: numbers in lines that stand outside the chip. It answers its first stop to each
+//! later call.
+#![tactic(auto)]
+
+mod secure_ram;
+#[cfg(test)]
+mod tests;
+
+pub use secure_ram::SecureRam;

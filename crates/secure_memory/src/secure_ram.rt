@@ -1,0 +1,216 @@
+// The memory that the processor sees.
+ghost use Rattle.std.specs.Prelude.{◌≡◌, ◌≢◌, ◌+◌, ◌*◌, ◌%◌, ◌^◌, ◌<◌, ◌≤◌, ◌↔◌, ◌⊎◌, ◌∷◌, ◌++◌, [], ℕ, List, None, Some, Err, IfOk, IfErr, IfSome, IsTrue, OnOk, OnErr, Contains, length};
+ghost use Rattle.sec_base.specs.Count.{Rose};
+ghost use Rattle.sec_base.specs.Evidence.{IsEvidence};
+ghost use Rattle.sec_base.specs.Geometry.{line_of, page_of};
+ghost use Rattle.sec_base.specs.Width.{width_bytes, number_at, with_number};
+ghost use Rattle.sec_base.specs.declared.counter.Counter.{Counter};
+ghost use Rattle.sec_base.specs.declared.place.Place.{Place};
+ghost use Rattle.sec_base.specs.declared.place.Place.TheVariants.{Line as line_place};
+ghost use Rattle.sec_base.specs.declared.stop.MemStop.{MemStop};
+ghost use Rattle.sec_base.specs.declared.stop.MemStop.TheVariants.{Tampered, Spent};
+ghost use Rattle.bus_model.specs.BusHistory.{NothingWritten};
+ghost use Rattle.tag_engine.specs.TagEngine.{tags_of};
+ghost use Rattle.page_reencrypt.specs.Contents.{counter_in, last_counter};
+ghost use Rattle.page_reencrypt.specs.SealedLines.{AreNew, AreProtected, IsUnbooted, IsUnsealed, tag_in};
+ghost use Rattle.secure_memory.specs.SecureRam.{IsMoved, IsQuiet, IsSealedOnce, LineHad, contents, evidence, held_lines, lines_of, made, most_held, stopped, used};
+
+use bus_model::Bus;
+use hmac_tag::Keys;
+use page_reencrypt::{Account, SealedLines};
+use sec_base::{Geometry, LINE_LEN, LineStore, MemStop, NoMemoryWith, Ram, Tagger, Width};
+use std::alloc::Global;
+use std::marker::Model;
+
+/// A memory over lines outside the chip. It holds none of them: a load reads its line, and a store reads its line,
+/// changes it and writes it back. Its first stop is its answer to each later call.
+#[derive(Drop)]
+pub struct SecureRam<B: Bus, T: Tagger> {
+    lines: SealedLines<B, T>,
+}
+
+impl<B: Bus, T: Tagger> Model for SecureRam<B, T> {
+    ghost use Rattle.secure_memory.specs.SecureRam.{SecureRamView};
+
+    ghost Value = { SecureRamView B T };
+
+    ghost view = { λ memory. record { lines = memory.lines } };
+}
+
+impl<B: Bus, T: Tagger> SecureRam<B, T> {
+    /// A memory of zeros, over a bus to which nothing was written. Out of memory, the tagger is dropped, and the bus
+    /// comes back.
+    pub fn boot(
+        alloc: Global,
+        bus: B,
+        tagger: T,
+        keys: &Keys,
+        geometry: Geometry,
+        page_limit: u64,
+    ) -> Result<SecureRam<B, T>, NoMemoryWith<B>>
+        requires levels { (B.history bus).levels ≡ geometry }
+        requires nothing_written { NothingWritten (B.history bus) }
+
+        ensures new { IfOk result (λ memory.
+            AreNew B.history B.moved bus tagger keys.now.enc_key geometry page_limit memory.lines) }
+        ensures none_held { IfOk result (λ memory. held_lines memory ≡ []) }
+        ensures refused { IfErr result (λ refusal. IsUnbooted (B.history bus) (B.history refusal.0) × B.moved bus refusal.0) }
+    {
+        match SealedLines::boot(alloc, bus, tagger, &keys.enc_key, geometry, page_limit) {
+            Ok(lines) => Ok(SecureRam { lines }),
+            Err(refusal) => Err(refusal),
+        }
+    }
+
+    /// Whether the chip has a copy of a line.
+    pub fn held(&self, line: u32) -> bool
+        requires inside { line < lines_of self.now }
+        ensures { IsTrue result ↔ Contains (held_lines self.now) line }
+    {
+        let _ = line;
+        false
+    }
+
+    /// How many lines the chip has a copy of, at most 128.
+    pub fn held_count(&self) -> u32
+        ensures count { result ≡ length (held_lines self.now) }
+        ensures few { result ≤ most_held }
+    {
+        0
+    }
+
+    /// The first stop that it answered, if it did.
+    pub fn stopped(&self) -> Option<MemStop>
+        ensures { result ≡ stopped self.now }
+    {
+        self.lines.stopped()
+    }
+
+    /// Drops the tagger, and returns what can be shown, and the bus.
+    pub fn finish(self) -> (Account, B)
+        ensures made { result.0.made ≡ made self }
+        ensures used { result.0.used ≡ used self }
+        ensures evidence { result.0.evidence ≡ evidence self }
+        ensures bus { result.1 ≡ self.lines.bus }
+
+        // Evidence is what it says, and what holds at all times held to the end.
+        ensures genuine { IfSome result.0.evidence
+            (IsEvidence (tag_in T.data_tag_of T.node_tag_of self.lines) result.0.made) }
+        ensures protected { AreProtected T.data_tag_of T.node_tag_of B.history self.lines }
+    {
+        let SecureRam { lines } = self;
+        lines.finish()
+    }
+}
+
+impl<B: Bus, T: Tagger> Ram for SecureRam<B, T> {
+    ghost use Rattle.page_reencrypt.specs.LineLengths.{length-contents_of};
+    ghost use Rattle.secure_memory.specs.Moving.{unmoved, moved_on};
+
+    ghost contents = { λ memory. contents memory };
+
+    ghost extent = { λ memory. 64 * lines_of memory };
+
+    ghost sound = { λ memory. IsQuiet memory };
+
+    ghost stopped = { λ memory. stopped memory };
+
+    ghost moved = { λ before lines after.
+        IsMoved B.history B.moved (tags_of T.data_tag_of T.node_tag_of) before lines after };
+
+    fn size(&self) -> u32 {
+        LINE_LEN * self.lines.lines()
+    }
+
+    fn load(&mut self, addr: u32, width: Width) -> Result<u32, MemStop>
+        requires inside { addr + width_bytes width ≤ 64 * lines_of self.old }
+        requires aligned { addr % width_bytes width ≡ 0 }
+
+        ensures value { stopped self.old ≡ None → IsQuiet self.new → IfOk result (λ n. n ≡ number_at (contents self.old) addr width) }
+        ensures fits { IfOk result (λ n. n < 2 ^ (8 * width_bytes width)) }
+        ensures contents { contents self.new ≡ contents self.old }
+
+        ensures goes_on { OnOk result (stopped self.new ≡ stopped self.old) }
+        ensures stops { IfErr result (λ stop. stopped self.new ≡ Some stop) }
+
+        ensures extent { 64 * lines_of self.new ≡ 64 * lines_of self.old }
+        ensures lost { IsQuiet self.new → IsQuiet self.old }
+        ensures moved { IsMoved B.history B.moved (tags_of T.data_tag_of T.node_tag_of) self.old (line_of addr ∷ []) self.new }
+
+        // The first stop is answered again, and nothing is done.
+        ensures latched { (stop : MemStop) → stopped self.old ≡ Some stop → (result ≡ Err stop) × (self.new ≡ self.old) }
+
+        // It is one access at most, and nothing is encrypted, tagged or written.
+        ensures once { (B.history self.new.lines.bus).accesses ≤ (B.history self.old.lines.bus).accesses + 1 }
+        ensures unsealed { IsUnsealed B.history self.old.lines self.new.lines }
+
+        // The line was held, or never tagged, or was read from its place, where the call neither stops nor finds evidence.
+        ensures read { IsQuiet self.new → OnOk result (LineHad B.history self.old self.new (line_of addr)) }
+        ensures held { (line : ℕ) → Contains (held_lines self.new) line → Contains (held_lines self.old) line ⊎ (line ≡ line_of addr) }
+
+        // Tampering comes only of the line, and where an answer was false.
+        ensures tampered { (place : Place) → stopped self.old ≡ None → IsQuiet self.old → result ≡ Err (Tampered place) →
+            (place ≡ line_place (line_of addr)) × Rose (B.history self.old.lines.bus).lies (B.history self.new.lines.bus).lies }
+        ensures unspent { (page : ℕ) → stopped self.old ≡ None → result ≢ Err (Spent page) }
+    {
+        if let Some(stop) = self.lines.stopped() {
+            return Err(stop);
+        }
+        let line = self.lines.read_line(addr / LINE_LEN)?;
+        Ok(width.read(&line, (addr % LINE_LEN) as usize))
+    }
+
+    fn store(&mut self, addr: u32, width: Width, value: u32) -> Result<(), MemStop>
+        requires inside { addr + width_bytes width ≤ 64 * lines_of self.old }
+        requires aligned { addr % width_bytes width ≡ 0 }
+
+        ensures stored { stopped self.old ≡ None → IsQuiet self.new →
+            OnOk result (contents self.new ≡ with_number (contents self.old) addr width value) }
+        ensures refused { stopped self.old ≡ None → IsQuiet self.new → OnErr result (
+            (contents self.new ≡ contents self.old) ⊎ (contents self.new ≡ with_number (contents self.old) addr width value)) }
+
+        ensures goes_on { OnOk result (stopped self.new ≡ stopped self.old) }
+        ensures stops { IfErr result (λ stop. stopped self.new ≡ Some stop) }
+
+        ensures extent { 64 * lines_of self.new ≡ 64 * lines_of self.old }
+        ensures lost { IsQuiet self.new → IsQuiet self.old }
+        ensures moved { IsMoved B.history B.moved (tags_of T.data_tag_of T.node_tag_of) self.old (line_of addr ∷ []) self.new }
+
+        // The first stop is answered again, and nothing is done.
+        ensures latched { (stop : MemStop) → stopped self.old ≡ Some stop → (result ≡ Err stop) × (self.new ≡ self.old) }
+
+        // It is two accesses at most. The line is encrypted once; where the store is refused, once or not at all.
+        ensures once { (B.history self.new.lines.bus).accesses ≤ (B.history self.old.lines.bus).accesses + 2 }
+        ensures sealed { OnOk result (IsSealedOnce (line_of addr) (used self.old) (used self.new)) }
+        ensures unsealed { OnErr result ((used self.new ≡ used self.old) ⊎ IsSealedOnce (line_of addr) (used self.old) (used self.new)) }
+
+        // The line was held, or never tagged, or was read from its place, where the call neither stops nor finds evidence.
+        ensures read { IsQuiet self.new → OnOk result (LineHad B.history self.old self.new (line_of addr)) }
+        ensures held { (line : ℕ) → Contains (held_lines self.new) line → Contains (held_lines self.old) line ⊎ (line ≡ line_of addr) }
+
+        // Tampering comes only of the line, and where an answer was false. It is spent only where the line has the last
+        // counter that the limit allows, and then nothing is encrypted, tagged or written.
+        ensures tampered { (place : Place) → stopped self.old ≡ None → IsQuiet self.old → result ≡ Err (Tampered place) →
+            (place ≡ line_place (line_of addr)) × Rose (B.history self.old.lines.bus).lies (B.history self.new.lines.bus).lies }
+        ensures spent { (page : ℕ) → stopped self.old ≡ None → result ≡ Err (Spent page) → (page ≡ page_of (line_of addr))
+            × (counter_in (used self.old) (line_of addr) ≡ last_counter self.old.lines.limit) × IsUnsealed B.history self.old.lines self.new.lines }
+        ensures unspent { OnOk result (counter_in (used self.old) (line_of addr) ≢ last_counter self.old.lines.limit) }
+    {
+        if let Some(stop) = self.stopped() {
+            return Err(stop);
+        }
+        let mut line = self.lines.read_line(addr / LINE_LEN)?;
+        width.write(&mut line, (addr % LINE_LEN) as usize, value);
+        self.lines.write_line(addr / LINE_LEN, &line)
+    }
+
+    ghost sized = { λ memory.
+        length-contents_of memory.lines.pads.key (lines_of memory) (made memory) };
+
+    ghost unmoved = { λ memory.
+        unmoved B.history B.moved (tags_of T.data_tag_of T.node_tag_of) B.unmoved memory };
+
+    ghost moved_on = { λ first second third before after a b.
+        moved_on B.history B.moved (tags_of T.data_tag_of T.node_tag_of) B.moved_on
+        first second third before after a b };
+}

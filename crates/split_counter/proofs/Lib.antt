@@ -1,0 +1,4 @@
+mod DigitLaws
+mod Groups
+mod Spelling
+mod Zeros
