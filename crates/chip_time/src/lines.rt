@@ -1,5 +1,5 @@
-// One line outside the chip, written and read as a run does it.
-ghost use Rattle.std.specs.Prelude.{◌≡◌, ◌<◌, OnOk};
+// Lines outside the chip, written and read as a run does it.
+ghost use Rattle.std.specs.Prelude.{◌≡◌, ◌/◌, ◌%◌, OnOk};
 ghost use Rattle.sec_base.specs.Lines.{line_at, with_line};
 ghost use Rattle.page_reencrypt.specs.SealedLines.{IsQuiet, contents, lines_of};
 
@@ -9,24 +9,31 @@ use page_reencrypt::SealedLines;
 use sec_base::{Geometry, LineStore, MemStop, NoMemory, NoMemoryWith};
 use std::alloc::Global;
 
-/// The first line of a memory of one level, and the bytes that are written next or were read last.
+/// The lines of a memory of four levels, and the bytes that are written next or were read last.
 #[derive(Drop)]
-pub(crate) struct TimedLine {
+pub(crate) struct TimedLines {
     lines: SealedLines<HonestBus, HmacTagger>,
     bytes: [u8; 64],
-    ghost some_lines: { 0 < lines_of lines },
+    ghost all_lines: { lines_of lines ≡ 16384 },
 }
 
+// How many lines there are.
+const LINES: u32 = 16384;
+
+// How often a line is written before it is used up.
+const WRITES: u64 = 127;
+
+// The line that is read, and that is worn out.
 const LINE: u32 = 0;
 
-impl TimedLine {
-    /// A line of zeros that was never written.
-    pub(crate) fn new(alloc: Global, keys: &Keys) -> Result<TimedLine, NoMemory> {
-        let geometry = Geometry::new(1).unwrap();
+impl TimedLines {
+    /// Lines of zeros that were never written.
+    pub(crate) fn new(alloc: Global, keys: &Keys) -> Result<TimedLines, NoMemory> {
+        let geometry = Geometry::new(4).unwrap();
         let bus = HonestBus::new(alloc, geometry)?;
         let tagger = HmacTagger::new(keys);
         match SealedLines::boot(alloc, bus, tagger, &keys.enc_key, geometry, u64::MAX) {
-            Ok(lines) => Ok(TimedLine {
+            Ok(lines) => Ok(TimedLines {
                 lines,
                 bytes: [0; 64],
             }),
@@ -34,8 +41,17 @@ impl TimedLine {
         }
     }
 
-    /// Writes the bytes.
-    pub(crate) fn write(&mut self) -> Result<(), MemStop>
+    /// Writes the bytes to a line that is not used up, in any of the first two million rounds.
+    pub(crate) fn write(&mut self, round: u64) -> Result<(), MemStop>
+        ensures { IsQuiet self.new.lines → OnOk result
+            (contents self.new.lines ≡ with_line (contents self.old.lines) (round / 127 % 16384) self.old.bytes) }
+    {
+        let line = (round / WRITES % u64::from(LINES)) as u32;
+        self.lines.write_line(line, &self.bytes)
+    }
+
+    /// Writes the bytes to one line, which is used up by every 128th call.
+    pub(crate) fn wear(&mut self) -> Result<(), MemStop>
         ensures { IsQuiet self.new.lines →
             OnOk result (contents self.new.lines ≡ with_line (contents self.old.lines) 0 self.old.bytes) }
     {
