@@ -1,9 +1,10 @@
 #!/usr/bin/env python3
 """Runs two flat programs a hundred times each through ./chip, and prints what they cost.
 
-Both fill the memory of 16,384 bytes with 4,096 words, so that storing them writes a word 4,096 times. One then does
-nothing 4,093 times, the other stores a word 4,093 times; both exit. Each store writes a line once, so what the second
-takes more, over 4,093, is the cost of a line that is read and written.
+Both fill the memory of 16,384 bytes with 4,096 words, so that storing them writes a word 4,096 times, 16 times in each
+line. One then does nothing 4,093 times; the other does nothing 593 times, and then stores a word 3,500 times; both
+exit. Each store writes a line once, and no line more than 126 times in all, so what the second takes more, over 3,500,
+is the cost of a line that is read and written.
 """
 
 import os
@@ -16,13 +17,19 @@ CHIP = os.path.join(os.path.dirname(os.path.abspath(__file__)), "..", "chip")
 ROUNDS = 100
 WORDS = 4096
 
+STORES = 3500
+
 NOTHING = 0x00000013  # addi zero, zero, 0
-STORE = 0x00002023  # sw zero, 0(zero): the first line, whose instructions are done by then
 EXIT = [0x00000513, 0x05D00893, 0x00000073]  # li a0, 0; li a7, 93; ecall
 
 
-def program(word):
-    words = [NOTHING] * 16 + [word] * (WORDS - 16 - len(EXIT)) + EXIT
+def store(line):
+    """sw zero, 64 * line(zero), for the first 32 lines, whose instructions are done by then."""
+    return 0x00002023 | 64 * line >> 5 << 25
+
+
+def program(last):
+    words = [NOTHING] * (WORDS - len(EXIT) - len(last)) + last + EXIT
     return b"".join(word.to_bytes(4, "little") for word in words)
 
 
@@ -49,19 +56,19 @@ def seconds(path):
 
 
 def main():
-    stores = WORDS - 16 - len(EXIT)
+    stores = [store(at % 32) for at in range(STORES)]
     costs = {}
     with tempfile.TemporaryDirectory() as folder:
-        for name, word in (("nothing", NOTHING), ("stores", STORE)):
+        for name, last in (("nothing", []), ("stores", stores)):
             path = os.path.join(folder, name + ".bin")
             with open(path, "wb") as file:
-                file.write(program(word))
+                file.write(program(last))
             subprocess.run([CHIP, "run", path, "--flat", "--levels", "1"], capture_output=True)
             costs[name] = (seconds(path), peak(path))
             print(f"{name}: {WORDS} instructions, {costs[name][0]:.4f} s a run, peak {costs[name][1]} bytes")
     more_seconds = costs["stores"][0] - costs["nothing"][0]
     more_bytes = costs["stores"][1] - costs["nothing"][1]
-    print(f"a store: {1e6 * more_seconds / stores:.2f} microseconds, {more_bytes / stores:.0f} bytes kept, spare room included")
+    print(f"a store: {1e6 * more_seconds / STORES:.2f} microseconds, {more_bytes / STORES:.0f} bytes kept, spare room included")
 
 
 if __name__ == "__main__":

@@ -7,6 +7,7 @@ use Rattle.sec_base.specs.declared.ending.Cause.{Cause}
 use Rattle.sec_base.specs.declared.ending.Ending.{Ending}
 use Rattle.sec_base.specs.declared.ending.Ending.TheVariants.{Halted, Trapped, OutOfSteps, Tampered, Spent, WriteFault, NoMemory}
 use Rattle.bus_model.specs.BusHistory.{BusHistory}
+use Rattle.chip_run.specs.Run.{default_page_limit}
 use Rattle.chip_run.specs.declared.RunRecord.{RunRecord}
 use Rattle.bus_model.specs.FirstLie.{IsCaught, IsOfFirstLie}
 use Rattle.page_reencrypt.specs.Contents.{IsSpent}
@@ -33,12 +34,13 @@ pub record EndedTampered (asked : RunAsked) (run : RunRecord) (told : BusHistory
   pub caught : IsCaught (device_tag asked.terms asked.execution.file.levels) run.used run.made told
       (λ place. run.ending ≡ Tampered place)
 
--- Some line of the page has the last counter that the limit allows.
+-- Some line of the page has the last counter that the limit allows, which is not the default limit.
 pub record EndedSpent (asked : RunAsked) (run : RunRecord) (told : BusHistory) : Type 0 where
   pub no_evidence : run.evidence ≡ None
   pub page : ℕ
   pub ended : run.ending ≡ Spent page
   pub used_up : IsSpent (line_count asked.execution.file.levels) asked.terms.page_limit run.used page
+  pub below : asked.terms.page_limit ≢ default_page_limit
 
 -- There is evidence of the first false answer, and neither the sink nor being out of memory ended the run.
 pub record EndedWithEvidence (asked : RunAsked) (run : RunRecord) (told : BusHistory) : Type 0 where

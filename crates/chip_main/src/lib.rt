@@ -54,7 +54,8 @@ pub struct Done {
 /// text, `dis FILE` lists a program's instructions, and `measure FILE` tells its measurement. But for `asm`, FILE is
 /// an ELF file, or with `--flat` has the program's bytes and nothing else. `--levels L` says how large the memory is;
 /// of `run` and `plain`, `--input FILE` names the program's input and `--steps N` how many instructions may be
-/// retired. What is printed or made goes to `out`, the rest to `note`.
+/// retired; of `run` alone, `--page-limit N` says how high a page counter may rise. What is printed or made goes to
+/// `out`, the rest to `note`.
 pub fn run_words<F: Files, O: Sink, N: Sink>(
     alloc: Global,
     words: &[&str],

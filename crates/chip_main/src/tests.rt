@@ -374,6 +374,17 @@ fn a_run_is_handed_back(rt: HostRuntime) -> Result<(), Fail> {
     Ok(())
 }
 
+// Limits that no line comes near.
+#[test]
+fn a_run_has_a_page_limit(rt: HostRuntime) -> Result<(), Fail> {
+    for limit in ["1000", "18446744073709551615"] {
+        let words = ["chip", "run", "f", "--flat", "--page-limit", limit];
+        let call = call_program(rt.alloc(), &words, &EXIT_65, &[], &[])?;
+        check(&rt, &call, b"", b"halted 65\nretired 6\nlies 0\n", 0);
+    }
+    Ok(())
+}
+
 // What the program that copies its input prints and tells.
 fn check_input(
     rt: &impl Abort,
@@ -475,7 +486,7 @@ fn check_usage(rt: &impl Abort, alloc: Global, words: &[&str]) -> Result<(), Fai
 
 #[test]
 fn other_words_are_usage(rt: HostRuntime) -> Result<(), Fail> {
-    let rows: [&[&str]; 12] = [
+    let rows: [&[&str]; 14] = [
         &["chip", "asm"],
         &["chip", "asm", "f", "--flat"],
         &["chip", "measure", "f", "--input", "i"],
@@ -485,6 +496,8 @@ fn other_words_are_usage(rt: HostRuntime) -> Result<(), Fail> {
         &["chip", "run", "f", "--flat", "x"],
         &["chip", "run", "f", "--flat", "--levels", "7"],
         &["chip", "dis", "f", "--flat", "--steps", "3"],
+        &["chip", "run", "f", "--page-limit", "18446744073709551616"],
+        &["chip", "plain", "f", "--page-limit", "1"],
         &["run", "f", "--flat"],
         &["chip", "--help"],
         &["chip", "help", "run"],

@@ -11,8 +11,8 @@ use Rattle.sec_base.specs.declared.stop.MemStop.TheVariants.{Tampered as tampere
 use Rattle.bus_model.specs.BusHistory.{BusHistory}
 use Rattle.bus_model.specs.FirstLie.{AccountsForLies, HonestOrCaught}
 use Rattle.rv32_run.specs.Session.{CarriesEnding, stop_ending}
-use Rattle.page_reencrypt.specs.SealedLines.{unwritten}
-use Rattle.chip_run.specs.Run.{unwritten_at}
+use Rattle.page_reencrypt.specs.Stops.{lasting_stop, unwritten}
+use Rattle.chip_run.specs.Run.{EndsAnywhere, unwritten_at}
 
 -- what ends as the stop of its memory
 pub ends_as_stop : (stopped : Option MemStop) (stop : MemStop) (ending : Ending) → stopped ≡ Some stop → ending ≡ stop_ending stop → CarriesEnding stopped (Some ending)
@@ -51,6 +51,14 @@ unwritten_most (Some (spent page)) ending carries = omega arith
 unwritten_most (Some no_memory) ending carries =
     let is : ending ≡ NoMemory = cc in
     subst (λ (e : Ending). 1 ≤ unwritten_at e) (sym is) (omega arith)
+
+-- Where no page may be half encrypted anew, the memory goes on
+
+pub not_lasting : (stopped : Option MemStop) (ending : Ending) → CarriesEnding stopped (Some ending) → ¬ EndsAnywhere ending → lasting_stop stopped ≡ None
+not_lasting None ending carries whole = refl
+not_lasting (Some (tampered place)) ending carries whole = absurd (whole (inl (place, cc)))
+not_lasting (Some (spent page)) ending carries whole = refl
+not_lasting (Some no_memory) ending carries whole = absurd (whole (inr (cc)))
 
 -- A write fault comes where it did not stop
 

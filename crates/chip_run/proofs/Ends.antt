@@ -1,9 +1,10 @@
 -- The theorem of a run, from what it hands out of its memory and what its session says.
-use Rattle.std.proofs.Common.{◌≡◌, ◌≢◌, ◌⊎◌, ◌↔◌, inl, inr, ◌<◌, ◌≤◌, ℕ, List, Option, Some, None, IfSome, length, refl, subst, arith}
+use Rattle.std.proofs.Common.{◌==◌, ◌≡◌, ◌≢◌, ◌⊎◌, ◌↔◌, inl, inr, ◌^◌, ◌<◌, ◌≤◌, ℕ, Bool, List, Option, Some, None, IfSome, length, refl, ap, subst, arith}
+use Rattle.std.proofs.lemmas.List.Sums.{count_by-le-length, length-filter}
 use Rattle.sec_base.specs.Count.{Rose, RoseBy}
 use Rattle.sec_base.specs.Evidence.{IsEvidence}
 use Rattle.sec_base.specs.Gain.{Gain}
-use Rattle.sec_base.specs.Geometry.{line_count}
+use Rattle.sec_base.specs.Geometry.{line_count, page_of}
 use Rattle.sec_base.specs.Sink.{SinkState, Gains}
 use Rattle.sec_base.specs.declared.counter.Counter.{Counter}
 use Rattle.sec_base.specs.declared.ending.Ending.{Ending}
@@ -24,10 +25,13 @@ use Rattle.rv32_core.specs.Turnover.{turnover}
 use Rattle.rv32_core.proofs.Plain.{whole_run}
 use Rattle.rv32_run.specs.Session.{CarriesEnding, IsMemoryEnding, IsStop}
 use Rattle.checked_bus.specs.Steps.{IsAccounted}
+use Rattle.pad_stream.specs.PadBlocks.{ShareNoBlock}
+use Rattle.pad_stream.specs.Pads.{NoRepeat}
+use Rattle.page_reencrypt.specs.Contents.{ArePaged, IsSpent, counter_in}
 use Rattle.page_reencrypt.specs.SealedLines.{IsProtected}
-use Rattle.chip_run.specs.Run.{Terms, WritesItsMessages, IsWrittenOut, HoldsAlways, HoldsWithoutEvidence, ShowsEvidence, RunsProtected}
+use Rattle.chip_run.specs.Run.{Terms, EndsAnywhere, WritesItsMessages, default_page_limit, IsWrittenOut, HoldsAlways, HoldsWithoutEvidence, ShowsEvidence, RunsProtected}
 use Rattle.chip_run.specs.declared.record.RunRecord.{RunRecord}
-use Rattle.chip_run.proofs.Closing.{ended_account, never_wanting, stopped_spent}
+use Rattle.chip_run.proofs.Closing.{ended_account, never_wanting, not_lasting, stopped_spent}
 
 -- What a run hands out of a memory that is protected, the false answers of whose bus are accounted for, and that kept
 -- this stop.
@@ -35,6 +39,8 @@ pub record OfMemory (terms : Terms) (before after : BusHistory) (run : RunRecord
   pub stopped : Option MemStop
   pub carries : CarriesEnding stopped (Some run.ending)
   pub kept : IsProtected terms.tag_of terms.levels terms.page_limit after run.made run.used stopped
+  pub few : length run.used < 2 ^ 64
+  pub apart : NoRepeat run.used → ShareNoBlock terms.enc_key run.used
   pub accounted : IsAccounted terms.tag_of run.used run.made after stopped run.evidence
   pub accesses : WritesItsMessages before after run.made run.ending
   pub reads : (place : Place) → RoseBy 0 (before.reads place) (after.reads place)
@@ -89,6 +95,19 @@ honest_run start budget n ending printed tag_of used made history evidence hones
       | inr spent ↦ inr spent
     ]
 
+-- No page is spent under the default limit
+
+spent_whole : (ending : Ending) (page : ℕ) → ending ≡ Spent page → ¬ EndsAnywhere ending
+spent_whole ending page is (inl tampered) = let place = tampered.1 in cc
+spent_whole ending page is (inr memory) = cc
+
+never_spent : (lines limit : ℕ) (used : List (ℕ × Counter)) (page : ℕ) → ArePaged lines used → length used < 2 ^ 64 → limit ≡ default_page_limit → IsSpent lines limit used page → ⊥
+never_spent lines limit used page paged few default spent =
+    let reached = paged.reached spent.line spent.inside in
+    let highest : (counter_in used spent.line).page ≡ limit = ap (λ (c : Counter). c.page) spent.used_up in
+    let of_page : ℕ × Counter → Bool = λ entry. page_of entry.0 == page_of spent.line in
+    omega (arith, reached, highest, length-filter of_page used, count_by-le-length of_page used, few, default)
+
 -- The theorem
 
 if_shown : (evidence : Option Evidence) (P : Evidence → Type 0) → IfSome evidence P → (shown : Evidence) → evidence ≡ Some shown → P shown
@@ -104,6 +123,12 @@ module _ (terms : Terms) (out out' : SinkState) (printed : List ℕ) (before aft
   account : AccountsForLies terms.tag_of run.used run.made after (λ place. run.ending ≡ Tampered place) run.evidence
   account = ended_account terms.tag_of run.used run.made after memory.stopped run.ending run.evidence memory.carries memory.accounted.account
 
+  spent_page : (page : ℕ) → run.ending ≡ Spent page → IsSpent (line_count terms.levels) terms.page_limit run.used page
+  spent_page page is = memory.kept.spent page (stopped_spent memory.stopped run.ending page memory.carries is)
+
+  paged : ¬ EndsAnywhere run.ending → ArePaged (line_count terms.levels) run.used
+  paged whole = memory.kept.paged (not_lasting memory.stopped run.ending memory.carries whole)
+
   holds_always : HoldsAlways terms out out' before after run
   holds_always = record {
     within = session.within;
@@ -111,19 +136,22 @@ module _ (terms : Terms) (out out' : SinkState) (printed : List ℕ) (before aft
     early = session.early;
     write_fault = session.write_fault;
     faults = session.faults;
-    no_repeat = rising_once run.used memory.kept.rising;
-    rising = memory.kept.rising;
-    inside = memory.kept.inside;
+    no_repeat = rising_once run.used memory.kept.consistent.rising;
+    pads_apart = memory.apart (rising_once run.used memory.kept.consistent.rising);
+    rising = memory.kept.consistent.rising;
+    inside = memory.kept.consistent.inside;
     counters = memory.kept.within;
-    unskipped = memory.kept.unskipped;
-    spent = λ page is. memory.kept.spent page (stopped_spent memory.stopped run.ending page memory.carries is);
-    paired = memory.kept.paired;
-    sealed = memory.kept.sealed;
+    spent = spent_page;
+    paged = paged;
+    few = memory.few;
+    unspent = λ default page is. never_spent (line_count terms.levels) terms.page_limit run.used page (paged (spent_whole run.ending page is)) memory.few default (spent_page page is);
+    paired = memory.kept.consistent.paired;
+    sealed = memory.kept.consistent.sealed;
     holds_last = λ some. memory.kept.holds_last (never_wanting memory.stopped run.ending memory.carries some);
-    nodes = memory.kept.nodes;
+    nodes = memory.kept.consistent.nodes;
     accesses = memory.accesses;
     reads = memory.reads;
-    levels_are = memory.kept.bus_levels;
+    levels_are = memory.kept.consistent.bus_levels;
     whole = λ faultless honest some.
         honest_run terms.start terms.budget run.retired run.ending printed terms.tag_of run.used run.made after run.evidence honest account session.follows
         (λ fault. faultless (session.write_fault fault)) some;

@@ -1,5 +1,5 @@
 -- What a run hands out of its memory, from one that was booted to one that is given up.
-use Rattle.std.proofs.Common.{◌≡◌, ◌≢◌, inl, ℕ, ◌+◌, ◌<◌, ◌≤◌, List, [], ◌++◌, length, length-append, Option, Some, None, IfSome, refl, sym, ap, ◌∙◌, subst, arith}
+use Rattle.std.proofs.Common.{◌≡◌, ◌≢◌, inl, ℕ, ◌+◌, ◌^◌, ◌<◌, ◌≤◌, List, [], ◌++◌, length, length-append, Option, Some, None, IfSome, refl, sym, ap, ◌∙◌, subst, arith}
 use Rattle.sec_base.specs.Count.{RoseBy}
 use Rattle.sec_base.specs.Evidence.{IsEvidence}
 use Rattle.sec_base.specs.Geometry.{line_count}
@@ -21,8 +21,12 @@ use Rattle.rv32_core.specs.Machine.{Machine}
 use Rattle.rv32_run.specs.Session.{CarriesEnding}
 use Rattle.checked_bus.specs.Accesses.{AreCounted}
 use Rattle.checked_bus.specs.Steps.{IsAccounted}
+use Rattle.pad_stream.specs.PadBlocks.{ShareNoBlock}
+use Rattle.pad_stream.specs.Pads.{NoRepeat}
+use Rattle.page_reencrypt.specs.Consistency.{IsConsistent}
 use Rattle.page_reencrypt.specs.Contents.{AreWithin, HoldsSealed, contents_of}
-use Rattle.page_reencrypt.specs.SealedLines.{AccountsForAll, AreNew, AreProtected, IsProtected, IsUnbooted, Moves, SealedLinesView, contents, enc_key, evidence, levels, made, unwritten, used}
+use Rattle.page_reencrypt.specs.SealedLines.{AccountsForAll, AreNew, AreProtected, IsProtected, IsUnbooted, Moves, SealedLinesView, contents, enc_key, evidence, levels, made, used}
+use Rattle.page_reencrypt.specs.Stops.{unwritten}
 use Rattle.secure_memory.specs.SecureRam.{IsMoved, SecureRamView}
 use Rattle.chip_run.specs.Run.{Terms, WritesItsMessages}
 use Rattle.chip_run.specs.declared.record.RunRecord.{RunRecord}
@@ -52,6 +56,7 @@ nothing_within : (limit : ℕ) → AreWithin limit []
 nothing_within limit = record {
   started = λ line counter listed. absurd (omega (arith, listed.1));
   limited = λ line counter listed. absurd (omega (arith, listed.1));
+  seven_bits = λ line counter listed. absurd (omega (arith, listed.1));
 }
 
 nothing_sealed : (tag_of : Message → List ℕ) (levels : ℕ) (before after : BusHistory) → before.levels ≡ levels → NothingWritten before →
@@ -61,15 +66,13 @@ nothing_sealed tag_of levels before after as_many empty same = record {
       inl (same line ∙ empty.zeros (line_place line) (subst (λ (l : ℕ). line < line_count l) (sym as_many) inside));
 }
 
-unbooted_kept : (tag_of : Message → List ℕ) (levels limit : ℕ) (before after : BusHistory) → before.levels ≡ levels → NothingWritten before → IsUnbooted before after →
-    IsProtected tag_of levels limit after [] [] (Some no_memory)
+nothing_consistent : (tag_of : Message → List ℕ) (levels : ℕ) (before after : BusHistory) → before.levels ≡ levels → NothingWritten before → IsUnbooted before after →
+    IsConsistent tag_of levels after [] []
 unfolding data_pairs last_at
-unbooted_kept tag_of levels limit before after as_many empty unbooted = record {
+nothing_consistent tag_of levels before after as_many empty unbooted = record {
   bus_levels = unbooted.booted.levels ∙ as_many;
   inside = λ line counter listed. absurd (omega (arith, listed.1));
   rising = rising_nothing;
-  within = nothing_within limit;
-  unskipped = record { reached = λ line counter listed. absurd (omega (arith, listed.1)) };
   paired = refl;
   long = λ line counter cipher listed. absurd (omega (arith, listed.1));
   sealed = nothing_sealed tag_of levels before after as_many empty unbooted.booted.lines;
@@ -77,7 +80,15 @@ unbooted_kept tag_of levels limit before after as_many empty unbooted = record {
     zeros = λ level index inside. unbooted.nodes level index ∙ empty.zeros (Node level index) (rw as_many inside);
   };
   no_nodes = λ level index. refl;
+}
+
+unbooted_kept : (tag_of : Message → List ℕ) (levels limit : ℕ) (before after : BusHistory) → before.levels ≡ levels → NothingWritten before → IsUnbooted before after →
+    IsProtected tag_of levels limit after [] [] (Some no_memory)
+unbooted_kept tag_of levels limit before after as_many empty unbooted = record {
+  consistent = nothing_consistent tag_of levels before after as_many empty unbooted;
+  within = nothing_within limit;
   holds_last = λ some. absurd (some refl);
+  paged = λ going. absurd (cc);
   spent = λ page is. absurd (cc);
 }
 
@@ -106,6 +117,8 @@ unbooted_memory terms before after run as_many honest empty unbooted ended none_
       stopped = Some no_memory;
       carries = refl;
       kept = unbooted_kept terms.tag_of terms.levels terms.page_limit before after as_many empty unbooted;
+      few = omega arith;
+      apart = λ once. record { apart = λ first second line other counter later block another here there low high same. absurd (cc) };
       accounted = begins_accounted terms.tag_of [] [] after (Some no_memory) None (unbooted.booted.lies ∙ honest) refl (λ place is. cc);
       accesses = unbooted_accesses before after unbooted;
       reads = λ place. let same : after.reads place ≡ before.reads place = ap (λ (reads : Place → ℕ). reads place) unbooted.booted.reads in omega (arith, same);
@@ -134,7 +147,7 @@ in_words lines bus tagger depth key limit made evidence used = record {
   bus = bus;
   engine = record { tagger = tagger; levels = depth; made = made; evidence = evidence; room = lines.engine.room };
   pads = record { key = key; used = used; room = lines.pads.room };
-  counters = lines.counters;
+  blocks = lines.blocks;
   limit = limit;
   stopped = lines.stopped;
 }
@@ -165,10 +178,11 @@ module _ {B T : Type 0} (d n : T → List ℕ → List ℕ) (history : B → Bus
       omega (arith, same, moves.step.reads place)
 
   pub run_memory : (start : Machine) (budget : ℕ) (closed : B) (run : RunRecord) → (history bus).lies ≡ 0 → AreProtected d n history lines →
-      run.made ≡ made lines → run.used ≡ used lines → run.evidence ≡ evidence lines → closed ≡ lines.bus → CarriesEnding lines.stopped (Some run.ending) →
+      run.made ≡ made lines → run.used ≡ used lines → length run.used < 2 ^ 64 →
+      (NoRepeat run.used → ShareNoBlock (enc_key lines) run.used) → run.evidence ≡ evidence lines → closed ≡ lines.bus → CarriesEnding lines.stopped (Some run.ending) →
       OfMemory (record { start = start; budget = budget; levels = depth; page_limit = limit; tag_of = engine_tag (d tagger) (n tagger) depth; enc_key = key })
       (history bus) (history closed) run
-  run_memory start budget closed run honest kept made_is used_is evidence_is bus_is carries =
+  run_memory start budget closed run honest kept made_is used_is few apart evidence_is bus_is carries =
       let words = in_words lines closed tagger depth key limit run.made run.evidence run.used in
       let same : lines ≡ words =
       same_lines lines closed tagger depth key limit run.made run.evidence run.used bus_is (moves.step.tagger ∙ new.tagger_is) (moves.step.levels ∙ new.depth_is)
@@ -177,6 +191,8 @@ module _ {B T : Type 0} (d n : T → List ℕ → List ℕ) (history : B → Bus
         stopped = lines.stopped;
         carries = carries;
         kept = subst (λ (m : SealedLinesView B T). AreProtected d n history m) same kept;
+        few = few;
+        apart = λ once. subst (λ (k : List ℕ). ShareNoBlock k run.used) (moves.key ∙ new.key_is) (apart once);
         accounted = subst (λ (m : SealedLinesView B T). AccountsForAll (tags_of d n) history m) same (moves.accounted (new_accounted honest));
         accesses = subst (λ (b : B). WritesItsMessages (history bus) (history b) run.made run.ending) (sym bus_is)
             (all_counted (history bus) (history booted.bus) (history lines.bus) (made booted) run.made moves.step.more moves.writes lines.stopped run.ending

@@ -1,5 +1,5 @@
 -- What a run on protected memory comes to.
-use Rattle.std.specs.Prelude.{◌≡◌, ◌≢◌, ◌+◌, ◌<◌, ◌≤◌, ◌↔◌, ◌⊎◌, ℕ, List, None, IfSome, length, Contains}
+use Rattle.std.specs.Prelude.{◌≡◌, ◌≢◌, ◌+◌, ◌-◌, ◌^◌, ◌<◌, ◌≤◌, ◌↔◌, ◌⊎◌, ℕ, List, None, IfSome, length, Contains}
 use Rattle.sec_base.specs.declared.counter.Counter.{Counter}
 use Rattle.sec_base.specs.declared.ending.Ending.{Ending}
 use Rattle.sec_base.specs.declared.ending.Ending.TheVariants.{Halted, Trapped, OutOfSteps, Tampered, Spent, WriteFault, NoMemory}
@@ -16,6 +16,7 @@ use Rattle.sec_base.specs.Lines.{line_at}
 use Rattle.sec_base.specs.Sink.{SinkState, Gains}
 use Rattle.bus_model.specs.BusHistory.{BusHistory}
 use Rattle.bus_model.specs.FirstLie.{HonestOrCaught, IsOfFirstLie}
+use Rattle.pad_stream.specs.PadBlocks.{ShareNoBlock}
 use Rattle.pad_stream.specs.Pads.{AreRising, NoRepeat, of_lines}
 use Rattle.rv32_core.specs.Effect.{next}
 use Rattle.rv32_core.specs.Follows.{Follows, IsWhole}
@@ -24,7 +25,7 @@ use Rattle.rv32_core.specs.Outcome.{prints_of}
 use Rattle.rv32_core.specs.Turnover.{turnover}
 use Rattle.rv32_run.specs.Session.{IsMemoryEnding, IsStop}
 use Rattle.checked_bus.specs.Accesses.{AreCounted}
-use Rattle.page_reencrypt.specs.Contents.{AreUnskipped, AreWithin, HoldsLast, HoldsSealed, IsSpent, NodesAreZeros, line_bytes}
+use Rattle.page_reencrypt.specs.Contents.{ArePaged, AreWithin, HoldsLast, HoldsSealed, IsSpent, NodesAreZeros, line_bytes}
 use Rattle.chip_run.specs.declared.record.RunRecord.{RunRecord}
 
 -- What a run is of: the plain machine as the program begins on its input, how many instructions may be retired, the
@@ -58,6 +59,14 @@ unwritten_at (Spent page) = 0
 unwritten_at WriteFault = 0
 unwritten_at NoMemory = 1
 
+-- the endings that may come in the middle of an overflow
+abbrev pub EndsAnywhere : Ending → Type 0
+EndsAnywhere ending = ((place : Place) × (ending ≡ Tampered place)) ⊎ (ending ≡ NoMemory)
+
+-- the limit of page counters where none is asked for
+abbrev pub default_page_limit : ℕ
+default_page_limit = 2 ^ 64 - 1
+
 -- There were as many accesses as reads of lines and messages, but for one message where the run ended out of memory; as
 -- far as counts that stand still at their ends can tell.
 pub record WritesItsMessages (before after : BusHistory) (made : List Message) (ending : Ending) : Type 0 where
@@ -76,15 +85,20 @@ pub record HoldsAlways (terms : Terms) (out out' : SinkState) (before after : Bu
   -- a write fault is one of the sink
   pub write_fault : run.ending ≡ WriteFault → Rose out.faults out'.faults
   pub faults : out.faults ≤ out'.faults
-  -- no two entries of `used` are equal: each is of a line of the memory, and each line's counters rise, begin behind that
-  -- of a line that was never written, skip no page counter, and keep to the limit; a page is spent only where one of its
-  -- lines has the last counter that the limit allows
+  -- no two entries of `used` are equal, and no two of their pads share an AES block: each is of a line of the memory, and each line's counters rise, begin behind that
+  -- of a line that was never written, and keep to the limit; a page is spent only where one of its lines has the last
+  -- counter that the limit allows
   pub no_repeat : NoRepeat run.used
+  pub pads_apart : ShareNoBlock terms.enc_key run.used
   pub rising : AreRising run.used
   pub inside : (line : ℕ) (counter : Counter) → Contains run.used (line, counter) → line < line_count terms.levels
   pub counters : AreWithin terms.page_limit run.used
-  pub unskipped : AreUnskipped run.used
   pub spent : (page : ℕ) → run.ending ≡ Spent page → IsSpent (line_count terms.levels) terms.page_limit run.used page
+  -- the lines of a page have one page counter, and where it is M they were encrypted 64 M times at least, unless the run
+  -- ended in the middle of an overflow; so under the default limit no page is ever spent
+  pub paged : ¬ EndsAnywhere run.ending → ArePaged (line_count terms.levels) run.used
+  pub few : length run.used < 2 ^ 64
+  pub unspent : terms.page_limit ≡ default_page_limit → (page : ℕ) → run.ending ≢ Spent page
   -- each line of the memory was tagged under the counters that it was encrypted under, in the same order
   pub paired : data_pairs run.made ≡ of_lines (line_count terms.levels) run.used
   -- each line's place that isn't zeros holds what was encrypted and tagged for it, and the last that was, unless the run

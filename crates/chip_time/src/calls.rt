@@ -4,7 +4,7 @@ ghost use Rattle.sec_base.specs.Message.{data_bytes};
 ghost use Rattle.aes128_block.specs.KeyExpansion.{encrypted};
 ghost use Rattle.hmac_tag.specs.Tags.{tag_of};
 
-use crate::line::TimedLine;
+use crate::lines::TimedLines;
 use aes128_block::Key;
 use hmac_tag::{HmacTagger, derive};
 use sec_base::{Counter, MemStop, NoMemory, Tagger, data_message};
@@ -22,11 +22,13 @@ pub(crate) enum Call {
     Write,
     /// A line that is fetched, checked and deciphered.
     Read,
+    /// A write of one line, whose page is enciphered anew by every 128th of them.
+    Wear,
 }
 
 impl Call {
     /// All of them. The line is written before it is read.
-    pub(crate) const ALL: [Call; 4] = [Call::Tag, Call::Block, Call::Write, Call::Read];
+    pub(crate) const ALL: [Call; 5] = [Call::Tag, Call::Block, Call::Write, Call::Read, Call::Wear];
 }
 
 impl fmt::Display for Call {
@@ -36,6 +38,7 @@ impl fmt::Display for Call {
             Call::Block => "AES block",
             Call::Write => "line write",
             Call::Read => "line read",
+            Call::Wear => "worn line write",
         })
     }
 }
@@ -45,7 +48,7 @@ impl fmt::Display for Call {
 pub(crate) struct Parts {
     tagged: Tagged,
     block: Block,
-    line: TimedLine,
+    lines: TimedLines,
 }
 
 impl Parts {
@@ -60,17 +63,18 @@ impl Parts {
                 key: Key::new(&keys.enc_key),
                 bytes: [0; 16],
             },
-            line: TimedLine::new(alloc, &keys)?,
+            lines: TimedLines::new(alloc, &keys)?,
         })
     }
 
-    /// Makes one call.
-    pub(crate) fn make(&mut self, call: Call) -> Result<(), MemStop> {
+    /// Makes one call, of one round after another.
+    pub(crate) fn make(&mut self, call: Call, round: u64) -> Result<(), MemStop> {
         match call {
             Call::Tag => self.tagged.advance(),
             Call::Block => self.block.advance(),
-            Call::Write => return self.line.write(),
-            Call::Read => return self.line.read(),
+            Call::Write => return self.lines.write(round),
+            Call::Read => return self.lines.read(),
+            Call::Wear => return self.lines.wear(),
         }
         Ok(())
     }
@@ -80,7 +84,7 @@ impl Parts {
         [
             self.tagged.tag[15],
             self.block.bytes[15],
-            self.line.last_byte(),
+            self.lines.last_byte(),
         ]
     }
 }

@@ -6,7 +6,7 @@ ghost use Rattle.std.specs.Duration.{as_nanos};
 
 mod calls;
 mod fault;
-mod line;
+mod lines;
 #[cfg(test)]
 mod tests;
 
@@ -56,8 +56,8 @@ fn time<R: Clock>(rt: &R, parts: &mut Parts, call: Call, rounds: u64) -> Result<
     requires { 0 < rounds }
 {
     let begun = Instant::now(rt)?;
-    for _ in 0..rounds {
-        parts.make(call)?;
+    for round in 0..rounds {
+        parts.make(call, round)?;
     }
     Ok(one_of(begun.elapsed(rt)?, rounds))
 }

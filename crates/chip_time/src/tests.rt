@@ -8,8 +8,8 @@ use std::test::Fail;
 fn each_call_is_made(rt: HostRuntime) -> Result<(), NoMemory> {
     let mut parts = Parts::new(rt.alloc())?;
     for call in Call::ALL {
-        for _ in 0..2 {
-            assert_eq!(rt; parts.make(call), Ok(()), "{call}");
+        for round in 0..2 {
+            assert_eq!(rt; parts.make(call, round), Ok(()), "{call}");
         }
     }
     Ok(())

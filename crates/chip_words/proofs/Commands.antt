@@ -15,9 +15,9 @@ use Rattle.clap.specs.Faults.{check_fault, defaults_fault, entered_fault, level_
 use Rattle.clap.specs.declared.builder.value_parser.ValueParser.TheVariants.{Unsigned}
 use Rattle.clap.proofs.ValueTestLemmas.{accepts-Accepts}
 use Rattle.std.proofs.lemmas.Slice.Eq.{bytes_eq-Decides}
-use Rattle.chip_words.specs.App.{chip_app, file_rule, levels_rule, steps_rule}
+use Rattle.chip_words.specs.App.{chip_app, file_rule, levels_rule, page_limit_rule, steps_rule}
 use Rattle.chip_words.specs.Request.{numeral_value, value_of}
-use Rattle.chip_words.specs.Commands.{HasExecution, HasItsValues, HasNumber, HasProgram, HasValue, IfCommand}
+use Rattle.chip_words.specs.Commands.{HasExecution, HasItsValues, HasNumber, HasProgram, HasProtectedRun, HasValue, IfCommand}
 use Rattle.chip_words.proofs.Walks.{IsNoHelp, both_empty}
 use Rattle.chip_words.proofs.Fits.{AllFit, HasSome, IsIn, Owns, defaults_have, finished_fits, first_passes, row_found, walk_fits}
 
@@ -111,6 +111,9 @@ levels_built = filled levels_rule
 abbrev steps_built : Rule
 steps_built = filled steps_rule
 
+abbrev page_limit_built : Rule
+page_limit_built = filled page_limit_rule
+
 -- a command that takes a file and levels, whatever else it takes
 program_there : (s : Shape) (words : List Text) → IsFaultless s words → s.subcommand_negates_reqs ≡ false
     → IsIn file_built s.rules → arg_by_id s.rules (codes "file") ≡ Some file_built
@@ -125,9 +128,21 @@ program_there s words clean negates in_file own_file in_levels own_levels =
       bounds = numbers.1;
     }
 
--- `run` and `plain`, by their names
-abbrev execution_built : Text → Shape
-execution_built name = record (slice_index_or (built chip_app).subs 0 help_shape) { name = name }
+-- a command that runs the program that is there, whatever else it takes
+execution_there : (s : Shape) (words : List Text) → IsFaultless s words → HasProgram (rows_after s.rules [] words)
+    → IsIn steps_built s.rules → arg_by_id s.rules (codes "steps") ≡ Some steps_built → HasExecution (rows_after s.rules [] words)
+execution_there s words clean program in_steps own_steps =
+    let steps = default_passed s words steps_built clean in_steps tt own_steps refl in
+    record {
+      program = program;
+      steps = (number_there 0 (2 ^ 64 - 1) (codes "steps") steps.0 (rows_after s.rules [] words) steps.1 steps.2).0;
+    }
+
+abbrev run_built : Shape
+run_built = slice_index_or (built chip_app).subs 0 help_shape
+
+abbrev plain_built : Shape
+plain_built = slice_index_or (built chip_app).subs 1 help_shape
 
 abbrev asm_built : Shape
 asm_built = slice_index_or (built chip_app).subs 2 help_shape
@@ -136,8 +151,17 @@ asm_built = slice_index_or (built chip_app).subs 2 help_shape
 abbrev inspection_built : Text → Shape
 inspection_built name = record (slice_index_or (built chip_app).subs 3 help_shape) { name = name }
 
-execution_owns : (name : Text) → Owns (execution_built name).rules (execution_built name).rules
-execution_owns name = (
+run_owns : Owns run_built.rules run_built.rules
+run_owns = (
+  (refl, λ takes. refl),
+  (
+    (refl, λ takes. absurd cc),
+    ((refl, λ takes. refl), ((refl, λ takes. refl), ((refl, λ takes. refl), ((refl, λ takes. refl), ((refl, λ takes. absurd cc), tt))))),
+  ),
+)
+
+plain_owns : Owns plain_built.rules plain_built.rules
+plain_owns = (
   (refl, λ takes. refl),
   ((refl, λ takes. absurd cc), ((refl, λ takes. refl), ((refl, λ takes. refl), ((refl, λ takes. refl), ((refl, λ takes. absurd cc), tt))))),
 )
@@ -148,16 +172,23 @@ asm_owns = ((refl, λ takes. refl), ((refl, λ takes. refl), ((refl, λ takes. a
 inspection_owns : (name : Text) → Owns (inspection_built name).rules (inspection_built name).rules
 inspection_owns name = ((refl, λ takes. refl), ((refl, λ takes. absurd cc), ((refl, λ takes. refl), ((refl, λ takes. absurd cc), tt))))
 
-execution_has : (name : Text) (words : List Text) → level_fault (execution_built name) [] nothing_held words false [] ≡ []
-    → HasExecution (rows_after (execution_built name).rules [] words)
-execution_has name words e =
-    let s = execution_built name in
-    let clean = faultless s words (execution_owns name) e in
-    let steps = default_passed s words steps_built clean (inr (inr (inr (inr (inl refl))))) tt refl refl in
+run_has : (words : List Text) → level_fault run_built [] nothing_held words false [] ≡ [] → HasProtectedRun (rows_after run_built.rules [] words)
+run_has words e =
+    let s = run_built in
+    let clean = faultless s words run_owns e in
+    let program = program_there s words clean refl (inl refl) refl (inr (inr (inl refl))) refl in
+    let limit = default_passed s words page_limit_built clean (inr (inr (inr (inr (inr (inl refl)))))) tt refl refl in
     record {
-      program = program_there s words clean refl (inl refl) refl (inr (inr (inl refl))) refl;
-      steps = (number_there 0 (2 ^ 64 - 1) (codes "steps") steps.0 (rows_after s.rules [] words) steps.1 steps.2).0;
+      execution = execution_there s words clean program (inr (inr (inr (inr (inl refl))))) refl;
+      page_limit = (number_there 0 (2 ^ 64 - 1) (codes "page-limit") limit.0 (rows_after s.rules [] words) limit.1 limit.2).0;
     }
+
+plain_has : (words : List Text) → level_fault plain_built [] nothing_held words false [] ≡ [] → HasExecution (rows_after plain_built.rules [] words)
+plain_has words e =
+    let s = plain_built in
+    let clean = faultless s words plain_owns e in
+    let program = program_there s words clean refl (inl refl) refl (inr (inr (inl refl))) refl in
+    execution_there s words clean program (inr (inr (inr (inr (inl refl))))) refl
 
 asm_has : (words : List Text) → level_fault asm_built [] nothing_held words false [] ≡ [] → HasProgram (rows_after asm_built.rules [] words)
 asm_has words e =
@@ -169,9 +200,13 @@ inspection_has name words e =
     let s = inspection_built name in
     program_there s words (faultless s words (inspection_owns name) e) refl (inl refl) refl (inr (inr (inl refl))) refl
 
-as_execution : (name : Text) (words : List Text) → level_fault (execution_built name) [] nothing_held words false [] ≡ []
-    → HasItsValues name (rows_after (execution_built name).rules [] words)
-as_execution name words e = let h = execution_has name words e in record { program = h.program; run = λ is. h; plain = λ is. h }
+as_run : (words : List Text) → level_fault run_built [] nothing_held words false [] ≡ []
+    → HasItsValues (codes "run") (rows_after run_built.rules [] words)
+as_run words e = let h = run_has words e in record { program = h.execution.program; run = λ is. h; plain = λ is. absurd cc }
+
+as_plain : (words : List Text) → level_fault plain_built [] nothing_held words false [] ≡ []
+    → HasItsValues (codes "plain") (rows_after plain_built.rules [] words)
+as_plain words e = let h = plain_has words e in record { program = h.program; run = λ is. absurd cc; plain = λ is. h }
 
 as_assembly : (words : List Text) → level_fault asm_built [] nothing_held words false [] ≡ []
     → HasItsValues (codes "asm") (rows_after asm_built.rules [] words)
@@ -199,8 +234,8 @@ command_has (Some p) free e =
         → (c : Bool) → bytes_eq (codes "asm") p.0 ≡ c → (d : Bool) → bytes_eq (codes "dis") p.0 ≡ d
         → (m : Bool) → bytes_eq (codes "measure") p.0 ≡ m → (h : Bool) → bytes_eq (codes "help") p.0 ≡ h
         → IfCommand (entered (built chip_app) (Some p))
-    go true x b y c z d u m v h w = rw x (as_execution (codes "run") p.1 (rw x at e))
-    go false x true y c z d u m v h w = rw (x, y) (as_execution (codes "plain") p.1 (rw (x, y) at e))
+    go true x b y c z d u m v h w = rw x (as_run p.1 (rw x at e))
+    go false x true y c z d u m v h w = rw (x, y) (as_plain p.1 (rw (x, y) at e))
     go false x false y true z d u m v h w = rw (x, y, z) (as_assembly p.1 (rw (x, y, z) at e))
     go false x false y false z true u m v h w = rw (x, y, z, u) (as_dis p.1 (rw (x, y, z, u) at e))
     go false x false y false z false u true v h w = rw (x, y, z, u, v) (as_measure p.1 (rw (x, y, z, u, v) at e))

@@ -151,7 +151,7 @@ asked_keeps P (Some p) r executes writes has e =
     go : (a : Bool) → bytes_eq p.0 (codes "run") ≡ a → (b : Bool) → bytes_eq p.0 (codes "plain") ≡ b
         → (c : Bool) → bytes_eq p.0 (codes "asm") ≡ c → (d : Bool) → bytes_eq p.0 (codes "dis") ≡ d
         → (m : Bool) → bytes_eq p.0 (codes "measure") ≡ m → P r
-    go true x b y c z d u m v = at (to_run (run_of p.1)) (executes p.1 (has.run x)).0 (rw x at e)
+    go true x b y c z d u m v = at (to_run (run_of p.1)) (executes p.1 (has.run x).execution).0 (rw x at e)
     go false x true y c z d u m v = at (to_run_plain (execution_of p.1)) (executes p.1 (has.plain y)).1 (rw (x, y) at e)
     go false x false y true z d u m v = at (to_assemble (text_of p.1)) (writes p.1 has.program).0 (rw (x, y, z) at e)
     go false x false y false z true u m v = at (to_disassemble (program_of p.1)) (writes p.1 has.program).1 (rw (x, y, z, u) at e)

@@ -35,6 +35,15 @@ steps_rule = record (new_rule (codes "steps")) {
   defaults = codes "10000000" ∷ [];
 }
 
+-- `--page-limit N`, any number of 64 bits, and the greatest where it is left out
+abbrev pub page_limit_rule : Rule
+page_limit_rule = record (new_rule (codes "page-limit")) {
+  long = Some (codes "page-limit");
+  value_names = 1;
+  parser = Some (Unsigned 0 (2 ^ 64 - 1));
+  defaults = codes "18446744073709551615" ∷ [];
+}
+
 -- what `asm` takes
 abbrev pub assembly_rules : List Rule
 assembly_rules = file_rule ∷ levels_rule ∷ []
@@ -43,9 +52,13 @@ assembly_rules = file_rule ∷ levels_rule ∷ []
 abbrev pub inspection_rules : List Rule
 inspection_rules = file_rule ∷ flat_rule ∷ levels_rule ∷ []
 
--- what `run` and `plain` take
+-- what `plain` takes
 abbrev pub execution_rules : List Rule
 execution_rules = inspection_rules ++ input_rule ∷ steps_rule ∷ []
+
+-- what `run` takes
+abbrev pub protected_run_rules : List Rule
+protected_run_rules = execution_rules ++ page_limit_rule ∷ []
 
 -- a command with these arguments
 abbrev pub command : Text → List Rule → Shape
@@ -59,7 +72,7 @@ chip_app = record {
     subcommand_required = true;
     arg_required_else_help = true;
   };
-  subs = command (codes "run") execution_rules
+  subs = command (codes "run") protected_run_rules
       ∷ command (codes "plain") execution_rules
       ∷ command (codes "asm") assembly_rules
       ∷ command (codes "dis") inspection_rules

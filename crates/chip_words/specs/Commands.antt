@@ -23,10 +23,14 @@ pub record HasExecution (values : List Row) : Type 0 where
   pub program : HasProgram values
   pub steps : HasNumber (codes "steps") values
 
+pub record HasProtectedRun (values : List Row) : Type 0 where
+  pub execution : HasExecution values
+  pub page_limit : HasNumber (codes "page-limit") values
+
 -- a command has the values that it can't do without
 pub record HasItsValues (name : Text) (values : List Row) : Type 0 where
   pub program : HasProgram values
-  pub run : bytes_eq name (codes "run") ≡ true → HasExecution values
+  pub run : bytes_eq name (codes "run") ≡ true → HasProtectedRun values
   pub plain : bytes_eq name (codes "plain") ≡ true → HasExecution values
 
 abbrev pub IfCommand : Option (Text × List Row) → Type 0

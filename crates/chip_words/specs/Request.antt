@@ -52,7 +52,7 @@ default_key =
     0 ∷ 1 ∷ 2 ∷ 3 ∷ 4 ∷ 5 ∷ 6 ∷ 7 ∷ 8 ∷ 9 ∷ 10 ∷ 11 ∷ 12 ∷ 13 ∷ 14 ∷ 15 ∷
     16 ∷ 17 ∷ 18 ∷ 19 ∷ 20 ∷ 21 ∷ 22 ∷ 23 ∷ 24 ∷ 25 ∷ 26 ∷ 27 ∷ 28 ∷ 29 ∷ 30 ∷ 31 ∷ []
 
--- the terms where the words name none
+-- the terms that hold where no word names another
 abbrev pub default_terms : Terms
 default_terms =
     record { device_key = default_key; tags = Hmac; page_limit = 2 ^ 64 - 1; nonce = replicate 16 0 }
@@ -99,9 +99,15 @@ abbrev pub execution_of : List Row → ExecutionAsked
 execution_of values =
     record { file = program_of values; input = input_of values; steps = steps_of values }
 
--- no value names the terms of a run
+abbrev pub page_limit_of : List Row → ℕ
+page_limit_of values = numeral_value (value_of (codes "page-limit") values)
+
+-- the page limit is the value's, and the other terms are those by default
+abbrev pub terms_of : List Row → Terms
+terms_of values = record default_terms { page_limit = page_limit_of values }
+
 abbrev pub run_of : List Row → RunAsked
-run_of values = record { execution = execution_of values; terms = default_terms }
+run_of values = record { execution = execution_of values; terms = terms_of values }
 
 -- ---- the request
 

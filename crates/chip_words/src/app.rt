@@ -3,8 +3,8 @@ ghost use Rattle.std.specs.Prelude.{◌≡◌, [], IfOk, false};
 ghost use Rattle.clap.specs.Walk.{rule_of};
 ghost use Rattle.clap.specs.Simple.{app_of, shape_of};
 ghost use Rattle.clap.specs.declared.builder.command.Command.TheViews.{out-Command as fields_of};
-ghost use Rattle.chip_words.specs.App.{assembly_rules, chip_app, command, execution_rules, inspection_rules};
-ghost use Rattle.chip_words.specs.App.{file_rule, flat_rule, input_rule, levels_rule, steps_rule};
+ghost use Rattle.chip_words.specs.App.{assembly_rules, chip_app, command, execution_rules, inspection_rules, protected_run_rules};
+ghost use Rattle.chip_words.specs.App.{file_rule, flat_rule, input_rule, levels_rule, page_limit_rule, steps_rule};
 
 use clap::{Arg, ArgAction, Command, value_parser};
 use std::alloc::{AllocError, Global};
@@ -12,7 +12,7 @@ use std::alloc::{AllocError, Global};
 pub(crate) fn app<'a>(alloc: Global) -> Result<Command<'a>, AllocError>
     ensures { IfOk result (λ app. app_of app ≡ chip_app) }
 {
-    let run = execution(alloc, "run", "Runs a program on protected memory")?;
+    let run = protected_run(alloc, "run", "Runs a program on protected memory")?;
     let plain = execution(alloc, "plain", "Runs a program on the plain machine")?;
     let asm = assembly(alloc, "asm", "Makes the ELF file of an assembly text")?;
     let dis = inspection(alloc, "dis", "Lists the instructions of a program")?;
@@ -26,6 +26,19 @@ pub(crate) fn app<'a>(alloc: Global) -> Result<Command<'a>, AllocError>
         .subcommand(dis)?
         .subcommand(measure)?;
     Ok(app)
+}
+
+// A command that runs a program on protected memory.
+fn protected_run<'a>(
+    alloc: Global,
+    name: &'a str,
+    about: &'a str,
+) -> Result<Command<'a>, AllocError>
+    ensures shape { IfOk result (λ c. shape_of c ≡ command name.entry.now protected_run_rules) }
+    ensures local { IfOk result (λ c. (fields_of c).has_globals ≡ false) }
+{
+    let command = execution(alloc, name, about)?.arg(page_limit(alloc))?;
+    Ok(command)
 }
 
 // A command that runs a program.
@@ -116,4 +129,16 @@ fn steps<'a>(alloc: Global) -> Arg<'a>
         .value_parser(value_parser!(u64))
         .default_value("10000000")
         .help("How many instructions may be retired")
+}
+
+fn page_limit<'a>(alloc: Global) -> Arg<'a>
+    ensures rule { rule_of result ≡ page_limit_rule }
+    ensures local { result.global ≡ false }
+{
+    Arg::new(alloc, "page-limit")
+        .long("page-limit")
+        .value_name("N")
+        .value_parser(value_parser!(u64))
+        .default_value("18446744073709551615")
+        .help("How high a page counter may rise")
 }

@@ -120,6 +120,30 @@ fn requests(rt: HostRuntime) -> Result<(), Fail> {
     Ok(())
 }
 
+fn page_limit(alloc: Global, line: &str) -> Result<Option<u64>, AllocError> {
+    let words: Vec<&str> = line.split_whitespace().collect(alloc)?;
+    let Ok(Request::Run(run)) = read_words(alloc, words.as_slice()) else {
+        return Ok(None);
+    };
+    Ok(Some(run.terms.page_limit))
+}
+
+#[test]
+fn page_limits(rt: HostRuntime) -> Result<(), Fail> {
+    let rows = [
+        ("chip run p", u64::MAX),
+        ("chip run p --steps 3", u64::MAX),
+        ("chip run p --page-limit 0", 0),
+        ("chip run p --page-limit 18446744073709551615", u64::MAX),
+        ("chip run --page-limit=2 p --steps 3 --levels 1", 2),
+        ("chip run --page-limit +007 --steps 3 -- p", 7),
+    ];
+    for (line, expected) in rows {
+        assert_eq!(rt; page_limit(rt.alloc(), line)?, Some(expected), "{line}");
+    }
+    Ok(())
+}
+
 // The device's key is the bytes 00 to 1f, tags are HMACs, a page counter may be any number of 64 bits, and the nonce is
 // zeros.
 #[test]
@@ -154,19 +178,31 @@ fn refusals(rt: HostRuntime) -> Result<(), Fail> {
         "chip run p --flat=true",
         "chip run p --steps -0",
         "chip run p --steps 18446744073709551616",
+        "chip run p --page-limit 18446744073709551616",
+        "chip run p --page-limit x",
+        "chip run p --page-limit -1",
+        "chip run p --page-limit=-1",
+        "chip run p --page-limit 1 --page-limit 1",
+        "chip run p --page-limit",
+        "chip run p --page-limit=",
+        "chip run p --page_limit 1",
         "chip run p --input --flat",
         "chip run p --key 00",
         "chip run p -f",
         "chip plain p -- --flat",
+        "chip plain p --page-limit 1",
         "chip dis p --steps 3",
         "chip dis p --input i",
+        "chip dis p --page-limit 1",
         "chip asm",
         "chip asm p --flat",
         "chip asm p --input i",
         "chip asm p --levels 7",
+        "chip asm p --page-limit 1",
         "chip measure",
         "chip measure p q",
         "chip measure p --steps 3",
+        "chip measure p --page-limit 1",
         "chip assemble p",
         "chip --flat run p",
         "chip frob",

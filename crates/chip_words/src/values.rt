@@ -2,8 +2,8 @@
 ghost use Rattle.std.specs.Prelude.{◌≡◌, IsSome, Some, option_map};
 ghost use Rattle.clap.specs.Walk.{first_of, rows_of};
 ghost use Rattle.clap.specs.Words.{found_of, subcommand_rows_of};
-ghost use Rattle.chip_words.specs.Commands.{HasExecution, HasNumber, HasProgram, HasValue, IfCommand};
-ghost use Rattle.chip_words.specs.Request.{asked_in, execution_of, file_of, form_of, is_flat as is_flat_in, levels_of, numeral_value, program_of, run_of, value_of};
+ghost use Rattle.chip_words.specs.Commands.{HasExecution, HasNumber, HasProgram, HasProtectedRun, HasValue, IfCommand};
+ghost use Rattle.chip_words.specs.Request.{asked_in, execution_of, file_of, form_of, is_flat as is_flat_in, levels_of, numeral_value, program_of, run_of, terms_of, value_of};
 ghost use Rattle.chip_words.specs.Words.{asked, execution_asked, file_asked, run_asked};
 
 use crate::request::{Execution, ProgramFile, ProgramForm, ProtectedRun, Request, Terms};
@@ -27,14 +27,24 @@ pub(crate) fn requested<'a>(matches: &ArgMatches<'a>) -> Request<'a>
     }
 }
 
-// A run on protected memory. No word names its terms yet.
 fn protected_run<'a>(values: &ArgMatches<'a>) -> ProtectedRun<'a>
-    requires { HasExecution (rows_of (found_of values.now)) }
+    requires { HasProtectedRun (rows_of (found_of values.now)) }
     ensures { run_asked result ≡ run_of (rows_of (found_of values.now)) }
 {
     ProtectedRun {
         execution: execution(values),
-        terms: Terms::default(),
+        terms: terms(values),
+    }
+}
+
+// The terms of a run. Words name its page limit alone.
+fn terms(values: &ArgMatches<'_>) -> Terms
+    requires { HasProtectedRun (rows_of (found_of values.now)) }
+    ensures { result ≡ terms_of (rows_of (found_of values.now)) }
+{
+    Terms {
+        page_limit: number(values, "page-limit"),
+        ..Terms::default()
     }
 }
 

@@ -1,3 +1,4 @@
 mod Pieces
 pub mod Enciphering
 pub mod RisingCounters
+pub mod BlocksApart

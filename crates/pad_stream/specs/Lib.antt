@@ -1,3 +1,4 @@
 pub mod Pad
 pub mod PadEngine
 pub mod Pads
+pub mod PadBlocks

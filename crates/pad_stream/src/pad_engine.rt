@@ -1,6 +1,8 @@
 // The engine that enciphers and deciphers the lines of one memory.
-ghost use Rattle.std.specs.Prelude.{◌≡◌, ◌<◌, IsOk, IfOk, OnOk, OnErr};
+ghost use Rattle.std.specs.Prelude.{◌≡◌, ◌<◌, ◌^◌, length, IsOk, IfOk, OnOk, OnErr};
 ghost use Rattle.pad_stream.specs.Pad.{cipher_of};
+ghost use Rattle.pad_stream.specs.PadBlocks.{AreFit, ShareNoBlock};
+ghost use Rattle.pad_stream.specs.Pads.{NoRepeat};
 ghost use Rattle.pad_stream.specs.PadEngine.{PadEngineView, new_pads, with_room, after_encrypt};
 
 use crate::pad::mixed_line;
@@ -21,14 +23,15 @@ pub struct PadEngine {
 impl Model for PadEngine {
     ghost use Rattle.std.specs.Prelude.{length, ◌+◌, ◌≤◌};
     ghost use Rattle.std.specs.Vec.{vec_capacity};
+    ghost use Rattle.pad_stream.specs.PadBlocks.{AreFit};
     ghost use Rattle.pad_stream.specs.PadEngine.{PadEngineView};
 
     ghost Value = { PadEngineView };
 
     ghost view = { λ inside. record { key = inside.key; used = inside.used.items; room = inside.room } };
 
-    // There is memory for the entries that are sure to find it.
-    ghost invariant = { λ inside. length inside.used.items + inside.room ≤ vec_capacity inside.used };
+    // Lines and counters fit their types, and there is memory for the entries that are sure to find it.
+    ghost invariant = { λ inside. AreFit inside.used.items × (length inside.used.items + inside.room ≤ vec_capacity inside.used) };
 }
 
 impl PadEngine {
@@ -81,9 +84,13 @@ impl PadEngine {
         mixed_line(&self.key, line, counter, cipher)
     }
 
-    /// The lines and counters that something was enciphered under, in order.
+    /// The lines and counters that something was enciphered under, in order. Where none of them repeats, no block of
+    /// all their pads does.
     pub fn finish(self) -> Pads
-        ensures { result ≡ self.used }
+        ensures used { result ≡ self.used }
+        ensures few { length result < 2 ^ 64 }
+        ensures fit { AreFit result }
+        ensures apart { NoRepeat result → ShareNoBlock self.key result }
     {
         let PadEngine {
             key: _key,

@@ -8,7 +8,8 @@ use Rattle.sec_base.specs.declared.stop.MemStop.TheVariants.{Tampered, Spent, No
 use Rattle.bus_model.specs.BusHistory.{BusHistory}
 use Rattle.tag_engine.specs.TagEngine.{TagEngineView}
 use Rattle.checked_bus.specs.Steps.{Moves as StepMoves}
-use Rattle.page_reencrypt.specs.SealedLines.{SealedLinesView, Moves, lasting_stop, made, unwritten, used}
+use Rattle.page_reencrypt.specs.SealedLines.{SealedLinesView, Moves, made, used}
+use Rattle.page_reencrypt.specs.Stops.{lasting_stop, unwritten}
 use Rattle.checked_bus.proofs.Steps.{moves_not as step_not, moves_on as step_on, counted_not, counted_on}
 
 -- how many items were added

@@ -13,12 +13,13 @@ use Rattle.sec_base.proofs.LastMessages.{last_pair-data_pairs, no_part}
 use Rattle.sec_base.proofs.SamePlaces.{false_from}
 use Rattle.checked_bus.proofs.LineMessages.{last_made, some_same}
 use Rattle.pad_stream.specs.Pads.{AreRising, IsBefore, of_lines}
-use Rattle.page_reencrypt.specs.Contents.{AreUnskipped, AreWithin, HoldsLast, counter_in, entries_of, never_written, next_counter}
+use Rattle.page_reencrypt.specs.Contents.{AreWithin, HoldsLast, counter_in, never_written}
+use Rattle.page_reencrypt.specs.Outside.{HasCounter}
 use Rattle.checked_bus.specs.Steps.{IsCurrent}
 
 -- What a list holds
 
-Contains-skip : {A : Type 0} (first : A) (rest : List A) (item : A) → Contains rest item → Contains (first ∷ rest) item
+pub Contains-skip : {A : Type 0} (first : A) (rest : List A) (item : A) → Contains rest item → Contains (first ∷ rest) item
 Contains-skip first rest item listed = (suc listed.0, omega (arith, listed.1), listed.2)
 
 listed_get : {A : Type 0} (items : List A) (item : A) (at : ℕ) (below : at < length items) (is : Contains items item) → is.0 ≡ at → slice_get items at ≡ Some item
@@ -74,9 +75,12 @@ not_before : (counter : Counter) → IsBefore counter counter → ⊥
 not_before counter (inl page) = omega arith
 not_before counter (inr line) = omega (arith, line.1)
 
-page_most : (before last : Counter) → IsBefore before last → before.page ≤ last.page
-page_most before last (inl page) = omega arith
-page_most before last (inr line) = omega (arith, line.0)
+-- a counter that comes behind another comes behind all that come before that one
+before_on : (first second third : Counter) → IsBefore first second → IsBefore second third → IsBefore first third
+before_on first second third (inl low) (inl high) = inl (omega (arith, low, high))
+before_on first second third (inl low) (inr high) = inl (omega (arith, low, high.0))
+before_on first second third (inr low) (inl high) = inl (omega (arith, low.0, high))
+before_on first second third (inr low) (inr high) = inr (omega (arith, low.0, high.0), omega (arith, low.1, high.1))
 
 -- The messages of a line
 
@@ -190,49 +194,47 @@ module _ (line : ℕ) where
         | inr none ↦ absurd (cc)
       ]
 
-  last_most : (used : List (ℕ × Counter)) (seen : ℕ × Option (ℕ × Counter)) (last before : Counter) → Rise used →
-      value_of (fold (after_item (counter_part line)) seen used) ≡ Some last → Contains used (line, before) → before.page ≤ last.page
-  last_most [] seen last before rise is listed = absurd (omega (arith, listed.1))
-  last_most (entry ∷ used) seen last before rise is (suc k, within, at) =
-      last_most used (after_item (counter_part line) seen entry) last before rise.1 is (k, omega (arith, within), at)
-  last_most (entry ∷ used) seen last before rise is (zero, within, at) =
+  all_before : (used : List (ℕ × Counter)) (seen : ℕ × Option (ℕ × Counter)) (last next before : Counter) → Rise used → IsBefore last next →
+      value_of (fold (after_item (counter_part line)) seen used) ≡ Some last → Contains used (line, before) → IsBefore before next
+  all_before [] seen last next before rise later is listed = absurd (omega (arith, listed.1))
+  all_before (entry ∷ used) seen last next before rise later is (suc k, within, at) =
+      all_before used (after_item (counter_part line) seen entry) last next before rise.1 later is (k, omega (arith, within), at)
+  all_before (entry ∷ used) seen last next before rise later is (zero, within, at) =
       let lines : entry.0 ≡ line = ap (λ (e : ℕ × Counter). e.0) at in
       let counters : entry.1 ≡ before = ap (λ (e : ℕ × Counter). e.1) at in
       elim (last_among used (after_item (counter_part line) seen entry) last is) [
         | inl listed ↦
             let behind : IsBefore entry.1 last = rise.0 last (subst (λ (l : ℕ). Contains used (l, last)) (sym lines) listed) in
-            page_most before last (subst (λ (c : Counter). IsBefore c last) counters behind)
+            before_on before last next (subst (λ (c : Counter). IsBefore c last) counters behind) later
         | inr now ↦
             let same : nat_eq entry.0 line ≡ true = (Decides-eqb entry.0 line).1 lines in
             let here : value_of (after_item (counter_part line) seen entry) ≡ Some entry.1 =
             ap (λ (b : Bool). value_of (seen.0 + 1, option_or (option_map (λ (x : Counter). (seen.0, x)) (cond b (Some entry.1) None)) seen.1)) same in
             let both : entry.1 ≡ last = some_same entry.1 last (sym here ∙ now) in
-            omega (arith, ap (λ (c : Counter). c.page) (sym counters ∙ both))
+            subst (λ (c : Counter). IsBefore c next) (sym both ∙ counters) later
       ]
 
-  -- and none of them comes behind it
-  pub last_greatest : (used : List (ℕ × Counter)) (last before : Counter) → AreRising used → last_pair line used ≡ Some last →
-      Contains used (line, before) → before.page ≤ last.page
+  -- what comes behind a line's last counter comes behind all of the line's
+  pub last_greatest : (used : List (ℕ × Counter)) (last next before : Counter) → AreRising used → last_pair line used ≡ Some last → IsBefore last next →
+      Contains used (line, before) → IsBefore before next
   unfolding last_at
-  last_greatest used last before rising is listed = last_most used (0, None) last before (rise_by used rising) is listed
+  last_greatest used last next before rising is later listed = all_before used (0, None) last next before (rise_by used rising) later is listed
 
 -- A line's next counter
 
-counter_by : (used : List (ℕ × Counter)) (line : ℕ) (before : Counter) (last : Option Counter) → AreRising used → last_pair line used ≡ last →
-    Contains used (line, before) → before.page ≤ (unwrap_or last never_written).page
-counter_by used line before (Some last) rising is listed = last_greatest line used last before rising is listed
-counter_by used line before None rising is listed =
-    let none : counter_part line (line, before) ≡ None = no_part (counter_part line) used is listed.0 (line, before) (get_of used (line, before) listed) in
+-- a fresh line has no entry
+pub none_listed : (used : List (ℕ × Counter)) (line : ℕ) (counter : Counter) → IsFresh line used → Contains used (line, counter) → ⊥
+none_listed used line counter fresh listed =
+    let none : counter_part line (line, counter) ≡ None = no_part (counter_part line) used fresh listed.0 (line, counter) (get_of used (line, counter) listed) in
     let same : nat_eq line line ≡ true = (Decides-eqb line line).1 refl in
-    let some : counter_part line (line, before) ≡ Some before = ap (λ (b : Bool). cond b (Some before) None) same in
+    let some : counter_part line (line, counter) ≡ Some counter = ap (λ (b : Bool). cond b (Some counter) None) same in
     absurd (cc)
 
--- each counter that a line was encrypted under comes before its next one
-pub before_next : (used : List (ℕ × Counter)) (line : ℕ) (before : Counter) → AreRising used → Contains used (line, before) →
-    IsBefore before (next_counter (counter_in used line))
-before_next used line before rising listed =
-    let most : before.page ≤ (counter_in used line).page = counter_by used line before (last_pair line used) rising refl listed in
-    inl (omega (arith, most))
+-- what comes behind a line's counter comes behind each counter that the line was encrypted under
+pub before_next : (used : List (ℕ × Counter)) (line : ℕ) (counter next before : Counter) → AreRising used → HasCounter used line counter →
+    IsBefore counter next → Contains used (line, before) → IsBefore before next
+before_next used line counter next before rising (inl fresh) later listed = absurd (none_listed used line before fresh.0 listed)
+before_next used line counter next before rising (inr had) later listed = last_greatest line used counter next before rising had.0 later listed
 
 fresh_by : (limit : ℕ) (used : List (ℕ × Counter)) (line : ℕ) (last : Option Counter) → AreWithin limit used → last_pair line used ≡ last →
     unwrap_or last never_written ≡ never_written → last ≡ None
@@ -255,14 +257,19 @@ limit_by limit used line (Some last) within is = within.limited line last (last_
 pub counter_limited : (limit : ℕ) (used : List (ℕ × Counter)) (line : ℕ) → AreWithin limit used → (counter_in used line).page ≤ limit
 counter_limited limit used line within = limit_by limit used line (last_pair line used) within refl
 
-reached_by : (used : List (ℕ × Counter)) (line : ℕ) (last : Option Counter) → AreUnskipped used → last_pair line used ≡ last →
-    (unwrap_or last never_written).page ≤ entries_of used line
-reached_by used line None was is = omega arith
-reached_by used line (Some last) was is = was.reached line last (last_listed line used last is)
+has_by : (limit : ℕ) (used : List (ℕ × Counter)) (line : ℕ) (last : Option Counter) → AreWithin limit used → last_pair line used ≡ last →
+    HasCounter used line (unwrap_or last never_written)
+has_by limit used line None within is = inl (is, refl)
+has_by limit used line (Some last) within is = inr (is, within.started line last (last_listed line used last is))
 
--- a line was encrypted as often as its page counter says, at least
-pub counter_reached : (used : List (ℕ × Counter)) (line : ℕ) → AreUnskipped used → (counter_in used line).page ≤ entries_of used line
-counter_reached used line was = reached_by used line (last_pair line used) was refl
+-- each line has its counter
+pub has_counter : (limit : ℕ) (used : List (ℕ × Counter)) (line : ℕ) → AreWithin limit used → HasCounter used line (counter_in used line)
+has_counter limit used line within = has_by limit used line (last_pair line used) within refl
+
+-- and no other
+pub counter_had : (used : List (ℕ × Counter)) (line : ℕ) (counter : Counter) → HasCounter used line counter → counter_in used line ≡ counter
+counter_had used line counter (inl fresh) = ap (λ (last : Option Counter). unwrap_or last never_written) fresh.0 ∙ sym fresh.1
+counter_had used line counter (inr had) = ap (λ (last : Option Counter). unwrap_or last never_written) had.0
 
 -- A line's last message
 

@@ -10,7 +10,7 @@ use Rattle.bus_model.specs.BusHistory.{BusHistory}
 use Rattle.bus_model.specs.FirstLie.{HonestOrCaught}
 use Rattle.checked_bus.specs.Steps.{IsAccounted}
 use Rattle.checked_bus.proofs.CheckedReads.{still_honest}
-use Rattle.page_reencrypt.specs.SealedLines.{lasting_stop}
+use Rattle.page_reencrypt.specs.Stops.{lasting_stop}
 
 -- a stop that does not last is none of these
 pub going_not_memory : (stopped : Option MemStop) → lasting_stop stopped ≡ None → stopped ≢ Some NoMemory

@@ -1,312 +1,346 @@
 -- What a write of a line under its next counter makes of the lines outside.
-use Rattle.std.proofs.Common.{◌≡◌, ◌≢◌, ◌↔◌, ◌⊎◌, inl, inr, ℕ, ◌+◌, ◌<◌, ◌≤◌, List, [], ◌∷◌, ◌++◌, length, Option, Some, None, Result, Ok, Err, OnOk, OnErr, slice_index, slice_index_or, slice_set, refl, ap, sym, ◌∙◌, subst, arith, length-append}
+use Rattle.std.proofs.Common.{◌≡◌, ◌≢◌, ◌⊎◌, inl, inr, ℕ, ◌<◌, ◌≤◌, List, [], length, map, take, get_or, slice_set, Option, Some, None, Contains, Result, Ok, Err, OnOk, OnErr, refl, ap, sym, ◌∙◌, subst, arith}
 use Rattle.std.specs.Option.{option_or}
 use Rattle.std.specs.Result.{result_err}
-use Rattle.std.proofs.lemmas.List.{append-nil, get_or_read, set-get_or}
+use Rattle.std.proofs.lemmas.Bool.{cases_eq}
+use Rattle.std.proofs.lemmas.List.{append-nil, get_or_default, length-append, set-get_or, take_all}
 use Rattle.sec_base.specs.declared.counter.Counter.{Counter}
+use Rattle.sec_base.specs.declared.evidence.Evidence.{Evidence}
 use Rattle.sec_base.specs.declared.message.Message.{Message}
-use Rattle.sec_base.specs.declared.message.Message.TheVariants.{Line}
 use Rattle.sec_base.specs.declared.place.Place.{Place}
-use Rattle.sec_base.specs.declared.place.Place.TheVariants.{Line as line_place}
 use Rattle.sec_base.specs.declared.stop.MemStop.{MemStop}
 use Rattle.sec_base.specs.declared.stop.MemStop.TheVariants.{Tampered, Spent, NoMemory}
-use Rattle.sec_base.specs.Geometry.{line_count, page_of}
+use Rattle.sec_base.specs.Geometry.{line_count, page_count, page_of}
+use Rattle.sec_base.specs.LastMessage.{data_pairs}
 use Rattle.sec_base.specs.Lines.{with_line}
-use Rattle.sec_base.specs.Place.{at_place}
-use Rattle.sec_base.proofs.JoinedLines.{with_line-joined_lines}
+use Rattle.sec_base.proofs.JoinedLines.{joined_lines-same, with_line-joined_lines}
 use Rattle.bus_model.specs.BusHistory.{BusHistory}
-use Rattle.tag_engine.specs.TagEngine.{TagEngineView, tags_of, with_room}
-use Rattle.pad_stream.specs.Pad.{cipher_of}
-use Rattle.pad_stream.specs.PadEngine.{PadEngineView}
-use Rattle.pad_stream.proofs.Enciphering.{length-cipher_of}
-use Rattle.checked_bus.specs.Accesses.{AreCounted}
-use Rattle.checked_bus.specs.SealedLine.{sealed_line}
+use Rattle.tag_engine.specs.TagEngine.{tags_of}
 use Rattle.checked_bus.specs.Steps.{IsAccounted, Moves as StepMoves}
-use Rattle.checked_bus.proofs.LineMessages.{last_data-same, last_data-other}
-use Rattle.checked_bus.proofs.Steps.{counted_not}
-use Rattle.page_reencrypt.specs.Contents.{IsSpent, bytes_of, contents_of, counter_in, last_counter, line_bytes, next_counter}
+use Rattle.checked_bus.proofs.Steps.{counted_not, moves_not as step_not}
+use Rattle.split_counter.specs.CounterBlock.{CounterBlockView, new_block}
+use Rattle.page_reencrypt.specs.Contents.{AreWithin, bytes_of, contents_of, counter_in, last_counter, line_bytes, lines_encrypted, next_counter}
 use Rattle.page_reencrypt.specs.LineLengths.{length-line_bytes}
-use Rattle.page_reencrypt.specs.NextWrites.{IsMadeNext, IsNextWrite, IsUnmade, WriteParts, cipher_next, counter_next}
-use Rattle.page_reencrypt.specs.SealedLines.{AccountsForAll, AreCurrent, AreProtected, IsProtected, Moves, SealedLinesView, contents, lasting_stop, unwritten}
-use Rattle.page_reencrypt.proofs.Protected.{current_more, protected_as, same_kept, same_tags, unwritten_protected, written_protected}
-use Rattle.page_reencrypt.proofs.Stops.{going_not_memory, going_not_tampered, other_account, other_stop}
+use Rattle.page_reencrypt.specs.Outside.{IsWrite, IsWriteOrSpent, MemoryTerms, OutsideView, terms_of}
+use Rattle.page_reencrypt.specs.SealedLines.{AccountsForAll, AreCurrent, AreProtected, IsSealedAnew, IsSealedInPart, IsTamperedBeside, Moves, SealedLinesView, contents, lines_of_write}
+use Rattle.page_reencrypt.specs.SealedLinesInside.{outside_of}
+use Rattle.page_reencrypt.specs.Stops.{lasting_stop, unwritten}
+use Rattle.page_reencrypt.proofs.Entries.{encrypted_itself}
+use Rattle.page_reencrypt.proofs.LineReads.{page_inside}
+use Rattle.page_reencrypt.proofs.Protected.{sealed_current, sealed_protected}
 use Rattle.page_reencrypt.proofs.RisingPairs.{counter_limited}
+use Rattle.page_reencrypt.proofs.Sealing.{listed_or_not}
+use Rattle.page_reencrypt.proofs.Stops.{going_not_memory, going_not_tampered, other_stop}
+use Rattle.page_reencrypt.proofs.Unmade.{protected_as, same_kept, same_tags}
 
--- False answers, where no call stopped
+-- the block that was read is that of the line's page
+pub block_there : (pages : ℕ) (blocks : List CounterBlockView) (used : List (ℕ × Counter)) (line page : ℕ) (block : CounterBlockView) → AreCurrent blocks pages used →
+    page_of line < pages → page ≡ page_of line → block ≡ get_or blocks page block → block ≡ get_or blocks (page_of line) new_block
+block_there pages blocks used line page block are inside page_is read =
+    read ∙ get_or_default blocks page block new_block (omega (arith, inside, page_is, are.long)) ∙ ap (λ (p : ℕ). get_or blocks p new_block) page_is
 
-module _ {T : Type 0} (d n : T → List ℕ → List ℕ) (history : BusHistory) (engine engine' : TagEngineView T) where
-  abbrev Accounted : TagEngineView T → TagEngineView T → List (ℕ × Counter) → BusHistory → Type 0
-  Accounted tagging seen used found = IsAccounted (tags_of d n tagging) used seen.made found None seen.evidence
+-- its page counter is within the limit
+pub block_limited : (limit pages : ℕ) (blocks : List CounterBlockView) (used : List (ℕ × Counter)) (line : ℕ) (block : CounterBlockView) →
+    AreWithin limit used → AreCurrent blocks pages used → page_of line < pages → block ≡ get_or blocks (page_of line) new_block → block.page ≤ limit
+block_limited limit pages blocks used line block within are inside at =
+    let here : (counter_in used line).page ≡ block.page =
+    ap (λ (c : Counter). c.page) (are.current (page_of line) inside line refl) ∙ ap (λ (b : CounterBlockView). b.page) (sym at) in
+    omega (arith, here, counter_limited limit used line within)
 
-  -- what was used, and memory for another message, say nothing of them
-  pub roomy_accounted : engine' ≡ with_room 1 engine → (used more : List (ℕ × Counter)) → Accounted engine engine used history → Accounted engine engine' more history
-  roomy_accounted roomy used more was =
-      subst (λ (e : TagEngineView T). Accounted engine e more history) (sym roomy)
-      (other_account (tags_of d n engine) used more engine.made history None None engine.evidence (λ place is. cc) (λ place is. cc) was)
+-- The stop that a memory has after a call: the one from before where the call did not stop, else that of the call.
+abbrev pub Keeps : Option MemStop → Option MemStop → Option MemStop → Type 0
+Keeps before stop stopped =
+    ((stop ≡ None) × (stopped ≡ before)) ⊎ ((stopped ≡ stop) × (lasting_stop stop ≡ stop) × (stop ≢ None))
 
-  pub same_accounted : engine' ≡ engine → (used more : List (ℕ × Counter)) → Accounted engine engine used history → Accounted engine engine' more history
-  same_accounted same used more was =
-      subst (λ (e : TagEngineView T). Accounted engine e more history) (sym same)
-      (other_account (tags_of d n engine) used more engine.made history None None engine.evidence (λ place is. cc) (λ place is. cc) was)
+module _ (before stop stopped : Option MemStop) (keeps : Keeps before stop stopped) (going : lasting_stop before ≡ None) where
+  keeps_going : lasting_stop stopped ≡ None → stop ≡ None
+  keeps_going goes_on =
+      elim keeps [
+        | inl on ↦ on.0
+        | inr ended ↦ sym ended.1 ∙ ap lasting_stop (sym ended.0) ∙ goes_on
+      ]
 
-  -- what is so of an engine with such memory is so of it
-  pub honest_on : (history' : BusHistory) (after : TagEngineView T) → engine' ≡ with_room 1 engine →
-      ((used more : List (ℕ × Counter)) → Accounted engine' engine' used history → Accounted engine' after more history') →
-      (used more : List (ℕ × Counter)) → Accounted engine engine used history → Accounted engine after more history'
-  honest_on history' after roomy honest used more =
-      subst (λ (e : TagEngineView T). Accounted e e used history → Accounted e after more history') roomy (honest used more)
+  keeps_memory : stopped ≢ Some NoMemory → stop ≢ Some NoMemory
+  keeps_memory goes_on is =
+      elim keeps [
+        | inl on ↦ let none : None ≡ Some NoMemory = sym on.0 ∙ is in absurd (cc)
+        | inr ended ↦ goes_on (ended.0 ∙ is)
+      ]
 
--- What the memory holds
+  keeps_spent : (page : ℕ) → stopped ≡ Some (Spent page) → before ≡ Some (Spent page)
+  keeps_spent page is =
+      elim keeps [
+        | inl on ↦ sym on.1 ∙ is
+        | inr ended ↦ absurd (ended.2 (sym ended.1 ∙ ap lasting_stop (sym ended.0 ∙ is)))
+      ]
 
-pub contents_more : (key : List ℕ) (lines : ℕ) (made : List Message) (line : ℕ) (counter : Counter) (bytes : List ℕ) → line < lines →
-    cipher_of key line counter (cipher_of key line counter bytes) ≡ bytes →
-    contents_of key lines (made ++ Line line counter (cipher_of key line counter bytes) ∷ []) ≡ with_line (contents_of key lines made) line bytes
-contents_more key lines made line counter bytes inside undone =
-    let cipher : List ℕ = cipher_of key line counter bytes in
-    sym (with_line-joined_lines (line_bytes key made) (line_bytes key (made ++ Line line counter cipher ∷ [])) lines line bytes
-    (length-line_bytes key made) inside
-    (ap (bytes_of key line) (last_data-same made line counter cipher) ∙ undone)
-    (λ (other : ℕ) (differs : other ≢ line). ap (bytes_of key other) (last_data-other made line other counter cipher differs)))
+  keeps_unwritten : unwritten stop ≤ unwritten stopped
+  keeps_unwritten =
+      elim keeps [
+        | inl on ↦ let none : unwritten stop ≡ 0 = ap unwritten on.0 in omega (arith, none)
+        | inr ended ↦ let same : unwritten stopped ≡ unwritten stop = ap unwritten ended.0 in omega (arith, same)
+      ]
 
--- the number that was read is the line's
-pub counter_read : (counters : List ℕ) (lines : ℕ) (used : List (ℕ × Counter)) (line writes : ℕ) → AreCurrent counters lines used → line < lines →
-    writes ≡ slice_index_or counters line writes → writes ≡ slice_index counters line
-counter_read counters lines used line writes current inside read =
-    let below : line < length counters = omega (arith, current.long) in get_or_read counters line writes below read 0
+  keeps_account : (tag_of : Message → List ℕ) (used : List (ℕ × Counter)) (made : List Message) (history : BusHistory) (evidence : Option Evidence) →
+      IsAccounted tag_of used made history stop evidence → IsAccounted tag_of used made history stopped evidence
+  keeps_account tag_of used made history evidence was =
+      elim keeps [
+        | inl on ↦
+            other_stop tag_of used made history stop stopped evidence (λ place is. let none : None ≡ Some (Tampered place) = sym on.0 ∙ is in cc)
+            (λ place is. going_not_tampered before place going (sym on.1 ∙ is)) was
+        | inr ended ↦ subst (λ (s : Option MemStop). IsAccounted tag_of used made history s evidence) (sym ended.0) was
+      ]
 
-module _ {B T : Type 0} (d n : T → List ℕ → List ℕ) (history : B → BusHistory) (bus_moved : B → B → Type 0) (m : SealedLinesView B T) (line writes : ℕ) (bytes : List ℕ)
-    (bus' : B) (engine' : TagEngineView T) (pads' : PadEngineView) (writes' : ℕ) (counters' : List ℕ)
-    (kept : AreProtected d n history m) (current : AreCurrent m.counters (line_count m.engine.levels) m.pads.used)
-    (going : lasting_stop m.stopped ≡ None) (inside : line < line_count m.engine.levels)
-    (read : writes ≡ slice_index m.counters line) (set : counters' ≡ slice_set m.counters line writes')
-    (step : StepMoves (history m.bus) m.engine (history bus') engine') where
-  -- the parts before and after, and the memory after
-  abbrev old : WriteParts T
-  old = record { history = history m.bus; engine = m.engine; pads = m.pads; writes = writes }
+-- Nothing was sealed
+pub sealed_none : {B T : Type 0} (line : ℕ) (bytes : List ℕ) (old new : SealedLinesView B T) → new.pads.used ≡ old.pads.used → new.engine.made ≡ old.engine.made →
+    IsSealedInPart line bytes old new
+unfolding data_pairs
+sealed_none line bytes old new used made = record {
+  count = 0;
+  within = omega arith;
+  sealed = record {
+    entries = used ∙ sym (append-nil old.pads.used);
+    more = [];
+    messages = made ∙ sym (append-nil old.engine.made);
+    pairs = refl;
+    as_many = refl;
+    own = λ listed. absurd (omega (arith, listed.1));
+  };
+}
 
-  abbrev new : WriteParts T
-  new = record { history = history bus'; engine = engine'; pads = pads'; writes = writes' }
+module _ {B T : Type 0} (d n : T → List ℕ → List ℕ) (history : B → BusHistory) (bus_moved : B → B → Type 0) (m : SealedLinesView B T) (line : ℕ) (bytes : List ℕ)
+    (block : CounterBlockView) (new : OutsideView B T) (block' : CounterBlockView) (blocks' : List CounterBlockView)
+    (kept : AreProtected d n history m) (going : lasting_stop m.stopped ≡ None)
+    (current : AreCurrent m.blocks (page_count m.engine.levels) m.pads.used) (inside : line < line_count m.engine.levels)
+    (at : block ≡ get_or m.blocks (page_of line) new_block) (set : blocks' ≡ slice_set m.blocks (page_of line) block') where
+  abbrev old : OutsideView B T
+  old = outside_of m
+
+  abbrev terms : MemoryTerms B
+  terms = terms_of history bus_moved d n (outside_of m)
 
   abbrev after : Option MemStop → SealedLinesView B T
-  after stopped = record m { bus = bus'; engine = engine'; pads = pads'; counters = counters'; stopped = stopped }
-
-  abbrev Wrote : Result (Unit {0}) MemStop → Type 0
-  Wrote result = IsNextWrite (tags_of d n m.engine) m.limit line bytes old new result
+  after stopped = record { bus = new.bus; engine = new.engine; pads = new.pads; blocks = blocks'; limit = m.limit; stopped = stopped }
 
   abbrev counter : Counter
   counter = next_counter (counter_in m.pads.used line)
 
-  abbrev cipher : List ℕ
-  cipher = cipher_next line bytes old
+  abbrev all : List ℕ
+  all = lines_encrypted (next_counter (counter_in m.pads.used line)) line
 
-  count : counter_in m.pads.used line ≡ record { page = writes; line = 0 }
-  count = current.current line inside ∙ ap (λ (k : ℕ). let c : Counter = record { page = k; line = 0 } in c) (sym read)
+  abbrev Wrote : Option MemStop → Type 0
+  Wrote stop = IsWrite (terms_of history bus_moved d n (outside_of m)) line bytes (outside_of m) block new block' stop
 
-  next : counter ≡ counter_next old
-  next = ap next_counter count
+  -- Where the line was written, or the write stopped
 
-  long : length cipher ≡ 64
-  long = length-cipher_of m.pads.key line (counter_next old) bytes
+  module _ (stop : Option MemStop) (went : IsWrite (terms_of history bus_moved d n (outside_of m)) line bytes (outside_of m) block new block' stop) where
+    went_current : stop ≡ None → AreCurrent blocks' (page_count new.engine.levels) new.pads.used
+    went_current on =
+        subst (λ (l : ℕ). AreCurrent blocks' (page_count l) new.pads.used) (sym went.sealed.sealed.step.levels)
+        (sealed_current m.blocks blocks' (page_count m.engine.levels) m.pads.used new.pads.used counter line went.sealed.count block' current
+        (page_inside m.engine.levels line inside) set went.sealed.sealed.entries (went.current (ap lasting_stop on)))
 
-  page_is : (counter_in m.pads.used line).page ≡ writes
-  page_is = ap (λ (c : Counter). c.page) count
+    -- all lines were sealed, the written one among them
+    every : stop ≡ None → take went.sealed.count all ≡ all
+    every on = take_all went.sealed.count all (omega (arith, went.sealed.whole on))
 
-  full : m.limit ≤ writes → counter_in m.pads.used line ≡ last_counter m.limit
-  full most =
-      let same : writes ≡ m.limit = omega (arith, page_is, counter_limited m.limit m.pads.used line kept.within) in
-      count ∙ ap last_counter same
+    written_too : stop ≡ None → Contains (take went.sealed.count all) line
+    written_too on = subst (λ (xs : List ℕ). Contains xs line) (sym (every on)) (encrypted_itself counter line)
 
-  not_full : writes < m.limit → counter_in m.pads.used line ≡ last_counter m.limit → ⊥
-  not_full below is =
-      let page : (counter_in m.pads.used line).page ≡ m.limit = ap (λ (c : Counter). c.page) is in
-      omega (arith, page, page_is, below)
+    module _ (stopped : Option MemStop) where
+      contents_by : contents (after stopped) ≡ contents_of m.pads.key (line_count m.engine.levels) new.engine.made
+      contents_by =
+          ap (λ (k : List ℕ). contents_of k (line_count new.engine.levels) new.engine.made) went.sealed.sealed.key
+          ∙ ap (λ (l : ℕ). contents_of m.pads.key (line_count l) new.engine.made) went.sealed.sealed.step.levels
 
-  -- Where the line's next message was made
+      -- the memory holds the new bytes where the written line was sealed
+      went_written : new.engine.evidence ≡ None → Contains (take went.sealed.count all) line → contents (after stopped) ≡ with_line (contents m) line bytes
+      went_written quiet listed =
+          contents_by
+          ∙ sym (with_line-joined_lines (line_bytes m.pads.key m.engine.made) (line_bytes m.pads.key new.engine.made) (line_count m.engine.levels) line bytes
+          (length-line_bytes m.pads.key m.engine.made) inside (went.sealed.sealed.own_bytes listed) (went.sealed.sealed.others quiet))
 
-  made_is : IsMadeNext line bytes old new → engine'.made ≡ m.engine.made ++ Line line counter cipher ∷ []
-  made_is made = made.made ∙ ap (λ (c : Counter). m.engine.made ++ Line line c cipher ∷ []) (sym next)
+      -- and where it was not what it held
+      went_same : new.engine.evidence ≡ None → ¬ Contains (take went.sealed.count all) line → contents (after stopped) ≡ contents m
+      went_same quiet unlisted =
+          contents_by
+          ∙ joined_lines-same (line_bytes m.pads.key new.engine.made) (line_bytes m.pads.key m.engine.made) (line_count m.engine.levels) (λ other within.
+          elim (cases_eq other line) [
+            | inl same ↦
+                subst (λ (l : ℕ). line_bytes m.pads.key new.engine.made l ≡ line_bytes m.pads.key m.engine.made l) (sym same)
+                (ap (bytes_of m.pads.key line) (went.sealed.sealed.not_yet unlisted))
+            | inr differs ↦ went.sealed.sealed.others quiet other differs
+          ])
 
-  used_is : IsMadeNext line bytes old new → pads'.used ≡ m.pads.used ++ (line, counter) ∷ []
-  used_is made = made.used ∙ ap (λ (c : Counter). m.pads.used ++ (line, c) ∷ []) (sym next)
+      went_either : new.engine.evidence ≡ None → (contents (after stopped) ≡ contents m) ⊎ (contents (after stopped) ≡ with_line (contents m) line bytes)
+      went_either quiet =
+          elim (listed_or_not (take went.sealed.count all) line) [
+            | inl listed ↦ inr (went_written quiet listed)
+            | inr unlisted ↦ inl (went_same quiet unlisted)
+          ]
 
-  made_kept : (stopped : Option MemStop) → IsMadeNext line bytes old new →
-      IsProtected (tags_of d n m.engine) m.engine.levels m.limit (history bus') (m.engine.made ++ Line line counter cipher ∷ [])
-      (m.pads.used ++ (line, counter) ∷ []) stopped → AreProtected d n history (after stopped)
-  made_kept stopped made is =
-      protected_as d n (history bus') m.limit m.engine engine' (m.engine.made ++ Line line counter cipher ∷ [])
-      (m.pads.used ++ (line, counter) ∷ []) pads'.used stopped step.tagger step.levels (made_is made) (used_is made) is
+      went_part : IsSealedInPart line bytes m (after stopped)
+      went_part = record {
+        count = went.sealed.count;
+        within = went.sealed.within;
+        sealed = record {
+          entries = went.sealed.sealed.entries;
+          more = went.sealed.sealed.step.more;
+          messages = went.sealed.sealed.step.made;
+          pairs = went.sealed.sealed.pairs;
+          as_many = went.sealed.sealed.as_many;
+          own = went.sealed.sealed.own;
+        };
+      }
 
-  made_current : IsMadeNext line bytes old new → AreCurrent counters' (line_count engine'.levels) pads'.used
-  made_current made =
-      subst (λ (l : ℕ). AreCurrent counters' (line_count l) pads'.used) (sym step.levels)
-      (subst (λ (u : List (ℕ × Counter)). AreCurrent counters' (line_count m.engine.levels) u) (sym (used_is made))
-      (current_more m.counters counters' (line_count m.engine.levels) line writes m.pads.used current inside
-      (set ∙ ap (λ (k : ℕ). slice_set m.counters line k) made.writes) count))
+      went_all : stop ≡ None → IsSealedAnew line bytes (lines_of_write line m) m (after stopped)
+      unfolding went_part
+      went_all on = subst (λ (xs : List ℕ). IsSealedAnew line bytes xs m (after stopped)) (every on) went_part.sealed
 
-  made_contents : (stopped : Option MemStop) → IsMadeNext line bytes old new → contents (after stopped) ≡ with_line (contents m) line bytes
-  made_contents stopped made =
-      ap (λ (k : List ℕ). contents_of k (line_count engine'.levels) engine'.made) made.key
-      ∙ ap (λ (l : ℕ). contents_of m.pads.key (line_count l) engine'.made) step.levels
-      ∙ ap (λ (xs : List Message). contents_of m.pads.key (line_count m.engine.levels) xs) made.made
-      ∙ contents_more m.pads.key (line_count m.engine.levels) m.engine.made line (counter_next old) bytes inside made.undone
+      module _ (keeps : Keeps m.stopped stop stopped) where
+        went_kept : counter_in m.pads.used line ≢ last_counter m.limit → AreProtected d n history (after stopped)
+        went_kept below =
+            protected_as d n (history new.bus) m.limit m.engine new.engine new.engine.made new.pads.used new.pads.used stopped
+            went.sealed.sealed.step.tagger went.sealed.sealed.step.levels refl refl
+            (sealed_protected (tags_of d n m.engine) m.engine.levels m.limit (history m.bus) (history new.bus) m.engine.made new.engine.made
+            m.pads.used new.pads.used m.stopped stop stopped line went.sealed.count kept going inside below went.sealed.sealed.entries went.sealed.whole
+            went.sealed.sealed.consistent went.sealed.sealed.holds_last (keeps_going m.stopped stop stopped keeps going)
+            (keeps_memory m.stopped stop stopped keeps going) (keeps_spent m.stopped stop stopped keeps going))
 
-  made_one : IsMadeNext line bytes old new → length step.more ≡ 1
-  made_one made =
-      let both : length m.engine.made + length step.more ≡ length m.engine.made + 1 =
-      sym (length-append m.engine.made step.more) ∙ ap length (sym step.made ∙ made.made) ∙ length-append m.engine.made (Line line (counter_next old) cipher ∷ []) in
-      omega (arith, both)
+        went_accounted : AccountsForAll (tags_of d n) history m → AccountsForAll (tags_of d n) history (after stopped)
+        went_accounted was =
+            let before = other_stop (tags_of d n m.engine) m.pads.used m.engine.made (history m.bus) m.stopped None m.engine.evidence
+            (λ place. going_not_tampered m.stopped place going) (λ place is. cc) was in
+            subst (λ (t : Message → List ℕ). IsAccounted t new.pads.used new.engine.made (history new.bus) stopped new.engine.evidence)
+            (sym (same_tags d n m.engine new.engine went.sealed.sealed.step.tagger went.sealed.sealed.step.levels))
+            (keeps_account m.stopped stop stopped keeps going (tags_of d n m.engine) new.pads.used new.engine.made (history new.bus) new.engine.evidence
+            (went.sealed.sealed.accounted before))
 
-  -- Where nothing was made
+        went_moves : Moves history bus_moved (tags_of d n) m (after stopped)
+        went_moves = record {
+          bus = went.sealed.sealed.bus;
+          step = went.sealed.sealed.step;
+          key = went.sealed.sealed.key;
+          limit = refl;
+          entries = map (λ line. (line, counter)) (take went.sealed.count all);
+          used_more = went.sealed.sealed.entries;
+          writes = went.sealed.sealed.writes;
+          counted = went.sealed.sealed.counted;
+          at_most = omega (arith, went.sealed.sealed.as_many, went.sealed.sealed.at_most);
+          at_least = omega (arith, went.sealed.sealed.as_many, went.sealed.sealed.at_least, keeps_unwritten m.stopped stop stopped keeps going);
+          idle = λ stop is. absurd (cc);
+          accounted = went_accounted;
+        }
 
-  unmade_kept : (stopped : Option MemStop) → IsUnmade old new →
-      ((page : ℕ) → stopped ≡ Some (Spent page) → IsSpent (line_count m.engine.levels) m.limit m.pads.used page) → AreProtected d n history (after stopped)
-  unmade_kept stopped unmade spent =
-      same_kept d n history m (after stopped) kept step.bus_levels (ap (λ (t : BusHistory). t.written) unmade.history) step.tagger step.levels unmade.made
-      (ap (λ (p : PadEngineView). p.used) unmade.pads) refl (λ goes. going_not_memory m.stopped going) spent
+  -- Where the line's counters are used up
 
-  unset : IsUnmade old new → counters' ≡ m.counters
-  unset unmade = set ∙ ap (λ (k : ℕ). slice_set m.counters line k) (unmade.writes ∙ read) ∙ set-get_or m.counters line 0
+  module _ (same : new ≡ outside_of m) (unchanged : block' ≡ block) where
+    abbrev spent_after : ℕ → SealedLinesView B T
+    spent_after page = record { bus = m.bus; engine = m.engine; pads = m.pads; blocks = m.blocks; limit = m.limit; stopped = Some (Spent page) }
 
-  unmade_current : IsUnmade old new → AreCurrent counters' (line_count engine'.levels) pads'.used
-  unmade_current unmade =
-      subst (λ (xs : List ℕ). AreCurrent xs (line_count engine'.levels) pads'.used) (sym (unset unmade))
-      (subst (λ (l : ℕ). AreCurrent m.counters (line_count l) pads'.used) (sym step.levels)
-      (subst (λ (p : PadEngineView). AreCurrent m.counters (line_count m.engine.levels) p.used) (sym unmade.pads) current))
+    same_blocks : blocks' ≡ m.blocks
+    same_blocks = set ∙ ap (slice_set m.blocks (page_of line)) (unchanged ∙ at) ∙ set-get_or m.blocks (page_of line) new_block
 
-  unmade_contents : (stopped : Option MemStop) → IsUnmade old new → contents (after stopped) ≡ contents m
-  unmade_contents stopped unmade =
-      ap (λ (p : PadEngineView). contents_of p.key (line_count engine'.levels) engine'.made) unmade.pads
-      ∙ ap (λ (l : ℕ). contents_of m.pads.key (line_count l) engine'.made) step.levels
-      ∙ ap (λ (xs : List Message). contents_of m.pads.key (line_count m.engine.levels) xs) unmade.made
+    spent_is : (page : ℕ) → spent_after page ≡ after (Some (Spent page))
+    spent_is page =
+        ap (λ (o : OutsideView B T). let s : SealedLinesView B T = record { bus = o.bus; engine = o.engine; pads = o.pads; blocks = m.blocks; limit = m.limit; stopped = Some (Spent page) } in s) (sym same)
+        ∙ ap (λ (b : List CounterBlockView). let s : SealedLinesView B T = record { bus = new.bus; engine = new.engine; pads = new.pads; blocks = b; limit = m.limit; stopped = Some (Spent page) } in s) (sym same_blocks)
 
-  unmade_none : IsUnmade old new → length step.more ≡ 0
-  unmade_none unmade =
-      let both : length m.engine.made + length step.more ≡ length m.engine.made =
-      sym (length-append m.engine.made step.more) ∙ ap length (sym step.made ∙ unmade.made) in
-      omega (arith, both)
+    spent_kept : (page : ℕ) → page ≡ page_of line → counter_in m.pads.used line ≡ last_counter m.limit → AreProtected d n history (after (Some (Spent page)))
+    spent_kept page of_page full =
+        subst (AreProtected d n history) (spent_is page)
+        (same_kept d n history m (spent_after page) kept refl refl refl refl refl refl refl (λ goes_on. going_not_memory m.stopped going) (λ goes_on. going)
+        (λ other is. let of_other : page_of line ≡ other = sym of_page ∙ cc in record { line = line; inside = inside; of_page = of_other; used_up = full }))
 
-  uncounted : history bus' ≡ history m.bus → AreCounted (history m.bus) (history bus') 0
-  uncounted same = subst (λ (t : BusHistory). AreCounted (history m.bus) t 0) (sym same) (counted_not (history m.bus))
+    spent_current : AreCurrent blocks' (page_count new.engine.levels) new.pads.used
+    spent_current =
+        subst (λ (o : OutsideView B T). AreCurrent blocks' (page_count o.engine.levels) o.pads.used) (sym same)
+        (subst (λ (xs : List CounterBlockView). AreCurrent xs (page_count m.engine.levels) m.pads.used) (sym same_blocks) current)
+
+    spent_contents : (page : ℕ) → contents (after (Some (Spent page))) ≡ contents m
+    spent_contents page = ap contents (sym (spent_is page))
+
+    spent_part : (page : ℕ) → IsSealedInPart line bytes m (after (Some (Spent page)))
+    spent_part page = subst (λ (s : SealedLinesView B T). IsSealedInPart line bytes m s) (spent_is page) (sealed_none line bytes m (spent_after page) refl refl)
+
+    spent_moves : (page : ℕ) → ((bus : B) → bus_moved bus bus) → Moves history bus_moved (tags_of d n) m (after (Some (Spent page)))
+    spent_moves page bus_unmoved =
+        let step : StepMoves (history m.bus) m.engine (history m.bus) m.engine = step_not (history m.bus) m.engine in
+        subst (λ (s : SealedLinesView B T). Moves history bus_moved (tags_of d n) m s) (spent_is page)
+        (record {
+          bus = bus_unmoved m.bus;
+          step = step;
+          key = refl;
+          limit = refl;
+          entries = [];
+          used_more = sym (append-nil m.pads.used);
+          writes = 0;
+          counted = counted_not (history m.bus);
+          at_most = omega arith;
+          at_least = omega (arith, ap length step.made, length-append m.engine.made step.more);
+          idle = λ stop is. absurd (cc);
+          accounted = λ was.
+              other_stop (tags_of d n m.engine) m.pads.used m.engine.made (history m.bus) m.stopped (Some (Spent page)) m.engine.evidence
+              (λ place. going_not_tampered m.stopped place going) (λ place is. cc) was;
+        })
 
   -- Whatever was answered
+
+  abbrev Written : Result (Unit {0}) MemStop → Type 0
+  Written result = IsWriteOrSpent (terms_of history bus_moved d n (outside_of m)) m.limit line bytes (outside_of m) block new block' result
 
   abbrev stop_after : Result (Unit {0}) MemStop → Option MemStop
   stop_after result = option_or (result_err result) m.stopped
 
-  pub write_kept : (result : Result (Unit {0}) MemStop) → Wrote result → AreProtected d n history (after (stop_after result))
-  write_kept (Ok _) wrote =
-      let below : (counter_in m.pads.used line).page < m.limit = omega (arith, page_is, wrote.0) in
-      let put : (history bus').written ≡ at_place (line_place line) (sealed_line (tags_of d n m.engine) line counter cipher) (history m.bus).written =
-      wrote.2.written ∙ ap (λ (c : Counter). at_place (line_place line) (sealed_line (tags_of d n m.engine) line c cipher) (history m.bus).written) (sym next) in
-      made_kept m.stopped wrote.1
-      (written_protected (tags_of d n m.engine) m.engine.levels m.limit (history m.bus) m.engine.made m.pads.used m.stopped line cipher
-      kept inside below long (history bus') step.bus_levels put (going_not_memory m.stopped going))
-  write_kept (Err (Tampered place)) impossible = absurd impossible
-  write_kept (Err (Spent page)) spent =
-      unmade_kept (Some (Spent page)) spent.2
-      (λ other is. let of_page : page_of line ≡ other = sym spent.1 ∙ cc in record { line = line; inside = inside; of_page = of_page; used_up = full spent.0 })
-  write_kept (Err NoMemory) refused =
-      elim refused.1 [
-        | inl unmade ↦ unmade_kept (Some NoMemory) unmade (λ page is. absurd (cc))
-        | inr made ↦
-            let below : (counter_in m.pads.used line).page < m.limit = omega (arith, page_is, refused.0) in
-            made_kept (Some NoMemory) made.0
-            (unwritten_protected (tags_of d n m.engine) m.engine.levels m.limit (history m.bus) m.engine.made m.pads.used m.stopped line cipher
-            kept inside below long (history bus') step.bus_levels (ap (λ (t : BusHistory). t.written) made.1))
-      ]
+  pub write_kept : (result : Result (Unit {0}) MemStop) → Written result → AreProtected d n history (after (stop_after result))
+  write_kept (Ok _) wrote = went_kept None wrote.1 m.stopped (inl (refl, refl)) wrote.0
+  write_kept (Err (Tampered place)) wrote =
+      went_kept (Some (Tampered place)) wrote.1 (Some (Tampered place)) (inr (refl, refl, λ is. cc)) wrote.0
+  write_kept (Err (Spent page)) wrote = spent_kept wrote.2 wrote.3 page wrote.0 wrote.1
+  write_kept (Err NoMemory) wrote = went_kept (Some NoMemory) wrote.1 (Some NoMemory) (inr (refl, refl, λ is. cc)) wrote.0
 
-  pub write_current : (result : Result (Unit {0}) MemStop) → Wrote result → AreCurrent counters' (line_count engine'.levels) pads'.used
-  write_current (Ok _) wrote = made_current wrote.1
-  write_current (Err (Tampered place)) impossible = absurd impossible
-  write_current (Err (Spent page)) spent = unmade_current spent.2
-  write_current (Err NoMemory) refused =
-      elim refused.1 [
-        | inl unmade ↦ unmade_current unmade
-        | inr made ↦ made_current made.0
-      ]
+  pub write_current : (result : Result (Unit {0}) MemStop) → Written result → lasting_stop (stop_after result) ≡ None →
+      AreCurrent blocks' (page_count new.engine.levels) new.pads.used
+  write_current (Ok _) wrote goes_on = went_current None wrote.1 refl
+  write_current (Err (Tampered place)) wrote goes_on = absurd (cc)
+  write_current (Err (Spent page)) wrote goes_on = spent_current wrote.2 wrote.3
+  write_current (Err NoMemory) wrote goes_on = absurd (cc)
 
-  pub write_stored : (stopped : Option MemStop) (result : Result (Unit {0}) MemStop) → Wrote result →
-      OnOk result (contents (after stopped) ≡ with_line (contents m) line bytes)
-  write_stored stopped (Ok _) wrote = made_contents stopped wrote.1
-  write_stored stopped (Err stop) refused = tt
+  pub write_stored : (result : Result (Unit {0}) MemStop) → Written result → new.engine.evidence ≡ None →
+      OnOk result (contents (after (stop_after result)) ≡ with_line (contents m) line bytes)
+  write_stored (Ok _) wrote quiet = went_written None wrote.1 m.stopped quiet (written_too None wrote.1 refl)
+  write_stored (Err stop) wrote quiet = tt
 
-  pub write_refused : (stopped : Option MemStop) (result : Result (Unit {0}) MemStop) → Wrote result →
-      OnErr result ((contents (after stopped) ≡ contents m) ⊎ (contents (after stopped) ≡ with_line (contents m) line bytes))
-  write_refused stopped (Ok _) wrote = tt
-  write_refused stopped (Err (Tampered place)) impossible = absurd impossible
-  write_refused stopped (Err (Spent page)) spent = inl (unmade_contents stopped spent.2)
-  write_refused stopped (Err NoMemory) refused =
-      elim refused.1 [
-        | inl unmade ↦ inl (unmade_contents stopped unmade)
-        | inr made ↦ inr (made_contents stopped made.0)
-      ]
+  pub write_refused : (result : Result (Unit {0}) MemStop) → Written result → new.engine.evidence ≡ None →
+      OnErr result ((contents (after (stop_after result)) ≡ contents m) ⊎ (contents (after (stop_after result)) ≡ with_line (contents m) line bytes))
+  write_refused (Ok _) wrote quiet = tt
+  write_refused (Err (Tampered place)) wrote quiet = went_either (Some (Tampered place)) wrote.1 (Some (Tampered place)) quiet
+  write_refused (Err (Spent page)) wrote quiet = inl (spent_contents wrote.2 wrote.3 page)
+  write_refused (Err NoMemory) wrote quiet = went_either (Some NoMemory) wrote.1 (Some NoMemory) quiet
 
-  pub write_spent : (result : Result (Unit {0}) MemStop) → Wrote result →
-      (result ≡ Err (Spent (page_of line))) ↔ (counter_in m.pads.used line ≡ last_counter m.limit)
-  write_spent (Ok _) wrote = (λ is. absurd (cc), λ is. absurd (not_full wrote.0 is))
-  write_spent (Err (Tampered place)) impossible = absurd impossible
-  write_spent (Err (Spent page)) spent = (λ is. full spent.0, λ is. ap (λ (p : ℕ). Err (Spent p)) spent.1)
-  write_spent (Err NoMemory) refused = (λ is. absurd (cc), λ is. absurd (not_full refused.0 is))
+  pub write_moves : ((bus : B) → bus_moved bus bus) → (result : Result (Unit {0}) MemStop) → Written result →
+      Moves history bus_moved (tags_of d n) m (after (stop_after result))
+  write_moves bus_unmoved (Ok _) wrote = went_moves None wrote.1 m.stopped (inl (refl, refl))
+  write_moves bus_unmoved (Err (Tampered place)) wrote =
+      went_moves (Some (Tampered place)) wrote.1 (Some (Tampered place)) (inr (refl, refl, λ is. cc))
+  write_moves bus_unmoved (Err (Spent page)) wrote = spent_moves wrote.2 wrote.3 page bus_unmoved
+  write_moves bus_unmoved (Err NoMemory) wrote = went_moves (Some NoMemory) wrote.1 (Some NoMemory) (inr (refl, refl, λ is. cc))
 
-  -- What it makes of the memory
+  pub write_sealed : (result : Result (Unit {0}) MemStop) → Written result →
+      OnOk result (IsSealedAnew line bytes (lines_of_write line m) m (after (stop_after result)))
+  write_sealed (Ok _) wrote = went_all None wrote.1 m.stopped refl
+  write_sealed (Err stop) wrote = tt
 
-  module _ (went : bus_moved m.bus bus')
-      (honest : (used more : List (ℕ × Counter)) → IsAccounted (tags_of d n m.engine) used m.engine.made (history m.bus) None m.engine.evidence →
-      IsAccounted (tags_of d n m.engine) more engine'.made (history bus') None engine'.evidence) where
-    accounted : (stopped : Option MemStop) → ((place : Place) → stopped ≢ Some (Tampered place)) →
-        AccountsForAll (tags_of d n) history m → AccountsForAll (tags_of d n) history (after stopped)
-    accounted stopped untampered was =
-        let before = other_stop (tags_of d n m.engine) m.pads.used m.engine.made (history m.bus) m.stopped None m.engine.evidence
-        (λ place. going_not_tampered m.stopped place going) (λ place is. cc) was in
-        subst (λ (t : Message → List ℕ). IsAccounted t pads'.used engine'.made (history bus') stopped engine'.evidence)
-        (sym (same_tags d n m.engine engine' step.tagger step.levels))
-        (other_stop (tags_of d n m.engine) pads'.used engine'.made (history bus') None stopped engine'.evidence (λ place is. cc) untampered
-        (honest m.pads.used pads'.used before))
+  pub write_sealed_in_part : (result : Result (Unit {0}) MemStop) → Written result → OnErr result (IsSealedInPart line bytes m (after (stop_after result)))
+  write_sealed_in_part (Ok _) wrote = tt
+  write_sealed_in_part (Err (Tampered place)) wrote = went_part (Some (Tampered place)) wrote.1 (Some (Tampered place))
+  write_sealed_in_part (Err (Spent page)) wrote = spent_part wrote.2 wrote.3 page
+  write_sealed_in_part (Err NoMemory) wrote = went_part (Some NoMemory) wrote.1 (Some NoMemory)
 
-    idle : (stopped : Option MemStop) (stop : MemStop) → lasting_stop m.stopped ≡ Some stop → after stopped ≡ m
-    idle stopped stop is = absurd (cc)
-
-    made_moves : (stopped : Option MemStop) → ((place : Place) → stopped ≢ Some (Tampered place)) → IsMadeNext line bytes old new →
-        (accesses : ℕ) → AreCounted (history m.bus) (history bus') accesses → accesses ≤ 1 → 1 ≤ accesses + unwritten stopped →
-        Moves history bus_moved (tags_of d n) m (after stopped)
-    made_moves stopped untampered made accesses counted most least = record {
-      bus = went;
-      step = step;
-      key = made.key;
-      limit = refl;
-      entries = (line, counter_next old) ∷ [];
-      used_more = made.used;
-      writes = accesses;
-      counted = counted;
-      at_most = omega (arith, made_one made, most);
-      at_least = omega (arith, made_one made, least);
-      idle = idle stopped;
-      accounted = accounted stopped untampered;
-    }
-
-    unmade_moves : (stopped : Option MemStop) → ((place : Place) → stopped ≢ Some (Tampered place)) → IsUnmade old new →
-        Moves history bus_moved (tags_of d n) m (after stopped)
-    unmade_moves stopped untampered unmade = record {
-      bus = went;
-      step = step;
-      key = ap (λ (p : PadEngineView). p.key) unmade.pads;
-      limit = refl;
-      entries = [];
-      used_more = ap (λ (p : PadEngineView). p.used) unmade.pads ∙ sym (append-nil m.pads.used);
-      writes = 0;
-      counted = uncounted unmade.history;
-      at_most = omega arith;
-      at_least = omega (arith, unmade_none unmade);
-      idle = idle stopped;
-      accounted = accounted stopped untampered;
-    }
-
-    pub write_moves : (result : Result (Unit {0}) MemStop) → Wrote result → Moves history bus_moved (tags_of d n) m (after (stop_after result))
-    write_moves (Ok _) wrote = made_moves m.stopped (λ place. going_not_tampered m.stopped place going) wrote.1 1 wrote.2.counted (omega arith) (omega arith)
-    write_moves (Err (Tampered place)) impossible = absurd impossible
-    write_moves (Err (Spent page)) spent = unmade_moves (Some (Spent page)) (λ place is. cc) spent.2
-    write_moves (Err NoMemory) refused =
-        elim refused.1 [
-          | inl unmade ↦ unmade_moves (Some NoMemory) (λ place is. cc) unmade
-          | inr made ↦ made_moves (Some NoMemory) (λ place is. cc) made.0 0 (uncounted made.1) (omega arith) (omega arith)
-        ]
+  pub write_tampered : (result : Result (Unit {0}) MemStop) → Written result → (place : Place) → result ≡ Err (Tampered place) →
+      (counter.line ≡ 0) × IsTamperedBeside line place (history m.bus) (history new.bus)
+  write_tampered (Ok _) wrote place is = absurd (cc)
+  write_tampered (Err (Tampered other)) wrote place is =
+      let same : Some (Tampered other) ≡ Some (Tampered place) = cc in (wrote.2, wrote.1.sealed.sealed.tampered place same)
+  write_tampered (Err (Spent page)) wrote place is = absurd (cc)
+  write_tampered (Err NoMemory) wrote place is = absurd (cc)

@@ -1,6 +1,6 @@
 -- What a memory of lines holds, by the messages that were tagged and the key that lines are encrypted under.
-use Rattle.std.specs.Prelude.{◌==◌, ◌≡◌, ◌≢◌, ◌⊎◌, ℕ, ◌+◌, ◌<◌, ◌≤◌, List, length, replicate, Option, Some, None, Contains, unwrap_or}
-use Rattle.std.specs.List.{filter}
+use Rattle.std.specs.Prelude.{◌==◌, ◌≡◌, ◌≢◌, ◌⊎◌, ℕ, ◌+◌, ◌*◌, ◌%◌, ◌<◌, ◌≤◌, if◌then◌else◌, List, [], ◌∷◌, length, map, replicate, Option, Some, None, Contains, unwrap_or}
+use Rattle.std.specs.List.{filter, range_with_len}
 use Rattle.sec_base.specs.declared.place.Place.{Place}
 use Rattle.sec_base.specs.declared.place.Place.TheVariants.{Line as line_place, Node}
 use Rattle.sec_base.specs.declared.counter.Counter.{Counter}
@@ -8,6 +8,7 @@ use Rattle.sec_base.specs.declared.message.Message.{Message}
 use Rattle.sec_base.specs.declared.message.Message.TheVariants.{Line}
 use Rattle.sec_base.specs.LastMessage.{last_data, last_pair}
 use Rattle.sec_base.specs.Geometry.{page_of}
+use Rattle.sec_base.specs.declared.geometry.TheConstants.{LINES_PER_PAGE}
 use Rattle.sec_base.specs.Place.{IsPlace, zeros_of}
 use Rattle.sec_base.specs.Lines.{joined_lines}
 use Rattle.pad_stream.specs.Pad.{cipher_of}
@@ -33,26 +34,48 @@ never_written = record { page = 0; line = 0 }
 abbrev pub counter_in : List (ℕ × Counter) → ℕ → Counter
 counter_in used line = unwrap_or (last_pair line used) never_written
 
--- the counter that the next write of a line uses
+-- the counter that the next write of a line encrypts under: its line counter goes up by one; where that is used up, the
+-- page counter does, and the line counter begins again
 abbrev pub next_counter : Counter → Counter
-next_counter counter = record { page = counter.page + 1; line = 0 }
+next_counter counter =
+    if counter.line == 127 then record { page = counter.page + 1; line = 0 } else record { page = counter.page; line = counter.line + 1 }
 
 -- the last counter that a limit of page counters allows
 abbrev pub last_counter : ℕ → Counter
-last_counter limit = record { page = limit; line = 0 }
+last_counter limit = record { page = limit; line = 127 }
 
--- how many entries name the line
-abbrev pub entries_of : List (ℕ × Counter) → ℕ → ℕ
-entries_of used line = length (filter (λ entry. entry.0 == line) used)
+-- the place of a line in its page, and the lines of a page, in the order of their places
+abbrev pub place_of : ℕ → ℕ
+place_of line = line % LINES_PER_PAGE
 
--- No page counter was skipped: a line that was encrypted under (M, m) was encrypted M times at least.
-pub record AreUnskipped (used : List (ℕ × Counter)) : Type 0 where
-  pub reached : (line : ℕ) (counter : Counter) → Contains used (line, counter) → counter.page ≤ entries_of used line
+abbrev pub page_lines : ℕ → List ℕ
+page_lines page = range_with_len (LINES_PER_PAGE * page) LINES_PER_PAGE
 
--- No line was encrypted under the counter of one that was never written, or under one past the limit.
+-- the lines that a write of a line encrypts under this counter: where its page counter is new, all lines of the page
+abbrev pub lines_encrypted : Counter → ℕ → List ℕ
+lines_encrypted counter line = if counter.line == 0 then page_lines (page_of line) else line ∷ []
+
+-- the entries that it adds to those that were used
+abbrev pub entries_of_write : ℕ → List (ℕ × Counter) → List (ℕ × Counter)
+entries_of_write line used =
+    map (λ at. (at, next_counter (counter_in used line))) (lines_encrypted (next_counter (counter_in used line)) line)
+
+-- how many entries name lines of the page
+abbrev pub page_entries : List (ℕ × Counter) → ℕ → ℕ
+page_entries used page = length (filter (λ entry. page_of entry.0 == page) used)
+
+-- The lines of a page have one page counter, and where it is M, they were encrypted 64 M times at least.
+pub record ArePaged (lines : ℕ) (used : List (ℕ × Counter)) : Type 0 where
+  pub one : (line other : ℕ) → line < lines → other < lines → page_of line ≡ page_of other →
+      (counter_in used line).page ≡ (counter_in used other).page
+  pub reached : (line : ℕ) → line < lines → LINES_PER_PAGE * (counter_in used line).page ≤ page_entries used (page_of line)
+
+-- No line was encrypted under the counter of one that was never written, or under a page counter past the limit; and a
+-- line counter has seven bits.
 pub record AreWithin (limit : ℕ) (used : List (ℕ × Counter)) : Type 0 where
   pub started : (line : ℕ) (counter : Counter) → Contains used (line, counter) → counter ≢ never_written
   pub limited : (line : ℕ) (counter : Counter) → Contains used (line, counter) → counter.page ≤ limit
+  pub seven_bits : (line : ℕ) (counter : Counter) → Contains used (line, counter) → counter.line < 128
 
 -- some line of the page has the last counter that the limit allows
 pub record IsSpent (lines limit : ℕ) (used : List (ℕ × Counter)) (page : ℕ) : Type 0 where

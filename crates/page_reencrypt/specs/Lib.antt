@@ -1,5 +1,7 @@
 pub mod Contents
+pub mod Consistency
+pub mod Stops
 pub mod LineLengths
 pub mod SealedLines
 pub mod SealedLinesInside
-pub mod NextWrites
+pub mod Outside

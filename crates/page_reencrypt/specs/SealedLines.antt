@@ -1,31 +1,33 @@
 -- What contracts see of the lines outside, and what calls make of them.
-use Rattle.std.specs.Prelude.{◌≡◌, ◌≢◌, ◌⊎◌, ℕ, ◌+◌, ◌<◌, ◌≤◌, List, [], ◌∷◌, ◌++◌, length, Option, Some, None, Contains, slice_index}
+use Rattle.std.specs.Prelude.{◌≡◌, ◌≢◌, ◌⊎◌, ℕ, ◌+◌, ◌<◌, ◌≤◌, List, [], ◌++◌, length, map, take, get_or, Option, Some, None, Contains}
+use Rattle.sec_base.specs.declared.place.Place.{Place}
 use Rattle.sec_base.specs.declared.place.Place.TheVariants.{Line as line_place, Node}
 use Rattle.sec_base.specs.declared.counter.Counter.{Counter}
 use Rattle.sec_base.specs.declared.evidence.Evidence.{Evidence}
 use Rattle.sec_base.specs.declared.message.Message.{Message}
-use Rattle.sec_base.specs.declared.message.Message.TheVariants.{Line}
 use Rattle.sec_base.specs.declared.stop.MemStop.{MemStop}
-use Rattle.sec_base.specs.declared.stop.MemStop.TheVariants.{Tampered, Spent, NoMemory}
+use Rattle.sec_base.specs.declared.stop.MemStop.TheVariants.{Spent, NoMemory}
 use Rattle.sec_base.specs.Count.{Rose, RoseBy}
-use Rattle.sec_base.specs.LastMessage.{last_data, last_node, data_pairs}
+use Rattle.sec_base.specs.LastMessage.{IsFresh, last_data, last_node, data_pairs}
 use Rattle.sec_base.specs.Geometry.{line_count, page_of}
 use Rattle.bus_model.specs.BusHistory.{BusHistory}
 use Rattle.tag_engine.specs.TagEngine.{TagEngineView, tags_of}
 use Rattle.pad_stream.specs.Pad.{cipher_of}
-use Rattle.pad_stream.specs.Pads.{AreRising, of_lines}
 use Rattle.pad_stream.specs.PadEngine.{PadEngineView}
 use Rattle.checked_bus.specs.Accesses.{AreCounted}
 use Rattle.checked_bus.specs.Steps.{IsAccounted, Moves as StepMoves}
-use Rattle.page_reencrypt.specs.Contents.{AreUnskipped, AreWithin, HoldsLast, HoldsSealed, IsSpent, NodesAreZeros, contents_of, counter_in, next_counter}
+use Rattle.split_counter.specs.CounterBlock.{CounterBlockView, counter_of, new_block}
+use Rattle.page_reencrypt.specs.Consistency.{IsConsistent}
+use Rattle.page_reencrypt.specs.Contents.{ArePaged, AreWithin, HoldsLast, IsSpent, contents_of, counter_in, lines_encrypted, next_counter, place_of}
+use Rattle.page_reencrypt.specs.Stops.{lasting_stop, unwritten}
 
--- the bus, the tag engine, the pads, how often each line was written, how high a page counter may rise, and the stop
--- that was answered, if one was
+-- the bus, the tag engine, the pads, the counters of each page, how high a page counter may rise, and the stop that was
+-- answered, if one was
 pub record SealedLinesView (B T : Type 0) : Type 0 where
   pub bus : B
   pub engine : TagEngineView T
   pub pads : PadEngineView
-  pub counters : List ℕ
+  pub blocks : List CounterBlockView
   pub limit : ℕ
   pub stopped : Option MemStop
 
@@ -62,36 +64,14 @@ IsQuiet lines = evidence lines ≡ None
 abbrev pub tag_in : {B T : Type 0} → (T → List ℕ → List ℕ) → (T → List ℕ → List ℕ) → SealedLinesView B T → Message → List ℕ
 tag_in data_tag_of node_tag_of lines = tags_of data_tag_of node_tag_of lines.engine
 
--- a stop after which nothing is done: where a page's lines are used up, others still serve
-abbrev pub lasting_stop : Option MemStop → Option MemStop
-lasting_stop None = None
-lasting_stop (Some (Spent page)) = None
-lasting_stop (Some (Tampered place)) = Some (Tampered place)
-lasting_stop (Some NoMemory) = Some NoMemory
-
--- how many messages may be tagged that were not written: the last one, where there was no memory to write it
-abbrev pub unwritten : Option MemStop → ℕ
-unwritten None = 0
-unwritten (Some (Spent page)) = 0
-unwritten (Some (Tampered place)) = 0
-unwritten (Some NoMemory) = 1
-
 -- What holds at all times, by the parts: the messages, the list of what was used, the bus and the stop.
 pub record IsProtected (tag_of : Message → List ℕ) (levels limit : ℕ) (history : BusHistory) (made : List Message)
     (used : List (ℕ × Counter)) (stopped : Option MemStop) : Type 0 where
-  pub bus_levels : history.levels ≡ levels
-  -- the counters of each line rise within the limit, none is skipped, and its messages were tagged under them in order
-  pub inside : (line : ℕ) (counter : Counter) → Contains used (line, counter) → line < line_count levels
-  pub rising : AreRising used
+  pub consistent : IsConsistent tag_of levels history made used
   pub within : AreWithin limit used
-  pub unskipped : AreUnskipped used
-  pub paired : data_pairs made ≡ of_lines (line_count levels) used
-  pub long : (line : ℕ) (counter : Counter) (cipher : List ℕ) → Contains made (Line line counter cipher) → length cipher ≡ 64
-  -- what stands outside was encrypted and tagged, and what was tagged last stands there
-  pub sealed : HoldsSealed tag_of (line_count levels) made used history.written
-  pub nodes : NodesAreZeros levels history.written
-  pub no_nodes : (level index : ℕ) → last_node level index made ≡ None
   pub holds_last : stopped ≢ Some NoMemory → HoldsLast tag_of (line_count levels) made history.written
+  -- in the middle of an overflow the lines of its page have two page counters
+  pub paged : lasting_stop stopped ≡ None → ArePaged (line_count levels) used
   pub spent : (page : ℕ) → stopped ≡ Some (Spent page) → IsSpent (line_count levels) limit used page
 
 abbrev pub AreProtected : {B T : Type 0} → (T → List ℕ → List ℕ) → (T → List ℕ → List ℕ) → (B → BusHistory) → SealedLinesView B T → Type 0
@@ -99,10 +79,14 @@ AreProtected data_tag_of node_tag_of history lines =
     IsProtected (tag_in data_tag_of node_tag_of lines) (levels lines) lines.limit (history lines.bus)
     (made lines) (used lines) lines.stopped
 
--- each line's number of writes on the chip says its counter
-pub record AreCurrent (counters : List ℕ) (lines : ℕ) (used : List (ℕ × Counter)) : Type 0 where
-  pub long : length counters ≡ lines
-  pub current : (line : ℕ) → line < lines → counter_in used line ≡ record { page = slice_index counters line; line = 0 }
+-- the block of a page says the counters of its lines
+abbrev pub IsOfPage : List (ℕ × Counter) → ℕ → CounterBlockView → Type 0
+IsOfPage used page block = (line : ℕ) → page_of line ≡ page → counter_in used line ≡ counter_of (place_of line) block
+
+-- there is a block for each page, and it says the counters of the page's lines
+pub record AreCurrent (blocks : List CounterBlockView) (pages : ℕ) (used : List (ℕ × Counter)) : Type 0 where
+  pub long : length blocks ≡ pages
+  pub current : (page : ℕ) → page < pages → IsOfPage used page (get_or blocks page new_block)
 
 -- the false answers of the bus are accounted for
 abbrev pub AccountsForAll : {B T : Type 0} → (TagEngineView T → Message → List ℕ) → (B → BusHistory) → SealedLinesView B T → Type 0
@@ -171,14 +155,49 @@ pub record ReadMoved {B T : Type 0} (history : B → BusHistory) (bus_moved : B 
   pub moves : Moves history bus_moved tags old new
   pub read : WasRead history old line new
 
--- a line was encrypted once, under its next counter, and tagged so
-pub record IsSealedAnew {B T : Type 0} (line : ℕ) (bytes : List ℕ) (old new : SealedLinesView B T) : Type 0 where
-  pub entry : used new ≡ used old ++ (line, next_counter (counter_in (used old) line)) ∷ []
-  pub message : made new ≡ made old
-      ++ Line line (next_counter (counter_in (used old) line)) (cipher_of (enc_key old) line (next_counter (counter_in (used old) line)) bytes) ∷ []
+-- Lines were encrypted under the next counter of the line that is written, each once and in this order, and a message of
+-- each was tagged; that of the written line is of its new bytes.
+pub record IsSealedAnew {B T : Type 0} (line : ℕ) (bytes : List ℕ) (lines : List ℕ) (old new : SealedLinesView B T) : Type 0 where
+  pub entries : used new ≡ used old ++ map (λ at. (at, next_counter (counter_in (used old) line))) lines
+  pub more : List Message
+  pub messages : made new ≡ made old ++ more
+  pub pairs : data_pairs more ≡ map (λ at. (at, next_counter (counter_in (used old) line))) lines
+  pub as_many : length more ≡ length lines
+  pub own : Contains lines line → last_data line (made new) ≡ Some (
+    next_counter (counter_in (used old) line),
+    cipher_of (enc_key old) line (next_counter (counter_in (used old) line)) bytes,
+  )
+
+-- the lines that a write of this line encrypts: its own, or with an overflow all lines of its page
+abbrev pub lines_of_write : {B T : Type 0} → ℕ → SealedLinesView B T → List ℕ
+lines_of_write line lines = lines_encrypted (next_counter (counter_in (used lines) line)) line
+
+-- A front part of these lines was sealed.
+pub record IsSealedInPart {B T : Type 0} (line : ℕ) (bytes : List ℕ) (old new : SealedLinesView B T) : Type 0 where
+  pub count : ℕ
+  pub within : count ≤ length (lines_of_write line old)
+  pub sealed : IsSealedAnew line bytes (take count (lines_of_write line old)) old new
+
+-- Of these lines each that was written before was read from its place, but for the line that is written.
+abbrev pub AreReread : ℕ → List ℕ → List (ℕ × Counter) → BusHistory → BusHistory → Type 0
+AreReread line lines used old new = (other : ℕ) → Contains lines other → other ≢ line →
+    IsFresh other used ⊎ Rose (old.reads (line_place other)) (new.reads (line_place other))
+
+-- There was memory for the entry and the message of each line that a write of this line encrypts.
+pub record HadMemory {B T : Type 0} (line : ℕ) (old new : SealedLinesView B T) : Type 0 where
+  pub entries : length (used old) + length (lines_of_write line old) ≤ length (used new) + new.pads.room
+  pub messages : length (made old) + length (lines_of_write line old) ≤ length (made new) + new.engine.room
 
 -- nothing was encrypted, tagged or written
 pub record IsUnsealed {B T : Type 0} (history : B → BusHistory) (old new : SealedLinesView B T) : Type 0 where
   pub unused : used new ≡ used old
   pub untagged : made new ≡ made old
   pub unwritten_to : (history new.bus).written ≡ (history old.bus).written
+
+-- another line of the written line's page failed its check, where an answer was false
+pub record IsTamperedBeside (line : ℕ) (place : Place) (old new : BusHistory) : Type 0 where
+  pub other : ℕ
+  pub place_is : place ≡ line_place other
+  pub of_page : page_of other ≡ page_of line
+  pub apart : other ≢ line
+  pub lied : Rose old.lies new.lies

@@ -1,13 +1,18 @@
 -- What contracts see of the lines outside, by what is in them.
+use Rattle.page_reencrypt.specs.Outside.{OutsideView}
 use Rattle.page_reencrypt.specs.SealedLines.{SealedLinesView}
 use Rattle.page_reencrypt.specs.declared.sealed_lines.SealedLines.TheInside.{Inside}
 
 abbrev pub sealed_lines_view : {B T : Type 0} → Inside B T → SealedLinesView B T
 sealed_lines_view lines = record {
-  bus = lines.bus;
-  engine = lines.tags;
-  pads = lines.pads;
-  counters = lines.counters.items;
+  bus = lines.outside.bus;
+  engine = lines.outside.engine;
+  pads = lines.outside.pads;
+  blocks = lines.blocks.items;
   limit = lines.page_limit;
   stopped = lines.stopped;
 }
+
+-- the memory outside, of such a view
+abbrev pub outside_of : {B T : Type 0} → SealedLinesView B T → OutsideView B T
+outside_of lines = record { bus = lines.bus; engine = lines.engine; pads = lines.pads }

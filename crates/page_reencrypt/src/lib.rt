@@ -1,7 +1,9 @@
-//! The lines of the protected memory outside the chip: each is encrypted under its counter, tagged and checked.
+//! The lines of the protected memory outside the chip: each is encrypted under its counter, tagged and checked. The
+//! counters are split (Yan et al., ISCA 2006): where a line counter is used up, the whole page is encrypted anew.
 #![tactic(auto)]
 
 mod account;
+mod outside;
 mod sealed_lines;
 #[cfg(test)]
 mod tests;

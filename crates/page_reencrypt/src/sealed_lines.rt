@@ -1,15 +1,14 @@
 // The lines of the protected memory: they stand outside the chip, encrypted, each with a tag beside it and a counter
 // on the chip.
-ghost use Rattle.std.specs.Prelude.{◌≡◌, ◌≢◌, ◌↔◌, ◌+◌, ◌<◌, ◌≤◌, ◌⊎◌, ◌∷◌, [], ℕ, List, None, Some, Ok, Err, IfOk, IfErr, IsOk, OnOk, OnErr, IfSome, replicate};
+ghost use Rattle.std.specs.Prelude.{◌≡◌, ◌≢◌, ◌↔◌, ◌+◌, ◌*◌, ◌^◌, ◌<◌, ◌≤◌, ◌⊎◌, ◌++◌, ℕ, List, None, Some, Ok, Err, IfOk, IfErr, IsOk, OnOk, OnErr, IfSome, replicate, get_or, length, take};
 ghost use Rattle.sec_base.specs.Count.{Rose};
 ghost use Rattle.sec_base.specs.Evidence.{IsEvidence};
-ghost use Rattle.sec_base.specs.Geometry.{line_count, page_of};
+ghost use Rattle.sec_base.specs.Geometry.{line_count, page_count, page_of};
 ghost use Rattle.sec_base.specs.LastMessage.{IsFresh};
 ghost use Rattle.sec_base.specs.Lines.{line_at, with_line};
 ghost use Rattle.sec_base.specs.Place.{IsPlace};
 ghost use Rattle.sec_base.specs.declared.counter.Counter.{Counter};
 ghost use Rattle.sec_base.specs.declared.evidence.Evidence.TheVariants.{Forgery};
-ghost use Rattle.sec_base.specs.declared.message.Message.TheVariants.{Line};
 ghost use Rattle.sec_base.specs.declared.place.Place.{Place};
 ghost use Rattle.sec_base.specs.declared.place.Place.TheVariants.{Line as line_place};
 ghost use Rattle.sec_base.specs.declared.sealed.Sealed.{Sealed};
@@ -18,38 +17,42 @@ ghost use Rattle.sec_base.specs.declared.stop.MemStop.TheVariants.{Tampered, Spe
 ghost use Rattle.bus_model.specs.BusHistory.{NothingWritten};
 ghost use Rattle.tag_engine.specs.TagEngine.{tags_of};
 ghost use Rattle.pad_stream.specs.Pad.{cipher_of};
-ghost use Rattle.checked_bus.specs.Steps.{IsAccounted, Moves as StepMoves};
-ghost use Rattle.page_reencrypt.specs.NextWrites.{IsNextWrite};
-ghost use Rattle.page_reencrypt.specs.Contents.{counter_in, last_counter};
-ghost use Rattle.page_reencrypt.specs.SealedLines.{AreNew, AreProtected, IsUnbooted, IsQuiet, IsSealedAnew, IsUnsealed, Moves, ReadMoved, contents, enc_key, evidence, lasting_stop, lines_of, made, tag_in, used};
+ghost use Rattle.pad_stream.specs.PadBlocks.{ShareNoBlock};
+ghost use Rattle.pad_stream.specs.Pads.{NoRepeat};
+ghost use Rattle.split_counter.specs.CounterBlock.{new_block};
+ghost use Rattle.page_reencrypt.specs.Contents.{counter_in, entries_of_write, last_counter, next_counter, place_of};
+ghost use Rattle.page_reencrypt.specs.Outside.{AreConsistent, HasCounter, HaveLast, IsWriteOrSpent, terms_of};
+ghost use Rattle.page_reencrypt.specs.SealedLines.{AreCurrent, AreNew, AreProtected, AreReread, HadMemory, IsOfPage, IsSealedAnew, IsSealedInPart, IsTamperedBeside, IsUnbooted, IsQuiet, IsUnsealed, Moves, ReadMoved, contents, enc_key, evidence, levels, lines_of, lines_of_write, made, tag_in, used};
+ghost use Rattle.page_reencrypt.specs.Stops.{lasting_stop};
 
 use crate::account::Account;
+use crate::outside::Outside;
 use bus_model::Bus;
-use checked_bus::{read_line, write_line};
 use pad_stream::PadEngine;
 use sec_base::{
-    Counter, Geometry, LINE_LEN, LineStore, MemStop, NoMemory, NoMemoryWith, Tagger, page_of,
+    Counter, Geometry, LINES_PER_PAGE, LineStore, MemStop, NoMemory, NoMemoryWith, Tagger, page_of,
 };
+use split_counter::{Bumped, CounterBlock};
 use std::alloc::Global;
 use std::marker::Model;
 use tag_engine::TagEngine;
 
-/// A memory of lines that stand outside the chip. A line that was written n times has the counter (n, 0).
+/// A memory of lines that stand outside the chip, each encrypted under a counter of its own: the chip has a block of
+/// counters for each page.
 #[derive(Drop)]
 pub struct SealedLines<B: Bus, T: Tagger> {
-    bus: B,
-    tags: TagEngine<T>,
-    pads: PadEngine,
+    outside: Outside<B, T>,
     geometry: Geometry,
-    counters: Vec<u64>,
+    blocks: Vec<CounterBlock>,
     page_limit: u64,
     stopped: Option<MemStop>,
 }
 
 impl<B: Bus, T: Tagger> Model for SealedLines<B, T> {
-    ghost use Rattle.std.specs.Prelude.{◌≡◌};
-    ghost use Rattle.sec_base.specs.Geometry.{line_count};
+    ghost use Rattle.std.specs.Prelude.{◌≡◌, None};
+    ghost use Rattle.sec_base.specs.Geometry.{page_count};
     ghost use Rattle.page_reencrypt.specs.SealedLines.{AreCurrent, AreProtected, SealedLinesView};
+    ghost use Rattle.page_reencrypt.specs.Stops.{lasting_stop};
 
     ghost Value = { SealedLinesView B T };
 
@@ -57,9 +60,11 @@ impl<B: Bus, T: Tagger> Model for SealedLines<B, T> {
 
     ghost view = { sealed_lines_view };
 
-    ghost invariant = { λ lines. (lines.geometry ≡ lines.tags.levels)
+    // The blocks say the counters until a stop that lasts, which may come in the middle of an overflow.
+    ghost invariant = { λ lines. (lines.geometry ≡ lines.outside.engine.levels)
         × AreProtected T.data_tag_of T.node_tag_of B.history (sealed_lines_view lines)
-        × AreCurrent lines.counters.items (line_count lines.tags.levels) lines.pads.used };
+        × (lasting_stop lines.stopped ≡ None →
+        AreCurrent lines.blocks.items (page_count lines.outside.engine.levels) lines.outside.pads.used) };
 }
 
 impl<B: Bus, T: Tagger> SealedLines<B, T> {
@@ -85,15 +90,13 @@ impl<B: Bus, T: Tagger> SealedLines<B, T> {
         let Ok(pads) = PadEngine::new(alloc, enc_key) else {
             return Err(NoMemoryWith(bus));
         };
-        let Ok(counters) = no_writes(alloc, geometry) else {
+        let Ok(blocks) = new_blocks(alloc, geometry) else {
             return Err(NoMemoryWith(bus));
         };
         Ok(SealedLines {
-            bus,
-            tags,
-            pads,
+            outside: Outside { bus, tags, pads },
             geometry,
-            counters,
+            blocks,
             page_limit,
             stopped: None,
         })
@@ -110,23 +113,28 @@ impl<B: Bus, T: Tagger> SealedLines<B, T> {
     pub fn finish(self) -> (Account, B)
         ensures made { result.0.made ≡ made self }
         ensures used { result.0.used ≡ used self }
+        ensures few { length result.0.used < 2 ^ 64 }
         ensures evidence { result.0.evidence ≡ evidence self }
         ensures bus { result.1 ≡ self.bus }
 
-        // Evidence is what it says, and what holds at all times held to the end.
+        // Where no line and counter repeats, no block of all their pads does.
+        ensures apart { NoRepeat result.0.used → ShareNoBlock (enc_key self) result.0.used }
+
+        // Evidence is what it says, and what holds at all times held to the end. The blocks said the counters until a
+        // stop that lasts.
         ensures genuine { IfSome result.0.evidence
             (IsEvidence (tag_in T.data_tag_of T.node_tag_of self) result.0.made) }
         ensures protected { AreProtected T.data_tag_of T.node_tag_of B.history self }
+        ensures current { lasting_stop self.stopped ≡ None → AreCurrent self.blocks (page_count (levels self)) (used self) }
     {
         let SealedLines {
-            bus,
-            tags,
-            pads,
+            outside,
             geometry: _,
-            counters: _counters,
+            blocks: _blocks,
             page_limit: _,
             stopped: _,
         } = self;
+        let Outside { bus, tags, pads } = outside;
         let (made, evidence) = tags.finish();
         let account = Account {
             made,
@@ -139,12 +147,10 @@ impl<B: Bus, T: Tagger> SealedLines<B, T> {
     // The counter of a line, as the chip has it.
     fn counter(&self, line: u32) -> Counter
         requires inside { line < lines_of self.now }
-        ensures { result ≡ counter_in (used self.now) line }
+        requires going { lasting_stop self.now.stopped ≡ None }
+        ensures counter { HasCounter (used self.now) line result }
     {
-        Counter {
-            page: self.counters[line as usize],
-            line: 0,
-        }
+        self.blocks[page_of(line) as usize].get(place_of(line))
     }
 }
 
@@ -193,9 +199,9 @@ impl<B: Bus, T: Tagger> LineStore for SealedLines<B, T> {
         ensures unsealed { IsUnsealed B.history self.old self.new }
 
         // What passed though it was never tagged is answered as it was decrypted.
-        ensures accepted { (counter : Counter) (sealed : Sealed) (made_count : ℕ) →
-            IsQuiet self.old → evidence self.new ≡ Some (Forgery line counter sealed made_count) →
-            IfOk result (λ bytes. bytes ≡ cipher_of (enc_key self.old) line counter sealed.cipher) }
+        ensures accepted { (at : ℕ) (counter : Counter) (sealed : Sealed) (made_count : ℕ) →
+            IsQuiet self.old → evidence self.new ≡ Some (Forgery at counter sealed made_count) →
+            (at ≡ line) × (result ≡ Ok (cipher_of (enc_key self.old) line counter sealed.cipher)) }
 
         // A line that was never written is read without an access to its place, and nothing is found.
         ensures fresh { lasting_stop self.old.stopped ≡ None → IsFresh line (used self.old) → IsOk result
@@ -203,7 +209,7 @@ impl<B: Bus, T: Tagger> LineStore for SealedLines<B, T> {
 
         // Tampering comes only of this line, and where an answer was false.
         ensures tampered { (place : Place) → lasting_stop self.old.stopped ≡ None →
-            IsQuiet self.old → result ≡ Err (Tampered place) → (place ≡ line_place line)
+            result ≡ Err (Tampered place) → (place ≡ line_place line)
             × Rose (B.history self.old.bus).lies (B.history self.new.bus).lies }
         ensures unspent { (page : ℕ) → result ≢ Err (Spent page) }
     {
@@ -211,12 +217,13 @@ impl<B: Bus, T: Tagger> LineStore for SealedLines<B, T> {
             return Err(stop);
         }
         let counter = self.counter(line);
-        if counter.page == 0 {
-            return Ok([0; LINE_LEN as usize]);
+        match self.outside.read(line, counter) {
+            Ok(bytes) => Ok(bytes),
+            Err(stop) => {
+                self.stopped = Some(stop);
+                Err(stop)
+            }
         }
-        let cipher = read_line(&mut self.bus, &mut self.tags, line, counter);
-        self.stopped = cipher.err().or(self.stopped);
-        Ok(self.pads.decrypt(line, counter, &cipher?))
     }
 
     fn write_line(&mut self, line: u32, bytes: &[u8; 64]) -> Result<(), MemStop>
@@ -239,36 +246,49 @@ impl<B: Bus, T: Tagger> LineStore for SealedLines<B, T> {
         ensures kept { (stop : MemStop) → lasting_stop self.old.stopped ≡ Some stop →
             (result ≡ Err stop) × (self.new ≡ self.old) }
 
-        // It is one access at most, and no read. The line is encrypted and tagged once, under its next counter; where
-        // it is refused, that was done or nothing.
-        ensures once { ((B.history self.new.bus).accesses ≤ (B.history self.old.bus).accesses + 1)
-            × ((B.history self.new.bus).reads ≡ (B.history self.old.bus).reads) }
-        ensures sealed { OnOk result (IsSealedAnew line bytes.now self.old self.new) }
-        ensures refused_lists { OnErr result (IsUnsealed B.history self.old self.new
-            ⊎ IsSealedAnew line bytes.now self.old self.new) }
+        // The line is encrypted and tagged once, under its next counter; with an overflow all lines of its page are, in
+        // the order of their places, each with the bytes that the memory then holds. Where the write stops, a front part
+        // of them was.
+        ensures sealed { OnOk result (IsSealedAnew line bytes.now (lines_of_write line self.old) self.old self.new) }
+        ensures sealed_in_part { OnErr result (IsSealedInPart line bytes.now self.old self.new) }
 
-        // A line with the last counter that the limit allows is not written again, and nothing else is refused so. What
-        // is encrypted, tagged and written stays.
+        // With an overflow each other line of the page that was written before is read from its place.
+        ensures reread { OnOk result (AreReread line (lines_of_write line self.old) (used self.old)
+            (B.history self.old.bus) (B.history self.new.bus)) }
+
+        // A counter changes only where there was memory for each line that is to be encrypted.
+        ensures reserved { OnErr result (((used self.new ≡ used self.old) × (self.new.blocks ≡ self.old.blocks))
+            ⊎ HadMemory line self.old self.new) }
+
+        // A line is written without a read and by one access; with an overflow there are two accesses a line at most.
+        ensures once { (next_counter (counter_in (used self.old) line)).line ≢ 0 →
+            ((B.history self.new.bus).accesses ≤ (B.history self.old.bus).accesses + 1)
+            × ((B.history self.new.bus).reads ≡ (B.history self.old.bus).reads) }
+        ensures twice { (B.history self.new.bus).accesses
+            ≤ (B.history self.old.bus).accesses + 2 * length (lines_of_write line self.old) }
+
+        // A line with the last counter that the limit allows is not written again, and nothing else is refused so. Nothing
+        // changes but the stop.
         ensures spent { lasting_stop self.old.stopped ≡ None →
             ((result ≡ Err (Spent (page_of line)))
             ↔ (counter_in (used self.old) line ≡ last_counter self.old.limit)) }
         ensures spent_stays { (page : ℕ) → result ≡ Err (Spent page) → (page ≡ page_of line)
-            × IsUnsealed B.history self.old self.new }
-        ensures untampered { (place : Place) → lasting_stop self.old.stopped ≡ None →
-            result ≢ Err (Tampered place) }
+            × (self.new ≡ record self.old { stopped = Some (Spent page) }) }
+
+        // Tampering comes only with an overflow, of another line of the page, and where an answer was false.
+        ensures tampered { (place : Place) → lasting_stop self.old.stopped ≡ None → result ≡ Err (Tampered place) →
+            ((next_counter (counter_in (used self.old) line)).line ≡ 0)
+            × IsTamperedBeside line place (B.history self.old.bus) (B.history self.new.bus) }
+
+        // The lines that were encrypted are those before the one that failed.
+        ensures failed { (other : ℕ) → lasting_stop self.old.stopped ≡ None → result ≡ Err (Tampered (line_place other)) →
+            used self.new ≡ used self.old ++ take (place_of other) (entries_of_write line (used self.old)) }
     {
         if let Some(stop) = lasting(self.stopped) {
             return Err(stop);
         }
-        let written = write_next(
-            &mut self.bus,
-            &mut self.tags,
-            &mut self.pads,
-            &mut self.counters[line as usize],
-            self.page_limit,
-            line,
-            bytes,
-        );
+        let block = &mut self.blocks[page_of(line) as usize];
+        let written = write_next(&mut self.outside, block, self.page_limit, line, bytes);
         self.stopped = written.err().or(self.stopped);
         written
     }
@@ -276,11 +296,19 @@ impl<B: Bus, T: Tagger> LineStore for SealedLines<B, T> {
     ghost sized = { λ lines. length-contents_of (enc_key lines) (lines_of lines) (made lines) };
 }
 
-// No line of the memory was written.
-fn no_writes(alloc: Global, geometry: Geometry) -> Result<Vec<u64>, NoMemory>
-    ensures { IfOk result (λ counters. counters.items ≡ replicate (line_count geometry) 0) }
+// The counters of a memory of which no line was written.
+fn new_blocks(alloc: Global, geometry: Geometry) -> Result<Vec<CounterBlock>, NoMemory>
+    ensures { IfOk result (λ blocks. blocks.items ≡ replicate (page_count geometry) new_block) }
 {
-    Ok(vec![in alloc; 0; geometry.lines() as usize]?)
+    Ok(vec![in alloc; CounterBlock::new(); geometry.pages() as usize]?)
+}
+
+// The place of a line in its page.
+fn place_of(line: u32) -> u8
+    ensures place { result ≡ place_of line }
+    ensures inside { result < 64 }
+{
+    (line % LINES_PER_PAGE) as u8
 }
 
 // The stop that is answered from then on, if there was one.
@@ -294,42 +322,43 @@ fn lasting(stopped: Option<MemStop>) -> Option<MemStop>
     }
 }
 
-// Encrypts a line under its next counter, where the limit allows one, and writes it. It keeps no stop.
+// Writes a line under its next counter, where the limit allows one. A line counter that is used up raises its page's
+// counter, and the whole page is encrypted anew. Memory is taken before a counter changes. It keeps no stop.
 fn write_next<B: Bus, T: Tagger>(
-    bus: &mut B,
-    tags: &mut TagEngine<T>,
-    pads: &mut PadEngine,
-    writes: &mut u64,
+    outside: &mut Outside<B, T>,
+    block: &mut CounterBlock,
     limit: u64,
     line: u32,
     bytes: &[u8; 64],
 ) -> Result<(), MemStop>
-    requires place { IsPlace (B.history bus.old).levels (line_place line) }
-    requires line { line < line_count tags.old.levels }
+    requires inside { line < line_count outside.old.engine.levels }
+    requires consistent { AreConsistent (terms_of B.history B.moved T.data_tag_of T.node_tag_of outside.old) outside.old }
+    requires holds_last { HaveLast (terms_of B.history B.moved T.data_tag_of T.node_tag_of outside.old) outside.old }
+    requires current { IsOfPage outside.old.pads.used (page_of line) block.old }
+    requires started { (at : ℕ) → HasCounter outside.old.pads.used at (counter_in outside.old.pads.used at) }
+    requires limited { block.old.page ≤ limit }
 
-    ensures written { IsNextWrite (tags_of T.data_tag_of T.node_tag_of tags.old) limit line bytes.now
-        (record { history = B.history bus.old; engine = tags.old; pads = pads.old; writes = writes.old })
-        (record { history = B.history bus.new; engine = tags.new; pads = pads.new; writes = writes.new }) result }
-
-    ensures moves { StepMoves (B.history bus.old) tags.old (B.history bus.new) tags.new }
-
-    // No answer was false.
-    ensures honest { (used more : List (ℕ × Counter)) →
-        IsAccounted (tags_of T.data_tag_of T.node_tag_of tags.old) used tags.old.made (B.history bus.old) None tags.old.evidence →
-        IsAccounted (tags_of T.data_tag_of T.node_tag_of tags.old) more tags.new.made (B.history bus.new) None tags.new.evidence }
-    ensures moved { B.moved bus.old bus.new }
+    ensures written { IsWriteOrSpent (terms_of B.history B.moved T.data_tag_of T.node_tag_of outside.old) limit line bytes.now
+        outside.old block.old outside.new block.new result }
+    ensures once { (next_counter (counter_in outside.old.pads.used line)).line ≢ 0 →
+        ((B.history outside.new.bus).accesses ≤ (B.history outside.old.bus).accesses + 1)
+        × ((B.history outside.new.bus).reads ≡ (B.history outside.old.bus).reads) }
+    ensures few { (B.history outside.new.bus).accesses ≤ (B.history outside.old.bus).accesses + 128 }
 {
-    if *writes >= limit {
-        return Err(MemStop::Spent(page_of(line)));
+    let place = place_of(line);
+    match Bumped::of(block.get(place), limit) {
+        Bumped::Line(counter) => {
+            outside.reserve(1)?;
+            block.bump(place, limit);
+            outside.seal(line, counter, bytes)?;
+            Ok(())
+        }
+        Bumped::Page(page) => {
+            outside.reserve(LINES_PER_PAGE)?;
+            let old = *block;
+            block.bump(place, limit);
+            outside.reencrypt_page(&old, line, Counter { page, line: 0 }, bytes)
+        }
+        Bumped::Spent => Err(MemStop::Spent(page_of(line))),
     }
-    tags.reserve(1)?;
-    pads.reserve(1)?;
-    *writes += 1;
-    let counter = Counter {
-        page: *writes,
-        line: 0,
-    };
-    let cipher = pads.encrypt(line, counter, bytes)?;
-    write_line(bus, tags, line, counter, &cipher)?;
-    Ok(())
 }

@@ -1,13 +1,22 @@
 -- What a load and a store make of a memory.
-use Rattle.std.proofs.Common.{◌≡◌, inr, ℕ, zero, suc, List, [], ◌∷◌, Some, None, Contains, ap, sym, subst, arith}
+use Rattle.std.proofs.Common.{◌≡◌, inr, ℕ, zero, suc, List, [], ◌∷◌, ◌++◌, Some, None, Result, Ok, Err, OnErr, Contains, ap, sym, ◌∙◌, subst, arith}
+use Rattle.std.proofs.lemmas.List.{append-nil, take-map}
+use Rattle.sec_base.specs.Count.{RoseBy}
 use Rattle.sec_base.specs.Geometry.{page_of}
+use Rattle.sec_base.specs.Width.{number_at}
+use Rattle.sec_base.specs.declared.counter.Counter.{Counter}
 use Rattle.sec_base.specs.declared.message.Message.{Message}
+use Rattle.sec_base.specs.declared.place.Place.{Place}
 use Rattle.sec_base.specs.declared.stop.MemStop.{MemStop}
+use Rattle.sec_base.specs.declared.width.Width.{Width}
 use Rattle.bus_model.specs.BusHistory.{BusHistory}
 use Rattle.tag_engine.specs.TagEngine.{TagEngineView}
-use Rattle.page_reencrypt.specs.SealedLines.{Moves, ReadMoved, lasting_stop}
+use Rattle.pad_stream.specs.Pad.{cipher_of}
+use Rattle.page_reencrypt.specs.Contents.{counter_in, entries_of_write, next_counter}
+use Rattle.page_reencrypt.specs.SealedLines.{IsSealedInPart, IsTamperedBeside, Moves, ReadMoved, SealedLinesView, lines_of_write, used}
+use Rattle.page_reencrypt.specs.Stops.{lasting_stop}
 use Rattle.page_reencrypt.proofs.Moves.{moves_not, moves_on}
-use Rattle.secure_memory.specs.SecureRam.{SecureRamView, IsMoved, IsQuiet, LineHad, PageHad, WereHad, evidence, stopped}
+use Rattle.secure_memory.specs.SecureRam.{SecureRamView, IsMoved, IsQuiet, IsTamperedInPage, IsWrittenInPart, LineHad, PageHad, WereHad, evidence, stopped}
 use Rattle.secure_memory.specs.Moving.{line_sooner, page_sooner, was_none}
 
 only_line : (line other : ℕ) → Contains (line ∷ []) other → other ≡ line
@@ -16,6 +25,43 @@ only_line line other (suc k, below, at) = absurd (omega (arith, below))
 
 none_contained : (x : ℕ) → Contains [] x → ⊥
 none_contained x (k, below, at) = omega (arith, below)
+
+-- what passed its check is answered as it was decrypted
+pub accepted_number : (key key' : List ℕ) (at line : ℕ) (counter : Counter) (cipher bytes : List ℕ) (answer : Result (List ℕ) MemStop) (address value : ℕ) (width : Width) →
+    key ≡ key' → at ≡ line → answer ≡ Ok bytes → answer ≡ Ok (cipher_of key line counter cipher) → value ≡ number_at bytes address width →
+    value ≡ number_at (cipher_of key' at counter cipher) address width
+accepted_number key key' at line counter cipher bytes answer address value width same there was answered is =
+    let decrypted : bytes ≡ cipher_of key line counter cipher = cc in
+    is ∙ ap (λ (xs : List ℕ). number_at xs address width) decrypted
+    ∙ ap (λ (k : List ℕ). number_at (cipher_of k line counter cipher) address width) same
+    ∙ ap (λ (l : ℕ). number_at (cipher_of key' l counter cipher) address width) (sym there)
+
+-- what was written of a line, after calls that encrypted nothing
+
+pub written_whole : (line : ℕ) (first old new : List (ℕ × Counter)) → old ≡ first → new ≡ old ++ entries_of_write line old → new ≡ first ++ entries_of_write line first
+written_whole line first old new same entries = subst (λ (u : List (ℕ × Counter)). new ≡ u ++ entries_of_write line u) same entries
+
+pub nothing_written : {A : Type 0} (answer : Result A MemStop) (line : ℕ) (first new : List (ℕ × Counter)) → new ≡ first → OnErr answer (IsWrittenInPart line first new)
+nothing_written (Ok done) line first new same = tt
+nothing_written (Err stop) line first new same = record { count = 0; entries = same ∙ sym (append-nil first) }
+
+pub written_in_part : {B T : Type 0} (line : ℕ) (bytes : List ℕ) (first : List (ℕ × Counter)) (old new : SealedLinesView B T) → used old ≡ first →
+    IsSealedInPart line bytes old new → IsWrittenInPart line first (used new)
+written_in_part {B} {T} line bytes first old new same part =
+    let entry : ℕ → ℕ × Counter = λ at. (at, next_counter (counter_in (used old) line)) in
+    subst (λ (u : List (ℕ × Counter)). IsWrittenInPart line u (used new)) same (record {
+      count = part.count;
+      entries = part.sealed.entries ∙ ap (λ (more : List (ℕ × Counter)). used old ++ more) (sym (take-map entry part.count (lines_of_write line old)));
+    })
+
+-- tampering of another line of the page, after calls under which no count of false answers fell
+pub tampered_in_page : (line : ℕ) (place : Place) (first old new : BusHistory) → RoseBy 0 first.lies old.lies → IsTamperedBeside line place old new → IsTamperedInPage line place first new
+tampered_in_page line place first old new rises beside = record {
+  other = beside.other;
+  place_is = beside.place_is;
+  of_page = beside.of_page;
+  lied = omega (arith, rises, beside.lied);
+}
 
 module _ {B T : Type 0} (history : B → BusHistory) (bus_moved : B → B → Type 0) (tags : TagEngineView T → Message → List ℕ) where
   -- a memory that answers its stop again

@@ -1,8 +1,9 @@
 -- What contracts see of the memory that the processor sees, and what calls make of it.
-use Rattle.std.specs.Prelude.{◌≡◌, ◌⊎◌, ℕ, ◌≤◌, List, [], ◌∷◌, ◌++◌, length, map, Option, Some, None, Contains}
+use Rattle.std.specs.Prelude.{◌≡◌, ◌⊎◌, ℕ, ◌≤◌, List, [], ◌++◌, length, map, take, Option, Some, None, Contains}
 use Rattle.sec_base.specs.declared.counter.Counter.{Counter}
 use Rattle.sec_base.specs.declared.evidence.Evidence.{Evidence}
 use Rattle.sec_base.specs.declared.message.Message.{Message}
+use Rattle.sec_base.specs.declared.place.Place.{Place}
 use Rattle.sec_base.specs.declared.place.Place.TheVariants.{Line as line_place, Node}
 use Rattle.sec_base.specs.declared.stop.MemStop.{MemStop}
 use Rattle.sec_base.specs.Count.{Rose}
@@ -10,7 +11,7 @@ use Rattle.sec_base.specs.Geometry.{page_of}
 use Rattle.sec_base.specs.LastMessage.{last_data, last_node}
 use Rattle.bus_model.specs.BusHistory.{BusHistory}
 use Rattle.tag_engine.specs.TagEngine.{TagEngineView}
-use Rattle.page_reencrypt.specs.Contents.{counter_in, next_counter}
+use Rattle.page_reencrypt.specs.Contents.{entries_of_write}
 use Rattle.page_reencrypt.specs.SealedLines.{Moves, SealedLinesView}
 use Rattle.page_reencrypt.specs.SealedLines as sealed_lines
 
@@ -87,6 +88,14 @@ pub record IsMoved {B T : Type 0} (history : B → BusHistory) (bus_moved : B �
   pub few : length (held_lines old) ≤ most_held → length (held_lines new) ≤ most_held
   pub had : stopped new ≡ None → IsQuiet new → WereHad history old lines new
 
--- one line was encrypted once, under its next counter
-abbrev pub IsSealedOnce : ℕ → List (ℕ × Counter) → List (ℕ × Counter) → Type 0
-IsSealedOnce line old new = new ≡ old ++ (line, next_counter (counter_in old line)) ∷ []
+-- A front part of the entries of a write was added.
+pub record IsWrittenInPart (line : ℕ) (old new : List (ℕ × Counter)) : Type 0 where
+  pub count : ℕ
+  pub entries : new ≡ old ++ take count (entries_of_write line old)
+
+-- Tampering is of a line of this page, and comes where an answer was false.
+pub record IsTamperedInPage (line : ℕ) (place : Place) (old new : BusHistory) : Type 0 where
+  pub other : ℕ
+  pub place_is : place ≡ line_place other
+  pub of_page : page_of other ≡ page_of line
+  pub lied : Rose old.lies new.lies

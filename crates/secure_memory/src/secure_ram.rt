@@ -5,15 +5,20 @@ ghost use Rattle.sec_base.specs.Evidence.{IsEvidence};
 ghost use Rattle.sec_base.specs.Geometry.{line_of, page_of};
 ghost use Rattle.sec_base.specs.Width.{width_bytes, number_at, with_number};
 ghost use Rattle.sec_base.specs.declared.counter.Counter.{Counter};
+ghost use Rattle.sec_base.specs.declared.evidence.Evidence.TheVariants.{Forgery};
 ghost use Rattle.sec_base.specs.declared.place.Place.{Place};
 ghost use Rattle.sec_base.specs.declared.place.Place.TheVariants.{Line as line_place};
+ghost use Rattle.sec_base.specs.declared.sealed.Sealed.{Sealed};
 ghost use Rattle.sec_base.specs.declared.stop.MemStop.{MemStop};
 ghost use Rattle.sec_base.specs.declared.stop.MemStop.TheVariants.{Tampered, Spent};
 ghost use Rattle.bus_model.specs.BusHistory.{NothingWritten};
 ghost use Rattle.tag_engine.specs.TagEngine.{tags_of};
-ghost use Rattle.page_reencrypt.specs.Contents.{counter_in, last_counter};
-ghost use Rattle.page_reencrypt.specs.SealedLines.{AreNew, AreProtected, IsUnbooted, IsUnsealed, tag_in};
-ghost use Rattle.secure_memory.specs.SecureRam.{IsMoved, IsQuiet, IsSealedOnce, LineHad, contents, evidence, held_lines, lines_of, made, most_held, stopped, used};
+ghost use Rattle.pad_stream.specs.Pad.{cipher_of};
+ghost use Rattle.pad_stream.specs.PadBlocks.{ShareNoBlock};
+ghost use Rattle.pad_stream.specs.Pads.{NoRepeat};
+ghost use Rattle.page_reencrypt.specs.Contents.{counter_in, entries_of_write, last_counter, next_counter};
+ghost use Rattle.page_reencrypt.specs.SealedLines.{AreNew, AreProtected, IsUnbooted, IsUnsealed, enc_key, tag_in};
+ghost use Rattle.secure_memory.specs.SecureRam.{IsMoved, IsQuiet, IsTamperedInPage, IsWrittenInPart, LineHad, contents, evidence, held_lines, lines_of, made, most_held, stopped, used};
 
 use bus_model::Bus;
 use hmac_tag::Keys;
@@ -90,8 +95,12 @@ impl<B: Bus, T: Tagger> SecureRam<B, T> {
     pub fn finish(self) -> (Account, B)
         ensures made { result.0.made ≡ made self }
         ensures used { result.0.used ≡ used self }
+        ensures few { length result.0.used < 2 ^ 64 }
         ensures evidence { result.0.evidence ≡ evidence self }
         ensures bus { result.1 ≡ self.lines.bus }
+
+        // Where no line and counter repeats, no block of all their pads does.
+        ensures apart { NoRepeat result.0.used → ShareNoBlock (enc_key self.lines) result.0.used }
 
         // Evidence is what it says, and what holds at all times held to the end.
         ensures genuine { IfSome result.0.evidence
@@ -144,12 +153,18 @@ impl<B: Bus, T: Tagger> Ram for SecureRam<B, T> {
         ensures once { (B.history self.new.lines.bus).accesses ≤ (B.history self.old.lines.bus).accesses + 1 }
         ensures unsealed { IsUnsealed B.history self.old.lines self.new.lines }
 
-        // The line was held, or never tagged, or was read from its place, where the call neither stops nor finds evidence.
+        // The line was held, or never tagged, or was read from its place, where the call neither stops nor finds
+        // evidence.
         ensures read { IsQuiet self.new → OnOk result (LineHad B.history self.old self.new (line_of addr)) }
         ensures held { (line : ℕ) → Contains (held_lines self.new) line → Contains (held_lines self.old) line ⊎ (line ≡ line_of addr) }
 
+        // A line that passed though it was never tagged is answered as it was decrypted.
+        ensures accepted { (at : ℕ) (counter : Counter) (sealed : Sealed) (made_count : ℕ) → stopped self.old ≡ None →
+            IsQuiet self.old → evidence self.new ≡ Some (Forgery at counter sealed made_count) → (at ≡ line_of addr)
+            × IfOk result (λ n. n ≡ number_at (cipher_of (enc_key self.old.lines) at counter sealed.cipher) (addr % 64) width) }
+
         // Tampering comes only of the line, and where an answer was false.
-        ensures tampered { (place : Place) → stopped self.old ≡ None → IsQuiet self.old → result ≡ Err (Tampered place) →
+        ensures tampered { (place : Place) → stopped self.old ≡ None → result ≡ Err (Tampered place) →
             (place ≡ line_place (line_of addr)) × Rose (B.history self.old.lines.bus).lies (B.history self.new.lines.bus).lies }
         ensures unspent { (page : ℕ) → stopped self.old ≡ None → result ≢ Err (Spent page) }
     {
@@ -179,19 +194,24 @@ impl<B: Bus, T: Tagger> Ram for SecureRam<B, T> {
         // The first stop is answered again, and nothing is done.
         ensures latched { (stop : MemStop) → stopped self.old ≡ Some stop → (result ≡ Err stop) × (self.new ≡ self.old) }
 
-        // It is two accesses at most. The line is encrypted once; where the store is refused, once or not at all.
-        ensures once { (B.history self.new.lines.bus).accesses ≤ (B.history self.old.lines.bus).accesses + 2 }
-        ensures sealed { OnOk result (IsSealedOnce (line_of addr) (used self.old) (used self.new)) }
-        ensures unsealed { OnErr result ((used self.new ≡ used self.old) ⊎ IsSealedOnce (line_of addr) (used self.old) (used self.new)) }
+        // The line is read and written once; with an overflow all lines of its page are too. What was used grows by the
+        // entries of that write, or by a front part of them where the store is refused.
+        ensures once { (next_counter (counter_in (used self.old) (line_of addr))).line ≢ 0 →
+            (B.history self.new.lines.bus).accesses ≤ (B.history self.old.lines.bus).accesses + 2 }
+        ensures twice { (B.history self.new.lines.bus).accesses
+            ≤ (B.history self.old.lines.bus).accesses + 1 + 2 * length (entries_of_write (line_of addr) (used self.old)) }
+        ensures sealed { OnOk result (used self.new ≡ used self.old ++ entries_of_write (line_of addr) (used self.old)) }
+        ensures in_part { OnErr result (IsWrittenInPart (line_of addr) (used self.old) (used self.new)) }
 
-        // The line was held, or never tagged, or was read from its place, where the call neither stops nor finds evidence.
+        // The line was held, or never tagged, or was read from its place, where the call neither stops nor finds
+        // evidence.
         ensures read { IsQuiet self.new → OnOk result (LineHad B.history self.old self.new (line_of addr)) }
         ensures held { (line : ℕ) → Contains (held_lines self.new) line → Contains (held_lines self.old) line ⊎ (line ≡ line_of addr) }
 
-        // Tampering comes only of the line, and where an answer was false. It is spent only where the line has the last
-        // counter that the limit allows, and then nothing is encrypted, tagged or written.
-        ensures tampered { (place : Place) → stopped self.old ≡ None → IsQuiet self.old → result ≡ Err (Tampered place) →
-            (place ≡ line_place (line_of addr)) × Rose (B.history self.old.lines.bus).lies (B.history self.new.lines.bus).lies }
+        // Tampering comes only of lines of its page, and where an answer was false. It is spent only where the line has
+        // the last counter that the limit allows, and then nothing is encrypted, tagged or written.
+        ensures tampered { (place : Place) → stopped self.old ≡ None → result ≡ Err (Tampered place) →
+            IsTamperedInPage (line_of addr) place (B.history self.old.lines.bus) (B.history self.new.lines.bus) }
         ensures spent { (page : ℕ) → stopped self.old ≡ None → result ≡ Err (Spent page) → (page ≡ page_of (line_of addr))
             × (counter_in (used self.old) (line_of addr) ≡ last_counter self.old.lines.limit) × IsUnsealed B.history self.old.lines self.new.lines }
         ensures unspent { OnOk result (counter_in (used self.old) (line_of addr) ≢ last_counter self.old.lines.limit) }

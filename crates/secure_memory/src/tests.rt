@@ -1,5 +1,5 @@
 // The memory over a bus that tells the truth and over one that does not.
-ghost use Rattle.std.specs.Prelude.{◌≡◌, IfOk};
+ghost use Rattle.std.specs.Prelude.{◌≡◌, ◌*◌, IfOk};
 ghost use Rattle.bus_model.specs.BusHistory.{new_history};
 ghost use Rattle.secure_memory.specs.SecureRam.{lines_of};
 
@@ -65,19 +65,91 @@ fn a_store_changes_as_many_bytes_as_its_width(rt: HostRuntime) -> Result<(), Fai
     Ok(())
 }
 
+// A memory whose line 5 is written again and again.
+#[derive(Drop)]
+struct Worn {
+    memory: SecureRam<FlipBus, HmacTagger>,
+    ghost small: { 64 * lines_of memory ≡ 16384 },
+}
+
+impl Worn {
+    // Over a bus that flips a bit at the `k`-th read of a line.
+    fn new(alloc: Global, page_limit: u64, line: u32, k: u64) -> Result<Worn, Fail> {
+        let geometry = smallest()?;
+        let bus = FlipBus::new(alloc, geometry, Place::Line(line), k, 0, 1)?;
+        let memory = over(alloc, bus, geometry, page_limit)?;
+        Ok(Worn { memory })
+    }
+
+    fn store(&mut self, value: u32) -> Result<(), MemStop> {
+        self.memory.store(320, Width::Four, value)
+    }
+
+    // Stores 1, 2, and so on to the last.
+    fn count_to(&mut self, last: u32) -> Result<(), MemStop> {
+        for value in 1..=last {
+            self.store(value)?;
+        }
+        Ok(())
+    }
+}
+
+#[test]
+fn a_page_that_is_encrypted_anew_keeps_its_numbers(rt: HostRuntime) -> Result<(), Fail> {
+    for (last, entries) in [(126, 128), (127, 192), (128, 193)] {
+        let mut worn = Worn::new(rt.alloc(), u64::MAX, 0, 0)?;
+        assert_eq!(rt;
+            worn.memory.store(252, Width::Four, 4),
+            Ok(()),
+            "up to {last}"
+        );
+        assert_eq!(rt;
+            worn.memory.store(324, Width::Four, 5),
+            Ok(()),
+            "up to {last}"
+        );
+        assert_eq!(rt; worn.count_to(last), Ok(()), "up to {last}");
+        assert_eq!(rt; worn.memory.load(252, Width::Four), Ok(4), "up to {last}");
+        assert_eq!(rt;
+            worn.memory.load(320, Width::Four),
+            Ok(last),
+            "up to {last}"
+        );
+        assert_eq!(rt; worn.memory.load(324, Width::Four), Ok(5), "up to {last}");
+        assert_eq!(rt; worn.memory.load(384, Width::Four), Ok(0), "up to {last}");
+        assert_eq!(rt; worn.memory.stopped(), None, "up to {last}");
+        let (account, _bus) = worn.memory.finish();
+        assert_eq!(rt; account.used.len(), entries, "up to {last}");
+        assert_eq!(rt; account.made.len(), entries, "up to {last}");
+    }
+    Ok(())
+}
+
 #[test]
 fn the_first_stop_is_answered_again(rt: HostRuntime) -> Result<(), Fail> {
-    let geometry = smallest()?;
-    let bus = HonestBus::new(rt.alloc(), geometry)?;
-    let mut memory = over(rt.alloc(), bus, geometry, 0)?;
-    assert_eq!(rt; memory.load(0, Width::Four), Ok(0));
-    assert_eq!(rt; memory.stopped(), None);
-    let spent = MemStop::Spent(0);
-    assert_eq!(rt; memory.store(0, Width::Four, 1), Err(spent));
-    assert_eq!(rt; memory.load(0, Width::Four), Err(spent));
-    assert_eq!(rt; memory.load(4096, Width::One), Err(spent));
-    assert_eq!(rt; memory.store(4096, Width::One, 1), Err(spent));
-    assert_eq!(rt; memory.stopped(), Some(spent));
+    let rows = [
+        (0, 0, 0, MemStop::Spent(0), 128),
+        (1, 9, 1, MemStop::Tampered(Place::Line(9)), 128 + 9),
+    ];
+    for (page_limit, line, k, stop, entries) in rows {
+        let mut worn = Worn::new(rt.alloc(), page_limit, line, k)?;
+        assert_eq!(rt; worn.memory.store(576, Width::Four, 9), Ok(()), "{stop:?}");
+        assert_eq!(rt; worn.count_to(127), Ok(()), "{stop:?}");
+        assert_eq!(rt; worn.memory.stopped(), None, "{stop:?}");
+        assert_eq!(rt; worn.store(128), Err(stop), "{stop:?}");
+        assert_eq!(rt; worn.store(128), Err(stop), "{stop:?}");
+        assert_eq!(rt; worn.memory.load(320, Width::Four), Err(stop), "{stop:?}");
+        assert_eq!(rt; worn.memory.load(8192, Width::One), Err(stop), "{stop:?}");
+        assert_eq!(rt;
+            worn.memory.store(8192, Width::One, 1),
+            Err(stop),
+            "{stop:?}"
+        );
+        assert_eq!(rt; worn.memory.stopped(), Some(stop), "{stop:?}");
+        let (account, bus) = worn.memory.finish();
+        assert_eq!(rt; account.used.len(), entries, "{stop:?}");
+        assert_eq!(rt; bus.lies(), k, "{stop:?}");
+    }
     Ok(())
 }
 

@@ -30,21 +30,24 @@ counter_of place block = record { page = block.page; line = slice_index block.li
 abbrev pub counter_number : Counter → ℕ
 counter_number counter = 128 * counter.page + counter.line
 
--- after an ordinary write of the line at a place: one more on its line counter
-abbrev pub after_write : ℕ → CounterBlockView → CounterBlockView
-after_write place block = record block { lines = slice_set block.lines place (slice_index block.lines place + 1) }
+-- What a write of a line with this counter comes to, under a limit of the page counter. A line counter that stands at
+-- 127 overflows where the page counter is below the limit, and is spent where it isn't.
+unfoldable pub bumped : ℕ → Counter → Bumped
+bumped limit counter =
+    if counter.line == 127
+    then (if nat_lt counter.page limit then Page (counter.page + 1) else Spent)
+    else Line (record counter { line = counter.line + 1 })
 
--- after an overflow: one more on the page counter, and all line counters are 0
-abbrev pub after_overflow : CounterBlockView → CounterBlockView
-after_overflow block = record { page = block.page + 1; lines = replicate 64 0 }
+-- the counters of a page after a write of the line at a place that came to this
+abbrev pub after_outcome : ℕ → Bumped → CounterBlockView → CounterBlockView
+after_outcome place (Line counter) block = record block { lines = slice_set block.lines place counter.line }
+after_outcome place (Page page) block = record { page = page; lines = replicate 64 0 }
+after_outcome place Spent block = block
 
--- A write of the line at a place, under a limit of the page counter: what comes of it, and the counters after it. A line
--- counter that stands at 127 overflows where the page counter is below the limit, and is spent where it isn't.
+-- a write of the line at a place, under a limit of the page counter: what it comes to, and the counters after it
 unfoldable pub after_bump : ℕ → ℕ → CounterBlockView → Bumped × CounterBlockView
 after_bump place limit block =
-    if slice_index block.lines place == 127
-    then (if nat_lt block.page limit then (Page (block.page + 1), after_overflow block) else (Spent, block))
-    else (Line (counter_of place (after_write place block)), after_write place block)
+    (bumped limit (counter_of place block), after_outcome place (bumped limit (counter_of place block)) block)
 
 -- The 64 bytes of a block: 8 bytes of the page counter, then 56 bytes of the number whose digits in base 128 are the
 -- line counters, always the lowest first.

@@ -1,16 +1,13 @@
 // The counters of a page.
-ghost use Rattle.std.specs.Prelude.{◌≡◌, ◌≢◌, ◌↔◌, ℕ, ◌+◌, ◌<◌, ◌≤◌, replicate, slice_index};
+ghost use Rattle.std.specs.Prelude.{◌≡◌, ◌≢◌, ◌↔◌, ℕ, ◌+◌, ◌^◌, ◌<◌, ◌≤◌, replicate, slice_index};
 ghost use Rattle.sec_base.specs.declared.counter.Counter.{Counter};
 ghost use Rattle.split_counter.specs.declared.bumped.Bumped.TheVariants.{Line, Page, Spent};
-ghost use Rattle.split_counter.specs.CounterBlock.{IsCounterBlock, HasLineBits, after_bump, block_bytes, block_of, counter_number, counter_of, new_block};
+ghost use Rattle.split_counter.specs.CounterBlock.{IsCounterBlock, HasLineBits, after_bump, block_bytes, block_of, bumped, counter_number, counter_of, new_block};
 
 use crate::bumped::Bumped;
 use crate::packing::{bytes_of, line_counters, page_counter};
 use sec_base::Counter;
 use std::marker::Model;
-
-/// The greatest value of a line counter, which has 7 bits.
-pub const LAST_LINE_COUNTER: u8 = 127;
 
 /// The counters of a page: a page counter of 64 bits, and a line counter of 7 bits for each of its 64 lines, by their
 /// places in the page.
@@ -69,6 +66,8 @@ impl CounterBlock {
     pub fn get(&self, place: u8) -> Counter
         requires { place < 64 }
         ensures counter { result ≡ counter_of place self.now }
+        ensures page { result.page < 2 ^ 64 }
+        ensures fits { result.line < 128 }
         ensures is_block { IsCounterBlock self.now }
     {
         Counter {
@@ -79,11 +78,11 @@ impl CounterBlock {
 
     /// Counts a write of the line at a place. A line counter that stands at 127 raises the page counter in place of
     /// itself, and all line counters begin again at 0. Where the page counter has reached the limit, the line is spent
-    /// and nothing changes.
+    /// and nothing changes. `Bumped::of` tells beforehand what it comes to.
     #[tactic(auto, using(crate::proofs::Zeros::line_of_zeros), unfolding(crate::specs::CounterBlock::after_bump))]
     pub fn bump(&mut self, place: u8, limit: u64) -> Bumped
         requires { place < 64 }
-        ensures outcome { result ≡ (after_bump place limit self.old).0 }
+        ensures outcome { result ≡ bumped limit (counter_of place self.old) }
         ensures counters { self.new ≡ (after_bump place limit self.old).1 }
         ensures is_block { IsCounterBlock self.new }
 
@@ -104,16 +103,13 @@ impl CounterBlock {
         ensures next { result ≢ Spent →
             counter_number (counter_of place self.new) ≡ counter_number (counter_of place self.old) + 1 }
     {
-        let line = self.lines[place as usize];
-        if line < LAST_LINE_COUNTER {
-            self.lines[place as usize] = line + 1;
-            return Bumped::Line(self.get(place));
+        let outcome = Bumped::of(self.get(place), limit);
+        match outcome {
+            Bumped::Line(counter) => self.lines[place as usize] = counter.line,
+            Bumped::Page(page) => *self = CounterBlock::unwritten(page),
+            Bumped::Spent => {}
         }
-        if self.page >= limit {
-            return Bumped::Spent;
-        }
-        *self = CounterBlock::unwritten(self.page + 1);
-        Bumped::Page(self.page)
+        outcome
     }
 
     // A page counter under which no line was written.

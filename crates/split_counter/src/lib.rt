@@ -10,5 +10,5 @@ mod packing;
 #[cfg(test)]
 mod tests;
 
-pub use bumped::Bumped;
-pub use counter_block::{CounterBlock, LAST_LINE_COUNTER};
+pub use bumped::{Bumped, LAST_LINE_COUNTER};
+pub use counter_block::CounterBlock;

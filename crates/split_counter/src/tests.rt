@@ -56,6 +56,8 @@ fn write_to_the_end(rt: &impl Abort, block: &mut CounterBlock, place: u8)
 {
     for line in 1..=LAST_LINE_COUNTER {
         let counter = Counter { page: 0, line };
+        let outcome = Bumped::of(block.get(place), u64::MAX);
+        assert_eq!(rt; outcome, Bumped::Line(counter));
         assert_eq!(rt; block.bump(place, u64::MAX), Bumped::Line(counter));
         assert_eq!(rt; block.get(place), counter);
     }
@@ -96,6 +98,8 @@ fn a_worn_out_line_is_spent_from_the_limit_on(rt: HostRuntime) {
         (u64::MAX, u64::MAX, Bumped::Spent),
     ] {
         let mut block = worn_out_at(page);
+        let told = Bumped::of(block.get(0), limit);
+        assert_eq!(rt; told, outcome, "at {page} of {limit}");
         assert_eq!(rt; block.bump(0, limit), outcome, "at {page} of {limit}");
         if outcome == Bumped::Spent {
             assert_eq!(rt; block, worn_out_at(page), "at {page} of {limit}");

@@ -143,6 +143,21 @@ fn assembled_programs_run(rt: HostRuntime) -> Result<(), Fail> {
     Ok(())
 }
 
+// 127 stores take the line's counter to 127, and the next one needs page counter 1.
+#[test]
+fn a_page_is_spent_at_its_limit(rt: HostRuntime) -> Result<(), Fail> {
+    let rows: [(&str, &[u8], u8); 2] = [
+        ("0", b"spent page 1\nretired 384\nlies 0\n", 6),
+        ("1", b"halted 0\nretired 605\nlies 0\n", 0),
+    ];
+    for (limit, told, status) in rows {
+        let words = ["chip", "run", "f", "--page-limit", limit];
+        let call = call_assembled(rt.alloc(), &words, WEAR_ONE_LINE, &[])?;
+        check(&rt, &call, b"", told, status);
+    }
+    Ok(())
+}
+
 #[test]
 fn texts_are_refused(rt: HostRuntime) -> Result<(), Fail> {
     let rows: [(&[u8], &[u8]); 15] = [

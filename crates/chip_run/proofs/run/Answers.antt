@@ -46,7 +46,7 @@ returns-in-Err-store_image-clause-run g c =
     image.entry image.size image.segments c.args.input.now c.in-Err-store_image.stop refl
     (run_memory g.T.Tagger.data_tag_of g.T.Tagger.node_tag_of g.B.Bus.history g.B.Bus.moved c.args.bus c.args.tagger setup.keys.enc_key setup.geometry setup.page_limit
     c.in-Ok.memory.lines c.store_image.new.ram.lines c.in-Ok.ensures.new c.in-Err-store_image.ensures.moved.moved.moves
-    (opening image c.args.input.now) setup.budget c.close.result.1 c.close.result.0 c.requires.no_lie run.protected run.made run.used run.evidence run.bus
+    (opening image c.args.input.now) setup.budget c.close.result.1 c.close.result.0 c.requires.no_lie run.protected run.made run.used run.few run.apart run.evidence run.bus
     (ends_as_stop _ c.in-Err-store_image.stop c.close.result.0.ending c.in-Err-store_image.ensures.stops ending))
     run.retired ending run.report
 
@@ -139,7 +139,7 @@ returns-clause-run g c =
     runs_protected _ _ _ ended.follows.0 _ _ c.close-2.result.0
     (run_memory d n g.B.Bus.history g.B.Bus.moved c.args.bus c.args.tagger setup.keys.enc_key setup.geometry setup.page_limit
     c.in-Ok.memory.lines memory.lines c.in-Ok.ensures.new (ran g c)
-    (opening image c.args.input.now) setup.budget c.close-2.result.1 c.close-2.result.0 c.requires.no_lie run.protected run.made run.used run.evidence run.bus (carries g c))
+    (opening image c.args.input.now) setup.budget c.close-2.result.1 c.close-2.result.0 c.requires.no_lie run.protected run.made run.used run.few run.apart run.evidence run.bus (carries g c))
     (ran_session _ _ _ ended.follows.0 _ _ c.close-2.result.0 c.finish-ending.new.self.retired c.new-session.result.budget c.finish-ending.result (contents c.finish-ending.new.self.memory)
     (run.retired ∙ c.retired-retired.ensures) run.ending c.new-session.ensures.budget run.report
     (run_contents d n g.B.Bus.history g.B.Bus.moved c.args.bus c.args.tagger setup.keys.enc_key setup.geometry setup.page_limit

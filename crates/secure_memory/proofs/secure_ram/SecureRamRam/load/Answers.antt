@@ -1,11 +1,12 @@
-use Rattle.std.proofs.Common.{◌≡◌, ◌∷◌, [], Some, None, ap, ◌∙◌, subst, rules}
+use Rattle.std.proofs.Common.{◌≡◌, ◌%◌, ◌∷◌, [], Some, None, refl, ap, ◌∙◌, subst, rules}
 use Rattle.sec_base.specs.Geometry.{line_of}
 use Rattle.sec_base.specs.Width.{number_at}
 use Rattle.sec_base.proofs.LineNumbers.{number_read}
 use Rattle.tag_engine.specs.TagEngine.{tags_of}
-use Rattle.page_reencrypt.specs.SealedLines.{contents as line_contents, lasting_stop}
+use Rattle.page_reencrypt.specs.SealedLines.{contents as line_contents}
+use Rattle.page_reencrypt.specs.Stops.{lasting_stop}
 use Rattle.secure_memory.specs.SecureRam.{SecureRamView, IsMoved, LineHad, contents, stopped}
-use Rattle.secure_memory.proofs.LineCalls.{line_had, loaded_moved, stopped_unmoved}
+use Rattle.secure_memory.proofs.LineCalls.{accepted_number, line_had, loaded_moved, stopped_unmoved}
 use Rattle.secure_memory.proofs.secure_ram.SecureRamRam.load.Goals as goal
 
 pub returns-in-Some-clause-moved : goal.returns-in-Some-clause-moved
@@ -39,3 +40,17 @@ returns-clause-read g c = λ quiet.
     (line_had g.B.Bus.history g.B.Bus.moved (tags_of g.T.Tagger.data_tag_of g.T.Tagger.node_tag_of)
     (record { lines = c.self.inside.lines }) (record { lines = c.read_line.new.self }) (line_of c.args.addr)
     c.in_ok-line.ensures.moved (c.in_ok-line.ensures.goes_on ∙ was_going) quiet)
+
+pub returns-in_err-line-clause-accepted : goal.returns-in_err-line-clause-accepted
+returns-in_err-line-clause-accepted g c = λ at counter sealed made_count going quiet is.
+    let was_quiet : c.self.inside.lines.engine.evidence ≡ None = ap (λ (m : SecureRamView g.row.B.Denot g.row.T.Denot). m.lines.engine.evidence) c.self.view_is ∙ quiet in
+    ((c.in_err-line.ensures.accepted at counter sealed made_count was_quiet is).0, search rules)
+
+pub returns-clause-accepted : goal.returns-clause-accepted
+returns-clause-accepted g c = λ at counter sealed made_count going quiet is.
+    let was_quiet : c.self.inside.lines.engine.evidence ≡ None = ap (λ (m : SecureRamView g.row.B.Denot g.row.T.Denot). m.lines.engine.evidence) c.self.view_is ∙ quiet in
+    let key = ap (λ (m : SecureRamView g.row.B.Denot g.row.T.Denot). m.lines.pads.key) c.self.view_is in
+    let accepted = c.in_ok-line.ensures.accepted at counter sealed made_count was_quiet is in (
+      accepted.0,
+      accepted_number _ _ at (line_of c.args.addr) counter sealed.cipher c.in_ok-line.line _ (c.args.addr % 64) c.read.result c.args.width key accepted.0 refl accepted.1 c.read.ensures.value,
+    )

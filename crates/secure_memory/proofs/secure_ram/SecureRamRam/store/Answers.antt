@@ -4,9 +4,10 @@ use Rattle.sec_base.specs.Geometry.{line_of}
 use Rattle.sec_base.specs.Width.{with_number}
 use Rattle.sec_base.proofs.LineNumbers.{number_refused, number_written}
 use Rattle.tag_engine.specs.TagEngine.{tags_of}
-use Rattle.page_reencrypt.specs.SealedLines.{contents as line_contents, lasting_stop}
-use Rattle.secure_memory.specs.SecureRam.{SecureRamView, IsMoved, contents, stopped}
-use Rattle.secure_memory.proofs.LineCalls.{stopped_unmoved, stored_moved}
+use Rattle.page_reencrypt.specs.SealedLines.{contents as line_contents}
+use Rattle.page_reencrypt.specs.Stops.{lasting_stop}
+use Rattle.secure_memory.specs.SecureRam.{SecureRamView, IsMoved, IsTamperedInPage, contents, stopped}
+use Rattle.secure_memory.proofs.LineCalls.{nothing_written, stopped_unmoved, stored_moved, tampered_in_page, written_in_part, written_whole}
 use Rattle.secure_memory.proofs.secure_ram.SecureRamRam.store.Goals as goal
 
 pub returns-in-Some-clause-moved : goal.returns-in-Some-clause-moved
@@ -48,3 +49,33 @@ returns-clause-moved g c =
     (stored_moved g.B.Bus.history g.B.Bus.moved (tags_of g.T.Tagger.data_tag_of g.T.Tagger.node_tag_of) g.met.B.Bus.moved_on
     (record { lines = c.self.inside.lines }) (record { lines = c.read_line.new.self }) (record { lines = c.write_line.new.self }) (line_of c.args.addr)
     was_going (c.in_ok-line.ensures.goes_on ∙ was_going) c.in_ok-line.ensures.moved c.write_line.ensures.moved)
+
+-- the read encrypted nothing
+
+pub returns-in_err-line-clause-in_part : goal.returns-in_err-line-clause-in_part
+returns-in_err-line-clause-in_part g c =
+    let same = c.in_err-line.ensures.unsealed.unused ∙ ap (λ (m : SecureRamView g.row.B.Denot g.row.T.Denot). m.lines.pads.used) c.self.view_is in
+    nothing_written c.from_residual.result (line_of c.args.addr) c.args.self.now.lines.pads.used c.read_line.new.self.pads.used same
+
+pub returns-clause-sealed : goal.returns-clause-sealed
+returns-clause-sealed g c =
+    let same = c.in_ok-line.ensures.unsealed.unused ∙ ap (λ (m : SecureRamView g.row.B.Denot g.row.T.Denot). m.lines.pads.used) c.self.view_is in
+    on_ok_weaker c.write_line.result
+    (λ sealed. written_whole (line_of c.args.addr) c.args.self.now.lines.pads.used c.read_line.new.self.pads.used c.write_line.new.self.pads.used same sealed.entries)
+    c.write_line.ensures.sealed
+
+pub returns-clause-in_part : goal.returns-clause-in_part
+returns-clause-in_part g c =
+    let same = c.in_ok-line.ensures.unsealed.unused ∙ ap (λ (m : SecureRamView g.row.B.Denot g.row.T.Denot). m.lines.pads.used) c.self.view_is in
+    on_err_weaker c.write_line.result
+    (written_in_part (line_of c.args.addr) c.write.new.bytes c.args.self.now.lines.pads.used c.read_line.new.self c.write_line.new.self same)
+    c.write_line.ensures.sealed_in_part
+
+pub returns-clause-tampered : goal.returns-clause-tampered
+returns-clause-tampered g c = λ place going is.
+    let was_going : c.self.inside.lines.stopped ≡ None = search rules in
+    let beside = (c.write_line.ensures.tampered place (ap lasting_stop (c.in_ok-line.ensures.goes_on ∙ was_going)) is).1 in
+    subst (λ (m : SecureRamView g.row.B.Denot g.row.T.Denot).
+    IsTamperedInPage (line_of c.args.addr) place (g.B.Bus.history m.lines.bus) (g.B.Bus.history c.write_line.new.self.bus)) c.self.view_is
+    (tampered_in_page (line_of c.args.addr) place (g.B.Bus.history c.self.inside.lines.bus) (g.B.Bus.history c.read_line.new.self.bus)
+    (g.B.Bus.history c.write_line.new.self.bus) c.in_ok-line.ensures.moved.moves.step.lies beside)

@@ -1,0 +1,171 @@
+-- The layout of a report: its fields are put, taken and told apart.
+use Rattle.std.proofs.Common.{◌≡◌, ℕ, ◌+◌, ◌^◌, ◌<◌, List, [], ◌∷◌, ◌++◌, length, slice_index, take, drop, refl, sym, ap, ◌∙◌, arith, length-append, inl, inr, w32, w64}
+use Rattle.std.proofs.Math.Seq.{take-add}
+use Rattle.std.proofs.lemmas.Bool.{cases_lt}
+use Rattle.std.proofs.lemmas.List.{drop_at, drop_more, get_or-drop, get_or-take, get_or_past, length-take, take_all, take_at}
+use Rattle.std.specs.Int.{from_le_bytes, to_le_bytes}
+use Rattle.std.proofs.lemmas.Nat.{from_le_bytes-to_le_bytes_4, from_le_bytes-to_le_bytes_8, le_bytes_4, le_bytes_8}
+use Rattle.sec_base.proofs.MessageBytes.{put_behind}
+use Rattle.hmac_tag.specs.Hmac.{hmac_of, hmac_under}
+use Rattle.sha2.proofs.Facts256.{length-sha256}
+use Rattle.attest_report.specs.declared.report.Report.{Report}
+use Rattle.attest_report.specs.Report.{IsReport, report_bytes, signed_bytes}
+
+pub length-hmac_of : (key text : List ℕ) → length (hmac_of key text) ≡ 32
+unfolding hmac_of hmac_under
+length-hmac_of key text = length-sha256 _
+
+-- 126 bytes are signed
+pub length-signed_bytes : (report : Report) → IsReport report → length (signed_bytes report) ≡ 126
+unfolding signed_bytes
+length-signed_bytes report is =
+    simp (length-append) (omega (arith, is.measurement, is.input_digest, is.output_digest, is.nonce))
+
+-- eight pieces make the bytes that are signed
+pub signed_put : (report : Report) (count number first second third fourth fifth sixth seventh bytes : List ℕ) →
+    length report.measurement ≡ 32 → length report.input_digest ≡ 32 → length report.output_digest ≡ 32 → length report.nonce ≡ 16 →
+    length bytes ≡ 126 → count ≡ to_le_bytes w64 report.retired → number ≡ to_le_bytes w32 report.code →
+    take 1 first ≡ 0x01 ∷ [] →
+    take (1 + length report.measurement) second ≡ take 1 first ++ report.measurement →
+    take (33 + length report.input_digest) third ≡ take 33 second ++ report.input_digest →
+    take (65 + length report.output_digest) fourth ≡ take 65 third ++ report.output_digest →
+    take (97 + length count) fifth ≡ take 97 fourth ++ count →
+    take 106 sixth ≡ take 105 fifth ++ report.ending ∷ [] →
+    take (106 + length number) seventh ≡ take 106 sixth ++ number →
+    take (110 + length report.nonce) bytes ≡ take 110 seventh ++ report.nonce →
+    bytes ≡ signed_bytes report
+unfolding signed_bytes
+signed_put report count number first second third fourth fifth sixth seventh bytes m i o n whole is_count is_number a b c d e f g h =
+    let eight : length count ≡ 8 = ap length is_count in
+    let four : length number ≡ 4 = ap length is_number in
+    let to_second : take 33 second ≡ 0x01 ∷ [] ++ report.measurement = put_behind 1 33 report.measurement first second _ b (omega arith) a in
+    let to_third : take 65 third ≡ 0x01 ∷ [] ++ report.measurement ++ report.input_digest =
+    put_behind 33 65 report.input_digest second third _ c (omega arith) to_second in
+    let to_fourth : take 97 fourth ≡ 0x01 ∷ [] ++ report.measurement ++ report.input_digest ++ report.output_digest =
+    put_behind 65 97 report.output_digest third fourth _ d (omega arith) to_third in
+    let to_fifth : take 105 fifth ≡ 0x01 ∷ [] ++ report.measurement ++ report.input_digest ++ report.output_digest ++ count =
+    put_behind 97 105 count fourth fifth _ e (omega arith) to_fourth in
+    let to_sixth : take 106 sixth ≡ 0x01 ∷ [] ++ report.measurement ++ report.input_digest ++ report.output_digest ++ count ++ report.ending ∷ [] =
+    put_behind 105 106 (report.ending ∷ []) fifth sixth _ f refl to_fifth in
+    let to_seventh : take 110 seventh ≡ 0x01 ∷ [] ++ report.measurement ++ report.input_digest ++ report.output_digest ++ count ++ report.ending ∷ [] ++ number =
+    put_behind 106 110 number sixth seventh _ g (omega arith) to_sixth in
+    let to_end : take 126 bytes ≡ 0x01 ∷ [] ++ report.measurement ++ report.input_digest ++ report.output_digest ++ count ++ report.ending ∷ [] ++ number ++ report.nonce =
+    put_behind 110 126 report.nonce seventh bytes _ h (omega arith) to_seventh in
+    sym (take_all 126 bytes (omega arith)) ∙ to_end
+    ∙ ap (λ (xs : List ℕ). 0x01 ∷ [] ++ report.measurement ++ report.input_digest ++ report.output_digest ++ xs ++ report.ending ∷ [] ++ number ++ report.nonce) is_count
+    ∙ ap (λ (xs : List ℕ). 0x01 ∷ [] ++ report.measurement ++ report.input_digest ++ report.output_digest ++ to_le_bytes w64 report.retired ++ report.ending ∷ [] ++ xs ++ report.nonce) is_number
+
+-- two pieces make a report
+pub report_put : (report : Report) (key signed tag first bytes : List ℕ) →
+    signed ≡ signed_bytes report → tag ≡ hmac_of key signed → length signed ≡ 126 → length tag ≡ 32 → length bytes ≡ 158 →
+    take (0 + length signed) first ≡ signed → take (126 + length tag) bytes ≡ take 126 first ++ tag →
+    bytes ≡ report_bytes report key
+unfolding report_bytes
+report_put report key signed tag first bytes is_signed is_tag long tag_long whole a b =
+    let ends : 126 ≡ 0 + length signed = omega arith in
+    let to_first : take 126 first ≡ signed = ap (λ (n : ℕ). take n first) ends ∙ a in
+    let to_end : take 158 bytes ≡ signed ++ tag = put_behind 126 158 tag first bytes _ b (omega arith) to_first in
+    sym (take_all 158 bytes (omega arith)) ∙ to_end ∙ ap (λ (xs : List ℕ). signed ++ xs) is_tag
+    ∙ ap (λ (xs : List ℕ). xs ++ hmac_of key xs) is_signed
+
+-- a field behind a front part
+field_behind : (at n until : ℕ) (bytes front piece : List ℕ) →
+    until ≡ at + n → front ≡ take at bytes → piece ≡ take n (drop at bytes) → front ++ piece ≡ take until bytes
+field_behind at n until bytes front piece ends was is = rw (ends, was, is) (sym (take-add at n bytes))
+
+-- a byte as a field
+byte_field : (bytes : List ℕ) (at : ℕ) → at < length bytes → slice_index bytes at ∷ [] ≡ take 1 (drop at bytes)
+byte_field bytes at inside = rw (drop_more bytes at 0 inside) refl
+
+-- the fields that were taken are put back
+pub written_back : (bytes count number : List ℕ) (report : Report) →
+    length bytes ≡ 158 → slice_index bytes 0 ≡ 1 →
+    report.measurement ≡ take 32 (drop 1 bytes) → report.input_digest ≡ take 32 (drop 33 bytes) →
+    report.output_digest ≡ take 32 (drop 65 bytes) → count ≡ take 8 (drop 97 bytes) → to_le_bytes w64 report.retired ≡ count →
+    report.ending ≡ slice_index bytes 105 → number ≡ take 4 (drop 106 bytes) → to_le_bytes w32 report.code ≡ number →
+    report.nonce ≡ take 16 (drop 110 bytes) →
+    signed_bytes report ≡ take 126 bytes
+unfolding signed_bytes
+written_back bytes count number report long version m i o is_count r e is_number c n =
+    let first : 0x01 ∷ [] ≡ take 1 bytes = ap (λ (x : ℕ). x ∷ []) (sym version) ∙ byte_field bytes 0 (omega arith) in
+    let second = field_behind 1 32 33 bytes _ report.measurement refl first m in
+    let third = field_behind 33 32 65 bytes _ report.input_digest refl second i in
+    let fourth = field_behind 65 32 97 bytes _ report.output_digest refl third o in
+    let fifth = field_behind 97 8 105 bytes _ (to_le_bytes w64 report.retired) refl fourth (r ∙ is_count) in
+    let ending : report.ending ∷ [] ≡ take 1 (drop 105 bytes) = ap (λ (x : ℕ). x ∷ []) e ∙ byte_field bytes 105 (omega arith) in
+    let sixth = field_behind 105 1 106 bytes _ (report.ending ∷ []) refl fifth ending in
+    let seventh = field_behind 106 4 110 bytes _ (to_le_bytes w32 report.code) refl sixth (c ∙ is_number) in
+    field_behind 110 16 126 bytes _ report.nonce refl seventh n
+
+-- a field has bytes
+field_fits : (bytes : List ℕ) (at n i : ℕ) → ((k : ℕ) → slice_index bytes k < 256) → slice_index (take n (drop at bytes)) i < 256
+field_fits bytes at n i fit =
+    elim (cases_lt i n) [
+      | inl inside ↦ rw (get_or-take n (drop at bytes) i 0 inside, get_or-drop at bytes i 0) (fit (at + i))
+      | inr past ↦
+          let none : slice_index (take n (drop at bytes)) i ≡ 0 = get_or_past (take n (drop at bytes)) i 0 (omega (arith, length-take n (drop at bytes))) in
+          rw none (omega arith)
+    ]
+
+-- the number of a field is put back
+pub number_back_4 : (bytes field : List ℕ) (at number : ℕ) → ((k : ℕ) → slice_index bytes k < 256) → length field ≡ 4 →
+    field ≡ take 4 (drop at bytes) → number ≡ from_le_bytes w32 field → to_le_bytes w32 number ≡ field
+number_back_4 bytes field at number fit long is read =
+    le_bytes_4 field number long (λ i. rw is (field_fits bytes at 4 i fit)) read
+
+pub number_back_8 : (bytes field : List ℕ) (at number : ℕ) → ((k : ℕ) → slice_index bytes k < 256) → length field ≡ 8 →
+    field ≡ take 8 (drop at bytes) → number ≡ from_le_bytes w64 field → to_le_bytes w64 number ≡ field
+number_back_8 bytes field at number fit long is read =
+    le_bytes_8 field number long (λ i. rw is (field_fits bytes at 8 i fit)) read
+
+-- lists that end with pieces of one length
+peel : (n : ℕ) (xs ys piece other : List ℕ) → length piece ≡ n → length other ≡ n → xs ++ piece ≡ ys ++ other → (xs ≡ ys) × (piece ≡ other)
+peel n xs ys piece other long other_long same =
+    let lengths : length xs + length piece ≡ length ys + length other =
+    sym (length-append xs piece) ∙ ap length same ∙ length-append ys other in
+    let fronts : length ys ≡ length xs = omega (arith, lengths) in
+    let fronts_same : xs ≡ ys =
+    sym (take_at xs piece (length xs) refl) ∙ ap (take (length xs)) same ∙ take_at ys other (length xs) fronts in
+    let ends_same : piece ≡ other =
+    sym (drop_at xs piece (length xs) refl) ∙ ap (drop (length xs)) same ∙ drop_at ys other (length xs) fronts in
+    (fronts_same, ends_same)
+
+-- four bytes tell their number
+number_32 : (m n : ℕ) → m < 2 ^ 32 → n < 2 ^ 32 → to_le_bytes w32 m ≡ to_le_bytes w32 n → m ≡ n
+number_32 m n small fits e =
+    sym (from_le_bytes-to_le_bytes_4 m small) ∙ ap (from_le_bytes w32) e ∙ from_le_bytes-to_le_bytes_4 n fits
+
+-- and eight bytes
+number_64 : (m n : ℕ) → m < 2 ^ 64 → n < 2 ^ 64 → to_le_bytes w64 m ≡ to_le_bytes w64 n → m ≡ n
+number_64 m n small fits e =
+    sym (from_le_bytes-to_le_bytes_8 m small) ∙ ap (from_le_bytes w64) e ∙ from_le_bytes-to_le_bytes_8 n fits
+
+-- reports with the same fields
+same_fields : (first second : Report) →
+    first.measurement ≡ second.measurement → first.input_digest ≡ second.input_digest → first.output_digest ≡ second.output_digest →
+    first.retired ≡ second.retired → first.ending ≡ second.ending → first.code ≡ second.code → first.nonce ≡ second.nonce → first ≡ second
+same_fields first second m i o r e c n =
+    ap (λ (x : List ℕ). record first { measurement = x }) m
+    ∙ ap (λ (x : List ℕ). record first { measurement = second.measurement; input_digest = x }) i
+    ∙ ap (λ (x : List ℕ). record second { output_digest = x; retired = first.retired; ending = first.ending; code = first.code; nonce = first.nonce }) o
+    ∙ ap (λ (x : ℕ). record second { retired = x; ending = first.ending; code = first.code; nonce = first.nonce }) r
+    ∙ ap (λ (x : ℕ). record second { ending = x; code = first.code; nonce = first.nonce }) e
+    ∙ ap (λ (x : ℕ). record second { code = x; nonce = first.nonce }) c
+    ∙ ap (λ (x : List ℕ). record second { nonce = x }) n
+
+-- what is signed tells the report
+pub signed_apart : (first second : Report) → IsReport first → IsReport second → signed_bytes first ≡ signed_bytes second → first ≡ second
+unfolding signed_bytes
+signed_apart first second is other same =
+    let nonce = peel 16 _ _ first.nonce second.nonce is.nonce other.nonce same in
+    let code = peel 4 _ _ (to_le_bytes w32 first.code) (to_le_bytes w32 second.code) refl refl nonce.0 in
+    let ending = peel 1 _ _ (first.ending ∷ []) (second.ending ∷ []) refl refl code.0 in
+    let retired = peel 8 _ _ (to_le_bytes w64 first.retired) (to_le_bytes w64 second.retired) refl refl ending.0 in
+    let output = peel 32 _ _ first.output_digest second.output_digest is.output_digest other.output_digest retired.0 in
+    let input = peel 32 _ _ first.input_digest second.input_digest is.input_digest other.input_digest output.0 in
+    let measurement = peel 32 (0x01 ∷ []) (0x01 ∷ []) first.measurement second.measurement is.measurement other.measurement input.0 in
+    same_fields first second measurement.1 input.1 output.1
+    (number_64 first.retired second.retired is.retired other.retired retired.1)
+    (ap (λ (xs : List ℕ). slice_index xs 0) ending.1)
+    (number_32 first.code second.code is.code other.code code.1)
+    nonce.1

@@ -1,0 +1,9 @@
+use Rattle.std.proofs.Common.{rules}
+use Rattle.attest_report.proofs.Fields.{report_put}
+use Rattle.attest_report.proofs.report.report_bytes.Goals as goal
+
+pub returns : goal.returns
+returns c =
+    report_put c.args.report.now c.args.key.now c.signed_bytes-signed.result c.hmac.result _ _
+    c.signed_bytes-signed.ensures c.hmac.ensures (search rules) (search rules) (search rules)
+    c.put.ensures.front c.put-2.ensures.front

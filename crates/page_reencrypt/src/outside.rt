@@ -1,0 +1,198 @@
+// The memory outside the chip: lines that are encrypted, tagged and checked under counters that are given.
+ghost use Rattle.std.specs.Prelude.{◌≡◌, ◌≢◌, ◌+◌, ◌<◌, ◌≤◌, ◌⊎◌, ◌∷◌, [], ℕ, List, None, Some, Ok, Err, IfOk, IsOk, OnOk, OnErr};
+ghost use Rattle.sec_base.specs.Count.{Rose};
+ghost use Rattle.sec_base.specs.Geometry.{line_count, page_of};
+ghost use Rattle.sec_base.specs.LastMessage.{IsFresh};
+ghost use Rattle.sec_base.specs.Place.{IsPlace};
+ghost use Rattle.sec_base.specs.declared.counter.Counter.{Counter};
+ghost use Rattle.sec_base.specs.declared.evidence.Evidence.TheVariants.{Forgery};
+ghost use Rattle.sec_base.specs.declared.message.Message.TheVariants.{Line};
+ghost use Rattle.sec_base.specs.declared.place.Place.{Place};
+ghost use Rattle.sec_base.specs.declared.place.Place.TheVariants.{Line as line_place};
+ghost use Rattle.sec_base.specs.declared.sealed.Sealed.{Sealed};
+ghost use Rattle.sec_base.specs.declared.stop.MemStop.TheVariants.{Tampered, Spent, NoMemory as no_memory};
+ghost use Rattle.bus_model.specs.BusHistory.{after_write};
+ghost use Rattle.tag_engine.specs.TagEngine.{after_make, tags_of};
+ghost use Rattle.pad_stream.specs.Pad.{cipher_of};
+ghost use Rattle.pad_stream.specs.PadEngine.{after_encrypt};
+ghost use Rattle.pad_stream.specs.Pads.{IsBefore};
+ghost use Rattle.checked_bus.specs.Accesses.{AreCounted};
+ghost use Rattle.checked_bus.specs.SealedLine.{sealed_line};
+ghost use Rattle.checked_bus.specs.Steps.{IsAccounted, Moves as StepMoves, stop_of};
+ghost use Rattle.split_counter.specs.CounterBlock.{counter_of};
+ghost use Rattle.page_reencrypt.specs.Contents.{line_bytes, page_lines, place_of};
+ghost use Rattle.page_reencrypt.specs.Outside.{AreAccounted, AreConsistent, AreSealedInOrder, DiffersInRoom, HasCounter, HaveLast, terms_of, with_room};
+
+use bus_model::Bus;
+use checked_bus::{read_line, write_line};
+use pad_stream::PadEngine;
+use sec_base::{Counter, LINE_LEN, LINES_PER_PAGE, MemStop, NoMemory, Tagger, page_of};
+use split_counter::CounterBlock;
+use std::marker::Model;
+use tag_engine::TagEngine;
+
+// The counter of a line that was never written.
+const NEVER_WRITTEN: Counter = Counter { page: 0, line: 0 };
+
+// The memory outside, and what the chip has to encrypt, tag and check its lines.
+#[derive(Drop)]
+pub(crate) struct Outside<B: Bus, T: Tagger> {
+    pub(crate) bus: B,
+    pub(crate) tags: TagEngine<T>,
+    pub(crate) pads: PadEngine,
+}
+
+impl<B: Bus, T: Tagger> Model for Outside<B, T> {
+    ghost use Rattle.page_reencrypt.specs.Outside.{OutsideView};
+
+    ghost Value = { OutsideView B T };
+
+    ghost view = { λ outside. record { bus = outside.bus; engine = outside.tags; pads = outside.pads } };
+}
+
+impl<B: Bus, T: Tagger> Outside<B, T> {
+    // Takes memory for the entries and the messages of the next lines that are sealed.
+    pub(crate) fn reserve(&mut self, lines: u32) -> Result<(), NoMemory>
+        ensures taken { OnOk result (self.new ≡ with_room lines self.old) }
+        ensures refused { OnErr result (DiffersInRoom self.old self.new) }
+    {
+        self.tags.reserve(u64::from(lines))?;
+        self.pads.reserve(u64::from(lines))
+    }
+
+    // The bytes of a line, by its counter: zeros where it was never written, without an access; else what its place
+    // holds, checked and decrypted.
+    #[inline(always)]
+    pub(crate) fn read(&mut self, line: u32, counter: Counter) -> Result<[u8; 64], MemStop>
+        requires inside { line < line_count self.old.engine.levels }
+        requires consistent { AreConsistent (terms_of B.history B.moved T.data_tag_of T.node_tag_of self.old) self.old }
+        requires holds_last { HaveLast (terms_of B.history B.moved T.data_tag_of T.node_tag_of self.old) self.old }
+        requires counter { HasCounter self.old.pads.used line counter }
+
+        ensures value { self.new.engine.evidence ≡ None →
+            IfOk result (λ bytes. bytes ≡ line_bytes self.old.pads.key self.old.engine.made line) }
+        ensures fresh { IsFresh line self.old.pads.used → IsOk result × (self.new ≡ self.old) }
+
+        // It is a read of the line's place at most, and nothing is encrypted, tagged or written.
+        ensures moves { StepMoves (B.history self.old.bus) self.old.engine (B.history self.new.bus) self.new.engine }
+        ensures moved { B.moved self.old.bus self.new.bus }
+        ensures unmade { self.new.engine.made ≡ self.old.engine.made }
+        ensures room { self.new.engine.room ≡ self.old.engine.room }
+        ensures pads { self.new.pads ≡ self.old.pads }
+        ensures unwritten { (B.history self.new.bus).written ≡ (B.history self.old.bus).written }
+        ensures counted { AreCounted (B.history self.old.bus) (B.history self.new.bus) 0 }
+        ensures once { (B.history self.new.bus).accesses ≤ (B.history self.old.bus).accesses + 1 }
+        ensures rose { result ≢ Err no_memory → IsFresh line self.old.pads.used
+            ⊎ Rose ((B.history self.old.bus).reads (line_place line)) ((B.history self.new.bus).reads (line_place line)) }
+
+        // A false answer is shown as evidence or taken for tampering.
+        ensures accounted { AreAccounted (terms_of B.history B.moved T.data_tag_of T.node_tag_of self.old) self.old None →
+            AreAccounted (terms_of B.history B.moved T.data_tag_of T.node_tag_of self.old) self.new (stop_of result) }
+        ensures accepted { (at : ℕ) (under : Counter) (sealed : Sealed) (made_count : ℕ) → self.old.engine.evidence ≡ None →
+            self.new.engine.evidence ≡ Some (Forgery at under sealed made_count) →
+            (at ≡ line) × (result ≡ Ok (cipher_of self.old.pads.key line under sealed.cipher)) }
+        ensures tampered { (place : Place) → result ≡ Err (Tampered place) → (place ≡ line_place line)
+            × Rose (B.history self.old.bus).lies (B.history self.new.bus).lies }
+        ensures unspent { (page : ℕ) → result ≢ Err (Spent page) }
+    {
+        if counter == NEVER_WRITTEN {
+            return Ok([0; LINE_LEN as usize]);
+        }
+        let cipher = read_line(&mut self.bus, &mut self.tags, line, counter);
+        Ok(self.pads.decrypt(line, counter, &cipher?))
+    }
+
+    // Encrypts a line under a counter, tags it and writes it to its place. There is memory for its entry and its message.
+    pub(crate) fn seal(
+        &mut self,
+        line: u32,
+        counter: Counter,
+        bytes: &[u8; 64],
+    ) -> Result<(), NoMemory>
+        requires place { IsPlace (B.history self.old.bus).levels (line_place line) }
+        requires inside { line < line_count self.old.engine.levels }
+        requires room { 0 < self.old.engine.room }
+        requires pads_room { 0 < self.old.pads.room }
+
+        ensures used { self.new.pads ≡ after_encrypt line counter self.old.pads }
+        ensures made { self.new.engine
+            ≡ after_make (Line line counter (cipher_of self.old.pads.key line counter bytes.now)) self.old.engine }
+        ensures undone { cipher_of self.old.pads.key line counter (cipher_of self.old.pads.key line counter bytes.now) ≡ bytes.now }
+        ensures ok { OnOk result (B.history self.new.bus ≡ after_write (line_place line)
+            (sealed_line (tags_of T.data_tag_of T.node_tag_of self.old.engine) line counter (cipher_of self.old.pads.key line counter bytes.now))
+            (B.history self.old.bus)) }
+        ensures err { OnErr result (B.history self.new.bus ≡ B.history self.old.bus) }
+
+        ensures moves { StepMoves (B.history self.old.bus) self.old.engine (B.history self.new.bus) self.new.engine }
+        ensures moved { B.moved self.old.bus self.new.bus }
+
+        // No answer was false.
+        ensures honest { (used more : List (ℕ × Counter)) →
+            IsAccounted (tags_of T.data_tag_of T.node_tag_of self.old.engine) used self.old.engine.made (B.history self.old.bus) None self.old.engine.evidence →
+            IsAccounted (tags_of T.data_tag_of T.node_tag_of self.old.engine) more self.new.engine.made (B.history self.new.bus) None self.new.engine.evidence }
+    {
+        let cipher = self.pads.encrypt(line, counter, bytes)?;
+        write_line(&mut self.bus, &mut self.tags, line, counter, &cipher)
+    }
+
+    // Encrypts one of the page's lines anew under the counter of a write: the written line with its new bytes, any other
+    // with those that it held under its old counter.
+    fn reencrypt_line(
+        &mut self,
+        at: u32,
+        old: Counter,
+        line: u32,
+        counter: Counter,
+        bytes: &[u8; 64],
+    ) -> Result<(), MemStop>
+        requires inside { at < line_count self.old.engine.levels }
+        requires of_page { page_of at ≡ page_of line }
+        requires consistent { AreConsistent (terms_of B.history B.moved T.data_tag_of T.node_tag_of self.old) self.old }
+        requires holds_last { HaveLast (terms_of B.history B.moved T.data_tag_of T.node_tag_of self.old) self.old }
+        requires counter { HasCounter self.old.pads.used at old }
+        requires later { IsBefore old counter }
+        requires room { 0 < self.old.engine.room }
+        requires pads_room { 0 < self.old.pads.room }
+
+        ensures sealed { AreSealedInOrder (terms_of B.history B.moved T.data_tag_of T.node_tag_of self.old)
+            (record { line = line; bytes = bytes.now; counter = counter }) self.old (at ∷ []) self.new (stop_of result) }
+        ensures once { (B.history self.new.bus).accesses ≤ (B.history self.old.bus).accesses + 2 }
+    {
+        let plain = if at == line {
+            *bytes
+        } else {
+            self.read(at, old)?
+        };
+        self.seal(at, counter, &plain)?;
+        Ok(())
+    }
+
+    // Encrypts all lines of a page anew under the counter of a write of one of them, in the order of their places. The
+    // block has the counters from before. There is memory for the entries and the messages.
+    pub(crate) fn reencrypt_page(
+        &mut self,
+        block: &CounterBlock,
+        line: u32,
+        counter: Counter,
+        bytes: &[u8; 64],
+    ) -> Result<(), MemStop>
+        requires inside { line < line_count self.old.engine.levels }
+        requires consistent { AreConsistent (terms_of B.history B.moved T.data_tag_of T.node_tag_of self.old) self.old }
+        requires holds_last { HaveLast (terms_of B.history B.moved T.data_tag_of T.node_tag_of self.old) self.old }
+        requires counters { (at : ℕ) → page_of at ≡ page_of line → HasCounter self.old.pads.used at (counter_of (place_of at) block.now) }
+        requires later { block.now.page < counter.page }
+        requires room { 64 ≤ self.old.engine.room }
+        requires pads_room { 64 ≤ self.old.pads.room }
+
+        ensures sealed { AreSealedInOrder (terms_of B.history B.moved T.data_tag_of T.node_tag_of self.old)
+            (record { line = line; bytes = bytes.now; counter = counter }) self.old (page_lines (page_of line)) self.new (stop_of result) }
+        ensures once { (B.history self.new.bus).accesses ≤ (B.history self.old.bus).accesses + 128 }
+    {
+        let first = LINES_PER_PAGE * page_of(line);
+        for place in 0..LINES_PER_PAGE as u8 {
+            let at = first + u32::from(place);
+            self.reencrypt_line(at, block.get(place), line, counter, bytes)?;
+        }
+        Ok(())
+    }
+}
