@@ -3,6 +3,7 @@
 use Rattle.std.specs.Prelude.{◌≡◌, ◌==◌, ℕ, ◌+◌, ◌*◌, ◌/◌, ◌%◌, ◌^◌, ◌<◌, nat_lt, if◌then◌else◌, List, ◌++◌, length, take, drop, replicate, All, slice_index, slice_set}
 use Rattle.std.specs.Int.{w64, to_le_bytes, from_le_bytes, bit_at}
 use Rattle.sec_base.specs.declared.counter.Counter.{Counter}
+use Rattle.sec_base.specs.declared.geometry.TheConstants.{LINES_PER_PAGE}
 use Rattle.split_counter.specs.declared.bumped.Bumped.{Bumped}
 use Rattle.split_counter.specs.declared.bumped.Bumped.TheVariants.{Line, Page, Spent}
 use Rattle.split_counter.specs.Digits.{number_of, digits_of}
@@ -30,13 +31,27 @@ counter_of place block = record { page = block.page; line = slice_index block.li
 abbrev pub counter_number : Counter → ℕ
 counter_number counter = 128 * counter.page + counter.line
 
+-- the place of a line in its page
+abbrev pub place_of : ℕ → ℕ
+place_of line = line % LINES_PER_PAGE
+
+-- the counter that the next write of a line encrypts under: its line counter goes up by one; where that is used up, the
+-- page counter does, and the line counter begins again
+abbrev pub next_counter : Counter → Counter
+next_counter counter =
+    if counter.line == 127 then record { page = counter.page + 1; line = 0 } else record { page = counter.page; line = counter.line + 1 }
+
+-- the last counter that a limit of page counters allows
+abbrev pub last_counter : ℕ → Counter
+last_counter limit = record { page = limit; line = 127 }
+
 -- What a write of a line with this counter comes to, under a limit of the page counter. A line counter that stands at
 -- 127 overflows where the page counter is below the limit, and is spent where it isn't.
 unfoldable pub bumped : ℕ → Counter → Bumped
 bumped limit counter =
     if counter.line == 127
-    then (if nat_lt counter.page limit then Page (counter.page + 1) else Spent)
-    else Line (record counter { line = counter.line + 1 })
+    then (if nat_lt counter.page limit then Page (next_counter counter).page else Spent)
+    else Line (next_counter counter)
 
 -- the counters of a page after a write of the line at a place that came to this
 abbrev pub after_outcome : ℕ → Bumped → CounterBlockView → CounterBlockView

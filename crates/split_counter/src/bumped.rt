@@ -2,7 +2,7 @@
 ghost use Rattle.std.specs.Prelude.{◌≡◌, ◌↔◌, ℕ, ◌+◌, ◌<◌, ◌≤◌};
 ghost use Rattle.sec_base.specs.declared.counter.Counter.{Counter};
 ghost use Rattle.split_counter.specs.declared.bumped.Bumped.TheVariants.{Line, Page, Spent};
-ghost use Rattle.split_counter.specs.CounterBlock.{bumped};
+ghost use Rattle.split_counter.specs.CounterBlock.{bumped, next_counter};
 
 use sec_base::Counter;
 
@@ -28,7 +28,7 @@ impl Bumped {
         requires { counter.line ≤ 127 }
         ensures outcome { result ≡ bumped limit counter }
         ensures line { (next : Counter) → result ≡ Line next →
-            (counter.line < 127) × (next ≡ record counter { line = counter.line + 1 }) }
+            (counter.line < 127) × (next ≡ next_counter counter) }
         ensures overflow { (page : ℕ) → result ≡ Page page →
             (counter.line ≡ 127) × (counter.page < limit) × (page ≡ counter.page + 1) }
         ensures spent { (result ≡ Spent) ↔ ((counter.line ≡ 127) × (limit ≤ counter.page)) }

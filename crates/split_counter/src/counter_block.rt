@@ -2,11 +2,11 @@
 ghost use Rattle.std.specs.Prelude.{◌≡◌, ◌≢◌, ◌↔◌, ℕ, ◌+◌, ◌^◌, ◌<◌, ◌≤◌, replicate, slice_index};
 ghost use Rattle.sec_base.specs.declared.counter.Counter.{Counter};
 ghost use Rattle.split_counter.specs.declared.bumped.Bumped.TheVariants.{Line, Page, Spent};
-ghost use Rattle.split_counter.specs.CounterBlock.{IsCounterBlock, HasLineBits, after_bump, block_bytes, block_of, bumped, counter_number, counter_of, new_block};
+ghost use Rattle.split_counter.specs.CounterBlock.{IsCounterBlock, HasLineBits, after_bump, block_bytes, block_of, bumped, counter_number, counter_of, new_block, place_of};
 
 use crate::bumped::Bumped;
 use crate::packing::{bytes_of, line_counters, page_counter};
-use sec_base::Counter;
+use sec_base::{Counter, LINES_PER_PAGE};
 use std::marker::Model;
 
 /// The counters of a page: a page counter of 64 bits, and a line counter of 7 bits for each of its 64 lines, by their
@@ -122,4 +122,12 @@ impl CounterBlock {
             lines: [0; 64],
         }
     }
+}
+
+/// The place of a line in its page.
+pub fn place_of(line: u32) -> u8
+    ensures place { result ≡ place_of line }
+    ensures inside { result < 64 }
+{
+    (line % LINES_PER_PAGE) as u8
 }

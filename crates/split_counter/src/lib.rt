@@ -11,4 +11,4 @@ mod packing;
 mod tests;
 
 pub use bumped::{Bumped, LAST_LINE_COUNTER};
-pub use counter_block::CounterBlock;
+pub use counter_block::{CounterBlock, place_of};
