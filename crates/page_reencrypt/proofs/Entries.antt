@@ -10,7 +10,8 @@ use Rattle.sec_base.specs.declared.counter.Counter.{Counter}
 use Rattle.sec_base.specs.Geometry.{page_of}
 use Rattle.sec_base.specs.LastMessage.{last_pair}
 use Rattle.pad_stream.specs.Pads.{IsBefore}
-use Rattle.page_reencrypt.specs.Contents.{ArePaged, AreWithin, counter_in, last_counter, lines_encrypted, never_written, next_counter, page_entries, page_lines}
+use Rattle.split_counter.specs.CounterBlock.{last_counter, next_counter}
+use Rattle.page_reencrypt.specs.Contents.{ArePaged, AreWithin, counter_in, line_entries, lines_encrypted, never_written, page_entries, page_lines}
 use Rattle.page_reencrypt.proofs.Consistency.{counter_in-same, counter_in-other}
 use Rattle.page_reencrypt.proofs.RisingPairs.{Contains-skip, last_listed}
 
@@ -63,6 +64,14 @@ next_overflows counter = (
   ],
   λ full. ap (λ (c : Counter). c.line) (next_page counter full),
 )
+
+-- its page counter is the same or the next
+pub next_page_most : (counter : Counter) → (next_counter counter).page ≤ counter.page + 1
+next_page_most counter =
+    elim (cases_eq counter.line 127) [
+      | inl full ↦ let next : (next_counter counter).page ≡ counter.page + 1 = ap (λ (c : Counter). c.page) (next_page counter full) in omega (arith, next)
+      | inr more ↦ let same : (next_counter counter).page ≡ counter.page = ap (λ (c : Counter). c.page) (next_line counter more) in omega (arith, same)
+    ]
 
 -- within the limit, unless the counter is the last
 pub next_limited : (limit : ℕ) (counter : Counter) → counter.page ≤ limit → counter ≢ last_counter limit → (next_counter counter).page ≤ limit
@@ -117,6 +126,20 @@ listed_page page line listed =
 
 pub length-page_lines : (page : ℕ) → length (page_lines page) ≡ 64
 length-page_lines page = length-range_with_len (64 * page) 64
+
+-- the accesses of a write: of a line alone there is one, and of a page there are 127 at most
+pub accesses_of_write : (counter : Counter) (line before after : ℕ) → (counter.line ≢ 0 → after ≤ before + 1) → after ≤ before + 127 →
+    after + 1 ≤ before + 2 * length (lines_encrypted counter line)
+accesses_of_write counter line before after once few =
+    elim (cases_eq counter.line 0) [
+      | inl new ↦
+          let long : length (lines_encrypted counter line) ≡ 64 = ap length (encrypted_page counter line new) ∙ length-page_lines (page_of line) in
+          omega (arith, long, few)
+      | inr old ↦
+          let long : length (lines_encrypted counter line) ≡ 1 = ap length (encrypted_line counter line old) in
+          let one = once old in
+          omega (arith, long, one)
+    ]
 
 -- all that a write encrypts is of the line's page, and the line is among it
 pub encrypted_of_page : (counter : Counter) (line at : ℕ) → Contains (lines_encrypted counter line) at → page_of at ≡ page_of line
@@ -219,6 +242,41 @@ module _ (counter : Counter) where
           | inr late ↦ subst (λ (c : Counter). c.line < 128) late fits
         ];
   }
+
+  -- how many of them name a line
+  named_if : (b : Bool) (entry : ℕ × Counter) (kept : List (ℕ × Counter)) → length kept ≤ length (cond b (entry ∷ kept) kept)
+  named_if true entry kept = omega arith
+  named_if false entry kept = omega arith
+
+  named : (lines : List ℕ) (other : ℕ) → Contains lines other → 1 ≤ line_entries (entries lines) other
+  named [] other listed = absurd (omega (arith, listed.1))
+  named (line ∷ lines) other (zero, within, same) =
+      let kept = filter (λ (e : ℕ × Counter). nat_eq e.0 other) (entries lines) in
+      let here : nat_eq line other ≡ true = (Decides-eqb line other).1 same in
+      let one_more : line_entries (entries (line ∷ lines)) other ≡ suc (length kept) =
+      ap (λ (b : Bool). length (cond b ((line, counter) ∷ kept) kept)) here in
+      omega (arith, one_more)
+  named (line ∷ lines) other (suc k, within, is) =
+      let rest = named lines other (k, omega (arith, within), is) in
+      let more = named_if (nat_eq line other) (line, counter) (filter (λ (e : ℕ × Counter). nat_eq e.0 other) (entries lines)) in
+      omega (arith, rest, more)
+
+  line_entries_more : (used : List (ℕ × Counter)) (lines : List ℕ) (other : ℕ) →
+      line_entries (used ++ entries lines) other ≡ line_entries used other + line_entries (entries lines) other
+  line_entries_more used lines other =
+      ap length (filter-append (λ (e : ℕ × Counter). nat_eq e.0 other) used (entries lines))
+      ∙ length-append (filter (λ (e : ℕ × Counter). nat_eq e.0 other) used) (filter (λ (e : ℕ × Counter). nat_eq e.0 other) (entries lines))
+
+  -- a line among them is named once more, and any other as often as before
+  pub line_entries_listed : (used : List (ℕ × Counter)) (lines : List ℕ) (other : ℕ) → Contains lines other →
+      line_entries used other + 1 ≤ line_entries (used ++ entries lines) other
+  line_entries_listed used lines other listed =
+      let more = line_entries_more used lines other in
+      let some = named lines other listed in
+      omega (arith, more, some)
+
+  pub line_entries_kept : (used : List (ℕ × Counter)) (lines : List ℕ) (other : ℕ) → line_entries used other ≤ line_entries (used ++ entries lines) other
+  line_entries_kept used lines other = let more = line_entries_more used lines other in omega (arith, more)
 
   -- how many of them are of a page
   abbrev lines_on : ℕ → List ℕ → List ℕ

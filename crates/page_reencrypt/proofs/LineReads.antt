@@ -20,9 +20,9 @@ use Rattle.pad_stream.specs.Pad.{cipher_of}
 use Rattle.pad_stream.specs.PadEngine.{PadEngineView}
 use Rattle.checked_bus.specs.Accesses.{AreCounted}
 use Rattle.checked_bus.specs.Steps.{IsAccounted, IsCurrent, Moves as StepMoves, stop_of}
-use Rattle.split_counter.specs.CounterBlock.{CounterBlockView, counter_of, new_block}
+use Rattle.split_counter.specs.CounterBlock.{CounterBlockView, counter_of, new_block, place_of}
 use Rattle.page_reencrypt.specs.Consistency.{IsConsistent}
-use Rattle.page_reencrypt.specs.Contents.{AreWithin, HoldsLast, bytes_of, contents_of, counter_in, line_bytes, never_written, place_of}
+use Rattle.page_reencrypt.specs.Contents.{AreWithin, HoldsLast, bytes_of, contents_of, counter_in, line_bytes, never_written}
 use Rattle.page_reencrypt.specs.Outside.{HasCounter}
 use Rattle.page_reencrypt.specs.SealedLines.{AreCurrent, AreProtected, ReadMoved, SealedLinesView}
 use Rattle.page_reencrypt.specs.LineLengths.{length-line_bytes}

@@ -9,8 +9,7 @@ use Rattle.sec_base.specs.declared.place.Place.TheVariants.{Line as line_place, 
 use Rattle.bus_model.specs.BusHistory.{BusHistory, NothingWritten}
 use Rattle.tag_engine.specs.TagEngine.{TagEngineView, new_engine, tags_of}
 use Rattle.pad_stream.specs.PadEngine.{PadEngineView, new_pads}
-use Rattle.split_counter.specs.CounterBlock.{CounterBlockView, counter_of, new_block}
-use Rattle.page_reencrypt.specs.Contents.{place_of}
+use Rattle.split_counter.specs.CounterBlock.{CounterBlockView, counter_of, new_block, place_of}
 use Rattle.page_reencrypt.specs.SealedLines.{AreCurrent, AreNew, IsBooted, IsProtected}
 use Rattle.checked_bus.proofs.Steps.{counted_not}
 
@@ -89,6 +88,7 @@ new_protected {T} d n history tagger key levels limit engine pads untagged unuse
         limited = λ line counter has. absurd (omega (arith, has.1));
         seven_bits = λ line counter has. absurd (omega (arith, has.1));
       };
+      unskipped = record { reached = λ line inside. omega arith };
       holds_last = λ written. record { holds = λ line counter cipher inside last. absurd (cc) };
       paged = λ going. record { one = λ line other inside within same_page. refl; reached = λ line inside. omega arith };
       spent = λ page is. absurd (cc);

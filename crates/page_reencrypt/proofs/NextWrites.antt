@@ -1,7 +1,6 @@
 -- What the steps of a write of a line under its next counter make of the memory outside and of the block of its page.
-use Rattle.std.proofs.Common.{◌≡◌, ◌≢◌, inl, inr, ℕ, ◌+◌, ◌<◌, ◌≤◌, Bool, true, false, cond, nat_eq, nat_lt, List, [], ◌∷◌, ◌++◌, length, map, take, replicate, slice_index, Option, Some, None, Result, Ok, Err, refl, ap, sym, ◌∙◌, subst, arith}
-use Rattle.std.proofs.lemmas.Bool.{cases_eq, ltb-true}
-use Rattle.std.proofs.lemmas.Bool.Decides.{Decides-eqb}
+use Rattle.std.proofs.Common.{◌≡◌, ◌≢◌, inl, inr, ℕ, ◌+◌, ◌<◌, ◌≤◌, List, [], ◌∷◌, ◌++◌, length, map, take, replicate, slice_index, Option, Some, None, Result, Ok, Err, refl, ap, sym, ◌∙◌, subst, arith}
+use Rattle.std.proofs.lemmas.Bool.{cases_eq}
 use Rattle.std.proofs.lemmas.List.{get_or-replicate, length-take, take_all}
 use Rattle.sec_base.specs.declared.counter.Counter.{Counter}
 use Rattle.sec_base.specs.declared.message.Message.TheVariants.{Line as line_message}
@@ -18,65 +17,30 @@ use Rattle.pad_stream.specs.Pads.{IsBefore}
 use Rattle.checked_bus.specs.SealedLine.{sealed_line}
 use Rattle.checked_bus.specs.Steps.{IsAccounted, Moves as StepMoves, stop_of}
 use Rattle.checked_bus.proofs.TaggedWrites.{wrote_once}
-use Rattle.split_counter.specs.declared.bumped.Bumped.TheVariants.{Line, Page, Spent as no_counter}
-use Rattle.split_counter.specs.CounterBlock.{CounterBlockView, bumped, counter_of}
-use Rattle.page_reencrypt.specs.Contents.{counter_in, last_counter, lines_encrypted, next_counter, page_lines, place_of}
+use Rattle.split_counter.specs.CounterBlock.{CounterBlockView, counter_of, last_counter, next_counter, place_of}
+use Rattle.page_reencrypt.specs.Contents.{counter_in, lines_encrypted, page_lines}
 use Rattle.page_reencrypt.specs.Outside.{AreConsistent, AreSealed, AreSealedInOrder, DiffersInRoom, HasCounter, HaveLast, IsWrite, IsWriteOrSpent, LineWrite, MemoryTerms, OutsideView, terms_of, with_room}
 use Rattle.page_reencrypt.specs.SealedLines.{IsOfPage}
 use Rattle.page_reencrypt.specs.Stops.{lasting_stop}
 use Rattle.page_reencrypt.proofs.Consistency.{counter_in-same, counter_in-other}
-use Rattle.page_reencrypt.proofs.Entries.{counter_among, encrypted_line, encrypted_page, length-page_lines, next_after, next_line, next_overflows, next_page, page_listed}
+use Rattle.page_reencrypt.proofs.Entries.{counter_among, encrypted_line, encrypted_page, length-page_lines, next_after, next_overflows, next_page, page_listed}
 use Rattle.page_reencrypt.proofs.Reencrypting.{one_access}
 use Rattle.page_reencrypt.proofs.Sealing.{all_in_order, listed_not, one_sealed, one_unwritten, own_reread, roomier, sealed_not}
 
 -- What a write makes of its line's counter
 
-page_if : (b : Bool) (page : ℕ) (next : Counter) → cond b (Page page) no_counter ≡ Line next → ⊥
-page_if true page next is = absurd (cc)
-page_if false page next is = absurd (cc)
-
-line_if : (limit : ℕ) (counter next : Counter) (b : Bool) → nat_eq counter.line 127 ≡ b →
-    cond b (cond (nat_lt counter.page limit) (Page (counter.page + 1)) no_counter) (Line (record { page = counter.page; line = counter.line + 1 })) ≡ Line next →
-    (counter.line ≢ 127) × (next ≡ next_counter counter)
-line_if limit counter next true full is = absurd (page_if (nat_lt counter.page limit) (counter.page + 1) next is)
-line_if limit counter next false more is =
-    let less : counter.line ≢ 127 = λ full. let yes : nat_eq counter.line 127 ≡ true = (Decides-eqb counter.line 127).1 full in absurd (cc) in
-    let plain : Counter = record { page = counter.page; line = counter.line + 1 } in
-    let same : plain ≡ next = cc in (less, sym same ∙ sym (next_line counter less))
-
 -- its line counter goes up
-pub bumped_line : (limit : ℕ) (counter next : Counter) → bumped limit counter ≡ Line next → (counter.line ≢ 127) × (next ≡ next_counter counter)
-unfolding bumped
-bumped_line limit counter next is = line_if limit counter next (nat_eq counter.line 127) refl is
-
-below_if : (limit : ℕ) (counter : Counter) (page : ℕ) (b : Bool) → nat_lt counter.page limit ≡ b → cond b (Page (counter.page + 1)) no_counter ≡ Page page →
-    (counter.page < limit) × (page ≡ counter.page + 1)
-below_if limit counter page true below is = (ltb-true counter.page limit below, cc)
-below_if limit counter page false above is = absurd (cc)
-
-full_if : (limit : ℕ) (counter : Counter) (page : ℕ) (b : Bool) → nat_eq counter.line 127 ≡ b →
-    cond b (cond (nat_lt counter.page limit) (Page (counter.page + 1)) no_counter) (Line (record { page = counter.page; line = counter.line + 1 })) ≡ Page page →
-    (counter.line ≡ 127) × (counter.page < limit) × (page ≡ counter.page + 1)
-full_if limit counter page true full is =
-    let below = below_if limit counter page (nat_lt counter.page limit) refl is in ((Decides-eqb counter.line 127).0 full, below.0, below.1)
-full_if limit counter page false more is = absurd (cc)
+pub line_next : (used : List (ℕ × Counter)) (line : ℕ) (counter next : Counter) → counter_in used line ≡ counter →
+    (counter.line < 127) × (next ≡ next_counter counter) → ((counter_in used line).line ≢ 127) × (next ≡ next_counter (counter_in used line))
+line_next used line counter next here is =
+    subst (λ (c : Counter). (c.line ≢ 127) × (next ≡ next_counter c)) (sym here) ((λ full. omega (arith, is.0, full)), is.1)
 
 -- or its page counter does
-pub bumped_page : (limit : ℕ) (counter : Counter) (page : ℕ) → bumped limit counter ≡ Page page →
-    (counter.line ≡ 127) × (counter.page < limit) × (page ≡ counter.page + 1)
-unfolding bumped
-bumped_page limit counter page is = full_if limit counter page (nat_eq counter.line 127) refl is
-
--- the same of the counter that the line's block says
-pub line_next : (limit : ℕ) (used : List (ℕ × Counter)) (line : ℕ) (counter next : Counter) → counter_in used line ≡ counter → bumped limit counter ≡ Line next →
-    ((counter_in used line).line ≢ 127) × (next ≡ next_counter (counter_in used line))
-line_next limit used line counter next here is =
-    subst (λ (c : Counter). (c.line ≢ 127) × (next ≡ next_counter c)) (sym here) (bumped_line limit counter next is)
-
-pub page_next : (limit : ℕ) (used : List (ℕ × Counter)) (line : ℕ) (counter : Counter) (page : ℕ) → counter_in used line ≡ counter → bumped limit counter ≡ Page page →
+pub page_next : (limit : ℕ) (used : List (ℕ × Counter)) (line : ℕ) (counter : Counter) (page : ℕ) → counter_in used line ≡ counter →
+    (counter.line ≡ 127) × (counter.page < limit) × (page ≡ counter.page + 1) →
     ((counter_in used line).line ≡ 127) × ((counter_in used line).page < limit) × (page ≡ (counter_in used line).page + 1)
 page_next limit used line counter page here is =
-    subst (λ (c : Counter). (c.line ≡ 127) × (c.page < limit) × (page ≡ c.page + 1)) (sym here) (bumped_page limit counter page is)
+    subst (λ (c : Counter). (c.line ≡ 127) × (c.page < limit) × (page ≡ c.page + 1)) (sym here) is
 
 pub line_not_last : (limit : ℕ) (counter : Counter) → counter.line ≢ 127 → counter ≢ last_counter limit
 line_not_last limit counter less is = less (ap (λ (c : Counter). c.line) is)

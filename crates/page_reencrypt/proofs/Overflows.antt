@@ -10,8 +10,8 @@ use Rattle.sec_base.specs.declared.stop.MemStop.{MemStop}
 use Rattle.sec_base.specs.declared.stop.MemStop.TheVariants.{Tampered, Spent, NoMemory}
 use Rattle.sec_base.specs.Geometry.{page_of}
 use Rattle.bus_model.specs.BusHistory.{BusHistory}
-use Rattle.split_counter.specs.CounterBlock.{CounterBlockView}
-use Rattle.page_reencrypt.specs.Contents.{counter_in, entries_of_write, lines_encrypted, next_counter, page_lines, place_of}
+use Rattle.split_counter.specs.CounterBlock.{CounterBlockView, next_counter, place_of}
+use Rattle.page_reencrypt.specs.Contents.{counter_in, entries_of_write, lines_encrypted, page_lines}
 use Rattle.page_reencrypt.specs.Outside.{IsWrite, IsWriteOrSpent, OutsideView, terms_of}
 use Rattle.page_reencrypt.specs.SealedLines.{AreReread, SealedLinesView, lines_of_write}
 use Rattle.page_reencrypt.specs.SealedLinesInside.{outside_of}

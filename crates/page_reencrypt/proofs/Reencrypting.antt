@@ -1,6 +1,7 @@
 -- How lines are encrypted anew: what a line holds is read, it is sealed, and so on line by line.
 use Rattle.std.proofs.Common.{◌≡◌, ◌≢◌, ◌⊎◌, inl, inr, ℕ, zero, suc, ◌+◌, ◌*◌, ◌<◌, ◌≤◌, List, [], ◌∷◌, ◌++◌, length, map, take, Contains, append_assoc, Option, Some, None, Result, Ok, Err, refl, ap, sym, ◌∙◌, subst, arith}
 use Rattle.std.specs.List.{range_with_len, slice_get}
+use Rattle.std.proofs.lemmas.Bool.{cases_eq}
 use Rattle.std.proofs.lemmas.List.{append-nil}
 use Rattle.std.proofs.lemmas.List.Elements.{Contains-append_cases, Contains-append_right}
 use Rattle.std.proofs.lemmas.List.FromFn.{length-range_with_len}
@@ -23,8 +24,8 @@ use Rattle.checked_bus.specs.SealedLine.{sealed_line}
 use Rattle.checked_bus.specs.Steps.{IsAccounted, Moves as StepMoves, stop_of}
 use Rattle.checked_bus.proofs.Steps.{counted_not, moves_not as step_not}
 use Rattle.checked_bus.proofs.TaggedWrites.{wrote_once}
-use Rattle.split_counter.specs.CounterBlock.{CounterBlockView, counter_of}
-use Rattle.page_reencrypt.specs.Contents.{line_bytes, page_lines, place_of}
+use Rattle.split_counter.specs.CounterBlock.{CounterBlockView, counter_of, place_of}
+use Rattle.page_reencrypt.specs.Contents.{line_bytes, page_lines}
 use Rattle.page_reencrypt.specs.Outside.{AreAccounted, AreConsistent, AreSealed, AreSealedInOrder, HasCounter, HaveLast, LineWrite, MemoryTerms, OutsideView, terms_of}
 use Rattle.page_reencrypt.specs.SealedLines.{AreReread}
 use Rattle.page_reencrypt.proofs.Consistency.{last_pair-other}
@@ -119,6 +120,24 @@ reread_on terms write first second third lines more stop a b early late = λ oth
 -- a write is one access
 pub one_access : (line : ℕ) (bytes : List ℕ) (old new : BusHistory) → new ≡ after_write (line_place line) bytes old → new.accesses ≤ old.accesses + 1
 one_access line bytes old new wrote = omega (arith, (wrote_once line bytes old new wrote).once)
+
+-- The accesses of a page's lines, one after another: there is one of the written line, and two of any other at most.
+
+module _ (line place start at before mid new : ℕ) (start_is : start ≡ 64 * page_of line) (at_is : at ≡ start + place) (most : mid ≤ before + 2 * place)
+    (passed : place_of line < place → mid + 1 ≤ before + 2 * place) (two : new ≤ mid + 2) (own : at ≡ line → new ≤ mid + 1) where
+  pub accesses_passed : place_of line < place + 1 → new + 1 ≤ before + 2 * (place + 1)
+  accesses_passed within =
+      elim (cases_eq (place_of line) place) [
+        | inl here ↦ let one = own (omega (arith, start_is, at_is, here)) in omega (arith, one, most)
+        | inr apart ↦ let early = passed (omega (arith, within, apart)) in omega (arith, early, two)
+      ]
+
+  pub accesses_stopped : place < 64 → new ≤ before + 127
+  accesses_stopped below =
+      elim (cases_eq place 63) [
+        | inl last ↦ let all = accesses_passed (omega (arith, last)) in omega (arith, all, last)
+        | inr early ↦ omega (arith, two, most, below, early)
+      ]
 
 module _ {B T : Type 0} (history : B → BusHistory) (moved : B → B → Type 0) (d n : T → List ℕ → List ℕ) (write : LineWrite) (old : OutsideView B T)
     (kept : AreConsistent (terms_of history moved d n old) old) (last : HaveLast (terms_of history moved d n old) old) where

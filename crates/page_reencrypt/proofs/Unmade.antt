@@ -51,6 +51,7 @@ pub same_protected : (tag_of : Message → List ℕ) (levels limit : ℕ) (histo
 same_protected tag_of levels limit history history' made used stopped stopped' kept same written goes lasts spent = record {
   consistent = same_consistent tag_of levels history history' made used kept.consistent same written;
   within = kept.within;
+  unskipped = kept.unskipped;
   holds_last = λ goes_on. same_last tag_of (line_count levels) made history.written history'.written (kept.holds_last (goes goes_on)) written;
   paged = λ going. kept.paged (lasts going);
   spent = spent;

@@ -18,8 +18,8 @@ use Rattle.bus_model.specs.BusHistory.{BusHistory}
 use Rattle.tag_engine.specs.TagEngine.{tags_of}
 use Rattle.checked_bus.specs.Steps.{IsAccounted, Moves as StepMoves}
 use Rattle.checked_bus.proofs.Steps.{counted_not, moves_not as step_not}
-use Rattle.split_counter.specs.CounterBlock.{CounterBlockView, new_block}
-use Rattle.page_reencrypt.specs.Contents.{AreWithin, bytes_of, contents_of, counter_in, last_counter, line_bytes, lines_encrypted, next_counter}
+use Rattle.split_counter.specs.CounterBlock.{CounterBlockView, last_counter, new_block, next_counter}
+use Rattle.page_reencrypt.specs.Contents.{AreWithin, bytes_of, contents_of, counter_in, line_bytes, lines_encrypted}
 use Rattle.page_reencrypt.specs.LineLengths.{length-line_bytes}
 use Rattle.page_reencrypt.specs.Outside.{IsWrite, IsWriteOrSpent, MemoryTerms, OutsideView, terms_of}
 use Rattle.page_reencrypt.specs.SealedLines.{AccountsForAll, AreCurrent, AreProtected, IsSealedAnew, IsSealedInPart, IsTamperedBeside, Moves, SealedLinesView, contents, lines_of_write}

@@ -1,5 +1,5 @@
 -- What a memory of lines holds, by the messages that were tagged and the key that lines are encrypted under.
-use Rattle.std.specs.Prelude.{◌==◌, ◌≡◌, ◌≢◌, ◌⊎◌, ℕ, ◌+◌, ◌*◌, ◌%◌, ◌<◌, ◌≤◌, if◌then◌else◌, List, [], ◌∷◌, length, map, replicate, Option, Some, None, Contains, unwrap_or}
+use Rattle.std.specs.Prelude.{◌==◌, ◌≡◌, ◌≢◌, ◌⊎◌, ℕ, ◌*◌, ◌<◌, ◌≤◌, if◌then◌else◌, List, [], ◌∷◌, length, map, replicate, Option, Some, None, Contains, unwrap_or}
 use Rattle.std.specs.List.{filter, range_with_len}
 use Rattle.sec_base.specs.declared.place.Place.{Place}
 use Rattle.sec_base.specs.declared.place.Place.TheVariants.{Line as line_place, Node}
@@ -13,6 +13,7 @@ use Rattle.sec_base.specs.Place.{IsPlace, zeros_of}
 use Rattle.sec_base.specs.Lines.{joined_lines}
 use Rattle.pad_stream.specs.Pad.{cipher_of}
 use Rattle.checked_bus.specs.SealedLine.{sealed_line}
+use Rattle.split_counter.specs.CounterBlock.{last_counter, next_counter}
 
 -- the bytes of a line, by its last message: its ciphertext, decrypted under its counter; zeros where it has none
 abbrev pub bytes_of : List ℕ → ℕ → Option (Counter × List ℕ) → List ℕ
@@ -34,20 +35,7 @@ never_written = record { page = 0; line = 0 }
 abbrev pub counter_in : List (ℕ × Counter) → ℕ → Counter
 counter_in used line = unwrap_or (last_pair line used) never_written
 
--- the counter that the next write of a line encrypts under: its line counter goes up by one; where that is used up, the
--- page counter does, and the line counter begins again
-abbrev pub next_counter : Counter → Counter
-next_counter counter =
-    if counter.line == 127 then record { page = counter.page + 1; line = 0 } else record { page = counter.page; line = counter.line + 1 }
-
--- the last counter that a limit of page counters allows
-abbrev pub last_counter : ℕ → Counter
-last_counter limit = record { page = limit; line = 127 }
-
--- the place of a line in its page, and the lines of a page, in the order of their places
-abbrev pub place_of : ℕ → ℕ
-place_of line = line % LINES_PER_PAGE
-
+-- the lines of a page, in the order of their places
 abbrev pub page_lines : ℕ → List ℕ
 page_lines page = range_with_len (LINES_PER_PAGE * page) LINES_PER_PAGE
 
@@ -60,9 +48,16 @@ abbrev pub entries_of_write : ℕ → List (ℕ × Counter) → List (ℕ × Cou
 entries_of_write line used =
     map (λ at. (at, next_counter (counter_in used line))) (lines_encrypted (next_counter (counter_in used line)) line)
 
--- how many entries name lines of the page
+-- how many entries name the line, and how many name lines of the page
+abbrev pub line_entries : List (ℕ × Counter) → ℕ → ℕ
+line_entries used line = length (filter (λ entry. entry.0 == line) used)
+
 abbrev pub page_entries : List (ℕ × Counter) → ℕ → ℕ
 page_entries used page = length (filter (λ entry. page_of entry.0 == page) used)
+
+-- No page counter was skipped: a line whose page counter is M was itself encrypted M times at least.
+pub record AreUnskipped (lines : ℕ) (used : List (ℕ × Counter)) : Type 0 where
+  pub reached : (line : ℕ) → line < lines → (counter_in used line).page ≤ line_entries used line
 
 -- The lines of a page have one page counter, and where it is M, they were encrypted 64 M times at least.
 pub record ArePaged (lines : ℕ) (used : List (ℕ × Counter)) : Type 0 where

@@ -15,9 +15,9 @@ use Rattle.pad_stream.specs.Pad.{cipher_of}
 use Rattle.pad_stream.specs.PadEngine.{PadEngineView, with_room as pads_with_room}
 use Rattle.checked_bus.specs.Accesses.{AreCounted}
 use Rattle.checked_bus.specs.Steps.{IsAccounted, Moves as StepMoves}
-use Rattle.split_counter.specs.CounterBlock.{CounterBlockView}
+use Rattle.split_counter.specs.CounterBlock.{CounterBlockView, last_counter, next_counter}
 use Rattle.page_reencrypt.specs.Consistency.{IsConsistent}
-use Rattle.page_reencrypt.specs.Contents.{HoldsLast, counter_in, last_counter, line_bytes, lines_encrypted, never_written, next_counter}
+use Rattle.page_reencrypt.specs.Contents.{HoldsLast, counter_in, line_bytes, lines_encrypted, never_written}
 use Rattle.page_reencrypt.specs.SealedLines.{AreReread, IsOfPage, IsTamperedBeside}
 use Rattle.page_reencrypt.specs.Stops.{lasting_stop, unwritten}
 

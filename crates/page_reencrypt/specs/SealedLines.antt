@@ -16,9 +16,9 @@ use Rattle.pad_stream.specs.Pad.{cipher_of}
 use Rattle.pad_stream.specs.PadEngine.{PadEngineView}
 use Rattle.checked_bus.specs.Accesses.{AreCounted}
 use Rattle.checked_bus.specs.Steps.{IsAccounted, Moves as StepMoves}
-use Rattle.split_counter.specs.CounterBlock.{CounterBlockView, counter_of, new_block}
+use Rattle.split_counter.specs.CounterBlock.{CounterBlockView, counter_of, new_block, next_counter, place_of}
 use Rattle.page_reencrypt.specs.Consistency.{IsConsistent}
-use Rattle.page_reencrypt.specs.Contents.{ArePaged, AreWithin, HoldsLast, IsSpent, contents_of, counter_in, lines_encrypted, next_counter, place_of}
+use Rattle.page_reencrypt.specs.Contents.{ArePaged, AreUnskipped, AreWithin, HoldsLast, IsSpent, contents_of, counter_in, lines_encrypted}
 use Rattle.page_reencrypt.specs.Stops.{lasting_stop, unwritten}
 
 -- the bus, the tag engine, the pads, the counters of each page, how high a page counter may rise, and the stop that was
@@ -69,6 +69,7 @@ pub record IsProtected (tag_of : Message → List ℕ) (levels limit : ℕ) (his
     (used : List (ℕ × Counter)) (stopped : Option MemStop) : Type 0 where
   pub consistent : IsConsistent tag_of levels history made used
   pub within : AreWithin limit used
+  pub unskipped : AreUnskipped (line_count levels) used
   pub holds_last : stopped ≢ Some NoMemory → HoldsLast tag_of (line_count levels) made history.written
   -- in the middle of an overflow the lines of its page have two page counters
   pub paged : lasting_stop stopped ≡ None → ArePaged (line_count levels) used

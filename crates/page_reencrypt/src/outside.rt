@@ -19,8 +19,8 @@ ghost use Rattle.pad_stream.specs.Pads.{IsBefore};
 ghost use Rattle.checked_bus.specs.Accesses.{AreCounted};
 ghost use Rattle.checked_bus.specs.SealedLine.{sealed_line};
 ghost use Rattle.checked_bus.specs.Steps.{IsAccounted, Moves as StepMoves, stop_of};
-ghost use Rattle.split_counter.specs.CounterBlock.{counter_of};
-ghost use Rattle.page_reencrypt.specs.Contents.{line_bytes, page_lines, place_of};
+ghost use Rattle.split_counter.specs.CounterBlock.{counter_of, place_of};
+ghost use Rattle.page_reencrypt.specs.Contents.{line_bytes, page_lines};
 ghost use Rattle.page_reencrypt.specs.Outside.{AreAccounted, AreConsistent, AreSealedInOrder, DiffersInRoom, HasCounter, HaveLast, terms_of, with_room};
 
 use bus_model::Bus;
@@ -62,7 +62,6 @@ impl<B: Bus, T: Tagger> Outside<B, T> {
 
     // The bytes of a line, by its counter: zeros where it was never written, without an access; else what its place
     // holds, checked and decrypted.
-    #[inline(always)]
     pub(crate) fn read(&mut self, line: u32, counter: Counter) -> Result<[u8; 64], MemStop>
         requires inside { line < line_count self.old.engine.levels }
         requires consistent { AreConsistent (terms_of B.history B.moved T.data_tag_of T.node_tag_of self.old) self.old }
@@ -157,6 +156,7 @@ impl<B: Bus, T: Tagger> Outside<B, T> {
         ensures sealed { AreSealedInOrder (terms_of B.history B.moved T.data_tag_of T.node_tag_of self.old)
             (record { line = line; bytes = bytes.now; counter = counter }) self.old (at ∷ []) self.new (stop_of result) }
         ensures once { (B.history self.new.bus).accesses ≤ (B.history self.old.bus).accesses + 2 }
+        ensures own { at ≡ line → (B.history self.new.bus).accesses ≤ (B.history self.old.bus).accesses + 1 }
     {
         let plain = if at == line {
             *bytes
@@ -186,7 +186,7 @@ impl<B: Bus, T: Tagger> Outside<B, T> {
 
         ensures sealed { AreSealedInOrder (terms_of B.history B.moved T.data_tag_of T.node_tag_of self.old)
             (record { line = line; bytes = bytes.now; counter = counter }) self.old (page_lines (page_of line)) self.new (stop_of result) }
-        ensures once { (B.history self.new.bus).accesses ≤ (B.history self.old.bus).accesses + 128 }
+        ensures once { (B.history self.new.bus).accesses ≤ (B.history self.old.bus).accesses + 127 }
     {
         let first = LINES_PER_PAGE * page_of(line);
         for place in 0..LINES_PER_PAGE as u8 {

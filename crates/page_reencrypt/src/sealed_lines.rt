@@ -18,9 +18,8 @@ ghost use Rattle.bus_model.specs.BusHistory.{NothingWritten};
 ghost use Rattle.tag_engine.specs.TagEngine.{tags_of};
 ghost use Rattle.pad_stream.specs.Pad.{cipher_of};
 ghost use Rattle.pad_stream.specs.PadBlocks.{ShareNoBlock};
-ghost use Rattle.pad_stream.specs.Pads.{NoRepeat};
-ghost use Rattle.split_counter.specs.CounterBlock.{new_block};
-ghost use Rattle.page_reencrypt.specs.Contents.{counter_in, entries_of_write, last_counter, next_counter, place_of};
+ghost use Rattle.split_counter.specs.CounterBlock.{last_counter, new_block, next_counter, place_of};
+ghost use Rattle.page_reencrypt.specs.Contents.{counter_in, entries_of_write};
 ghost use Rattle.page_reencrypt.specs.Outside.{AreConsistent, HasCounter, HaveLast, IsWriteOrSpent, terms_of};
 ghost use Rattle.page_reencrypt.specs.SealedLines.{AreCurrent, AreNew, AreProtected, AreReread, HadMemory, IsOfPage, IsSealedAnew, IsSealedInPart, IsTamperedBeside, IsUnbooted, IsQuiet, IsUnsealed, Moves, ReadMoved, contents, enc_key, evidence, levels, lines_of, lines_of_write, made, tag_in, used};
 ghost use Rattle.page_reencrypt.specs.Stops.{lasting_stop};
@@ -32,7 +31,7 @@ use pad_stream::PadEngine;
 use sec_base::{
     Counter, Geometry, LINES_PER_PAGE, LineStore, MemStop, NoMemory, NoMemoryWith, Tagger, page_of,
 };
-use split_counter::{Bumped, CounterBlock};
+use split_counter::{Bumped, CounterBlock, place_of};
 use std::alloc::Global;
 use std::marker::Model;
 use tag_engine::TagEngine;
@@ -117,8 +116,8 @@ impl<B: Bus, T: Tagger> SealedLines<B, T> {
         ensures evidence { result.0.evidence ≡ evidence self }
         ensures bus { result.1 ≡ self.bus }
 
-        // Where no line and counter repeats, no block of all their pads does.
-        ensures apart { NoRepeat result.0.used → ShareNoBlock (enc_key self) result.0.used }
+        // No line and counter repeats, so no block of all their pads does.
+        ensures apart { ShareNoBlock (enc_key self) result.0.used }
 
         // Evidence is what it says, and what holds at all times held to the end. The blocks said the counters until a
         // stop that lasts.
@@ -260,11 +259,12 @@ impl<B: Bus, T: Tagger> LineStore for SealedLines<B, T> {
         ensures reserved { OnErr result (((used self.new ≡ used self.old) × (self.new.blocks ≡ self.old.blocks))
             ⊎ HadMemory line self.old self.new) }
 
-        // A line is written without a read and by one access; with an overflow there are two accesses a line at most.
+        // A line is written without a read and by one access; with an overflow there are two accesses a line at most, and
+        // one of the written line.
         ensures once { (next_counter (counter_in (used self.old) line)).line ≢ 0 →
             ((B.history self.new.bus).accesses ≤ (B.history self.old.bus).accesses + 1)
             × ((B.history self.new.bus).reads ≡ (B.history self.old.bus).reads) }
-        ensures twice { (B.history self.new.bus).accesses
+        ensures twice { (B.history self.new.bus).accesses + 1
             ≤ (B.history self.old.bus).accesses + 2 * length (lines_of_write line self.old) }
 
         // A line with the last counter that the limit allows is not written again, and nothing else is refused so. Nothing
@@ -303,14 +303,6 @@ fn new_blocks(alloc: Global, geometry: Geometry) -> Result<Vec<CounterBlock>, No
     Ok(vec![in alloc; CounterBlock::new(); geometry.pages() as usize]?)
 }
 
-// The place of a line in its page.
-fn place_of(line: u32) -> u8
-    ensures place { result ≡ place_of line }
-    ensures inside { result < 64 }
-{
-    (line % LINES_PER_PAGE) as u8
-}
-
 // The stop that is answered from then on, if there was one.
 fn lasting(stopped: Option<MemStop>) -> Option<MemStop>
     ensures { result ≡ lasting_stop stopped }
@@ -343,7 +335,7 @@ fn write_next<B: Bus, T: Tagger>(
     ensures once { (next_counter (counter_in outside.old.pads.used line)).line ≢ 0 →
         ((B.history outside.new.bus).accesses ≤ (B.history outside.old.bus).accesses + 1)
         × ((B.history outside.new.bus).reads ≡ (B.history outside.old.bus).reads) }
-    ensures few { (B.history outside.new.bus).accesses ≤ (B.history outside.old.bus).accesses + 128 }
+    ensures few { (B.history outside.new.bus).accesses ≤ (B.history outside.old.bus).accesses + 127 }
 {
     let place = place_of(line);
     match Bumped::of(block.get(place), limit) {

@@ -16,7 +16,7 @@ returns-in_err-reserve-in-Line-clause-written g c =
     let old = c.args.outside.now in
     let here : counter_in old.pads.used c.args.line ≡ c.get.result =
     c.requires.current c.args.line refl ∙ ap (λ (p : ℕ). counter_of p c.args.block.now) (sym c.place_of-place.ensures.place) ∙ sym c.get.ensures.counter in
-    let next = line_next c.args.limit old.pads.used c.args.line c.get.result c.in-Line.counter here (sym c.of.ensures.outcome ∙ c.in-Line.is) in
+    let next = line_next old.pads.used c.args.line c.get.result c.in-Line.counter here (c.of.ensures.line c.in-Line.counter c.in-Line.is) in
     let memory : c.from_residual.result ≡ Err NoMemory = search rules in
     refused g.B.Bus.history g.B.Bus.moved g.T.Tagger.data_tag_of g.T.Tagger.node_tag_of c.args.line c.args.bytes.now old c.args.block.now c.args.limit c.reserve.new.self
     (line_not_last c.args.limit (counter_in old.pads.used c.args.line) next.0) (g.met.B.Bus.unmoved old.bus) c.in_err-reserve-in-Line.ensures.refused
@@ -27,7 +27,7 @@ returns-in_err-seal-in-Line-clause-written g c =
     let old = c.args.outside.now in
     let here : counter_in old.pads.used c.args.line ≡ c.get.result =
     c.requires.current c.args.line refl ∙ ap (λ (p : ℕ). counter_of p c.args.block.now) (sym c.place_of-place.ensures.place) ∙ sym c.get.ensures.counter in
-    let next = line_next c.args.limit old.pads.used c.args.line c.get.result c.in-Line.counter here (sym c.of.ensures.outcome ∙ c.in-Line.is) in
+    let next = line_next old.pads.used c.args.line c.get.result c.in-Line.counter here (c.of.ensures.line c.in-Line.counter c.in-Line.is) in
     let bumped_is : c.bump.result ≡ Line c.in-Line.counter =
     c.bump.ensures.outcome ∙ ap (bumped c.args.limit) (sym c.get.ensures.counter) ∙ sym c.of.ensures.outcome ∙ c.in-Line.is in
     let memory : c.from_residual-in_err-seal-in-Line.result ≡ Err NoMemory = search rules in
@@ -46,7 +46,7 @@ returns-in_err-reserve-in-Page-clause-written g c =
     let old = c.args.outside.now in
     let here : counter_in old.pads.used c.args.line ≡ c.get.result =
     c.requires.current c.args.line refl ∙ ap (λ (p : ℕ). counter_of p c.args.block.now) (sym c.place_of-place.ensures.place) ∙ sym c.get.ensures.counter in
-    let next = page_next c.args.limit old.pads.used c.args.line c.get.result c.in-Page.page here (sym c.of.ensures.outcome ∙ c.in-Page.is) in
+    let next = page_next c.args.limit old.pads.used c.args.line c.get.result c.in-Page.page here (c.of.ensures.overflow c.in-Page.page c.in-Page.is) in
     let memory : c.from_residual-in_err-reserve-in-Page.result ≡ Err NoMemory = search rules in
     refused g.B.Bus.history g.B.Bus.moved g.T.Tagger.data_tag_of g.T.Tagger.node_tag_of c.args.line c.args.bytes.now old c.args.block.now c.args.limit c.reserve-in-Page.new.self
     (page_not_last c.args.limit (counter_in old.pads.used c.args.line) next.1) (g.met.B.Bus.unmoved old.bus) c.in_err-reserve-in-Page.ensures.refused
@@ -57,7 +57,7 @@ returns-in_ok-seal-in-Line-clause-written g c =
     let old = c.args.outside.now in
     let here : counter_in old.pads.used c.args.line ≡ c.get.result =
     c.requires.current c.args.line refl ∙ ap (λ (p : ℕ). counter_of p c.args.block.now) (sym c.place_of-place.ensures.place) ∙ sym c.get.ensures.counter in
-    let next = line_next c.args.limit old.pads.used c.args.line c.get.result c.in-Line.counter here (sym c.of.ensures.outcome ∙ c.in-Line.is) in
+    let next = line_next old.pads.used c.args.line c.get.result c.in-Line.counter here (c.of.ensures.line c.in-Line.counter c.in-Line.is) in
     let bumped_is : c.bump.result ≡ Line c.in-Line.counter =
     c.bump.ensures.outcome ∙ ap (bumped c.args.limit) (sym c.get.ensures.counter) ∙ sym c.of.ensures.outcome ∙ c.in-Line.is in (
       line_not_last c.args.limit (counter_in old.pads.used c.args.line) next.0,
@@ -88,7 +88,7 @@ returns-in_ok-reserve-in-Page-clause-written g c =
     let old = c.args.outside.now in
     let here : counter_in old.pads.used c.args.line ≡ c.get.result =
     c.requires.current c.args.line refl ∙ ap (λ (p : ℕ). counter_of p c.args.block.now) (sym c.place_of-place.ensures.place) ∙ sym c.get.ensures.counter in
-    let next = page_next c.args.limit old.pads.used c.args.line c.get.result c.in-Page.page here (sym c.of.ensures.outcome ∙ c.in-Page.is) in
+    let next = page_next c.args.limit old.pads.used c.args.line c.get.result c.in-Page.page here (c.of.ensures.overflow c.in-Page.page c.in-Page.is) in
     let bumped_is : c.bump-in-Page.result ≡ Page c.in-Page.page =
     c.bump-in-Page.ensures.outcome ∙ ap (bumped c.args.limit) (sym c.get.ensures.counter) ∙ sym c.of.ensures.outcome ∙ c.in-Page.is in
     let overflow = c.bump-in-Page.ensures.overflow c.in-Page.page bumped_is in

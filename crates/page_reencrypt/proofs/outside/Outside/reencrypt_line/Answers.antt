@@ -99,3 +99,15 @@ returns-clause-once g c =
           let same = ap (λ (o : OutsideView g.row.B.Denot g.row.T.Denot). (g.B.Bus.history o.bus).accesses) w.self-is in
           omega (arith, wrote, same, w.in_ok-plain.ensures.once)
     ]
+
+pub returns-clause-own : goal.returns-clause-own
+returns-clause-own g c = λ own.
+    let wrote = one_access c.args.at
+    (sealed_line (tags_of g.T.Tagger.data_tag_of g.T.Tagger.node_tag_of c.if-at-line.self.engine) c.args.at c.args.counter
+    (cipher_of c.if-at-line.self.pads.key c.args.at c.args.counter c.if-at-line.plain))
+    (g.B.Bus.history c.if-at-line.self.bus) (g.B.Bus.history c.seal.new.self.bus) c.in_ok-seal.ensures.ok in
+    elim c.if-at-line.branch [
+      | then-at-line w ↦
+          let same = ap (λ (o : OutsideView g.row.B.Denot g.row.T.Denot). (g.B.Bus.history o.bus).accesses) w.self-is in omega (arith, wrote, same)
+      | else-at-line+in_ok-plain w ↦ absurd (w.if-at-line.false own)
+    ]

@@ -1,13 +1,16 @@
-use Rattle.std.proofs.Common.{◌≡◌, ◌<◌, ◌⊎◌, ℕ, Option, None, OnOk, OnErr, inl, slice_set, refl, sym, ap, ◌∙◌, subst}
+use Rattle.std.proofs.Common.{◌≡◌, ◌<◌, ◌⊎◌, ℕ, Option, None, OnOk, OnErr, inl, slice_set, refl, sym, ap, ◌∙◌, subst, arith}
 use Rattle.std.specs.Option.{option_or}
 use Rattle.std.specs.Result.{result_err}
 use Rattle.sec_base.specs.Geometry.{line_count, page_count, page_of}
 use Rattle.sec_base.specs.Lines.{with_line}
 use Rattle.sec_base.specs.declared.stop.MemStop.{MemStop}
 use Rattle.tag_engine.specs.TagEngine.{tags_of}
+use Rattle.split_counter.specs.CounterBlock.{next_counter}
+use Rattle.page_reencrypt.specs.Contents.{counter_in}
 use Rattle.page_reencrypt.specs.SealedLines.{AreProtected, IsSealedAnew, IsSealedInPart, Moves, SealedLinesView, contents, lines_of_write}
 use Rattle.page_reencrypt.specs.SealedLinesInside.{sealed_lines_view}
 use Rattle.page_reencrypt.specs.Stops.{lasting_stop}
+use Rattle.page_reencrypt.proofs.Entries.{accesses_of_write}
 use Rattle.page_reencrypt.proofs.LineReads.{page_inside}
 use Rattle.page_reencrypt.proofs.Moves.{moves_not}
 use Rattle.page_reencrypt.proofs.Overflows.{write_failed, write_reread}
@@ -198,3 +201,17 @@ returns-clause-failed g c = λ other _ is.
     rw (← c.self.view_is)
     (write_failed g.T.Tagger.data_tag_of g.T.Tagger.node_tag_of g.B.Bus.history g.B.Bus.moved m c.args.line c.args.bytes.now
     c.index_mut-block.result.now wrote.new.outside wrote.new.block wrote.result wrote.ensures.written other is)
+
+pub returns-in-Some-clause-twice : goal.returns-in-Some-clause-twice
+returns-in-Some-clause-twice g c =
+    let old = c.args.self.now in
+    accesses_of_write (next_counter (counter_in old.pads.used c.args.line)) c.args.line (g.B.Bus.history old.bus).accesses (g.B.Bus.history old.bus).accesses
+    (λ _. omega arith) (omega arith)
+
+pub returns-clause-twice : goal.returns-clause-twice
+returns-clause-twice g c =
+    let m = sealed_lines_view c.self.inside in
+    let wrote = c.write_next-written in
+    rw (← c.self.view_is)
+    (accesses_of_write (next_counter (counter_in m.pads.used c.args.line)) c.args.line (g.B.Bus.history m.bus).accesses
+    (g.B.Bus.history wrote.new.outside.bus).accesses (λ one. (wrote.ensures.once one).0) wrote.ensures.few)
