@@ -3,7 +3,6 @@ use Rattle.std.specs.Prelude.{◌≡◌, ◌⊎◌, ℕ, ◌≤◌, List, [], �
 use Rattle.sec_base.specs.declared.counter.Counter.{Counter}
 use Rattle.sec_base.specs.declared.evidence.Evidence.{Evidence}
 use Rattle.sec_base.specs.declared.message.Message.{Message}
-use Rattle.sec_base.specs.declared.place.Place.{Place}
 use Rattle.sec_base.specs.declared.place.Place.TheVariants.{Line as line_place, Node}
 use Rattle.sec_base.specs.declared.stop.MemStop.{MemStop}
 use Rattle.sec_base.specs.Count.{Rose}
@@ -92,10 +91,3 @@ pub record IsMoved {B T : Type 0} (history : B → BusHistory) (bus_moved : B �
 pub record IsWrittenInPart (line : ℕ) (old new : List (ℕ × Counter)) : Type 0 where
   pub count : ℕ
   pub entries : new ≡ old ++ take count (entries_of_write line old)
-
--- Tampering is of a line of this page, and comes where an answer was false.
-pub record IsTamperedInPage (line : ℕ) (place : Place) (old new : BusHistory) : Type 0 where
-  pub other : ℕ
-  pub place_is : place ≡ line_place other
-  pub of_page : page_of other ≡ page_of line
-  pub lied : Rose old.lies new.lies

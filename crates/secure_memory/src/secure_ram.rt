@@ -1,5 +1,5 @@
 // The memory that the processor sees.
-ghost use Rattle.std.specs.Prelude.{◌≡◌, ◌≢◌, ◌+◌, ◌*◌, ◌%◌, ◌^◌, ◌<◌, ◌≤◌, ◌↔◌, ◌⊎◌, ◌∷◌, ◌++◌, [], ℕ, List, None, Some, Err, IfOk, IfErr, IfSome, IsTrue, OnOk, OnErr, Contains, length};
+ghost use Rattle.std.specs.Prelude.{◌≡◌, ◌≢◌, ◌+◌, ◌*◌, ◌%◌, ◌^◌, ◌<◌, ◌≤◌, ◌↔◌, ◌⊎◌, ◌∷◌, ◌++◌, [], ℕ, List, None, Some, Err, IfOk, IfErr, IfSome, IsTrue, OnOk, OnErr, Contains, length, take};
 ghost use Rattle.sec_base.specs.Count.{Rose};
 ghost use Rattle.sec_base.specs.Evidence.{IsEvidence};
 ghost use Rattle.sec_base.specs.Geometry.{line_of, page_of};
@@ -15,10 +15,10 @@ ghost use Rattle.bus_model.specs.BusHistory.{NothingWritten};
 ghost use Rattle.tag_engine.specs.TagEngine.{tags_of};
 ghost use Rattle.pad_stream.specs.Pad.{cipher_of};
 ghost use Rattle.pad_stream.specs.PadBlocks.{ShareNoBlock};
-ghost use Rattle.pad_stream.specs.Pads.{NoRepeat};
-ghost use Rattle.page_reencrypt.specs.Contents.{counter_in, entries_of_write, last_counter, next_counter};
-ghost use Rattle.page_reencrypt.specs.SealedLines.{AreNew, AreProtected, IsUnbooted, IsUnsealed, enc_key, tag_in};
-ghost use Rattle.secure_memory.specs.SecureRam.{IsMoved, IsQuiet, IsTamperedInPage, IsWrittenInPart, LineHad, contents, evidence, held_lines, lines_of, made, most_held, stopped, used};
+ghost use Rattle.split_counter.specs.CounterBlock.{last_counter, next_counter, place_of};
+ghost use Rattle.page_reencrypt.specs.Contents.{counter_in, entries_of_write};
+ghost use Rattle.page_reencrypt.specs.SealedLines.{AreNew, AreProtected, AreReread, HadMemory, IsTamperedBeside, IsUnbooted, IsUnsealed, enc_key, lines_of_write, tag_in};
+ghost use Rattle.secure_memory.specs.SecureRam.{IsMoved, IsQuiet, IsWrittenInPart, LineHad, contents, evidence, held_lines, lines_of, made, most_held, stopped, used};
 
 use bus_model::Bus;
 use hmac_tag::Keys;
@@ -99,8 +99,8 @@ impl<B: Bus, T: Tagger> SecureRam<B, T> {
         ensures evidence { result.0.evidence ≡ evidence self }
         ensures bus { result.1 ≡ self.lines.bus }
 
-        // Where no line and counter repeats, no block of all their pads does.
-        ensures apart { NoRepeat result.0.used → ShareNoBlock (enc_key self.lines) result.0.used }
+        // No line and counter repeats, so no block of all their pads does.
+        ensures apart { ShareNoBlock (enc_key self.lines) result.0.used }
 
         // Evidence is what it says, and what holds at all times held to the end.
         ensures genuine { IfSome result.0.evidence
@@ -199,7 +199,7 @@ impl<B: Bus, T: Tagger> Ram for SecureRam<B, T> {
         ensures once { (next_counter (counter_in (used self.old) (line_of addr))).line ≢ 0 →
             (B.history self.new.lines.bus).accesses ≤ (B.history self.old.lines.bus).accesses + 2 }
         ensures twice { (B.history self.new.lines.bus).accesses
-            ≤ (B.history self.old.lines.bus).accesses + 1 + 2 * length (entries_of_write (line_of addr) (used self.old)) }
+            ≤ (B.history self.old.lines.bus).accesses + 2 * length (entries_of_write (line_of addr) (used self.old)) }
         ensures sealed { OnOk result (used self.new ≡ used self.old ++ entries_of_write (line_of addr) (used self.old)) }
         ensures in_part { OnErr result (IsWrittenInPart (line_of addr) (used self.old) (used self.new)) }
 
@@ -208,10 +208,23 @@ impl<B: Bus, T: Tagger> Ram for SecureRam<B, T> {
         ensures read { IsQuiet self.new → OnOk result (LineHad B.history self.old self.new (line_of addr)) }
         ensures held { (line : ℕ) → Contains (held_lines self.new) line → Contains (held_lines self.old) line ⊎ (line ≡ line_of addr) }
 
-        // Tampering comes only of lines of its page, and where an answer was false. It is spent only where the line has
-        // the last counter that the limit allows, and then nothing is encrypted, tagged or written.
+        // With an overflow each other line of the page that was written before is read from its place too. Memory is taken
+        // for each line that is to be encrypted before one of them is.
+        ensures reread { OnOk result (AreReread (line_of addr) (lines_of_write (line_of addr) self.old.lines) (used self.old)
+            (B.history self.old.lines.bus) (B.history self.new.lines.bus)) }
+        ensures reserved { OnErr result ((used self.new ≡ used self.old) ⊎ HadMemory (line_of addr) self.old.lines self.new.lines) }
+
+        // Tampering comes only where an answer was false: of the line itself, or with an overflow of another line of its
+        // page, and then the lines that were encrypted are those before that one.
         ensures tampered { (place : Place) → stopped self.old ≡ None → result ≡ Err (Tampered place) →
-            IsTamperedInPage (line_of addr) place (B.history self.old.lines.bus) (B.history self.new.lines.bus) }
+            ((place ≡ line_place (line_of addr)) × Rose (B.history self.old.lines.bus).lies (B.history self.new.lines.bus).lies)
+            ⊎ (((next_counter (counter_in (used self.old) (line_of addr))).line ≡ 0)
+            × IsTamperedBeside (line_of addr) place (B.history self.old.lines.bus) (B.history self.new.lines.bus)) }
+        ensures failed { (other : ℕ) → stopped self.old ≡ None → other ≢ line_of addr → result ≡ Err (Tampered (line_place other)) →
+            used self.new ≡ used self.old ++ take (place_of other) (entries_of_write (line_of addr) (used self.old)) }
+
+        // It is spent only where the line has the last counter that the limit allows, and then nothing is encrypted, tagged
+        // or written.
         ensures spent { (page : ℕ) → stopped self.old ≡ None → result ≡ Err (Spent page) → (page ≡ page_of (line_of addr))
             × (counter_in (used self.old) (line_of addr) ≡ last_counter self.old.lines.limit) × IsUnsealed B.history self.old.lines self.new.lines }
         ensures unspent { OnOk result (counter_in (used self.old) (line_of addr) ≢ last_counter self.old.lines.limit) }
