@@ -26,7 +26,6 @@ use Rattle.rv32_core.proofs.Plain.{whole_run}
 use Rattle.rv32_run.specs.Session.{CarriesEnding, IsMemoryEnding, IsStop}
 use Rattle.checked_bus.specs.Steps.{IsAccounted}
 use Rattle.pad_stream.specs.PadBlocks.{ShareNoBlock}
-use Rattle.pad_stream.specs.Pads.{NoRepeat}
 use Rattle.page_reencrypt.specs.Contents.{ArePaged, IsSpent, counter_in}
 use Rattle.page_reencrypt.specs.SealedLines.{IsProtected}
 use Rattle.chip_run.specs.Run.{Terms, EndsAnywhere, WritesItsMessages, default_page_limit, IsWrittenOut, HoldsAlways, HoldsWithoutEvidence, ShowsEvidence, RunsProtected}
@@ -40,7 +39,7 @@ pub record OfMemory (terms : Terms) (before after : BusHistory) (run : RunRecord
   pub carries : CarriesEnding stopped (Some run.ending)
   pub kept : IsProtected terms.tag_of terms.levels terms.page_limit after run.made run.used stopped
   pub few : length run.used < 2 ^ 64
-  pub apart : NoRepeat run.used → ShareNoBlock terms.enc_key run.used
+  pub apart : ShareNoBlock terms.enc_key run.used
   pub accounted : IsAccounted terms.tag_of run.used run.made after stopped run.evidence
   pub accesses : WritesItsMessages before after run.made run.ending
   pub reads : (place : Place) → RoseBy 0 (before.reads place) (after.reads place)
@@ -137,11 +136,12 @@ module _ (terms : Terms) (out out' : SinkState) (printed : List ℕ) (before aft
     write_fault = session.write_fault;
     faults = session.faults;
     no_repeat = rising_once run.used memory.kept.consistent.rising;
-    pads_apart = memory.apart (rising_once run.used memory.kept.consistent.rising);
+    pads_apart = memory.apart;
     rising = memory.kept.consistent.rising;
     inside = memory.kept.consistent.inside;
     counters = memory.kept.within;
     spent = spent_page;
+    unskipped = memory.kept.unskipped;
     paged = paged;
     few = memory.few;
     unspent = λ default page is. never_spent (line_count terms.levels) terms.page_limit run.used page (paged (spent_whole run.ending page is)) memory.few default (spent_page page is);

@@ -22,9 +22,8 @@ use Rattle.rv32_run.specs.Session.{CarriesEnding}
 use Rattle.checked_bus.specs.Accesses.{AreCounted}
 use Rattle.checked_bus.specs.Steps.{IsAccounted}
 use Rattle.pad_stream.specs.PadBlocks.{ShareNoBlock}
-use Rattle.pad_stream.specs.Pads.{NoRepeat}
 use Rattle.page_reencrypt.specs.Consistency.{IsConsistent}
-use Rattle.page_reencrypt.specs.Contents.{AreWithin, HoldsSealed, contents_of}
+use Rattle.page_reencrypt.specs.Contents.{AreUnskipped, AreWithin, HoldsSealed, contents_of}
 use Rattle.page_reencrypt.specs.SealedLines.{AccountsForAll, AreNew, AreProtected, IsProtected, IsUnbooted, Moves, SealedLinesView, contents, enc_key, evidence, levels, made, used}
 use Rattle.page_reencrypt.specs.Stops.{unwritten}
 use Rattle.secure_memory.specs.SecureRam.{IsMoved, SecureRamView}
@@ -59,6 +58,10 @@ nothing_within limit = record {
   seven_bits = λ line counter listed. absurd (omega (arith, listed.1));
 }
 
+nothing_unskipped : (lines : ℕ) → AreUnskipped lines []
+unfolding last_at
+nothing_unskipped lines = record { reached = λ line inside. omega arith }
+
 nothing_sealed : (tag_of : Message → List ℕ) (levels : ℕ) (before after : BusHistory) → before.levels ≡ levels → NothingWritten before →
     ((line : ℕ) → after.written (line_place line) ≡ before.written (line_place line)) → HoldsSealed tag_of (line_count levels) [] [] after.written
 nothing_sealed tag_of levels before after as_many empty same = record {
@@ -87,6 +90,7 @@ unbooted_kept : (tag_of : Message → List ℕ) (levels limit : ℕ) (before aft
 unbooted_kept tag_of levels limit before after as_many empty unbooted = record {
   consistent = nothing_consistent tag_of levels before after as_many empty unbooted;
   within = nothing_within limit;
+  unskipped = nothing_unskipped (line_count levels);
   holds_last = λ some. absurd (some refl);
   paged = λ going. absurd (cc);
   spent = λ page is. absurd (cc);
@@ -118,7 +122,7 @@ unbooted_memory terms before after run as_many honest empty unbooted ended none_
       carries = refl;
       kept = unbooted_kept terms.tag_of terms.levels terms.page_limit before after as_many empty unbooted;
       few = omega arith;
-      apart = λ once. record { apart = λ first second line other counter later block another here there low high same. absurd (cc) };
+      apart = record { apart = λ first second line other counter later block another here there low high same. absurd (cc) };
       accounted = begins_accounted terms.tag_of [] [] after (Some no_memory) None (unbooted.booted.lies ∙ honest) refl (λ place is. cc);
       accesses = unbooted_accesses before after unbooted;
       reads = λ place. let same : after.reads place ≡ before.reads place = ap (λ (reads : Place → ℕ). reads place) unbooted.booted.reads in omega (arith, same);
@@ -179,7 +183,7 @@ module _ {B T : Type 0} (d n : T → List ℕ → List ℕ) (history : B → Bus
 
   pub run_memory : (start : Machine) (budget : ℕ) (closed : B) (run : RunRecord) → (history bus).lies ≡ 0 → AreProtected d n history lines →
       run.made ≡ made lines → run.used ≡ used lines → length run.used < 2 ^ 64 →
-      (NoRepeat run.used → ShareNoBlock (enc_key lines) run.used) → run.evidence ≡ evidence lines → closed ≡ lines.bus → CarriesEnding lines.stopped (Some run.ending) →
+      ShareNoBlock (enc_key lines) run.used → run.evidence ≡ evidence lines → closed ≡ lines.bus → CarriesEnding lines.stopped (Some run.ending) →
       OfMemory (record { start = start; budget = budget; levels = depth; page_limit = limit; tag_of = engine_tag (d tagger) (n tagger) depth; enc_key = key })
       (history bus) (history closed) run
   run_memory start budget closed run honest kept made_is used_is few apart evidence_is bus_is carries =
@@ -192,7 +196,7 @@ module _ {B T : Type 0} (d n : T → List ℕ → List ℕ) (history : B → Bus
         carries = carries;
         kept = subst (λ (m : SealedLinesView B T). AreProtected d n history m) same kept;
         few = few;
-        apart = λ once. subst (λ (k : List ℕ). ShareNoBlock k run.used) (moves.key ∙ new.key_is) (apart once);
+        apart = subst (λ (k : List ℕ). ShareNoBlock k run.used) (moves.key ∙ new.key_is) apart;
         accounted = subst (λ (m : SealedLinesView B T). AccountsForAll (tags_of d n) history m) same (moves.accounted (new_accounted honest));
         accesses = subst (λ (b : B). WritesItsMessages (history bus) (history b) run.made run.ending) (sym bus_is)
             (all_counted (history bus) (history booted.bus) (history lines.bus) (made booted) run.made moves.step.more moves.writes lines.stopped run.ending

@@ -25,7 +25,7 @@ use Rattle.rv32_core.specs.Outcome.{prints_of}
 use Rattle.rv32_core.specs.Turnover.{turnover}
 use Rattle.rv32_run.specs.Session.{IsMemoryEnding, IsStop}
 use Rattle.checked_bus.specs.Accesses.{AreCounted}
-use Rattle.page_reencrypt.specs.Contents.{ArePaged, AreWithin, HoldsLast, HoldsSealed, IsSpent, NodesAreZeros, line_bytes}
+use Rattle.page_reencrypt.specs.Contents.{ArePaged, AreUnskipped, AreWithin, HoldsLast, HoldsSealed, IsSpent, NodesAreZeros, line_bytes}
 use Rattle.chip_run.specs.declared.record.RunRecord.{RunRecord}
 
 -- What a run is of: the plain machine as the program begins on its input, how many instructions may be retired, the
@@ -85,17 +85,19 @@ pub record HoldsAlways (terms : Terms) (out out' : SinkState) (before after : Bu
   -- a write fault is one of the sink
   pub write_fault : run.ending ≡ WriteFault → Rose out.faults out'.faults
   pub faults : out.faults ≤ out'.faults
-  -- no two entries of `used` are equal, and no two of their pads share an AES block: each is of a line of the memory, and each line's counters rise, begin behind that
-  -- of a line that was never written, and keep to the limit; a page is spent only where one of its lines has the last
-  -- counter that the limit allows
+  -- no two entries of `used` are equal, and no two of their pads share an AES block: each is of a line of the memory, and
+  -- each line's counters rise, begin behind that of a line that was never written, and keep to the limit; a page is spent
+  -- only where one of its lines has the last counter that the limit allows
   pub no_repeat : NoRepeat run.used
   pub pads_apart : ShareNoBlock terms.enc_key run.used
   pub rising : AreRising run.used
   pub inside : (line : ℕ) (counter : Counter) → Contains run.used (line, counter) → line < line_count terms.levels
   pub counters : AreWithin terms.page_limit run.used
   pub spent : (page : ℕ) → run.ending ≡ Spent page → IsSpent (line_count terms.levels) terms.page_limit run.used page
-  -- the lines of a page have one page counter, and where it is M they were encrypted 64 M times at least, unless the run
-  -- ended in the middle of an overflow; so under the default limit no page is ever spent
+  -- a line whose page counter is M was itself encrypted M times at least; the lines of a page have one page counter, and
+  -- where it is M they were encrypted 64 M times at least, unless the run ended in the middle of an overflow; so under
+  -- the default limit no page is ever spent
+  pub unskipped : AreUnskipped (line_count terms.levels) run.used
   pub paged : ¬ EndsAnywhere run.ending → ArePaged (line_count terms.levels) run.used
   pub few : length run.used < 2 ^ 64
   pub unspent : terms.page_limit ≡ default_page_limit → (page : ℕ) → run.ending ≢ Spent page

@@ -3,7 +3,6 @@ ghost use Rattle.std.specs.Prelude.{◌≡◌, ◌^◌, ◌<◌, [], None, Some,
 ghost use Rattle.sec_base.specs.Evidence.{IsEvidence};
 ghost use Rattle.sec_base.specs.declared.ending.Ending.TheVariants.{NoMemory as memory_ended};
 ghost use Rattle.pad_stream.specs.PadBlocks.{ShareNoBlock};
-ghost use Rattle.pad_stream.specs.Pads.{NoRepeat};
 ghost use Rattle.page_reencrypt.specs.SealedLines.{AreProtected, enc_key, tag_in};
 ghost use Rattle.secure_memory.specs.SecureRam.{evidence as evidence_of, made as made_by, used as used_by};
 
@@ -26,7 +25,7 @@ pub(crate) fn close<B: Bus, T: Tagger>(
     ensures evidence { result.0.evidence ≡ evidence_of memory }
     ensures used { result.0.used ≡ used_by memory }
     ensures few { length result.0.used < 2 ^ 64 }
-    ensures apart { NoRepeat result.0.used → ShareNoBlock (enc_key memory.lines) result.0.used }
+    ensures apart { ShareNoBlock (enc_key memory.lines) result.0.used }
     ensures report { result.0.report ≡ None }
     ensures bus { result.1 ≡ memory.lines.bus }
 
