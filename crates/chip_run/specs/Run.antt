@@ -85,26 +85,26 @@ pub record HoldsAlways (terms : Terms) (out out' : SinkState) (before after : Bu
   -- a write fault is one of the sink
   pub write_fault : run.ending ≡ WriteFault → Rose out.faults out'.faults
   pub faults : out.faults ≤ out'.faults
-  -- no two entries of `used` are equal, and no two of their pads share an AES block: each is of a line of the memory, and
-  -- each line's counters rise, begin behind that of a line that was never written, and keep to the limit; a page is spent
-  -- only where one of its lines has the last counter that the limit allows
+  -- no two entries of `used` are equal, and no two of their pads share an AES block: each is of a line of the memory,
+  -- and each line's counters rise, begin behind that of a line that was never written, and keep to the limit; a page is
+  -- spent only where one of its lines has the last counter that the limit allows
   pub no_repeat : NoRepeat run.used
   pub pads_apart : ShareNoBlock terms.enc_key run.used
   pub rising : AreRising run.used
   pub inside : (line : ℕ) (counter : Counter) → Contains run.used (line, counter) → line < line_count terms.levels
   pub counters : AreWithin terms.page_limit run.used
   pub spent : (page : ℕ) → run.ending ≡ Spent page → IsSpent (line_count terms.levels) terms.page_limit run.used page
-  -- a line whose page counter is M was itself encrypted M times at least; the lines of a page have one page counter, and
-  -- where it is M they were encrypted 64 M times at least, unless the run ended in the middle of an overflow; so under
-  -- the default limit no page is ever spent
+  -- a line whose page counter is M was itself encrypted M times at least; the lines of a page have one page counter,
+  -- and where it is M they were encrypted 64 M times at least, unless the run ended in the middle of an overflow; so
+  -- under the default limit no page is ever spent
   pub unskipped : AreUnskipped (line_count terms.levels) run.used
   pub paged : ¬ EndsAnywhere run.ending → ArePaged (line_count terms.levels) run.used
   pub few : length run.used < 2 ^ 64
   pub unspent : terms.page_limit ≡ default_page_limit → (page : ℕ) → run.ending ≢ Spent page
   -- each line of the memory was tagged under the counters that it was encrypted under, in the same order
   pub paired : data_pairs run.made ≡ of_lines (line_count terms.levels) run.used
-  -- each line's place that isn't zeros holds what was encrypted and tagged for it, and the last that was, unless the run
-  -- ended out of memory; a node's place holds zeros
+  -- each line's place that isn't zeros holds what was encrypted and tagged for it, and the last that was, unless the
+  -- run ended out of memory; a node's place holds zeros
   pub sealed : HoldsSealed terms.tag_of (line_count terms.levels) run.made run.used after.written
   pub holds_last : run.ending ≢ NoMemory → HoldsLast terms.tag_of (line_count terms.levels) run.made after.written
   pub nodes : NodesAreZeros terms.levels after.written
