@@ -1,12 +1,11 @@
 -- What a checked read makes of a bus and a tag engine.
-use Rattle.std.proofs.Common.{◌≡◌, ◌≢◌, ℕ, ◌<◌, inl, inr, Bool, true, false, cond, List, [], ◌++◌, length, take, drop, Option, Some, None, Contains, Result, Ok, Err, refl, ap, sym, ◌∙◌, subst, arith, length-append}
+use Rattle.std.proofs.Common.{◌≡◌, ◌≢◌, ℕ, ◌<◌, inl, inr, true, List, ◌++◌, length, take, drop, Option, Some, None, Contains, Result, Ok, Err, refl, ap, sym, ◌∙◌, subst, arith, length-append}
 use Rattle.std.specs.Option.{option_or}
-use Rattle.std.proofs.lemmas.List.{append-nil, take_at, drop_at, take_all}
-use Rattle.sec_base.specs.Count.{more_by, Rose, RoseBy}
+use Rattle.std.proofs.lemmas.List.{take_at, drop_at, take_all}
+use Rattle.sec_base.specs.Count.{Rose}
 use Rattle.sec_base.specs.Geometry.{line_count}
-use Rattle.sec_base.specs.Place.{place_eq, at_place}
 use Rattle.sec_base.specs.Evidence.{sealed_bytes, sealed_of, LineFails}
-use Rattle.sec_base.specs.LastMessage.{last_data, last_pair, data_pairs}
+use Rattle.sec_base.specs.LastMessage.{last_pair, data_pairs}
 use Rattle.sec_base.specs.declared.counter.Counter.{Counter}
 use Rattle.sec_base.specs.declared.evidence.Evidence.{Evidence}
 use Rattle.sec_base.specs.declared.evidence.Evidence.TheVariants.{Forgery}
@@ -17,21 +16,18 @@ use Rattle.sec_base.specs.declared.place.Place.TheVariants.{Line as line_place}
 use Rattle.sec_base.specs.declared.sealed.Sealed.{Sealed}
 use Rattle.sec_base.specs.declared.stop.MemStop.{MemStop}
 use Rattle.sec_base.specs.declared.stop.MemStop.TheVariants.{Tampered, Spent, NoMemory}
-use Rattle.sec_base.proofs.SamePlaces.{place_eq-Decides, at_place-there}
-use Rattle.bus_model.specs.BusHistory.{BusHistory, after_read, after_answer}
+use Rattle.bus_model.specs.BusHistory.{BusHistory, after_answer}
 use Rattle.bus_model.specs.FirstLie.{AccountsForLies, HonestOrCaught, IsOfFirstLie}
-use Rattle.bus_model.proofs.Steps.{true_or_false, answered, read_levels, read_written, read_reads, read_accesses, read_rose}
+use Rattle.bus_model.proofs.Steps.{answered}
 use Rattle.tag_engine.specs.TagEngine.{TagEngineView, forgery_of}
 use Rattle.tag_engine.proofs.Forgeries.{known}
 use Rattle.checked_bus.specs.Checks.{after_line, Passed, Failed, IsCheckedRead}
-use Rattle.checked_bus.specs.Accesses.{AreCounted}
 use Rattle.checked_bus.specs.SealedLine.{sealed_line}
-use Rattle.checked_bus.specs.Steps.{IsAccounted, IsCurrent, Moves, ReadsOnce, SameLine, stop_of}
+use Rattle.checked_bus.specs.Steps.{IsAccounted, IsCurrent, Moves, ReadsOnce, SamePlace, stop_of}
 use Rattle.checked_bus.proofs.LineMessages.{last_made, last_pair-some, some_same}
 use Rattle.checked_bus.proofs.FalseAnswers.{lie_comes, lie_rises, first_lie_stays}
-use Rattle.checked_bus.proofs.Evidences.{shown_is, first_stays}
-use Rattle.checked_bus.proofs.Counting.{read_counted}
-use Rattle.checked_bus.proofs.Steps.{moves_not, counted_not}
+use Rattle.checked_bus.proofs.Evidences.{shown_is, first_stays, by_evidence}
+use Rattle.checked_bus.proofs.PlaceReads.{answer_moves, answer_once, answer_others, answer_accounted, nothing_moves, nothing_once, nothing_others}
 
 -- The 80 bytes of a place
 
@@ -46,28 +42,6 @@ same_tag cipher cipher' tag tag' long long' same =
 same_length : (cipher cipher' tag tag' : List ℕ) → length tag ≡ 16 → length tag' ≡ 16 → length cipher ≡ 64 → cipher ++ tag ≡ cipher' ++ tag' → length cipher' ≡ 64
 same_length cipher cipher' tag tag' tag_long tag_long' long same =
     omega (arith, ap length same, length-append cipher tag, length-append cipher' tag', tag_long, tag_long', long)
-
--- Counts that an answer leaves or raises
-
-risen_by : (same : Bool) (place other : Place) (reads : Place → ℕ) → (same ≡ true → other ≡ place) →
-    RoseBy 0 (reads other) (cond same (more_by 1 (reads place)) (reads other))
-risen_by true place other reads tells = let here : reads other ≡ reads place = ap reads (tells refl) in omega (arith, here)
-risen_by false place other reads tells = omega arith
-
-pub reads_kept : (place other : Place) (bytes : List ℕ) (history : BusHistory) → RoseBy 0 (history.reads other) ((after_read place bytes history).reads other)
-reads_kept place other bytes history =
-    let is : (after_read place bytes history).reads other ≡ at_place place (more_by 1 (history.reads place)) history.reads other =
-    ap (λ (f : Place → ℕ). f other) (read_reads place bytes history) in
-    subst (λ (n : ℕ). RoseBy 0 (history.reads other) n) (sym is)
-    (risen_by (place_eq other place) place other history.reads (place_eq-Decides other place).0)
-
-lies_kept : (place : Place) (bytes : List ℕ) (history : BusHistory) → RoseBy 0 history.lies (after_read place bytes history).lies
-lies_kept place bytes history =
-    elim (true_or_false place bytes history) [
-      | inl truly ↦ let same : (after_read place bytes history).lies ≡ history.lies = ap (λ (t : BusHistory). t.lies) truly.1 in omega (arith, same)
-      | inr falsely ↦
-          let more : (after_read place bytes history).lies ≡ more_by 1 history.lies = ap (λ (t : BusHistory). t.lies) falsely.1 in omega (arith, more)
-    ]
 
 -- What was false
 
@@ -98,110 +72,46 @@ ended_accounted tag_of used made history stop evidence untampered was = record {
 
 module _ {T : Type 0} (tag_of : Message → List ℕ) (line : ℕ) (counter : Counter) (history history' : BusHistory)
     (engine engine' : TagEngineView T) where
-  -- What an answer moves
-
-  answer_moves : (sealed : Sealed) → history' ≡ after_line line sealed history → engine'.levels ≡ engine.levels → engine'.tagger ≡ engine.tagger →
-      engine'.made ≡ engine.made → ((evidence : Evidence) → engine.evidence ≡ Some evidence → engine'.evidence ≡ Some evidence) →
-      Moves history engine history' engine'
-  answer_moves sealed answer levels tagger made evidence = record {
-    bus_levels = ap (λ (t : BusHistory). t.levels) answer ∙ read_levels (line_place line) (sealed_bytes sealed) history;
-    levels = levels;
-    tagger = tagger;
-    more = [];
-    made = made ∙ sym (append-nil engine.made);
-    evidence = evidence;
-    reads = λ place. subst (λ (t : BusHistory). RoseBy 0 (history.reads place) (t.reads place)) (sym answer)
-        (reads_kept (line_place line) place (sealed_bytes sealed) history);
-    accesses =
-        let is : history'.accesses ≡ more_by 1 history.accesses = ap (λ (t : BusHistory). t.accesses) answer ∙ read_accesses (line_place line) (sealed_bytes sealed) history in
-        omega (arith, is);
-    lies = subst (λ (t : BusHistory). RoseBy 0 history.lies t.lies) (sym answer) (lies_kept (line_place line) (sealed_bytes sealed) history);
-  }
-
-  nothing_moves : history' ≡ history → engine' ≡ engine → Moves history engine history' engine'
-  nothing_moves same unchanged =
-      subst (λ (t : BusHistory). Moves history engine t engine') (sym same)
-      (subst (λ (e : TagEngineView T). Moves history engine history e) (sym unchanged) (moves_not history engine))
-
   pub read_moves : (result : Result (List ℕ) MemStop) → IsCheckedRead tag_of line counter history history' engine engine' result →
       Moves history engine history' engine'
   read_moves (Ok cipher) passed =
-      answer_moves passed.sealed passed.answered (ap (λ (e : TagEngineView T). e.levels) passed.checked)
+      answer_moves (line_place line) (sealed_bytes passed.sealed) history history' engine engine' passed.answered (ap (λ (e : TagEngineView T). e.levels) passed.checked)
       (ap (λ (e : TagEngineView T). e.tagger) passed.checked) (ap (λ (e : TagEngineView T). e.made) passed.checked)
       (λ evidence is. ap (λ (e : TagEngineView T). e.evidence) passed.checked
       ∙ first_stays engine.evidence (forgery_of engine.made line counter passed.sealed true) evidence is)
   read_moves (Err (Spent page)) read = absurd read
-  read_moves (Err NoMemory) read = nothing_moves read.0 read.1
+  read_moves (Err NoMemory) read = nothing_moves history history' engine engine' read.0 read.1
   read_moves (Err (Tampered place)) read =
-      answer_moves read.1.sealed read.1.answered (ap (λ (e : TagEngineView T). e.levels) read.1.unchanged)
+      answer_moves (line_place line) (sealed_bytes read.1.sealed) history history' engine engine' read.1.answered (ap (λ (e : TagEngineView T). e.levels) read.1.unchanged)
       (ap (λ (e : TagEngineView T). e.tagger) read.1.unchanged) (ap (λ (e : TagEngineView T). e.made) read.1.unchanged)
       (λ evidence is. ap (λ (e : TagEngineView T). e.evidence) read.1.unchanged ∙ is)
 
   -- It is one read
 
-  answer_once : (sealed : Sealed) (stop : Option MemStop) → history' ≡ after_line line sealed history → engine'.made ≡ engine.made →
-      engine'.room ≡ engine.room → line < line_count history.levels → stop ≢ Some NoMemory → ReadsOnce line history engine history' engine' stop
-  answer_once sealed stop answer made room inside remembered =
-      let accesses : history'.accesses ≡ more_by 1 history.accesses = ap (λ (t : BusHistory). t.accesses) answer ∙ read_accesses (line_place line) (sealed_bytes sealed) history in
-      record {
-        made = made;
-        room = room;
-        written = ap (λ (t : BusHistory). t.written) answer ∙ read_written (line_place line) (sealed_bytes sealed) history;
-        once = inl accesses;
-        counted = read_counted history history' line inside
-            (ap (λ (t : BusHistory). t.levels) answer ∙ read_levels (line_place line) (sealed_bytes sealed) history)
-            (ap (λ (t : BusHistory). t.reads) answer ∙ read_reads (line_place line) (sealed_bytes sealed) history) accesses;
-        rose = λ _. subst (λ (t : BusHistory). Rose (history.reads (line_place line)) (t.reads (line_place line))) (sym answer)
-            (read_rose (line_place line) (sealed_bytes sealed) history);
-        refused = λ none. absurd (remembered none);
-      }
-
   pub read_once : (result : Result (List ℕ) MemStop) → line < line_count history.levels →
-      IsCheckedRead tag_of line counter history history' engine engine' result → ReadsOnce line history engine history' engine' (stop_of result)
+      IsCheckedRead tag_of line counter history history' engine engine' result →
+      ReadsOnce (line_place line) history engine history' engine' (stop_of result)
   read_once (Ok cipher) inside passed =
-      answer_once passed.sealed None passed.answered (ap (λ (e : TagEngineView T). e.made) passed.checked)
-      (ap (λ (e : TagEngineView T). e.room) passed.checked) inside (λ none. cc)
+      answer_once (line_place line) (sealed_bytes passed.sealed) history history' engine engine' None passed.answered
+      (ap (λ (e : TagEngineView T). e.made) passed.checked) (ap (λ (e : TagEngineView T). e.room) passed.checked) inside (λ none. cc)
   read_once (Err (Spent page)) inside read = absurd read
-  read_once (Err NoMemory) inside read = record {
-    made = ap (λ (e : TagEngineView T). e.made) read.1;
-    room = ap (λ (e : TagEngineView T). e.room) read.1;
-    written = ap (λ (t : BusHistory). t.written) read.0;
-    once = inr refl;
-    counted = subst (λ (t : BusHistory). AreCounted history t 0) (sym read.0) (counted_not history);
-    rose = λ remembered. absurd (remembered refl);
-    refused = λ none. (read.0, read.1);
-  }
+  read_once (Err NoMemory) inside read = nothing_once (line_place line) history history' engine engine' read.0 read.1
   read_once (Err (Tampered place)) inside read =
-      answer_once read.1.sealed (Some (Tampered place)) read.1.answered (ap (λ (e : TagEngineView T). e.made) read.1.unchanged)
-      (ap (λ (e : TagEngineView T). e.room) read.1.unchanged) inside (λ none. cc)
+      answer_once (line_place line) (sealed_bytes read.1.sealed) history history' engine engine' (Some (Tampered place)) read.1.answered
+      (ap (λ (e : TagEngineView T). e.made) read.1.unchanged) (ap (λ (e : TagEngineView T). e.room) read.1.unchanged) inside (λ none. cc)
 
-  -- No other line is touched
+  -- No other place is touched
 
-  answer_others : (sealed : Sealed) (other : ℕ) → history' ≡ after_line line sealed history → engine'.made ≡ engine.made → other ≢ line →
-      SameLine other history engine.made history' engine'.made
-  answer_others sealed other answer made differs =
-      let apart : line_place other ≢ line_place line = λ same. differs (cc) in
-      record {
-        written = ap (λ (f : Place → List ℕ). f (line_place other))
-            (ap (λ (t : BusHistory). t.written) answer ∙ read_written (line_place line) (sealed_bytes sealed) history);
-        reads = ap (λ (f : Place → ℕ). f (line_place other))
-            (ap (λ (t : BusHistory). t.reads) answer ∙ read_reads (line_place line) (sealed_bytes sealed) history)
-            ∙ at_place-there (line_place line) (line_place other) (more_by 1 (history.reads (line_place line))) history.reads apart;
-        last = ap (last_data other) made;
-      }
-
-  pub read_others : (result : Result (List ℕ) MemStop) (other : ℕ) → other ≢ line →
-      IsCheckedRead tag_of line counter history history' engine engine' result → SameLine other history engine.made history' engine'.made
+  pub read_others : (result : Result (List ℕ) MemStop) (other : Place) → other ≢ line_place line →
+      IsCheckedRead tag_of line counter history history' engine engine' result → SamePlace other history engine.made history' engine'.made
   read_others (Ok cipher) other differs passed =
-      answer_others passed.sealed other passed.answered (ap (λ (e : TagEngineView T). e.made) passed.checked) differs
+      answer_others (line_place line) (sealed_bytes passed.sealed) history history' engine engine' other passed.answered
+      (ap (λ (e : TagEngineView T). e.made) passed.checked) differs
   read_others (Err (Spent page)) other differs read = absurd read
-  read_others (Err NoMemory) other differs read = record {
-    written = ap (λ (t : BusHistory). t.written (line_place other)) read.0;
-    reads = ap (λ (t : BusHistory). t.reads (line_place other)) read.0;
-    last = ap (λ (e : TagEngineView T). last_data other e.made) read.1;
-  }
+  read_others (Err NoMemory) other differs read = nothing_others other history history' engine engine' read.0 read.1
   read_others (Err (Tampered place)) other differs read =
-      answer_others read.1.sealed other read.1.answered (ap (λ (e : TagEngineView T). e.made) read.1.unchanged) differs
+      answer_others (line_place line) (sealed_bytes read.1.sealed) history history' engine engine' other read.1.answered
+      (ap (λ (e : TagEngineView T). e.made) read.1.unchanged) differs
 
   -- What passed though it was never tagged is answered
   pub read_accepted : (cipher : List ℕ) (at : ℕ) (under : Counter) (sealed : Sealed) (made_count : ℕ) →
@@ -216,6 +126,31 @@ module _ {T : Type 0} (tag_of : Message → List ℕ) (line : ℕ) (counter : Co
       (shown_is engine.made line counter passed.sealed (Forgery at under sealed made_count) is).0 in
       let sealed_is : sealed ≡ passed.sealed = cc in
       (cc, cc, passed.given ∙ ap (λ (s : Sealed). s.cipher) (sym sealed_is))
+
+  -- Where there was no memory
+
+  refused_accounted : (used : List (ℕ × Counter)) → IsCheckedRead tag_of line counter history history' engine engine' (Err NoMemory) →
+      IsAccounted tag_of used engine.made history None engine.evidence →
+      IsAccounted tag_of used engine'.made history' (Some NoMemory) engine'.evidence
+  refused_accounted used read was =
+      subst (λ (t : BusHistory). IsAccounted tag_of used engine'.made t (Some NoMemory) engine'.evidence) (sym read.0)
+      (subst (λ (e : TagEngineView T). IsAccounted tag_of used e.made history (Some NoMemory) e.evidence) (sym read.1)
+      (ended_accounted tag_of used engine.made history NoMemory engine.evidence (λ place is. cc) was))
+
+  -- With evidence from before, under any counter
+
+  after_evidence : (used : List (ℕ × Counter)) (first : Evidence) → engine.evidence ≡ Some first → (result : Result (List ℕ) MemStop) →
+      IsCheckedRead tag_of line counter history history' engine engine' result → IsAccounted tag_of used engine.made history None engine.evidence →
+      IsAccounted tag_of used engine'.made history' (stop_of result) engine'.evidence
+  after_evidence used first before (Ok cipher) passed was =
+      let moves : Moves history engine history' engine' = read_moves (Ok cipher) passed in
+      answer_accounted (line_place line) (sealed_bytes passed.sealed) history history' engine engine' tag_of used None first passed.answered
+      (ap (λ (e : TagEngineView T). e.made) passed.checked) before (moves.evidence first before) was
+  after_evidence used first before (Err (Spent page)) read was = absurd read
+  after_evidence used first before (Err NoMemory) read was = refused_accounted used read was
+  after_evidence used first before (Err (Tampered place)) read was =
+      answer_accounted (line_place line) (sealed_bytes read.1.sealed) history history' engine engine' tag_of used (Some (Tampered place)) first read.1.answered
+      (ap (λ (e : TagEngineView T). e.made) read.1.unchanged) before (ap (λ (e : TagEngineView T). e.evidence) read.1.unchanged ∙ before) was
 
   -- Under a line's last counter
 
@@ -313,6 +248,27 @@ module _ {T : Type 0} (tag_of : Message → List ℕ) (line : ℕ) (counter : Co
           counter = ap (λ (xs : List Message). last_pair line (data_pairs xs)) whole ∙ last_pair-some engine.made line counter current.cipher current.made_last;
         })
 
+    -- evidence comes where an answer was false
+    forged_lied : (sealed : Sealed) (evidence : Evidence) → history' ≡ after_line line sealed history → length sealed.cipher ≡ 64 →
+        sealed.tag ≡ tag_of (Line line counter sealed.cipher) → forgery_of engine.made line counter sealed true ≡ Some evidence →
+        Rose history.lies history'.lies
+    forged_lied sealed evidence answered long tagged shown =
+        let is = shown_is engine.made line counter sealed evidence shown in
+        subst (λ (t : BusHistory). Rose history.lies t.lies) (sym answered)
+        (lie_rises history (line_place line) (sealed_bytes sealed) (forged_differs sealed long tagged is.1))
+
+    pub shown_lied : (result : Result (List ℕ) MemStop) → IsCheckedRead tag_of line counter history history' engine engine' result →
+        engine.evidence ≡ None → engine'.evidence ≢ None → Rose history.lies history'.lies
+    shown_lied (Ok cipher) passed quiet shown =
+        let is : engine'.evidence ≡ forgery_of engine.made line counter passed.sealed true =
+        ap (λ (e : TagEngineView T). e.evidence) passed.checked
+        ∙ ap (λ (o : Option Evidence). option_or o (forgery_of engine.made line counter passed.sealed true)) quiet in
+        by_evidence (forgery_of engine.made line counter passed.sealed true) (λ none. absurd (shown (is ∙ none)))
+        (λ evidence some. forged_lied passed.sealed evidence passed.answered passed.long passed.tagged some)
+    shown_lied (Err (Spent page)) read quiet shown = absurd read
+    shown_lied (Err NoMemory) read quiet shown = absurd (shown (ap (λ (e : TagEngineView T). e.evidence) read.1 ∙ quiet))
+    shown_lied (Err (Tampered place)) read quiet shown = absurd (shown (ap (λ (e : TagEngineView T). e.evidence) read.1.unchanged ∙ quiet))
+
     passed_accounted : (sealed : Sealed) (before : Option Evidence) → length sealed.cipher ≡ 64 → sealed.tag ≡ tag_of (Line line counter sealed.cipher) →
         AccountsForLies tag_of used engine.made history (tampered None) before →
         AccountsForLies tag_of used engine.made (after_line line sealed history) (tampered None)
@@ -349,10 +305,7 @@ module _ {T : Type 0} (tag_of : Message → List ℕ) (line : ℕ) (counter : Co
           genuine = passed.genuine;
         }))
     read_accounted (Err (Spent page)) read was = absurd read
-    read_accounted (Err NoMemory) read was =
-        subst (λ (t : BusHistory). IsAccounted tag_of used engine'.made t (Some NoMemory) engine'.evidence) (sym read.0)
-        (subst (λ (e : TagEngineView T). IsAccounted tag_of used e.made history (Some NoMemory) e.evidence) (sym read.1)
-        (ended_accounted tag_of used engine.made history NoMemory engine.evidence (λ place is. cc) was))
+    read_accounted (Err NoMemory) read was = refused_accounted used read was
     read_accounted (Err (Tampered place)) read was =
         subst (λ (p : Place). IsAccounted tag_of used engine'.made history' (Some (Tampered p)) engine'.evidence) (sym read.0)
         (subst (λ (t : BusHistory). IsAccounted tag_of used engine'.made t (Some (Tampered (line_place line))) engine'.evidence) (sym read.1.answered)
@@ -361,3 +314,13 @@ module _ {T : Type 0} (tag_of : Message → List ℕ) (line : ℕ) (counter : Co
           account = failed_accounted read.1.sealed read.1.long read.1.tag_long read.1.untagged was.account;
           genuine = was.genuine;
         })))
+
+  -- Where the counter is the last unless there is evidence
+
+  pub read_honest : ((cipher : List ℕ) → length (tag_of (Line line counter cipher)) ≡ 16) → (used : List (ℕ × Counter)) →
+      (engine.evidence ≡ None → IsCurrent tag_of used engine.made history.written line counter) → (result : Result (List ℕ) MemStop) →
+      IsCheckedRead tag_of line counter history history' engine engine' result → IsAccounted tag_of used engine.made history None engine.evidence →
+      IsAccounted tag_of used engine'.made history' (stop_of result) engine'.evidence
+  read_honest tag_long used current result read was =
+      by_evidence engine.evidence (λ none. read_accounted tag_long used (current none) result read was)
+      (λ first before. after_evidence used first before result read was)

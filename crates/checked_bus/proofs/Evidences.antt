@@ -1,5 +1,5 @@
 -- What checks show as evidence.
-use Rattle.std.proofs.Common.{◌≡◌, ℕ, Bool, true, false, List, length, Option, Some, None, IfSome, Contains, refl, subst}
+use Rattle.std.proofs.Common.{◌≡◌, ◌≢◌, ◌⊎◌, inl, inr, ℕ, Bool, true, false, List, length, Option, Some, None, IfSome, Contains, refl, subst}
 use Rattle.std.specs.Option.{option_or}
 use Rattle.sec_base.specs.declared.counter.Counter.{Counter}
 use Rattle.sec_base.specs.declared.sealed.Sealed.{Sealed}
@@ -41,3 +41,12 @@ or_none (Some x) second none = absurd (cc)
 pub first_stays : (before : Option Evidence) (shown : Option Evidence) (evidence : Evidence) → before ≡ Some evidence → option_or before shown ≡ Some evidence
 first_stays None shown evidence is = absurd (cc)
 first_stays (Some first) shown evidence is = is
+
+-- by whether there is evidence
+pub by_evidence : {P : Type 0} (o : Option Evidence) → (o ≡ None → P) → ((evidence : Evidence) → o ≡ Some evidence → P) → P
+by_evidence None none some = none refl
+by_evidence (Some evidence) none some = some evidence refl
+
+pub none_or : {P : Type 0} (o : Option Evidence) → (o ≢ None → P) → (o ≡ None) ⊎ P
+none_or None some = inl refl
+none_or (Some evidence) some = inr (some (λ none. absurd (cc)))

@@ -3,5 +3,8 @@ pub mod FalseAnswers
 pub mod Evidences
 pub mod Counting
 pub mod Steps
+pub mod Writes
+pub mod PlaceReads
 pub mod CheckedReads
+pub mod CheckedNodes
 pub mod TaggedWrites

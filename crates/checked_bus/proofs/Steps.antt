@@ -1,18 +1,18 @@
 -- What holds of no call, and of two calls one after the other.
-use Rattle.std.proofs.Common.{◌≡◌, ℕ, ◌+◌, ◌<◌, ◌≤◌, ◌⊎◌, inl, inr, List, [], ◌∷◌, ◌++◌, refl, ap, sym, ◌∙◌, subst, arith, append_assoc}
+use Rattle.std.proofs.Common.{◌≡◌, ℕ, ◌+◌, ◌≤◌, ◌⊎◌, inl, inr, List, [], ◌∷◌, ◌++◌, refl, ap, sym, ◌∙◌, subst, arith, append_assoc}
 use Rattle.std.proofs.lemmas.List.{append-nil}
 use Rattle.sec_base.specs.Count.{top, RoseBy}
-use Rattle.sec_base.specs.Geometry.{line_count}
 use Rattle.sec_base.specs.LastMessage.{data_pairs}
+use Rattle.sec_base.specs.Place.{IsPlace}
 use Rattle.sec_base.specs.declared.counter.Counter.{Counter}
 use Rattle.sec_base.specs.declared.message.Message.{Message}
 use Rattle.sec_base.specs.declared.message.Message.TheVariants.{Line, Node}
 use Rattle.sec_base.specs.declared.place.Place.{Place}
-use Rattle.sec_base.specs.declared.place.Place.TheVariants.{Line as line_place}
+use Rattle.sec_base.specs.declared.place.Place.TheVariants.{Line as line_place, Node as node_place}
 use Rattle.bus_model.specs.BusHistory.{BusHistory}
 use Rattle.tag_engine.specs.TagEngine.{TagEngineView}
-use Rattle.checked_bus.specs.Accesses.{line_reads, HasFullCount, AreCounted}
-use Rattle.checked_bus.specs.Steps.{Moves, SameLine, SameLines}
+use Rattle.checked_bus.specs.Accesses.{all_reads, HasFullCount, AreCounted}
+use Rattle.checked_bus.specs.Steps.{Moves, SameLast, SamePlace, SameLines}
 
 pub moves_not : {T : Type 0} (history : BusHistory) (engine : TagEngineView T) → Moves history engine history engine
 moves_not history engine = record {
@@ -41,16 +41,28 @@ moves_on first second third engine engine' engine'' moves more = record {
   lies = omega (arith, moves.lies, more.lies);
 }
 
-pub same_line_not : (line : ℕ) (history : BusHistory) (made : List Message) → SameLine line history made history made
-same_line_not line history made = record { written = refl; reads = refl; last = refl }
+same_last_not : (place : Place) (made : List Message) → SameLast place made made
+same_last_not (line_place line) made = refl
+same_last_not (node_place level index) made = refl
 
-pub same_line_on : (line : ℕ) (first second third : BusHistory) (made made' made'' : List Message) →
-    SameLine line first made second made' → SameLine line second made' third made'' → SameLine line first made third made''
-same_line_on line first second third made made' made'' same more = record {
+same_last_on : (place : Place) (made made' made'' : List Message) → SameLast place made made' → SameLast place made' made'' → SameLast place made made''
+same_last_on (line_place line) made made' made'' same more = more ∙ same
+same_last_on (node_place level index) made made' made'' same more = more ∙ same
+
+pub same_place_not : (place : Place) (history : BusHistory) (made : List Message) → SamePlace place history made history made
+same_place_not place history made = record { written = refl; reads = refl; last = same_last_not place made }
+
+pub same_place_on : (place : Place) (first second third : BusHistory) (made made' made'' : List Message) →
+    SamePlace place first made second made' → SamePlace place second made' third made'' → SamePlace place first made third made''
+same_place_on place first second third made made' made'' same more = record {
   written = more.written ∙ same.written;
   reads = more.reads ∙ same.reads;
-  last = more.last ∙ same.last;
+  last = same_last_on place made made' made'' same.last more.last;
 }
+
+-- where the messages are the same
+pub same_last : (place : Place) (made made' : List Message) → made' ≡ made → SameLast place made made'
+same_last place made made' same = subst (λ (xs : List Message). SameLast place made xs) (sym same) (same_last_not place made)
 
 -- the lines and counters of messages that follow one another
 pub data_pairs-append : (front more : List Message) → data_pairs (front ++ more) ≡ data_pairs front ++ data_pairs more
@@ -92,23 +104,23 @@ counted_not history = record { most = inl (omega arith); least = inl (omega arit
 still_full : (old new : BusHistory) → new.levels ≡ old.levels → ((place : Place) → RoseBy 0 (old.reads place) (new.reads place)) →
     HasFullCount old → HasFullCount new
 still_full old new levels reads was = record {
-  line = was.line;
-  inside = subst (λ (n : ℕ). was.line < line_count n) (sym levels) was.inside;
-  full = omega (arith, was.full, reads (line_place was.line));
+  place = was.place;
+  inside = subst (λ (n : ℕ). IsPlace n was.place) (sym levels) was.inside;
+  full = omega (arith, was.full, reads was.place);
 }
 
 most_on : (first second third : BusHistory) (writes more_writes : ℕ) → (HasFullCount second → HasFullCount third) →
-    (second.accesses + line_reads first ≤ first.accesses + line_reads second + writes) ⊎ HasFullCount second →
-    (third.accesses + line_reads second ≤ second.accesses + line_reads third + more_writes) ⊎ HasFullCount third →
-    (third.accesses + line_reads first ≤ first.accesses + line_reads third + (writes + more_writes)) ⊎ HasFullCount third
+    (second.accesses + all_reads first ≤ first.accesses + all_reads second + writes) ⊎ HasFullCount second →
+    (third.accesses + all_reads second ≤ second.accesses + all_reads third + more_writes) ⊎ HasFullCount third →
+    (third.accesses + all_reads first ≤ first.accesses + all_reads third + (writes + more_writes)) ⊎ HasFullCount third
 most_on first second third writes more_writes still (inr full) more = inr (still full)
 most_on first second third writes more_writes still (inl most) (inr full) = inr full
 most_on first second third writes more_writes still (inl most) (inl more) = inl (omega (arith, most, more))
 
 least_on : (first second third : BusHistory) (writes more_writes : ℕ) → (top ≤ second.accesses → top ≤ third.accesses) →
-    (first.accesses + line_reads second + writes ≤ second.accesses + line_reads first) ⊎ (top ≤ second.accesses) →
-    (second.accesses + line_reads third + more_writes ≤ third.accesses + line_reads second) ⊎ (top ≤ third.accesses) →
-    (first.accesses + line_reads third + (writes + more_writes) ≤ third.accesses + line_reads first) ⊎ (top ≤ third.accesses)
+    (first.accesses + all_reads second + writes ≤ second.accesses + all_reads first) ⊎ (top ≤ second.accesses) →
+    (second.accesses + all_reads third + more_writes ≤ third.accesses + all_reads second) ⊎ (top ≤ third.accesses) →
+    (first.accesses + all_reads third + (writes + more_writes) ≤ third.accesses + all_reads first) ⊎ (top ≤ third.accesses)
 least_on first second third writes more_writes still (inr full) more = inr (still full)
 least_on first second third writes more_writes still (inl least) (inr full) = inr full
 least_on first second third writes more_writes still (inl least) (inl more) = inl (omega (arith, least, more))

@@ -1,17 +1,17 @@
 -- What a call makes of a bus and a tag engine, seen by the bus's history and by what the engine made and shows.
--- `Moves`, `SameLine` and `SameLines` hold of no call, and of two calls one after the other where they hold of each.
+-- `Moves`, `SamePlace` and `SameLines` hold of no call, and of two calls one after the other where they hold of each.
 use Rattle.std.specs.Prelude.{◌≡◌, ◌≢◌, ◌⊎◌, ℕ, List, [], ◌++◌, Option, Some, None, Contains, IfSome, Result, Ok, Err}
 use Rattle.sec_base.specs.declared.counter.Counter.{Counter}
 use Rattle.sec_base.specs.declared.evidence.Evidence.{Evidence}
 use Rattle.sec_base.specs.declared.message.Message.{Message}
-use Rattle.sec_base.specs.declared.message.Message.TheVariants.{Line}
+use Rattle.sec_base.specs.declared.message.Message.TheVariants.{Line, Node}
 use Rattle.sec_base.specs.declared.place.Place.{Place}
-use Rattle.sec_base.specs.declared.place.Place.TheVariants.{Line as line_place}
+use Rattle.sec_base.specs.declared.place.Place.TheVariants.{Line as line_place, Node as node_place}
 use Rattle.sec_base.specs.declared.stop.MemStop.{MemStop}
-use Rattle.sec_base.specs.declared.stop.MemStop.TheVariants.{Tampered, NoMemory}
+use Rattle.sec_base.specs.declared.stop.MemStop.TheVariants.{Tampered, Spent, NoMemory}
 use Rattle.sec_base.specs.Count.{Rose, RoseBy, more_by}
 use Rattle.sec_base.specs.Evidence.{IsEvidence}
-use Rattle.sec_base.specs.LastMessage.{data_pairs, last_data, last_pair}
+use Rattle.sec_base.specs.LastMessage.{data_pairs, last_data, last_node, last_pair}
 use Rattle.sec_base.specs.Place.{at_place}
 use Rattle.bus_model.specs.BusHistory.{BusHistory}
 use Rattle.bus_model.specs.FirstLie.{AccountsForLies}
@@ -31,11 +31,16 @@ pub record Moves {T : Type 0} (old : BusHistory) (engine : TagEngineView T) (new
   pub accesses : RoseBy 0 old.accesses new.accesses
   pub lies : RoseBy 0 old.lies new.lies
 
--- No call touched the line: its place holds what it held, was not read, and its last message is the same.
-pub record SameLine (line : ℕ) (old : BusHistory) (made : List Message) (new : BusHistory) (made' : List Message) : Type 0 where
-  pub written : new.written (line_place line) ≡ old.written (line_place line)
-  pub reads : new.reads (line_place line) ≡ old.reads (line_place line)
-  pub last : last_data line made' ≡ last_data line made
+-- the last message of a place is the same
+abbrev pub SameLast : Place → List Message → List Message → Type 0
+SameLast (line_place line) made made' = last_data line made' ≡ last_data line made
+SameLast (node_place level index) made made' = last_node level index made' ≡ last_node level index made
+
+-- No call touched the place: it holds what it held, was not read, and its last message is the same.
+pub record SamePlace (place : Place) (old : BusHistory) (made : List Message) (new : BusHistory) (made' : List Message) : Type 0 where
+  pub written : new.written place ≡ old.written place
+  pub reads : new.reads place ≡ old.reads place
+  pub last : SameLast place made made'
 
 -- No call touched any line: the places of lines hold what they held and were not read, and only messages of nodes were made.
 pub record SameLines (old : BusHistory) (made : List Message) (new : BusHistory) (made' : List Message) : Type 0 where
@@ -60,28 +65,42 @@ pub record IsCurrent (tag_of : Message → List ℕ) (used : List (ℕ × Counte
   pub only : (other : List ℕ) → Contains made (Line line counter other) → other ≡ cipher
   pub stored : written (line_place line) ≡ sealed_line tag_of line counter cipher
 
+-- The tag is that of the node's last block, which stands at the node's place.
+pub record IsCurrentNode (tag_of : Message → List ℕ) (made : List Message) (written : Place → List ℕ) (level index : ℕ) (tag : List ℕ) : Type 0 where
+  pub block : List ℕ
+  pub last : last_node level index made ≡ Some block
+  pub tagged : tag ≡ tag_of (Node level index block)
+  pub stored : written (node_place level index) ≡ block
+
 -- why a call stopped, if it did
 abbrev pub stop_of : {A : Type 0} → Result A MemStop → Option MemStop
 stop_of (Ok value) = None
 stop_of (Err stop) = Some stop
 
--- A checked read changes neither the messages nor what was written. It is one read of the line's place, or none where
--- there was no memory for it.
-pub record ReadsOnce {T : Type 0} (line : ℕ) (old : BusHistory) (engine : TagEngineView T) (new : BusHistory)
+-- A checked read changes neither the messages nor what was written. It is one read of the place, or none where there was
+-- no memory for it.
+pub record ReadsOnce {T : Type 0} (place : Place) (old : BusHistory) (engine : TagEngineView T) (new : BusHistory)
     (engine' : TagEngineView T) (stop : Option MemStop) : Type 0 where
   pub made : engine'.made ≡ engine.made
   pub room : engine'.room ≡ engine.room
   pub written : new.written ≡ old.written
   pub once : new.accesses ≡ more_by 1 old.accesses ⊎ (stop ≡ Some NoMemory)
   pub counted : AreCounted old new 0
-  pub rose : stop ≢ Some NoMemory → Rose (old.reads (line_place line)) (new.reads (line_place line))
+  pub rose : stop ≢ Some NoMemory → Rose (old.reads place) (new.reads place)
   pub refused : stop ≡ Some NoMemory → (new ≡ old) × (engine' ≡ engine)
 
--- A write changes what the line's place holds and nothing else of the bus, but that an access is counted.
-pub record WritesOnce (line : ℕ) (bytes : List ℕ) (old new : BusHistory) : Type 0 where
-  pub written : new.written ≡ at_place (line_place line) bytes old.written
+-- A write changes what the place holds and nothing else of the bus, but that an access is counted.
+pub record WritesOnce (place : Place) (bytes : List ℕ) (old new : BusHistory) : Type 0 where
+  pub written : new.written ≡ at_place place bytes old.written
   pub reads : new.reads ≡ old.reads
   pub lies : new.lies ≡ old.lies
   pub lie : new.lie ≡ old.lie
   pub once : new.accesses ≡ more_by 1 old.accesses
   pub counted : AreCounted old new 1
+
+-- how many messages may be made that were not written: the last one, where there was no memory to write it
+abbrev pub unwritten_in : Option MemStop → ℕ
+unwritten_in None = 0
+unwritten_in (Some (Spent page)) = 0
+unwritten_in (Some (Tampered place)) = 0
+unwritten_in (Some NoMemory) = 1

@@ -1,5 +1,5 @@
 // One read and one write of a data line.
-ghost use Rattle.std.specs.Prelude.{◌≡◌, ◌≢◌, ◌<◌, ℕ, List, None, Some, Err, IfOk, OnOk, OnErr, Contains, length};
+ghost use Rattle.std.specs.Prelude.{◌≡◌, ◌≢◌, ◌<◌, ◌⊎◌, ℕ, List, None, Some, Err, IfOk, OnOk, OnErr, Contains, length};
 ghost use Rattle.sec_base.specs.Count.{Rose};
 ghost use Rattle.sec_base.specs.Geometry.{line_count};
 ghost use Rattle.sec_base.specs.Place.{IsPlace};
@@ -14,7 +14,7 @@ ghost use Rattle.bus_model.specs.BusHistory.{after_write};
 ghost use Rattle.tag_engine.specs.TagEngine.{after_make, tags_of};
 ghost use Rattle.checked_bus.specs.Checks.{IsCheckedRead};
 ghost use Rattle.checked_bus.specs.SealedLine.{sealed_line};
-ghost use Rattle.checked_bus.specs.Steps.{IsAccounted, IsCurrent, Moves, ReadsOnce, SameLine, WritesOnce, stop_of};
+ghost use Rattle.checked_bus.specs.Steps.{IsAccounted, IsCurrent, Moves, ReadsOnce, SamePlace, WritesOnce, stop_of};
 
 use bus_model::Bus;
 use sec_base::{Counter, MemStop, NoMemory, Place, Sealed, Tagger};
@@ -36,13 +36,14 @@ pub fn read_line<B: Bus, T: Tagger>(
         (B.history bus.old) (B.history bus.new) tags.old tags.new result }
 
     ensures moves { Moves (B.history bus.old) tags.old (B.history bus.new) tags.new }
-    ensures once { ReadsOnce line (B.history bus.old) tags.old (B.history bus.new) tags.new (stop_of result) }
-    ensures others { (other : ℕ) → other ≢ line →
-        SameLine other (B.history bus.old) tags.old.made (B.history bus.new) tags.new.made }
+    ensures once { ReadsOnce (line_place line) (B.history bus.old) tags.old (B.history bus.new) tags.new (stop_of result) }
+    ensures others { (other : Place) → other ≢ line_place line →
+        SamePlace other (B.history bus.old) tags.old.made (B.history bus.new) tags.new.made }
 
-    // Where the counter is the line's last, a false answer is shown as evidence or taken for tampering.
+    // Where the counter is the line's last, a false answer is shown as evidence or taken for tampering. Where there is
+    // evidence already, under any counter, the first false answer is still the one that it shows.
     ensures honest { (used : List (ℕ × Counter)) →
-        IsCurrent (tags_of T.data_tag_of T.node_tag_of tags.old) used tags.old.made (B.history bus.old).written line counter →
+        (tags.old.evidence ≡ None → IsCurrent (tags_of T.data_tag_of T.node_tag_of tags.old) used tags.old.made (B.history bus.old).written line counter) →
         IsAccounted (tags_of T.data_tag_of T.node_tag_of tags.old) used tags.old.made (B.history bus.old) None tags.old.evidence →
         IsAccounted (tags_of T.data_tag_of T.node_tag_of tags.old) used tags.new.made (B.history bus.new) (stop_of result) tags.new.evidence }
 
@@ -59,6 +60,11 @@ pub fn read_line<B: Bus, T: Tagger>(
     ensures tampered { (place : Place) → result ≡ Err (Tampered place) → (place ≡ line_place line)
         × ((used : List (ℕ × Counter)) → IsCurrent (tags_of T.data_tag_of T.node_tag_of tags.old) used tags.old.made (B.history bus.old).written line counter →
         Rose (B.history bus.old).lies (B.history bus.new).lies) }
+
+    // Evidence comes only where an answer was false.
+    ensures shown { (used : List (ℕ × Counter)) →
+        IsCurrent (tags_of T.data_tag_of T.node_tag_of tags.old) used tags.old.made (B.history bus.old).written line counter →
+        tags.old.evidence ≡ None → (tags.new.evidence ≡ None) ⊎ Rose (B.history bus.old).lies (B.history bus.new).lies }
     ensures unspent { (page : ℕ) → result ≢ Err (Spent page) }
     ensures moved { B.moved bus.old bus.new }
 {
@@ -89,11 +95,11 @@ pub fn write_line<B: Bus, T: Tagger>(
     ensures err { OnErr result (B.history bus.new ≡ B.history bus.old) }
 
     ensures moves { Moves (B.history bus.old) tags.old (B.history bus.new) tags.new }
-    ensures once { OnOk result (WritesOnce line
+    ensures once { OnOk result (WritesOnce (line_place line)
         (sealed_line (tags_of T.data_tag_of T.node_tag_of tags.old) line counter cipher.now)
         (B.history bus.old) (B.history bus.new)) }
-    ensures others { (other : ℕ) → other ≢ line →
-        SameLine other (B.history bus.old) tags.old.made (B.history bus.new) tags.new.made }
+    ensures others { (other : Place) → other ≢ line_place line →
+        SamePlace other (B.history bus.old) tags.old.made (B.history bus.new) tags.new.made }
 
     // No answer was false.
     ensures honest { (used more : List (ℕ × Counter)) →

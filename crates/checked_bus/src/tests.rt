@@ -1,8 +1,9 @@
-// Each public call once with ample memory. A tag is what its tagger says, put together by hand: 0x44, the line and the
-// page's counter, the lowest byte first, the line's own counter, and the first two bytes of the ciphertext.
+// Each public call once with ample memory. A tag is what its tagger says, put together by hand: of a line 0x44, the line
+// and the page's counter, the lowest byte first, the line's own counter, and the first two bytes of the ciphertext; of a
+// node 0x4e, its level, its index, the lowest byte first, and the first ten bytes of its block.
 ghost use Rattle.std.specs.Prelude.{[], ◌∷◌, refl, replicate, slice_index};
 
-use crate::{read_line, write_line};
+use crate::{read_line, read_node, write_line, write_node};
 use bus_model::{Bus, FlipBus, HonestBus};
 use sec_base::{Counter, Evidence, Geometry, MemStop, Place, Sealed, Tagger};
 use std::test::Fail;
@@ -12,7 +13,7 @@ const FIRST: Counter = Counter { page: 1, line: 0 };
 
 const SECOND: Counter = Counter { page: 2, line: 3 };
 
-// Gives the first 16 bytes of a data line's message, and zeros for a node.
+// Gives the first 16 bytes of a message.
 #[derive(Drop)]
 struct FirstBytes;
 
@@ -21,7 +22,9 @@ impl Tagger for FirstBytes {
         ∷ slice_index m 5 ∷ slice_index m 6 ∷ slice_index m 7 ∷ slice_index m 8 ∷ slice_index m 9 ∷ slice_index m 10
         ∷ slice_index m 11 ∷ slice_index m 12 ∷ slice_index m 13 ∷ slice_index m 14 ∷ slice_index m 15 ∷ [] };
 
-    ghost node_tag_of = { λ _ _. replicate 16 0 };
+    ghost node_tag_of = { λ _ m. slice_index m 0 ∷ slice_index m 1 ∷ slice_index m 2 ∷ slice_index m 3 ∷ slice_index m 4
+        ∷ slice_index m 5 ∷ slice_index m 6 ∷ slice_index m 7 ∷ slice_index m 8 ∷ slice_index m 9 ∷ slice_index m 10
+        ∷ slice_index m 11 ∷ slice_index m 12 ∷ slice_index m 13 ∷ slice_index m 14 ∷ slice_index m 15 ∷ [] };
 
     ghost data_tag_long = { λ _ _. refl };
 
@@ -34,8 +37,11 @@ impl Tagger for FirstBytes {
         ]
     }
 
-    fn node_tag(&self, _: &[u8; 70]) -> [u8; 16] {
-        [0; 16]
+    fn node_tag(&self, m: &[u8; 70]) -> [u8; 16] {
+        [
+            m[0], m[1], m[2], m[3], m[4], m[5], m[6], m[7], m[8], m[9], m[10], m[11], m[12], m[13],
+            m[14], m[15],
+        ]
     }
 }
 
@@ -128,5 +134,67 @@ fn a_line_that_was_never_tagged_is_evidence(rt: HostRuntime) -> Result<(), Fail>
         made_count: 0,
     };
     assert_eq!(rt; evidence, Some(forgery));
+    Ok(())
+}
+
+const NODE: Place = Place::Node { level: 1, index: 2 };
+
+#[test]
+fn a_node_is_read_as_it_was_written_last(rt: HostRuntime) -> Result<(), Fail> {
+    let geometry = Geometry::new(2).ok_or("no geometry")?;
+    let mut bus = HonestBus::new(rt.alloc(), geometry)?;
+    let mut tags = TagEngine::new(rt.alloc(), FirstBytes, geometry)?;
+    tags.reserve(3)?;
+    let first = write_node(&mut bus, &mut tags, 1, 2, &[7; 64])?;
+    assert_eq!(rt; first, [0x4e, 1, 2, 0, 0, 0, 7, 7, 7, 7, 7, 7, 7, 7, 7, 7]);
+    assert_eq!(rt; read_node(&mut bus, &mut tags, 1, 2, &first), Ok([7; 64]));
+    let second = write_node(&mut bus, &mut tags, 1, 2, &[8; 64])?;
+    write_node(&mut bus, &mut tags, 1, 3, &[9; 64])?;
+    assert_eq!(rt; read_node(&mut bus, &mut tags, 1, 2, &second), Ok([8; 64]));
+    let stale = Err(MemStop::Tampered(NODE));
+    assert_eq!(rt; read_node(&mut bus, &mut tags, 1, 2, &first), stale);
+    assert_eq!(rt; bus.read_node(1, 2)?, [8; 64]);
+    let (made, evidence) = tags.finish();
+    assert_eq!(rt; made.len(), 3);
+    assert_eq!(rt; evidence, None);
+    Ok(())
+}
+
+#[test]
+fn a_flipped_bit_of_a_node_is_tampering_or_evidence(rt: HostRuntime) -> Result<(), Fail> {
+    let geometry = Geometry::new(2).ok_or("no geometry")?;
+    let tampered = Err(MemStop::Tampered(NODE));
+    let mut sixes = [6; 64];
+    sixes[10] = 7;
+    let rows = [
+        ("the first byte", 0, tampered, None),
+        ("the last that the tag covers", 9, tampered, None),
+        (
+            "the first that it does not",
+            10,
+            Ok(sixes),
+            Some(Evidence::Collision {
+                level: 1,
+                index: 2,
+                made_at: 0,
+                accepted: sixes,
+                tag: [0x4e, 1, 2, 0, 0, 0, 6, 6, 6, 6, 6, 6, 6, 6, 6, 6],
+            }),
+        ),
+    ];
+    for (case, offset, wanted, shown) in rows {
+        let mut bus = FlipBus::new(rt.alloc(), geometry, NODE, 1, offset, 1)?;
+        let mut tags = TagEngine::new(rt.alloc(), FirstBytes, geometry)?;
+        tags.reserve(1)?;
+        let tag = write_node(&mut bus, &mut tags, 1, 2, &[6; 64])?;
+        assert_eq!(rt;
+            read_node(&mut bus, &mut tags, 1, 2, &tag),
+            wanted,
+            "{case}"
+        );
+        assert_eq!(rt; bus.lies(), 1, "{case}");
+        let (_made, evidence) = tags.finish();
+        assert_eq!(rt; evidence, shown, "{case}");
+    }
     Ok(())
 }

@@ -160,8 +160,8 @@ spent_cause asked program input {run = run} runs is =
       no_evidence = low.0;
       page = ending.0;
       ended = ending.1;
-      used_up = runs.always.spent ending.0 ending.1;
-      below = λ default. runs.always.unspent default ending.0 ending.1;
+      used_up = (runs.without_evidence low.0).spent ending.0 ending.1;
+      below = λ default. (runs.without_evidence low.0).unspent default ending.0 ending.1;
     }
 
 pub evidence_cause : (asked : RunAsked) (program : Program) (input : List ℕ) {old new : SinkState} {before told : BusHistory} {run : RunRecord} → RunsProtected (terms_of asked program input) old new before told run → code_of (run_status run) ≡ 7 → EndedWithEvidence asked run told

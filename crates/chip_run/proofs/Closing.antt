@@ -11,7 +11,8 @@ use Rattle.sec_base.specs.declared.stop.MemStop.TheVariants.{Tampered as tampere
 use Rattle.bus_model.specs.BusHistory.{BusHistory}
 use Rattle.bus_model.specs.FirstLie.{AccountsForLies, HonestOrCaught}
 use Rattle.rv32_run.specs.Session.{CarriesEnding, stop_ending}
-use Rattle.page_reencrypt.specs.Stops.{lasting_stop, unwritten}
+use Rattle.checked_bus.specs.Steps.{unwritten_in}
+use Rattle.page_reencrypt.specs.Stops.{lasting_stop}
 use Rattle.chip_run.specs.Run.{EndsAnywhere, unwritten_at}
 
 -- what ends as the stop of its memory
@@ -44,7 +45,7 @@ pub never_wanting : (stopped : Option MemStop) (ending : Ending) → CarriesEndi
 never_wanting None ending carries some is = cc
 never_wanting (Some stop) ending carries some is = some (cc)
 
-pub unwritten_most : (stopped : Option MemStop) (ending : Ending) → CarriesEnding stopped (Some ending) → unwritten stopped ≤ unwritten_at ending
+pub unwritten_most : (stopped : Option MemStop) (ending : Ending) → CarriesEnding stopped (Some ending) → unwritten_in stopped ≤ unwritten_at ending
 unwritten_most None ending carries = omega arith
 unwritten_most (Some (tampered place)) ending carries = omega arith
 unwritten_most (Some (spent page)) ending carries = omega arith

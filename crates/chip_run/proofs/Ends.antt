@@ -1,10 +1,11 @@
 -- The theorem of a run, from what it hands out of its memory and what its session says.
-use Rattle.std.proofs.Common.{◌==◌, ◌≡◌, ◌≢◌, ◌⊎◌, ◌↔◌, inl, inr, ◌^◌, ◌<◌, ◌≤◌, ℕ, Bool, List, Option, Some, None, IfSome, length, refl, ap, subst, arith}
+use Rattle.std.proofs.Common.{◌==◌, ◌≡◌, ◌≢◌, ◌⊎◌, ◌↔◌, inl, inr, ◌^◌, ◌<◌, ◌≤◌, ℕ, Bool, List, Option, Some, None, IfSome, Contains, length, refl, ap, subst, arith}
 use Rattle.std.proofs.lemmas.List.Sums.{count_by-le-length, length-filter}
 use Rattle.sec_base.specs.Count.{Rose, RoseBy}
 use Rattle.sec_base.specs.Evidence.{IsEvidence}
 use Rattle.sec_base.specs.Gain.{Gain}
 use Rattle.sec_base.specs.Geometry.{line_count, page_of}
+use Rattle.sec_base.specs.LastMessage.{data_pairs}
 use Rattle.sec_base.specs.Sink.{SinkState, Gains}
 use Rattle.sec_base.specs.declared.counter.Counter.{Counter}
 use Rattle.sec_base.specs.declared.ending.Ending.{Ending}
@@ -14,6 +15,7 @@ use Rattle.sec_base.specs.declared.message.Message.{Message}
 use Rattle.sec_base.specs.declared.place.Place.{Place}
 use Rattle.sec_base.specs.declared.place.Place.TheVariants.{Line}
 use Rattle.sec_base.specs.declared.stop.MemStop.{MemStop}
+use Rattle.sec_base.specs.declared.stop.MemStop.TheVariants.{NoMemory as no_memory}
 use Rattle.bus_model.specs.BusHistory.{BusHistory}
 use Rattle.bus_model.specs.FirstLie.{AccountsForLies, HonestOrCaught, IsOfFirstLie}
 use Rattle.pad_stream.proofs.RisingCounters.{rising_once}
@@ -24,11 +26,14 @@ use Rattle.rv32_core.specs.Outcome.{prints_of}
 use Rattle.rv32_core.specs.Turnover.{turnover}
 use Rattle.rv32_core.proofs.Plain.{whole_run}
 use Rattle.rv32_run.specs.Session.{CarriesEnding, IsMemoryEnding, IsStop}
+use Rattle.checked_bus.specs.Accesses.{WritesMessages}
 use Rattle.checked_bus.specs.Steps.{IsAccounted}
 use Rattle.pad_stream.specs.PadBlocks.{ShareNoBlock}
-use Rattle.page_reencrypt.specs.Contents.{ArePaged, IsSpent, counter_in}
-use Rattle.page_reencrypt.specs.SealedLines.{IsProtected}
-use Rattle.chip_run.specs.Run.{Terms, EndsAnywhere, WritesItsMessages, default_page_limit, IsWrittenOut, HoldsAlways, HoldsWithoutEvidence, ShowsEvidence, RunsProtected}
+use Rattle.pad_stream.specs.Pads.{of_lines}
+use Rattle.bonsai_tree.specs.Tree.{NodesAreMade, NodesHoldLast}
+use Rattle.page_reencrypt.specs.Contents.{ArePaged, HoldsLast, HoldsSealed, IsSpent, counter_in}
+use Rattle.page_reencrypt.specs.SealedLines.{CountersRise}
+use Rattle.chip_run.specs.Run.{Terms, EndedAtBoot, EndsAnywhere, default_page_limit, unwritten_at, IsWrittenOut, HoldsAlways, HoldsWithoutEvidence, ShowsEvidence, RunsProtected}
 use Rattle.chip_run.specs.declared.record.RunRecord.{RunRecord}
 use Rattle.chip_run.proofs.Closing.{ended_account, never_wanting, not_lasting, stopped_spent}
 
@@ -37,12 +42,19 @@ use Rattle.chip_run.proofs.Closing.{ended_account, never_wanting, not_lasting, s
 pub record OfMemory (terms : Terms) (before after : BusHistory) (run : RunRecord) : Type 0 where
   pub stopped : Option MemStop
   pub carries : CarriesEnding stopped (Some run.ending)
-  pub kept : IsProtected terms.tag_of terms.levels terms.page_limit after run.made run.used stopped
+  pub inside : (line : ℕ) (counter : Counter) → Contains run.used (line, counter) → line < line_count terms.levels
+  pub paired : data_pairs run.made ≡ of_lines (line_count terms.levels) run.used
+  pub sealed : HoldsSealed terms.tag_of (line_count terms.levels) run.made run.used after.written
+  pub nodes : NodesAreMade terms.levels run.made after.written ⊎ EndedAtBoot terms.levels before after run
+  pub holds_last : stopped ≢ Some no_memory → HoldsLast terms.tag_of (line_count terms.levels) run.made after.written
+  pub nodes_hold_last : stopped ≢ Some no_memory → NodesHoldLast terms.levels run.made after.written
+  pub rise : run.evidence ≡ None → CountersRise terms.levels terms.page_limit run.used stopped
   pub few : length run.used < 2 ^ 64
-  pub apart : ShareNoBlock terms.enc_key run.used
+  pub apart : run.evidence ≡ None → ShareNoBlock terms.enc_key run.used
   pub accounted : IsAccounted terms.tag_of run.used run.made after stopped run.evidence
-  pub accesses : WritesItsMessages before after run.made run.ending
+  pub accesses : WritesMessages before after (length run.made) (unwritten_at run.ending) ⊎ EndedAtBoot terms.levels before after run
   pub reads : (place : Place) → RoseBy 0 (before.reads place) (after.reads place)
+  pub levels_are : after.levels ≡ terms.levels
 
 -- What the instructions came to, where a memory held them or stopped before the first one.
 pub record OfSession (terms : Terms) (out out' : SinkState) (printed : List ℕ) (before after : BusHistory) (run : RunRecord) : Type 0 where
@@ -122,11 +134,11 @@ module _ (terms : Terms) (out out' : SinkState) (printed : List ℕ) (before aft
   account : AccountsForLies terms.tag_of run.used run.made after (λ place. run.ending ≡ Tampered place) run.evidence
   account = ended_account terms.tag_of run.used run.made after memory.stopped run.ending run.evidence memory.carries memory.accounted.account
 
-  spent_page : (page : ℕ) → run.ending ≡ Spent page → IsSpent (line_count terms.levels) terms.page_limit run.used page
-  spent_page page is = memory.kept.spent page (stopped_spent memory.stopped run.ending page memory.carries is)
+  spent_page : run.evidence ≡ None → (page : ℕ) → run.ending ≡ Spent page → IsSpent (line_count terms.levels) terms.page_limit run.used page
+  spent_page quiet page is = (memory.rise quiet).spent page (stopped_spent memory.stopped run.ending page memory.carries is)
 
-  paged : ¬ EndsAnywhere run.ending → ArePaged (line_count terms.levels) run.used
-  paged whole = memory.kept.paged (not_lasting memory.stopped run.ending memory.carries whole)
+  paged : run.evidence ≡ None → ¬ EndsAnywhere run.ending → ArePaged (line_count terms.levels) run.used
+  paged quiet whole = (memory.rise quiet).paged (not_lasting memory.stopped run.ending memory.carries whole)
 
   holds_always : HoldsAlways terms out out' before after run
   holds_always = record {
@@ -135,23 +147,16 @@ module _ (terms : Terms) (out out' : SinkState) (printed : List ℕ) (before aft
     early = session.early;
     write_fault = session.write_fault;
     faults = session.faults;
-    no_repeat = rising_once run.used memory.kept.consistent.rising;
-    pads_apart = memory.apart;
-    rising = memory.kept.consistent.rising;
-    inside = memory.kept.consistent.inside;
-    counters = memory.kept.within;
-    spent = spent_page;
-    unskipped = memory.kept.unskipped;
-    paged = paged;
+    inside = memory.inside;
     few = memory.few;
-    unspent = λ default page is. never_spent (line_count terms.levels) terms.page_limit run.used page (paged (spent_whole run.ending page is)) memory.few default (spent_page page is);
-    paired = memory.kept.consistent.paired;
-    sealed = memory.kept.consistent.sealed;
-    holds_last = λ some. memory.kept.holds_last (never_wanting memory.stopped run.ending memory.carries some);
-    nodes = memory.kept.consistent.nodes;
+    paired = memory.paired;
+    sealed = memory.sealed;
+    nodes = memory.nodes;
+    holds_last = λ some. memory.holds_last (never_wanting memory.stopped run.ending memory.carries some);
+    nodes_hold_last = λ some. memory.nodes_hold_last (never_wanting memory.stopped run.ending memory.carries some);
     accesses = memory.accesses;
     reads = memory.reads;
-    levels_are = memory.kept.consistent.bus_levels;
+    levels_are = memory.levels_are;
     whole = λ faultless honest some.
         honest_run terms.start terms.budget run.retired run.ending printed terms.tag_of run.used run.made after run.evidence honest account session.follows
         (λ fault. faultless (session.write_fault fault)) some;
@@ -162,6 +167,15 @@ module _ (terms : Terms) (out out' : SinkState) (printed : List ℕ) (before aft
   without_evidence quiet = record {
     follows = session.follows quiet;
     answers = account.answers quiet;
+    no_repeat = rising_once run.used (memory.rise quiet).rising;
+    pads_apart = memory.apart quiet;
+    rising = (memory.rise quiet).rising;
+    counters = (memory.rise quiet).within;
+    spent = spent_page quiet;
+    unskipped = (memory.rise quiet).unskipped;
+    paged = paged quiet;
+    unspent = λ default page is.
+        never_spent (line_count terms.levels) terms.page_limit run.used page (paged quiet (spent_whole run.ending page is)) memory.few default (spent_page quiet page is);
     written_out = session.written_out quiet;
     out_of_steps = session.out_of_steps quiet;
     prints = session.prints quiet;

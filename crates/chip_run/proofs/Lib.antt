@@ -5,3 +5,4 @@ pub mod Memories
 pub mod Turned
 pub mod Runs
 pub mod Outcomes
+pub mod Replays

@@ -1,5 +1,5 @@
 -- What a run hands out of its memory, from one that was booted to one that is given up.
-use Rattle.std.proofs.Common.{◌≡◌, ◌≢◌, inl, ℕ, ◌+◌, ◌^◌, ◌<◌, ◌≤◌, List, [], ◌++◌, length, length-append, Option, Some, None, IfSome, refl, sym, ap, ◌∙◌, subst, arith}
+use Rattle.std.proofs.Common.{◌≡◌, ◌≢◌, inl, inr, ℕ, ◌+◌, ◌^◌, ◌<◌, ◌≤◌, List, [], ◌++◌, length, length-append, Option, Some, None, IfSome, refl, sym, ap, ◌∙◌, subst, arith}
 use Rattle.sec_base.specs.Count.{RoseBy}
 use Rattle.sec_base.specs.Evidence.{IsEvidence}
 use Rattle.sec_base.specs.Geometry.{line_count}
@@ -10,7 +10,7 @@ use Rattle.sec_base.specs.declared.ending.Ending.TheVariants.{NoMemory}
 use Rattle.sec_base.specs.declared.evidence.Evidence.{Evidence}
 use Rattle.sec_base.specs.declared.message.Message.{Message}
 use Rattle.sec_base.specs.declared.place.Place.{Place}
-use Rattle.sec_base.specs.declared.place.Place.TheVariants.{Line as line_place, Node}
+use Rattle.sec_base.specs.declared.place.Place.TheVariants.{Line as line_place}
 use Rattle.sec_base.specs.declared.stop.MemStop.{MemStop}
 use Rattle.sec_base.specs.declared.stop.MemStop.TheVariants.{Tampered, NoMemory as no_memory}
 use Rattle.bus_model.specs.BusHistory.{BusHistory, NothingWritten}
@@ -19,15 +19,14 @@ use Rattle.tag_engine.specs.TagEngine.{TagEngineView, tags_of}
 use Rattle.pad_stream.proofs.RisingCounters.{rising_nothing}
 use Rattle.rv32_core.specs.Machine.{Machine}
 use Rattle.rv32_run.specs.Session.{CarriesEnding}
-use Rattle.checked_bus.specs.Accesses.{AreCounted}
-use Rattle.checked_bus.specs.Steps.{IsAccounted}
+use Rattle.checked_bus.specs.Accesses.{AreCounted, WritesMessages}
+use Rattle.checked_bus.specs.Steps.{IsAccounted, unwritten_in}
 use Rattle.pad_stream.specs.PadBlocks.{ShareNoBlock}
-use Rattle.page_reencrypt.specs.Consistency.{IsConsistent}
+use Rattle.pad_stream.specs.Pads.{of_lines}
 use Rattle.page_reencrypt.specs.Contents.{AreUnskipped, AreWithin, HoldsSealed, contents_of}
-use Rattle.page_reencrypt.specs.SealedLines.{AccountsForAll, AreNew, AreProtected, IsProtected, IsUnbooted, Moves, SealedLinesView, contents, enc_key, evidence, levels, made, used}
-use Rattle.page_reencrypt.specs.Stops.{unwritten}
+use Rattle.page_reencrypt.specs.SealedLines.{AccountsForAll, AreNew, AreProtected, CountersRise, IsQuiet, IsUnbooted, Moves, SealedLinesView, contents, enc_key, evidence, levels, made, used}
 use Rattle.secure_memory.specs.SecureRam.{IsMoved, SecureRamView}
-use Rattle.chip_run.specs.Run.{Terms, WritesItsMessages}
+use Rattle.chip_run.specs.Run.{Terms, EndedAtBoot, unwritten_at}
 use Rattle.chip_run.specs.declared.record.RunRecord.{RunRecord}
 use Rattle.checked_bus.proofs.Steps.{counted_on}
 use Rattle.page_reencrypt.proofs.Moves.{moves_on}
@@ -69,39 +68,17 @@ nothing_sealed tag_of levels before after as_many empty same = record {
       inl (same line ∙ empty.zeros (line_place line) (subst (λ (l : ℕ). line < line_count l) (sym as_many) inside));
 }
 
-nothing_consistent : (tag_of : Message → List ℕ) (levels : ℕ) (before after : BusHistory) → before.levels ≡ levels → NothingWritten before → IsUnbooted before after →
-    IsConsistent tag_of levels after [] []
+nothing_paired : (lines : ℕ) → data_pairs [] ≡ of_lines lines []
 unfolding data_pairs last_at
-nothing_consistent tag_of levels before after as_many empty unbooted = record {
-  bus_levels = unbooted.booted.levels ∙ as_many;
-  inside = λ line counter listed. absurd (omega (arith, listed.1));
-  rising = rising_nothing;
-  paired = refl;
-  long = λ line counter cipher listed. absurd (omega (arith, listed.1));
-  sealed = nothing_sealed tag_of levels before after as_many empty unbooted.booted.lines;
-  nodes = record {
-    zeros = λ level index inside. unbooted.nodes level index ∙ empty.zeros (Node level index) (rw as_many inside);
-  };
-  no_nodes = λ level index. refl;
-}
+nothing_paired lines = refl
 
-unbooted_kept : (tag_of : Message → List ℕ) (levels limit : ℕ) (before after : BusHistory) → before.levels ≡ levels → NothingWritten before → IsUnbooted before after →
-    IsProtected tag_of levels limit after [] [] (Some no_memory)
-unbooted_kept tag_of levels limit before after as_many empty unbooted = record {
-  consistent = nothing_consistent tag_of levels before after as_many empty unbooted;
+nothing_risen : (levels limit : ℕ) → CountersRise levels limit [] (Some no_memory)
+nothing_risen levels limit = record {
+  rising = rising_nothing;
   within = nothing_within limit;
   unskipped = nothing_unskipped (line_count levels);
-  holds_last = λ some. absurd (some refl);
   paged = λ going. absurd (cc);
   spent = λ page is. absurd (cc);
-}
-
-unbooted_accesses : (before after : BusHistory) → IsUnbooted before after → WritesItsMessages before after [] NoMemory
-unbooted_accesses before after unbooted = record {
-  writes = 0;
-  counted = unbooted.counted;
-  at_most = omega arith;
-  at_least = omega arith;
 }
 
 -- a run's record by its fields
@@ -109,38 +86,49 @@ abbrev run_of : ℕ → Ending → Option Evidence → List Message → List (�
 run_of retired ending evidence made used report =
     record { retired = retired; ending = ending; evidence = evidence; made = made; used = used; report = report }
 
-pub unbooted_memory : (terms : Terms) (before after : BusHistory) (run : RunRecord) → before.levels ≡ terms.levels → before.lies ≡ 0 → NothingWritten before → IsUnbooted before after →
-    run.ending ≡ NoMemory → run.made ≡ [] → run.used ≡ [] → run.evidence ≡ None → OfMemory terms before after run
-unbooted_memory terms before after run as_many honest empty unbooted ended none_made none_used none =
+pub unbooted_memory : (terms : Terms) (before after : BusHistory) (run : RunRecord) → before.levels ≡ terms.levels → before.lies ≡ 0 → NothingWritten before → IsUnbooted terms.levels before after →
+    run.retired ≡ 0 → run.ending ≡ NoMemory → run.made ≡ [] → run.used ≡ [] → run.evidence ≡ None → OfMemory terms before after run
+unbooted_memory terms before after run as_many honest empty booting none_retired ended none_made none_used none =
     let same : run_of run.retired NoMemory None [] [] run.report ≡ run =
     ap (λ (ending : Ending). run_of run.retired ending None [] [] run.report) (sym ended)
     ∙ ap (λ (evidence : Option Evidence). run_of run.retired run.ending evidence [] [] run.report) (sym none)
     ∙ ap (λ (made : List Message). run_of run.retired run.ending run.evidence made [] run.report) (sym none_made)
     ∙ ap (λ (used : List (ℕ × Counter)). run_of run.retired run.ending run.evidence run.made used run.report) (sym none_used) in
+    let nothing : EndedAtBoot terms.levels before after (run_of run.retired NoMemory None [] [] run.report) =
+    record { ended = refl; none_retired = none_retired; unmade = refl; unused = refl; booting = booting } in
     subst (λ (r : RunRecord). OfMemory terms before after r) same (record {
       stopped = Some no_memory;
       carries = refl;
-      kept = unbooted_kept terms.tag_of terms.levels terms.page_limit before after as_many empty unbooted;
+      inside = λ line counter listed. absurd (omega (arith, listed.1));
+      paired = nothing_paired (line_count terms.levels);
+      sealed = nothing_sealed terms.tag_of terms.levels before after as_many empty booting.wrote.lines;
+      nodes = inr nothing;
+      holds_last = λ some. absurd (some refl);
+      nodes_hold_last = λ some. absurd (some refl);
+      rise = λ quiet. nothing_risen terms.levels terms.page_limit;
       few = omega arith;
-      apart = record { apart = λ first second line other counter later block another here there low high same. absurd (cc) };
-      accounted = begins_accounted terms.tag_of [] [] after (Some no_memory) None (unbooted.booted.lies ∙ honest) refl (λ place is. cc);
-      accesses = unbooted_accesses before after unbooted;
-      reads = λ place. let same : after.reads place ≡ before.reads place = ap (λ (reads : Place → ℕ). reads place) unbooted.booted.reads in omega (arith, same);
+      apart = λ quiet. record { apart = λ first second line other counter later block another here there low high same. absurd (cc) };
+      accounted = begins_accounted terms.tag_of [] [] after (Some no_memory) None (booting.wrote.lies ∙ honest) refl (λ place is. cc);
+      accesses = inr nothing;
+      reads = λ place. let same : after.reads place ≡ before.reads place = ap (λ (reads : Place → ℕ). reads place) booting.wrote.reads in omega (arith, same);
+      levels_are = booting.wrote.levels ∙ as_many;
     })
 
 -- A run that had a memory
 
--- each access was a read of a line, or wrote a message of its own
-all_counted : (before begun after : BusHistory) (made made' more : List Message) (writes : ℕ) (stopped : Option MemStop) (ending : Ending) →
+-- each access was a read, or wrote a message of its own
+all_counted : (before begun after : BusHistory) (made made' more : List Message) (stopped : Option MemStop) (ending : Ending) →
     after.levels ≡ begun.levels → ((place : Place) → RoseBy 0 (begun.reads place) (after.reads place)) → RoseBy 0 begun.accesses after.accesses →
-    AreCounted before begun (length made) → AreCounted begun after writes → made' ≡ made ++ more → writes ≤ length more → length more ≤ writes + unwritten stopped →
-    CarriesEnding stopped (Some ending) → WritesItsMessages before after made' ending
-all_counted before begun after made made' more writes stopped ending levels reads accesses booted counted adds most least carries =
+    AreCounted before begun (length made) → WritesMessages begun after (length more) (unwritten_in stopped) → made' ≡ made ++ more →
+    CarriesEnding stopped (Some ending) → WritesMessages before after (length made') (unwritten_at ending)
+all_counted before begun after made made' more stopped ending levels reads accesses booted messages adds carries =
     let as_long : length made' ≡ length made + length more = ap length adds ∙ length-append made more in
     let wanting = unwritten_most stopped ending carries in
+    let most = messages.at_most in
+    let least = messages.at_least in
     record {
-      writes = length made + writes;
-      counted = counted_on before begun after (length made) writes levels reads accesses booted counted;
+      writes = length made + messages.writes;
+      counted = counted_on before begun after (length made) messages.writes levels reads accesses booted messages.counted;
       at_most = omega (arith, as_long, most);
       at_least = omega (arith, as_long, least, wanting);
     }
@@ -151,7 +139,7 @@ in_words lines bus tagger depth key limit made evidence used = record {
   bus = bus;
   engine = record { tagger = tagger; levels = depth; made = made; evidence = evidence; room = lines.engine.room };
   pads = record { key = key; used = used; room = lines.pads.room };
-  blocks = lines.blocks;
+  counters = lines.counters;
   limit = limit;
   stopped = lines.stopped;
 }
@@ -170,20 +158,20 @@ same_lines {B} {T} lines bus tagger depth key limit made' evidence' used' bus_is
     ∙ ap (λ (xs : List (ℕ × Counter)). in_words lines bus tagger depth key limit made' evidence' xs) (sym used_is)
 
 module _ {B T : Type 0} (d n : T → List ℕ → List ℕ) (history : B → BusHistory) (bus_moved : B → B → Type 0) (bus : B) (tagger : T) (key : List ℕ) (depth limit : ℕ)
-    (booted lines : SealedLinesView B T) (new : AreNew history bus_moved bus tagger key depth limit booted) (moves : Moves history bus_moved (tags_of d n) booted lines) where
+    (booted lines : SealedLinesView B T) (new : AreNew history bus_moved (tags_of d n) bus tagger key depth limit booted) (moves : Moves history bus_moved (tags_of d n) booted lines) where
   new_accounted : (history bus).lies ≡ 0 → AccountsForAll (tags_of d n) history booted
   new_accounted honest =
       begins_accounted (tags_of d n booted.engine) (used booted) (made booted) (history booted.bus) booted.stopped (evidence booted)
-      (new.booted.lies ∙ honest) new.quiet (λ place is. let going = new.going in cc)
+      (new.wrote.lies ∙ honest) new.quiet (λ place is. let going = new.going in cc)
 
   pub run_reads : (place : Place) → RoseBy 0 ((history bus).reads place) ((history lines.bus).reads place)
   run_reads place =
-      let same : (history booted.bus).reads place ≡ (history bus).reads place = ap (λ (reads : Place → ℕ). reads place) new.booted.reads in
+      let same : (history booted.bus).reads place ≡ (history bus).reads place = ap (λ (reads : Place → ℕ). reads place) new.wrote.reads in
       omega (arith, same, moves.step.reads place)
 
   pub run_memory : (start : Machine) (budget : ℕ) (closed : B) (run : RunRecord) → (history bus).lies ≡ 0 → AreProtected d n history lines →
       run.made ≡ made lines → run.used ≡ used lines → length run.used < 2 ^ 64 →
-      ShareNoBlock (enc_key lines) run.used → run.evidence ≡ evidence lines → closed ≡ lines.bus → CarriesEnding lines.stopped (Some run.ending) →
+      (IsQuiet lines → ShareNoBlock (enc_key lines) run.used) → run.evidence ≡ evidence lines → closed ≡ lines.bus → CarriesEnding lines.stopped (Some run.ending) →
       OfMemory (record { start = start; budget = budget; levels = depth; page_limit = limit; tag_of = engine_tag (d tagger) (n tagger) depth; enc_key = key })
       (history bus) (history closed) run
   run_memory start budget closed run honest kept made_is used_is few apart evidence_is bus_is carries =
@@ -191,17 +179,25 @@ module _ {B T : Type 0} (d n : T → List ℕ → List ℕ) (history : B → Bus
       let same : lines ≡ words =
       same_lines lines closed tagger depth key limit run.made run.evidence run.used bus_is (moves.step.tagger ∙ new.tagger_is) (moves.step.levels ∙ new.depth_is)
       (moves.key ∙ new.key_is) (moves.limit ∙ new.limit_is) made_is evidence_is used_is in
+      let protected : AreProtected d n history words = subst (λ (m : SealedLinesView B T). AreProtected d n history m) same kept in
       record {
         stopped = lines.stopped;
         carries = carries;
-        kept = subst (λ (m : SealedLinesView B T). AreProtected d n history m) same kept;
+        inside = protected.always.consistent.inside;
+        paired = protected.always.consistent.paired;
+        sealed = protected.always.consistent.sealed;
+        nodes = inl protected.always.consistent.nodes;
+        holds_last = protected.always.holds_last;
+        nodes_hold_last = protected.always.nodes_hold_last;
+        rise = protected.rise;
         few = few;
-        apart = subst (λ (k : List ℕ). ShareNoBlock k run.used) (moves.key ∙ new.key_is) apart;
+        apart = λ quiet. subst (λ (k : List ℕ). ShareNoBlock k run.used) (moves.key ∙ new.key_is) (apart (sym evidence_is ∙ quiet));
         accounted = subst (λ (m : SealedLinesView B T). AccountsForAll (tags_of d n) history m) same (moves.accounted (new_accounted honest));
-        accesses = subst (λ (b : B). WritesItsMessages (history bus) (history b) run.made run.ending) (sym bus_is)
-            (all_counted (history bus) (history booted.bus) (history lines.bus) (made booted) run.made moves.step.more moves.writes lines.stopped run.ending
-            moves.step.bus_levels moves.step.reads moves.step.accesses new.counted moves.counted (made_is ∙ moves.step.made) moves.at_most moves.at_least carries);
+        accesses = inl (subst (λ (b : B). WritesMessages (history bus) (history b) (length run.made) (unwritten_at run.ending)) (sym bus_is)
+            (all_counted (history bus) (history booted.bus) (history lines.bus) (made booted) run.made moves.step.more lines.stopped run.ending
+            moves.step.bus_levels moves.step.reads moves.step.accesses new.counted moves.accesses (made_is ∙ moves.step.made) carries));
         reads = λ place. subst (λ (b : B). RoseBy 0 ((history bus).reads place) ((history b).reads place)) (sym bus_is) (run_reads place);
+        levels_are = protected.always.consistent.bus_levels;
       }
 
   -- all its bytes, in the words of the run

@@ -1,5 +1,5 @@
 -- What a run on protected memory comes to.
-use Rattle.std.specs.Prelude.{◌≡◌, ◌≢◌, ◌+◌, ◌-◌, ◌^◌, ◌<◌, ◌≤◌, ◌↔◌, ◌⊎◌, ℕ, List, None, IfSome, length, Contains}
+use Rattle.std.specs.Prelude.{◌≡◌, ◌≢◌, ◌+◌, ◌-◌, ◌^◌, ◌<◌, ◌≤◌, ◌↔◌, ◌⊎◌, ℕ, List, [], None, IfSome, length, Contains}
 use Rattle.sec_base.specs.declared.counter.Counter.{Counter}
 use Rattle.sec_base.specs.declared.ending.Ending.{Ending}
 use Rattle.sec_base.specs.declared.ending.Ending.TheVariants.{Halted, Trapped, OutOfSteps, Tampered, Spent, WriteFault, NoMemory}
@@ -24,8 +24,10 @@ use Rattle.rv32_core.specs.Machine.{Machine, plain}
 use Rattle.rv32_core.specs.Outcome.{prints_of}
 use Rattle.rv32_core.specs.Turnover.{turnover}
 use Rattle.rv32_run.specs.Session.{IsMemoryEnding, IsStop}
-use Rattle.checked_bus.specs.Accesses.{AreCounted}
-use Rattle.page_reencrypt.specs.Contents.{ArePaged, AreUnskipped, AreWithin, HoldsLast, HoldsSealed, IsSpent, NodesAreZeros, line_bytes}
+use Rattle.checked_bus.specs.Accesses.{WritesMessages}
+use Rattle.bonsai_tree.specs.Tree.{NodesAreMade, NodesHoldLast}
+use Rattle.page_reencrypt.specs.Contents.{ArePaged, AreUnskipped, AreWithin, HoldsLast, HoldsSealed, IsSpent, line_bytes}
+use Rattle.page_reencrypt.specs.SealedLines.{IsUnbooted}
 use Rattle.chip_run.specs.declared.record.RunRecord.{RunRecord}
 
 -- What a run is of: the plain machine as the program begins on its input, how many instructions may be retired, the
@@ -67,13 +69,14 @@ EndsAnywhere ending = ((place : Place) × (ending ≡ Tampered place)) ⊎ (endi
 abbrev pub default_page_limit : ℕ
 default_page_limit = 2 ^ 64 - 1
 
--- There were as many accesses as reads of lines and messages, but for one message where the run ended out of memory; as
--- far as counts that stand still at their ends can tell.
-pub record WritesItsMessages (before after : BusHistory) (made : List Message) (ending : Ending) : Type 0 where
-  pub writes : ℕ
-  pub counted : AreCounted before after writes
-  pub at_most : writes ≤ length made
-  pub at_least : length made ≤ writes + unwritten_at ending
+-- It found no memory to boot, retired nothing and lists nothing. Nodes may stand on its bus, each with a message that was
+-- made for it; no place was read, no line's place was written, and no answer was false.
+pub record EndedAtBoot (levels : ℕ) (before after : BusHistory) (run : RunRecord) : Type 0 where
+  pub ended : run.ending ≡ NoMemory
+  pub none_retired : run.retired ≡ 0
+  pub unmade : run.made ≡ []
+  pub unused : run.used ≡ []
+  pub booting : IsUnbooted levels before after
 
 -- Whatever the bus answered.
 pub record HoldsAlways (terms : Terms) (out out' : SinkState) (before after : BusHistory) (run : RunRecord) : Type 0 where
@@ -85,31 +88,20 @@ pub record HoldsAlways (terms : Terms) (out out' : SinkState) (before after : Bu
   -- a write fault is one of the sink
   pub write_fault : run.ending ≡ WriteFault → Rose out.faults out'.faults
   pub faults : out.faults ≤ out'.faults
-  -- no two entries of `used` are equal, and no two of their pads share an AES block: each is of a line of the memory,
-  -- and each line's counters rise, begin behind that of a line that was never written, and keep to the limit; a page is
-  -- spent only where one of its lines has the last counter that the limit allows
-  pub no_repeat : NoRepeat run.used
-  pub pads_apart : ShareNoBlock terms.enc_key run.used
-  pub rising : AreRising run.used
+  -- each entry of `used` is of a line of the memory, and each line was tagged under the counters that it was encrypted
+  -- under, in the same order
   pub inside : (line : ℕ) (counter : Counter) → Contains run.used (line, counter) → line < line_count terms.levels
-  pub counters : AreWithin terms.page_limit run.used
-  pub spent : (page : ℕ) → run.ending ≡ Spent page → IsSpent (line_count terms.levels) terms.page_limit run.used page
-  -- a line whose page counter is M was itself encrypted M times at least; the lines of a page have one page counter,
-  -- and where it is M they were encrypted 64 M times at least, unless the run ended in the middle of an overflow; so
-  -- under the default limit no page is ever spent
-  pub unskipped : AreUnskipped (line_count terms.levels) run.used
-  pub paged : ¬ EndsAnywhere run.ending → ArePaged (line_count terms.levels) run.used
   pub few : length run.used < 2 ^ 64
-  pub unspent : terms.page_limit ≡ default_page_limit → (page : ℕ) → run.ending ≢ Spent page
-  -- each line of the memory was tagged under the counters that it was encrypted under, in the same order
   pub paired : data_pairs run.made ≡ of_lines (line_count terms.levels) run.used
-  -- each line's place that isn't zeros holds what was encrypted and tagged for it, and the last that was, unless the
-  -- run ended out of memory; a node's place holds zeros
+  -- each line's place that isn't zeros holds what was encrypted and tagged for it, each node's place that isn't zeros a
+  -- block that was made for it, and the last that was, unless the run ended out of memory
   pub sealed : HoldsSealed terms.tag_of (line_count terms.levels) run.made run.used after.written
+  pub nodes : NodesAreMade terms.levels run.made after.written ⊎ EndedAtBoot terms.levels before after run
   pub holds_last : run.ending ≢ NoMemory → HoldsLast terms.tag_of (line_count terms.levels) run.made after.written
-  pub nodes : NodesAreZeros terms.levels after.written
-  -- the accesses are told by the lists and by the counts of reads, no count of reads fell, and the bus fits the memory
-  pub accesses : WritesItsMessages before after run.made run.ending
+  pub nodes_hold_last : run.ending ≢ NoMemory → NodesHoldLast terms.levels run.made after.written
+  -- there were as many accesses as reads and messages, but for one message where the run ended out of memory, as far as
+  -- counts that stand still at their ends can tell; no count of reads fell, and the bus fits the memory
+  pub accesses : WritesMessages before after (length run.made) (unwritten_at run.ending) ⊎ EndedAtBoot terms.levels before after run
   pub reads : (place : Place) → RoseBy 0 (before.reads place) (after.reads place)
   pub levels_are : after.levels ≡ terms.levels
   -- where no answer was false and the sink had no fault, it is the plain machine's run over the whole budget, or a page
@@ -119,13 +111,27 @@ pub record HoldsAlways (terms : Terms) (out out' : SinkState) (before after : Bu
   -- nothing is signed yet
   pub report : run.report ≡ None
 
--- Where there is no evidence.
+-- Where there is no evidence. What rests on counters stands here, since they come from outside.
 pub record HoldsWithoutEvidence (terms : Terms) (printed : List ℕ) (before after : BusHistory) (run : RunRecord) : Type 0 where
   -- the retired instructions and the printed bytes are a prefix of the plain machine's
   pub follows : Follows terms.start terms.budget run.retired run.ending printed
   -- no answer of the bus was false, and the run did not end as tampering; or one was, fails its check, was the last
   -- access, and the run ended as tampering of its place
   pub answers : HonestOrCaught terms.tag_of run.used run.made after (λ place. run.ending ≡ Tampered place)
+  -- no two entries of `used` are equal, and no two of their pads share an AES block: each line's counters rise, begin
+  -- behind that of a line that was never written, and keep to the limit; a page is spent only where one of its lines has
+  -- the last counter that the limit allows
+  pub no_repeat : NoRepeat run.used
+  pub pads_apart : ShareNoBlock terms.enc_key run.used
+  pub rising : AreRising run.used
+  pub counters : AreWithin terms.page_limit run.used
+  pub spent : (page : ℕ) → run.ending ≡ Spent page → IsSpent (line_count terms.levels) terms.page_limit run.used page
+  -- a line whose page counter is M was itself encrypted M times at least; the lines of a page have one page counter,
+  -- and where it is M they were encrypted 64 M times at least, unless the run ended in the middle of an overflow; so
+  -- under the default limit no page is ever spent
+  pub unskipped : AreUnskipped (line_count terms.levels) run.used
+  pub paged : ¬ EndsAnywhere run.ending → ArePaged (line_count terms.levels) run.used
+  pub unspent : terms.page_limit ≡ default_page_limit → (page : ℕ) → run.ending ≢ Spent page
   -- where the memory did not end it, the last messages are the plain machine's memory
   pub written_out : ¬ IsMemoryEnding run.ending →
       IsWrittenOut terms.enc_key (line_count terms.levels) run.made (plain terms.start run.retired).state.memory
@@ -145,7 +151,7 @@ pub record ShowsEvidence (terms : Terms) (after : BusHistory) (run : RunRecord) 
 
 -- The theorem. A run on protected memory printed some bytes to the sink; without evidence it follows the plain machine,
 -- each false answer of the bus ended it as tampering at that access, and no pad encrypted two lines; or else it hands
--- out evidence.
+-- out evidence: a message that passed a check though it was never tagged, or two unequal blocks of one node with one tag.
 pub record RunsProtected (terms : Terms) (out out' : SinkState) (before after : BusHistory) (run : RunRecord) : Type 0 where
   pub printed : List ℕ
   pub gained : Gains out printed out'

@@ -1,12 +1,18 @@
 // Programs of a few words, with data in two further segments. The words were put together by hand from the
 // RISC-V unprivileged manual.
-ghost use Rattle.std.specs.Prelude.{◌≡◌, ◌+◌, ◌≤◌, IfOk, length, refl, replicate};
+ghost use Rattle.std.specs.Prelude.{◌≡◌, ◌+◌, ◌<◌, ◌≤◌, IfOk, length, refl, replicate};
 ghost use Rattle.sec_base.specs.Image.{IsImage};
+ghost use Rattle.sec_base.specs.Place.{place_size};
 ghost use Rattle.sec_base.specs.Segment.{IsSegment};
+
+mod refusing_bus;
+mod replay_bus;
 
 use crate::{RunRecord, Setup, run};
 use bus_model::{Bus, FlipBus, HonestBus};
 use hmac_tag::{HmacTagger, Keys, derive};
+use refusing_bus::RefusingBus;
+use replay_bus::ReplayBus;
 use sec_base::{
     Bytes, Counter, Ending, Evidence, Geometry, Image, MemorySink, Message, Place, Sealed, Segment,
     Segments, Tagger,
@@ -278,6 +284,8 @@ impl Tagger for Zeros {
     ghost node_tag_long = { λ _ _. refl };
 }
 
+const LINE_64: Place = Place::Line(64);
+
 // Stores 65 at 0x1000, which is line 64, loads it, and exits with it.
 const EXIT_65: [u32; 6] = [
     0x0000_12b7,
@@ -390,15 +398,17 @@ fn honest(
     Ok((record, sealed.cipher))
 }
 
-// A program of a few words, where the `k`-th read of line 64 is answered with its lowest bit flipped, and how many
-// answers were false.
+// A program of a few words, where the lowest bit of the `k`-th answer of a place is flipped, and how many answers were
+// false.
 fn flipped<T: Tagger>(
     alloc: Global,
     words: &[u32],
+    place: Place,
     k: u64,
     tagger: T,
 ) -> Result<(RunRecord, u64), Fail>
-    requires { length words.now ≤ 16 }
+    requires words { length words.now ≤ 16 }
+    requires place { 0 < place_size place }
 {
     let geometry = Geometry::new(1).ok_or("no geometry")?;
     let image = Image {
@@ -407,7 +417,7 @@ fn flipped<T: Tagger>(
         segments: flat(alloc, words)?,
     };
     let setup = setup(geometry, 2000, u64::MAX);
-    let bus = FlipBus::new(alloc, geometry, Place::Line(64), k, 0, 1)?;
+    let bus = FlipBus::new(alloc, geometry, place, k, 0, 1)?;
     let mut out = MemorySink::new(alloc, &[])?;
     let (record, bus) = run(alloc, &image, &[], &setup, tagger, bus, &mut out);
     Ok((record, bus.lies()))
@@ -428,7 +438,8 @@ fn a_program_prints_over_an_honest_bus(rt: HostRuntime) -> Result<(), Fail> {
     Ok(())
 }
 
-// Six words of the program are stored in line 0, and then 65 in line 64.
+// The five nodes of the tree are tagged first. Then six words of the program are stored in line 0 and 65 in line 64: each
+// store tags the page's counters, the node above them and the line.
 #[test]
 fn each_write_is_tagged(rt: HostRuntime) -> Result<(), Fail> {
     let mut out = MemorySink::new(rt.alloc(), &[])?;
@@ -437,20 +448,36 @@ fn each_write_is_tagged(rt: HostRuntime) -> Result<(), Fail> {
     assert_eq!(rt; done.retired, 6);
     assert_eq!(rt; done.evidence, None);
     assert_eq!(rt; done.report, None);
-    assert_eq!(rt; done.made.len(), 7);
+    assert_eq!(rt; done.made.len(), 5 + 7 * 3);
+    for at in 0..5u8 {
+        let Some(Message::Node { level, index, .. }) = done.made.get(u64::from(at)) else {
+            return Err(Fail::from("no message of a node"));
+        };
+        let wanted = if at < 4 { (0, u32::from(at)) } else { (1, 0) };
+        assert_eq!(rt; (level, index), wanted, "message {at}");
+    }
     for at in 0..6u8 {
-        let Some(Message::Line { line, counter, .. }) = done.made.get(u64::from(at)) else {
+        let first = 5 + 3 * u64::from(at);
+        let Some(Message::Node { level, index, .. }) = done.made.get(first) else {
+            return Err(Fail::from("no message of a page"));
+        };
+        assert_eq!(rt; (level, index), (0, 0), "message {first}");
+        let Some(Message::Node { level, index, .. }) = done.made.get(first + 1) else {
+            return Err(Fail::from("no message of the top node"));
+        };
+        assert_eq!(rt; (level, index), (1, 0), "behind message {first}");
+        let Some(Message::Line { line, counter, .. }) = done.made.get(first + 2) else {
             return Err(Fail::from("no message of a line"));
         };
-        assert_eq!(rt; line, 0, "message {at}");
-        assert_eq!(rt; counter, written(at + 1), "message {at}");
+        assert_eq!(rt; line, 0, "two behind message {first}");
+        assert_eq!(rt; counter, written(at + 1), "two behind message {first}");
     }
     let last = Message::Line {
         line: 64,
         counter: written(1),
         cipher: CIPHER_65,
     };
-    assert_eq!(rt; done.made.get(6), Some(last));
+    assert_eq!(rt; done.made.get(25), Some(last));
     Ok(())
 }
 
@@ -489,8 +516,8 @@ fn equal_bytes_are_enciphered_anew_by_each_write(rt: HostRuntime) -> Result<(), 
 
 #[test]
 fn a_false_answer_that_fails_its_check_ends_the_run(rt: HostRuntime) -> Result<(), Fail> {
-    let (done, lies) = flipped(rt.alloc(), &EXIT_65, 1, HmacTagger::new(&keys()))?;
-    assert_eq!(rt; done.ending, Ending::Tampered(Place::Line(64)));
+    let (done, lies) = flipped(rt.alloc(), &EXIT_65, LINE_64, 1, HmacTagger::new(&keys()))?;
+    assert_eq!(rt; done.ending, Ending::Tampered(LINE_64));
     assert_eq!(rt; done.retired, 3);
     assert_eq!(rt; done.evidence, None);
     assert_eq!(rt; lies, 1);
@@ -502,8 +529,8 @@ fn a_false_answer_that_fails_its_check_ends_the_run(rt: HostRuntime) -> Result<(
 fn a_line_is_read_by_each_access(rt: HostRuntime) -> Result<(), Fail> {
     for (k, retired) in [(1, 3), (2, 4)] {
         let tagger = HmacTagger::new(&keys());
-        let (done, lies) = flipped(rt.alloc(), &EXIT_65_AGAIN, k, tagger)?;
-        assert_eq!(rt; done.ending, Ending::Tampered(Place::Line(64)), "read {k}");
+        let (done, lies) = flipped(rt.alloc(), &EXIT_65_AGAIN, LINE_64, k, tagger)?;
+        assert_eq!(rt; done.ending, Ending::Tampered(LINE_64), "read {k}");
         assert_eq!(rt; done.retired, retired, "read {k}");
         assert_eq!(rt; lies, 1, "read {k}");
     }
@@ -519,8 +546,8 @@ fn lines_past_what_a_chip_may_hold_are_read_again(rt: HostRuntime) -> Result<(),
     assert_eq!(rt; done.retired, 1183);
     for (k, retired) in [(1, 396), (2, 789)] {
         let tagger = HmacTagger::new(&keys());
-        let (done, lies) = flipped(rt.alloc(), &OVER_130_LINES, k, tagger)?;
-        assert_eq!(rt; done.ending, Ending::Tampered(Place::Line(64)), "read {k}");
+        let (done, lies) = flipped(rt.alloc(), &OVER_130_LINES, LINE_64, k, tagger)?;
+        assert_eq!(rt; done.ending, Ending::Tampered(LINE_64), "read {k}");
         assert_eq!(rt; done.retired, retired, "read {k}");
         assert_eq!(rt; lies, 1, "read {k}");
     }
@@ -529,7 +556,7 @@ fn lines_past_what_a_chip_may_hold_are_read_again(rt: HostRuntime) -> Result<(),
 
 #[test]
 fn a_false_answer_that_passes_its_check_is_shown(rt: HostRuntime) -> Result<(), Fail> {
-    let (done, lies) = flipped(rt.alloc(), &EXIT_65, 1, Zeros)?;
+    let (done, lies) = flipped(rt.alloc(), &EXIT_65, LINE_64, 1, Zeros)?;
     assert_eq!(rt; done.ending, Ending::Halted(64));
     assert_eq!(rt; done.retired, 6);
     let mut cipher = CIPHER_65;
@@ -541,7 +568,7 @@ fn a_false_answer_that_passes_its_check_is_shown(rt: HostRuntime) -> Result<(), 
             cipher,
             tag: [0; 16],
         },
-        made_count: 7,
+        made_count: 5 + 7 * 3,
     };
     assert_eq!(rt; done.evidence, Some(shown));
     assert_eq!(rt; lies, 1);
@@ -561,22 +588,163 @@ const COUNT_DOWN: [u32; 8] = [
 ];
 
 // Line 0 is written eight times before the first instruction. The 128th store encrypts the page of line 64, and 72 more
-// follow; or it is refused, and 127 stores are done.
+// follow; or it is refused, and 127 stores are done. Each store that is done tags two nodes.
 #[test]
 fn a_line_is_written_as_often_as_the_limit_allows(rt: HostRuntime) -> Result<(), Fail> {
     let rows = [
-        (0, 384, Ending::Spent(1), 8 + 127),
-        (1, 605, Ending::Halted(0), 8 + 127 + 64 + 72),
-        (u64::MAX, 605, Ending::Halted(0), 8 + 127 + 64 + 72),
+        (0, 384, Ending::Spent(1), 8 + 127, 8 + 127),
+        (1, 605, Ending::Halted(0), 8 + 127 + 64 + 72, 8 + 200),
+        (u64::MAX, 605, Ending::Halted(0), 8 + 127 + 64 + 72, 8 + 200),
     ];
-    for (page_limit, retired, ending, entries) in rows {
+    for (page_limit, retired, ending, entries, stores) in rows {
         let mut out = MemorySink::new(rt.alloc(), &[])?;
         let (done, _) = honest(rt.alloc(), &COUNT_DOWN, page_limit, &mut out)?;
         assert_eq!(rt; done.ending, ending, "limit {page_limit}");
         assert_eq!(rt; done.retired, retired, "limit {page_limit}");
         assert_eq!(rt; done.used.len(), entries, "limit {page_limit}");
-        assert_eq!(rt; done.made.len(), entries, "limit {page_limit}");
+        let messages = 5 + 2 * stores + entries;
+        assert_eq!(rt; done.made.len(), messages, "limit {page_limit}");
         assert_eq!(rt; done.evidence, None, "limit {page_limit}");
+    }
+    Ok(())
+}
+
+// Boot makes five accesses, and the sixth reads the top node.
+#[test]
+fn a_node_that_fails_its_check_ends_the_run(rt: HostRuntime) -> Result<(), Fail> {
+    let top = Place::Node { level: 1, index: 0 };
+    let (done, lies) = flipped(rt.alloc(), &EXIT_7, top, 1, HmacTagger::new(&keys()))?;
+    assert_eq!(rt; done.ending, Ending::Tampered(top));
+    assert_eq!(rt; done.retired, 0);
+    assert_eq!(rt; done.evidence, None);
+    assert_eq!(rt; lies, 1);
+    assert_eq!(rt; done.made.len(), 5);
+    assert_eq!(rt; done.used.len(), 0);
+    Ok(())
+}
+
+// Each of the three stores of the program reads the top node four times, and each instruction once.
+#[test]
+fn each_read_of_the_top_node_is_checked(rt: HostRuntime) -> Result<(), Fail> {
+    let top = Place::Node { level: 1, index: 0 };
+    for k in 1..16u64 {
+        let tagger = HmacTagger::new(&keys());
+        let (done, lies) = flipped(rt.alloc(), &EXIT_7, top, k, tagger)?;
+        assert_eq!(rt; done.ending, Ending::Tampered(top), "read {k}");
+        assert_eq!(rt; done.retired, k.saturating_sub(13), "read {k}");
+        assert_eq!(rt; lies, 1, "read {k}");
+    }
+    let (done, lies) = flipped(rt.alloc(), &EXIT_7, top, 16, HmacTagger::new(&keys()))?;
+    assert_eq!(rt; done.ending, Ending::Halted(7));
+    assert_eq!(rt; lies, 0);
+    Ok(())
+}
+
+// Line 0 is read by the second store on, line 64 by the load, and the nodes of the pages that are used.
+#[test]
+fn each_place_is_checked_or_never_read(rt: HostRuntime) -> Result<(), Fail> {
+    let rows = [
+        (Place::Node { level: 1, index: 0 }, Some(0)),
+        (Place::Node { level: 0, index: 0 }, Some(0)),
+        (Place::Node { level: 0, index: 1 }, Some(2)),
+        (Place::Node { level: 0, index: 2 }, None),
+        (Place::Node { level: 0, index: 3 }, None),
+        (Place::Line(0), Some(0)),
+        (Place::Line(1), None),
+        (Place::Line(63), None),
+        (Place::Line(64), Some(3)),
+        (Place::Line(255), None),
+    ];
+    for (place, failed) in rows {
+        let tagger = HmacTagger::new(&keys());
+        let (done, lies) = flipped(rt.alloc(), &EXIT_65, place, 1, tagger)?;
+        let (ending, retired, false_answers) = match failed {
+            Some(retired) => (Ending::Tampered(place), retired, 1),
+            None => (Ending::Halted(65), 6, 0),
+        };
+        assert_eq!(rt; done.ending, ending, "{place}");
+        assert_eq!(rt; done.retired, retired, "{place}");
+        assert_eq!(rt; lies, false_answers, "{place}");
+        assert_eq!(rt; done.evidence, None, "{place}");
+    }
+    Ok(())
+}
+
+// After the second store the line as the first one left it fails its check; so do its counters, if they are replayed too,
+// and so does the top node, if all is.
+#[test]
+fn what_stood_there_before_fails_its_check(rt: HostRuntime) -> Result<(), Fail> {
+    let geometry = Geometry::new(1).ok_or("no geometry")?;
+    let rows = [
+        (0, LINE_64),
+        (1, Place::Node { level: 0, index: 1 }),
+        (2, Place::Node { level: 1, index: 0 }),
+    ];
+    for (below, place) in rows {
+        let image = Image {
+            entry: 0,
+            size: 16384,
+            segments: flat(rt.alloc(), &EXIT_65_AGAIN)?,
+        };
+        let setup = setup(geometry, 2000, u64::MAX);
+        let tagger = HmacTagger::new(&setup.keys);
+        let bus = ReplayBus::new(rt.alloc(), geometry, below)?;
+        let mut out = MemorySink::new(rt.alloc(), &[])?;
+        let (done, bus) = run(rt.alloc(), &image, &[], &setup, tagger, bus, &mut out);
+        assert_eq!(rt; done.ending, Ending::Tampered(place), "below {below}");
+        assert_eq!(rt; done.retired, 4, "below {below}");
+        assert_eq!(rt; done.evidence, None, "below {below}");
+        assert_eq!(rt; bus.lies(), 1, "below {below}");
+    }
+    Ok(())
+}
+
+// With the flipped bit the page counter reads 1. Both blocks have the tag, so the false one is used.
+#[test]
+fn two_blocks_with_one_tag_are_shown(rt: HostRuntime) -> Result<(), Fail> {
+    let counters = Place::Node { level: 0, index: 1 };
+    let (done, lies) = flipped(rt.alloc(), &EXIT_65, counters, 1, Zeros)?;
+    let mut accepted = [0; 64];
+    accepted[0] = 1;
+    let shown = Evidence::Collision {
+        level: 0,
+        index: 1,
+        made_at: 1,
+        accepted,
+        tag: [0; 16],
+    };
+    assert_eq!(rt; done.evidence, Some(shown));
+    assert_eq!(rt; done.ending, Ending::Halted(65));
+    assert_eq!(rt; done.retired, 6);
+    assert_eq!(rt; lies, 1);
+    Ok(())
+}
+
+// Boot makes 5 accesses, the three stores 10, 11 and 11, and the three instructions 3 each.
+#[test]
+fn a_run_ends_where_the_bus_is_out_of_memory(rt: HostRuntime) -> Result<(), Fail> {
+    let geometry = Geometry::new(1).ok_or("no geometry")?;
+    for refused in 1..48u64 {
+        let image = Image {
+            entry: 0,
+            size: 16384,
+            segments: flat(rt.alloc(), &EXIT_7)?,
+        };
+        let setup = setup(geometry, 2000, u64::MAX);
+        let tagger = HmacTagger::new(&setup.keys);
+        let bus = RefusingBus::new(rt.alloc(), geometry, refused)?;
+        let mut out = MemorySink::new(rt.alloc(), &[])?;
+        let (done, _bus) = run(rt.alloc(), &image, &[], &setup, tagger, bus, &mut out);
+        let ending = if refused < 47 {
+            Ending::NoMemory
+        } else {
+            Ending::Halted(7)
+        };
+        assert_eq!(rt; done.ending, ending, "access {refused}");
+        let retired = (refused - 1).saturating_sub(37) / 3;
+        assert_eq!(rt; done.retired, retired, "access {refused}");
+        assert_eq!(rt; done.evidence, None, "access {refused}");
+        assert_eq!(rt; done.made.is_empty(), refused < 6, "access {refused}");
     }
     Ok(())
 }

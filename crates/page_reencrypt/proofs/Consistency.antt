@@ -9,7 +9,7 @@ use Rattle.sec_base.specs.declared.message.Message.TheVariants.{Line}
 use Rattle.sec_base.specs.declared.place.Place.{Place}
 use Rattle.sec_base.specs.declared.place.Place.TheVariants.{Line as line_place, Node}
 use Rattle.sec_base.specs.Geometry.{line_count}
-use Rattle.sec_base.specs.LastMessage.{counter_part, data_pairs, last_data, last_pair, node_part}
+use Rattle.sec_base.specs.LastMessage.{counter_part, data_pairs, last_data, last_pair}
 use Rattle.sec_base.specs.Place.{at_place, zeros_of}
 use Rattle.sec_base.proofs.LastMessages.{last_of_same, last_of_other}
 use Rattle.sec_base.proofs.SamePlaces.{at_place-here, at_place-there, false_from}
@@ -17,11 +17,13 @@ use Rattle.bus_model.specs.BusHistory.{BusHistory}
 use Rattle.checked_bus.proofs.LineMessages.{last_data-same, last_data-other, some_same}
 use Rattle.checked_bus.proofs.Steps.{data_pairs-append}
 use Rattle.checked_bus.specs.SealedLine.{sealed_line}
-use Rattle.pad_stream.specs.Pads.{IsBefore, of_lines}
+use Rattle.pad_stream.specs.Pads.{AreRising, IsBefore, of_lines}
 use Rattle.pad_stream.proofs.RisingCounters.{rising_more}
 use Rattle.page_reencrypt.specs.Consistency.{IsConsistent}
-use Rattle.page_reencrypt.specs.Contents.{HoldsLast, HoldsSealed, IsSealed, NodesAreZeros, counter_in, never_written}
+use Rattle.bonsai_tree.specs.Tree.{NodesAreMade}
+use Rattle.page_reencrypt.specs.Contents.{HoldsLast, HoldsSealed, IsSealed, counter_in, never_written}
 use Rattle.page_reencrypt.specs.Outside.{HasCounter}
+use Rattle.page_reencrypt.proofs.Nodes.{node_there, nodes_more}
 use Rattle.page_reencrypt.proofs.RisingPairs.{before_next}
 
 -- One entry more
@@ -76,11 +78,17 @@ holds_more tag_of lines made more used more_used written was = record {
       ];
 }
 
--- A line was encrypted and tagged under a counter that comes behind its own
+-- The counters of a line rise on by one that comes behind its own.
+pub risen_more : (used : List (ℕ × Counter)) (line : ℕ) (old counter : Counter) → AreRising used → HasCounter used line old → IsBefore old counter →
+    AreRising (used ++ (line, counter) ∷ [])
+risen_more used line old counter rising had later =
+    rising_more used line counter rising (λ before listed. before_next used line old counter before rising had later listed)
+
+-- A line was encrypted and tagged under a counter
 
 module _ (tag_of : Message → List ℕ) (levels : ℕ) (history : BusHistory) (made : List Message) (used : List (ℕ × Counter))
-    (line : ℕ) (old counter : Counter) (cipher : List ℕ) (kept : IsConsistent tag_of levels history made used)
-    (inside : line < line_count levels) (had : HasCounter used line old) (later : IsBefore old counter) (long : length cipher ≡ 64) where
+    (line : ℕ) (counter : Counter) (cipher : List ℕ) (kept : IsConsistent tag_of levels history made used)
+    (inside : line < line_count levels) (long : length cipher ≡ 64) where
   abbrev made_now : List Message
   made_now = made ++ Line line counter cipher ∷ []
 
@@ -126,12 +134,10 @@ module _ (tag_of : Message → List ℕ) (levels : ℕ) (history : BusHistory) (
         ];
   }
 
-  nodes_after : NodesAreZeros levels (at_place (line_place line) line_now history.written)
-  nodes_after = record {
-    zeros = λ level index within.
-        let apart : Node level index ≢ line_place line = λ e. absurd (cc) in
-        at_place-there (line_place line) (Node level index) line_now history.written apart ∙ kept.nodes.zeros level index within;
-  }
+  nodes_after : NodesAreMade levels made_now (at_place (line_place line) line_now history.written)
+  nodes_after =
+      nodes_more levels made (Line line counter cipher ∷ []) history.written (at_place (line_place line) line_now history.written) kept.nodes
+      (node_there line line_now history.written)
 
   -- what was tagged last stands outside
   pub written_last : HoldsLast tag_of (line_count levels) made history.written → HoldsLast tag_of (line_count levels) made_now (at_place (line_place line) line_now history.written)
@@ -155,10 +161,9 @@ module _ (tag_of : Message → List ℕ) (levels : ℕ) (history : BusHistory) (
   }
 
   consistent_at : (history' : BusHistory) → history'.levels ≡ history.levels → HoldsSealed tag_of (line_count levels) made_now used_now history'.written →
-      NodesAreZeros levels history'.written → IsConsistent tag_of levels history' made_now used_now
+      NodesAreMade levels made_now history'.written → IsConsistent tag_of levels history' made_now used_now
   consistent_at history' same sealed nodes = record {
     bus_levels = same ∙ kept.bus_levels;
-    rising = rising_more used line counter kept.rising (λ before listed. before_next used line old counter before kept.rising had later listed);
     inside = now_inside;
     paired = paired_more (line_count levels) made used line counter cipher kept.paired inside;
     long = λ other found bytes listed.
@@ -168,7 +173,6 @@ module _ (tag_of : Message → List ℕ) (levels : ℕ) (history : BusHistory) (
         ];
     sealed = sealed;
     nodes = nodes;
-    no_nodes = λ level index. last_of_other (node_part level index) made (Line line counter cipher) refl ∙ kept.no_nodes level index;
   }
 
   -- it was written with its tag
@@ -177,7 +181,7 @@ module _ (tag_of : Message → List ℕ) (levels : ℕ) (history : BusHistory) (
   written_consistent history' same wrote =
       consistent_at history' same
       (subst (HoldsSealed tag_of (line_count levels) made_now used_now) (sym wrote) sealed_after)
-      (subst (NodesAreZeros levels) (sym wrote) nodes_after)
+      (subst (NodesAreMade levels made_now) (sym wrote) nodes_after)
 
   -- there was no memory to write it
   pub unwritten_consistent : (history' : BusHistory) → history'.levels ≡ history.levels → history'.written ≡ history.written →
@@ -185,4 +189,4 @@ module _ (tag_of : Message → List ℕ) (levels : ℕ) (history : BusHistory) (
   unwritten_consistent history' same unwritten =
       consistent_at history' same
       (subst (HoldsSealed tag_of (line_count levels) made_now used_now) (sym unwritten) sealed_before)
-      (subst (NodesAreZeros levels) (sym unwritten) kept.nodes)
+      (nodes_more levels made (Line line counter cipher ∷ []) history.written history'.written kept.nodes (λ level index. ap (λ (w : Place → List ℕ). w (Node level index)) unwritten))

@@ -8,8 +8,9 @@ use Rattle.sec_base.specs.declared.stop.MemStop.TheVariants.{Tampered, Spent, No
 use Rattle.bus_model.specs.BusHistory.{BusHistory}
 use Rattle.tag_engine.specs.TagEngine.{TagEngineView}
 use Rattle.checked_bus.specs.Steps.{Moves as StepMoves}
+use Rattle.checked_bus.specs.Steps.{unwritten_in}
 use Rattle.page_reencrypt.specs.SealedLines.{SealedLinesView, Moves, made, used}
-use Rattle.page_reencrypt.specs.Stops.{lasting_stop, unwritten}
+use Rattle.page_reencrypt.specs.Stops.{lasting_stop}
 use Rattle.checked_bus.proofs.Steps.{moves_not as step_not, moves_on as step_on, counted_not, counted_on}
 
 -- how many items were added
@@ -27,10 +28,12 @@ moves_not history bus_moved tags bus_unmoved lines =
       limit = refl;
       entries = [];
       used_more = sym (append-nil (used lines));
-      writes = 0;
-      counted = counted_not (history lines.bus);
-      at_most = omega arith;
-      at_least = omega (arith, added (made lines) step.more (made lines) step.made);
+      accesses = record {
+        writes = 0;
+        counted = counted_not (history lines.bus);
+        at_most = omega arith;
+        at_least = omega (arith, added (made lines) step.more (made lines) step.made);
+      };
       idle = λ stop is. refl;
       accounted = λ account. account;
     }
@@ -39,17 +42,17 @@ moves_not history bus_moved tags bus_unmoved lines =
 all_written : {B T : Type 0} (first second third : SealedLinesView B T) (early late : ℕ) (writes more_writes : ℕ) →
     length (made second) ≡ length (made first) + early → length (made third) ≡ length (made second) + late →
     ((stop : MemStop) → lasting_stop second.stopped ≡ Some stop → third ≡ second) →
-    early ≤ writes + unwritten second.stopped → late ≤ more_writes + unwritten third.stopped →
-    (stopped : Option MemStop) → second.stopped ≡ stopped → early + late ≤ writes + more_writes + unwritten third.stopped
+    early ≤ writes + unwritten_in second.stopped → late ≤ more_writes + unwritten_in third.stopped →
+    (stopped : Option MemStop) → second.stopped ≡ stopped → early + late ≤ writes + more_writes + unwritten_in third.stopped
 all_written first second third early late writes more_writes made_early made_late idle most_early most_late None is =
-    let none : unwritten second.stopped ≡ 0 = ap unwritten is in omega (arith, none, most_early, most_late)
+    let none : unwritten_in second.stopped ≡ 0 = ap unwritten_in is in omega (arith, none, most_early, most_late)
 all_written first second third early late writes more_writes made_early made_late idle most_early most_late (Some (Spent page)) is =
-    let none : unwritten second.stopped ≡ 0 = ap unwritten is in omega (arith, none, most_early, most_late)
+    let none : unwritten_in second.stopped ≡ 0 = ap unwritten_in is in omega (arith, none, most_early, most_late)
 all_written first second third early late writes more_writes made_early made_late idle most_early most_late (Some (Tampered place)) is =
-    let none : unwritten second.stopped ≡ 0 = ap unwritten is in omega (arith, none, most_early, most_late)
+    let none : unwritten_in second.stopped ≡ 0 = ap unwritten_in is in omega (arith, none, most_early, most_late)
 all_written {B} {T} first second third early late writes more_writes made_early made_late idle most_early most_late (Some NoMemory) is =
     let same : third ≡ second = idle NoMemory (ap lasting_stop is) in
-    let still : unwritten third.stopped ≡ unwritten second.stopped = ap (λ (lines : SealedLinesView B T). unwritten lines.stopped) same in
+    let still : unwritten_in third.stopped ≡ unwritten_in second.stopped = ap (λ (lines : SealedLinesView B T). unwritten_in lines.stopped) same in
     let as_many : length (made third) ≡ length (made second) = ap (λ (lines : SealedLinesView B T). length (made lines)) same in
     omega (arith, still, as_many, made_late, most_early)
 
@@ -70,13 +73,16 @@ moves_on {B} {T} history bus_moved tags bus_moved_on first second third a b =
       limit = b.limit ∙ a.limit;
       entries = a.entries ++ b.entries;
       used_more = b.used_more ∙ ap (λ (entries : List (ℕ × Counter)). entries ++ b.entries) a.used_more ∙ append_assoc (used first) a.entries b.entries;
-      writes = a.writes + b.writes;
-      counted = counted_on (history first.bus) (history second.bus) (history third.bus) a.writes b.writes
-          b.step.bus_levels b.step.reads b.step.accesses a.counted b.counted;
-      at_most = omega (arith, early, late, all, a.at_most, b.at_most);
-      at_least =
-          let within = all_written first second third (length a.step.more) (length b.step.more) a.writes b.writes early late b.idle a.at_least b.at_least second.stopped refl in
-          omega (arith, early, late, all, within);
+      accesses = record {
+        writes = a.accesses.writes + b.accesses.writes;
+        counted = counted_on (history first.bus) (history second.bus) (history third.bus) a.accesses.writes b.accesses.writes
+            b.step.bus_levels b.step.reads b.step.accesses a.accesses.counted b.accesses.counted;
+        at_most = omega (arith, early, late, all, a.accesses.at_most, b.accesses.at_most);
+        at_least =
+            let within = all_written first second third (length a.step.more) (length b.step.more) a.accesses.writes b.accesses.writes early late b.idle
+            a.accesses.at_least b.accesses.at_least second.stopped refl in
+            omega (arith, early, late, all, within);
+      };
       idle = λ stop is.
           let same : second ≡ first = a.idle stop is in
           b.idle stop (ap (λ (lines : SealedLinesView B T). lasting_stop lines.stopped) same ∙ is) ∙ same;

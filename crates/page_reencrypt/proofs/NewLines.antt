@@ -1,95 +1,138 @@
 -- A memory of which no line was written.
-use Rattle.std.proofs.Common.{◌≡◌, ℕ, ◌<◌, inl, List, [], replicate, get_or, slice_index, None, refl, ap, sym, ◌∙◌, subst, arith}
-use Rattle.std.proofs.lemmas.List.{get_or-replicate, length-replicate}
-use Rattle.sec_base.specs.Geometry.{line_count}
+use Rattle.std.proofs.Common.{◌≡◌, ℕ, ◌<◌, inl, List, [], slice_index, None, refl, ap, sym, ◌∙◌, subst, arith}
+use Rattle.std.proofs.lemmas.List.{get_or-replicate}
+use Rattle.sec_base.specs.Geometry.{IsNode, line_count, page_count}
 use Rattle.sec_base.specs.LastMessage.{last_at, data_pairs}
-use Rattle.sec_base.specs.Place.{IsPlace}
 use Rattle.sec_base.specs.declared.counter.Counter.{Counter}
-use Rattle.sec_base.specs.declared.place.Place.TheVariants.{Line as line_place, Node}
+use Rattle.sec_base.specs.declared.message.Message.{Message}
+use Rattle.sec_base.specs.declared.place.Place.TheVariants.{Line as line_place, Node as node_place}
 use Rattle.bus_model.specs.BusHistory.{BusHistory, NothingWritten}
 use Rattle.tag_engine.specs.TagEngine.{TagEngineView, new_engine, tags_of}
 use Rattle.pad_stream.specs.PadEngine.{PadEngineView, new_pads}
-use Rattle.split_counter.specs.CounterBlock.{CounterBlockView, counter_of, new_block, place_of}
-use Rattle.page_reencrypt.specs.SealedLines.{AreCurrent, AreNew, IsBooted, IsProtected}
+use Rattle.checked_bus.specs.Steps.{Moves as StepMoves, SameLines}
 use Rattle.checked_bus.proofs.Steps.{counted_not}
+use Rattle.split_counter.specs.CounterBlock.{CounterBlockView, counter_of, new_block, place_of}
+use Rattle.bonsai_tree.specs.Tree.{HoldsTree, IsTree, NodesAreMade, NodesHoldLast}
+use Rattle.counter_cache.specs.Counters.{CountersView, counters_in}
+use Rattle.page_reencrypt.specs.Consistency.{IsConsistent}
+use Rattle.page_reencrypt.specs.Contents.{HoldsLast}
+use Rattle.page_reencrypt.specs.SealedLines.{AreProtected, CountersRise, IsOfPage, IsUnbooted, SealedLinesView}
+use Rattle.page_reencrypt.proofs.Kept.{protected_after}
+use Rattle.page_reencrypt.proofs.NodeSteps.{lines_last, nodes_consistent}
+use Rattle.page_reencrypt.proofs.Unmade.{same_tags}
 
--- What boot leaves of a bus that it did not touch
-booted_not : (history : BusHistory) → IsBooted history history
-booted_not history = record {
-  levels = refl;
-  lies = refl;
-  lie = refl;
-  reads = refl;
-  lines = λ line. refl;
-  accesses = omega arith;
-}
-
-pub are_new : {B T : Type 0} (history : B → BusHistory) (bus_moved : B → B → Type 0) (bus : B) (tagger : T) (key : List ℕ) (levels limit : ℕ)
-    (engine : TagEngineView T) (pads : PadEngineView) (blocks : List CounterBlockView) → bus_moved bus bus → engine ≡ new_engine tagger levels → pads ≡ new_pads key →
-    AreNew history bus_moved bus tagger key levels limit
-    (record { bus = bus; engine = engine; pads = pads; blocks = blocks; limit = limit; stopped = None })
+no_pairs : data_pairs [] ≡ []
 unfolding data_pairs
-are_new {B} {T} history bus_moved bus tagger key levels limit engine pads blocks unmoved untagged unused =
-    subst (λ (e : TagEngineView T). AreNew history bus_moved bus tagger key levels limit (record { bus = bus; engine = e; pads = pads; blocks = blocks; limit = limit; stopped = None }))
-    (sym untagged)
-    (subst (λ (p : PadEngineView). AreNew history bus_moved bus tagger key levels limit (record { bus = bus; engine = new_engine tagger levels; pads = p; blocks = blocks; limit = limit; stopped = None }))
-    (sym unused)
-    (record {
-      bus_led = unmoved;
-      booted = booted_not (history bus);
-      counted = counted_not (history bus);
-      tagger_is = refl;
-      depth_is = refl;
-      key_is = refl;
-      limit_is = refl;
-      unused = refl;
-      untagged = refl;
-      quiet = refl;
-      going = refl;
-    }))
+no_pairs = refl
 
 -- each line of each page has the counter of one that was never written
-pub new_current : (pages : ℕ) (blocks : List CounterBlockView) (key : List ℕ) (pads : PadEngineView) → blocks ≡ replicate pages new_block → pads ≡ new_pads key →
-    AreCurrent blocks pages pads.used
+new_says : (block : CounterBlockView) (page : ℕ) → block ≡ new_block → IsOfPage [] page block
 unfolding last_at
-new_current pages blocks key pads unwritten unused =
-    subst (λ (p : PadEngineView). AreCurrent blocks pages p.used) (sym unused)
-    (subst (λ (xs : List CounterBlockView). AreCurrent xs pages []) (sym unwritten)
-    (record {
-      long = length-replicate pages new_block;
-      current = λ page inside line of_page.
-          let zero : slice_index new_block.lines (place_of line) ≡ 0 = get_or-replicate 64 (place_of line) 0 0 (omega arith) in
-          let here : get_or (replicate pages new_block) page new_block ≡ new_block = get_or-replicate pages page new_block new_block inside in
-          ap (λ (n : ℕ). let c : Counter = record { page = 0; line = n } in c) (sym zero)
-          ∙ ap (λ (b : CounterBlockView). counter_of (place_of line) b) (sym here);
-    }))
+new_says block page is line of_page =
+    let zero : slice_index new_block.lines (place_of line) ≡ 0 = get_or-replicate 64 (place_of line) 0 0 (omega arith) in
+    ap (λ (n : ℕ). let c : Counter = record { page = 0; line = n } in c) (sym zero) ∙ ap (counter_of (place_of line)) (sym is)
 
-pub new_protected : {T : Type 0} (d n : T → List ℕ → List ℕ) (history : BusHistory) (tagger : T) (key : List ℕ) (levels limit : ℕ)
-    (engine : TagEngineView T) (pads : PadEngineView) → engine ≡ new_engine tagger levels → pads ≡ new_pads key →
-    history.levels ≡ levels → NothingWritten history →
-    IsProtected (tags_of d n engine) engine.levels limit history engine.made pads.used None
-unfolding last_at data_pairs
-new_protected {T} d n history tagger key levels limit engine pads untagged unused same empty =
-    subst (λ (e : TagEngineView T). IsProtected (tags_of d n e) e.levels limit history e.made pads.used None) (sym untagged)
-    (subst (λ (p : PadEngineView). IsProtected (tags_of d n (new_engine tagger levels)) levels limit history [] p.used None) (sym unused)
-    (record {
-      consistent = record {
-        bus_levels = same;
-        inside = λ line counter has. absurd (omega (arith, has.1));
-        rising = record { rise = λ first second line counter later before at after. absurd (cc) };
-        paired = refl;
-        long = λ line counter cipher has. absurd (omega (arith, has.1));
-        sealed = record { holds = λ line inside. inl (empty.zeros (line_place line) (subst (λ (l : ℕ). line < line_count l) (sym same) inside)) };
-        nodes = record { zeros = λ level index inside. empty.zeros (Node level index) (subst (λ (l : ℕ). IsPlace l (Node level index)) (sym same) inside) };
-        no_nodes = λ level index. refl;
-      };
-      within = record {
-        started = λ line counter has. absurd (omega (arith, has.1));
-        limited = λ line counter has. absurd (omega (arith, has.1));
-        seven_bits = λ line counter has. absurd (omega (arith, has.1));
-      };
-      unskipped = record { reached = λ line inside. omega arith };
-      holds_last = λ written. record { holds = λ line counter cipher inside last. absurd (cc) };
-      paged = λ going. record { one = λ line other inside within same_page. refl; reached = λ line inside. omega arith };
-      spent = λ page is. absurd (cc);
-    }))
+new_consistent : (tag_of : Message → List ℕ) (levels : ℕ) (history : BusHistory) → history.levels ≡ levels → NothingWritten history →
+    NodesAreMade levels [] history.written → IsConsistent tag_of levels history [] []
+new_consistent tag_of levels history same empty nodes = record {
+  bus_levels = same;
+  inside = λ line counter has. absurd (omega (arith, has.1));
+  paired = no_pairs;
+  long = λ line counter cipher has. absurd (omega (arith, has.1));
+  sealed = record { holds = λ line inside. inl (empty.zeros (line_place line) (subst (λ (l : ℕ). line < line_count l) (sym same) inside)) };
+  nodes = nodes;
+}
+
+new_last : (tag_of : Message → List ℕ) (lines : ℕ) (history : BusHistory) → HoldsLast tag_of lines [] history.written
+unfolding last_at
+new_last tag_of lines history = record { holds = λ line counter cipher inside last. absurd (cc) }
+
+new_rise : (levels limit : ℕ) → CountersRise levels limit [] None
+unfolding last_at
+new_rise levels limit = record {
+  rising = record { rise = λ first second line counter later before at after. absurd (cc) };
+  within = record {
+    started = λ line counter has. absurd (omega (arith, has.1));
+    limited = λ line counter has. absurd (omega (arith, has.1));
+    seven_bits = λ line counter has. absurd (omega (arith, has.1));
+  };
+  unskipped = record { reached = λ line inside. omega arith };
+  paged = λ going. record { one = λ line other inside within same_page. refl; reached = λ line inside. omega arith };
+  spent = λ page is. absurd (cc);
+}
+
+empty_nodes : (levels : ℕ) (history : BusHistory) → history.levels ≡ levels → NothingWritten history → NodesAreMade levels [] history.written
+empty_nodes levels history same empty = record {
+  holds = λ level index inside. inl (empty.zeros (node_place level index) (subst (λ (l : ℕ). IsNode l level index) (sym same) inside));
+}
+
+-- A boot that was refused before it wrote anything.
+pub unbooted_not : (levels : ℕ) (history : BusHistory) → history.levels ≡ levels → NothingWritten history → IsUnbooted levels history history
+unbooted_not levels history same empty = record {
+  wrote = record { levels = refl; lies = refl; lie = refl; reads = refl; lines = λ line. refl; accesses = omega arith };
+  made = [];
+  untagged = no_pairs;
+  writes = record { writes = 0; counted = counted_not history; at_most = omega arith; at_least = omega arith };
+  nodes = empty_nodes levels history same empty;
+}
+
+module _ {B T : Type 0} (d n : T → List ℕ → List ℕ) (history : B → BusHistory) (bus_moved : B → B → Type 0) (first bus : B) (tagger : T) (key : List ℕ) (levels limit : ℕ)
+    (start engine : TagEngineView T) (pads : PadEngineView) (counters : CountersView) (new : start ≡ new_engine tagger levels) (unused : pads ≡ new_pads key)
+    (same : (history first).levels ≡ levels) (empty : NothingWritten (history first))
+    (tree_levels : counters.tree.levels ≡ levels) (moves : StepMoves (history first) start (history bus) engine) (lines : SameLines (history first) start.made (history bus) engine.made)
+    (made_blocks : NodesAreMade levels engine.made (history bus).written) (stored : NodesHoldLast levels engine.made (history bus).written)
+    (quiet : engine.evidence ≡ start.evidence)
+    (holds : HoldsTree (tags_of d n) counters.tree (history bus) engine)
+    (zeros : (page : ℕ) → page < page_count levels → counters_in counters engine.made page ≡ new_block) where
+  abbrev begun : SealedLinesView B T
+  begun = record { bus = first; engine = start; pads = pads; counters = counters; limit = limit; stopped = None }
+
+  no_messages : start.made ≡ []
+  no_messages = ap (λ (e : TagEngineView T). e.made) new
+
+  levels_are : start.levels ≡ levels
+  levels_are = ap (λ (e : TagEngineView T). e.levels) new
+
+  no_evidence : start.evidence ≡ None
+  no_evidence = ap (λ (e : TagEngineView T). e.evidence) new
+
+  no_entries : pads.used ≡ []
+  no_entries = ap (λ (p : PadEngineView). p.used) unused
+
+  abbrev tag_of : Message → List ℕ
+  tag_of = tags_of d n start
+
+  was_consistent : IsConsistent tag_of start.levels (history first) start.made pads.used
+  was_consistent =
+      subst (λ (l : ℕ). IsConsistent tag_of l (history first) start.made pads.used) (sym levels_are)
+      (subst (λ (made : List Message). IsConsistent tag_of levels (history first) made pads.used) (sym no_messages)
+      (subst (λ (u : List (ℕ × Counter)). IsConsistent tag_of levels (history first) [] u) (sym no_entries)
+      (new_consistent tag_of levels (history first) same empty (empty_nodes levels (history first) same empty))))
+
+  now_consistent : IsConsistent tag_of start.levels (history bus) engine.made pads.used
+  now_consistent =
+      nodes_consistent tag_of (history first) (history bus) start.made engine.made lines start.levels pads.used was_consistent moves.bus_levels
+      (subst (λ (l : ℕ). NodesAreMade l engine.made (history bus).written) (sym levels_are) made_blocks)
+
+  now_last : HoldsLast tag_of (line_count start.levels) engine.made (history bus).written
+  now_last =
+      lines_last tag_of (history first) (history bus) start.made engine.made lines (line_count start.levels)
+      (subst (λ (made : List Message). HoldsLast tag_of (line_count start.levels) made (history first).written) (sym no_messages)
+      (new_last tag_of (line_count start.levels) (history first)))
+
+  now_tree : IsTree tag_of counters.tree engine.made (history bus).written
+  now_tree =
+      subst (λ (t : Message → List ℕ). IsTree t counters.tree engine.made (history bus).written) (same_tags d n start engine moves.tagger moves.levels)
+      (holds.fits (quiet ∙ no_evidence))
+
+  now_says : (page : ℕ) → page < page_count start.levels → IsOfPage pads.used page (counters_in counters engine.made page)
+  now_says page inside =
+      subst (λ (u : List (ℕ × Counter)). IsOfPage u page (counters_in counters engine.made page)) (sym no_entries)
+      (new_says (counters_in counters engine.made page) page (zeros page (subst (λ (l : ℕ). page < page_count l) levels_are inside)))
+
+  pub boot_protected : AreProtected d n history (record { bus = bus; engine = engine; pads = pads; counters = counters; limit = limit; stopped = None })
+  boot_protected =
+      protected_after d n history bus_moved begun (record { bus = bus; engine = engine; pads = pads }) counters None moves.tagger moves.levels (tree_levels ∙ sym levels_are) now_consistent
+      (λ goes_on. now_last) (λ goes_on. subst (λ (l : ℕ). NodesHoldLast l engine.made (history bus).written) (sym levels_are) stored)
+      (λ still. subst (λ (u : List (ℕ × Counter)). CountersRise start.levels limit u None) (sym no_entries) (new_rise start.levels limit))
+      (λ goes_on still. now_tree) (λ goes_on still. now_says)

@@ -1,56 +1,82 @@
--- What the steps of a write of a line under its next counter make of the memory outside and of the block of its page.
-use Rattle.std.proofs.Common.{◌≡◌, ◌≢◌, inl, inr, ℕ, ◌+◌, ◌<◌, ◌≤◌, List, [], ◌∷◌, ◌++◌, length, map, take, replicate, slice_index, Option, Some, None, Result, Ok, Err, refl, ap, sym, ◌∙◌, subst, arith}
+-- The steps of a write of a line: its page's counters are read, memory is taken, they are counted up, and its lines are
+-- sealed.
+use Rattle.std.proofs.Common.{◌≡◌, ◌≢◌, ◌⊎◌, inl, inr, ℕ, ◌+◌, ◌<◌, ◌≤◌, max, List, [], ◌∷◌, ◌++◌, length, map, take, replicate, slice_index, slice_set, Option, Some, None, Contains, Result, Ok, Err, OnOk, refl, ap, sym, ◌∙◌, subst, arith, length-append}
 use Rattle.std.proofs.lemmas.Bool.{cases_eq}
-use Rattle.std.proofs.lemmas.List.{get_or-replicate, length-take, take_all}
+use Rattle.std.proofs.lemmas.List.{get_or-replicate, get_or-set_same, get_or-set_other, take_all}
 use Rattle.sec_base.specs.declared.counter.Counter.{Counter}
 use Rattle.sec_base.specs.declared.message.Message.TheVariants.{Line as line_message}
 use Rattle.sec_base.specs.declared.place.Place.{Place}
-use Rattle.sec_base.specs.declared.place.Place.TheVariants.{Line as line_place}
+use Rattle.sec_base.specs.declared.place.Place.TheVariants.{Line as line_place, Node as node_place}
 use Rattle.sec_base.specs.declared.stop.MemStop.{MemStop}
 use Rattle.sec_base.specs.declared.stop.MemStop.TheVariants.{Tampered, Spent, NoMemory}
-use Rattle.sec_base.specs.Geometry.{line_count, page_of}
+use Rattle.sec_base.specs.Count.{Rose}
+use Rattle.sec_base.specs.Geometry.{line_count, page_count, page_of}
 use Rattle.bus_model.specs.BusHistory.{BusHistory, after_write}
-use Rattle.tag_engine.specs.TagEngine.{after_make, tags_of}
+use Rattle.tag_engine.specs.TagEngine.{TagEngineView, after_make, tags_of, with_room as tags_with_room}
 use Rattle.pad_stream.specs.Pad.{cipher_of}
-use Rattle.pad_stream.specs.PadEngine.{PadEngineView, after_encrypt}
+use Rattle.pad_stream.specs.PadEngine.{PadEngineView, after_encrypt, with_room as pads_with_room}
 use Rattle.pad_stream.specs.Pads.{IsBefore}
 use Rattle.checked_bus.specs.SealedLine.{sealed_line}
 use Rattle.checked_bus.specs.Steps.{IsAccounted, Moves as StepMoves, stop_of}
-use Rattle.checked_bus.proofs.TaggedWrites.{wrote_once}
-use Rattle.split_counter.specs.CounterBlock.{CounterBlockView, counter_of, last_counter, next_counter, place_of}
+use Rattle.split_counter.specs.declared.bumped.Bumped.{Bumped}
+use Rattle.split_counter.specs.declared.bumped.Bumped.TheVariants.{Line as line_up, Page as page_up, Spent as used_up}
+use Rattle.split_counter.specs.CounterBlock.{CounterBlockView, IsCounterBlock, after_bump, after_outcome, bumped, counter_of, last_counter, next_counter, place_of}
+use Rattle.bonsai_tree.specs.Node.{path_index}
+use Rattle.bonsai_tree.specs.Tree.{IsOnPath, PathWasRead, fetch_accesses}
+use Rattle.counter_cache.specs.Counters.{CountersView, bump_messages, counters_in}
 use Rattle.page_reencrypt.specs.Contents.{counter_in, lines_encrypted, page_lines}
-use Rattle.page_reencrypt.specs.Outside.{AreConsistent, AreSealed, AreSealedInOrder, DiffersInRoom, HasCounter, HaveLast, IsWrite, IsWriteOrSpent, LineWrite, MemoryTerms, OutsideView, terms_of, with_room}
+use Rattle.page_reencrypt.specs.Outside.{AreConsistent, AreSealed, AreSealedInOrder, CountersSay, DiffersInRoom, HasCounter, HaveLast, HaveRisen, IsWrite, LineWrite, MemoryTerms, OutsideView, TreeFits, terms_of, with_room}
 use Rattle.page_reencrypt.specs.SealedLines.{IsOfPage}
 use Rattle.page_reencrypt.specs.Stops.{lasting_stop}
 use Rattle.page_reencrypt.proofs.Consistency.{counter_in-same, counter_in-other}
-use Rattle.page_reencrypt.proofs.Entries.{counter_among, encrypted_line, encrypted_page, length-page_lines, next_after, next_overflows, next_page, page_listed}
-use Rattle.page_reencrypt.proofs.Reencrypting.{one_access}
-use Rattle.page_reencrypt.proofs.Sealing.{all_in_order, listed_not, one_sealed, one_unwritten, own_reread, roomier, sealed_not}
+use Rattle.page_reencrypt.proofs.Entries.{counter_among, counter_beside, encrypted_line, encrypted_page, listed_page, next_after, next_line, next_page, page_listed}
+use Rattle.page_reencrypt.proofs.LineReads.{quiet_before}
+use Rattle.page_reencrypt.proofs.Reaching.{IsReached, early_write, late_counters, late_write, reached_on, reached_risen, reached_roomy, reached_spent}
+use Rattle.page_reencrypt.proofs.Sealing.{all_in_order, listed_one, one_sealed, one_unwritten, own_reread, same_terms}
 
--- What a write makes of its line's counter
+-- What a call answered
 
--- its line counter goes up
-pub line_next : (used : List (ℕ × Counter)) (line : ℕ) (counter next : Counter) → counter_in used line ≡ counter →
-    (counter.line < 127) × (next ≡ next_counter counter) → ((counter_in used line).line ≢ 127) × (next ≡ next_counter (counter_in used line))
-line_next used line counter next here is =
-    subst (λ (c : Counter). (c.line ≢ 127) × (next ≡ next_counter c)) (sym here) ((λ full. omega (arith, is.0, full)), is.1)
+pub ok_where : {A P : Type 0} (result : Result A MemStop) → OnOk result P → ((page : ℕ) → result ≢ Err (Spent page)) → lasting_stop (stop_of result) ≡ None → P
+ok_where (Ok value) holds unspent going = holds
+ok_where (Err (Tampered place)) holds unspent going = absurd (cc)
+ok_where (Err (Spent page)) holds unspent going = absurd (unspent page refl)
+ok_where (Err NoMemory) holds unspent going = absurd (cc)
 
--- or its page counter does
-pub page_next : (limit : ℕ) (used : List (ℕ × Counter)) (line : ℕ) (counter : Counter) (page : ℕ) → counter_in used line ≡ counter →
-    (counter.line ≡ 127) × (counter.page < limit) × (page ≡ counter.page + 1) →
-    ((counter_in used line).line ≡ 127) × ((counter_in used line).page < limit) × (page ≡ (counter_in used line).page + 1)
-page_next limit used line counter page here is =
-    subst (λ (c : Counter). (c.line ≡ 127) × (c.page < limit) × (page ≡ c.page + 1)) (sym here) is
+pub stopped_by : {A : Type 0} (result : Result A MemStop) (stop : MemStop) → stop_of result ≡ Some stop → result ≡ Err stop
+stopped_by (Ok value) stop is = absurd (cc)
+stopped_by (Err why) stop is = let same : why ≡ stop = cc in ap (λ (s : MemStop). Err s) same
 
-pub line_not_last : (limit : ℕ) (counter : Counter) → counter.line ≢ 127 → counter ≢ last_counter limit
-line_not_last limit counter less is = less (ap (λ (c : Counter). c.line) is)
+-- a stop that is not of a spent page lasts
+lasts : (why : MemStop) → ((page : ℕ) → why ≢ Spent page) → lasting_stop (Some why) ≢ None
+lasts (Tampered place) unspent is = absurd (cc)
+lasts (Spent page) unspent is = unspent page refl
+lasts NoMemory unspent is = absurd (cc)
+
+going_on : (stop : Option MemStop) → ((page : ℕ) → stop ≢ Some (Spent page)) → lasting_stop stop ≡ None → stop ≡ None
+going_on None unspent going = refl
+going_on (Some (Tampered place)) unspent going = absurd (cc)
+going_on (Some (Spent page)) unspent going = absurd (unspent page refl)
+going_on (Some NoMemory) unspent going = absurd (cc)
+
+max-right : (first second : ℕ) → second ≤ max first second
+max-right first second = omega arith
+
+-- The last counter
+
+pub is_last : (limit : ℕ) (counter : Counter) → counter.line ≡ 127 → limit ≤ counter.page → counter.page ≤ limit → counter ≡ last_counter limit
+is_last limit counter full above below =
+    let page : counter.page ≡ limit = omega (arith, above, below) in
+    ap (λ (p : ℕ). let c : Counter = record { page = p; line = counter.line } in c) page ∙ ap (λ (l : ℕ). let c : Counter = record { page = limit; line = l } in c) full
+
+pub line_not_last : (limit : ℕ) (counter : Counter) → counter.line < 127 → counter ≢ last_counter limit
+line_not_last limit counter less is = let full : counter.line ≡ 127 = ap (λ (c : Counter). c.line) is in omega (arith, full, less)
 
 pub page_not_last : (limit : ℕ) (counter : Counter) → counter.page < limit → counter ≢ last_counter limit
 page_not_last limit counter below is = let same : counter.page ≡ limit = ap (λ (c : Counter). c.page) is in omega (arith, below, same)
 
--- What the page's block says then
+-- What the page's block says after a write
 
-pub line_of_page : (used used' : List (ℕ × Counter)) (line place : ℕ) (counter : Counter) (block block' : CounterBlockView) →
+line_of_page : (used used' : List (ℕ × Counter)) (line place : ℕ) (counter : Counter) (block block' : CounterBlockView) →
     IsOfPage used (page_of line) block → place ≡ place_of line → used' ≡ used ++ (line, counter) ∷ [] → counter ≡ counter_of place block' →
     block'.page ≡ block.page → ((other : ℕ) → other ≢ place → slice_index block'.lines other ≡ slice_index block.lines other) →
     IsOfPage used' (page_of line) block'
@@ -67,7 +93,7 @@ line_of_page used used' line place counter block block' was place_is entries now
           ∙ ap (λ (l : ℕ). let c : Counter = record { page = block'.page; line = l } in c) (sym (others (place_of other) apart))
     ]
 
-pub page_of_page : (used used' : List (ℕ × Counter)) (line page : ℕ) (block' : CounterBlockView) → block' ≡ record { page = page; lines = replicate 64 0 } →
+page_of_page : (used used' : List (ℕ × Counter)) (line page : ℕ) (block' : CounterBlockView) → block' ≡ record { page = page; lines = replicate 64 0 } →
     used' ≡ used ++ map (λ at. (at, record { page = page; line = 0 })) (page_lines (page_of line)) → IsOfPage used' (page_of line) block'
 page_of_page used used' line page block' now entries = λ other of_page.
     let counter : Counter = record { page = page; line = 0 } in
@@ -77,183 +103,447 @@ page_of_page used used' line page block' now entries = λ other of_page.
     ∙ ap (λ (l : ℕ). let c : Counter = record { page = page; line = l } in c) (sym zero_line)
     ∙ ap (counter_of (place_of other)) (sym now)
 
-going_on : (stop : Option MemStop) → ((page : ℕ) → stop ≢ Some (Spent page)) → lasting_stop stop ≡ None → stop ≡ None
-going_on None unspent going = refl
-going_on (Some (Tampered place)) unspent going = absurd (cc)
-going_on (Some (Spent page)) unspent going = absurd (unspent page refl)
-going_on (Some NoMemory) unspent going = absurd (cc)
+bumped_block : (place limit : ℕ) (block : CounterBlockView) (outcome : Bumped) → bumped limit (counter_of place block) ≡ outcome →
+    (after_bump place limit block).1 ≡ after_outcome place outcome block
+unfolding after_bump
+bumped_block place limit block outcome is = ap (λ (o : Bumped). after_outcome place o block) is
 
--- an ordinary write is one access, and no read
-pub line_once : {B T : Type 0} (history : B → BusHistory) (old roomy new : OutsideView B T) (line : ℕ) (bytes : List ℕ) (many : ℕ) → roomy ≡ with_room many old →
-    history new.bus ≡ after_write (line_place line) bytes (history roomy.bus) →
-    ((history new.bus).accesses ≤ (history old.bus).accesses + 1) × ((history new.bus).reads ≡ (history old.bus).reads)
-line_once {B} {T} history old roomy new line bytes many taken wrote =
-    let at_bus : history roomy.bus ≡ history old.bus = ap (λ (o : OutsideView B T). history o.bus) taken in
-    let wrote_old : history new.bus ≡ after_write (line_place line) bytes (history old.bus) = wrote ∙ ap (after_write (line_place line) bytes) at_bus in
-    (one_access line bytes (history old.bus) (history new.bus) wrote_old, (wrote_once line bytes (history old.bus) (history new.bus) wrote_old).reads)
+-- The block after an ordinary write, and after an overflow.
+bumped_line : (used used' : List (ℕ × Counter)) (line place limit : ℕ) (counter : Counter) (block block' : CounterBlockView) → IsCounterBlock block →
+    IsOfPage used (page_of line) block → place ≡ place_of line → bumped limit (counter_of place block) ≡ line_up counter → counter.page ≡ block.page →
+    block' ≡ (after_bump place limit block).1 → used' ≡ used ++ (line, counter) ∷ [] → IsOfPage used' (page_of line) block'
+bumped_line used used' line place limit counter block block' is_block was place_is up page now entries =
+    let set : block' ≡ record { page = block.page; lines = slice_set block.lines place counter.line } = now ∙ bumped_block place limit block (line_up counter) up in
+    let inside : place < length block.lines = omega (arith, place_is, is_block.whole) in
+    let here : slice_index (slice_set block.lines place counter.line) place ≡ counter.line = get_or-set_same block.lines place counter.line 0 inside in
+    let said : counter ≡ counter_of place block' =
+    ap (λ (p : ℕ). let c : Counter = record { page = p; line = counter.line } in c) page
+    ∙ ap (λ (l : ℕ). let c : Counter = record { page = block.page; line = l } in c) (sym here)
+    ∙ ap (counter_of place) (sym set) in
+    line_of_page used used' line place counter block block' was place_is entries said (ap (λ (b : CounterBlockView). b.page) set)
+    (λ other differs. ap (λ (b : CounterBlockView). slice_index b.lines other) set ∙ get_or-set_other block.lines place other counter.line 0 differs)
 
--- The write
+bumped_page : (used used' : List (ℕ × Counter)) (line place limit page : ℕ) (block block' : CounterBlockView) →
+    bumped limit (counter_of place block) ≡ page_up page → block' ≡ (after_bump place limit block).1 →
+    used' ≡ used ++ map (λ at. (at, record { page = page; line = 0 })) (page_lines (page_of line)) → IsOfPage used' (page_of line) block'
+bumped_page used used' line place limit page block block' up now entries =
+    page_of_page used used' line page block' (now ∙ bumped_block place limit block (page_up page) up) entries
 
-module _ {B T : Type 0} (history : B → BusHistory) (moved : B → B → Type 0) (d n : T → List ℕ → List ℕ) (line : ℕ) (bytes : List ℕ)
-    (old : OutsideView B T) (block : CounterBlockView) where
-  abbrev terms : OutsideView B T → MemoryTerms B
-  terms = terms_of history moved d n
+module _ {B T : Type 0} (history : B → BusHistory) (moved : B → B → Type 0) (d n : T → List ℕ → List ℕ) (old : OutsideView B T) (counters : CountersView) where
+  abbrev terms : MemoryTerms B
+  terms = terms_of history moved d n old
 
-  abbrev next : Counter
-  next = next_counter (counter_in old.pads.used line)
+  module _ (say : CountersSay terms old counters) where
+    -- the counters that say the entries still do, where both are the same
+    pub say_same : (new : OutsideView B T) (counters' : CountersView) (stop : Option MemStop) → IsReached terms old counters new counters' stop →
+        (new.engine.evidence ≡ None → (page : ℕ) → counters_in counters' new.engine.made page ≡ counters_in counters old.engine.made page) →
+        CountersSay terms new counters'
+    say_same new counters' stop reached same = λ quiet page inside line of_page.
+        let was_quiet = quiet_before old.engine.evidence new.engine.evidence reached.node.step.evidence quiet in
+        ap (λ (used : List (ℕ × Counter)). counter_in used line) reached.node.used ∙ say was_quiet page inside line of_page
+        ∙ ap (counter_of (place_of line)) (sym (same quiet page))
 
-  -- there was no memory for its lines
-  pub unreserved : (new : OutsideView B T) → moved old.bus old.bus → DiffersInRoom old new → AreConsistent (terms old) old → HaveLast (terms old) old →
-      IsWrite (terms old) line bytes old block new block (Some NoMemory)
-  unreserved new unmoved same kept last = record {
-    sealed = record {
-      count = 0;
-      within = omega arith;
-      sealed =
-          sealed_not (terms old) (record { line = line; bytes = bytes; counter = next }) old new (Some NoMemory) unmoved same kept last (λ place is. cc) (λ page is. cc);
-      reread = λ other listed. absurd (listed_not other listed);
-      whole = λ is. absurd (cc);
-      failed = λ other is. absurd (cc);
-    };
-    current = λ going. absurd (cc);
-    reserved = inl (refl, refl);
-  }
+    -- and where lines of one page were encrypted, and its block says so
+    pub say_on : (new : OutsideView B T) (counters' : CountersView) (line : ℕ) (counter : Counter) (lines : List ℕ) → old.engine.evidence ≡ None →
+        ((other : ℕ) → Contains lines other → page_of other ≡ page_of line) →
+        new.pads.used ≡ old.pads.used ++ map (λ at. (at, counter)) lines →
+        ((page : ℕ) → page ≢ page_of line → counters_in counters' new.engine.made page ≡ counters_in counters old.engine.made page) →
+        IsOfPage new.pads.used (page_of line) (counters_in counters' new.engine.made (page_of line)) → CountersSay terms new counters'
+    say_on new counters' line counter lines quiet of_page entries others here = λ still page inside other on_page.
+        elim (cases_eq page (page_of line)) [
+          | inl same ↦ here other (on_page ∙ same) ∙ ap (λ (p : ℕ). counter_of (place_of other) (counters_in counters' new.engine.made p)) (sym same)
+          | inr differs ↦
+              let apart : ¬ Contains lines other = λ listed. differs (sym on_page ∙ of_page other listed) in
+              ap (λ (used : List (ℕ × Counter)). counter_in used other) entries ∙ counter_beside counter lines old.pads.used other apart
+              ∙ say quiet page inside other on_page ∙ ap (counter_of (place_of other)) (sym (others page differs))
+        ]
 
-  roomy_write : (many : ℕ) (new : OutsideView B T) (block' : CounterBlockView) (stop : Option MemStop) → many ≡ length (lines_encrypted next line) →
-      AreSealedInOrder (terms old) (record { line = line; bytes = bytes; counter = next }) (with_room many old) (lines_encrypted next line) new stop →
-      (lasting_stop stop ≡ None → IsOfPage new.pads.used (page_of line) block') → IsWrite (terms old) line bytes old block new block' stop
-  roomy_write many new block' stop long is current =
-      let write : LineWrite = record { line = line; bytes = bytes; counter = next } in
-      let part = length-take is.count (lines_encrypted next line) in
-      record {
-        sealed = record {
-          count = is.count;
-          within = is.within;
-          sealed = roomier (terms old) write many old (take is.count (lines_encrypted next line)) new stop is.sealed;
-          reread = is.reread;
-          whole = is.whole;
-          failed = is.failed;
-        };
-        current = current;
-        reserved = inr (omega (arith, part, long, is.within, is.sealed.room), omega (arith, part, long, is.within, is.sealed.pads_room));
-      }
+    -- as after an ordinary write of a line
+    pub say_line : (new : OutsideView B T) (counters' : CountersView) (line place limit : ℕ) (counter : Counter) → old.engine.evidence ≡ None → page_of line < page_count terms.levels →
+        IsCounterBlock (counters_in counters old.engine.made (page_of line)) → place ≡ place_of line →
+        bumped limit (counter_of place (counters_in counters old.engine.made (page_of line))) ≡ line_up counter →
+        counter ≡ next_counter (counter_in old.pads.used line) → (counter_in old.pads.used line).line < 127 →
+        counters_in counters' new.engine.made (page_of line) ≡ (after_bump place limit (counters_in counters old.engine.made (page_of line))).1 →
+        ((page : ℕ) → page ≢ page_of line → counters_in counters' new.engine.made page ≡ counters_in counters old.engine.made page) →
+        new.pads.used ≡ old.pads.used ++ (line, counter) ∷ [] → CountersSay terms new counters'
+    say_line new counters' line place limit counter quiet inside is_block place_is up next less now others entries =
+        let block : CounterBlockView = counters_in counters old.engine.made (page_of line) in
+        let was : IsOfPage old.pads.used (page_of line) block = say quiet (page_of line) inside in
+        let not_full : (counter_in old.pads.used line).line ≢ 127 = λ full. omega (arith, full, less) in
+        let same_page : counter.page ≡ block.page =
+        ap (λ (c : Counter). c.page) (next ∙ next_line (counter_in old.pads.used line) not_full) ∙ ap (λ (c : Counter). c.page) (was line refl) in
+        say_on new counters' line counter (line ∷ []) quiet
+        (λ other listed. ap page_of (sym (listed_one line other listed))) entries others
+        (bumped_line old.pads.used new.pads.used line place limit counter block (counters_in counters' new.engine.made (page_of line)) is_block was place_is up same_page now entries)
 
-  -- memory was taken for its lines, and they were sealed under its counter, or a front part of them was
-  pub next_write : (many : ℕ) (counter : Counter) (lines : List ℕ) (roomy new : OutsideView B T) (block' : CounterBlockView) (stop : Option MemStop) →
-      roomy ≡ with_room many old → counter ≡ next → lines ≡ lines_encrypted next line → many ≡ length lines →
-      AreSealedInOrder (terms roomy) (record { line = line; bytes = bytes; counter = counter }) roomy lines new stop →
-      (lasting_stop stop ≡ None → IsOfPage new.pads.used (page_of line) block') → IsWrite (terms old) line bytes old block new block' stop
-  next_write many counter lines roomy new block' stop taken under all long is current =
-      roomy_write many new block' stop (long ∙ ap length all)
-      (subst (λ (o : OutsideView B T). AreSealedInOrder (terms o) (record { line = line; bytes = bytes; counter = next }) o (lines_encrypted next line) new stop) taken
-      (subst (λ (c : Counter). AreSealedInOrder (terms roomy) (record { line = line; bytes = bytes; counter = c }) roomy (lines_encrypted next line) new stop) under
-      (subst (λ (xs : List ℕ). AreSealedInOrder (terms roomy) (record { line = line; bytes = bytes; counter = counter }) roomy xs new stop) all is))) current
+    -- and after an overflow
+    pub say_page : (new : OutsideView B T) (counters' : CountersView) (line place limit page : ℕ) → old.engine.evidence ≡ None →
+        bumped limit (counter_of place (counters_in counters old.engine.made (page_of line))) ≡ page_up page →
+        counters_in counters' new.engine.made (page_of line) ≡ (after_bump place limit (counters_in counters old.engine.made (page_of line))).1 →
+        ((other : ℕ) → other ≢ page_of line → counters_in counters' new.engine.made other ≡ counters_in counters old.engine.made other) →
+        new.pads.used ≡ old.pads.used ++ map (λ at. (at, record { page = page; line = 0 })) (page_lines (page_of line)) → CountersSay terms new counters'
+    say_page new counters' line place limit page quiet up now others entries =
+        say_on new counters' line (record { page = page; line = 0 }) (page_lines (page_of line)) quiet
+        (λ other listed. listed_page (page_of line) other listed) entries others
+        (bumped_page old.pads.used new.pads.used line place limit page (counters_in counters old.engine.made (page_of line))
+        (counters_in counters' new.engine.made (page_of line)) up now entries)
 
-  pub refused : (limit : ℕ) (new : OutsideView B T) → counter_in old.pads.used line ≢ last_counter limit → moved old.bus old.bus → DiffersInRoom old new →
-      AreConsistent (terms old) old → HaveLast (terms old) old → (result : Result (Unit {0}) MemStop) → result ≡ Err NoMemory →
-      IsWriteOrSpent (terms old) limit line bytes old block new block result
-  refused limit new below unmoved same kept last result is =
-      subst (λ (r : Result (Unit {0}) MemStop). IsWriteOrSpent (terms old) limit line bytes old block new block r) (sym is)
-      (below, unreserved new unmoved same kept last)
+  -- it stopped before a line was sealed
+  pub stopped_early : (new : OutsideView B T) (counters' : CountersView) (why : MemStop) → IsReached terms old counters new counters' (Some why) →
+      (limit line : ℕ) (bytes : List ℕ) → HaveRisen terms old → ((page : ℕ) → why ≢ Spent page) →
+      (new.engine.evidence ≡ None → (page : ℕ) → counters_in counters' new.engine.made page ≡ counters_in counters old.engine.made page)
+      ⊎ ((64 ≤ new.pads.room) × (length old.engine.made + 64 ≤ length new.engine.made + new.engine.room)) →
+      ((place : Place) → why ≡ Tampered place → IsOnPath terms.levels 0 (page_of line) place
+      × (old.engine.evidence ≡ None → Rose (history old.bus).lies (history new.bus).lies)) →
+      (new.engine.evidence ≡ None → counter_in old.pads.used line ≡ last_counter limit →
+      ((page : ℕ) → counters_in counters' new.engine.made page ≡ counters_in counters old.engine.made page)
+      × ((history new.bus).accesses ≤ (history old.bus).accesses + fetch_accesses old.engine.levels)) →
+      IsWrite terms limit line bytes old counters new counters' (Some why)
+  stopped_early new counters' why reached limit line bytes rose unspent reserved tampered last =
+      early_write terms old counters new counters' (Some why) reached limit line bytes rose (λ is. cc)
+      (λ going. absurd (lasts why unspent going)) reserved
+      (λ place is. let same : why ≡ Tampered place = cc in tampered place same)
+      (λ page is. let same : why ≡ Spent page = cc in absurd (unspent page same)) last
 
-  -- A line counter went up
+  -- it was spent
+  pub spent_early : (new : OutsideView B T) (counters' : CountersView) (page : ℕ) → IsReached terms old counters new counters' None →
+      (limit line : ℕ) (bytes : List ℕ) → HaveRisen terms old → CountersSay terms new counters' →
+      (new.engine.evidence ≡ None → (at : ℕ) → counters_in counters' new.engine.made at ≡ counters_in counters old.engine.made at)
+      ⊎ ((64 ≤ new.pads.room) × (length old.engine.made + 64 ≤ length new.engine.made + new.engine.room)) →
+      page ≡ page_of line → (new.engine.evidence ≡ None → counter_in old.pads.used line ≡ last_counter limit) →
+      (new.engine.evidence ≡ None → counter_in old.pads.used line ≡ last_counter limit →
+      ((page : ℕ) → counters_in counters' new.engine.made page ≡ counters_in counters old.engine.made page)
+      × ((history new.bus).accesses ≤ (history old.bus).accesses + fetch_accesses old.engine.levels)) →
+      IsWrite terms limit line bytes old counters new counters' (Some (Spent page))
+  spent_early new counters' page reached limit line bytes rose say reserved page_is last alone =
+      early_write terms old counters new counters' (Some (Spent page)) (reached_spent terms old counters new counters' page reached) limit line bytes rose (λ is. cc)
+      (λ going. say) reserved (λ place is. absurd (cc))
+      (λ other is. let same : page ≡ other = cc in (sym same ∙ page_is, last)) alone
 
-  module _ (roomy new : OutsideView B T) (block' : CounterBlockView) (counter : Counter) (place : ℕ) (taken : roomy ≡ with_room 1 old)
-      (kept : AreConsistent (terms old) old) (last : HaveLast (terms old) old) (inside : line < line_count old.engine.levels)
-      (started : HasCounter old.pads.used line (counter_in old.pads.used line)) (was : IsOfPage old.pads.used (page_of line) block)
-      (under : counter ≡ next_counter (counter_in old.pads.used line)) (less : (counter_in old.pads.used line).line ≢ 127)
-      (place_is : place ≡ place_of line) (now : counter ≡ counter_of place block') (page : block'.page ≡ block.page)
-      (others : (other : ℕ) → other ≢ place → slice_index block'.lines other ≡ slice_index block.lines other)
-      (used : new.pads ≡ after_encrypt line counter roomy.pads)
-      (made : new.engine ≡ after_make (line_message line counter (cipher_of roomy.pads.key line counter bytes)) roomy.engine)
-      (undone : cipher_of roomy.pads.key line counter (cipher_of roomy.pads.key line counter bytes) ≡ bytes)
-      (moves : StepMoves (history roomy.bus) roomy.engine (history new.bus) new.engine) (went : moved roomy.bus new.bus)
-      (honest : (used more : List (ℕ × Counter)) →
-      IsAccounted (tags_of d n roomy.engine) used roomy.engine.made (history roomy.bus) None roomy.engine.evidence →
-      IsAccounted (tags_of d n roomy.engine) more new.engine.made (history new.bus) None new.engine.evidence) where
-    kept_roomy : AreConsistent (terms roomy) roomy
-    kept_roomy = subst (λ (o : OutsideView B T). AreConsistent (terms o) o) (sym taken) kept
+  -- Memory was taken, where the counters were had
 
-    last_roomy : HaveLast (terms roomy) roomy
-    last_roomy = subst (λ (o : OutsideView B T). HaveLast (terms o) o) (sym taken) last
+  module _ (got : OutsideView B T) (counters' : CountersView) (a : IsReached terms old counters got counters' None) (unmoved : moved got.bus got.bus)
+      (moved_on : (first second third : B) → moved first second → moved second third → moved first third) where
+    pub refused_reached : (new : OutsideView B T) → DiffersInRoom got new → IsReached terms old counters new counters' (Some NoMemory)
+    refused_reached new differs =
+        reached_on terms moved_on old got new counters counters' counters' (Some NoMemory) a
+        (reached_roomy terms got new counters' (Some NoMemory) differs.room got.pads unmoved a.node.consistent a.node.holds_last (a.node.nodes_hold_last (λ is. cc))
+        (a.fits refl) (λ place is. cc) refl refl
+        (ap (λ (b : B). let o : OutsideView B T = record { bus = b; engine = new.engine; pads = new.pads } in o) differs.bus
+        ∙ ap (λ (e : TagEngineView T). let o : OutsideView B T = record { bus = got.bus; engine = e; pads = new.pads } in o) differs.engine
+        ∙ ap (λ (p : PadEngineView). let o : OutsideView B T = record { bus = got.bus; engine = tags_with_room differs.room got.engine; pads = p } in o) differs.pads))
 
-    inside_roomy : line < line_count roomy.engine.levels
-    inside_roomy = subst (λ (o : OutsideView B T). line < line_count o.engine.levels) (sym taken) inside
+    module _ (roomy : OutsideView B T) (messages : ℕ) (taken : roomy ≡ with_room messages 64 got) where
+      pub roomy_reached : IsReached terms old counters roomy counters' None
+      roomy_reached =
+          reached_on terms moved_on old got roomy counters counters' counters' None a
+          (reached_roomy terms got roomy counters' None messages (pads_with_room 64 got.pads) unmoved a.node.consistent a.node.holds_last
+          (a.node.nodes_hold_last (λ is. cc)) (a.fits refl) (λ place is. cc) refl refl taken)
 
-    started_roomy : HasCounter roomy.pads.used line (counter_in old.pads.used line)
-    started_roomy = subst (λ (o : OutsideView B T). HasCounter o.pads.used line (counter_in old.pads.used line)) (sym taken) started
+      pub roomy_made : roomy.engine.made ≡ got.engine.made
+      roomy_made = ap (λ (o : OutsideView B T). o.engine.made) taken
 
-    one : line ∷ [] ≡ lines_encrypted next line
-    one = sym (encrypted_line next line (λ new. less ((next_overflows (counter_in old.pads.used line)).0 new)))
+      roomy_terms : terms_of history moved d n roomy ≡ terms
+      roomy_terms = same_terms history moved d n old roomy roomy_reached.node.step.tagger roomy_reached.node.step.levels
 
-    current : IsOfPage new.pads.used (page_of line) block'
-    current =
-        let entries : new.pads.used ≡ old.pads.used ++ (line, counter) ∷ [] =
-        ap (λ (p : PadEngineView). p.used) used ∙ ap (λ (o : OutsideView B T). o.pads.used ++ (line, counter) ∷ []) taken in
-        line_of_page old.pads.used new.pads.used line place counter block block' was place_is entries now page others
+      pub roomy_fits : TreeFits (terms_of history moved d n roomy) roomy counters'
+      roomy_fits = subst (λ (t : MemoryTerms B). TreeFits t roomy counters') (sym roomy_terms) (roomy_reached.fits refl)
 
-    line_write : (stop : Option MemStop) → AreSealed (terms roomy) (record { line = line; bytes = bytes; counter = counter }) roomy (line ∷ []) new stop →
-        ((place : Place) → stop ≢ Some (Tampered place)) → IsWrite (terms old) line bytes old block new block' stop
-    line_write stop is untampered =
-        let write : LineWrite = record { line = line; bytes = bytes; counter = counter } in
-        next_write 1 counter (line ∷ []) roomy new block' stop taken under one refl
-        (all_in_order (terms roomy) write roomy (line ∷ []) new stop is (own_reread line roomy.pads.used (history roomy.bus) (history new.bus)) untampered) (λ going. current)
+      pub roomy_room : messages ≤ roomy.engine.room
+      roomy_room = let room = ap (λ (o : OutsideView B T). o.engine.room) taken in omega (arith, room, max-right got.engine.room messages)
 
-    -- the line was written
-    pub line_written : history new.bus ≡ after_write (line_place line) (sealed_line (tags_of d n roomy.engine) line counter (cipher_of roomy.pads.key line counter bytes)) (history roomy.bus) →
-        IsWrite (terms old) line bytes old block new block' None
-    line_written wrote =
-        line_write None
-        (one_sealed (terms roomy) (record { line = line; bytes = bytes; counter = counter }) roomy new line (counter_in old.pads.used line) bytes kept_roomy last_roomy
-        inside_roomy started_roomy (subst (λ (c : Counter). IsBefore (counter_in old.pads.used line) c) (sym under) (next_after (counter_in old.pads.used line)))
-        (inl (refl, refl)) used made undone moves went honest wrote)
-        (λ place is. cc)
+      pub roomy_pads : 64 ≤ roomy.pads.room
+      roomy_pads = let room = ap (λ (o : OutsideView B T). o.pads.room) taken in omega (arith, room, max-right got.pads.room 64)
 
-    -- there was no memory to write it
-    pub line_unwritten : history new.bus ≡ history roomy.bus → IsWrite (terms old) line bytes old block new block' (Some NoMemory)
-    line_unwritten same =
-        line_write (Some NoMemory)
-        (one_unwritten (terms roomy) (record { line = line; bytes = bytes; counter = counter }) roomy new line (counter_in old.pads.used line) bytes kept_roomy last_roomy
-        inside_roomy started_roomy (subst (λ (c : Counter). IsBefore (counter_in old.pads.used line) c) (sym under) (next_after (counter_in old.pads.used line)))
-        (inl (refl, refl)) used made undone moves went honest same)
-        (λ place is. cc)
+      -- and then the counters were counted up
 
-  -- The page counter went up
+      module _ (mid : OutsideView B T) (counters'' : CountersView) (stop : Option MemStop)
+          (b : IsReached (terms_of history moved d n roomy) roomy counters' mid counters'' stop) where
+        pub mid_reached : IsReached terms old counters mid counters'' stop
+        mid_reached =
+            reached_on terms moved_on old roomy mid counters counters' counters'' stop roomy_reached
+            (subst (λ (t : MemoryTerms B). IsReached t roomy counters' mid counters'' stop) roomy_terms b)
 
-  module _ (limit page : ℕ) (roomy new : OutsideView B T) (block' : CounterBlockView) (taken : roomy ≡ with_room 64 old)
-      (full : (counter_in old.pads.used line).line ≡ 127) (below : (counter_in old.pads.used line).page < limit)
-      (up : page ≡ (counter_in old.pads.used line).page + 1) (now : block' ≡ record { page = page; lines = replicate 64 0 }) where
-    not_last : counter_in old.pads.used line ≢ last_counter limit
-    not_last = page_not_last limit (counter_in old.pads.used line) below
+        -- there is memory for a page
+        pub mid_room : messages ≡ 64 + bump_messages old.engine.levels → mid.pads ≡ roomy.pads → roomy.engine.room ≤ mid.engine.room + bump_messages roomy.engine.levels →
+            (64 ≤ mid.pads.room) × (64 ≤ mid.engine.room) × (length old.engine.made + 64 ≤ length mid.engine.made + mid.engine.room)
+        mid_room many pads room =
+            let levels : roomy.engine.levels ≡ old.engine.levels = roomy_reached.node.step.levels in
+            let same = ap (λ (p : PadEngineView). p.room) pads in
+            let made = ap length mid_reached.node.step.made ∙ length-append old.engine.made mid_reached.node.step.more in
+            let enough : 64 ≤ mid.engine.room = omega (arith, many, room, levels, roomy_room) in
+            (omega (arith, same, roomy_pads), enough, omega (arith, made, enough))
 
-    abbrev paged : Counter
-    paged = record { page = page; line = 0 }
+        -- a false answer was taken for tampering, or shown before
+        pub mid_lied : (roomy.engine.evidence ≡ None → Rose (history roomy.bus).lies (history mid.bus).lies) → old.engine.evidence ≡ None →
+            Rose (history old.bus).lies (history mid.bus).lies
+        mid_lied rose quiet =
+            elim (roomy_reached.shows quiet) [
+              | inl still ↦ let lied = rose still in omega (arith, lied, roomy_reached.node.step.lies)
+              | inr lied ↦ omega (arith, lied, b.node.step.lies)
+            ]
 
-    under : paged ≡ next
-    under = ap (λ (p : ℕ). let c : Counter = record { page = p; line = 0 } in c) up ∙ sym (next_page (counter_in old.pads.used line) full)
+  -- The counters of the page were had: its block says that of the line, by which a write was foreseen.
+  pub record HadCounters (limit line page place : ℕ) (got : OutsideView B T) (counters' : CountersView) (block : CounterBlockView) (counter : Counter) (foreseen : Bumped) : Type 0 where
+    pub reached : IsReached terms old counters got counters' None
+    pub inside : line < line_count old.engine.levels
+    pub page_is : page ≡ page_of line
+    pub place_is : place ≡ place_of line
+    pub same : got.engine.evidence ≡ None → (other : ℕ) → counters_in counters' got.engine.made other ≡ counters_in counters old.engine.made other
+    pub block_is : got.engine.evidence ≡ None → block ≡ counters_in counters old.engine.made page
+    pub is_block : IsCounterBlock block
+    pub counter_is : counter ≡ counter_of place block
+    pub foreseen_is : foreseen ≡ bumped limit counter
 
-    new_page : next.line ≡ 0
-    new_page = (next_overflows (counter_in old.pads.used line)).1 full
+  module _ (say : CountersSay terms old counters) (limit line page place : ℕ) (got : OutsideView B T) (counters' : CountersView) (block : CounterBlockView)
+      (counter0 : Counter) (foreseen : Bumped) (had : HadCounters limit line page place got counters' block counter0 foreseen) where
+    abbrev got_quiet : got.engine.evidence ≡ None → old.engine.evidence ≡ None
+    got_quiet quiet = quiet_before old.engine.evidence got.engine.evidence had.reached.node.step.evidence quiet
 
-    page_write : (stop : Option MemStop) →
-        AreSealedInOrder (terms roomy) (record { line = line; bytes = bytes; counter = paged }) roomy (page_lines (page_of line)) new stop →
-        IsWrite (terms old) line bytes old block new block' stop
-    page_write stop is =
-        next_write 64 paged (page_lines (page_of line)) roomy new block' stop taken under (sym (encrypted_page next line new_page))
-        (sym (length-page_lines (page_of line))) is
-        (λ going.
-        let whole = is.whole (going_on stop is.sealed.unspent going) in
-        let every : take is.count (page_lines (page_of line)) ≡ page_lines (page_of line) =
-        take_all is.count (page_lines (page_of line)) (omega (arith, whole)) in
-        page_of_page old.pads.used new.pads.used line page block' now
-        (is.sealed.entries ∙ ap (λ (o : OutsideView B T). o.pads.used ++ map (λ at. (at, paged)) (take is.count (page_lines (page_of line)))) taken
-        ∙ ap (λ (xs : List ℕ). old.pads.used ++ map (λ at. (at, paged)) xs) every))
+    pub block_at : got.engine.evidence ≡ None → block ≡ counters_in counters old.engine.made (page_of line)
+    block_at quiet = had.block_is quiet ∙ ap (counters_in counters old.engine.made) had.page_is
 
-    -- the page was encrypted anew, or a front part of it was
-    pub page_written : (result : Result (Unit {0}) MemStop) →
-        AreSealedInOrder (terms roomy) (record { line = line; bytes = bytes; counter = paged }) roomy (page_lines (page_of line)) new (stop_of result) →
-        IsWriteOrSpent (terms old) limit line bytes old block new block' result
-    page_written (Ok _) is = (not_last, page_write None is)
-    page_written (Err (Tampered place)) is = (not_last, page_write (Some (Tampered place)) is, new_page)
-    page_written (Err (Spent spent)) is = absurd (is.sealed.unspent spent refl)
-    page_written (Err NoMemory) is = (not_last, page_write (Some NoMemory) is)
+    page_within : page_of line < page_count terms.levels
+    page_within = omega (arith, had.inside)
+
+    -- the line's counter
+    pub counter_here : got.engine.evidence ≡ None → counter_in old.pads.used line ≡ counter0
+    counter_here quiet =
+        say (got_quiet quiet) (page_of line) page_within line refl
+        ∙ ap (counter_of (place_of line)) (sym (block_at quiet))
+        ∙ ap (λ (p : ℕ). counter_of p block) (sym had.place_is) ∙ sym had.counter_is
+
+    -- where it was not foreseen as spent, that is not the last one
+    pub not_last : got.engine.evidence ≡ None → foreseen ≢ used_up → ((counter0.line ≡ 127) × (limit ≤ counter0.page) → foreseen ≡ used_up) →
+        counter_in old.pads.used line ≢ last_counter limit
+    not_last quiet not_foreseen spent last =
+        let is : counter0 ≡ last_counter limit = sym (counter_here quiet) ∙ last in
+        let page : counter0.page ≡ limit = ap (λ (c : Counter). c.page) is in
+        not_foreseen (spent (ap (λ (c : Counter). c.line) is, omega (arith, page)))
+
+    -- and then they were counted up
+    pub record CountedUp (roomy mid : OutsideView B T) (counters'' : CountersView) (messages : ℕ) (outcome : Bumped) : Type 0 where
+      pub taken : roomy ≡ with_room messages 64 got
+      pub reached : IsReached (terms_of history moved d n roomy) roomy counters' mid counters'' None
+      pub many : messages ≡ 64 + bump_messages old.engine.levels
+      pub pads : mid.pads ≡ roomy.pads
+      pub room : roomy.engine.room ≤ mid.engine.room + bump_messages roomy.engine.levels
+      pub outcome_is : mid.engine.evidence ≡ None → outcome ≡ bumped limit (counter_of place (counters_in counters' roomy.engine.made page))
+      pub now : mid.engine.evidence ≡ None → counters_in counters'' mid.engine.made page ≡ (after_bump place limit (counters_in counters' roomy.engine.made page)).1
+      pub others : (other : ℕ) → other ≢ page → counters_in counters'' mid.engine.made other ≡ counters_in counters' roomy.engine.made other
+
+    module _ (unmoved : moved got.bus got.bus) (moved_on : (first second third : B) → moved first second → moved second third → moved first third)
+        (roomy mid : OutsideView B T) (counters'' : CountersView) (messages : ℕ) (outcome : Bumped) (up : CountedUp roomy mid counters'' messages outcome) where
+      up_reached : IsReached terms old counters mid counters'' None
+      up_reached = mid_reached got counters' had.reached unmoved moved_on roomy messages up.taken mid counters'' None up.reached
+
+      up_room : (64 ≤ mid.pads.room) × (64 ≤ mid.engine.room) × (length old.engine.made + 64 ≤ length mid.engine.made + mid.engine.room)
+      up_room = mid_room got counters' had.reached unmoved moved_on roomy messages up.taken mid counters'' None up.reached up.many up.pads up.room
+
+      mid_quiet : mid.engine.evidence ≡ None → got.engine.evidence ≡ None
+      mid_quiet quiet =
+          let before = quiet_before roomy.engine.evidence mid.engine.evidence up.reached.node.step.evidence quiet in
+          sym (ap (λ (o : OutsideView B T). o.engine.evidence) up.taken) ∙ before
+
+      roomy_block : mid.engine.evidence ≡ None → (other : ℕ) → counters_in counters' roomy.engine.made other ≡ counters_in counters old.engine.made other
+      roomy_block quiet other = ap (λ (o : OutsideView B T). counters_in counters' o.engine.made other) up.taken ∙ had.same (mid_quiet quiet) other
+
+      up_bumped : mid.engine.evidence ≡ None → bumped limit (counter_of place (counters_in counters old.engine.made (page_of line))) ≡ outcome
+      up_bumped quiet =
+          sym (up.outcome_is quiet
+          ∙ ap (λ (b : CounterBlockView). bumped limit (counter_of place b)) (roomy_block quiet page ∙ ap (counters_in counters old.engine.made) had.page_is))
+
+      -- as it was foreseen
+      pub up_foreseen : mid.engine.evidence ≡ None → foreseen ≡ outcome
+      up_foreseen quiet =
+          had.foreseen_is ∙ ap (bumped limit) had.counter_is
+          ∙ ap (λ (b : CounterBlockView). bumped limit (counter_of place b)) (block_at (mid_quiet quiet)) ∙ up_bumped quiet
+
+      up_now : mid.engine.evidence ≡ None →
+          counters_in counters'' mid.engine.made (page_of line) ≡ (after_bump place limit (counters_in counters old.engine.made (page_of line))).1
+      up_now quiet =
+          subst (λ (p : ℕ). counters_in counters'' mid.engine.made p ≡ (after_bump place limit (counters_in counters' roomy.engine.made p)).1) had.page_is (up.now quiet)
+          ∙ ap (λ (b : CounterBlockView). (after_bump place limit b).1) (roomy_block quiet (page_of line))
+
+      up_others : mid.engine.evidence ≡ None → (other : ℕ) → other ≢ page_of line →
+          counters_in counters'' mid.engine.made other ≡ counters_in counters old.engine.made other
+      up_others quiet other differs = up.others other (λ same. differs (same ∙ had.page_is)) ∙ roomy_block quiet other
+
+      mid_terms : terms_of history moved d n mid ≡ terms
+      mid_terms = same_terms history moved d n old mid up_reached.node.step.tagger up_reached.node.step.levels
+
+      pub mid_kept : AreConsistent (terms_of history moved d n mid) mid
+      mid_kept = subst (λ (t : MemoryTerms B). AreConsistent t mid) (sym mid_terms) up_reached.node.consistent
+
+      pub mid_last : HaveLast (terms_of history moved d n mid) mid
+      mid_last = subst (λ (t : MemoryTerms B). HaveLast t mid) (sym mid_terms) up_reached.node.holds_last
+
+      pub mid_rose : HaveRisen terms old → HaveRisen (terms_of history moved d n mid) mid
+      mid_rose rose = reached_risen terms old counters mid counters'' None up_reached rose
+
+      pub mid_inside : line < line_count mid.engine.levels
+      mid_inside = subst (λ (l : ℕ). line < line_count l) (sym up_reached.node.step.levels) had.inside
+
+      -- each line of the page has the counter that its block said
+      pub mid_counters : (old.engine.evidence ≡ None → (at : ℕ) → HasCounter old.pads.used at (counter_in old.pads.used at)) → mid.engine.evidence ≡ None →
+          (at : ℕ) → page_of at ≡ page_of line → HasCounter mid.pads.used at (counter_of (place_of at) block)
+      mid_counters started quiet at of_page =
+          let was_quiet = got_quiet (mid_quiet quiet) in
+          let said : counter_in old.pads.used at ≡ counter_of (place_of at) block =
+          say was_quiet (page_of line) page_within at of_page ∙ ap (counter_of (place_of at)) (sym (block_at (mid_quiet quiet))) in
+          subst (λ (u : List (ℕ × Counter)). HasCounter u at (counter_of (place_of at) block)) (sym up_reached.node.used)
+          (subst (HasCounter old.pads.used at) said (started was_quiet at))
+
+      -- and an overflow raises the page counter
+      pub mid_later : (raised : ℕ) → outcome ≡ page_up raised →
+          ((next : ℕ) → foreseen ≡ page_up next → (counter0.line ≡ 127) × (counter0.page < limit) × (next ≡ counter0.page + 1)) →
+          mid.engine.evidence ≡ None → block.page < raised
+      mid_later raised is page_next quiet =
+          let facts = page_next raised (up_foreseen quiet ∙ is) in
+          let same : counter0.page ≡ block.page = ap (λ (c : Counter). c.page) had.counter_is in
+          omega (arith, facts.2, same)
+
+      pub mid_rooms : (64 ≤ mid.pads.room) × (64 ≤ mid.engine.room)
+      mid_rooms = (up_room.0, up_room.1)
+
+      -- It is spent after all, which comes only where there is evidence.
+      pub spent_after : (bytes : List ℕ) → HaveRisen terms old → outcome ≡ used_up → foreseen ≢ used_up →
+          IsWrite terms limit line bytes old counters mid counters'' (Some (Spent page))
+      spent_after bytes rose spent not_foreseen =
+          spent_early mid counters'' page up_reached limit line bytes rose
+          (λ quiet. absurd (not_foreseen (up_foreseen quiet ∙ spent))) (inr (up_room.0, up_room.2)) had.page_is
+          (λ quiet. absurd (not_foreseen (up_foreseen quiet ∙ spent))) (λ quiet last. absurd (not_foreseen (up_foreseen quiet ∙ spent)))
+
+      module _ (started : old.engine.evidence ≡ None → (at : ℕ) → HasCounter old.pads.used at (counter_in old.pads.used at))
+          (path : PathWasRead counters.tree old.engine.made 0 page (history old.bus) (history got.bus)) (bytes : List ℕ) where
+        path_on : PathWasRead counters.tree old.engine.made 0 (page_of line) (history old.bus) (history mid.bus)
+        path_on = record {
+          rose = λ level above inside uncached.
+              let place = node_place level (path_index counters.tree.levels level (page_of line)) in
+              let taken = ap (λ (o : OutsideView B T). (history o.bus).reads place) up.taken in
+              let on = up.reached.node.step.reads place in
+              elim ((subst (λ (p : ℕ). PathWasRead counters.tree old.engine.made 0 p (history old.bus) (history got.bus)) had.page_is path).rose level above inside uncached) [
+                | inl never ↦ inl never
+                | inr rose ↦ inr (omega (arith, rose, taken, on))
+              ];
+        }
+
+        -- A line counter went up
+
+        module _ (counter : Counter) (is : outcome ≡ line_up counter) (some : 0 < counter.line)
+            (line_next : (next : Counter) → foreseen ≡ line_up next → (counter0.line < 127) × (next ≡ next_counter counter0)) (new : OutsideView B T)
+            (used : new.pads ≡ after_encrypt line counter mid.pads)
+            (made : new.engine ≡ after_make (line_message line counter (cipher_of mid.pads.key line counter bytes)) mid.engine)
+            (undone : cipher_of mid.pads.key line counter (cipher_of mid.pads.key line counter bytes) ≡ bytes)
+            (moves : StepMoves (history mid.bus) mid.engine (history new.bus) new.engine) (went : moved mid.bus new.bus)
+            (honest : (used more : List (ℕ × Counter)) →
+            IsAccounted (tags_of d n mid.engine) used mid.engine.made (history mid.bus) None mid.engine.evidence →
+            IsAccounted (tags_of d n mid.engine) more new.engine.made (history new.bus) None new.engine.evidence) where
+          next_is : mid.engine.evidence ≡ None → ((counter_in old.pads.used line).line < 127) × (counter ≡ next_counter (counter_in old.pads.used line))
+          next_is quiet =
+              subst (λ (c : Counter). (c.line < 127) × (counter ≡ next_counter c)) (sym (counter_here (mid_quiet quiet)))
+              (line_next counter (up_foreseen quiet ∙ is))
+
+          new_quiet : new.engine.evidence ≡ None → mid.engine.evidence ≡ None
+          new_quiet quiet = quiet_before mid.engine.evidence new.engine.evidence moves.evidence quiet
+
+          had_it : mid.engine.evidence ≡ None → HasCounter mid.pads.used line (counter_in old.pads.used line) × IsBefore (counter_in old.pads.used line) counter
+          had_it quiet = (
+            subst (λ (u : List (ℕ × Counter)). HasCounter u line (counter_in old.pads.used line)) (sym up_reached.node.used)
+                (started (got_quiet (mid_quiet quiet)) line),
+            subst (IsBefore (counter_in old.pads.used line)) (sym (next_is quiet).1) (next_after (counter_in old.pads.used line)),
+          )
+
+          one_line : line ∷ [] ≡ lines_encrypted counter line
+          one_line = sym (encrypted_line counter line (λ none. omega (arith, none, some)))
+
+          line_stops : (stop : Option MemStop) → ((place : Place) → stop ≢ Some (Tampered place)) → (lasting_stop stop ≡ None → stop ≡ None) →
+              HaveRisen terms old →
+              AreSealed (terms_of history moved d n mid) (record { line = line; bytes = bytes; counter = counter }) mid (line ∷ []) new stop →
+              IsWrite terms limit line bytes old counters new counters'' stop
+          line_stops stop untampered going rose sealed =
+              let write : LineWrite = record { line = line; bytes = bytes; counter = counter } in
+              let in_terms : AreSealed terms write mid (line ∷ []) new stop =
+              subst (λ (t : MemoryTerms B). AreSealed t write mid (line ∷ []) new stop) mid_terms sealed in
+              let in_order : AreSealedInOrder terms write mid (lines_encrypted counter line) new stop =
+              subst (λ (xs : List ℕ). AreSealedInOrder terms write mid xs new stop) one_line
+              (all_in_order terms write mid (line ∷ []) new stop in_terms (λ quiet. own_reread line mid.pads.used (history mid.bus) (history new.bus)) untampered) in
+              late_write terms old counters mid counters'' new up_reached line bytes counter stop in_order moved_on limit
+              (λ quiet. (next_is (new_quiet quiet)).1) (λ quiet. line_not_last limit (counter_in old.pads.used line) (next_is (new_quiet quiet)).0)
+              (λ none quiet.
+              say_line say new counters'' line place limit counter (got_quiet (mid_quiet (new_quiet quiet))) page_within
+              (subst IsCounterBlock (block_at (mid_quiet (new_quiet quiet))) had.is_block) had.place_is
+              (up_bumped (new_quiet quiet) ∙ is) (next_is (new_quiet quiet)).1 (next_is (new_quiet quiet)).0
+              (late_counters terms old counters mid counters'' new up_reached line bytes counter stop in_order (page_of line) ∙ up_now (new_quiet quiet))
+              (λ other differs. late_counters terms old counters mid counters'' new up_reached line bytes counter stop in_order other ∙ up_others (new_quiet quiet) other differs)
+              (in_terms.entries ∙ ap (λ (u : List (ℕ × Counter)). u ++ (line, counter) ∷ []) up_reached.node.used) quiet)
+              up_room.0 up_room.2 path_on (λ place is. absurd (untampered place is)) going
+
+          pub line_written : HaveRisen terms old →
+              history new.bus ≡ after_write (line_place line) (sealed_line (tags_of d n mid.engine) line counter (cipher_of mid.pads.key line counter bytes)) (history mid.bus) →
+              IsWrite terms limit line bytes old counters new counters'' None
+          line_written rose wrote =
+              line_stops None (λ place is. cc) (λ going. refl) rose
+              (one_sealed (terms_of history moved d n mid) (record { line = line; bytes = bytes; counter = counter }) mid new line (counter_in old.pads.used line) bytes
+              mid_kept (mid_rose rose) mid_last mid_inside had_it (inl (refl, refl)) used made undone moves went honest wrote)
+
+          pub line_unwritten : HaveRisen terms old → history new.bus ≡ history mid.bus → IsWrite terms limit line bytes old counters new counters'' (Some NoMemory)
+          line_unwritten rose same =
+              line_stops (Some NoMemory) (λ place is. cc) (λ going. absurd (cc)) rose
+              (one_unwritten (terms_of history moved d n mid) (record { line = line; bytes = bytes; counter = counter }) mid new line (counter_in old.pads.used line) bytes
+              mid_kept (mid_rose rose) mid_last mid_inside had_it (inl (refl, refl)) used made undone moves went honest same)
+
+        -- The page counter went up
+
+        module _ (raised : ℕ) (is : outcome ≡ page_up raised)
+            (page_next : (next : ℕ) → foreseen ≡ page_up next → (counter0.line ≡ 127) × (counter0.page < limit) × (next ≡ counter0.page + 1))
+            (new : OutsideView B T) (stop : Option MemStop)
+            (sealed : AreSealedInOrder (terms_of history moved d n mid) (record { line = line; bytes = bytes; counter = record { page = raised; line = 0 } }) mid
+            (page_lines (page_of line)) new stop) where
+          abbrev paged : Counter
+          paged = record { page = raised; line = 0 }
+
+          page_facts : mid.engine.evidence ≡ None → ((counter_in old.pads.used line).line ≡ 127) × ((counter_in old.pads.used line).page < limit)
+              × (paged ≡ next_counter (counter_in old.pads.used line))
+          page_facts quiet =
+              let facts = subst (λ (c : Counter). (c.line ≡ 127) × (c.page < limit) × (raised ≡ c.page + 1)) (sym (counter_here (mid_quiet quiet)))
+              (page_next raised (up_foreseen quiet ∙ is)) in (
+                facts.0,
+                facts.1,
+                ap (λ (p : ℕ). let c : Counter = record { page = p; line = 0 } in c) facts.2
+                    ∙ sym (next_page (counter_in old.pads.used line) facts.0),
+              )
+
+          pub page_overflows : new.engine.evidence ≡ None → (next_counter (counter_in old.pads.used line)).line ≡ 0
+          page_overflows quiet =
+              ap (λ (c : Counter). c.line) (next_page (counter_in old.pads.used line)
+              (page_facts (quiet_before mid.engine.evidence new.engine.evidence sealed.sealed.step.evidence quiet)).0)
+
+          page_terms : terms_of history moved d n mid ≡ terms
+          page_terms = same_terms history moved d n old mid up_reached.node.step.tagger up_reached.node.step.levels
+
+          page_quiet : new.engine.evidence ≡ None → mid.engine.evidence ≡ None
+          page_quiet quiet = quiet_before mid.engine.evidence new.engine.evidence sealed.sealed.step.evidence quiet
+
+          page_order : AreSealedInOrder terms (record { line = line; bytes = bytes; counter = paged }) mid (lines_encrypted paged line) new stop
+          page_order =
+              subst (λ (t : MemoryTerms B). AreSealedInOrder t (record { line = line; bytes = bytes; counter = paged }) mid (lines_encrypted paged line) new stop) page_terms
+              (subst (λ (xs : List ℕ). AreSealedInOrder (terms_of history moved d n mid) (record { line = line; bytes = bytes; counter = paged }) mid xs new stop)
+              (sym (encrypted_page paged line refl)) sealed)
+
+          page_say : stop ≡ None → CountersSay terms new counters''
+          page_say none quiet =
+              let every : take page_order.count (lines_encrypted paged line) ≡ lines_encrypted paged line =
+              take_all page_order.count (lines_encrypted paged line) (omega (arith, page_order.whole none)) in
+              say_page say new counters'' line place limit raised (got_quiet (mid_quiet (page_quiet quiet))) (up_bumped (page_quiet quiet) ∙ is)
+              (late_counters terms old counters mid counters'' new up_reached line bytes paged stop page_order (page_of line) ∙ up_now (page_quiet quiet))
+              (λ other differs. late_counters terms old counters mid counters'' new up_reached line bytes paged stop page_order other ∙ up_others (page_quiet quiet) other differs)
+              (page_order.sealed.entries ∙ ap (λ (xs : List ℕ). mid.pads.used ++ map (λ at. (at, paged)) xs) (every ∙ encrypted_page paged line refl)
+              ∙ ap (λ (u : List (ℕ × Counter)). u ++ map (λ at. (at, paged)) (page_lines (page_of line))) up_reached.node.used) quiet
+
+          pub page_written : IsWrite terms limit line bytes old counters new counters'' stop
+          page_written =
+              late_write terms old counters mid counters'' new up_reached line bytes paged stop page_order moved_on limit
+              (λ quiet. (page_facts (page_quiet quiet)).2)
+              (λ quiet. page_not_last limit (counter_in old.pads.used line) (page_facts (page_quiet quiet)).1) page_say
+              up_room.0 up_room.2 path_on (λ place is. refl) (going_on stop page_order.sealed.unspent)

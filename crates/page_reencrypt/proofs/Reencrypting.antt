@@ -26,9 +26,10 @@ use Rattle.checked_bus.proofs.Steps.{counted_not, moves_not as step_not}
 use Rattle.checked_bus.proofs.TaggedWrites.{wrote_once}
 use Rattle.split_counter.specs.CounterBlock.{CounterBlockView, counter_of, place_of}
 use Rattle.page_reencrypt.specs.Contents.{line_bytes, page_lines}
-use Rattle.page_reencrypt.specs.Outside.{AreAccounted, AreConsistent, AreSealed, AreSealedInOrder, HasCounter, HaveLast, LineWrite, MemoryTerms, OutsideView, terms_of}
+use Rattle.page_reencrypt.specs.Outside.{AreAccounted, AreConsistent, AreSealed, AreSealedInOrder, HasCounter, HaveLast, HaveRisen, LineWrite, MemoryTerms, OutsideView, ShowsLies, terms_of}
 use Rattle.page_reencrypt.specs.SealedLines.{AreReread}
 use Rattle.page_reencrypt.proofs.Consistency.{last_pair-other}
+use Rattle.page_reencrypt.proofs.LineReads.{quiet_before}
 use Rattle.page_reencrypt.proofs.Sealing.{all_in_order, listed_not, listed_one, listed_or_not, one_sealed, one_unwritten, only_read, same_terms, sealed_on}
 
 stopped_by : (result : Result (List ℕ) MemStop) (stop : MemStop) → stop_of result ≡ Some stop → result ≡ Err stop
@@ -119,7 +120,7 @@ reread_on terms write first second third lines more stop a b early late = λ oth
 
 -- a write is one access
 pub one_access : (line : ℕ) (bytes : List ℕ) (old new : BusHistory) → new ≡ after_write (line_place line) bytes old → new.accesses ≤ old.accesses + 1
-one_access line bytes old new wrote = omega (arith, (wrote_once line bytes old new wrote).once)
+one_access line bytes old new wrote = omega (arith, (wrote_once (line_place line) bytes old new wrote).once)
 
 -- The accesses of a page's lines, one after another: there is one of the written line, and two of any other at most.
 
@@ -140,15 +141,16 @@ module _ (line place start at before mid new : ℕ) (start_is : start ≡ 64 * p
       ]
 
 module _ {B T : Type 0} (history : B → BusHistory) (moved : B → B → Type 0) (d n : T → List ℕ → List ℕ) (write : LineWrite) (old : OutsideView B T)
-    (kept : AreConsistent (terms_of history moved d n old) old) (last : HaveLast (terms_of history moved d n old) old) where
+    (kept : AreConsistent (terms_of history moved d n old) old) (rose : HaveRisen (terms_of history moved d n old) old)
+    (last : HaveLast (terms_of history moved d n old) old) where
   abbrev terms : OutsideView B T → MemoryTerms B
   terms = terms_of history moved d n
 
   -- nothing was done yet
   pub sealed_none : moved old.bus old.bus → AreSealed (terms old) write old [] old None
   sealed_none unmoved =
-      only_read (terms old) write old old None unmoved (step_not (history old.bus) old.engine) refl (omega arith) refl refl (counted_not (history old.bus)) kept last
-      (λ was. was) (λ place is. absurd (cc)) (λ page is. cc)
+      only_read (terms old) write old old None unmoved (step_not (history old.bus) old.engine) refl (omega arith) refl refl (counted_not (history old.bus)) kept rose last
+      (λ was. was) (λ quiet. inl quiet) (λ place is. absurd (cc)) (λ page is. cc)
 
   -- another line of the page was read
   pub read_sealed : (at : ℕ) (new : OutsideView B T) (result : Result (List ℕ) MemStop) → at ≢ write.line → page_of at ≡ page_of write.line →
@@ -156,13 +158,15 @@ module _ {B T : Type 0} (history : B → BusHistory) (moved : B → B → Type 0
       new.engine.room ≡ old.engine.room → new.pads ≡ old.pads → (history new.bus).written ≡ (history old.bus).written →
       AreCounted (history old.bus) (history new.bus) 0 →
       (AreAccounted (terms old) old None → AreAccounted (terms old) new (stop_of result)) →
-      ((place : Place) → result ≡ Err (Tampered place) → (place ≡ line_place at) × Rose (history old.bus).lies (history new.bus).lies) →
+      ShowsLies (terms old) old new →
+      ((place : Place) → result ≡ Err (Tampered place) → (place ≡ line_place at)
+      × (old.engine.evidence ≡ None → Rose (history old.bus).lies (history new.bus).lies)) →
       ((page : ℕ) → result ≢ Err (Spent page)) → AreSealed (terms old) write old [] new (stop_of result)
-  read_sealed at new result apart of_page went moves made room pads written counted accounted tampered unspent =
-      only_read (terms old) write old new (stop_of result) went moves made (omega (arith, room)) pads written counted kept last accounted
+  read_sealed at new result apart of_page went moves made room pads written counted accounted shows tampered unspent =
+      only_read (terms old) write old new (stop_of result) went moves made (omega (arith, room)) pads written counted kept rose last accounted shows
       (λ place is.
       let there = tampered place (stopped_by result (Tampered place) is) in
-      record { other = at; place_is = there.0; of_page = of_page; apart = apart; lied = there.1 })
+      (record { other = at; place_is = there.0; of_page = of_page; apart = apart }, there.1))
       (λ page is. unspent page (stopped_by result (Spent page) is))
 
   -- it stopped
@@ -172,7 +176,7 @@ module _ {B T : Type 0} (history : B → BusHistory) (moved : B → B → Type 0
     count = 0;
     within = omega arith;
     sealed = is;
-    reread = λ other listed. absurd (listed_not other listed);
+    reread = λ quiet other listed. absurd (listed_not other listed);
     whole = λ none. absurd (cc);
     failed = λ other is.
         let why : stop ≡ Tampered (line_place other) = cc in
@@ -186,7 +190,7 @@ module _ {B T : Type 0} (history : B → BusHistory) (moved : B → B → Type 0
     pub made : mid.engine.made ≡ old.engine.made
     pub pads : mid.pads ≡ old.pads
     pub once : (history mid.bus).accesses ≤ (history old.bus).accesses + 1
-    pub reread : at ≢ write.line → IsFresh at old.pads.used ⊎ Rose ((history old.bus).reads (line_place at)) ((history mid.bus).reads (line_place at))
+    pub reread : mid.engine.evidence ≡ None → at ≢ write.line → IsFresh at old.pads.used ⊎ Rose ((history old.bus).reads (line_place at)) ((history mid.bus).reads (line_place at))
     pub held : ((at ≡ write.line) × (plain ≡ write.bytes))
         ⊎ ((at ≢ write.line) × (mid.engine.evidence ≡ None → plain ≡ line_bytes old.pads.key old.engine.made at))
 
@@ -196,25 +200,26 @@ module _ {B T : Type 0} (history : B → BusHistory) (moved : B → B → Type 0
     made = refl;
     pads = refl;
     once = omega arith;
-    reread = λ differs. absurd (differs same);
+    reread = λ quiet differs. absurd (differs same);
     held = inl (same, bytes);
   }
 
   pub ready_read : (at : ℕ) (plain found : List ℕ) (mid : OutsideView B T) → AreSealed (terms old) write old [] mid None → mid.engine.made ≡ old.engine.made →
       mid.pads ≡ old.pads → (history mid.bus).accesses ≤ (history old.bus).accesses + 1 → at ≢ write.line → plain ≡ found →
       (mid.engine.evidence ≡ None → found ≡ line_bytes old.pads.key old.engine.made at) →
-      IsFresh at old.pads.used ⊎ Rose ((history old.bus).reads (line_place at)) ((history mid.bus).reads (line_place at)) → IsReady at plain mid
-  ready_read at plain found mid sealed made pads once differs same value rose = record {
+      (mid.engine.evidence ≡ None → IsFresh at old.pads.used
+      ⊎ Rose ((history old.bus).reads (line_place at)) ((history mid.bus).reads (line_place at))) → IsReady at plain mid
+  ready_read at plain found mid sealed made pads once differs same value rose_to = record {
     sealed = sealed;
     made = made;
     pads = pads;
     once = once;
-    reread = λ apart. rose;
+    reread = λ quiet apart. rose_to quiet;
     held = inr (differs, λ quiet. same ∙ value quiet);
   }
 
   module _ (at : ℕ) (plain : List ℕ) (mid new : OutsideView B T) (previous : Counter) (ready : IsReady at plain mid)
-      (inside : at < line_count old.engine.levels) (had : HasCounter old.pads.used at previous) (later : IsBefore previous write.counter)
+      (inside : at < line_count old.engine.levels) (had : old.engine.evidence ≡ None → HasCounter old.pads.used at previous × IsBefore previous write.counter)
       (used : new.pads ≡ after_encrypt at write.counter mid.pads)
       (made : new.engine ≡ after_make (Line at write.counter (cipher_of mid.pads.key at write.counter plain)) mid.engine)
       (undone : cipher_of mid.pads.key at write.counter (cipher_of mid.pads.key at write.counter plain) ≡ plain)
@@ -235,8 +240,13 @@ module _ {B T : Type 0} (history : B → BusHistory) (moved : B → B → Type 0
     inside_mid : at < line_count mid.engine.levels
     inside_mid = subst (λ (l : ℕ). at < line_count l) (sym ready.sealed.step.levels) inside
 
-    had_mid : HasCounter mid.pads.used at previous
-    had_mid = subst (λ (p : PadEngineView). HasCounter p.used at previous) (sym ready.pads) had
+    rose_mid : HaveRisen (terms mid) mid
+    rose_mid = ready.sealed.risen
+
+    had_mid : mid.engine.evidence ≡ None → HasCounter mid.pads.used at previous × IsBefore previous write.counter
+    had_mid quiet =
+        let had_it = had (quiet_before old.engine.evidence mid.engine.evidence ready.sealed.step.evidence quiet) in
+        (subst (λ (p : PadEngineView). HasCounter p.used at previous) (sym ready.pads) had_it.0, had_it.1)
 
     held_mid : ((at ≡ write.line) × (plain ≡ write.bytes))
         ⊎ ((at ≢ write.line) × (mid.engine.evidence ≡ None → plain ≡ line_bytes mid.pads.key mid.engine.made at))
@@ -251,11 +261,11 @@ module _ {B T : Type 0} (history : B → BusHistory) (moved : B → B → Type 0
               )
         ]
 
-    reread : AreReread write.line (at ∷ []) old.pads.used (history old.bus) (history new.bus)
-    reread = λ other listed differs.
+    reread : new.engine.evidence ≡ None → AreReread write.line (at ∷ []) old.pads.used (history old.bus) (history new.bus)
+    reread = λ quiet other listed differs.
         let here = listed_one at other listed in
         subst (λ (line : ℕ). IsFresh line old.pads.used ⊎ Rose ((history old.bus).reads (line_place line)) ((history new.bus).reads (line_place line))) here
-        (elim (ready.reread (λ own. differs (sym here ∙ own))) [
+        (elim (ready.reread (quiet_before mid.engine.evidence new.engine.evidence moves.evidence quiet) (λ own. differs (sym here ∙ own))) [
           | inl fresh ↦ inl fresh
           | inr rose ↦ let on = moves.reads (line_place at) in inr (omega (arith, rose, on))
         ])
@@ -273,26 +283,29 @@ module _ {B T : Type 0} (history : B → BusHistory) (moved : B → B → Type 0
         AreSealedInOrder (terms old) write old (at ∷ []) new None
     line_sealed wrote =
         after_ready None
-        (one_sealed (terms mid) write mid new at previous plain kept_mid last_mid inside_mid had_mid later held_mid used made undone moves went honest wrote)
+        (one_sealed (terms mid) write mid new at previous plain kept_mid rose_mid last_mid inside_mid had_mid held_mid used made undone moves went honest wrote)
         (λ place is. cc)
 
     -- there was no memory to write it
     pub line_unwritten : history new.bus ≡ history mid.bus → AreSealedInOrder (terms old) write old (at ∷ []) new (Some NoMemory)
     line_unwritten unwritten =
         after_ready (Some NoMemory)
-        (one_unwritten (terms mid) write mid new at previous plain kept_mid last_mid inside_mid had_mid later held_mid used made undone moves went honest unwritten)
+        (one_unwritten (terms mid) write mid new at previous plain kept_mid rose_mid last_mid inside_mid had_mid held_mid used made undone moves went honest unwritten)
         (λ place is. cc)
 
 -- A page is encrypted anew line by line: those at the places below this one were sealed.
 
 module _ {B T : Type 0} (history : B → BusHistory) (moved : B → B → Type 0) (d n : T → List ℕ → List ℕ) (write : LineWrite) (old mid : OutsideView B T)
     (first place : ℕ) (sealed : AreSealed (terms_of history moved d n old) write old (range_with_len first place) mid None)
-    (reread : AreReread write.line (range_with_len first place) old.pads.used (history old.bus) (history mid.bus)) where
+    (reread : mid.engine.evidence ≡ None → AreReread write.line (range_with_len first place) old.pads.used (history old.bus) (history mid.bus)) where
   mid_terms : terms_of history moved d n mid ≡ terms_of history moved d n old
   mid_terms = same_terms history moved d n old mid sealed.step.tagger sealed.step.levels
 
   pub page_consistent : AreConsistent (terms_of history moved d n mid) mid
   page_consistent = subst (λ (t : MemoryTerms B). AreConsistent t mid) (sym mid_terms) sealed.consistent
+
+  pub page_risen : HaveRisen (terms_of history moved d n mid) mid
+  page_risen = sealed.risen
 
   pub page_last : HaveLast (terms_of history moved d n mid) mid
   page_last = subst (λ (t : MemoryTerms B). HaveLast t mid) (sym mid_terms) (sealed.holds_last (λ is. cc))
@@ -312,14 +325,21 @@ module _ {B T : Type 0} (history : B → BusHistory) (moved : B → B → Type 0
         subst (λ (l : ℕ). at < line_count l) (sym sealed.step.levels) (omega (arith, here, start, below, inside))
 
     pub page_counter : (line : ℕ) (block : CounterBlockView) (counter : Counter) → first ≡ 64 * page_of line → place < 64 → counter ≡ counter_of place block →
-        ((other : ℕ) → page_of other ≡ page_of line → HasCounter old.pads.used other (counter_of (place_of other) block)) → HasCounter mid.pads.used at counter
-    page_counter line block counter start below is had =
+        (old.engine.evidence ≡ None → (other : ℕ) → page_of other ≡ page_of line → HasCounter old.pads.used other (counter_of (place_of other) block)) →
+        (old.engine.evidence ≡ None → block.page < write.counter.page) →
+        mid.engine.evidence ≡ None → HasCounter mid.pads.used at counter × IsBefore counter write.counter
+    page_counter line block counter start below is had_all later_all quiet =
+        let was_quiet = quiet_before old.engine.evidence mid.engine.evidence sealed.step.evidence quiet in
+        let had = had_all was_quiet in
+        let later = later_all was_quiet in
         let of_page : page_of at ≡ page_of line = omega (arith, here, start, below) in
         let in_page : place_of at ≡ place = omega (arith, here, start, below) in
         let was : HasCounter old.pads.used at counter =
-        subst (HasCounter old.pads.used at) (ap (λ (k : ℕ). counter_of k block) in_page ∙ sym is) (had at of_page) in
-        subst (λ (u : List (ℕ × Counter)). HasCounter u at counter) (sym sealed.entries)
-        (counter_unlisted old.pads.used (range_with_len first place) write.counter counter at (not_in_range first place at (omega (arith, here))) was)
+        subst (HasCounter old.pads.used at) (ap (λ (k : ℕ). counter_of k block) in_page ∙ sym is) (had at of_page) in (
+          subst (λ (u : List (ℕ × Counter)). HasCounter u at counter) (sym sealed.entries)
+              (counter_unlisted old.pads.used (range_with_len first place) write.counter counter at (not_in_range first place at (omega (arith, here))) was),
+          inl (omega (arith, later, ap (λ (c : Counter). c.page) is)),
+        )
 
     module _ (moved_on : (first second third : B) → moved first second → moved second third → moved first third) (new : OutsideView B T) (stop : Option MemStop)
         (is : AreSealedInOrder (terms_of history moved d n mid) write mid (at ∷ []) new stop) where
@@ -331,14 +351,15 @@ module _ {B T : Type 0} (history : B → BusHistory) (moved : B → B → Type 0
           (sealed_on (terms_of history moved d n old) write moved_on old mid new (range_with_len first place) (take is.count (at ∷ [])) stop sealed
           (subst (λ (t : MemoryTerms B). AreSealed t write mid (take is.count (at ∷ [])) new stop) mid_terms is.sealed))
 
-      page_reread : AreReread write.line (range_with_len first (place + is.count)) old.pads.used (history old.bus) (history new.bus)
-      page_reread =
+      page_reread : new.engine.evidence ≡ None →
+          AreReread write.line (range_with_len first (place + is.count)) old.pads.used (history old.bus) (history new.bus)
+      page_reread quiet =
           let lines = range_part first place is.count is.within in
           subst (λ (xs : List ℕ). AreReread write.line xs old.pads.used (history old.bus) (history new.bus))
           (ap (λ (a : ℕ). range_with_len first place ++ take is.count (a ∷ [])) here ∙ lines)
           (reread_on (terms_of history moved d n old) write old mid new (range_with_len first place) (take is.count (at ∷ [])) stop sealed
           (subst (λ (t : MemoryTerms B). AreSealed t write mid (take is.count (at ∷ [])) new stop) mid_terms is.sealed)
-          reread is.reread)
+          (reread (quiet_before mid.engine.evidence new.engine.evidence is.sealed.step.evidence quiet)) (is.reread quiet))
 
       -- the next line was sealed too
       pub page_more : stop ≡ None → AreSealed (terms_of history moved d n old) write old (range_with_len first (place + 1)) new None
@@ -346,9 +367,11 @@ module _ {B T : Type 0} (history : B → BusHistory) (moved : B → B → Type 0
           subst (λ (s : Option MemStop). AreSealed (terms_of history moved d n old) write old (range_with_len first (place + 1)) new s) goes_on
           (subst (λ (k : ℕ). AreSealed (terms_of history moved d n old) write old (range_with_len first (place + k)) new stop) (is.whole goes_on) page_on)
 
-      pub page_more_reread : stop ≡ None → AreReread write.line (range_with_len first (place + 1)) old.pads.used (history old.bus) (history new.bus)
-      page_more_reread goes_on =
-          subst (λ (k : ℕ). AreReread write.line (range_with_len first (place + k)) old.pads.used (history old.bus) (history new.bus)) (is.whole goes_on) page_reread
+      pub page_more_reread : stop ≡ None → new.engine.evidence ≡ None →
+          AreReread write.line (range_with_len first (place + 1)) old.pads.used (history old.bus) (history new.bus)
+      page_more_reread goes_on quiet =
+          subst (λ (k : ℕ). AreReread write.line (range_with_len first (place + k)) old.pads.used (history old.bus) (history new.bus)) (is.whole goes_on)
+          (page_reread quiet)
 
       -- it stopped at the next line
       pub page_stopped : (page : ℕ) → first ≡ 64 * page → place < 64 → stop ≢ None →
@@ -359,7 +382,7 @@ module _ {B T : Type 0} (history : B → BusHistory) (moved : B → B → Type 0
             count = place + is.count;
             within = omega (arith, below, is.within, length-range_with_len (64 * page) 64);
             sealed = subst (λ (xs : List ℕ). AreSealed (terms_of history moved d n old) write old xs new stop) part page_on;
-            reread = subst (λ (xs : List ℕ). AreReread write.line xs old.pads.used (history old.bus) (history new.bus)) part page_reread;
+            reread = λ quiet. subst (λ (xs : List ℕ). AreReread write.line xs old.pads.used (history old.bus) (history new.bus)) part (page_reread quiet);
             whole = λ goes_on. absurd (stopped goes_on);
             failed = λ other failed.
                 let next = only_one at is.count other (is.failed other failed) in

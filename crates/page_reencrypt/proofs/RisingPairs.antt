@@ -1,5 +1,5 @@
 -- Lines and counters that rise, and the messages that they are of.
-use Rattle.std.proofs.Common.{◌≡◌, ◌⊎◌, inl, inr, ℕ, zero, suc, ◌+◌, ◌<◌, ◌≤◌, Bool, true, false, cond, nat_eq, nat_lt, List, [], ◌∷◌, length, fold, Option, Some, None, Contains, unwrap_or, refl, ap, sym, ◌∙◌, subst, arith}
+use Rattle.std.proofs.Common.{◌≡◌, ◌↔◌, ◌⊎◌, inl, inr, ℕ, zero, suc, ◌+◌, ◌<◌, ◌≤◌, Bool, true, false, cond, nat_eq, nat_lt, List, [], ◌∷◌, length, fold, Option, Some, None, Contains, unwrap_or, refl, ap, sym, ◌∙◌, subst, arith}
 use Rattle.std.specs.Option.{option_map, option_or}
 use Rattle.std.specs.List.{filter, slice_get}
 use Rattle.std.proofs.lemmas.Bool.Decides.{Decides-eqb}
@@ -258,6 +258,18 @@ has_counter limit used line within = has_by limit used line (last_pair line used
 pub counter_had : (used : List (ℕ × Counter)) (line : ℕ) (counter : Counter) → HasCounter used line counter → counter_in used line ≡ counter
 counter_had used line counter (inl fresh) = ap (λ (last : Option Counter). unwrap_or last never_written) fresh.0 ∙ sym fresh.1
 counter_had used line counter (inr had) = ap (λ (last : Option Counter). unwrap_or last never_written) had.0
+
+fresh_by : (limit : ℕ) (used : List (ℕ × Counter)) (line : ℕ) (last : Option Counter) → AreWithin limit used → last_pair line used ≡ last →
+    unwrap_or last never_written ≡ never_written → last ≡ None
+fresh_by limit used line None within is none = refl
+fresh_by limit used line (Some last) within is none = absurd (within.started line last (last_listed line used last is) none)
+
+-- a line without an entry has the counter of one that was never written, and no other line has
+pub counter_fresh : (limit : ℕ) (used : List (ℕ × Counter)) (line : ℕ) → AreWithin limit used → (counter_in used line ≡ never_written) ↔ IsFresh line used
+counter_fresh limit used line within = (
+  λ none. fresh_by limit used line (last_pair line used) within refl none,
+  λ fresh. ap (λ (last : Option Counter). unwrap_or last never_written) fresh,
+)
 
 -- A line's last message
 

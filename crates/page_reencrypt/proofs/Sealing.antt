@@ -4,33 +4,36 @@ use Rattle.std.proofs.lemmas.Bool.{cases_eq}
 use Rattle.std.proofs.lemmas.List.{append-nil, map-append, take_all}
 use Rattle.std.proofs.lemmas.List.Elements.{Contains-append_cases, Contains-append_left, Contains-append_right}
 use Rattle.sec_base.specs.declared.counter.Counter.{Counter}
-use Rattle.sec_base.specs.declared.evidence.Evidence.{Evidence}
 use Rattle.sec_base.specs.declared.message.Message.{Message}
 use Rattle.sec_base.specs.declared.message.Message.TheVariants.{Line}
 use Rattle.sec_base.specs.declared.place.Place.{Place}
-use Rattle.sec_base.specs.declared.place.Place.TheVariants.{Line as line_place}
+use Rattle.sec_base.specs.declared.place.Place.TheVariants.{Line as line_place, Node as node_place}
 use Rattle.sec_base.specs.declared.stop.MemStop.{MemStop}
 use Rattle.sec_base.specs.declared.stop.MemStop.TheVariants.{Tampered, Spent, NoMemory}
+use Rattle.sec_base.specs.Count.{Rose}
 use Rattle.sec_base.specs.Geometry.{line_count}
-use Rattle.sec_base.specs.LastMessage.{data_pairs, last_data}
+use Rattle.sec_base.specs.LastMessage.{data_pairs, last_data, last_node}
+use Rattle.sec_base.proofs.SamePlaces.{at_place-there}
 use Rattle.bus_model.specs.BusHistory.{BusHistory, after_write}
-use Rattle.tag_engine.specs.TagEngine.{TagEngineView, after_make, tags_of, with_room as tags_with_room}
+use Rattle.tag_engine.specs.TagEngine.{TagEngineView, after_make, tags_of}
 use Rattle.pad_stream.specs.Pad.{cipher_of}
 use Rattle.pad_stream.specs.PadEngine.{PadEngineView, after_encrypt}
-use Rattle.pad_stream.specs.Pads.{IsBefore}
+use Rattle.pad_stream.specs.Pads.{AreRising, IsBefore}
 use Rattle.pad_stream.proofs.Enciphering.{length-cipher_of}
 use Rattle.checked_bus.specs.Accesses.{AreCounted}
 use Rattle.checked_bus.specs.SealedLine.{sealed_line}
 use Rattle.checked_bus.specs.Steps.{IsAccounted, Moves as StepMoves}
+use Rattle.checked_bus.specs.Steps.{unwritten_in}
 use Rattle.checked_bus.proofs.LineMessages.{last_data-same, last_data-other}
 use Rattle.checked_bus.proofs.Steps.{counted_not, counted_on, data_pairs-append, moves_on as step_on}
 use Rattle.checked_bus.proofs.TaggedWrites.{wrote_once}
 use Rattle.page_reencrypt.specs.Contents.{HoldsLast, bytes_of, line_bytes}
 use Rattle.page_reencrypt.specs.Consistency.{IsConsistent}
-use Rattle.page_reencrypt.specs.Outside.{AreAccounted, AreConsistent, AreSealed, AreSealedInOrder, DiffersInRoom, HasCounter, HaveLast, LineWrite, MemoryTerms, OutsideView, terms_of, with_room}
-use Rattle.page_reencrypt.specs.SealedLines.{AreReread, IsTamperedBeside}
-use Rattle.page_reencrypt.specs.Stops.{unwritten}
-use Rattle.page_reencrypt.proofs.Consistency.{unwritten_consistent, written_consistent, written_last}
+use Rattle.page_reencrypt.specs.Outside.{AreAccounted, AreConsistent, AreSealed, AreSealedInOrder, HasCounter, HaveLast, HaveRisen, LineWrite, MemoryTerms, OutsideView, ShowsLies, terms_of}
+use Rattle.page_reencrypt.specs.SealedLines.{AreReread, IsBeside}
+use Rattle.page_reencrypt.proofs.Consistency.{risen_more, unwritten_consistent, written_consistent, written_last}
+use Rattle.page_reencrypt.proofs.LineReads.{quiet_before}
+use Rattle.page_reencrypt.proofs.Nodes.{last_node-line, node_there}
 use Rattle.page_reencrypt.proofs.Stops.{other_stop}
 use Rattle.page_reencrypt.proofs.Unmade.{same_consistent, same_tags}
 
@@ -89,21 +92,17 @@ one_pair : (line : ℕ) (counter : Counter) (cipher : List ℕ) → data_pairs (
 unfolding data_pairs
 one_pair line counter cipher = refl
 
--- without evidence there was none before
-quiet_before : (before after : Option Evidence) → ((evidence : Evidence) → before ≡ Some evidence → after ≡ Some evidence) → after ≡ None → before ≡ None
-quiet_before None after stays quiet = refl
-quiet_before (Some evidence) after stays quiet = absurd (let some : after ≡ Some evidence = stays evidence refl in cc)
-
 module _ {B T : Type 0} (terms : MemoryTerms B) (write : LineWrite) where
   -- nothing was done but a read, or not even that
   pub only_read : (old new : OutsideView B T) (stop : Option MemStop) → terms.moved old.bus new.bus →
       StepMoves (terms.history old.bus) old.engine (terms.history new.bus) new.engine → new.engine.made ≡ old.engine.made →
       old.engine.room ≤ new.engine.room → new.pads ≡ old.pads → (terms.history new.bus).written ≡ (terms.history old.bus).written →
-      AreCounted (terms.history old.bus) (terms.history new.bus) 0 → AreConsistent terms old → HaveLast terms old →
-      (AreAccounted terms old None → AreAccounted terms new stop) →
-      ((place : Place) → stop ≡ Some (Tampered place) → IsTamperedBeside write.line place (terms.history old.bus) (terms.history new.bus)) →
+      AreCounted (terms.history old.bus) (terms.history new.bus) 0 → AreConsistent terms old → HaveRisen terms old → HaveLast terms old →
+      (AreAccounted terms old None → AreAccounted terms new stop) → ShowsLies terms old new →
+      ((place : Place) → stop ≡ Some (Tampered place) → IsBeside write.line place
+      × (old.engine.evidence ≡ None → Rose (terms.history old.bus).lies (terms.history new.bus).lies)) →
       ((page : ℕ) → stop ≢ Some (Spent page)) → AreSealed terms write old [] new stop
-  only_read old new stop moved moves made room pads written counted kept last accounted tampered unspent = record {
+  only_read old new stop moved moves made room pads written counted kept risen last accounted shows tampered unspent = record {
     bus = moved;
     step = record {
       bus_levels = moves.bus_levels;
@@ -115,6 +114,10 @@ module _ {B T : Type 0} (terms : MemoryTerms B) (write : LineWrite) where
       reads = moves.reads;
       accesses = moves.accesses;
       lies = moves.lies;
+    };
+    nodes = record {
+      written = λ level index. ap (λ (w : Place → List ℕ). w (node_place level index)) written;
+      last = λ level index. ap (last_node level index) made;
     };
     key = ap (λ (p : PadEngineView). p.key) pads;
     entries = ap (λ (p : PadEngineView). p.used) pads ∙ sym (append-nil old.pads.used);
@@ -129,85 +132,27 @@ module _ {B T : Type 0} (terms : MemoryTerms B) (write : LineWrite) where
     consistent = subst (λ (p : PadEngineView). IsConsistent terms.tag_of terms.levels (terms.history new.bus) new.engine.made p.used) (sym pads)
         (subst (λ (m : List Message). IsConsistent terms.tag_of terms.levels (terms.history new.bus) m old.pads.used) (sym made)
         (same_consistent terms.tag_of terms.levels (terms.history old.bus) (terms.history new.bus) old.engine.made old.pads.used kept moves.bus_levels written));
+    risen = λ quiet.
+        subst (λ (p : PadEngineView). AreRising p.used) (sym pads) (risen (quiet_before old.engine.evidence new.engine.evidence moves.evidence quiet));
     holds_last = λ goes_on.
         subst (λ (m : List Message). HoldsLast terms.tag_of (line_count terms.levels) m (terms.history new.bus).written) (sym made)
         (subst (HoldsLast terms.tag_of (line_count terms.levels) old.engine.made) (sym written) last);
+    untouched = λ other unlisted. ap (λ (w : Place → List ℕ). w (line_place other)) written;
     own = λ listed. absurd (listed_not write.line listed);
     own_bytes = λ listed. absurd (listed_not write.line listed);
     not_yet = λ unlisted. ap (last_data write.line) made;
     others = λ quiet other differs. ap (λ (m : List Message). line_bytes old.pads.key m other) made;
     accounted = accounted;
-    tampered = tampered;
+    shows = shows;
+    lied = λ place is quiet. (tampered place is).1 quiet;
+    tampered = λ place is. (tampered place is).0;
     unspent = unspent;
-  }
-
-  -- Nothing was done but that memory may have been taken.
-  pub sealed_not : (old new : OutsideView B T) (stop : Option MemStop) → terms.moved old.bus old.bus → DiffersInRoom old new →
-      AreConsistent terms old → HaveLast terms old → ((place : Place) → stop ≢ Some (Tampered place)) → ((page : ℕ) → stop ≢ Some (Spent page)) →
-      AreSealed terms write old [] new stop
-  sealed_not old new stop unmoved same kept last untampered unspent =
-      let roomy : OutsideView B T = record old { engine = tags_with_room same.room old.engine } in
-      let is : new ≡ roomy =
-      ap (λ (b : B). let o : OutsideView B T = record { bus = b; engine = new.engine; pads = new.pads } in o) same.bus
-      ∙ ap (λ (e : TagEngineView T). let o : OutsideView B T = record { bus = old.bus; engine = e; pads = new.pads } in o) same.engine
-      ∙ ap (λ (p : PadEngineView). let o : OutsideView B T = record { bus = old.bus; engine = tags_with_room same.room old.engine; pads = p } in o) same.pads in
-      let step : StepMoves (terms.history old.bus) old.engine (terms.history roomy.bus) roomy.engine = record {
-        bus_levels = refl;
-        levels = refl;
-        tagger = refl;
-        more = [];
-        made = sym (append-nil old.engine.made);
-        evidence = λ evidence is. is;
-        reads = λ place. omega arith;
-        accesses = omega arith;
-        lies = omega arith;
-      } in
-      subst (λ (o : OutsideView B T). AreSealed terms write old [] o stop) (sym is)
-      (only_read old roomy stop unmoved step refl (omega arith) refl refl (counted_not (terms.history old.bus)) kept last
-      (other_stop terms.tag_of old.pads.used old.engine.made (terms.history old.bus) None stop old.engine.evidence (λ place is. cc) untampered)
-      (λ place is. absurd (untampered place is)) unspent)
-
-  -- memory that was taken before says nothing of what was sealed
-  pub roomier : (n : ℕ) (old : OutsideView B T) (lines : List ℕ) (new : OutsideView B T) (stop : Option MemStop) →
-      AreSealed terms write (with_room n old) lines new stop → AreSealed terms write old lines new stop
-  roomier n old lines new stop is = record {
-    bus = is.bus;
-    step = record {
-      bus_levels = is.step.bus_levels;
-      levels = is.step.levels;
-      tagger = is.step.tagger;
-      more = is.step.more;
-      made = is.step.made;
-      evidence = is.step.evidence;
-      reads = is.step.reads;
-      accesses = is.step.accesses;
-      lies = is.step.lies;
-    };
-    key = is.key;
-    entries = is.entries;
-    pairs = is.pairs;
-    as_many = is.as_many;
-    writes = is.writes;
-    counted = is.counted;
-    at_most = is.at_most;
-    at_least = is.at_least;
-    room = omega (arith, is.room);
-    pads_room = omega (arith, is.pads_room);
-    consistent = is.consistent;
-    holds_last = is.holds_last;
-    own = is.own;
-    own_bytes = is.own_bytes;
-    not_yet = is.not_yet;
-    others = is.others;
-    accounted = is.accounted;
-    tampered = is.tampered;
-    unspent = is.unspent;
   }
 
   -- One line was sealed. With `plain` it is the written line with its new bytes, or another one with what it held.
   module _ (old new : OutsideView B T) (at : ℕ) (previous : Counter) (plain : List ℕ)
-      (kept : AreConsistent terms old) (last : HaveLast terms old) (inside : at < line_count terms.levels)
-      (had : HasCounter old.pads.used at previous) (later : IsBefore previous write.counter)
+      (kept : AreConsistent terms old) (rose : HaveRisen terms old) (last : HaveLast terms old) (inside : at < line_count terms.levels)
+      (had : old.engine.evidence ≡ None → HasCounter old.pads.used at previous × IsBefore previous write.counter)
       (held : ((at ≡ write.line) × (plain ≡ write.bytes))
       ⊎ ((at ≢ write.line) × (old.engine.evidence ≡ None → plain ≡ line_bytes old.pads.key old.engine.made at)))
       (used : new.pads ≡ after_encrypt at write.counter old.pads)
@@ -295,13 +240,22 @@ module _ {B T : Type 0} (terms : MemoryTerms B) (write : LineWrite) where
           | inr apart ↦ ap (bytes_of old.pads.key other) (last_there other apart)
         ]
 
-    one_with : (stop : Option MemStop) (writes : ℕ) → AreCounted (terms.history old.bus) (terms.history new.bus) writes → writes ≤ 1 → 1 ≤ writes + unwritten stop →
+    was_quiet : new.engine.evidence ≡ None → old.engine.evidence ≡ None
+    was_quiet quiet = sym (ap (λ (e : TagEngineView T). e.evidence) made) ∙ quiet
+
+    one_with : (stop : Option MemStop) (writes : ℕ) → AreCounted (terms.history old.bus) (terms.history new.bus) writes → writes ≤ 1 → 1 ≤ writes + unwritten_in stop →
+        ((level index : ℕ) → (terms.history new.bus).written (node_place level index) ≡ (terms.history old.bus).written (node_place level index)) →
+        ((other : ℕ) → other ≢ at → (terms.history new.bus).written (line_place other) ≡ (terms.history old.bus).written (line_place other)) →
         IsConsistent terms.tag_of terms.levels (terms.history new.bus) made_now used_now →
         (stop ≢ Some NoMemory → HoldsLast terms.tag_of (line_count terms.levels) made_now (terms.history new.bus).written) →
         ((place : Place) → stop ≢ Some (Tampered place)) → ((page : ℕ) → stop ≢ Some (Spent page)) → AreSealed terms write old (at ∷ []) new stop
-    one_with stop writes counted most least fits lasts untampered unspent = record {
+    one_with stop writes counted most least nodes lines fits lasts untampered unspent = record {
       bus = moved;
       step = step;
+      nodes = record {
+        written = nodes;
+        last = λ level index. ap (last_node level index) made_is ∙ last_node-line old.engine.made at write.counter cipher level index;
+      };
       key = ap (λ (p : PadEngineView). p.key) used;
       entries = used_is;
       pairs = one_pair at write.counter cipher;
@@ -314,8 +268,12 @@ module _ {B T : Type 0} (terms : MemoryTerms B) (write : LineWrite) where
       pads_room = omega (arith, ap (λ (p : PadEngineView). p.room) used);
       consistent = subst (λ (m : List Message). IsConsistent terms.tag_of terms.levels (terms.history new.bus) m new.pads.used) (sym made_is)
           (subst (λ (u : List (ℕ × Counter)). IsConsistent terms.tag_of terms.levels (terms.history new.bus) made_now u) (sym used_is) fits);
+      risen = λ quiet.
+          let had_it = had (was_quiet quiet) in
+          subst AreRising (sym used_is) (risen_more old.pads.used at previous write.counter (rose (was_quiet quiet)) had_it.0 had_it.1);
       holds_last = λ goes_on.
           subst (λ (m : List Message). HoldsLast terms.tag_of (line_count terms.levels) m (terms.history new.bus).written) (sym made_is) (lasts goes_on);
+      untouched = λ other unlisted. lines other (λ same. unlisted (zero, omega arith, sym same));
       own = own;
       own_bytes = own_bytes;
       not_yet = not_yet;
@@ -323,6 +281,8 @@ module _ {B T : Type 0} (terms : MemoryTerms B) (write : LineWrite) where
       accounted = λ was.
           other_stop terms.tag_of new.pads.used new.engine.made (terms.history new.bus) None stop new.engine.evidence (λ place is. cc) untampered
           (honest old.pads.used new.pads.used was);
+      shows = λ quiet. inl (ap (λ (e : TagEngineView T). e.evidence) made ∙ quiet);
+      lied = λ place is quiet. absurd (untampered place is);
       tampered = λ place is. absurd (untampered place is);
       unspent = unspent;
     }
@@ -331,14 +291,20 @@ module _ {B T : Type 0} (terms : MemoryTerms B) (write : LineWrite) where
     pub one_sealed : terms.history new.bus ≡ after_write (line_place at) (sealed_line terms.tag_of at write.counter cipher) (terms.history old.bus) →
         AreSealed terms write old (at ∷ []) new None
     one_sealed wrote =
-        let once = wrote_once at (sealed_line terms.tag_of at write.counter cipher) (terms.history old.bus) (terms.history new.bus) wrote in
+        let once = wrote_once (line_place at) (sealed_line terms.tag_of at write.counter cipher) (terms.history old.bus) (terms.history new.bus) wrote in
         let long : length cipher ≡ 64 = length-cipher_of old.pads.key at write.counter plain in
         one_with None 1 once.counted (omega arith) (omega arith)
-        (written_consistent terms.tag_of terms.levels (terms.history old.bus) old.engine.made old.pads.used at previous write.counter cipher
-        kept inside had later long (terms.history new.bus) moves.bus_levels once.written)
+        (λ level index. ap (λ (w : Place → List ℕ). w (node_place level index)) once.written
+        ∙ node_there at (sealed_line terms.tag_of at write.counter cipher) (terms.history old.bus).written level index)
+        (λ other differs.
+        let apart : line_place other ≢ line_place at = λ same. differs (cc) in
+        ap (λ (w : Place → List ℕ). w (line_place other)) once.written
+        ∙ at_place-there (line_place at) (line_place other) (sealed_line terms.tag_of at write.counter cipher) (terms.history old.bus).written apart)
+        (written_consistent terms.tag_of terms.levels (terms.history old.bus) old.engine.made old.pads.used at write.counter cipher
+        kept inside long (terms.history new.bus) moves.bus_levels once.written)
         (λ goes_on. subst (HoldsLast terms.tag_of (line_count terms.levels) made_now) (sym once.written)
-        (written_last terms.tag_of terms.levels (terms.history old.bus) old.engine.made old.pads.used at previous write.counter cipher
-        kept inside had later long last))
+        (written_last terms.tag_of terms.levels (terms.history old.bus) old.engine.made old.pads.used at write.counter cipher
+        kept inside long last))
         (λ place is. cc) (λ page is. cc)
 
     -- there was no memory to write it
@@ -346,14 +312,16 @@ module _ {B T : Type 0} (terms : MemoryTerms B) (write : LineWrite) where
     one_unwritten same =
         let long : length cipher ≡ 64 = length-cipher_of old.pads.key at write.counter plain in
         one_with (Some NoMemory) 0 (subst (λ (t : BusHistory). AreCounted (terms.history old.bus) t 0) (sym same) (counted_not (terms.history old.bus)))
-        (omega arith) (omega arith)
-        (unwritten_consistent terms.tag_of terms.levels (terms.history old.bus) old.engine.made old.pads.used at previous write.counter cipher
-        kept inside had later long (terms.history new.bus) moves.bus_levels (ap (λ (t : BusHistory). t.written) same))
+        (omega arith) (omega arith) (λ level index. ap (λ (t : BusHistory). t.written (node_place level index)) same)
+        (λ other differs. ap (λ (t : BusHistory). t.written (line_place other)) same)
+        (unwritten_consistent terms.tag_of terms.levels (terms.history old.bus) old.engine.made old.pads.used at write.counter cipher
+        kept inside long (terms.history new.bus) moves.bus_levels (ap (λ (t : BusHistory). t.written) same))
         (λ goes_on. absurd (goes_on refl)) (λ place is. cc) (λ page is. cc)
 
   -- all of these lines were sealed
   pub all_in_order : (old : OutsideView B T) (lines : List ℕ) (new : OutsideView B T) (stop : Option MemStop) →
-      AreSealed terms write old lines new stop → AreReread write.line lines old.pads.used (terms.history old.bus) (terms.history new.bus) →
+      AreSealed terms write old lines new stop →
+      (new.engine.evidence ≡ None → AreReread write.line lines old.pads.used (terms.history old.bus) (terms.history new.bus)) →
       ((place : Place) → stop ≢ Some (Tampered place)) →
       AreSealedInOrder terms write old lines new stop
   all_in_order old lines new stop is reread untampered =
@@ -362,7 +330,7 @@ module _ {B T : Type 0} (terms : MemoryTerms B) (write : LineWrite) where
         count = length lines;
         within = omega arith;
         sealed = subst (λ (xs : List ℕ). AreSealed terms write old xs new stop) all is;
-        reread = subst (λ (xs : List ℕ). AreReread write.line xs old.pads.used (terms.history old.bus) (terms.history new.bus)) all reread;
+        reread = λ quiet. subst (λ (xs : List ℕ). AreReread write.line xs old.pads.used (terms.history old.bus) (terms.history new.bus)) all (reread quiet);
         whole = λ goes_on. refl;
         failed = λ other failed. absurd (untampered (line_place other) failed);
       }
@@ -389,6 +357,10 @@ module _ {B T : Type 0} (terms : MemoryTerms B) (write : LineWrite) where
           accesses = step.accesses;
           lies = step.lies;
         };
+        nodes = record {
+          written = λ level index. b.nodes.written level index ∙ a.nodes.written level index;
+          last = λ level index. b.nodes.last level index ∙ a.nodes.last level index;
+        };
         key = b.key ∙ a.key;
         entries = b.entries ∙ ap (λ (used : List (ℕ × Counter)). used ++ map sealed_pair more) a.entries
             ∙ append_assoc first.pads.used (map sealed_pair lines) (map sealed_pair more)
@@ -404,7 +376,11 @@ module _ {B T : Type 0} (terms : MemoryTerms B) (write : LineWrite) where
         room = omega (arith, many, a.room, b.room);
         pads_room = omega (arith, many, a.pads_room, b.pads_room);
         consistent = b.consistent;
+        risen = b.risen;
         holds_last = b.holds_last;
+        untouched = λ other unlisted.
+            b.untouched other (λ late. unlisted (Contains-append_right lines more other late))
+            ∙ a.untouched other (λ early. unlisted (Contains-append_left lines more other early));
         own = λ listed.
             elim (listed_or_not more write.line) [
               | inl late ↦ b.own late ∙ ap (λ (k : List ℕ). Some (write.counter, cipher_of k write.line write.counter write.bytes)) a.key
@@ -423,14 +399,20 @@ module _ {B T : Type 0} (terms : MemoryTerms B) (write : LineWrite) where
             subst (λ (k : List ℕ). line_bytes k third.engine.made other ≡ line_bytes k second.engine.made other) a.key (b.others quiet other differs)
             ∙ a.others (quiet_before second.engine.evidence third.engine.evidence b.step.evidence quiet) other differs;
         accounted = λ was. b.accounted (a.accounted was);
-        tampered = λ place is.
-            let beside = b.tampered place is in
-            record {
-              other = beside.other;
-              place_is = beside.place_is;
-              of_page = beside.of_page;
-              apart = beside.apart;
-              lied = omega (arith, beside.lied, a.step.lies);
-            };
+        shows = λ quiet.
+            elim (a.shows quiet) [
+              | inl still ↦
+                  elim (b.shows still) [
+                    | inl quiet_on ↦ inl quiet_on
+                    | inr rose ↦ inr (omega (arith, rose, a.step.lies))
+                  ]
+              | inr rose ↦ inr (omega (arith, rose, b.step.lies))
+            ];
+        lied = λ place is quiet.
+            elim (a.shows quiet) [
+              | inl still ↦ let rose = b.lied place is still in omega (arith, rose, a.step.lies)
+              | inr rose ↦ omega (arith, rose, b.step.lies)
+            ];
+        tampered = b.tampered;
         unspent = b.unspent;
       }

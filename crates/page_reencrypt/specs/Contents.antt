@@ -2,14 +2,14 @@
 use Rattle.std.specs.Prelude.{◌==◌, ◌≡◌, ◌≢◌, ◌⊎◌, ℕ, ◌*◌, ◌<◌, ◌≤◌, if◌then◌else◌, List, [], ◌∷◌, length, map, replicate, Option, Some, None, Contains, unwrap_or}
 use Rattle.std.specs.List.{filter, range_with_len}
 use Rattle.sec_base.specs.declared.place.Place.{Place}
-use Rattle.sec_base.specs.declared.place.Place.TheVariants.{Line as line_place, Node}
+use Rattle.sec_base.specs.declared.place.Place.TheVariants.{Line as line_place}
 use Rattle.sec_base.specs.declared.counter.Counter.{Counter}
 use Rattle.sec_base.specs.declared.message.Message.{Message}
 use Rattle.sec_base.specs.declared.message.Message.TheVariants.{Line}
 use Rattle.sec_base.specs.LastMessage.{last_data, last_pair}
 use Rattle.sec_base.specs.Geometry.{page_of}
 use Rattle.sec_base.specs.declared.geometry.TheConstants.{LINES_PER_PAGE}
-use Rattle.sec_base.specs.Place.{IsPlace, zeros_of}
+use Rattle.sec_base.specs.Place.{zeros_of}
 use Rattle.sec_base.specs.Lines.{joined_lines}
 use Rattle.pad_stream.specs.Pad.{cipher_of}
 use Rattle.checked_bus.specs.SealedLine.{sealed_line}
@@ -96,7 +96,3 @@ pub record HoldsSealed (tag_of : Message → List ℕ) (lines : ℕ) (made : Lis
 pub record HoldsLast (tag_of : Message → List ℕ) (lines : ℕ) (made : List Message) (written : Place → List ℕ) : Type 0 where
   pub holds : (line : ℕ) (counter : Counter) (cipher : List ℕ) → line < lines → last_data line made ≡ Some (counter, cipher) →
       written (line_place line) ≡ sealed_line tag_of line counter cipher
-
--- No place of a node holds anything: the counters stay on the chip.
-pub record NodesAreZeros (levels : ℕ) (written : Place → List ℕ) : Type 0 where
-  pub zeros : (level index : ℕ) → IsPlace levels (Node level index) → written (Node level index) ≡ zeros_of (Node level index)

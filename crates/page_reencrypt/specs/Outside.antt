@@ -1,25 +1,34 @@
 -- What contracts see of the memory outside, and what reads and writes of lines under given counters make of it.
-use Rattle.std.specs.Prelude.{◌≡◌, ◌≢◌, ◌⊎◌, ℕ, ◌+◌, ◌≤◌, List, ◌++◌, length, map, take, Option, Some, None, Contains, Result, Ok, Err}
+use Rattle.std.specs.Prelude.{◌≡◌, ◌≢◌, ◌⊎◌, ℕ, ◌+◌, ◌<◌, ◌≤◌, List, [], ◌++◌, length, map, take, Option, Some, None, Contains, Result, Ok, Err, IfOk}
 use Rattle.std.specs.List.{slice_get}
 use Rattle.sec_base.specs.declared.counter.Counter.{Counter}
+use Rattle.sec_base.specs.declared.evidence.Evidence.TheVariants.{Collision, Forgery}
+use Rattle.sec_base.specs.declared.sealed.Sealed.{Sealed}
+use Rattle.sec_base.specs.declared.geometry.TheConstants.{LINES_PER_PAGE}
 use Rattle.sec_base.specs.declared.message.Message.{Message}
 use Rattle.sec_base.specs.declared.place.Place.{Place}
-use Rattle.sec_base.specs.declared.place.Place.TheVariants.{Line as line_place}
+use Rattle.sec_base.specs.declared.place.Place.TheVariants.{Line as line_place, Node as node_place}
 use Rattle.sec_base.specs.declared.stop.MemStop.{MemStop}
 use Rattle.sec_base.specs.declared.stop.MemStop.TheVariants.{Tampered, Spent, NoMemory}
-use Rattle.sec_base.specs.Geometry.{line_count, page_of}
-use Rattle.sec_base.specs.LastMessage.{data_pairs, last_data, last_pair, IsFresh}
+use Rattle.sec_base.specs.Count.{Rose}
+use Rattle.sec_base.specs.Geometry.{line_count, page_count, page_of}
+use Rattle.sec_base.specs.LastMessage.{data_pairs, last_data, last_node, last_pair, IsFresh}
 use Rattle.bus_model.specs.BusHistory.{BusHistory}
 use Rattle.tag_engine.specs.TagEngine.{TagEngineView, tags_of, with_room as tags_with_room}
 use Rattle.pad_stream.specs.Pad.{cipher_of}
 use Rattle.pad_stream.specs.PadEngine.{PadEngineView, with_room as pads_with_room}
+use Rattle.pad_stream.specs.Pads.{AreRising}
 use Rattle.checked_bus.specs.Accesses.{AreCounted}
-use Rattle.checked_bus.specs.Steps.{IsAccounted, Moves as StepMoves}
-use Rattle.split_counter.specs.CounterBlock.{CounterBlockView, last_counter, next_counter}
+use Rattle.checked_bus.specs.Steps.{IsAccounted, Moves as StepMoves, SameLines, stop_of}
+use Rattle.split_counter.specs.CounterBlock.{block_of, counter_of, last_counter, next_counter, place_of}
+use Rattle.checked_bus.specs.Accesses.{WritesMessages}
+use Rattle.checked_bus.specs.Steps.{unwritten_in}
+use Rattle.bonsai_tree.specs.Tree.{IsOnPath, IsTree, NodesHoldLast, PathWasRead, fetch_accesses}
+use Rattle.counter_cache.specs.Counters.{CountersView, counters_in}
 use Rattle.page_reencrypt.specs.Consistency.{IsConsistent}
 use Rattle.page_reencrypt.specs.Contents.{HoldsLast, counter_in, line_bytes, lines_encrypted, never_written}
-use Rattle.page_reencrypt.specs.SealedLines.{AreReread, IsOfPage, IsTamperedBeside}
-use Rattle.page_reencrypt.specs.Stops.{lasting_stop, unwritten}
+use Rattle.page_reencrypt.specs.SealedLines.{AreReread, IsBeside, IsOfPage, IsReadUnder}
+use Rattle.page_reencrypt.specs.Stops.{lasting_stop}
 
 -- the bus, the tag engine and the pads
 pub record OutsideView (B T : Type 0) : Type 0 where
@@ -58,19 +67,98 @@ module _ {B T : Type 0} (terms : MemoryTerms B) where
   AreConsistent outside =
       IsConsistent terms.tag_of terms.levels (terms.history outside.bus) outside.engine.made outside.pads.used
 
+  -- the places of lines, and those of nodes, hold what was made last for them
   abbrev pub HaveLast : OutsideView B T → Type 0
   HaveLast outside = HoldsLast terms.tag_of (line_count terms.levels) outside.engine.made (terms.history outside.bus).written
+
+  abbrev pub HaveLastNodes : OutsideView B T → Type 0
+  HaveLastNodes outside = NodesHoldLast terms.levels outside.engine.made (terms.history outside.bus).written
+
+  -- there is evidence, or the counters of each line rise
+  abbrev pub HaveRisen : OutsideView B T → Type 0
+  HaveRisen outside = outside.engine.evidence ≡ None → AreRising outside.pads.used
+
+  -- there is evidence, or the tree under the counters fits
+  abbrev pub TreeFits : OutsideView B T → CountersView → Type 0
+  TreeFits outside counters =
+      outside.engine.evidence ≡ None → IsTree terms.tag_of counters.tree outside.engine.made (terms.history outside.bus).written
+
+  -- there is evidence, or the counter blocks of all pages say the last entries of their lines
+  abbrev pub CountersSay : OutsideView B T → CountersView → Type 0
+  CountersSay outside counters = outside.engine.evidence ≡ None → (page : ℕ) → page < page_count terms.levels →
+      IsOfPage outside.pads.used page (counters_in counters outside.engine.made page)
 
   -- the false answers are accounted for, where a call stopped so
   abbrev pub AreAccounted : OutsideView B T → Option MemStop → Type 0
   AreAccounted outside stop =
       IsAccounted terms.tag_of outside.pads.used outside.engine.made (terms.history outside.bus) stop outside.engine.evidence
 
+  -- evidence comes only of a false answer
+  abbrev pub ShowsLies : OutsideView B T → OutsideView B T → Type 0
+  ShowsLies old new = old.engine.evidence ≡ None →
+      (new.engine.evidence ≡ None) ⊎ Rose (terms.history old.bus).lies (terms.history new.bus).lies
+
+  -- No node was touched: their places hold what they held, and their last messages are the same.
+  pub record SameNodes (old new : OutsideView B T) : Type 0 where
+    pub written : (level index : ℕ) → (terms.history new.bus).written (node_place level index) ≡ (terms.history old.bus).written (node_place level index)
+    pub last : (level index : ℕ) → last_node level index new.engine.made ≡ last_node level index old.engine.made
+
+  -- Counters were read or written: no line was touched, and nothing was encrypted.
+  pub record IsNodeStep (old new : OutsideView B T) (stop : Option MemStop) : Type 0 where
+    pub bus : terms.moved old.bus new.bus
+    pub step : StepMoves (terms.history old.bus) old.engine (terms.history new.bus) new.engine
+    pub pairs : data_pairs step.more ≡ []
+    pub lines : SameLines (terms.history old.bus) old.engine.made (terms.history new.bus) new.engine.made
+    pub used : new.pads.used ≡ old.pads.used
+    pub key : new.pads.key ≡ old.pads.key
+    pub writes : WritesMessages (terms.history old.bus) (terms.history new.bus) (length step.more) (unwritten_in stop)
+    pub consistent : AreConsistent new
+    pub holds_last : HaveLast new
+    pub nodes_hold_last : stop ≢ Some NoMemory → HaveLastNodes new
+
+  -- A line was read under its counter, which was read along the path of its page; or what was done of it where it stopped.
+  pub record IsLineRead (line : ℕ) (old : OutsideView B T) (counters : CountersView) (new : OutsideView B T) (counters' : CountersView)
+      (result : Result (List ℕ) MemStop) : Type 0 where
+    pub bus : terms.moved old.bus new.bus
+    pub step : StepMoves (terms.history old.bus) old.engine (terms.history new.bus) new.engine
+    pub pairs : data_pairs step.more ≡ []
+    pub levels : counters'.tree.levels ≡ counters.tree.levels
+    pub pads : new.pads ≡ old.pads
+    pub writes : WritesMessages (terms.history old.bus) (terms.history new.bus) (length step.more) (unwritten_in (stop_of result))
+    pub once : (terms.history new.bus).accesses ≤ (terms.history old.bus).accesses + (fetch_accesses terms.levels + 1)
+    pub written : (at : ℕ) → (terms.history new.bus).written (line_place at) ≡ (terms.history old.bus).written (line_place at)
+    pub alone : (other : ℕ) → other ≢ line → (terms.history new.bus).reads (line_place other) ≡ (terms.history old.bus).reads (line_place other)
+    pub consistent : AreConsistent new
+    pub holds_last : HaveLast new
+    pub nodes_hold_last : stop_of result ≢ Some NoMemory → HaveLastNodes new
+    pub fits : stop_of result ≡ None → TreeFits new counters'
+    pub same : new.engine.evidence ≡ None → (page : ℕ) → counters_in counters' new.engine.made page ≡ counters_in counters old.engine.made page
+    pub value : new.engine.evidence ≡ None → IfOk result (λ bytes. bytes ≡ line_bytes old.pads.key old.engine.made line)
+    -- what was read of the bus
+    pub path : stop_of result ≡ None → PathWasRead counters.tree old.engine.made 0 (page_of line) (terms.history old.bus) (terms.history new.bus)
+    pub rose : new.engine.evidence ≡ None → stop_of result ≡ None → IsFresh line old.pads.used
+        ⊎ Rose ((terms.history old.bus).reads (line_place line)) ((terms.history new.bus).reads (line_place line))
+    pub fresh : new.engine.evidence ≡ None → IsFresh line old.pads.used →
+        (terms.history new.bus).reads (line_place line) ≡ (terms.history old.bus).reads (line_place line)
+    -- a false answer is shown as evidence or taken for tampering
+    pub accounted : AreAccounted old None → AreAccounted new (stop_of result)
+    pub shows : ShowsLies old new
+    pub accepted : (at : ℕ) (under : Counter) (sealed : Sealed) (made_count : ℕ) → old.engine.evidence ≡ None →
+        new.engine.evidence ≡ Some (Forgery at under sealed made_count) →
+        (at ≡ line) × (result ≡ Ok (cipher_of old.pads.key line under sealed.cipher))
+    pub accepted_counters : (made_at : ℕ) (block tag : List ℕ) → old.engine.evidence ≡ None →
+        new.engine.evidence ≡ Some (Collision 0 (page_of line) made_at block tag) →
+        IfOk result (IsReadUnder terms.tag_of old.pads.key line (counter_of (place_of line) (block_of block)) (terms.history new.bus))
+    pub tampered : (place : Place) → result ≡ Err (Tampered place) → ((place ≡ line_place line) ⊎ IsOnPath terms.levels 0 (page_of line) place)
+        × (old.engine.evidence ≡ None → Rose (terms.history old.bus).lies (terms.history new.bus).lies)
+    pub unspent : (page : ℕ) → result ≢ Err (Spent page)
+
   -- Lines were encrypted under the counter of a write, one after another, each once; a message of each was tagged, and
   -- written but for the last where there was no memory.
   pub record AreSealed (write : LineWrite) (old : OutsideView B T) (lines : List ℕ) (new : OutsideView B T) (stop : Option MemStop) : Type 0 where
     pub bus : terms.moved old.bus new.bus
     pub step : StepMoves (terms.history old.bus) old.engine (terms.history new.bus) new.engine
+    pub nodes : SameNodes old new
     pub key : new.pads.key ≡ old.pads.key
     pub entries : new.pads.used ≡ old.pads.used ++ map (λ line. (line, write.counter)) lines
     pub pairs : data_pairs step.more ≡ map (λ line. (line, write.counter)) lines
@@ -78,12 +166,16 @@ module _ {B T : Type 0} (terms : MemoryTerms B) where
     pub writes : ℕ
     pub counted : AreCounted (terms.history old.bus) (terms.history new.bus) writes
     pub at_most : writes ≤ length lines
-    pub at_least : length lines ≤ writes + unwritten stop
+    pub at_least : length lines ≤ writes + unwritten_in stop
     pub room : old.engine.room ≤ new.engine.room + length lines
     pub pads_room : old.pads.room ≤ new.pads.room + length lines
     -- what fit together before fits after it
     pub consistent : AreConsistent new
+    pub risen : HaveRisen new
     pub holds_last : stop ≢ Some NoMemory → HaveLast new
+    -- the places of all other lines hold what they held
+    pub untouched : (other : ℕ) → ¬ Contains lines other →
+        (terms.history new.bus).written (line_place other) ≡ (terms.history old.bus).written (line_place other)
     -- where the written line is among them, its message is of the new bytes; all other lines keep their bytes, unless
     -- there is evidence
     pub own : Contains lines write.line → last_data write.line new.engine.made
@@ -94,8 +186,10 @@ module _ {B T : Type 0} (terms : MemoryTerms B) where
         line_bytes old.pads.key new.engine.made other ≡ line_bytes old.pads.key old.engine.made other
     -- false answers are accounted for, and tampering is of another line of the page
     pub accounted : AreAccounted old None → AreAccounted new stop
-    pub tampered : (place : Place) → stop ≡ Some (Tampered place) →
-        IsTamperedBeside write.line place (terms.history old.bus) (terms.history new.bus)
+    pub shows : ShowsLies old new
+    pub lied : (place : Place) → stop ≡ Some (Tampered place) → old.engine.evidence ≡ None →
+        Rose (terms.history old.bus).lies (terms.history new.bus).lies
+    pub tampered : (place : Place) → stop ≡ Some (Tampered place) → IsBeside write.line place
     pub unspent : (page : ℕ) → stop ≢ Some (Spent page)
 
   -- all of these lines in their order, or where a call stopped a front part of them
@@ -103,39 +197,73 @@ module _ {B T : Type 0} (terms : MemoryTerms B) where
     pub count : ℕ
     pub within : count ≤ length lines
     pub sealed : AreSealed write old (take count lines) new stop
-    pub reread : AreReread write.line (take count lines) old.pads.used (terms.history old.bus) (terms.history new.bus)
+    pub reread : new.engine.evidence ≡ None →
+        AreReread write.line (take count lines) old.pads.used (terms.history old.bus) (terms.history new.bus)
     pub whole : stop ≡ None → count ≡ length lines
     -- the line that failed is the next one
     pub failed : (other : ℕ) → stop ≡ Some (Tampered (line_place other)) → slice_get lines count ≡ Some other
 
-  -- A write of a line under its next counter, or what was done of it where it stopped.
-  pub record IsWrite (line : ℕ) (bytes : List ℕ) (old : OutsideView B T) (block : CounterBlockView) (new : OutsideView B T)
-      (block' : CounterBlockView) (stop : Option MemStop) : Type 0 where
-    pub sealed : AreSealedInOrder (record { line = line; bytes = bytes; counter = next_counter (counter_in old.pads.used line) }) old
-        (lines_encrypted (next_counter (counter_in old.pads.used line)) line) new stop
-    -- the block says the counters of the page
-    pub current : lasting_stop stop ≡ None → IsOfPage new.pads.used (page_of line) block'
-    -- a counter changes only where there was memory for the entry and the message of each line
-    pub reserved : ((block' ≡ block) × (sealed.count ≡ 0))
-        ⊎ ((length (lines_encrypted (next_counter (counter_in old.pads.used line)) line) ≤ new.engine.room + sealed.count)
-        × (length (lines_encrypted (next_counter (counter_in old.pads.used line)) line) ≤ new.pads.room + sealed.count))
+  -- A write of a line: its page's counters are read and counted up, and then its lines are sealed; or what was done of it
+  -- where it stopped.
+  pub record IsWrite (limit line : ℕ) (bytes : List ℕ) (old : OutsideView B T) (counters : CountersView) (new : OutsideView B T)
+      (counters' : CountersView) (stop : Option MemStop) : Type 0 where
+    pub bus : terms.moved old.bus new.bus
+    pub step : StepMoves (terms.history old.bus) old.engine (terms.history new.bus) new.engine
+    pub levels : counters'.tree.levels ≡ counters.tree.levels
+    pub key : new.pads.key ≡ old.pads.key
+    pub writes : WritesMessages (terms.history old.bus) (terms.history new.bus) (length step.more) (unwritten_in stop)
+    pub consistent : AreConsistent new
+    pub risen : HaveRisen new
+    pub holds_last : stop ≢ Some NoMemory → HaveLast new
+    pub nodes_hold_last : stop ≢ Some NoMemory → HaveLastNodes new
+    -- a front part of its lines was encrypted and tagged, under the line's next counter where there is no evidence
+    pub counter : Counter
+    pub next : new.engine.evidence ≡ None → counter ≡ next_counter (counter_in old.pads.used line)
+    pub count : ℕ
+    pub within : count ≤ length (lines_encrypted counter line)
+    pub whole : stop ≡ None → count ≡ length (lines_encrypted counter line)
+    pub entries : new.pads.used ≡ old.pads.used ++ map (λ at. (at, counter)) (take count (lines_encrypted counter line))
+    pub pairs : data_pairs step.more ≡ map (λ at. (at, counter)) (take count (lines_encrypted counter line))
+    pub unwritten : count ≡ 0 → (at : ℕ) → (terms.history new.bus).written (line_place at) ≡ (terms.history old.bus).written (line_place at)
+    pub own : Contains (take count (lines_encrypted counter line)) line →
+        last_data line new.engine.made ≡ Some (counter, cipher_of old.pads.key line counter bytes)
+    pub own_bytes : Contains (take count (lines_encrypted counter line)) line → line_bytes old.pads.key new.engine.made line ≡ bytes
+    pub not_yet : ¬ Contains (take count (lines_encrypted counter line)) line → last_data line new.engine.made ≡ last_data line old.engine.made
+    pub others : new.engine.evidence ≡ None → (other : ℕ) → other ≢ line →
+        line_bytes old.pads.key new.engine.made other ≡ line_bytes old.pads.key old.engine.made other
+    pub reread : new.engine.evidence ≡ None →
+        AreReread line (take count (lines_encrypted counter line)) old.pads.used (terms.history old.bus) (terms.history new.bus)
+    -- the counters fit what was used, unless a stop lasts
+    pub fits : lasting_stop stop ≡ None → TreeFits new counters'
+    pub current : lasting_stop stop ≡ None → CountersSay new counters'
+    -- a counter changes only where there was memory for the entries and the messages of a whole page
+    pub reserved : ((count ≡ 0) × (new.engine.evidence ≡ None → (page : ℕ) →
+        counters_in counters' new.engine.made page ≡ counters_in counters old.engine.made page))
+        ⊎ ((length old.pads.used + LINES_PER_PAGE ≤ length new.pads.used + new.pads.room)
+        × (length old.engine.made + LINES_PER_PAGE ≤ length new.engine.made + new.engine.room))
+    -- the path of its page was read
+    pub path : stop ≡ None → PathWasRead counters.tree old.engine.made 0 (page_of line) (terms.history old.bus) (terms.history new.bus)
+    -- false answers are accounted for, and tampering is of a node on the path or, with an overflow, of another line of
+    -- the page
+    pub accounted : AreAccounted old None → AreAccounted new stop
+    pub lied : (place : Place) → stop ≡ Some (Tampered place) → old.engine.evidence ≡ None →
+        Rose (terms.history old.bus).lies (terms.history new.bus).lies
+    pub tampered : (place : Place) → stop ≡ Some (Tampered place) →
+        IsOnPath terms.levels 0 (page_of line) place ⊎ (IsBeside line place × (counter.line ≡ 0))
+    pub failed : (other : ℕ) → stop ≡ Some (Tampered (line_place other)) → slice_get (lines_encrypted counter line) count ≡ Some other
+    -- it is spent only where the line has the last counter; and where it has, no line is sealed, and its counters alone
+    -- were read, so that tampering is of a node on the path
+    pub spent : (page : ℕ) → stop ≡ Some (Spent page) → (page ≡ page_of line) × (count ≡ 0)
+        × (new.engine.evidence ≡ None → counter_in old.pads.used line ≡ last_counter limit)
+    pub used_up : new.engine.evidence ≡ None → counter_in old.pads.used line ≡ last_counter limit → (count ≡ 0) × (stop ≢ None)
+        × ((page : ℕ) → counters_in counters' new.engine.made page ≡ counters_in counters old.engine.made page)
+        × ((terms.history new.bus).accesses ≤ (terms.history old.bus).accesses + fetch_accesses terms.levels)
+        × ((place : Place) → stop ≡ Some (Tampered place) → IsOnPath terms.levels 0 (page_of line) place)
 
-  -- The line's counters are used up, under this limit, and nothing was done; or the write was done, or stopped. Tampering
-  -- comes only with an overflow.
-  abbrev pub IsWriteOrSpent : ℕ → ℕ → List ℕ → OutsideView B T → CounterBlockView → OutsideView B T → CounterBlockView → Result (Unit {0}) MemStop → Type 0
-  IsWriteOrSpent limit line bytes old block new block' (Ok _) =
-      (counter_in old.pads.used line ≢ last_counter limit) × IsWrite line bytes old block new block' None
-  IsWriteOrSpent limit line bytes old block new block' (Err (Spent page)) =
-      (page ≡ page_of line) × (counter_in old.pads.used line ≡ last_counter limit) × (new ≡ old) × (block' ≡ block)
-  IsWriteOrSpent limit line bytes old block new block' (Err (Tampered place)) =
-      (counter_in old.pads.used line ≢ last_counter limit) × IsWrite line bytes old block new block' (Some (Tampered place))
-      × ((next_counter (counter_in old.pads.used line)).line ≡ 0)
-  IsWriteOrSpent limit line bytes old block new block' (Err NoMemory) =
-      (counter_in old.pads.used line ≢ last_counter limit) × IsWrite line bytes old block new block' (Some NoMemory)
-
--- there is memory for the next messages and entries
-abbrev pub with_room : {B T : Type 0} → ℕ → OutsideView B T → OutsideView B T
-with_room n outside = record outside { engine = tags_with_room n outside.engine; pads = pads_with_room n outside.pads }
+-- there is memory for so many messages and so many entries
+abbrev pub with_room : {B T : Type 0} → ℕ → ℕ → OutsideView B T → OutsideView B T
+with_room messages entries outside =
+    record outside { engine = tags_with_room messages outside.engine; pads = pads_with_room entries outside.pads }
 
 -- nothing changed but that memory may have been taken for messages to come
 pub record DiffersInRoom {B T : Type 0} (old new : OutsideView B T) : Type 0 where

@@ -1,33 +1,43 @@
 -- What contracts see of the lines outside, and what calls make of them.
-use Rattle.std.specs.Prelude.{◌≡◌, ◌≢◌, ◌⊎◌, ℕ, ◌+◌, ◌<◌, ◌≤◌, List, [], ◌++◌, length, map, take, get_or, Option, Some, None, Contains}
+use Rattle.std.specs.Prelude.{◌≡◌, ◌≢◌, ◌⊎◌, ◌↔◌, ℕ, ◌+◌, ◌<◌, ◌≤◌, List, [], ◌++◌, length, map, take, Option, Some, None, Contains, replicate}
+use Rattle.sec_base.specs.declared.geometry.TheConstants.{LINES_PER_PAGE}
 use Rattle.sec_base.specs.declared.place.Place.{Place}
-use Rattle.sec_base.specs.declared.place.Place.TheVariants.{Line as line_place, Node}
+use Rattle.sec_base.specs.declared.place.Place.TheVariants.{Line as line_place}
 use Rattle.sec_base.specs.declared.counter.Counter.{Counter}
 use Rattle.sec_base.specs.declared.evidence.Evidence.{Evidence}
 use Rattle.sec_base.specs.declared.message.Message.{Message}
+use Rattle.sec_base.specs.declared.message.Message.TheVariants.{Line}
+use Rattle.sec_base.specs.declared.sealed.Sealed.{Sealed}
 use Rattle.sec_base.specs.declared.stop.MemStop.{MemStop}
 use Rattle.sec_base.specs.declared.stop.MemStop.TheVariants.{Spent, NoMemory}
-use Rattle.sec_base.specs.Count.{Rose, RoseBy}
-use Rattle.sec_base.specs.LastMessage.{IsFresh, last_data, last_node, data_pairs}
-use Rattle.sec_base.specs.Geometry.{line_count, page_of}
-use Rattle.bus_model.specs.BusHistory.{BusHistory}
+use Rattle.sec_base.specs.Count.{Rose, more_by}
+use Rattle.sec_base.specs.Evidence.{sealed_bytes}
+use Rattle.sec_base.specs.LastMessage.{IsFresh, last_data, data_pairs}
+use Rattle.sec_base.specs.Geometry.{line_count, page_count, page_of}
+use Rattle.bus_model.specs.BusHistory.{BusHistory, after_read}
 use Rattle.tag_engine.specs.TagEngine.{TagEngineView, tags_of}
 use Rattle.pad_stream.specs.Pad.{cipher_of}
 use Rattle.pad_stream.specs.PadEngine.{PadEngineView}
+use Rattle.pad_stream.specs.Pads.{AreRising, of_lines}
 use Rattle.checked_bus.specs.Accesses.{AreCounted}
 use Rattle.checked_bus.specs.Steps.{IsAccounted, Moves as StepMoves}
 use Rattle.split_counter.specs.CounterBlock.{CounterBlockView, counter_of, new_block, next_counter, place_of}
+use Rattle.bonsai_tree.specs.Boot.{boot_messages, node_count}
+use Rattle.checked_bus.specs.Accesses.{WritesMessages}
+use Rattle.checked_bus.specs.Steps.{unwritten_in}
+use Rattle.bonsai_tree.specs.Tree.{IsOnPath, IsTree, NodesAreMade, NodesHoldLast, OnlyWroteNodes, PathWasRead}
+use Rattle.counter_cache.specs.Counters.{CountersView, cached_pages, counters_in}
 use Rattle.page_reencrypt.specs.Consistency.{IsConsistent}
-use Rattle.page_reencrypt.specs.Contents.{ArePaged, AreUnskipped, AreWithin, HoldsLast, IsSpent, contents_of, counter_in, lines_encrypted}
-use Rattle.page_reencrypt.specs.Stops.{lasting_stop, unwritten}
+use Rattle.page_reencrypt.specs.Contents.{ArePaged, AreUnskipped, AreWithin, HoldsLast, IsSpent, contents_of, counter_in, lines_encrypted, never_written}
+use Rattle.page_reencrypt.specs.Stops.{lasting_stop}
 
--- the bus, the tag engine, the pads, the counters of each page, how high a page counter may rise, and the stop that was
+-- the bus, the tag engine, the pads, the counters of the pages, how high a page counter may rise, and the stop that was
 -- answered, if one was
 pub record SealedLinesView (B T : Type 0) : Type 0 where
   pub bus : B
   pub engine : TagEngineView T
   pub pads : PadEngineView
-  pub blocks : List CounterBlockView
+  pub counters : CountersView
   pub limit : ℕ
   pub stopped : Option MemStop
 
@@ -56,6 +66,10 @@ lines_of lines = line_count (levels lines)
 abbrev pub contents : {B T : Type 0} → SealedLinesView B T → List ℕ
 contents lines = contents_of (enc_key lines) (lines_of lines) (made lines)
 
+-- the current counters of a page
+abbrev pub page_counters : {B T : Type 0} → SealedLinesView B T → ℕ → CounterBlockView
+page_counters lines page = counters_in lines.counters (made lines) page
+
 -- nothing passed a check though it was never tagged
 abbrev pub IsQuiet : {B T : Type 0} → SealedLinesView B T → Type 0
 IsQuiet lines = evidence lines ≡ None
@@ -64,63 +78,92 @@ IsQuiet lines = evidence lines ≡ None
 abbrev pub tag_in : {B T : Type 0} → (T → List ℕ → List ℕ) → (T → List ℕ → List ℕ) → SealedLinesView B T → Message → List ℕ
 tag_in data_tag_of node_tag_of lines = tags_of data_tag_of node_tag_of lines.engine
 
--- What holds at all times, by the parts: the messages, the list of what was used, the bus and the stop.
-pub record IsProtected (tag_of : Message → List ℕ) (levels limit : ℕ) (history : BusHistory) (made : List Message)
+-- What holds at all times: the messages, the list of what was used and what stands outside fit one another; and each
+-- place holds the last message that was made for it, unless there was no memory to write one.
+pub record IsProtected (tag_of : Message → List ℕ) (levels : ℕ) (history : BusHistory) (made : List Message)
     (used : List (ℕ × Counter)) (stopped : Option MemStop) : Type 0 where
   pub consistent : IsConsistent tag_of levels history made used
+  pub holds_last : stopped ≢ Some NoMemory → HoldsLast tag_of (line_count levels) made history.written
+  pub nodes_hold_last : stopped ≢ Some NoMemory → NodesHoldLast levels made history.written
+
+-- What holds of the counters where there is no evidence: those of each line rise, begin behind that of a line that was
+-- never written, keep to the limit, and skip no page counter; and a page that is spent has a line with the last one.
+pub record CountersRise (levels limit : ℕ) (used : List (ℕ × Counter)) (stopped : Option MemStop) : Type 0 where
+  pub rising : AreRising used
   pub within : AreWithin limit used
   pub unskipped : AreUnskipped (line_count levels) used
-  pub holds_last : stopped ≢ Some NoMemory → HoldsLast tag_of (line_count levels) made history.written
   -- in the middle of an overflow the lines of its page have two page counters
   pub paged : lasting_stop stopped ≡ None → ArePaged (line_count levels) used
   pub spent : (page : ℕ) → stopped ≡ Some (Spent page) → IsSpent (line_count levels) limit used page
-
-abbrev pub AreProtected : {B T : Type 0} → (T → List ℕ → List ℕ) → (T → List ℕ → List ℕ) → (B → BusHistory) → SealedLinesView B T → Type 0
-AreProtected data_tag_of node_tag_of history lines =
-    IsProtected (tag_in data_tag_of node_tag_of lines) (levels lines) lines.limit (history lines.bus)
-    (made lines) (used lines) lines.stopped
 
 -- the block of a page says the counters of its lines
 abbrev pub IsOfPage : List (ℕ × Counter) → ℕ → CounterBlockView → Type 0
 IsOfPage used page block = (line : ℕ) → page_of line ≡ page → counter_in used line ≡ counter_of (place_of line) block
 
--- there is a block for each page, and it says the counters of the page's lines
-pub record AreCurrent (blocks : List CounterBlockView) (pages : ℕ) (used : List (ℕ × Counter)) : Type 0 where
-  pub long : length blocks ≡ pages
-  pub current : (page : ℕ) → page < pages → IsOfPage used page (get_or blocks page new_block)
+-- A memory that is written through. It holds whenever no call is under way, where there is neither evidence nor a stop
+-- that lasts.
+pub record IsWrittenThrough (tag_of : Message → List ℕ) (levels : ℕ) (counters : CountersView) (history : BusHistory)
+    (made : List Message) (used : List (ℕ × Counter)) : Type 0 where
+  -- each node's tag is kept by its parent and that of the top node by the root register, and each node's place holds its
+  -- last block
+  pub tree : IsTree tag_of counters.tree made history.written
+  -- the current counter block of each page says the last entries of its lines, and a line is fresh exactly where that is
+  -- the counter of one that was never written
+  pub current : (page : ℕ) → page < page_count levels → IsOfPage used page (counters_in counters made page)
+  pub fresh : (line : ℕ) → (counter_in used line ≡ never_written) ↔ IsFresh line used
+  -- the messages of lines are those of the entries, in order
+  pub paired : data_pairs made ≡ of_lines (line_count levels) used
+  -- the place of each line that is not fresh holds its last message with its tag
+  pub stored : HoldsLast tag_of (line_count levels) made history.written
+  -- the counters of each line rise and are none of a line that was never written; and where a page counter is above 0, no
+  -- line of the page is fresh
+  pub rising : AreRising used
+  pub started : (line : ℕ) (counter : Counter) → Contains used (line, counter) → counter ≢ never_written
+  pub whole_pages : (page line : ℕ) → page < page_count levels → 0 < (counters_in counters made page).page → page_of line ≡ page → ¬ IsFresh line used
+
+-- the lines outside are written through
+abbrev pub AreWrittenThrough : {B T : Type 0} → (T → List ℕ → List ℕ) → (T → List ℕ → List ℕ) → (B → BusHistory) → SealedLinesView B T → Type 0
+AreWrittenThrough data_tag_of node_tag_of history lines =
+    IsWrittenThrough (tag_in data_tag_of node_tag_of lines) (levels lines) lines.counters (history lines.bus) (made lines) (used lines)
+
+-- What holds between calls: at all times, where there is no evidence, and where there is also no stop that lasts.
+pub record AreProtected {B T : Type 0} (data_tag_of node_tag_of : T → List ℕ → List ℕ) (history : B → BusHistory) (lines : SealedLinesView B T) : Type 0 where
+  -- the tree over the counters is that of the memory
+  pub tree_levels : lines.counters.tree.levels ≡ levels lines
+  pub always : IsProtected (tag_in data_tag_of node_tag_of lines) (levels lines) (history lines.bus) (made lines) (used lines) lines.stopped
+  pub rise : IsQuiet lines → CountersRise (levels lines) lines.limit (used lines) lines.stopped
+  pub through : lasting_stop lines.stopped ≡ None → IsQuiet lines → AreWrittenThrough data_tag_of node_tag_of history lines
 
 -- the false answers of the bus are accounted for
 abbrev pub AccountsForAll : {B T : Type 0} → (TagEngineView T → Message → List ℕ) → (B → BusHistory) → SealedLinesView B T → Type 0
 AccountsForAll tags history lines =
     IsAccounted (tags lines.engine) (used lines) (made lines) (history lines.bus) lines.stopped (evidence lines)
 
--- What boot makes of a bus: no answer was false, no line was read, and no line's place was written.
-pub record IsBooted (old new : BusHistory) : Type 0 where
-  pub levels : new.levels ≡ old.levels
-  pub lies : new.lies ≡ old.lies
-  pub lie : new.lie ≡ old.lie
-  pub reads : new.reads ≡ old.reads
-  pub lines : (line : ℕ) → new.written (line_place line) ≡ old.written (line_place line)
-  pub accesses : RoseBy 0 old.accesses new.accesses
+-- What a boot that was refused leaves of a bus: nodes alone were written, each with a message that was made.
+pub record IsUnbooted (levels : ℕ) (old new : BusHistory) : Type 0 where
+  pub wrote : OnlyWroteNodes old new
+  pub made : List Message
+  pub untagged : data_pairs made ≡ []
+  pub writes : WritesMessages old new (length made) 1
+  pub nodes : NodesAreMade levels made new.written
 
--- What a boot that was refused leaves of a bus: there was no access, and no node's place was written.
-pub record IsUnbooted (old new : BusHistory) : Type 0 where
-  pub booted : IsBooted old new
-  pub counted : AreCounted old new 0
-  pub nodes : (level index : ℕ) → new.written (Node level index) ≡ old.written (Node level index)
-
--- a memory over this bus of which no line was written
-pub record AreNew {B T : Type 0} (history : B → BusHistory) (bus_moved : B → B → Type 0) (bus : B) (tagger : T) (key : List ℕ) (depth limit : ℕ)
-    (lines : SealedLinesView B T) : Type 0 where
+-- A memory over this bus of which no line was written: each node was made and written once, and no place was read.
+pub record AreNew {B T : Type 0} (history : B → BusHistory) (bus_moved : B → B → Type 0) (tags : TagEngineView T → Message → List ℕ)
+    (bus : B) (tagger : T) (key : List ℕ) (depth limit : ℕ) (lines : SealedLinesView B T) : Type 0 where
   pub bus_led : bus_moved bus lines.bus
-  pub booted : IsBooted (history bus) (history lines.bus)
+  pub wrote : OnlyWroteNodes (history bus) (history lines.bus)
+  pub accesses : (history lines.bus).accesses ≡ more_by (node_count depth) (history bus).accesses
   pub counted : AreCounted (history bus) (history lines.bus) (length (made lines))
   pub tagger_is : lines.engine.tagger ≡ tagger
   pub depth_is : levels lines ≡ depth
   pub key_is : enc_key lines ≡ key
   pub limit_is : lines.limit ≡ limit
   pub unused : used lines ≡ []
+  pub made_is : made lines ≡ boot_messages (tags lines.engine) depth
+  pub as_many : length (made lines) ≡ node_count depth
   pub untagged : data_pairs (made lines) ≡ []
+  pub stored : NodesHoldLast depth (made lines) (history lines.bus).written
+  pub zeros : (page : ℕ) → page < page_count depth → page_counters lines page ≡ new_block
   pub quiet : IsQuiet lines
   pub going : lines.stopped ≡ None
 
@@ -133,22 +176,19 @@ pub record Moves {B T : Type 0} (history : B → BusHistory) (bus_moved : B → 
   pub limit : new.limit ≡ old.limit
   pub entries : List (ℕ × Counter)
   pub used_more : used new ≡ used old ++ entries
-  -- there are as many accesses as reads of lines and messages, but for one message that there was no memory to write
-  pub writes : ℕ
-  pub counted : AreCounted (history old.bus) (history new.bus) writes
-  pub at_most : writes ≤ length step.more
-  pub at_least : length step.more ≤ writes + unwritten new.stopped
+  -- there are as many accesses as reads and messages, but for one message that there was no memory to write
+  pub accesses : WritesMessages (history old.bus) (history new.bus) (length step.more) (unwritten_in new.stopped)
   -- after a stop that lasts nothing is done
   pub idle : (stop : MemStop) → lasting_stop old.stopped ≡ Some stop → new ≡ old
   pub accounted : AccountsForAll tags history old → AccountsForAll tags history new
 
--- The line was read from the bus or had never been tagged, and so was its page's counter block, where there is neither a
--- stop that lasts nor evidence.
+-- Where there is no stop that lasts, the nodes on the path of the line's page were read, unless its counters were on the
+-- chip; and where there is no evidence either, the line was read or had never been tagged.
 pub record WasRead {B T : Type 0} (history : B → BusHistory) (old : SealedLinesView B T) (line : ℕ) (new : SealedLinesView B T) : Type 0 where
+  pub path : lasting_stop new.stopped ≡ None → ¬ Contains (cached_pages old.counters) (page_of line) →
+      PathWasRead old.counters.tree (made old) 0 (page_of line) (history old.bus) (history new.bus)
   pub read : lasting_stop new.stopped ≡ None → IsQuiet new →
       (last_data line (made old) ≡ None) ⊎ Rose ((history old.bus).reads (line_place line)) ((history new.bus).reads (line_place line))
-  pub page : lasting_stop new.stopped ≡ None → IsQuiet new → (last_node 0 (page_of line) (made old) ≡ None)
-      ⊎ Rose ((history old.bus).reads (Node 0 (page_of line))) ((history new.bus).reads (Node 0 (page_of line)))
 
 -- a read of a line, whatever it answered
 pub record ReadMoved {B T : Type 0} (history : B → BusHistory) (bus_moved : B → B → Type 0) (tags : TagEngineView T → Message → List ℕ)
@@ -156,49 +196,72 @@ pub record ReadMoved {B T : Type 0} (history : B → BusHistory) (bus_moved : B 
   pub moves : Moves history bus_moved tags old new
   pub read : WasRead history old line new
 
--- Lines were encrypted under the next counter of the line that is written, each once and in this order, and a message of
--- each was tagged; that of the written line is of its new bytes.
-pub record IsSealedAnew {B T : Type 0} (line : ℕ) (bytes : List ℕ) (lines : List ℕ) (old new : SealedLinesView B T) : Type 0 where
-  pub entries : used new ≡ used old ++ map (λ at. (at, next_counter (counter_in (used old) line))) lines
+-- The bytes are those that a line was read as under a counter: zeros, where that is the counter of a line that was never
+-- written; else what its place answered last, with the tag of its message, as it was decrypted.
+abbrev pub IsReadUnder : (Message → List ℕ) → List ℕ → ℕ → Counter → BusHistory → List ℕ → Type 0
+IsReadUnder tag_of key line counter new bytes = ((counter ≡ never_written) × (bytes ≡ replicate 64 0))
+    ⊎ ((before : BusHistory) × (sealed : Sealed) × (sealed.tag ≡ tag_of (Line line counter sealed.cipher))
+    × (new ≡ after_read (line_place line) (sealed_bytes sealed) before) × (bytes ≡ cipher_of key line counter sealed.cipher))
+
+-- Lines were encrypted under this counter, each once and in this order, and a message of each was tagged; that of the
+-- written line is of its new bytes. All other messages are of nodes.
+pub record AreSealedUnder {B T : Type 0} (line : ℕ) (bytes : List ℕ) (counter : Counter) (lines : List ℕ) (old new : SealedLinesView B T) : Type 0 where
+  pub entries : used new ≡ used old ++ map (λ at. (at, counter)) lines
   pub more : List Message
   pub messages : made new ≡ made old ++ more
-  pub pairs : data_pairs more ≡ map (λ at. (at, next_counter (counter_in (used old) line))) lines
-  pub as_many : length more ≡ length lines
-  pub own : Contains lines line → last_data line (made new) ≡ Some (
-    next_counter (counter_in (used old) line),
-    cipher_of (enc_key old) line (next_counter (counter_in (used old) line)) bytes,
-  )
+  pub pairs : data_pairs more ≡ map (λ at. (at, counter)) lines
+  pub own : Contains lines line → last_data line (made new) ≡ Some (counter, cipher_of (enc_key old) line counter bytes)
+
+-- A front part of the lines that a write of this line encrypts was sealed; where there is no evidence, under the line's
+-- next counter.
+pub record IsSealedInPart {B T : Type 0} (line : ℕ) (bytes : List ℕ) (old new : SealedLinesView B T) : Type 0 where
+  pub counter : Counter
+  pub next : IsQuiet new → counter ≡ next_counter (counter_in (used old) line)
+  pub count : ℕ
+  pub within : count ≤ length (lines_encrypted counter line)
+  pub sealed : AreSealedUnder line bytes counter (take count (lines_encrypted counter line)) old new
+
+-- All of them were.
+pub record IsSealedAnew {B T : Type 0} (line : ℕ) (bytes : List ℕ) (old new : SealedLinesView B T) : Type 0 where
+  pub counter : Counter
+  pub next : IsQuiet new → counter ≡ next_counter (counter_in (used old) line)
+  pub sealed : AreSealedUnder line bytes counter (lines_encrypted counter line) old new
 
 -- the lines that a write of this line encrypts: its own, or with an overflow all lines of its page
 abbrev pub lines_of_write : {B T : Type 0} → ℕ → SealedLinesView B T → List ℕ
 lines_of_write line lines = lines_encrypted (next_counter (counter_in (used lines) line)) line
-
--- A front part of these lines was sealed.
-pub record IsSealedInPart {B T : Type 0} (line : ℕ) (bytes : List ℕ) (old new : SealedLinesView B T) : Type 0 where
-  pub count : ℕ
-  pub within : count ≤ length (lines_of_write line old)
-  pub sealed : IsSealedAnew line bytes (take count (lines_of_write line old)) old new
 
 -- Of these lines each that was written before was read from its place, but for the line that is written.
 abbrev pub AreReread : ℕ → List ℕ → List (ℕ × Counter) → BusHistory → BusHistory → Type 0
 AreReread line lines used old new = (other : ℕ) → Contains lines other → other ≢ line →
     IsFresh other used ⊎ Rose (old.reads (line_place other)) (new.reads (line_place other))
 
--- There was memory for the entry and the message of each line that a write of this line encrypts.
-pub record HadMemory {B T : Type 0} (line : ℕ) (old new : SealedLinesView B T) : Type 0 where
-  pub entries : length (used old) + length (lines_of_write line old) ≤ length (used new) + new.pads.room
-  pub messages : length (made old) + length (lines_of_write line old) ≤ length (made new) + new.engine.room
+-- The counters of all pages are the same.
+abbrev pub SameCounters : {B T : Type 0} → SealedLinesView B T → SealedLinesView B T → Type 0
+SameCounters old new = (page : ℕ) → page_counters new page ≡ page_counters old page
 
--- nothing was encrypted, tagged or written
+-- There was memory for the entries and the messages of all lines of a page.
+pub record HadMemory {B T : Type 0} (old new : SealedLinesView B T) : Type 0 where
+  pub entries : length (used old) + LINES_PER_PAGE ≤ length (used new) + new.pads.room
+  pub messages : length (made old) + LINES_PER_PAGE ≤ length (made new) + new.engine.room
+
+-- No line was encrypted or tagged, and no line's place was written.
 pub record IsUnsealed {B T : Type 0} (history : B → BusHistory) (old new : SealedLinesView B T) : Type 0 where
   pub unused : used new ≡ used old
-  pub untagged : made new ≡ made old
-  pub unwritten_to : (history new.bus).written ≡ (history old.bus).written
+  pub more : List Message
+  pub messages : made new ≡ made old ++ more
+  pub untagged : data_pairs more ≡ []
+  pub unwritten_to : (line : ℕ) → (history new.bus).written (line_place line) ≡ (history old.bus).written (line_place line)
 
--- another line of the written line's page failed its check, where an answer was false
-pub record IsTamperedBeside (line : ℕ) (place : Place) (old new : BusHistory) : Type 0 where
+-- a place is that of another line of the written line's page
+pub record IsBeside (line : ℕ) (place : Place) : Type 0 where
   pub other : ℕ
   pub place_is : place ≡ line_place other
   pub of_page : page_of other ≡ page_of line
   pub apart : other ≢ line
-  pub lied : Rose old.lies new.lies
+
+-- The place is a node on the path of the line's page, or that of another line of the page; and an answer was false, or
+-- there was evidence before.
+pub record IsTamperedInWrite {B T : Type 0} (history : B → BusHistory) (line : ℕ) (place : Place) (old new : SealedLinesView B T) : Type 0 where
+  pub place_is : IsOnPath (levels old) 0 (page_of line) place ⊎ IsBeside line place
+  pub lied : IsQuiet old → Rose (history old.bus).lies (history new.bus).lies

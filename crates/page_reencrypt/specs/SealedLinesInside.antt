@@ -8,7 +8,7 @@ sealed_lines_view lines = record {
   bus = lines.outside.bus;
   engine = lines.outside.engine;
   pads = lines.outside.pads;
-  blocks = lines.blocks.items;
+  counters = lines.counters;
   limit = lines.page_limit;
   stopped = lines.stopped;
 }

@@ -1,5 +1,5 @@
 -- Stops of the lines outside.
-use Rattle.std.specs.Prelude.{ℕ, Option, Some, None}
+use Rattle.std.specs.Prelude.{Option, Some, None}
 use Rattle.sec_base.specs.declared.stop.MemStop.{MemStop}
 use Rattle.sec_base.specs.declared.stop.MemStop.TheVariants.{Tampered, Spent, NoMemory}
 
@@ -9,10 +9,3 @@ lasting_stop None = None
 lasting_stop (Some (Spent page)) = None
 lasting_stop (Some (Tampered place)) = Some (Tampered place)
 lasting_stop (Some NoMemory) = Some NoMemory
-
--- how many messages may be tagged that were not written: the last one, where there was no memory to write it
-abbrev pub unwritten : Option MemStop → ℕ
-unwritten None = 0
-unwritten (Some (Spent page)) = 0
-unwritten (Some (Tampered place)) = 0
-unwritten (Some NoMemory) = 1

@@ -1,11 +1,14 @@
-// The memory outside the chip: lines that are encrypted, tagged and checked under counters that are given.
-ghost use Rattle.std.specs.Prelude.{◌≡◌, ◌≢◌, ◌+◌, ◌<◌, ◌≤◌, ◌⊎◌, ◌∷◌, [], ℕ, List, None, Some, Ok, Err, IfOk, IsOk, OnOk, OnErr};
+// The memory outside the chip: lines that are encrypted, tagged and checked under counters that are given, and the
+// counters themselves.
+ghost use Rattle.std.specs.Prelude.{◌≡◌, ◌≢◌, ◌+◌, ◌*◌, ◌<◌, ◌≤◌, ◌⊎◌, ◌∷◌, [], ℕ, List, None, Some, Ok, Err, IfOk, IsOk, OnOk, OnErr};
 ghost use Rattle.sec_base.specs.Count.{Rose};
-ghost use Rattle.sec_base.specs.Geometry.{line_count, page_of};
+ghost use Rattle.sec_base.specs.Geometry.{line_count, page_count, page_of};
 ghost use Rattle.sec_base.specs.LastMessage.{IsFresh};
 ghost use Rattle.sec_base.specs.Place.{IsPlace};
 ghost use Rattle.sec_base.specs.declared.counter.Counter.{Counter};
-ghost use Rattle.sec_base.specs.declared.evidence.Evidence.TheVariants.{Forgery};
+ghost use Rattle.sec_base.specs.Evidence.{evidence_place};
+ghost use Rattle.sec_base.specs.declared.evidence.Evidence.{Evidence};
+ghost use Rattle.sec_base.specs.declared.evidence.Evidence.TheVariants.{Collision, Forgery};
 ghost use Rattle.sec_base.specs.declared.message.Message.TheVariants.{Line};
 ghost use Rattle.sec_base.specs.declared.place.Place.{Place};
 ghost use Rattle.sec_base.specs.declared.place.Place.TheVariants.{Line as line_place};
@@ -19,15 +22,20 @@ ghost use Rattle.pad_stream.specs.Pads.{IsBefore};
 ghost use Rattle.checked_bus.specs.Accesses.{AreCounted};
 ghost use Rattle.checked_bus.specs.SealedLine.{sealed_line};
 ghost use Rattle.checked_bus.specs.Steps.{IsAccounted, Moves as StepMoves, stop_of};
-ghost use Rattle.split_counter.specs.CounterBlock.{counter_of, place_of};
+ghost use Rattle.split_counter.specs.CounterBlock.{IsCounterBlock, after_bump, block_of, bumped, counter_of, place_of};
+ghost use Rattle.split_counter.specs.declared.bumped.Bumped.TheVariants.{Line as line_counter};
+ghost use Rattle.bonsai_tree.specs.Tree.{IsOnPath, PathWasRead, fetch_accesses};
+ghost use Rattle.counter_cache.specs.Counters.{bump_accesses, bump_messages, counters_in};
 ghost use Rattle.page_reencrypt.specs.Contents.{line_bytes, page_lines};
-ghost use Rattle.page_reencrypt.specs.Outside.{AreAccounted, AreConsistent, AreSealedInOrder, DiffersInRoom, HasCounter, HaveLast, terms_of, with_room};
+ghost use Rattle.page_reencrypt.specs.Outside.{AreAccounted, AreConsistent, AreSealedInOrder, DiffersInRoom, HasCounter, HaveLast, HaveLastNodes, HaveRisen, IsNodeStep, ShowsLies, TreeFits, terms_of, with_room};
+ghost use Rattle.page_reencrypt.specs.SealedLines.{IsReadUnder};
 
 use bus_model::Bus;
 use checked_bus::{read_line, write_line};
+use counter_cache::Counters;
 use pad_stream::PadEngine;
 use sec_base::{Counter, LINE_LEN, LINES_PER_PAGE, MemStop, NoMemory, Tagger, page_of};
-use split_counter::CounterBlock;
+use split_counter::{Bumped, CounterBlock};
 use std::marker::Model;
 use tag_engine::TagEngine;
 
@@ -51,26 +59,122 @@ impl<B: Bus, T: Tagger> Model for Outside<B, T> {
 }
 
 impl<B: Bus, T: Tagger> Outside<B, T> {
-    // Takes memory for the entries and the messages of the next lines that are sealed.
-    pub(crate) fn reserve(&mut self, lines: u32) -> Result<(), NoMemory>
-        ensures taken { OnOk result (self.new ≡ with_room lines self.old) }
+    // Takes memory for the entries and the messages of all lines of a page, and for the messages of a path of the tree.
+    pub(crate) fn reserve(&mut self, levels: u8) -> Result<(), NoMemory>
+        ensures taken { OnOk result (self.new ≡ with_room (64 + bump_messages levels) 64 self.old) }
         ensures refused { OnErr result (DiffersInRoom self.old self.new) }
     {
-        self.tags.reserve(u64::from(lines))?;
-        self.pads.reserve(u64::from(lines))
+        self.tags
+            .reserve(u64::from(LINES_PER_PAGE) + (u64::from(levels) + 1))?;
+        self.pads.reserve(u64::from(LINES_PER_PAGE))
+    }
+
+    // The counters of a page, read along its path.
+    pub(crate) fn get(
+        &mut self,
+        counters: &mut Counters,
+        page: u32,
+    ) -> Result<CounterBlock, MemStop>
+        requires inside { page < page_count counters.old.tree.levels }
+        requires levels { counters.old.tree.levels ≡ self.old.engine.levels }
+        requires consistent { AreConsistent (terms_of B.history B.moved T.data_tag_of T.node_tag_of self.old) self.old }
+        requires holds_last { HaveLast (terms_of B.history B.moved T.data_tag_of T.node_tag_of self.old) self.old }
+        requires nodes_hold_last { HaveLastNodes (terms_of B.history B.moved T.data_tag_of T.node_tag_of self.old) self.old }
+
+        ensures step { IsNodeStep (terms_of B.history B.moved T.data_tag_of T.node_tag_of self.old) self.old self.new (stop_of result) }
+        ensures pads { self.new.pads ≡ self.old.pads }
+        ensures levels { counters.new.tree.levels ≡ counters.old.tree.levels }
+        ensures once { (B.history self.new.bus).accesses ≤ (B.history self.old.bus).accesses + fetch_accesses self.old.engine.levels }
+
+        // Where the tree fits or there is evidence, it still does, and the counters are the current ones.
+        ensures fits { TreeFits (terms_of B.history B.moved T.data_tag_of T.node_tag_of self.old) self.old counters.old →
+            OnOk result (TreeFits (terms_of B.history B.moved T.data_tag_of T.node_tag_of self.old) self.new counters.new) }
+        ensures block { TreeFits (terms_of B.history B.moved T.data_tag_of T.node_tag_of self.old) self.old counters.old →
+            self.new.engine.evidence ≡ None → IfOk result (λ block. block ≡ counters_in counters.old self.old.engine.made page) }
+        ensures is_block { IfOk result IsCounterBlock }
+        ensures same { TreeFits (terms_of B.history B.moved T.data_tag_of T.node_tag_of self.old) self.old counters.old →
+            self.new.engine.evidence ≡ None → (other : ℕ) →
+            counters_in counters.new self.new.engine.made other ≡ counters_in counters.old self.old.engine.made other }
+        ensures read { OnOk result (PathWasRead counters.old.tree self.old.engine.made 0 page (B.history self.old.bus) (B.history self.new.bus)) }
+
+        // A false answer is shown as evidence or taken for tampering.
+        ensures accounted { TreeFits (terms_of B.history B.moved T.data_tag_of T.node_tag_of self.old) self.old counters.old →
+            AreAccounted (terms_of B.history B.moved T.data_tag_of T.node_tag_of self.old) self.old None →
+            AreAccounted (terms_of B.history B.moved T.data_tag_of T.node_tag_of self.old) self.new (stop_of result) }
+        ensures shows { TreeFits (terms_of B.history B.moved T.data_tag_of T.node_tag_of self.old) self.old counters.old →
+            ShowsLies (terms_of B.history B.moved T.data_tag_of T.node_tag_of self.old) self.old self.new }
+        ensures found { (evidence : Evidence) → self.old.engine.evidence ≡ None → self.new.engine.evidence ≡ Some evidence →
+            IsOnPath self.old.engine.levels 0 page (evidence_place evidence) }
+        ensures accepted { (made_at : ℕ) (bytes tag : List ℕ) → self.old.engine.evidence ≡ None →
+            self.new.engine.evidence ≡ Some (Collision 0 page made_at bytes tag) → result ≡ Ok (block_of bytes) }
+        ensures tampered { (place : Place) → result ≡ Err (Tampered place) → IsOnPath self.old.engine.levels 0 page place
+            × (TreeFits (terms_of B.history B.moved T.data_tag_of T.node_tag_of self.old) self.old counters.old →
+            self.old.engine.evidence ≡ None → Rose (B.history self.old.bus).lies (B.history self.new.bus).lies) }
+        ensures unspent { (spent : ℕ) → result ≢ Err (Spent spent) }
+    {
+        counters.get(&mut self.bus, &mut self.tags, page)
+    }
+
+    // Counts up the counter of the line at a place of a page, along the page's path.
+    pub(crate) fn bump(
+        &mut self,
+        counters: &mut Counters,
+        page: u32,
+        place: u8,
+        limit: u64,
+    ) -> Result<Bumped, MemStop>
+        requires inside { page < page_count counters.old.tree.levels }
+        requires place { place < 64 }
+        requires levels { counters.old.tree.levels ≡ self.old.engine.levels }
+        requires consistent { AreConsistent (terms_of B.history B.moved T.data_tag_of T.node_tag_of self.old) self.old }
+        requires holds_last { HaveLast (terms_of B.history B.moved T.data_tag_of T.node_tag_of self.old) self.old }
+        requires nodes_hold_last { HaveLastNodes (terms_of B.history B.moved T.data_tag_of T.node_tag_of self.old) self.old }
+
+        ensures step { IsNodeStep (terms_of B.history B.moved T.data_tag_of T.node_tag_of self.old) self.old self.new (stop_of result) }
+        ensures pads { self.new.pads ≡ self.old.pads }
+        ensures room { self.old.engine.room ≤ self.new.engine.room + bump_messages self.old.engine.levels }
+        ensures levels { counters.new.tree.levels ≡ counters.old.tree.levels }
+        ensures once { (B.history self.new.bus).accesses ≤ (B.history self.old.bus).accesses + bump_accesses self.old.engine.levels }
+
+        // Where the tree fits or there is evidence, it still does, and the line's counter is the next one.
+        ensures fits { TreeFits (terms_of B.history B.moved T.data_tag_of T.node_tag_of self.old) self.old counters.old →
+            OnOk result (TreeFits (terms_of B.history B.moved T.data_tag_of T.node_tag_of self.old) self.new counters.new) }
+        ensures outcome { TreeFits (terms_of B.history B.moved T.data_tag_of T.node_tag_of self.old) self.old counters.old →
+            self.new.engine.evidence ≡ None →
+            IfOk result (λ outcome. outcome ≡ bumped limit (counter_of place (counters_in counters.old self.old.engine.made page))) }
+        ensures block { TreeFits (terms_of B.history B.moved T.data_tag_of T.node_tag_of self.old) self.old counters.old →
+            self.new.engine.evidence ≡ None → OnOk result (counters_in counters.new self.new.engine.made page
+            ≡ (after_bump place limit (counters_in counters.old self.old.engine.made page)).1) }
+        ensures others { (other : ℕ) → other ≢ page →
+            counters_in counters.new self.new.engine.made other ≡ counters_in counters.old self.old.engine.made other }
+        ensures is_line { (counter : Counter) → result ≡ Ok (line_counter counter) → 0 < counter.line }
+
+        // A false answer is shown as evidence or taken for tampering.
+        ensures accounted { TreeFits (terms_of B.history B.moved T.data_tag_of T.node_tag_of self.old) self.old counters.old →
+            AreAccounted (terms_of B.history B.moved T.data_tag_of T.node_tag_of self.old) self.old None →
+            AreAccounted (terms_of B.history B.moved T.data_tag_of T.node_tag_of self.old) self.new (stop_of result) }
+        ensures shows { TreeFits (terms_of B.history B.moved T.data_tag_of T.node_tag_of self.old) self.old counters.old →
+            ShowsLies (terms_of B.history B.moved T.data_tag_of T.node_tag_of self.old) self.old self.new }
+        ensures tampered { (place : Place) → result ≡ Err (Tampered place) → IsOnPath self.old.engine.levels 0 page place
+            × (TreeFits (terms_of B.history B.moved T.data_tag_of T.node_tag_of self.old) self.old counters.old →
+            self.old.engine.evidence ≡ None → Rose (B.history self.old.bus).lies (B.history self.new.bus).lies) }
+        ensures unspent { (spent : ℕ) → result ≢ Err (Spent spent) }
+    {
+        counters.bump(&mut self.bus, &mut self.tags, page, place, limit)
     }
 
     // The bytes of a line, by its counter: zeros where it was never written, without an access; else what its place
-    // holds, checked and decrypted.
+    // holds, checked and decrypted. The counter is the line's last, unless there is evidence.
     pub(crate) fn read(&mut self, line: u32, counter: Counter) -> Result<[u8; 64], MemStop>
         requires inside { line < line_count self.old.engine.levels }
         requires consistent { AreConsistent (terms_of B.history B.moved T.data_tag_of T.node_tag_of self.old) self.old }
         requires holds_last { HaveLast (terms_of B.history B.moved T.data_tag_of T.node_tag_of self.old) self.old }
-        requires counter { HasCounter self.old.pads.used line counter }
+        requires risen { HaveRisen (terms_of B.history B.moved T.data_tag_of T.node_tag_of self.old) self.old }
+        requires counter { self.old.engine.evidence ≡ None → HasCounter self.old.pads.used line counter }
 
         ensures value { self.new.engine.evidence ≡ None →
             IfOk result (λ bytes. bytes ≡ line_bytes self.old.pads.key self.old.engine.made line) }
-        ensures fresh { IsFresh line self.old.pads.used → IsOk result × (self.new ≡ self.old) }
+        ensures fresh { self.old.engine.evidence ≡ None → IsFresh line self.old.pads.used → IsOk result × (self.new ≡ self.old) }
 
         // It is a read of the line's place at most, and nothing is encrypted, tagged or written.
         ensures moves { StepMoves (B.history self.old.bus) self.old.engine (B.history self.new.bus) self.new.engine }
@@ -81,17 +185,24 @@ impl<B: Bus, T: Tagger> Outside<B, T> {
         ensures unwritten { (B.history self.new.bus).written ≡ (B.history self.old.bus).written }
         ensures counted { AreCounted (B.history self.old.bus) (B.history self.new.bus) 0 }
         ensures once { (B.history self.new.bus).accesses ≤ (B.history self.old.bus).accesses + 1 }
-        ensures rose { result ≢ Err no_memory → IsFresh line self.old.pads.used
+        ensures alone { (other : ℕ) → other ≢ line →
+            (B.history self.new.bus).reads (line_place other) ≡ (B.history self.old.bus).reads (line_place other) }
+        ensures rose { self.old.engine.evidence ≡ None → result ≢ Err no_memory → IsFresh line self.old.pads.used
             ⊎ Rose ((B.history self.old.bus).reads (line_place line)) ((B.history self.new.bus).reads (line_place line)) }
 
         // A false answer is shown as evidence or taken for tampering.
         ensures accounted { AreAccounted (terms_of B.history B.moved T.data_tag_of T.node_tag_of self.old) self.old None →
             AreAccounted (terms_of B.history B.moved T.data_tag_of T.node_tag_of self.old) self.new (stop_of result) }
+        ensures shows { ShowsLies (terms_of B.history B.moved T.data_tag_of T.node_tag_of self.old) self.old self.new }
+        ensures found { (evidence : Evidence) → self.old.engine.evidence ≡ None → self.new.engine.evidence ≡ Some evidence →
+            evidence_place evidence ≡ line_place line }
+        ensures under { IfOk result (IsReadUnder (tags_of T.data_tag_of T.node_tag_of self.old.engine) self.old.pads.key line counter
+            (B.history self.new.bus)) }
         ensures accepted { (at : ℕ) (under : Counter) (sealed : Sealed) (made_count : ℕ) → self.old.engine.evidence ≡ None →
             self.new.engine.evidence ≡ Some (Forgery at under sealed made_count) →
             (at ≡ line) × (result ≡ Ok (cipher_of self.old.pads.key line under sealed.cipher)) }
         ensures tampered { (place : Place) → result ≡ Err (Tampered place) → (place ≡ line_place line)
-            × Rose (B.history self.old.bus).lies (B.history self.new.bus).lies }
+            × (self.old.engine.evidence ≡ None → Rose (B.history self.old.bus).lies (B.history self.new.bus).lies) }
         ensures unspent { (page : ℕ) → result ≢ Err (Spent page) }
     {
         if counter == NEVER_WRITTEN {
@@ -148,8 +259,8 @@ impl<B: Bus, T: Tagger> Outside<B, T> {
         requires of_page { page_of at ≡ page_of line }
         requires consistent { AreConsistent (terms_of B.history B.moved T.data_tag_of T.node_tag_of self.old) self.old }
         requires holds_last { HaveLast (terms_of B.history B.moved T.data_tag_of T.node_tag_of self.old) self.old }
-        requires counter { HasCounter self.old.pads.used at old }
-        requires later { IsBefore old counter }
+        requires risen { HaveRisen (terms_of B.history B.moved T.data_tag_of T.node_tag_of self.old) self.old }
+        requires counter { self.old.engine.evidence ≡ None → HasCounter self.old.pads.used at old × IsBefore old counter }
         requires room { 0 < self.old.engine.room }
         requires pads_room { 0 < self.old.pads.room }
 
@@ -168,7 +279,7 @@ impl<B: Bus, T: Tagger> Outside<B, T> {
     }
 
     // Encrypts all lines of a page anew under the counter of a write of one of them, in the order of their places. The
-    // block has the counters from before. There is memory for the entries and the messages.
+    // block has the counters from before, unless there is evidence. There is memory for the entries and the messages.
     pub(crate) fn reencrypt_page(
         &mut self,
         block: &CounterBlock,
@@ -179,8 +290,10 @@ impl<B: Bus, T: Tagger> Outside<B, T> {
         requires inside { line < line_count self.old.engine.levels }
         requires consistent { AreConsistent (terms_of B.history B.moved T.data_tag_of T.node_tag_of self.old) self.old }
         requires holds_last { HaveLast (terms_of B.history B.moved T.data_tag_of T.node_tag_of self.old) self.old }
-        requires counters { (at : ℕ) → page_of at ≡ page_of line → HasCounter self.old.pads.used at (counter_of (place_of at) block.now) }
-        requires later { block.now.page < counter.page }
+        requires risen { HaveRisen (terms_of B.history B.moved T.data_tag_of T.node_tag_of self.old) self.old }
+        requires counters { self.old.engine.evidence ≡ None → (at : ℕ) → page_of at ≡ page_of line →
+            HasCounter self.old.pads.used at (counter_of (place_of at) block.now) }
+        requires later { self.old.engine.evidence ≡ None → block.now.page < counter.page }
         requires room { 64 ≤ self.old.engine.room }
         requires pads_room { 64 ≤ self.old.pads.room }
 

@@ -1,14 +1,13 @@
-// The lines of the protected memory: they stand outside the chip, encrypted, each with a tag beside it and a counter
-// on the chip.
-ghost use Rattle.std.specs.Prelude.{◌≡◌, ◌≢◌, ◌↔◌, ◌+◌, ◌*◌, ◌^◌, ◌<◌, ◌≤◌, ◌⊎◌, ◌++◌, ℕ, List, None, Some, Ok, Err, IfOk, IfErr, IsOk, OnOk, OnErr, IfSome, replicate, get_or, length, take};
+// The lines of the protected memory: they stand outside the chip, encrypted, each with a tag beside it. Their counters
+// stand outside too, below a tree whose root the chip keeps.
+ghost use Rattle.std.specs.Prelude.{◌≡◌, ◌≢◌, ◌+◌, ◌^◌, ◌<◌, ◌≤◌, ◌⊎◌, ◌++◌, ℕ, List, None, Some, Ok, Err, IfOk, IfErr, OnOk, OnErr, IfSome, length, take};
 ghost use Rattle.sec_base.specs.Count.{Rose};
 ghost use Rattle.sec_base.specs.Evidence.{IsEvidence};
-ghost use Rattle.sec_base.specs.Geometry.{line_count, page_count, page_of};
+ghost use Rattle.sec_base.specs.Geometry.{line_count, page_of};
 ghost use Rattle.sec_base.specs.LastMessage.{IsFresh};
 ghost use Rattle.sec_base.specs.Lines.{line_at, with_line};
-ghost use Rattle.sec_base.specs.Place.{IsPlace};
 ghost use Rattle.sec_base.specs.declared.counter.Counter.{Counter};
-ghost use Rattle.sec_base.specs.declared.evidence.Evidence.TheVariants.{Forgery};
+ghost use Rattle.sec_base.specs.declared.evidence.Evidence.TheVariants.{Collision, Forgery};
 ghost use Rattle.sec_base.specs.declared.place.Place.{Place};
 ghost use Rattle.sec_base.specs.declared.place.Place.TheVariants.{Line as line_place};
 ghost use Rattle.sec_base.specs.declared.sealed.Sealed.{Sealed};
@@ -18,40 +17,41 @@ ghost use Rattle.bus_model.specs.BusHistory.{NothingWritten};
 ghost use Rattle.tag_engine.specs.TagEngine.{tags_of};
 ghost use Rattle.pad_stream.specs.Pad.{cipher_of};
 ghost use Rattle.pad_stream.specs.PadBlocks.{ShareNoBlock};
-ghost use Rattle.split_counter.specs.CounterBlock.{last_counter, new_block, next_counter, place_of};
+ghost use Rattle.checked_bus.specs.Steps.{stop_of};
+ghost use Rattle.split_counter.specs.CounterBlock.{block_of, counter_of, last_counter, next_counter, place_of};
+ghost use Rattle.bonsai_tree.specs.Tree.{IsOnPath, PathWasRead, fetch_accesses};
+ghost use Rattle.counter_cache.specs.Counters.{bump_accesses};
 ghost use Rattle.page_reencrypt.specs.Contents.{counter_in, entries_of_write};
-ghost use Rattle.page_reencrypt.specs.Outside.{AreConsistent, HasCounter, HaveLast, IsWriteOrSpent, terms_of};
-ghost use Rattle.page_reencrypt.specs.SealedLines.{AreCurrent, AreNew, AreProtected, AreReread, HadMemory, IsOfPage, IsSealedAnew, IsSealedInPart, IsTamperedBeside, IsUnbooted, IsQuiet, IsUnsealed, Moves, ReadMoved, contents, enc_key, evidence, levels, lines_of, lines_of_write, made, tag_in, used};
+ghost use Rattle.page_reencrypt.specs.Outside.{AreConsistent, CountersSay, HasCounter, HaveLast, HaveLastNodes, HaveRisen, IsLineRead, IsWrite, TreeFits, terms_of};
+ghost use Rattle.page_reencrypt.specs.SealedLines.{AreNew, AreProtected, AreReread, AreWrittenThrough, HadMemory, IsReadUnder, IsSealedAnew, IsSealedInPart, IsTamperedInWrite, IsUnbooted, IsQuiet, IsUnsealed, Moves, ReadMoved, SameCounters, contents, enc_key, evidence, levels, lines_of, lines_of_write, made, tag_in, used};
 ghost use Rattle.page_reencrypt.specs.Stops.{lasting_stop};
 
 use crate::account::Account;
 use crate::outside::Outside;
 use bus_model::Bus;
+use counter_cache::Counters;
 use pad_stream::PadEngine;
-use sec_base::{
-    Counter, Geometry, LINES_PER_PAGE, LineStore, MemStop, NoMemory, NoMemoryWith, Tagger, page_of,
-};
-use split_counter::{Bumped, CounterBlock, place_of};
+use sec_base::{Counter, Geometry, LineStore, MemStop, NoMemoryWith, Tagger, page_of};
+use split_counter::{Bumped, place_of};
 use std::alloc::Global;
 use std::marker::Model;
 use tag_engine::TagEngine;
 
-/// A memory of lines that stand outside the chip, each encrypted under a counter of its own: the chip has a block of
-/// counters for each page.
+/// A memory of lines that stand outside the chip, each encrypted under a counter of its own. The counters of a page are a
+/// block that stands outside too: the chip reads it along its path in the tree, each time that a line of the page is read
+/// or written.
 #[derive(Drop)]
 pub struct SealedLines<B: Bus, T: Tagger> {
     outside: Outside<B, T>,
+    counters: Counters,
     geometry: Geometry,
-    blocks: Vec<CounterBlock>,
     page_limit: u64,
     stopped: Option<MemStop>,
 }
 
 impl<B: Bus, T: Tagger> Model for SealedLines<B, T> {
-    ghost use Rattle.std.specs.Prelude.{◌≡◌, None};
-    ghost use Rattle.sec_base.specs.Geometry.{page_count};
-    ghost use Rattle.page_reencrypt.specs.SealedLines.{AreCurrent, AreProtected, SealedLinesView};
-    ghost use Rattle.page_reencrypt.specs.Stops.{lasting_stop};
+    ghost use Rattle.std.specs.Prelude.{◌≡◌};
+    ghost use Rattle.page_reencrypt.specs.SealedLines.{AreProtected, SealedLinesView};
 
     ghost Value = { SealedLinesView B T };
 
@@ -59,16 +59,13 @@ impl<B: Bus, T: Tagger> Model for SealedLines<B, T> {
 
     ghost view = { sealed_lines_view };
 
-    // The blocks say the counters until a stop that lasts, which may come in the middle of an overflow.
     ghost invariant = { λ lines. (lines.geometry ≡ lines.outside.engine.levels)
-        × AreProtected T.data_tag_of T.node_tag_of B.history (sealed_lines_view lines)
-        × (lasting_stop lines.stopped ≡ None →
-        AreCurrent lines.blocks.items (page_count lines.outside.engine.levels) lines.outside.pads.used) };
+        × AreProtected T.data_tag_of T.node_tag_of B.history (sealed_lines_view lines) };
 }
 
 impl<B: Bus, T: Tagger> SealedLines<B, T> {
-    /// A memory that was never written, over a bus to which nothing was written. Out of memory, the tagger is dropped,
-    /// and the bus comes back.
+    /// A memory that was never written, over a bus to which nothing was written: its tree is written to the bus. Out of
+    /// memory, the tagger is dropped, and the bus comes back.
     pub fn boot(
         alloc: Global,
         bus: B,
@@ -80,22 +77,24 @@ impl<B: Bus, T: Tagger> SealedLines<B, T> {
         requires levels { (B.history bus).levels ≡ geometry }
         requires nothing_written { NothingWritten (B.history bus) }
 
-        ensures new { IfOk result (AreNew B.history B.moved bus tagger enc_key.now geometry page_limit) }
-        ensures refused { IfErr result (λ refusal. IsUnbooted (B.history bus) (B.history refusal.0) × B.moved bus refusal.0) }
+        ensures new { IfOk result (AreNew B.history B.moved (tags_of T.data_tag_of T.node_tag_of) bus tagger enc_key.now geometry page_limit) }
+        ensures through { IfOk result (AreWrittenThrough T.data_tag_of T.node_tag_of B.history) }
+        ensures refused { IfErr result (λ refusal. IsUnbooted geometry (B.history bus) (B.history refusal.0) × B.moved bus refusal.0) }
     {
-        let Ok(tags) = TagEngine::new(alloc, tagger, geometry) else {
+        let Ok(mut tags) = TagEngine::new(alloc, tagger, geometry) else {
             return Err(NoMemoryWith(bus));
         };
         let Ok(pads) = PadEngine::new(alloc, enc_key) else {
             return Err(NoMemoryWith(bus));
         };
-        let Ok(blocks) = new_blocks(alloc, geometry) else {
+        let mut bus = bus;
+        let Ok(counters) = Counters::boot(alloc, geometry, &mut bus, &mut tags) else {
             return Err(NoMemoryWith(bus));
         };
         Ok(SealedLines {
             outside: Outside { bus, tags, pads },
+            counters,
             geometry,
-            blocks,
             page_limit,
             stopped: None,
         })
@@ -116,20 +115,18 @@ impl<B: Bus, T: Tagger> SealedLines<B, T> {
         ensures evidence { result.0.evidence ≡ evidence self }
         ensures bus { result.1 ≡ self.bus }
 
-        // No line and counter repeats, so no block of all their pads does.
-        ensures apart { ShareNoBlock (enc_key self) result.0.used }
+        // Where there is no evidence, no line and counter repeats, so no block of all their pads does.
+        ensures apart { IsQuiet self → ShareNoBlock (enc_key self) result.0.used }
 
-        // Evidence is what it says, and what holds at all times held to the end. The blocks said the counters until a
-        // stop that lasts.
+        // Evidence is what it says, and what holds between calls held to the end.
         ensures genuine { IfSome result.0.evidence
             (IsEvidence (tag_in T.data_tag_of T.node_tag_of self) result.0.made) }
         ensures protected { AreProtected T.data_tag_of T.node_tag_of B.history self }
-        ensures current { lasting_stop self.stopped ≡ None → AreCurrent self.blocks (page_count (levels self)) (used self) }
     {
         let SealedLines {
             outside,
+            counters: _counters,
             geometry: _,
-            blocks: _blocks,
             page_limit: _,
             stopped: _,
         } = self;
@@ -141,15 +138,6 @@ impl<B: Bus, T: Tagger> SealedLines<B, T> {
             evidence,
         };
         (account, bus)
-    }
-
-    // The counter of a line, as the chip has it.
-    fn counter(&self, line: u32) -> Counter
-        requires inside { line < lines_of self.now }
-        requires going { lasting_stop self.now.stopped ≡ None }
-        ensures counter { HasCounter (used self.now) line result }
-    {
-        self.blocks[page_of(line) as usize].get(place_of(line))
     }
 }
 
@@ -174,7 +162,7 @@ impl<B: Bus, T: Tagger> LineStore for SealedLines<B, T> {
         self.geometry.lines()
     }
 
-    // A line that was never written is zeros, without an access.
+    // A line that was never written is zeros, without an access to its place.
     fn read_line(&mut self, line: u32) -> Result<[u8; 64], MemStop>
         requires inside { line < lines_of self.old }
 
@@ -193,36 +181,49 @@ impl<B: Bus, T: Tagger> LineStore for SealedLines<B, T> {
         ensures kept { (stop : MemStop) → lasting_stop self.old.stopped ≡ Some stop →
             (result ≡ Err stop) × (self.new ≡ self.old) }
 
-        // It is one access at most, and nothing is encrypted, tagged or written.
-        ensures once { (B.history self.new.bus).accesses ≤ (B.history self.old.bus).accesses + 1 }
+        // It is one access for each level and one for the line at most, no line is encrypted, tagged or written, and no
+        // counter changes.
+        ensures once { (B.history self.new.bus).accesses ≤ (B.history self.old.bus).accesses + (fetch_accesses (levels self.old) + 1) }
         ensures unsealed { IsUnsealed B.history self.old self.new }
+        ensures same_counters { lasting_stop self.old.stopped ≡ None → IsQuiet self.new → SameCounters self.old self.new }
+        ensures alone { (other : ℕ) → other ≢ line →
+            (B.history self.new.bus).reads (line_place other) ≡ (B.history self.old.bus).reads (line_place other) }
 
-        // What passed though it was never tagged is answered as it was decrypted.
-        ensures accepted { (at : ℕ) (counter : Counter) (sealed : Sealed) (made_count : ℕ) →
+        // The memory is written through before and after the call.
+        ensures through { lasting_stop self.new.stopped ≡ None → IsQuiet self.new →
+            AreWrittenThrough T.data_tag_of T.node_tag_of B.history self.new }
+
+        // What passed though it was never tagged is answered as it was decrypted. Counters that passed so are used as they
+        // were answered.
+        ensures accepted { (at : ℕ) (counter : Counter) (sealed : Sealed) (made_count : ℕ) → lasting_stop self.old.stopped ≡ None →
             IsQuiet self.old → evidence self.new ≡ Some (Forgery at counter sealed made_count) →
             (at ≡ line) × (result ≡ Ok (cipher_of (enc_key self.old) line counter sealed.cipher)) }
+        ensures accepted_counters { (made_at : ℕ) (block tag : List ℕ) → lasting_stop self.old.stopped ≡ None →
+            IsQuiet self.old → evidence self.new ≡ Some (Collision 0 (page_of line) made_at block tag) →
+            IfOk result (IsReadUnder (tag_in T.data_tag_of T.node_tag_of self.old) (enc_key self.old) line
+            (counter_of (place_of line) (block_of block)) (B.history self.new.bus)) }
 
-        // A line that was never written is read without an access to its place, and nothing is found.
-        ensures fresh { lasting_stop self.old.stopped ≡ None → IsFresh line (used self.old) → IsOk result
-            × ((B.history self.new.bus).reads ≡ (B.history self.old.bus).reads) × (evidence self.new ≡ evidence self.old) }
+        // Evidence comes only of a false answer.
+        ensures shown { lasting_stop self.old.stopped ≡ None → IsQuiet self.old →
+            IsQuiet self.new ⊎ Rose (B.history self.old.bus).lies (B.history self.new.bus).lies }
 
-        // Tampering comes only of this line, and where an answer was false.
-        ensures tampered { (place : Place) → lasting_stop self.old.stopped ≡ None →
-            result ≡ Err (Tampered place) → (place ≡ line_place line)
-            × Rose (B.history self.old.bus).lies (B.history self.new.bus).lies }
+        // The place of a line that was never written is not read.
+        ensures fresh { lasting_stop self.old.stopped ≡ None → IsQuiet self.new → IsFresh line (used self.old) →
+            (B.history self.new.bus).reads (line_place line) ≡ (B.history self.old.bus).reads (line_place line) }
+
+        // Tampering comes only of this line or of a node on the path of its page, and where an answer was false or there
+        // was evidence before.
+        ensures tampered { (place : Place) → lasting_stop self.old.stopped ≡ None → result ≡ Err (Tampered place) →
+            ((place ≡ line_place line) ⊎ IsOnPath (levels self.old) 0 (page_of line) place)
+            × (IsQuiet self.old → Rose (B.history self.old.bus).lies (B.history self.new.bus).lies) }
         ensures unspent { (page : ℕ) → result ≢ Err (Spent page) }
     {
         if let Some(stop) = lasting(self.stopped) {
             return Err(stop);
         }
-        let counter = self.counter(line);
-        match self.outside.read(line, counter) {
-            Ok(bytes) => Ok(bytes),
-            Err(stop) => {
-                self.stopped = Some(stop);
-                Err(stop)
-            }
-        }
+        let read = read_at(&mut self.outside, &mut self.counters, line);
+        self.stopped = read.err().or(self.stopped);
+        read
     }
 
     fn write_line(&mut self, line: u32, bytes: &[u8; 64]) -> Result<(), MemStop>
@@ -248,59 +249,72 @@ impl<B: Bus, T: Tagger> LineStore for SealedLines<B, T> {
         // The line is encrypted and tagged once, under its next counter; with an overflow all lines of its page are, in
         // the order of their places, each with the bytes that the memory then holds. Where the write stops, a front part
         // of them was.
-        ensures sealed { OnOk result (IsSealedAnew line bytes.now (lines_of_write line self.old) self.old self.new) }
+        ensures sealed { OnOk result (IsSealedAnew line bytes.now self.old self.new) }
         ensures sealed_in_part { OnErr result (IsSealedInPart line bytes.now self.old self.new) }
 
-        // With an overflow each other line of the page that was written before is read from its place.
-        ensures reread { OnOk result (AreReread line (lines_of_write line self.old) (used self.old)
+        // The memory is written through before and after the call.
+        ensures through { lasting_stop self.new.stopped ≡ None → IsQuiet self.new →
+            AreWrittenThrough T.data_tag_of T.node_tag_of B.history self.new }
+
+        // The path of the page is read. With an overflow each other line of the page that was written before is read from
+        // its place.
+        ensures path { lasting_stop self.old.stopped ≡ None →
+            OnOk result (PathWasRead self.old.counters.tree (made self.old) 0 (page_of line) (B.history self.old.bus) (B.history self.new.bus)) }
+        ensures reread { IsQuiet self.new → OnOk result (AreReread line (lines_of_write line self.old) (used self.old)
             (B.history self.old.bus) (B.history self.new.bus)) }
 
-        // A counter changes only where there was memory for each line that is to be encrypted.
-        ensures reserved { OnErr result (((used self.new ≡ used self.old) × (self.new.blocks ≡ self.old.blocks))
-            ⊎ HadMemory line self.old self.new) }
+        // A counter changes only where there was memory for all lines of the page.
+        ensures reserved { OnErr result (((used self.new ≡ used self.old) × (IsQuiet self.new → SameCounters self.old self.new))
+            ⊎ HadMemory self.old self.new) }
 
-        // A line is written without a read and by one access; with an overflow there are two accesses a line at most, and
-        // one of the written line.
-        ensures once { (next_counter (counter_in (used self.old) line)).line ≢ 0 →
-            ((B.history self.new.bus).accesses ≤ (B.history self.old.bus).accesses + 1)
-            × ((B.history self.new.bus).reads ≡ (B.history self.old.bus).reads) }
-        ensures twice { (B.history self.new.bus).accesses + 1
-            ≤ (B.history self.old.bus).accesses + 2 * length (lines_of_write line self.old) }
+        // The path is read twice and written once. A line is written without a read of any line and by one access; with an
+        // overflow there are two accesses a line at most, and one of the written line.
+        ensures once { IsQuiet self.new → (next_counter (counter_in (used self.old) line)).line ≢ 0 →
+            ((B.history self.new.bus).accesses ≤ (B.history self.old.bus).accesses + (fetch_accesses (levels self.old) + bump_accesses (levels self.old) + 1))
+            × ((other : ℕ) → (B.history self.new.bus).reads (line_place other) ≡ (B.history self.old.bus).reads (line_place other)) }
+        ensures few { (B.history self.new.bus).accesses ≤ (B.history self.old.bus).accesses + (fetch_accesses (levels self.old) + bump_accesses (levels self.old) + 127) }
 
-        // A line with the last counter that the limit allows is not written again, and nothing else is refused so. Nothing
-        // changes but the stop.
-        ensures spent { lasting_stop self.old.stopped ≡ None →
-            ((result ≡ Err (Spent (page_of line)))
-            ↔ (counter_in (used self.old) line ≡ last_counter self.old.limit)) }
+        // Only a line with the last counter that the limit allows is spent, and such a line is not written again: its
+        // counters are read, and where the answer is another one, they could not be had. Nothing but nodes changes.
+        ensures spent { lasting_stop self.old.stopped ≡ None → IsQuiet self.new → result ≡ Err (Spent (page_of line)) →
+            counter_in (used self.old) line ≡ last_counter self.old.limit }
+        ensures used_up { lasting_stop self.old.stopped ≡ None → IsQuiet self.new →
+            counter_in (used self.old) line ≡ last_counter self.old.limit →
+            (stop_of result ≢ None) × IsUnsealed B.history self.old self.new × SameCounters self.old self.new
+            × ((B.history self.new.bus).accesses ≤ (B.history self.old.bus).accesses + fetch_accesses (levels self.old)) }
         ensures spent_stays { (page : ℕ) → result ≡ Err (Spent page) → (page ≡ page_of line)
-            × (self.new ≡ record self.old { stopped = Some (Spent page) }) }
+            × (contents self.new ≡ contents self.old) × IsUnsealed B.history self.old self.new }
 
-        // Tampering comes only with an overflow, of another line of the page, and where an answer was false.
+        // Tampering comes only of a node on the path of the page or, with an overflow, of another line of the page, and
+        // where an answer was false or there was evidence before.
         ensures tampered { (place : Place) → lasting_stop self.old.stopped ≡ None → result ≡ Err (Tampered place) →
-            ((next_counter (counter_in (used self.old) line)).line ≡ 0)
-            × IsTamperedBeside line place (B.history self.old.bus) (B.history self.new.bus) }
+            IsTamperedInWrite B.history line place self.old self.new }
+        ensures untampered { (other : ℕ) → lasting_stop self.old.stopped ≡ None → IsQuiet self.new →
+            (next_counter (counter_in (used self.old) line)).line ≢ 0 → result ≢ Err (Tampered (line_place other)) }
+
+        ensures last_untampered { (other : ℕ) → lasting_stop self.old.stopped ≡ None → IsQuiet self.new →
+            counter_in (used self.old) line ≡ last_counter self.old.limit → result ≢ Err (Tampered (line_place other)) }
 
         // The lines that were encrypted are those before the one that failed.
-        ensures failed { (other : ℕ) → lasting_stop self.old.stopped ≡ None → result ≡ Err (Tampered (line_place other)) →
+        ensures failed { (other : ℕ) → lasting_stop self.old.stopped ≡ None → IsQuiet self.new → result ≡ Err (Tampered (line_place other)) →
             used self.new ≡ used self.old ++ take (place_of other) (entries_of_write line (used self.old)) }
     {
         if let Some(stop) = lasting(self.stopped) {
             return Err(stop);
         }
-        let block = &mut self.blocks[page_of(line) as usize];
-        let written = write_next(&mut self.outside, block, self.page_limit, line, bytes);
+        let written = write_next(
+            &mut self.outside,
+            &mut self.counters,
+            self.geometry.levels(),
+            self.page_limit,
+            line,
+            bytes,
+        );
         self.stopped = written.err().or(self.stopped);
         written
     }
 
     ghost sized = { λ lines. length-contents_of (enc_key lines) (lines_of lines) (made lines) };
-}
-
-// The counters of a memory of which no line was written.
-fn new_blocks(alloc: Global, geometry: Geometry) -> Result<Vec<CounterBlock>, NoMemory>
-    ensures { IfOk result (λ blocks. blocks.items ≡ replicate (page_count geometry) new_block) }
-{
-    Ok(vec![in alloc; CounterBlock::new(); geometry.pages() as usize]?)
 }
 
 // The stop that is answered from then on, if there was one.
@@ -314,43 +328,77 @@ fn lasting(stopped: Option<MemStop>) -> Option<MemStop>
     }
 }
 
+// Reads a line under its counter, which is read along the path of its page. It keeps no stop.
+fn read_at<B: Bus, T: Tagger>(
+    outside: &mut Outside<B, T>,
+    counters: &mut Counters,
+    line: u32,
+) -> Result<[u8; 64], MemStop>
+    requires inside { line < line_count outside.old.engine.levels }
+    requires levels { counters.old.tree.levels ≡ outside.old.engine.levels }
+    requires consistent { AreConsistent (terms_of B.history B.moved T.data_tag_of T.node_tag_of outside.old) outside.old }
+    requires holds_last { HaveLast (terms_of B.history B.moved T.data_tag_of T.node_tag_of outside.old) outside.old }
+    requires nodes_hold_last { HaveLastNodes (terms_of B.history B.moved T.data_tag_of T.node_tag_of outside.old) outside.old }
+    requires risen { HaveRisen (terms_of B.history B.moved T.data_tag_of T.node_tag_of outside.old) outside.old }
+    requires fits { TreeFits (terms_of B.history B.moved T.data_tag_of T.node_tag_of outside.old) outside.old counters.old }
+    requires current { CountersSay (terms_of B.history B.moved T.data_tag_of T.node_tag_of outside.old) outside.old counters.old }
+    requires started { outside.old.engine.evidence ≡ None → (at : ℕ) → HasCounter outside.old.pads.used at (counter_in outside.old.pads.used at) }
+
+    ensures read { IsLineRead (terms_of B.history B.moved T.data_tag_of T.node_tag_of outside.old) line
+        outside.old counters.old outside.new counters.new result }
+{
+    let block = outside.get(counters, page_of(line))?;
+    outside.read(line, block.get(place_of(line)))
+}
+
 // Writes a line under its next counter, where the limit allows one. A line counter that is used up raises its page's
 // counter, and the whole page is encrypted anew. Memory is taken before a counter changes. It keeps no stop.
 fn write_next<B: Bus, T: Tagger>(
     outside: &mut Outside<B, T>,
-    block: &mut CounterBlock,
+    counters: &mut Counters,
+    levels: u8,
     limit: u64,
     line: u32,
     bytes: &[u8; 64],
 ) -> Result<(), MemStop>
     requires inside { line < line_count outside.old.engine.levels }
+    requires levels { levels ≡ outside.old.engine.levels }
+    requires tree_levels { counters.old.tree.levels ≡ outside.old.engine.levels }
     requires consistent { AreConsistent (terms_of B.history B.moved T.data_tag_of T.node_tag_of outside.old) outside.old }
     requires holds_last { HaveLast (terms_of B.history B.moved T.data_tag_of T.node_tag_of outside.old) outside.old }
-    requires current { IsOfPage outside.old.pads.used (page_of line) block.old }
-    requires started { (at : ℕ) → HasCounter outside.old.pads.used at (counter_in outside.old.pads.used at) }
-    requires limited { block.old.page ≤ limit }
+    requires nodes_hold_last { HaveLastNodes (terms_of B.history B.moved T.data_tag_of T.node_tag_of outside.old) outside.old }
+    requires risen { HaveRisen (terms_of B.history B.moved T.data_tag_of T.node_tag_of outside.old) outside.old }
+    requires fits { TreeFits (terms_of B.history B.moved T.data_tag_of T.node_tag_of outside.old) outside.old counters.old }
+    requires current { CountersSay (terms_of B.history B.moved T.data_tag_of T.node_tag_of outside.old) outside.old counters.old }
+    requires started { outside.old.engine.evidence ≡ None → (at : ℕ) → HasCounter outside.old.pads.used at (counter_in outside.old.pads.used at) }
+    requires limited { outside.old.engine.evidence ≡ None → (counter_in outside.old.pads.used line).page ≤ limit }
 
-    ensures written { IsWriteOrSpent (terms_of B.history B.moved T.data_tag_of T.node_tag_of outside.old) limit line bytes.now
-        outside.old block.old outside.new block.new result }
-    ensures once { (next_counter (counter_in outside.old.pads.used line)).line ≢ 0 →
-        ((B.history outside.new.bus).accesses ≤ (B.history outside.old.bus).accesses + 1)
-        × ((B.history outside.new.bus).reads ≡ (B.history outside.old.bus).reads) }
-    ensures few { (B.history outside.new.bus).accesses ≤ (B.history outside.old.bus).accesses + 127 }
+    ensures written { IsWrite (terms_of B.history B.moved T.data_tag_of T.node_tag_of outside.old) limit line bytes.now
+        outside.old counters.old outside.new counters.new (stop_of result) }
+    ensures once { outside.new.engine.evidence ≡ None → (next_counter (counter_in outside.old.pads.used line)).line ≢ 0 →
+        ((B.history outside.new.bus).accesses ≤ (B.history outside.old.bus).accesses + (fetch_accesses outside.old.engine.levels + bump_accesses outside.old.engine.levels + 1))
+        × ((other : ℕ) → (B.history outside.new.bus).reads (line_place other) ≡ (B.history outside.old.bus).reads (line_place other)) }
+    ensures few { (B.history outside.new.bus).accesses ≤ (B.history outside.old.bus).accesses + (fetch_accesses outside.old.engine.levels + bump_accesses outside.old.engine.levels + 127) }
 {
+    let page = page_of(line);
     let place = place_of(line);
-    match Bumped::of(block.get(place), limit) {
+    let block = outside.get(counters, page)?;
+    if let Bumped::Spent = Bumped::of(block.get(place), limit) {
+        return Err(MemStop::Spent(page));
+    }
+    outside.reserve(levels)?;
+    match outside.bump(counters, page, place, limit)? {
         Bumped::Line(counter) => {
-            outside.reserve(1)?;
-            block.bump(place, limit);
             outside.seal(line, counter, bytes)?;
             Ok(())
         }
-        Bumped::Page(page) => {
-            outside.reserve(LINES_PER_PAGE)?;
-            let old = *block;
-            block.bump(place, limit);
-            outside.reencrypt_page(&old, line, Counter { page, line: 0 }, bytes)
+        Bumped::Page(raised) => {
+            let counter = Counter {
+                page: raised,
+                line: 0,
+            };
+            outside.reencrypt_page(&block, line, counter, bytes)
         }
-        Bumped::Spent => Err(MemStop::Spent(page_of(line))),
+        Bumped::Spent => Err(MemStop::Spent(page)),
     }
 }

@@ -1,20 +1,58 @@
-// Each public call with ample memory, over a bus that tells the truth or flips a bit at one read of one line. A tag is
-// the first 16 bytes of its message: 0x44, the line, its counter, and the first two bytes of the ciphertext.
-ghost use Rattle.std.specs.Prelude.{◌≡◌, ◌<◌, [], ◌∷◌, IfOk, refl, slice_index, replicate};
-ghost use Rattle.page_reencrypt.specs.SealedLines.{levels};
+// Each public call with ample memory, over buses that count, flip a bit at one read of one place, or answer what a place
+// held before. A line's tag is the first 16 bytes of its message: 0x44, the line, its counter, and the first two bytes of
+// the ciphertext.
+ghost use Rattle.std.specs.Prelude.{◌≡◌, ◌<◌, [], ◌∷◌, None, refl, slice_index, replicate};
+ghost use Rattle.sec_base.specs.Count.{top};
+ghost use Rattle.sec_base.specs.Place.{place_size};
+ghost use Rattle.bus_model.specs.FlipBus.{flip_history};
+ghost use Rattle.bus_model.specs.HonestBus.{honest_history};
 
 use crate::{Account, SealedLines};
-use bus_model::FlipBus;
-use sec_base::{Counter, Geometry, LineStore, MemStop, Message, Place, Tagger};
+use bus_model::{Bus, FlipBus, HonestBus};
+use sec_base::{
+    Counter, Evidence, Geometry, LineStore, MemStop, Message, NoMemory, Place, Sealed, Tagger,
+};
 use std::alloc::{AllocError, Global};
 use std::process::Abort;
 use std::test::Fail;
 
-// Gives the first 16 bytes of a data line's message, and zeros for a node.
+// Gives the first 16 bytes of a line's message. Of a node's message it gives the first seven, up to the lowest byte of a
+// page counter, and four of its block: one in each quarter, the first of which has a part of the counter at place 5.
 #[derive(Drop)]
-struct FirstBytes;
+struct SomeBytes;
 
-impl Tagger for FirstBytes {
+impl Tagger for SomeBytes {
+    ghost data_tag_of = { λ _ m. slice_index m 0 ∷ slice_index m 1 ∷ slice_index m 2 ∷ slice_index m 3 ∷ slice_index m 4
+        ∷ slice_index m 5 ∷ slice_index m 6 ∷ slice_index m 7 ∷ slice_index m 8 ∷ slice_index m 9 ∷ slice_index m 10
+        ∷ slice_index m 11 ∷ slice_index m 12 ∷ slice_index m 13 ∷ slice_index m 14 ∷ slice_index m 15 ∷ [] };
+
+    ghost node_tag_of = { λ _ m. slice_index m 0 ∷ slice_index m 1 ∷ slice_index m 2 ∷ slice_index m 3 ∷ slice_index m 4
+        ∷ slice_index m 5 ∷ slice_index m 6 ∷ 0 ∷ 0 ∷ 0 ∷ 0 ∷ 0 ∷ slice_index m 18 ∷ slice_index m 34 ∷ slice_index m 50
+        ∷ slice_index m 66 ∷ [] };
+
+    ghost data_tag_long = { λ _ _. refl };
+
+    ghost node_tag_long = { λ _ _. refl };
+
+    fn data_tag(&self, m: &[u8; 78]) -> [u8; 16] {
+        [
+            m[0], m[1], m[2], m[3], m[4], m[5], m[6], m[7], m[8], m[9], m[10], m[11], m[12], m[13],
+            m[14], m[15],
+        ]
+    }
+
+    fn node_tag(&self, m: &[u8; 70]) -> [u8; 16] {
+        [
+            m[0], m[1], m[2], m[3], m[4], m[5], m[6], 0, 0, 0, 0, 0, m[18], m[34], m[50], m[66],
+        ]
+    }
+}
+
+// Gives the first 16 bytes of a line's message, and zeros for a node.
+#[derive(Drop)]
+struct NodesAlike;
+
+impl Tagger for NodesAlike {
     ghost data_tag_of = { λ _ m. slice_index m 0 ∷ slice_index m 1 ∷ slice_index m 2 ∷ slice_index m 3 ∷ slice_index m 4
         ∷ slice_index m 5 ∷ slice_index m 6 ∷ slice_index m 7 ∷ slice_index m 8 ∷ slice_index m 9 ∷ slice_index m 10
         ∷ slice_index m 11 ∷ slice_index m 12 ∷ slice_index m 13 ∷ slice_index m 14 ∷ slice_index m 15 ∷ [] };
@@ -37,57 +75,124 @@ impl Tagger for FirstBytes {
     }
 }
 
-// 256 lines.
+// A bus that counts its accesses.
 #[derive(Drop)]
-struct Memory {
-    lines: SealedLines<FlipBus, FirstBytes>,
-    ghost small: { levels lines ≡ 1 },
+struct CountBus {
+    bus: FlipBus,
+    accesses: u64,
 }
 
-impl Memory {
-    // Writes a line that is the byte 64 times.
-    fn fill(&mut self, line: u32, byte: u8) -> Result<(), MemStop>
-        requires { line < 256 }
+impl CountBus {
+    fn count(&mut self)
+        ensures { self.new.bus ≡ self.old.bus }
     {
+        self.accesses = self.accesses.saturating_add(1);
+    }
+}
+
+impl Bus for CountBus {
+    ghost history = { λ bus. flip_history bus.bus };
+
+    ghost moved = { λ _ _. Unit {0} };
+
+    ghost unmoved = { λ _. tt };
+
+    ghost moved_on = { λ _ _ _ _ _. tt };
+
+    fn read_data(&mut self, line: u32) -> Result<Sealed, NoMemory> {
+        self.count();
+        self.bus.read_data(line)
+    }
+
+    fn write_data(&mut self, line: u32, sealed: &Sealed) -> Result<(), NoMemory> {
+        self.count();
+        self.bus.write_data(line, sealed)?;
+        Ok(())
+    }
+
+    fn read_node(&mut self, level: u8, index: u32) -> Result<[u8; 64], NoMemory> {
+        self.count();
+        self.bus.read_node(level, index)
+    }
+
+    fn write_node(&mut self, level: u8, index: u32, block: &[u8; 64]) -> Result<(), NoMemory> {
+        self.count();
+        self.bus.write_node(level, index, block)?;
+        Ok(())
+    }
+}
+
+// Lines over such a bus.
+#[derive(Drop)]
+struct Memory<T: Tagger> {
+    lines: SealedLines<CountBus, T>,
+}
+
+impl<T: Tagger> Memory<T> {
+    // Writes a line that is the byte 64 times.
+    fn fill(&mut self, rt: &impl Abort, line: u32, byte: u8) -> Result<(), MemStop> {
+        assert!(rt; line < self.lines.lines());
         self.lines.write_line(line, &[byte; 64])
     }
 
     // Writes a line so many times.
-    fn wear(&mut self, line: u32, writes: u32, byte: u8) -> Result<(), MemStop>
-        requires { line < 256 }
-    {
+    fn wear(&mut self, rt: &impl Abort, line: u32, writes: u32, byte: u8) -> Result<(), MemStop> {
         for _ in 0..writes {
-            self.fill(line, byte)?;
+            self.fill(rt, line, byte)?;
         }
         Ok(())
     }
 
-    fn read(&mut self, line: u32) -> Result<[u8; 64], MemStop>
-        requires { line < 256 }
-    {
+    fn read(&mut self, rt: &impl Abort, line: u32) -> Result<[u8; 64], MemStop> {
+        assert!(rt; line < self.lines.lines());
         self.lines.read_line(line)
     }
 
-    fn finish(self) -> (Account, FlipBus) {
+    fn finish(self) -> (Account, CountBus) {
         let Memory { lines } = self;
         lines.finish()
     }
 }
 
-// Over a bus that flips a bit at the `k`-th read of a line.
-fn flipped(alloc: Global, page_limit: u64, line: u32, k: u64, offset: u8) -> Result<Memory, Fail>
-    requires { offset < 80 }
+// Over a bus for a tree of so many levels that flips the lowest bit of a byte at the `k`-th read of a place.
+fn booted<T: Tagger>(
+    alloc: Global,
+    tagger: T,
+    levels: u8,
+    page_limit: u64,
+    place: Place,
+    k: u64,
+    offset: u8,
+) -> Result<Memory<T>, Fail>
+    requires { offset < place_size place }
 {
-    let geometry = Geometry::new(1).ok_or("no geometry")?;
-    let bus = FlipBus::new(alloc, geometry, Place::Line(line), k, offset, 1)?;
-    let lines = SealedLines::boot(alloc, bus, FirstBytes, &[7; 16], geometry, page_limit);
+    let geometry = Geometry::new(levels).ok_or("no geometry")?;
+    let bus = CountBus {
+        bus: FlipBus::new(alloc, geometry, place, k, offset, 1)?,
+        accesses: 0,
+    };
+    let lines = SealedLines::boot(alloc, bus, tagger, &[7; 16], geometry, page_limit);
     Ok(Memory {
         lines: lines.ok().ok_or("no memory")?,
     })
 }
 
-// Over a bus that tells the truth.
-fn honest(alloc: Global, page_limit: u64) -> Result<Memory, Fail> {
+// 256 lines, over a bus that flips a bit at the `k`-th read of a line.
+fn flipped(
+    alloc: Global,
+    page_limit: u64,
+    line: u32,
+    k: u64,
+    offset: u8,
+) -> Result<Memory<SomeBytes>, Fail>
+    requires { offset < 80 }
+{
+    let place = Place::Line(line);
+    booted(alloc, SomeBytes, 1, page_limit, place, k, offset)
+}
+
+// 256 lines, over a bus that tells the truth.
+fn honest(alloc: Global, page_limit: u64) -> Result<Memory<SomeBytes>, Fail> {
     flipped(alloc, page_limit, 0, 0, 0)
 }
 
@@ -118,18 +223,18 @@ fn once(line: u32) -> (u32, Counter) {
 fn what_was_written_last_is_read(rt: HostRuntime) -> Result<(), Fail> {
     let mut memory = honest(rt.alloc(), 2)?;
     assert_eq!(rt; memory.lines.lines(), 256);
-    assert_eq!(rt; memory.fill(64, 1), Ok(()));
-    assert_eq!(rt; memory.read(64), Ok([1; 64]));
-    assert_eq!(rt; memory.fill(64, 2), Ok(()));
-    assert_eq!(rt; memory.fill(255, 3), Ok(()));
-    assert_eq!(rt; memory.read(64), Ok([2; 64]));
-    assert_eq!(rt; memory.read(255), Ok([3; 64]));
+    assert_eq!(rt; memory.fill(&rt, 64, 1), Ok(()));
+    assert_eq!(rt; memory.read(&rt, 64), Ok([1; 64]));
+    assert_eq!(rt; memory.fill(&rt, 64, 2), Ok(()));
+    assert_eq!(rt; memory.fill(&rt, 255, 3), Ok(()));
+    assert_eq!(rt; memory.read(&rt, 64), Ok([2; 64]));
+    assert_eq!(rt; memory.read(&rt, 255), Ok([3; 64]));
     assert_eq!(rt; memory.lines.stopped(), None);
     let (account, _bus) = memory.finish();
     let again = (64, Counter { page: 0, line: 2 });
     let wanted = [once(64), again, once(255)];
     assert_eq!(rt; account.used.as_slice(), wanted.as_slice());
-    assert_eq!(rt; account.made.len(), 3);
+    assert_eq!(rt; account.made.len(), 5 + 3 * 3);
     assert_eq!(rt; account.evidence, None);
     Ok(())
 }
@@ -139,14 +244,14 @@ fn what_was_written_last_is_read(rt: HostRuntime) -> Result<(), Fail> {
 fn a_page_is_encrypted_in_the_order_of_its_places(rt: HostRuntime) -> Result<(), Fail> {
     for (line, first) in [(5, 0), (64, 64), (255, 192)] {
         let mut memory = honest(rt.alloc(), u64::MAX)?;
-        assert_eq!(rt; memory.wear(line, 128, 1), Ok(()), "line {line}");
+        assert_eq!(rt; memory.wear(&rt, line, 128, 1), Ok(()), "line {line}");
         let (account, _bus) = memory.finish();
         let mut wanted = Vec::new(rt.alloc());
         add_line(&mut wanted, line, 0)?;
         add_page(&mut wanted, first, 1)?;
         assert_eq!(rt; wanted.len(), 191, "line {line}");
         assert_eq!(rt; account.used.as_slice(), wanted.as_slice(), "line {line}");
-        assert_eq!(rt; account.made.len(), 191, "line {line}");
+        assert_eq!(rt; account.made.len(), 5 + 191 + 2 * 128, "line {line}");
         assert_eq!(rt; account.evidence, None, "line {line}");
     }
     Ok(())
@@ -166,16 +271,16 @@ fn a_line_that_was_never_written_is_read_once_its_page_was_encrypted(
         (3, [0; 64], [0; 64]),
     ] {
         let mut memory = flipped(rt.alloc(), u64::MAX, 6, k, 2)?;
-        assert_eq!(rt; memory.read(6), Ok([0; 64]), "read {k}");
-        assert_eq!(rt; memory.wear(5, 127, 1), Ok(()), "read {k}");
-        assert_eq!(rt; memory.read(6), Ok([0; 64]), "read {k}");
-        assert_eq!(rt; memory.fill(5, 2), Ok(()), "read {k}");
-        assert_eq!(rt; memory.read(6), Ok(first), "read {k}");
-        assert_eq!(rt; memory.read(6), Ok(second), "read {k}");
+        assert_eq!(rt; memory.read(&rt, 6), Ok([0; 64]), "read {k}");
+        assert_eq!(rt; memory.wear(&rt, 5, 127, 1), Ok(()), "read {k}");
+        assert_eq!(rt; memory.read(&rt, 6), Ok([0; 64]), "read {k}");
+        assert_eq!(rt; memory.fill(&rt, 5, 2), Ok(()), "read {k}");
+        assert_eq!(rt; memory.read(&rt, 6), Ok(first), "read {k}");
+        assert_eq!(rt; memory.read(&rt, 6), Ok(second), "read {k}");
         let (account, bus) = memory.finish();
         assert_eq!(rt; account.used.len(), 191, "read {k}");
         assert_eq!(rt; account.evidence.is_some(), k < 3, "read {k}");
-        assert_eq!(rt; bus.lies() == 1, k < 3, "read {k}");
+        assert_eq!(rt; bus.bus.lies() == 1, k < 3, "read {k}");
     }
     Ok(())
 }
@@ -207,9 +312,9 @@ const CIPHER_6: [u8; 64] = [
 #[test]
 fn a_page_is_encrypted_under_its_new_counter(rt: HostRuntime) -> Result<(), Fail> {
     let mut memory = honest(rt.alloc(), u64::MAX)?;
-    assert_eq!(rt; memory.fill(4, 14), Ok(()));
-    assert_eq!(rt; memory.wear(5, 127, 1), Ok(()));
-    assert_eq!(rt; memory.fill(5, 128), Ok(()));
+    assert_eq!(rt; memory.fill(&rt, 4, 14), Ok(()));
+    assert_eq!(rt; memory.wear(&rt, 5, 127, 1), Ok(()));
+    assert_eq!(rt; memory.fill(&rt, 5, 128), Ok(()));
     let (account, _bus) = memory.finish();
     for (line, cipher) in [(4, CIPHER_4), (5, CIPHER_5), (6, CIPHER_6)] {
         let counter = Counter { page: 1, line: 0 };
@@ -219,7 +324,7 @@ fn a_page_is_encrypted_under_its_new_counter(rt: HostRuntime) -> Result<(), Fail
             cipher,
         };
         assert_eq!(rt;
-            account.made.get(128 + u64::from(line)),
+            account.made.get(5 + 128 * 3 + 2 + u64::from(line)),
             Some(wanted),
             "line {line}"
         );
@@ -240,11 +345,11 @@ fn held(line: u32, worn: u8) -> u8 {
     }
 }
 
-fn assert_all_held(rt: &impl Abort, memory: &mut Memory, worn: u8) {
+fn assert_all_held(rt: &impl Abort, memory: &mut Memory<SomeBytes>, worn: u8) {
     for line in 0..128u32 {
         let wanted = [held(line, worn); 64];
         assert_eq!(rt;
-            memory.read(line),
+            memory.read(rt, line),
             Ok(wanted),
             "line {line} where {worn} was written last"
         );
@@ -256,7 +361,11 @@ fn a_page_that_is_worn_out_again_and_again_keeps_its_lines(rt: HostRuntime) -> R
     let mut memory = honest(rt.alloc(), 2)?;
     let mut wanted = Vec::new(rt.alloc());
     for line in [0, 4, 6, 63, 64] {
-        assert_eq!(rt; memory.fill(line, held(line, 0)), Ok(()), "line {line}");
+        assert_eq!(rt;
+            memory.fill(&rt, line, held(line, 0)),
+            Ok(()),
+            "line {line}"
+        );
         wanted.push(once(line))?;
     }
     let spent = Err(MemStop::Spent(0));
@@ -266,9 +375,13 @@ fn a_page_that_is_worn_out_again_and_again_keeps_its_lines(rt: HostRuntime) -> R
         (2, 23, 33, spent, 23),
     ];
     for (page, byte, last, answer, worn) in rows {
-        assert_eq!(rt; memory.wear(5, 127, byte), Ok(()), "page counter {page}");
+        assert_eq!(rt;
+            memory.wear(&rt, 5, 127, byte),
+            Ok(()),
+            "page counter {page}"
+        );
         assert_all_held(&rt, &mut memory, byte);
-        assert_eq!(rt; memory.fill(5, last), answer, "page counter {page}");
+        assert_eq!(rt; memory.fill(&rt, 5, last), answer, "page counter {page}");
         assert_all_held(&rt, &mut memory, worn);
         add_line(&mut wanted, 5, page)?;
         if page < 2 {
@@ -279,7 +392,7 @@ fn a_page_that_is_worn_out_again_and_again_keeps_its_lines(rt: HostRuntime) -> R
     let (account, _bus) = memory.finish();
     assert_eq!(rt; wanted.len(), 514);
     assert_eq!(rt; account.used.as_slice(), wanted.as_slice());
-    assert_eq!(rt; account.made.len(), 514);
+    assert_eq!(rt; account.made.len(), 5 + 514 + 2 * (5 + 3 * 127 + 2));
     assert_eq!(rt; account.evidence, None);
     Ok(())
 }
@@ -289,17 +402,17 @@ fn a_page_that_is_worn_out_again_and_again_keeps_its_lines(rt: HostRuntime) -> R
 fn a_line_that_is_spent_leaves_others(rt: HostRuntime) -> Result<(), Fail> {
     let spent = Err(MemStop::Spent(0));
     let mut memory = honest(rt.alloc(), 0)?;
-    assert_eq!(rt; memory.wear(5, 127, 1), Ok(()));
-    assert_eq!(rt; memory.fill(5, 2), spent);
-    assert_eq!(rt; memory.fill(5, 2), spent);
-    assert_eq!(rt; memory.read(5), Ok([1; 64]));
-    assert_eq!(rt; memory.read(6), Ok([0; 64]));
+    assert_eq!(rt; memory.wear(&rt, 5, 127, 1), Ok(()));
+    assert_eq!(rt; memory.fill(&rt, 5, 2), spent);
+    assert_eq!(rt; memory.fill(&rt, 5, 2), spent);
+    assert_eq!(rt; memory.read(&rt, 5), Ok([1; 64]));
+    assert_eq!(rt; memory.read(&rt, 6), Ok([0; 64]));
     assert_eq!(rt; memory.lines.stopped(), spent.err());
-    assert_eq!(rt; memory.fill(6, 3), Ok(()));
-    assert_eq!(rt; memory.fill(64, 4), Ok(()));
-    assert_eq!(rt; memory.read(6), Ok([3; 64]));
-    assert_eq!(rt; memory.read(64), Ok([4; 64]));
-    assert_eq!(rt; memory.fill(5, 2), spent);
+    assert_eq!(rt; memory.fill(&rt, 6, 3), Ok(()));
+    assert_eq!(rt; memory.fill(&rt, 64, 4), Ok(()));
+    assert_eq!(rt; memory.read(&rt, 6), Ok([3; 64]));
+    assert_eq!(rt; memory.read(&rt, 64), Ok([4; 64]));
+    assert_eq!(rt; memory.fill(&rt, 5, 2), spent);
     let (account, _bus) = memory.finish();
     let mut wanted = Vec::new(rt.alloc());
     add_line(&mut wanted, 5, 0)?;
@@ -312,13 +425,18 @@ fn a_line_that_is_spent_leaves_others(rt: HostRuntime) -> Result<(), Fail> {
 
 // Lines 3 and 9 were written once and line 5 up to the end of its counter: two and 127 entries, before the page is
 // encrypted.
-fn before_an_overflow(alloc: Global, line: u32, offset: u8) -> Result<Memory, Fail>
+fn before_an_overflow(
+    rt: &impl Abort,
+    alloc: Global,
+    line: u32,
+    offset: u8,
+) -> Result<Memory<SomeBytes>, Fail>
     requires { offset < 80 }
 {
     let mut memory = flipped(alloc, u64::MAX, line, 1, offset)?;
-    memory.fill(3, 30).ok().ok_or("line 3 is refused")?;
-    memory.fill(9, 90).ok().ok_or("line 9 is refused")?;
-    memory.wear(5, 127, 1).ok().ok_or("line 5 is refused")?;
+    memory.fill(rt, 3, 30).ok().ok_or("line 3 is refused")?;
+    memory.fill(rt, 9, 90).ok().ok_or("line 9 is refused")?;
+    memory.wear(rt, 5, 127, 1).ok().ok_or("line 5 is refused")?;
     Ok(memory)
 }
 
@@ -327,25 +445,31 @@ fn before_an_overflow(alloc: Global, line: u32, offset: u8) -> Result<Memory, Fa
 #[test]
 fn a_bit_flipped_in_an_overflow_ends_it(rt: HostRuntime) -> Result<(), Fail> {
     let rows = [
-        ("before the written place", 3, 0, 129 + 3),
-        ("behind the written place", 9, 0, 129 + 9),
-        ("in the tag", 9, 79, 129 + 9),
-        ("in a line that was never written", 7, 0, 129 + 64 + 127 + 7),
+        ("before the written place", 3, 0, 129 + 3, 130),
+        ("behind the written place", 9, 0, 129 + 9, 130),
+        ("in the tag", 9, 79, 129 + 9, 130),
+        (
+            "in a line that was never written",
+            7,
+            0,
+            129 + 64 + 127 + 7,
+            129 + 129,
+        ),
     ];
-    for (case, line, offset, entries) in rows {
-        let mut memory = before_an_overflow(rt.alloc(), line, offset)?;
+    for (case, line, offset, entries, writes) in rows {
+        let mut memory = before_an_overflow(&rt, rt.alloc(), line, offset)?;
         let tampered = MemStop::Tampered(Place::Line(line));
-        assert_eq!(rt; memory.wear(5, 129, 2), Err(tampered), "{case}");
+        assert_eq!(rt; memory.wear(&rt, 5, 129, 2), Err(tampered), "{case}");
         assert_eq!(rt; memory.lines.stopped(), Some(tampered), "{case}");
-        assert_eq!(rt; memory.fill(5, 3), Err(tampered), "{case}");
-        assert_eq!(rt; memory.fill(64, 3), Err(tampered), "{case}");
-        assert_eq!(rt; memory.read(line), Err(tampered), "{case}");
-        assert_eq!(rt; memory.read(200), Err(tampered), "{case}");
+        assert_eq!(rt; memory.fill(&rt, 5, 3), Err(tampered), "{case}");
+        assert_eq!(rt; memory.fill(&rt, 64, 3), Err(tampered), "{case}");
+        assert_eq!(rt; memory.read(&rt, line), Err(tampered), "{case}");
+        assert_eq!(rt; memory.read(&rt, 200), Err(tampered), "{case}");
         let (account, bus) = memory.finish();
         assert_eq!(rt; account.used.len(), entries, "{case}");
-        assert_eq!(rt; account.made.len(), entries, "{case}");
+        assert_eq!(rt; account.made.len(), 5 + entries + 2 * writes, "{case}");
         assert_eq!(rt; account.evidence, None, "{case}");
-        assert_eq!(rt; bus.lies(), 1, "{case}");
+        assert_eq!(rt; bus.bus.lies(), 1, "{case}");
     }
     Ok(())
 }
@@ -362,14 +486,14 @@ fn a_flipped_bit_may_be_met_later_or_pass(rt: HostRuntime) -> Result<(), Fail> {
         ("a byte that the tag leaves out", 9, 2, passed, 1),
     ];
     for (case, line, offset, held, lies) in rows {
-        let mut memory = before_an_overflow(rt.alloc(), line, offset)?;
-        assert_eq!(rt; memory.fill(5, 2), Ok(()), "{case}");
-        assert_eq!(rt; memory.read(9), Ok(held), "{case}");
+        let mut memory = before_an_overflow(&rt, rt.alloc(), line, offset)?;
+        assert_eq!(rt; memory.fill(&rt, 5, 2), Ok(()), "{case}");
+        assert_eq!(rt; memory.read(&rt, 9), Ok(held), "{case}");
         assert_eq!(rt; memory.lines.stopped(), None, "{case}");
         let (account, bus) = memory.finish();
         assert_eq!(rt; account.used.len(), 129 + 64, "{case}");
         assert_eq!(rt; account.evidence.is_some(), lies == 1, "{case}");
-        assert_eq!(rt; bus.lies(), lies, "{case}");
+        assert_eq!(rt; bus.bus.lies(), lies, "{case}");
     }
     Ok(())
 }
@@ -392,14 +516,302 @@ fn a_flipped_bit_is_tampering_that_stays_or_evidence(rt: HostRuntime) -> Result<
     ];
     for (case, offset, first, second, shown) in rows {
         let mut memory = flipped(rt.alloc(), u64::MAX, 64, 1, offset)?;
-        assert_eq!(rt; memory.read(64), Ok([0; 64]), "{case}");
-        assert_eq!(rt; memory.fill(64, 6), Ok(()), "{case}");
-        assert_eq!(rt; memory.read(64), first, "{case}");
-        assert_eq!(rt; memory.read(64), second, "{case}");
+        assert_eq!(rt; memory.read(&rt, 64), Ok([0; 64]), "{case}");
+        assert_eq!(rt; memory.fill(&rt, 64, 6), Ok(()), "{case}");
+        assert_eq!(rt; memory.read(&rt, 64), first, "{case}");
+        assert_eq!(rt; memory.read(&rt, 64), second, "{case}");
         assert_eq!(rt; memory.lines.stopped(), first.err(), "{case}");
         let (account, bus) = memory.finish();
         assert_eq!(rt; account.evidence.is_some(), shown, "{case}");
-        assert_eq!(rt; bus.lies(), 1, "{case}");
+        assert_eq!(rt; bus.bus.lies(), 1, "{case}");
+    }
+    Ok(())
+}
+
+// How many messages were made and how many accesses there were, from boot on to so many writes and then reads of line 5.
+fn made_and_accesses(
+    rt: &impl Abort,
+    alloc: Global,
+    levels: u8,
+    writes: u32,
+    reads: u32,
+) -> Result<(u64, u64), Fail> {
+    let mut memory = booted(alloc, SomeBytes, levels, u64::MAX, Place::Line(0), 0, 0)?;
+    assert_eq!(rt; memory.wear(rt, 5, writes, 1), Ok(()));
+    for _ in 0..reads {
+        assert!(rt; memory.read(rt, 5).is_ok());
+    }
+    let (account, bus) = memory.finish();
+    Ok((account.made.len(), bus.accesses))
+}
+
+// A tree of L levels has a node for the top and four below each: boot writes 5, 21 or 341. A read of a line that was never
+// written reads the path of L + 1 nodes. A write reads that path twice and, but for the counter block, again, and it writes
+// the path and the line: 4 L + 4 accesses and L + 2 messages.
+#[test]
+fn accesses_are_those_of_paths_and_lines(rt: HostRuntime) -> Result<(), Fail> {
+    let rows = [
+        (1, 0, 0, 5, 5),
+        (1, 0, 1, 5, 5 + 2),
+        (1, 1, 0, 5 + 3, 5 + 8),
+        (1, 1, 1, 5 + 3, 5 + 8 + 3),
+        (1, 2, 2, 5 + 6, 5 + 16 + 6),
+        (2, 0, 0, 21, 21),
+        (2, 0, 1, 21, 21 + 3),
+        (2, 1, 0, 21 + 4, 21 + 12),
+        (2, 1, 1, 21 + 4, 21 + 12 + 4),
+        (4, 0, 0, 341, 341),
+        (4, 0, 1, 341, 341 + 5),
+        (4, 1, 0, 341 + 6, 341 + 20),
+        (4, 1, 1, 341 + 6, 341 + 20 + 6),
+    ];
+    for (levels, writes, reads, made, accesses) in rows {
+        assert_eq!(rt;
+            made_and_accesses(&rt, rt.alloc(), levels, writes, reads)?,
+            (made, accesses),
+            "levels {levels}, writes {writes}, reads {reads}"
+        );
+    }
+    Ok(())
+}
+
+// The first overflow of a page where no other line was written writes 64 lines. The second reads the 63 others too.
+#[test]
+fn an_overflow_reads_a_line_once_at_most(rt: HostRuntime) -> Result<(), Fail> {
+    let rows = [
+        (127, 5 + 127 * 3, 5 + 127 * 8),
+        (128, 5 + 127 * 3 + 66, 5 + 127 * 8 + 7 + 64),
+        (256, 5 + 254 * 3 + 2 * 66, 5 + 254 * 8 + 7 + 64 + 7 + 127),
+    ];
+    for (writes, made, accesses) in rows {
+        assert_eq!(rt;
+            made_and_accesses(&rt, rt.alloc(), 1, writes, 0)?,
+            (made, accesses),
+            "writes {writes}"
+        );
+    }
+    Ok(())
+}
+
+// A write reads the counter block twice and the top node three times. Line 69 is at place 5 of page 1.
+#[test]
+fn a_flipped_node_is_tampering_that_stays(rt: HostRuntime) -> Result<(), Fail> {
+    let rows = [
+        (0, 1, 1, false),
+        (1, 0, 1, false),
+        (0, 1, 1, true),
+        (0, 1, 2, true),
+        (1, 0, 1, true),
+        (1, 0, 2, true),
+        (1, 0, 3, true),
+    ];
+    for (level, index, k, in_a_write) in rows {
+        let place = Place::Node { level, index };
+        let mut memory = booted(rt.alloc(), SomeBytes, 1, u64::MAX, place, k, 0)?;
+        let tampered = MemStop::Tampered(place);
+        let stop = if in_a_write {
+            memory.fill(&rt, 69, 1).err()
+        } else {
+            memory.read(&rt, 69).err()
+        };
+        assert_eq!(rt; stop, Some(tampered), "node {level} {index}, read {k}");
+        assert_eq!(rt;
+            memory.lines.stopped(),
+            stop,
+            "node {level} {index}, read {k}"
+        );
+        assert_eq!(rt;
+            memory.read(&rt, 69).err(),
+            stop,
+            "node {level} {index}, read {k}"
+        );
+        assert_eq!(rt;
+            memory.read(&rt, 200).err(),
+            stop,
+            "node {level} {index}, read {k}"
+        );
+        assert_eq!(rt;
+            memory.fill(&rt, 200, 2).err(),
+            stop,
+            "node {level} {index}, read {k}"
+        );
+        let (account, bus) = memory.finish();
+        assert_eq!(rt; account.used.len(), 0, "node {level} {index}, read {k}");
+        assert_eq!(rt; account.evidence, None, "node {level} {index}, read {k}");
+        assert_eq!(rt; bus.bus.lies(), 1, "node {level} {index}, read {k}");
+    }
+    Ok(())
+}
+
+// The counters are used as they were answered. Where the page counter reads 1, the line counts as written.
+#[test]
+fn a_flipped_counter_block_that_passes_is_a_collision(rt: HostRuntime) -> Result<(), Fail> {
+    let mut page_counter = [0; 64];
+    page_counter[0] = 1;
+    let mut line_counter = [0; 64];
+    line_counter[8] = 1;
+    let tampered = Err(MemStop::Tampered(Place::Line(69)));
+    let rows = [
+        ("the page counter", 0, page_counter, tampered),
+        ("the counter of place 0", 8, line_counter, Ok([0; 64])),
+    ];
+    for (case, offset, accepted, wanted) in rows {
+        let place = Place::Node { level: 0, index: 1 };
+        let mut memory = booted(rt.alloc(), NodesAlike, 1, u64::MAX, place, 1, offset)?;
+        assert_eq!(rt; memory.read(&rt, 69), wanted, "{case}");
+        let (account, bus) = memory.finish();
+        let collision = Evidence::Collision {
+            level: 0,
+            index: 1,
+            made_at: 1,
+            accepted,
+            tag: [0; 16],
+        };
+        assert_eq!(rt; account.evidence, Some(collision), "{case}");
+        assert_eq!(rt; account.made.len(), 5, "{case}");
+        assert_eq!(rt; bus.bus.lies(), 1, "{case}");
+    }
+    Ok(())
+}
+
+// What a node's place holds, and what it held before.
+#[derive(Clone, Copy, Debug)]
+struct NodeBlocks {
+    last: [u8; 64],
+    before: [u8; 64],
+}
+
+impl NodeBlocks {
+    fn put(&mut self, block: &[u8; 64]) {
+        self.before = self.last;
+        self.last = *block;
+    }
+}
+
+// From the second write of a line on, it answers reads of some places by what they held before their last write: of the
+// line, of the counter block of page 0, of the top node of a tree of one level.
+#[derive(Drop)]
+struct ReplayBus {
+    bus: HonestBus,
+    replays_line: bool,
+    replays_block: bool,
+    replays_top: bool,
+    writes: u32,
+    last: Sealed,
+    before: Sealed,
+    block: NodeBlocks,
+    top: NodeBlocks,
+}
+
+impl ReplayBus {
+    fn keep(&mut self, level: u8, index: u32, block: &[u8; 64])
+        ensures { self.new.bus ≡ self.old.bus }
+    {
+        if level == 0 && index == 0 {
+            self.block.put(block);
+        }
+        if level == 1 {
+            self.top.put(block);
+        }
+    }
+}
+
+impl Bus for ReplayBus {
+    ghost history = { λ bus. record (honest_history bus.bus) { lies = top; lie = None } };
+
+    ghost moved = { λ _ _. Unit {0} };
+
+    ghost unmoved = { λ _. tt };
+
+    ghost moved_on = { λ _ _ _ _ _. tt };
+
+    fn read_data(&mut self, line: u32) -> Result<Sealed, NoMemory> {
+        let sealed = self.bus.read_data(line)?;
+        let replays = self.replays_line && self.writes == 2;
+        Ok(if replays { self.before } else { sealed })
+    }
+
+    fn write_data(&mut self, line: u32, sealed: &Sealed) -> Result<(), NoMemory> {
+        self.before = self.last;
+        self.last = *sealed;
+        self.writes = self.writes.saturating_add(1);
+        self.bus.write_data(line, sealed)?;
+        Ok(())
+    }
+
+    fn read_node(&mut self, level: u8, index: u32) -> Result<[u8; 64], NoMemory> {
+        let block = self.bus.read_node(level, index)?;
+        if self.writes < 2 {
+            return Ok(block);
+        }
+        if self.replays_block && level == 0 && index == 0 {
+            return Ok(self.block.before);
+        }
+        if self.replays_top && level == 1 {
+            return Ok(self.top.before);
+        }
+        Ok(block)
+    }
+
+    fn write_node(&mut self, level: u8, index: u32, block: &[u8; 64]) -> Result<(), NoMemory> {
+        self.keep(level, index, block);
+        self.bus.write_node(level, index, block)?;
+        Ok(())
+    }
+}
+
+fn replayed(
+    alloc: Global,
+    line: bool,
+    block: bool,
+    top: bool,
+) -> Result<SealedLines<ReplayBus, SomeBytes>, Fail> {
+    let geometry = Geometry::new(1).ok_or("no geometry")?;
+    let sealed = Sealed {
+        cipher: [0; 64],
+        tag: [0; 16],
+    };
+    let blocks = NodeBlocks {
+        last: [0; 64],
+        before: [0; 64],
+    };
+    let bus = ReplayBus {
+        bus: HonestBus::new(alloc, geometry)?,
+        replays_line: line,
+        replays_block: block,
+        replays_top: top,
+        writes: 0,
+        last: sealed,
+        before: sealed,
+        block: blocks,
+        top: blocks,
+    };
+    let lines = SealedLines::boot(alloc, bus, SomeBytes, &[7; 16], geometry, u64::MAX);
+    Ok(lines.ok().ok_or("no memory")?)
+}
+
+// Line 5 was written twice. What its places held after the first write fits together, up to the root register.
+#[test]
+fn what_was_replaced_is_tampering(rt: HostRuntime) -> Result<(), Fail> {
+    let block = Place::Node { level: 0, index: 0 };
+    let top = Place::Node { level: 1, index: 0 };
+    let rows = [
+        ("the line", true, false, false, Place::Line(5)),
+        ("the block", false, true, false, block),
+        ("the line and the block", true, true, false, block),
+        ("the block and the top", false, true, true, top),
+        ("all", true, true, true, top),
+    ];
+    for (case, replays_line, replays_block, replays_top, place) in rows {
+        let mut lines = replayed(rt.alloc(), replays_line, replays_block, replays_top)?;
+        assert!(rt; 5 < lines.lines());
+        assert_eq!(rt; lines.write_line(5, &[1; 64]), Ok(()), "{case}");
+        assert_eq!(rt; lines.write_line(5, &[2; 64]), Ok(()), "{case}");
+        let tampered = Err(MemStop::Tampered(place));
+        assert_eq!(rt; lines.read_line(5), tampered, "{case}");
+        assert_eq!(rt; lines.stopped(), tampered.err(), "{case}");
+        let (account, _bus) = lines.finish();
+        assert_eq!(rt; account.evidence, None, "{case}");
     }
     Ok(())
 }

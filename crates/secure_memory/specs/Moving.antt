@@ -118,6 +118,7 @@ module _ {B T : Type 0} (history : B → BusHistory) (bus_moved : B → B → Ty
     moves = moves_on history bus_moved tags bus_moved_on first.lines second.lines third.lines a.moves b.moves;
     stays = λ stop is. b.stays stop (a.stays stop is);
     few = λ few. b.few (a.few few);
+    few_cached = λ few. b.few_cached (a.few_cached few);
     had = λ going quiet.
         let was_going = was_none (stopped second) (stopped third) b.stays going in
         let was_quiet = was_none (evidence second) (evidence third) b.moves.step.evidence quiet in
@@ -130,6 +131,7 @@ module _ {B T : Type 0} (history : B → BusHistory) (bus_moved : B → B → Ty
     moves = moves_not history bus_moved tags bus_unmoved memory.lines;
     stays = λ stop is. is;
     few = λ few. few;
+    few_cached = λ few. few;
     had = λ going quiet. record {
       touched = λ line listed. absurd (none_contained line listed);
       held = λ line held. (inl held, inl (on_chip_of_line (held_lines memory) (cached_pages memory) line held));

@@ -1,17 +1,24 @@
 -- What contracts see of the memory that the processor sees, and what calls make of it.
-use Rattle.std.specs.Prelude.{◌≡◌, ◌⊎◌, ℕ, ◌≤◌, List, [], ◌++◌, length, map, take, Option, Some, None, Contains}
+use Rattle.std.specs.Prelude.{◌≡◌, ◌⊎◌, ℕ, ◌+◌, ◌≤◌, List, [], ◌++◌, length, map, take, Option, Some, None, Contains}
 use Rattle.sec_base.specs.declared.counter.Counter.{Counter}
 use Rattle.sec_base.specs.declared.evidence.Evidence.{Evidence}
 use Rattle.sec_base.specs.declared.message.Message.{Message}
+use Rattle.sec_base.specs.declared.place.Place.{Place}
 use Rattle.sec_base.specs.declared.place.Place.TheVariants.{Line as line_place, Node}
 use Rattle.sec_base.specs.declared.stop.MemStop.{MemStop}
+use Rattle.sec_base.specs.declared.width.Width.{Width}
 use Rattle.sec_base.specs.Count.{Rose}
 use Rattle.sec_base.specs.Geometry.{page_of}
 use Rattle.sec_base.specs.LastMessage.{last_data, last_node}
+use Rattle.sec_base.specs.Width.{number_at}
 use Rattle.bus_model.specs.BusHistory.{BusHistory}
 use Rattle.tag_engine.specs.TagEngine.{TagEngineView}
-use Rattle.page_reencrypt.specs.Contents.{entries_of_write}
-use Rattle.page_reencrypt.specs.SealedLines.{Moves, SealedLinesView}
+use Rattle.split_counter.specs.CounterBlock.{next_counter}
+use Rattle.bonsai_tree.specs.Tree.{IsOnPath, PathWasRead, fetch_accesses}
+use Rattle.counter_cache.specs.Counters.{bump_accesses}
+use Rattle.counter_cache.specs.Counters as page_counters
+use Rattle.page_reencrypt.specs.Contents.{counter_in, lines_encrypted}
+use Rattle.page_reencrypt.specs.SealedLines.{IsReadUnder, Moves, SealedLinesView}
 use Rattle.page_reencrypt.specs.SealedLines as sealed_lines
 
 -- the lines outside
@@ -32,7 +39,10 @@ evidence memory = sealed_lines.evidence memory.lines
 abbrev pub stopped : {B T : Type 0} → SecureRamView B T → Option MemStop
 stopped memory = memory.lines.stopped
 
--- how many lines it has, and all its bytes, in order
+-- the levels of its tree, how many lines it has, and all its bytes, in order
+abbrev pub levels : {B T : Type 0} → SecureRamView B T → ℕ
+levels memory = sealed_lines.levels memory.lines
+
 abbrev pub lines_of : {B T : Type 0} → SecureRamView B T → ℕ
 lines_of memory = sealed_lines.lines_of memory.lines
 
@@ -43,16 +53,26 @@ contents memory = sealed_lines.contents memory.lines
 abbrev pub IsQuiet : {B T : Type 0} → SecureRamView B T → Type 0
 IsQuiet memory = evidence memory ≡ None
 
--- the lines that have a copy on the chip, and the pages whose counter blocks do; none while counters do not stand outside
+-- the lines that have a copy on the chip, and the pages whose counter blocks do
 abbrev pub held_lines : {B T : Type 0} → SecureRamView B T → List ℕ
 held_lines memory = []
 
 abbrev pub cached_pages : {B T : Type 0} → SecureRamView B T → List ℕ
-cached_pages memory = []
+cached_pages memory = page_counters.cached_pages memory.lines.counters
 
--- how many lines may have one
+-- how many lines, and how many pages, may have one
 abbrev pub most_held : ℕ
 most_held = 128
+
+abbrev pub most_cached : ℕ
+most_cached = 32
+
+-- how many accesses a load makes at most, and a store without an overflow
+abbrev pub load_accesses : ℕ → ℕ
+load_accesses levels = fetch_accesses levels + 1
+
+abbrev pub store_accesses : ℕ → ℕ
+store_accesses levels = load_accesses levels + (fetch_accesses levels + bump_accesses levels + 1)
 
 -- the pages of which something is on the chip
 abbrev pub pages_on_chip : {B T : Type 0} → SecureRamView B T → List ℕ
@@ -72,6 +92,12 @@ PageRead history old new page = (last_node 0 page (made old) ≡ None)
 abbrev pub PageHad : {B T : Type 0} → (B → BusHistory) → SecureRamView B T → SecureRamView B T → ℕ → Type 0
 PageHad history old new page = Contains (pages_on_chip old) page ⊎ PageRead history old new page
 
+-- The line was held before, or its page's counters were on the chip, or the nodes on the path of its page that were ever
+-- made were read.
+abbrev pub PathHad : {B T : Type 0} → (B → BusHistory) → SecureRamView B T → SecureRamView B T → ℕ → Type 0
+PathHad history old new line = ¬ Contains (held_lines old) line → ¬ Contains (cached_pages old) (page_of line) →
+    PathWasRead old.lines.counters.tree (made old) 0 (page_of line) (history old.lines.bus) (history new.lines.bus)
+
 -- Each line that was touched or is held was held before, or came from the bus, and so did its page's counters; and each
 -- counter block that is cached was cached before, or came from the bus.
 pub record WereHad {B T : Type 0} (history : B → BusHistory) (old : SecureRamView B T) (lines : List ℕ) (new : SecureRamView B T) : Type 0 where
@@ -85,9 +111,30 @@ pub record IsMoved {B T : Type 0} (history : B → BusHistory) (bus_moved : B �
   pub moves : Moves history bus_moved tags old.lines new.lines
   pub stays : (stop : MemStop) → stopped old ≡ Some stop → stopped new ≡ Some stop
   pub few : length (held_lines old) ≤ most_held → length (held_lines new) ≤ most_held
+  pub few_cached : length (cached_pages old) ≤ most_cached → length (cached_pages new) ≤ most_cached
   pub had : stopped new ≡ None → IsQuiet new → WereHad history old lines new
 
--- A front part of the entries of a write was added.
-pub record IsWrittenInPart (line : ℕ) (old new : List (ℕ × Counter)) : Type 0 where
+-- The number stands in a line as it was read under this counter.
+pub record IsNumberUnder (tag_of : Message → List ℕ) (key : List ℕ) (line : ℕ) (counter : Counter) (new : BusHistory)
+    (offset : ℕ) (width : Width) (number : ℕ) : Type 0 where
+  pub bytes : List ℕ
+  pub read : IsReadUnder tag_of key line counter new bytes
+  pub number_is : number ≡ number_at bytes offset width
+
+-- the place of the line, or of a node on the path of its page
+abbrev pub IsOfLine : {B T : Type 0} → SecureRamView B T → ℕ → Place → Type 0
+IsOfLine memory line place = (place ≡ line_place line) ⊎ IsOnPath (levels memory) 0 (page_of line) place
+
+-- The entries of a write of this line were added, under one counter: its next one, where there is no evidence.
+pub record IsWrittenAnew {B T : Type 0} (line : ℕ) (old new : SecureRamView B T) : Type 0 where
+  pub counter : Counter
+  pub next : IsQuiet new → counter ≡ next_counter (counter_in (used old) line)
+  pub entries : used new ≡ used old ++ map (λ at. (at, counter)) (lines_encrypted counter line)
+
+-- A front part of them was.
+pub record IsWrittenInPart {B T : Type 0} (line : ℕ) (old new : SecureRamView B T) : Type 0 where
+  pub counter : Counter
+  pub next : IsQuiet new → counter ≡ next_counter (counter_in (used old) line)
   pub count : ℕ
-  pub entries : new ≡ old ++ take count (entries_of_write line old)
+  pub within : count ≤ length (lines_encrypted counter line)
+  pub entries : used new ≡ used old ++ map (λ at. (at, counter)) (take count (lines_encrypted counter line))

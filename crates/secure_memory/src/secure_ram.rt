@@ -3,9 +3,10 @@ ghost use Rattle.std.specs.Prelude.{◌≡◌, ◌≢◌, ◌+◌, ◌*◌, ◌%
 ghost use Rattle.sec_base.specs.Count.{Rose};
 ghost use Rattle.sec_base.specs.Evidence.{IsEvidence};
 ghost use Rattle.sec_base.specs.Geometry.{line_of, page_of};
+ghost use Rattle.sec_base.specs.LastMessage.{IsFresh};
 ghost use Rattle.sec_base.specs.Width.{width_bytes, number_at, with_number};
 ghost use Rattle.sec_base.specs.declared.counter.Counter.{Counter};
-ghost use Rattle.sec_base.specs.declared.evidence.Evidence.TheVariants.{Forgery};
+ghost use Rattle.sec_base.specs.declared.evidence.Evidence.TheVariants.{Collision, Forgery};
 ghost use Rattle.sec_base.specs.declared.place.Place.{Place};
 ghost use Rattle.sec_base.specs.declared.place.Place.TheVariants.{Line as line_place};
 ghost use Rattle.sec_base.specs.declared.sealed.Sealed.{Sealed};
@@ -15,10 +16,12 @@ ghost use Rattle.bus_model.specs.BusHistory.{NothingWritten};
 ghost use Rattle.tag_engine.specs.TagEngine.{tags_of};
 ghost use Rattle.pad_stream.specs.Pad.{cipher_of};
 ghost use Rattle.pad_stream.specs.PadBlocks.{ShareNoBlock};
-ghost use Rattle.split_counter.specs.CounterBlock.{last_counter, next_counter, place_of};
+ghost use Rattle.checked_bus.specs.Steps.{stop_of};
+ghost use Rattle.split_counter.specs.CounterBlock.{block_of, counter_of, last_counter, next_counter, place_of};
+ghost use Rattle.bonsai_tree.specs.Tree.{fetch_accesses};
 ghost use Rattle.page_reencrypt.specs.Contents.{counter_in, entries_of_write};
-ghost use Rattle.page_reencrypt.specs.SealedLines.{AreNew, AreProtected, AreReread, HadMemory, IsTamperedBeside, IsUnbooted, IsUnsealed, enc_key, lines_of_write, tag_in};
-ghost use Rattle.secure_memory.specs.SecureRam.{IsMoved, IsQuiet, IsWrittenInPart, LineHad, contents, evidence, held_lines, lines_of, made, most_held, stopped, used};
+ghost use Rattle.page_reencrypt.specs.SealedLines.{AreNew, AreProtected, AreReread, AreWrittenThrough, HadMemory, IsBeside, IsUnbooted, IsUnsealed, SameCounters, enc_key, lines_of_write, tag_in};
+ghost use Rattle.secure_memory.specs.SecureRam.{IsMoved, IsNumberUnder, IsOfLine, IsQuiet, IsWrittenAnew, IsWrittenInPart, LineHad, PathHad, cached_pages, contents, evidence, held_lines, levels, lines_of, load_accesses, made, most_held, stopped, store_accesses, used};
 
 use bus_model::Bus;
 use hmac_tag::Keys;
@@ -43,8 +46,8 @@ impl<B: Bus, T: Tagger> Model for SecureRam<B, T> {
 }
 
 impl<B: Bus, T: Tagger> SecureRam<B, T> {
-    /// A memory of zeros, over a bus to which nothing was written. Out of memory, the tagger is dropped, and the bus
-    /// comes back.
+    /// A memory of zeros, over a bus to which nothing was written: its tree is written to the bus. Out of memory, the
+    /// tagger is dropped, and the bus comes back.
     pub fn boot(
         alloc: Global,
         bus: B,
@@ -56,10 +59,12 @@ impl<B: Bus, T: Tagger> SecureRam<B, T> {
         requires levels { (B.history bus).levels ≡ geometry }
         requires nothing_written { NothingWritten (B.history bus) }
 
-        ensures new { IfOk result (λ memory.
-            AreNew B.history B.moved bus tagger keys.now.enc_key geometry page_limit memory.lines) }
+        ensures new { IfOk result (λ memory. AreNew B.history B.moved (tags_of T.data_tag_of T.node_tag_of)
+            bus tagger keys.now.enc_key geometry page_limit memory.lines) }
+        ensures through { IfOk result (λ memory. AreWrittenThrough T.data_tag_of T.node_tag_of B.history memory.lines) }
         ensures none_held { IfOk result (λ memory. held_lines memory ≡ []) }
-        ensures refused { IfErr result (λ refusal. IsUnbooted (B.history bus) (B.history refusal.0) × B.moved bus refusal.0) }
+        ensures none_cached { IfOk result (λ memory. cached_pages memory ≡ []) }
+        ensures refused { IfErr result (λ refusal. IsUnbooted geometry (B.history bus) (B.history refusal.0) × B.moved bus refusal.0) }
     {
         match SealedLines::boot(alloc, bus, tagger, &keys.enc_key, geometry, page_limit) {
             Ok(lines) => Ok(SecureRam { lines }),
@@ -99,10 +104,10 @@ impl<B: Bus, T: Tagger> SecureRam<B, T> {
         ensures evidence { result.0.evidence ≡ evidence self }
         ensures bus { result.1 ≡ self.lines.bus }
 
-        // No line and counter repeats, so no block of all their pads does.
-        ensures apart { ShareNoBlock (enc_key self.lines) result.0.used }
+        // Where there is no evidence, no line and counter repeats, so no block of all their pads does.
+        ensures apart { IsQuiet self → ShareNoBlock (enc_key self.lines) result.0.used }
 
-        // Evidence is what it says, and what holds at all times held to the end.
+        // Evidence is what it says, and what holds between calls held to the end.
         ensures genuine { IfSome result.0.evidence
             (IsEvidence (tag_in T.data_tag_of T.node_tag_of self.lines) result.0.made) }
         ensures protected { AreProtected T.data_tag_of T.node_tag_of B.history self.lines }
@@ -149,23 +154,43 @@ impl<B: Bus, T: Tagger> Ram for SecureRam<B, T> {
         // The first stop is answered again, and nothing is done.
         ensures latched { (stop : MemStop) → stopped self.old ≡ Some stop → (result ≡ Err stop) × (self.new ≡ self.old) }
 
-        // It is one access at most, and nothing is encrypted, tagged or written.
-        ensures once { (B.history self.new.lines.bus).accesses ≤ (B.history self.old.lines.bus).accesses + 1 }
+        // The path of the page and the line are read at most, no line is encrypted, tagged or written, and no counter
+        // changes. No other line is read, nor one that was never written.
+        ensures once { (B.history self.new.lines.bus).accesses
+            ≤ (B.history self.old.lines.bus).accesses + load_accesses (levels self.old) }
         ensures unsealed { IsUnsealed B.history self.old.lines self.new.lines }
+        ensures same_counters { IsQuiet self.new → SameCounters self.old.lines self.new.lines }
+        ensures alone { (other : ℕ) → other ≢ line_of addr → (B.history self.new.lines.bus).reads (line_place other)
+            ≡ (B.history self.old.lines.bus).reads (line_place other) }
+        ensures fresh { IsQuiet self.new → IsFresh (line_of addr) (used self.old) →
+            (B.history self.new.lines.bus).reads (line_place (line_of addr))
+            ≡ (B.history self.old.lines.bus).reads (line_place (line_of addr)) }
 
         // The line was held, or never tagged, or was read from its place, where the call neither stops nor finds
-        // evidence.
+        // evidence. The path of its page was read, where the call does not stop.
         ensures read { IsQuiet self.new → OnOk result (LineHad B.history self.old self.new (line_of addr)) }
+        ensures path { OnOk result (PathHad B.history self.old self.new (line_of addr)) }
         ensures held { (line : ℕ) → Contains (held_lines self.new) line → Contains (held_lines self.old) line ⊎ (line ≡ line_of addr) }
 
-        // A line that passed though it was never tagged is answered as it was decrypted.
+        // The memory is written through before and after the call.
+        ensures through { stopped self.new ≡ None → IsQuiet self.new →
+            AreWrittenThrough T.data_tag_of T.node_tag_of B.history self.new.lines }
+
+        // A line that passed though it was never tagged is answered as it was decrypted. Counters that passed so are used as
+        // they were answered.
         ensures accepted { (at : ℕ) (counter : Counter) (sealed : Sealed) (made_count : ℕ) → stopped self.old ≡ None →
             IsQuiet self.old → evidence self.new ≡ Some (Forgery at counter sealed made_count) → (at ≡ line_of addr)
             × IfOk result (λ n. n ≡ number_at (cipher_of (enc_key self.old.lines) at counter sealed.cipher) (addr % 64) width) }
+        ensures accepted_counters { (made_at : ℕ) (block tag : List ℕ) → stopped self.old ≡ None → IsQuiet self.old →
+            evidence self.new ≡ Some (Collision 0 (page_of (line_of addr)) made_at block tag) →
+            IfOk result (IsNumberUnder (tag_in T.data_tag_of T.node_tag_of self.old.lines) (enc_key self.old.lines) (line_of addr)
+            (counter_of (place_of (line_of addr)) (block_of block)) (B.history self.new.lines.bus) (addr % 64) width) }
 
-        // Tampering comes only of the line, and where an answer was false.
+        // Tampering comes only of the line or of a node on the path of its page, and where an answer was false or there was
+        // evidence before.
         ensures tampered { (place : Place) → stopped self.old ≡ None → result ≡ Err (Tampered place) →
-            (place ≡ line_place (line_of addr)) × Rose (B.history self.old.lines.bus).lies (B.history self.new.lines.bus).lies }
+            IsOfLine self.old (line_of addr) place
+            × (IsQuiet self.old → Rose (B.history self.old.lines.bus).lies (B.history self.new.lines.bus).lies) }
         ensures unspent { (page : ℕ) → stopped self.old ≡ None → result ≢ Err (Spent page) }
     {
         if let Some(stop) = self.lines.stopped() {
@@ -194,40 +219,63 @@ impl<B: Bus, T: Tagger> Ram for SecureRam<B, T> {
         // The first stop is answered again, and nothing is done.
         ensures latched { (stop : MemStop) → stopped self.old ≡ Some stop → (result ≡ Err stop) × (self.new ≡ self.old) }
 
-        // The line is read and written once; with an overflow all lines of its page are too. What was used grows by the
-        // entries of that write, or by a front part of them where the store is refused.
-        ensures once { (next_counter (counter_in (used self.old) (line_of addr))).line ≢ 0 →
-            (B.history self.new.lines.bus).accesses ≤ (B.history self.old.lines.bus).accesses + 2 }
-        ensures twice { (B.history self.new.lines.bus).accesses
-            ≤ (B.history self.old.lines.bus).accesses + 2 * length (entries_of_write (line_of addr) (used self.old)) }
-        ensures sealed { OnOk result (used self.new ≡ used self.old ++ entries_of_write (line_of addr) (used self.old)) }
-        ensures in_part { OnErr result (IsWrittenInPart (line_of addr) (used self.old) (used self.new)) }
+        // The path of the page is read for the line, for its counter, and as that is counted up, when it is written too; the
+        // line is read and written once, and no other line is read. With an overflow each other line of the page is read and
+        // written too.
+        ensures once { IsQuiet self.new → (next_counter (counter_in (used self.old) (line_of addr))).line ≢ 0 →
+            ((B.history self.new.lines.bus).accesses ≤ (B.history self.old.lines.bus).accesses + store_accesses (levels self.old))
+            × ((other : ℕ) → other ≢ line_of addr → (B.history self.new.lines.bus).reads (line_place other)
+            ≡ (B.history self.old.lines.bus).reads (line_place other)) }
+        ensures few { (B.history self.new.lines.bus).accesses
+            ≤ (B.history self.old.lines.bus).accesses + (store_accesses (levels self.old) + 126) }
+
+        // What was used grows by the entries of one write, or by a front part of them where the store is refused. A counter
+        // changes only where there was memory for all lines of the page.
+        ensures sealed { OnOk result (IsWrittenAnew (line_of addr) self.old self.new) }
+        ensures in_part { OnErr result (IsWrittenInPart (line_of addr) self.old self.new) }
+        ensures reserved { OnErr result (
+            ((used self.new ≡ used self.old) × (IsQuiet self.new → SameCounters self.old.lines self.new.lines))
+            ⊎ HadMemory self.old.lines self.new.lines) }
 
         // The line was held, or never tagged, or was read from its place, where the call neither stops nor finds
-        // evidence.
+        // evidence. The path of its page was read, where the call does not stop. With an overflow each other line of the page
+        // that was written before is read from its place too.
         ensures read { IsQuiet self.new → OnOk result (LineHad B.history self.old self.new (line_of addr)) }
+        ensures path { OnOk result (PathHad B.history self.old self.new (line_of addr)) }
+        ensures reread { IsQuiet self.new →
+            OnOk result (AreReread (line_of addr) (lines_of_write (line_of addr) self.old.lines) (used self.old)
+            (B.history self.old.lines.bus) (B.history self.new.lines.bus)) }
         ensures held { (line : ℕ) → Contains (held_lines self.new) line → Contains (held_lines self.old) line ⊎ (line ≡ line_of addr) }
 
-        // With an overflow each other line of the page that was written before is read from its place too. Memory is taken
-        // for each line that is to be encrypted before one of them is.
-        ensures reread { OnOk result (AreReread (line_of addr) (lines_of_write (line_of addr) self.old.lines) (used self.old)
-            (B.history self.old.lines.bus) (B.history self.new.lines.bus)) }
-        ensures reserved { OnErr result ((used self.new ≡ used self.old) ⊎ HadMemory (line_of addr) self.old.lines self.new.lines) }
+        // The memory is written through before and after the call.
+        ensures through { stopped self.new ≡ None → IsQuiet self.new →
+            AreWrittenThrough T.data_tag_of T.node_tag_of B.history self.new.lines }
 
-        // Tampering comes only where an answer was false: of the line itself, or with an overflow of another line of its
-        // page, and then the lines that were encrypted are those before that one.
+        // Tampering comes only of the line, of a node on the path of its page or, with an overflow, of another line of the
+        // page, and where an answer was false or there was evidence before. The lines that were encrypted are those before the
+        // one that failed. A store without an overflow, and one that the limit forbids, name no other line.
         ensures tampered { (place : Place) → stopped self.old ≡ None → result ≡ Err (Tampered place) →
-            ((place ≡ line_place (line_of addr)) × Rose (B.history self.old.lines.bus).lies (B.history self.new.lines.bus).lies)
-            ⊎ (((next_counter (counter_in (used self.old) (line_of addr))).line ≡ 0)
-            × IsTamperedBeside (line_of addr) place (B.history self.old.lines.bus) (B.history self.new.lines.bus)) }
-        ensures failed { (other : ℕ) → stopped self.old ≡ None → other ≢ line_of addr → result ≡ Err (Tampered (line_place other)) →
+            (IsOfLine self.old (line_of addr) place ⊎ IsBeside (line_of addr) place)
+            × (IsQuiet self.old → Rose (B.history self.old.lines.bus).lies (B.history self.new.lines.bus).lies) }
+        ensures untampered { (other : ℕ) → stopped self.old ≡ None → IsQuiet self.new → other ≢ line_of addr →
+            ((next_counter (counter_in (used self.old) (line_of addr))).line ≢ 0)
+            ⊎ (counter_in (used self.old) (line_of addr) ≡ last_counter self.old.lines.limit) →
+            result ≢ Err (Tampered (line_place other)) }
+        ensures failed { (other : ℕ) → stopped self.old ≡ None → IsQuiet self.new → other ≢ line_of addr →
+            result ≡ Err (Tampered (line_place other)) →
             used self.new ≡ used self.old ++ take (place_of other) (entries_of_write (line_of addr) (used self.old)) }
 
-        // It is spent only where the line has the last counter that the limit allows, and then nothing is encrypted, tagged
-        // or written.
+        // Only a line with the last counter that the limit allows is spent, and such a line is not written: it and its counters
+        // are read, and where the answer is another one, they could not be had. Nothing but nodes changes.
         ensures spent { (page : ℕ) → stopped self.old ≡ None → result ≡ Err (Spent page) → (page ≡ page_of (line_of addr))
-            × (counter_in (used self.old) (line_of addr) ≡ last_counter self.old.lines.limit) × IsUnsealed B.history self.old.lines self.new.lines }
-        ensures unspent { OnOk result (counter_in (used self.old) (line_of addr) ≢ last_counter self.old.lines.limit) }
+            × (IsQuiet self.new → counter_in (used self.old) (line_of addr) ≡ last_counter self.old.lines.limit)
+            × (contents self.new ≡ contents self.old) × IsUnsealed B.history self.old.lines self.new.lines }
+        ensures used_up { stopped self.old ≡ None → IsQuiet self.new →
+            counter_in (used self.old) (line_of addr) ≡ last_counter self.old.lines.limit →
+            (stop_of result ≢ None) × IsUnsealed B.history self.old.lines self.new.lines
+            × SameCounters self.old.lines self.new.lines
+            × ((B.history self.new.lines.bus).accesses
+            ≤ (B.history self.old.lines.bus).accesses + (load_accesses (levels self.old) + fetch_accesses (levels self.old))) }
     {
         if let Some(stop) = self.stopped() {
             return Err(stop);

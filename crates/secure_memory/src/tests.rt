@@ -1,10 +1,13 @@
 // The memory over a bus that tells the truth and over one that does not.
-ghost use Rattle.std.specs.Prelude.{◌≡◌, ◌*◌, IfOk};
+ghost use Rattle.std.specs.Prelude.{◌≡◌, ◌*◌, ◌≤◌, IfOk};
 ghost use Rattle.bus_model.specs.BusHistory.{new_history};
 ghost use Rattle.secure_memory.specs.SecureRam.{lines_of};
 
+mod counting_bus;
+
 use crate::SecureRam;
 use bus_model::{Bus, FlipBus, HonestBus};
+use counting_bus::CountingBus;
 use hmac_tag::{HmacTagger, derive};
 use sec_base::{Geometry, MemStop, Place, Ram, Width};
 use std::alloc::Global;
@@ -59,7 +62,7 @@ fn a_store_changes_as_many_bytes_as_its_width(rt: HostRuntime) -> Result<(), Fai
     assert_eq!(rt; memory.store(16383, Width::One, 0x1ff), Ok(()));
     assert_eq!(rt; memory.load(16380, Width::Four), Ok(0xff00_2345));
     let (account, _bus) = memory.finish();
-    assert_eq!(rt; account.made.len(), 2);
+    assert_eq!(rt; account.made.len(), 5 + 2 * 3);
     assert_eq!(rt; account.used.len(), 2);
     assert_eq!(rt; account.evidence, None);
     Ok(())
@@ -94,9 +97,10 @@ impl Worn {
     }
 }
 
+// Boot tags five nodes, and each store two.
 #[test]
 fn a_page_that_is_encrypted_anew_keeps_its_numbers(rt: HostRuntime) -> Result<(), Fail> {
-    for (last, entries) in [(126, 128), (127, 192), (128, 193)] {
+    for (last, entries, nodes) in [(126, 128, 261), (127, 192, 263), (128, 193, 265)] {
         let mut worn = Worn::new(rt.alloc(), u64::MAX, 0, 0)?;
         assert_eq!(rt;
             worn.memory.store(252, Width::Four, 4),
@@ -120,7 +124,7 @@ fn a_page_that_is_encrypted_anew_keeps_its_numbers(rt: HostRuntime) -> Result<()
         assert_eq!(rt; worn.memory.stopped(), None, "up to {last}");
         let (account, _bus) = worn.memory.finish();
         assert_eq!(rt; account.used.len(), entries, "up to {last}");
-        assert_eq!(rt; account.made.len(), entries, "up to {last}");
+        assert_eq!(rt; account.made.len(), entries + nodes, "up to {last}");
     }
     Ok(())
 }
@@ -153,20 +157,127 @@ fn the_first_stop_is_answered_again(rt: HostRuntime) -> Result<(), Fail> {
     Ok(())
 }
 
+// The store reads the page's counters three times and the top node four times, and the load each of them once more.
 #[test]
 fn a_flipped_bit_is_tampering(rt: HostRuntime) -> Result<(), Fail> {
-    let place = Place::Line(1);
-    let geometry = smallest()?;
-    let bus = FlipBus::new(rt.alloc(), geometry, place, 1, 0, 1)?;
-    let mut memory = over(rt.alloc(), bus, geometry, u64::MAX)?;
-    assert_eq!(rt; memory.store(64, Width::Four, 7), Ok(()));
-    assert!(rt; !memory.held(1));
-    assert_eq!(rt; memory.held_count(), 0);
-    let tampered = MemStop::Tampered(place);
-    assert_eq!(rt; memory.load(64, Width::Four), Err(tampered));
-    assert_eq!(rt; memory.load(0, Width::Four), Err(tampered));
-    let (account, bus) = memory.finish();
-    assert_eq!(rt; account.evidence, None);
-    assert_eq!(rt; bus.lies(), 1);
+    let rows = [
+        (Place::Line(1), 1),
+        (Place::Node { level: 0, index: 0 }, 4),
+        (Place::Node { level: 1, index: 0 }, 5),
+    ];
+    for (place, k) in rows {
+        let geometry = smallest()?;
+        let bus = FlipBus::new(rt.alloc(), geometry, place, k, 0, 1)?;
+        let mut memory = over(rt.alloc(), bus, geometry, u64::MAX)?;
+        assert_eq!(rt; memory.store(64, Width::Four, 7), Ok(()), "{place}");
+        assert!(rt; !memory.held(1), "{place}");
+        assert_eq!(rt; memory.held_count(), 0, "{place}");
+        let tampered = MemStop::Tampered(place);
+        assert_eq!(rt; memory.load(64, Width::Four), Err(tampered), "{place}");
+        assert_eq!(rt; memory.load(0, Width::Four), Err(tampered), "{place}");
+        let (account, bus) = memory.finish();
+        assert_eq!(rt; account.evidence, None, "{place}");
+        assert_eq!(rt; bus.lies(), 1, "{place}");
+    }
+    Ok(())
+}
+
+// A memory over a bus that counts, whose line 5 is used.
+#[derive(Drop)]
+struct Counted {
+    memory: SecureRam<CountingBus, HmacTagger>,
+    ghost large: { 16384 ≤ 64 * lines_of memory },
+}
+
+impl Counted {
+    // None where boot is refused.
+    fn new(alloc: Global, levels: u8, refused: u64) -> Result<Option<Counted>, Fail> {
+        let geometry = Geometry::new(levels).ok_or("no geometry")?;
+        let bus = CountingBus::new(alloc, geometry, refused)?;
+        let keys = derive(&[0; 32]);
+        let tagger = HmacTagger::new(&keys);
+        let Ok(memory) = SecureRam::boot(alloc, bus, tagger, &keys, geometry, u64::MAX) else {
+            return Ok(None);
+        };
+        if memory.size() < 16384 {
+            return Err(Fail::from("small"));
+        }
+        Ok(Some(Counted { memory }))
+    }
+
+    fn store(&mut self, count: u32) -> Result<(), MemStop> {
+        for value in 0..count {
+            self.memory.store(320, Width::Four, value)?;
+        }
+        Ok(())
+    }
+
+    fn load(&mut self) -> Result<u32, MemStop> {
+        self.memory.load(320, Width::Four)
+    }
+}
+
+// How many accesses boot, so many stores and a load make in all.
+fn accesses(alloc: Global, levels: u8, stores: u32) -> Result<u64, Fail> {
+    let mut counted = Counted::new(alloc, levels, 0)?.ok_or("no memory")?;
+    counted.store(stores).ok().ok_or("a store is refused")?;
+    counted.load().ok().ok_or("the load is refused")?;
+    let Counted { memory } = counted;
+    let (_account, bus) = memory.finish();
+    Ok(bus.asked())
+}
+
+// A load reads the path of its page, L + 1 nodes, and the line, if it was written; a store reads the path three times,
+// and once more but for the page's counters, and writes it and the line. In an overflow the other 63 lines, which were
+// never written, are written too.
+#[test]
+fn calls_make_so_many_accesses_at_each_level(rt: HostRuntime) -> Result<(), Fail> {
+    let nodes = [5, 21, 85, 341, 1365, 5461];
+    for (at, boot) in nodes.iter().enumerate() {
+        let levels = at as u8 + 1;
+        let path = u64::from(levels) + 1;
+        let first = 5 * path;
+        let next = first + 1;
+        let rows = [
+            (0, path),
+            (1, first + path + 1),
+            (2, first + next + path + 1),
+            (127, first + 126 * next + path + 1),
+            (128, first + 127 * next + 63 + path + 1),
+        ];
+        for (stores, more) in rows {
+            let made = accesses(rt.alloc(), levels, stores)?;
+            assert_eq!(rt; made, *boot + more, "{stores} stores at {levels}");
+        }
+    }
+    Ok(())
+}
+
+// At one level boot makes 5 accesses, the first store 10 and the second one 11: of these the ninth and the tenth write
+// nodes, and the last one the line.
+#[test]
+fn out_of_memory_a_store_is_done_in_part(rt: HostRuntime) -> Result<(), Fail> {
+    for refused in 1..6u64 {
+        let counted = Counted::new(rt.alloc(), 1, refused)?;
+        assert!(rt; counted.is_none(), "access {refused}");
+    }
+    for refused in 16..27u64 {
+        let mut counted = Counted::new(rt.alloc(), 1, refused)?.ok_or("no memory")?;
+        assert_eq!(rt; counted.store(1), Ok(()), "access {refused}");
+        assert_eq!(rt;
+            counted.store(1),
+            Err(MemStop::NoMemory),
+            "access {refused}"
+        );
+        assert_eq!(rt; counted.load(), Err(MemStop::NoMemory), "access {refused}");
+        let Counted { memory } = counted;
+        let (account, bus) = memory.finish();
+        let messages = 5 + 3 + refused.saturating_sub(23);
+        assert_eq!(rt; account.made.len(), messages, "access {refused}");
+        let entries = if refused == 26 { 2 } else { 1 };
+        assert_eq!(rt; account.used.len(), entries, "access {refused}");
+        assert_eq!(rt; account.evidence, None, "access {refused}");
+        assert_eq!(rt; bus.asked(), refused, "access {refused}");
+    }
     Ok(())
 }

@@ -1,3 +1,4 @@
 pub mod LastPlaces
 pub mod Forgeries
+pub mod Collisions
 pub mod Upkeep

@@ -7,15 +7,16 @@ use Rattle.std.proofs.lemmas.Grind.{get_or-set_at}
 use Rattle.sec_base.specs.declared.counter.Counter.{Counter}
 use Rattle.sec_base.specs.declared.sealed.Sealed.{Sealed}
 use Rattle.sec_base.specs.declared.message.Message.{Message}
-use Rattle.sec_base.specs.declared.message.Message.TheVariants.{Line}
+use Rattle.sec_base.specs.declared.message.Message.TheVariants.{Line, Node}
 use Rattle.sec_base.specs.declared.evidence.Evidence.{Evidence}
-use Rattle.sec_base.specs.Geometry.{line_count, node_end, node_number}
+use Rattle.sec_base.specs.Geometry.{IsNode, line_count, node_end, node_number}
 use Rattle.sec_base.specs.LastMessage.{data_part, node_part}
-use Rattle.sec_base.proofs.Numbers.{number_inside}
-use Rattle.tag_engine.specs.TagEngine.{TagEngineView, new_engine, after_check_data, forgery_of}
+use Rattle.sec_base.proofs.Numbers.{number_inside, numbers_apart}
+use Rattle.tag_engine.specs.TagEngine.{TagEngineView, new_engine, after_check_data, after_check_node, collision_of, forgery_of}
 use Rattle.tag_engine.specs.Invariant.{IsTagEngine, last_place}
-use Rattle.tag_engine.proofs.LastPlaces.{last_place-nothing, last_place-within, last_place-same, last_place-other, last_place-node}
+use Rattle.tag_engine.proofs.LastPlaces.{last_place-nothing, last_place-within, last_place-same, last_place-other, last_place-node, last_place-same_node, last_place-other_node, last_place-line}
 use Rattle.tag_engine.proofs.Forgeries.{forgery_of-failed, known, genuine, still_genuine}
+use Rattle.tag_engine.proofs.Collisions.{collision_of-failed, genuine as genuine_node}
 
 -- nothing was made
 none_at : (places : List (Option ℕ)) (count at : ℕ) → places ≡ replicate count None → at < count → slice_index_or places at None ≡ None
@@ -81,6 +82,55 @@ kept_made tag_of lines lines' nodes capacity capacity' engine line at room count
       evidence = still_genuine tag_of engine.made (Line line counter cipher ∷ []) engine.evidence kept.evidence;
     })
 
+node_place_after : (places places' : List (Option ℕ)) (made : List Message) (levels level index at : ℕ) (block : List ℕ) →
+    IsNode levels level index → length places ≡ node_end levels → at ≡ length made →
+    places' ≡ slice_set places (node_number levels level index) (Some at) →
+    ((other place : ℕ) → IsNode levels other place → slice_index_or places (node_number levels other place) None ≡ last_place (node_part other place) made) →
+    (other place : ℕ) → IsNode levels other place →
+    slice_index_or places' (node_number levels other place) None ≡ last_place (node_part other place) (made ++ Node level index block ∷ [])
+node_place_after places places' made levels level index at block inside all here stored was other place node =
+    let none : Option ℕ = None in
+    let within : node_number levels level index < length places = omega (arith, number_inside levels level index inside, all) in
+    let moved : slice_index_or places' (node_number levels other place) none
+    ≡ slice_index_or (slice_set places (node_number levels level index) (Some at)) (node_number levels other place) none =
+    ap (λ (xs : List (Option ℕ)). slice_index_or xs (node_number levels other place) none) stored in
+    elim (cases_eq (node_number levels other place) (node_number levels level index)) [
+      | inl same ↦
+          let both = numbers_apart levels other place level index node inside same in
+          moved
+          ∙ get_or-set_at places (node_number levels level index) (node_number levels other place) (Some at) none same within
+          ∙ ap Some here
+          ∙ sym (ap (λ (l : ℕ). last_place (node_part l place) (made ++ Node level index block ∷ [])) both.0
+          ∙ ap (λ (i : ℕ). last_place (node_part level i) (made ++ Node level index block ∷ [])) both.1
+          ∙ last_place-same_node level index block made)
+      | inr differs ↦ moved
+          ∙ get_or-set_other places (node_number levels level index) (node_number levels other place) (Some at) none differs
+          ∙ was other place node
+          ∙ sym (last_place-other_node other place level index block made
+          (λ a b. differs (ap (λ (l : ℕ). node_number levels l place) (sym a) ∙ ap (λ (i : ℕ). node_number levels level i) (sym b))))
+    ]
+
+-- a message of a node was made
+pub kept_made_node : {T : Type 0} (tag_of : Message → List ℕ) (lines nodes nodes' : List (Option ℕ)) (capacity capacity' : ℕ) (engine : TagEngineView T)
+    (level index at number room : ℕ) (block : List ℕ) (made : List Message) →
+    IsTagEngine tag_of lines nodes capacity engine → IsNode engine.levels level index → at ≡ length engine.made →
+    number ≡ node_number engine.levels level index →
+    nodes' ≡ slice_set nodes number (Some at) → made ≡ engine.made ++ Node level index block ∷ [] → room ≡ engine.room - 1 →
+    length engine.made + 1 + (engine.room - 1) ≤ capacity' →
+    IsTagEngine tag_of lines nodes' capacity' (record { tagger = engine.tagger; levels = engine.levels; made = made; evidence = engine.evidence; room = room })
+kept_made_node tag_of lines nodes nodes' capacity capacity' engine level index at number room block made kept inside here is stored grown left enough =
+    rw (grown, left) (record {
+      places = record {
+        all_lines = kept.places.all_lines;
+        last_data = λ line below. kept.places.last_data line below ∙ sym (last_place-line line level index block engine.made);
+        all_nodes = ap length stored ∙ length-set nodes number (Some at) ∙ kept.places.all_nodes;
+        last_node = node_place_after nodes nodes' engine.made engine.levels level index at block inside kept.places.all_nodes here
+            (stored ∙ ap (λ (n : ℕ). slice_set nodes n (Some at)) is) kept.places.last_node;
+      };
+      room = omega (arith, length-append engine.made (Node level index block ∷ []));
+      evidence = still_genuine tag_of engine.made (Node level index block ∷ []) engine.evidence kept.evidence;
+    })
+
 -- a check passed, and nothing had been shown before
 pub kept_shown : {T : Type 0} (tag_of : Message → List ℕ) (lines nodes : List (Option ℕ)) (capacity : ℕ) (engine : TagEngineView T)
     (line : ℕ) (counter : Counter) (sealed : Sealed) (made : List Message) (shown : Option Evidence) →
@@ -121,3 +171,40 @@ place_within tag_of lines nodes capacity engine line place made kept inside read
     let below : line < length lines = omega (arith, kept.places.all_lines) in
     let is : place ≡ last_place (data_part line) engine.made = get_or_read lines line place below read None ∙ kept.places.last_data line inside in
     rw (is, same) (last_place-within (data_part line) engine.made)
+
+-- Of a node
+
+-- the place that was read is that of the node's last message
+pub node_place : {T : Type 0} (tag_of : Message → List ℕ) (lines nodes : List (Option ℕ)) (capacity : ℕ) (engine : TagEngineView T)
+    (level index number : ℕ) (place : Option ℕ) →
+    IsTagEngine tag_of lines nodes capacity engine → IsNode engine.levels level index → number ≡ node_number engine.levels level index →
+    place ≡ slice_index_or nodes number place → place ≡ last_place (node_part level index) engine.made
+node_place {T} tag_of lines nodes capacity engine level index number place kept inside is read =
+    let here : place ≡ slice_index_or nodes (node_number engine.levels level index) place =
+    read ∙ ap (λ (n : ℕ). slice_index_or nodes n place) is in
+    let below : node_number engine.levels level index < length nodes =
+    omega (arith, number_inside engine.levels level index inside, kept.places.all_nodes) in
+    get_or_read nodes (node_number engine.levels level index) place below here None ∙ kept.places.last_node level index inside
+
+-- a check passed, and nothing had been shown before
+pub kept_collision : {T : Type 0} (tag_of : Message → List ℕ) (lines nodes : List (Option ℕ)) (capacity : ℕ) (engine : TagEngineView T)
+    (level index : ℕ) (block tag : List ℕ) (shown : Option Evidence) →
+    IsTagEngine tag_of lines nodes capacity engine → tag ≡ tag_of (Node level index block) →
+    shown ≡ collision_of tag_of engine.made level index block tag true →
+    IsTagEngine tag_of lines nodes capacity (record engine { evidence = shown })
+kept_collision tag_of lines nodes capacity engine level index block tag shown kept tagged is = record {
+  places = kept.places;
+  room = kept.room;
+  evidence = rw is (genuine_node tag_of engine.made level index block tag tagged);
+}
+
+no_collision : (tag_of : Message → List ℕ) (made : List Message) (level index : ℕ) (block tag : List ℕ) (evidence : Option Evidence) →
+    evidence ≡ option_or evidence (collision_of tag_of made level index block tag false)
+no_collision tag_of made level index block tag None = sym (collision_of-failed tag_of made level index block tag)
+no_collision tag_of made level index block tag (Some first) = refl
+
+-- a check that failed changes nothing
+pub failed_check_node : {T : Type 0} (tag_of : Message → List ℕ) (engine : TagEngineView T) (level index : ℕ) (block tag : List ℕ) →
+    engine ≡ after_check_node tag_of level index block tag false engine
+failed_check_node {T} tag_of engine level index block tag =
+    ap (λ (e : Option Evidence). record engine { evidence = e }) (no_collision tag_of engine.made level index block tag engine.evidence)

@@ -1,17 +1,19 @@
 -- What contracts see of a tag engine, and what its calls make of it.
 use Rattle.std.specs.Prelude.{ℕ, ◌-◌, max, List, [], ◌∷◌, ◌++◌, length, Bool, ◌&&◌, not, if◌then◌else◌, Option, Some, None}
 use Rattle.std.specs.Option.{option_or}
+use Rattle.std.specs.Str.{bytes_eq}
 use Rattle.sec_base.specs.declared.counter.Counter.{Counter}
 use Rattle.sec_base.specs.declared.sealed.Sealed.{Sealed}
 use Rattle.sec_base.specs.declared.message.Message.{Message}
-use Rattle.sec_base.specs.declared.message.Message.TheVariants.{Line}
+use Rattle.sec_base.specs.declared.message.Message.TheVariants.{Line, Node}
 use Rattle.sec_base.specs.declared.evidence.Evidence.{Evidence}
-use Rattle.sec_base.specs.declared.evidence.Evidence.TheVariants.{Forgery}
+use Rattle.sec_base.specs.declared.evidence.Evidence.TheVariants.{Forgery, Collision}
+use Rattle.sec_base.specs.LastMessage.{last_at, node_part}
 use Rattle.sec_base.specs.Message.{has_message}
 use Rattle.tag_engine.specs.Tag.{engine_tag}
 
--- the tagger, the levels of the memory's tree, the messages that were tagged, in order, what passed a check and was
--- never tagged, and how many messages more are sure to find memory
+-- the tagger, the levels of the memory's tree, the messages that were tagged, in order, the first evidence that a check
+-- showed, and how many messages more are sure to find memory
 pub record TagEngineView (T : Type 0) : Type 0 where
   pub tagger : T
   pub levels : ℕ
@@ -45,3 +47,22 @@ forgery_of made line counter sealed passed =
 abbrev pub after_check_data : {T : Type 0} → ℕ → Counter → Sealed → Bool → TagEngineView T → TagEngineView T
 after_check_data line counter sealed passed engine =
     record engine { evidence = option_or engine.evidence (forgery_of engine.made line counter sealed passed) }
+
+-- what a node that passed its check shows, beside the last block that was made of it and where that stands: that the two
+-- blocks differ and have the same tag
+abbrev pub collision_with : (Message → List ℕ) → ℕ → ℕ → List ℕ → List ℕ → Option (ℕ × List ℕ) → Option Evidence
+collision_with tag_of level index block tag None = None
+collision_with tag_of level index block tag (Some last) =
+    if not (bytes_eq last.1 block) && bytes_eq (tag_of (Node level index last.1)) tag
+    then Some (Collision level index last.0 block tag) else None
+
+-- what a check of a node shows: that it passed, and its block is not the last one that was made of the node, which has
+-- the same tag
+unfoldable pub collision_of : (Message → List ℕ) → List Message → ℕ → ℕ → List ℕ → List ℕ → Bool → Option Evidence
+collision_of tag_of made level index block tag passed =
+    if passed then collision_with tag_of level index block tag (last_at (node_part level index) made) else None
+
+-- a node was checked against a tag, and the first evidence stays
+abbrev pub after_check_node : {T : Type 0} → (Message → List ℕ) → ℕ → ℕ → List ℕ → List ℕ → Bool → TagEngineView T → TagEngineView T
+after_check_node tag_of level index block tag passed engine =
+    record engine { evidence = option_or engine.evidence (collision_of tag_of engine.made level index block tag passed) }

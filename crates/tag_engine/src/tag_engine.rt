@@ -1,12 +1,14 @@
 // The engine that tags and checks the messages of one memory.
-ghost use Rattle.std.specs.Prelude.{true, ◌≡◌, ◌↔◌, ◌<◌, IsTrue, IsOk, IfOk, IfSome, None, OnOk, OnErr, Contains, length};
+ghost use Rattle.std.specs.Prelude.{true, ◌≡◌, ◌↔◌, ◌<◌, ℕ, List, IsTrue, IsOk, IfOk, IfSome, None, Some, OnOk, OnErr, Contains, length};
 ghost use Rattle.sec_base.specs.Evidence.{IsEvidence};
-ghost use Rattle.sec_base.specs.Geometry.{line_count};
-ghost use Rattle.sec_base.specs.declared.message.Message.TheVariants.{Line};
-ghost use Rattle.tag_engine.specs.TagEngine.{after_check_data, after_make, forgery_of, new_engine, tags_of, with_room};
+ghost use Rattle.sec_base.specs.Geometry.{IsNode, line_count};
+ghost use Rattle.sec_base.specs.LastMessage.{last_at, last_node, node_part};
+ghost use Rattle.sec_base.specs.declared.message.Message.TheVariants.{Line, Node};
+ghost use Rattle.tag_engine.specs.TagEngine.{after_check_data, after_check_node, after_make, collision_of, forgery_of, new_engine, tags_of, with_room};
 
 use sec_base::{
     Counter, Evidence, Geometry, Message, Messages, NoMemory, Sealed, Tagger, data_message,
+    node_message,
 };
 use std::alloc::Global;
 use std::marker::Model;
@@ -93,6 +95,36 @@ impl<T: Tagger> TagEngine<T> {
         Ok(tag)
     }
 
+    /// Puts the message of a node in the list of those that were tagged, and returns its tag.
+    pub fn make_node(
+        &mut self,
+        level: u8,
+        index: u32,
+        block: &[u8; 64],
+    ) -> Result<[u8; 16], NoMemory>
+        requires inside { IsNode self.old.levels level index }
+
+        ensures tag { IfOk result (λ tag.
+            tag ≡ tags_of T.data_tag_of T.node_tag_of self.old (Node level index block.now)) }
+        ensures made { OnOk result (self.new ≡ after_make (Node level index block.now) self.old) }
+
+        ensures sure { 0 < self.old.room → IsOk result }
+        ensures refused { OnErr result (self.new ≡ self.old) }
+    {
+        let tag = self.node_tag(level, index, block);
+        let message = Message::Node {
+            level,
+            index,
+            block: *block,
+        };
+        let at = self.made.len();
+        let number = self.geometry.node_number(level, index);
+        self.made.push(message)?;
+        self.node_places[number as usize] = Some(at);
+        self.room = self.room.saturating_sub(1);
+        Ok(tag)
+    }
+
     /// Whether a data line has the tag of its message. The first that has it and was never tagged is kept. A check
     /// takes no memory.
     pub fn check_data(&mut self, line: u32, counter: Counter, sealed: &Sealed) -> bool
@@ -123,8 +155,34 @@ impl<T: Tagger> TagEngine<T> {
         true
     }
 
-    /// Drops the tagger, and returns the messages that were tagged, in order, and the first that passed a check and was
-    /// never tagged.
+    /// Whether the message of a node has this tag. The first block that has the tag of the node's last one, and is
+    /// another, is kept. A check takes no memory.
+    pub fn check_node(&mut self, level: u8, index: u32, block: &[u8; 64], tag: &[u8; 16]) -> bool
+        requires inside { IsNode self.old.levels level index }
+
+        ensures passes { IsTrue result ↔ (tag.now
+            ≡ tags_of T.data_tag_of T.node_tag_of self.old (Node level index block.now)) }
+        ensures state { self.new ≡ after_check_node (tags_of T.data_tag_of T.node_tag_of self.old)
+            level index block.now tag.now result self.old }
+
+        // What passes against the tag of the last block and leaves no evidence is that block.
+        ensures known { (last : List ℕ) → IsTrue result → self.new.evidence ≡ None →
+            last_node level index self.old.made ≡ Some last →
+            tag.now ≡ tags_of T.data_tag_of T.node_tag_of self.old (Node level index last) →
+            block.now ≡ last }
+        ensures genuine { IfSome self.new.evidence
+            (IsEvidence (tags_of T.data_tag_of T.node_tag_of self.new) self.new.made) }
+    {
+        if self.node_tag(level, index, block) != *tag {
+            return false;
+        }
+        if self.evidence.is_none() {
+            self.evidence = self.collision(level, index, block, tag);
+        }
+        true
+    }
+
+    /// Drops the tagger, and returns the messages that were tagged, in order, and the first evidence that a check showed.
     pub fn finish(self) -> (Messages, Option<Evidence>)
         ensures made { result.0 ≡ self.made }
         ensures evidence { result.1 ≡ self.evidence }
@@ -149,6 +207,48 @@ impl<T: Tagger> TagEngine<T> {
         ensures { result ≡ tags_of T.data_tag_of T.node_tag_of self.now (Line line counter cipher.now) }
     {
         self.tagger.data_tag(&data_message(line, counter, cipher))
+    }
+
+    // The tag of a node's message.
+    #[tactic(auto, unfolding(crate::specs::Tag::engine_tag))]
+    fn node_tag(&self, level: u8, index: u32, block: &[u8; 64]) -> [u8; 16]
+        ensures { result ≡ tags_of T.data_tag_of T.node_tag_of self.now (Node level index block.now) }
+    {
+        self.tagger.node_tag(&node_message(level, index, block))
+    }
+
+    // What a check shows that a node passed: that its block is not the last one, and has the same tag.
+    fn collision(&self, level: u8, index: u32, block: &[u8; 64], tag: &[u8; 16]) -> Option<Evidence>
+        requires { IsNode self.now.levels level index }
+        ensures { result ≡ collision_of (tags_of T.data_tag_of T.node_tag_of self.now) self.now.made
+            level index block.now tag.now true }
+    {
+        let (made_at, last) = self.last_block(level, index)?;
+        if last == *block {
+            return None;
+        }
+        if self.node_tag(level, index, &last) != *tag {
+            return None;
+        }
+        Some(Evidence::Collision {
+            level,
+            index,
+            made_at: made_at as u64,
+            accepted: *block,
+            tag: *tag,
+        })
+    }
+
+    // Where the last message of a node stands, and its block.
+    fn last_block(&self, level: u8, index: u32) -> Option<(usize, [u8; 64])>
+        requires { IsNode self.now.levels level index }
+        ensures { result ≡ last_at (node_part level index) self.now.made }
+    {
+        let at = self.node_places[self.geometry.node_number(level, index) as usize]?;
+        match self.made[at] {
+            Message::Node { block, .. } => Some((at, block)),
+            Message::Line { .. } => None,
+        }
     }
 }
 

@@ -1,12 +1,13 @@
 // Each public call once with ample memory. The tag that is wanted is the message's first 16 bytes, put together by
-// hand: 44, the line and the page's counter, the lowest byte first, and the line's own counter.
+// hand: of a line 44, the line and the page's counter, the lowest byte first, and the line's own counter; of a node 4e,
+// its level, its index, the lowest byte first, and ten bytes of its block.
 ghost use Rattle.std.specs.Prelude.{[], ◌∷◌, refl, slice_index, replicate};
 
 use crate::TagEngine;
 use sec_base::{Counter, Evidence, Geometry, Message, Sealed, Tagger};
 use std::test::Fail;
 
-// Gives the first 16 bytes of a data line's message, and zeros for a node.
+// Gives the first 16 bytes of a message.
 #[derive(Drop)]
 struct FirstBytes;
 
@@ -15,7 +16,9 @@ impl Tagger for FirstBytes {
         ∷ slice_index m 5 ∷ slice_index m 6 ∷ slice_index m 7 ∷ slice_index m 8 ∷ slice_index m 9 ∷ slice_index m 10
         ∷ slice_index m 11 ∷ slice_index m 12 ∷ slice_index m 13 ∷ slice_index m 14 ∷ slice_index m 15 ∷ [] };
 
-    ghost node_tag_of = { λ _ _. replicate 16 0 };
+    ghost node_tag_of = { λ _ m. slice_index m 0 ∷ slice_index m 1 ∷ slice_index m 2 ∷ slice_index m 3 ∷ slice_index m 4
+        ∷ slice_index m 5 ∷ slice_index m 6 ∷ slice_index m 7 ∷ slice_index m 8 ∷ slice_index m 9 ∷ slice_index m 10
+        ∷ slice_index m 11 ∷ slice_index m 12 ∷ slice_index m 13 ∷ slice_index m 14 ∷ slice_index m 15 ∷ [] };
 
     ghost data_tag_long = { λ _ _. refl };
 
@@ -28,8 +31,11 @@ impl Tagger for FirstBytes {
         ]
     }
 
-    fn node_tag(&self, _: &[u8; 70]) -> [u8; 16] {
-        [0; 16]
+    fn node_tag(&self, m: &[u8; 70]) -> [u8; 16] {
+        [
+            m[0], m[1], m[2], m[3], m[4], m[5], m[6], m[7], m[8], m[9], m[10], m[11], m[12], m[13],
+            m[14], m[15],
+        ]
     }
 }
 
@@ -158,5 +164,90 @@ fn the_first_message_never_made_comes_at_the_end(rt: HostRuntime) -> Result<(), 
         made_count: 2,
     };
     assert_eq!(rt; evidence, Some(forgery));
+    Ok(())
+}
+
+#[test]
+fn a_tag_is_that_of_the_nodes_bytes(rt: HostRuntime) -> Result<(), Fail> {
+    let rows = [
+        (
+            2,
+            1,
+            2,
+            [7; 64],
+            [0x4e, 1, 2, 0, 0, 0, 7, 7, 7, 7, 7, 7, 7, 7, 7, 7],
+        ),
+        (
+            5,
+            0,
+            0x0102,
+            [9; 64],
+            [0x4e, 0, 2, 1, 0, 0, 9, 9, 9, 9, 9, 9, 9, 9, 9, 9],
+        ),
+    ];
+    for (levels, level, index, block, wanted) in rows {
+        let geometry = Geometry::new(levels).ok_or("no geometry")?;
+        let mut engine = TagEngine::new(rt.alloc(), FirstBytes, geometry)?;
+        let tag = engine.make_node(level, index, &block)?;
+        assert_eq!(rt; tag, wanted, "node {level} {index}");
+        assert!(rt; engine.check_node(level, index, &block, &tag));
+        assert!(rt; !engine.check_node(level, index, &[8; 64], &tag));
+        let (made, evidence) = engine.finish();
+        assert_eq!(rt; made.len(), 1);
+        assert_eq!(rt;
+            made.get(0),
+            Some(Message::Node {
+                level,
+                index,
+                block
+            })
+        );
+        assert_eq!(rt; evidence, None);
+    }
+    Ok(())
+}
+
+// A block of one byte repeated, the last of which is another one: a tag of `FirstBytes` leaves it out.
+fn ends_in(byte: u8, last: u8) -> [u8; 64] {
+    let mut block = [byte; 64];
+    block[63] = last;
+    block
+}
+
+#[test]
+fn the_first_collision_comes_at_the_end(rt: HostRuntime) -> Result<(), Fail> {
+    let geometry = Geometry::new(2).ok_or("no geometry")?;
+    let mut engine = TagEngine::new(rt.alloc(), FirstBytes, geometry)?;
+    engine.reserve(4)?;
+    let sixes = engine.make_node(1, 2, &[6; 64])?;
+    engine.make_data(2, Counter { page: 1, line: 0 }, &[7; 64])?;
+    let sevens = engine.make_node(1, 2, &[7; 64])?;
+    let beside = engine.make_node(1, 3, &[7; 64])?;
+    let rows = [
+        ("the last block", [7; 64], sevens, true),
+        (
+            "one before it, with its own tag",
+            ends_in(6, 1),
+            sixes,
+            true,
+        ),
+        ("the tag of the node beside", [7; 64], beside, false),
+        ("another tag", ends_in(7, 1), sixes, false),
+        ("the last block's tag", ends_in(7, 1), sevens, true),
+        ("once more", ends_in(7, 2), sevens, true),
+    ];
+    for (case, block, tag, passes) in rows {
+        assert_eq!(rt; engine.check_node(1, 2, &block, &tag), passes, "{case}");
+    }
+    let (made, evidence) = engine.finish();
+    assert_eq!(rt; made.len(), 4);
+    let collision = Evidence::Collision {
+        level: 1,
+        index: 2,
+        made_at: 2,
+        accepted: ends_in(7, 1),
+        tag: sevens,
+    };
+    assert_eq!(rt; evidence, Some(collision));
     Ok(())
 }

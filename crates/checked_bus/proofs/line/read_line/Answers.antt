@@ -5,7 +5,8 @@ use Rattle.sec_base.specs.Message.{data_bytes}
 use Rattle.tag_engine.specs.Tag.{engine_tag}
 use Rattle.tag_engine.specs.TagEngine.{after_check_data, tags_of}
 use Rattle.tag_engine.proofs.Upkeep.{failed_check}
-use Rattle.checked_bus.proofs.CheckedReads.{read_moves, read_once, read_others, read_accepted, tampered_lied, read_accounted}
+use Rattle.checked_bus.proofs.CheckedReads.{read_moves, read_once, read_others, read_accepted, tampered_lied, shown_lied, read_honest}
+use Rattle.checked_bus.proofs.Evidences.{none_or}
 use Rattle.checked_bus.proofs.line.read_line.Goals as goal
 
 -- Refused, out of memory
@@ -16,7 +17,7 @@ returns-in_err-sealed-clause-read g c = search rules
 pub returns-in_err-sealed-clause-honest : goal.returns-in_err-sealed-clause-honest
 unfolding engine_tag
 returns-in_err-sealed-clause-honest g c = λ used current was.
-    read_accounted (tags_of g.T.Tagger.data_tag_of g.T.Tagger.node_tag_of c.args.tags.now) c.args.line c.args.counter
+    read_honest (tags_of g.T.Tagger.data_tag_of g.T.Tagger.node_tag_of c.args.tags.now) c.args.line c.args.counter
     (g.B.Bus.history c.args.bus.now) (g.B.Bus.history c.read_data.new.self) c.args.tags.now c.args.tags.now
     (λ cipher. g.met.T.Tagger.data_tag_long c.args.tags.now.tagger (data_bytes c.args.line c.args.counter cipher))
     used current c.from_residual.result (returns-in_err-sealed-clause-read g c) was
@@ -60,7 +61,7 @@ returns-then-not-check_data-clause-others g c = λ other differs.
 pub returns-then-not-check_data-clause-honest : goal.returns-then-not-check_data-clause-honest
 unfolding engine_tag
 returns-then-not-check_data-clause-honest g c = λ used current was.
-    read_accounted (tags_of g.T.Tagger.data_tag_of g.T.Tagger.node_tag_of c.args.tags.now) c.args.line c.args.counter
+    read_honest (tags_of g.T.Tagger.data_tag_of g.T.Tagger.node_tag_of c.args.tags.now) c.args.line c.args.counter
     (g.B.Bus.history c.args.bus.now) (g.B.Bus.history c.read_data.new.self) c.args.tags.now c.check_data.new.self
     (λ cipher. g.met.T.Tagger.data_tag_long c.args.tags.now.tagger (data_bytes c.args.line c.args.counter cipher))
     used current (Err (Tampered (line_place c.args.line))) (returns-then-not-check_data-clause-read g c) was
@@ -75,6 +76,15 @@ returns-then-not-check_data-clause-tampered g c = λ place is. (
       (λ cipher. g.met.T.Tagger.data_tag_long c.args.tags.now.tagger (data_bytes c.args.line c.args.counter cipher))
       used current (returns-then-not-check_data-clause-read g c).1,
 )
+
+pub returns-then-not-check_data-clause-shown : goal.returns-then-not-check_data-clause-shown
+unfolding engine_tag
+returns-then-not-check_data-clause-shown g c = λ used current quiet.
+    none_or c.check_data.new.self.evidence
+    (shown_lied (tags_of g.T.Tagger.data_tag_of g.T.Tagger.node_tag_of c.args.tags.now) c.args.line c.args.counter
+    (g.B.Bus.history c.args.bus.now) (g.B.Bus.history c.read_data.new.self) c.args.tags.now c.check_data.new.self
+    (λ cipher. g.met.T.Tagger.data_tag_long c.args.tags.now.tagger (data_bytes c.args.line c.args.counter cipher))
+    used current (Err (Tampered (line_place c.args.line))) (returns-then-not-check_data-clause-read g c) quiet)
 
 -- Passed
 
@@ -102,7 +112,7 @@ returns-clause-others g c = λ other differs.
 pub returns-clause-honest : goal.returns-clause-honest
 unfolding engine_tag
 returns-clause-honest g c = λ used current was.
-    read_accounted (tags_of g.T.Tagger.data_tag_of g.T.Tagger.node_tag_of c.args.tags.now) c.args.line c.args.counter
+    read_honest (tags_of g.T.Tagger.data_tag_of g.T.Tagger.node_tag_of c.args.tags.now) c.args.line c.args.counter
     (g.B.Bus.history c.args.bus.now) (g.B.Bus.history c.read_data.new.self) c.args.tags.now c.check_data.new.self
     (λ cipher. g.met.T.Tagger.data_tag_long c.args.tags.now.tagger (data_bytes c.args.line c.args.counter cipher))
     used current (Ok c.in_ok-sealed.sealed.cipher) (returns-clause-read g c) was
@@ -112,3 +122,12 @@ returns-clause-accepted g c = λ at under sealed made_count quiet shown.
     read_accepted (tags_of g.T.Tagger.data_tag_of g.T.Tagger.node_tag_of c.args.tags.now) c.args.line c.args.counter
     (g.B.Bus.history c.args.bus.now) (g.B.Bus.history c.read_data.new.self) c.args.tags.now c.check_data.new.self
     c.in_ok-sealed.sealed.cipher at under sealed made_count (returns-clause-read g c) quiet shown
+
+pub returns-clause-shown : goal.returns-clause-shown
+unfolding engine_tag
+returns-clause-shown g c = λ used current quiet.
+    none_or c.check_data.new.self.evidence
+    (shown_lied (tags_of g.T.Tagger.data_tag_of g.T.Tagger.node_tag_of c.args.tags.now) c.args.line c.args.counter
+    (g.B.Bus.history c.args.bus.now) (g.B.Bus.history c.read_data.new.self) c.args.tags.now c.check_data.new.self
+    (λ cipher. g.met.T.Tagger.data_tag_long c.args.tags.now.tagger (data_bytes c.args.line c.args.counter cipher))
+    used current (Ok c.in_ok-sealed.sealed.cipher) (returns-clause-read g c) quiet)

@@ -1,8 +1,10 @@
 use Rattle.std.proofs.Common.{rules}
 use Rattle.sec_base.specs.Evidence.{sealed_bytes}
+use Rattle.sec_base.specs.declared.message.Message.TheVariants.{Line}
+use Rattle.sec_base.specs.declared.place.Place.TheVariants.{Line as line_place}
 use Rattle.tag_engine.specs.TagEngine.{tags_of}
 use Rattle.checked_bus.specs.SealedLine.{sealed_line}
-use Rattle.checked_bus.proofs.TaggedWrites.{done_or_not, where_done, wrote_once, wrote_or_not, write_moves, write_others, write_accounted}
+use Rattle.checked_bus.proofs.TaggedWrites.{done_or_not, where_done, wrote_once, wrote_or_not, line_last, write_moves, write_others, write_accounted}
 use Rattle.checked_bus.proofs.line.write_line.Goals as goal
 
 pub returns-clause-made : goal.returns-clause-made
@@ -13,31 +15,34 @@ returns-clause-ok g c = search rules
 
 pub returns-clause-moves : goal.returns-clause-moves
 returns-clause-moves g c =
-    write_moves (tags_of g.T.Tagger.data_tag_of g.T.Tagger.node_tag_of c.args.tags.now) c.args.line c.args.counter c.args.cipher.now
+    write_moves (line_place c.args.line) (Line c.args.line c.args.counter c.args.cipher.now)
     (g.B.Bus.history c.args.bus.now) (g.B.Bus.history c.write_data.new.self) c.args.tags.now c.make_data.new.self (returns-clause-made g c)
-    (wrote_or_not c.args.line (sealed_bytes (record { cipher = c.args.cipher.now; tag = c.in_ok-tag.tag }))
+    (wrote_or_not (line_place c.args.line) (sealed_bytes (record { cipher = c.args.cipher.now; tag = c.in_ok-tag.tag }))
     (g.B.Bus.history c.args.bus.now) (g.B.Bus.history c.write_data.new.self)
     (done_or_not c.write_data.result c.write_data.ensures.ok c.write_data.ensures.err))
 
 pub returns-clause-once : goal.returns-clause-once
 returns-clause-once g c =
     where_done c.write_data.result
-    (wrote_once c.args.line (sealed_line (tags_of g.T.Tagger.data_tag_of g.T.Tagger.node_tag_of c.args.tags.now) c.args.line c.args.counter c.args.cipher.now)
+    (wrote_once (line_place c.args.line)
+    (sealed_line (tags_of g.T.Tagger.data_tag_of g.T.Tagger.node_tag_of c.args.tags.now) c.args.line c.args.counter c.args.cipher.now)
     (g.B.Bus.history c.args.bus.now) (g.B.Bus.history c.write_data.new.self))
     (returns-clause-ok g c)
 
 pub returns-clause-others : goal.returns-clause-others
 returns-clause-others g c =
-    write_others (tags_of g.T.Tagger.data_tag_of g.T.Tagger.node_tag_of c.args.tags.now) c.args.line c.args.counter c.args.cipher.now
+    write_others (line_place c.args.line) (Line c.args.line c.args.counter c.args.cipher.now)
     (g.B.Bus.history c.args.bus.now) (g.B.Bus.history c.write_data.new.self) c.args.tags.now c.make_data.new.self (returns-clause-made g c)
-    (wrote_or_not c.args.line (sealed_bytes (record { cipher = c.args.cipher.now; tag = c.in_ok-tag.tag }))
+    (wrote_or_not (line_place c.args.line) (sealed_bytes (record { cipher = c.args.cipher.now; tag = c.in_ok-tag.tag }))
     (g.B.Bus.history c.args.bus.now) (g.B.Bus.history c.write_data.new.self)
     (done_or_not c.write_data.result c.write_data.ensures.ok c.write_data.ensures.err))
+    (line_last c.args.tags.now.made c.args.line c.args.counter c.args.cipher.now)
 
 pub returns-clause-honest : goal.returns-clause-honest
 returns-clause-honest g c =
-    write_accounted (tags_of g.T.Tagger.data_tag_of g.T.Tagger.node_tag_of c.args.tags.now) c.args.line c.args.counter c.args.cipher.now
+    write_accounted (line_place c.args.line) (Line c.args.line c.args.counter c.args.cipher.now)
     (g.B.Bus.history c.args.bus.now) (g.B.Bus.history c.write_data.new.self) c.args.tags.now c.make_data.new.self (returns-clause-made g c)
-    (wrote_or_not c.args.line (sealed_bytes (record { cipher = c.args.cipher.now; tag = c.in_ok-tag.tag }))
+    (wrote_or_not (line_place c.args.line) (sealed_bytes (record { cipher = c.args.cipher.now; tag = c.in_ok-tag.tag }))
     (g.B.Bus.history c.args.bus.now) (g.B.Bus.history c.write_data.new.self)
     (done_or_not c.write_data.result c.write_data.ensures.ok c.write_data.ensures.err))
+    (tags_of g.T.Tagger.data_tag_of g.T.Tagger.node_tag_of c.args.tags.now)

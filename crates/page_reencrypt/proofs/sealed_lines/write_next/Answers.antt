@@ -1,96 +1,566 @@
-use Rattle.std.proofs.Common.{◌≡◌, ℕ, Result, Err, refl, ap, sym, ◌∙◌, subst, arith, rules}
+use Rattle.std.proofs.Common.{◌≡◌, ◌≤◌, ◌+◌, ℕ, inl, inr, Option, Some, None, Ok, Err, ap, sym, ◌∙◌, subst, arith, rules}
+use Rattle.sec_base.specs.declared.counter.Counter.{Counter}
+use Rattle.sec_base.specs.declared.place.Place.{Place}
+use Rattle.sec_base.specs.declared.place.Place.TheVariants.{Line as line_place}
 use Rattle.sec_base.specs.declared.stop.MemStop.{MemStop}
 use Rattle.sec_base.specs.declared.stop.MemStop.TheVariants.{NoMemory}
+use Rattle.bus_model.specs.BusHistory.{BusHistory}
 use Rattle.tag_engine.specs.TagEngine.{tags_of}
 use Rattle.pad_stream.specs.Pad.{cipher_of}
 use Rattle.checked_bus.specs.SealedLine.{sealed_line}
-use Rattle.split_counter.specs.declared.bumped.Bumped.TheVariants.{Line, Page}
-use Rattle.split_counter.specs.CounterBlock.{bumped, counter_of}
-use Rattle.page_reencrypt.specs.Contents.{counter_in}
-use Rattle.page_reencrypt.specs.Outside.{IsWriteOrSpent, terms_of}
-use Rattle.page_reencrypt.proofs.NextWrites.{line_next, line_not_last, line_once, line_unwritten, line_written, page_next, page_not_last, page_written, refused}
+use Rattle.checked_bus.specs.Steps.{stop_of}
+use Rattle.checked_bus.proofs.TaggedWrites.{wrote_once}
+use Rattle.counter_cache.specs.Counters.{bump_messages, counters_in}
+use Rattle.page_reencrypt.specs.Outside.{IsWrite, OutsideView, terms_of}
+use Rattle.page_reencrypt.proofs.LineReads.{quiet_before}
+use Rattle.page_reencrypt.proofs.NextWrites.{CountedUp, HadCounters, counter_here, is_last, line_unwritten, line_written, mid_counters, mid_inside, mid_kept, mid_last, mid_later, mid_lied, mid_reached, mid_room, mid_rooms, mid_rose, not_last, ok_where, page_overflows, page_written, refused_reached, roomy_fits, say_same, spent_after, spent_early, stopped_early}
+use Rattle.page_reencrypt.proofs.Reaching.{IsReached}
+use Rattle.page_reencrypt.proofs.Reencrypting.{one_access}
 use Rattle.page_reencrypt.proofs.sealed_lines.write_next.Goals as goal
 
-pub returns-in_err-reserve-in-Line-clause-written : goal.returns-in_err-reserve-in-Line-clause-written
-returns-in_err-reserve-in-Line-clause-written g c =
+pub returns-in_err-block-clause-written : goal.returns-in_err-block-clause-written
+returns-in_err-block-clause-written g c =
+    let h = g.B.Bus.history in
+    let m = g.B.Bus.moved in
+    let d = g.T.Tagger.data_tag_of in
+    let n = g.T.Tagger.node_tag_of in
     let old = c.args.outside.now in
-    let here : counter_in old.pads.used c.args.line ≡ c.get.result =
-    c.requires.current c.args.line refl ∙ ap (λ (p : ℕ). counter_of p c.args.block.now) (sym c.place_of-place.ensures.place) ∙ sym c.get.ensures.counter in
-    let next = line_next old.pads.used c.args.line c.get.result c.in-Line.counter here (c.of.ensures.line c.in-Line.counter c.in-Line.is) in
-    let memory : c.from_residual.result ≡ Err NoMemory = search rules in
-    refused g.B.Bus.history g.B.Bus.moved g.T.Tagger.data_tag_of g.T.Tagger.node_tag_of c.args.line c.args.bytes.now old c.args.block.now c.args.limit c.reserve.new.self
-    (line_not_last c.args.limit (counter_in old.pads.used c.args.line) next.0) (g.met.B.Bus.unmoved old.bus) c.in_err-reserve-in-Line.ensures.refused
-    c.requires.consistent c.requires.holds_last c.from_residual.result memory
+    let counters = c.args.counters.now in
+    let why = c.in_err-block.field-0.0 in
+    let e = c.in_err-block.ensures in
+    let stop : stop_of c.from_residual.result ≡ Some why = search rules in
+    let reached : IsReached (terms_of h m d n old) old counters c.get.new.self c.get.new.counters (Some why) = record {
+      node = e.step;
+      levels = e.levels;
+      fits = ok_where (Err why) tt e.unspent;
+      accounted = e.accounted c.requires.fits;
+      shows = e.shows c.requires.fits;
+    } in
+    subst (λ (s : Option MemStop). IsWrite (terms_of h m d n old) c.args.limit c.args.line c.args.bytes.now old counters c.get.new.self c.get.new.counters s) (sym stop)
+    (stopped_early h m d n old counters c.get.new.self c.get.new.counters why reached c.args.limit c.args.line c.args.bytes.now c.requires.risen
+    (λ page is. e.unspent page (ap (λ (s : MemStop). Err s) is)) (inl (e.same c.requires.fits))
+    (λ place is.
+    let there = e.tampered place (ap (λ (s : MemStop). Err s) is) in
+    (rw (← c.page_of-page.ensures.page) there.0, there.1 c.requires.fits))
+    (λ quiet last. (e.same c.requires.fits quiet, e.once)))
 
-pub returns-in_err-seal-in-Line-clause-written : goal.returns-in_err-seal-in-Line-clause-written
-returns-in_err-seal-in-Line-clause-written g c =
+pub returns-in-Spent-clause-written : goal.returns-in-Spent-clause-written
+returns-in-Spent-clause-written g c =
+    let h = g.B.Bus.history in
+    let m = g.B.Bus.moved in
+    let d = g.T.Tagger.data_tag_of in
+    let n = g.T.Tagger.node_tag_of in
     let old = c.args.outside.now in
-    let here : counter_in old.pads.used c.args.line ≡ c.get.result =
-    c.requires.current c.args.line refl ∙ ap (λ (p : ℕ). counter_of p c.args.block.now) (sym c.place_of-place.ensures.place) ∙ sym c.get.ensures.counter in
-    let next = line_next old.pads.used c.args.line c.get.result c.in-Line.counter here (c.of.ensures.line c.in-Line.counter c.in-Line.is) in
-    let bumped_is : c.bump.result ≡ Line c.in-Line.counter =
-    c.bump.ensures.outcome ∙ ap (bumped c.args.limit) (sym c.get.ensures.counter) ∙ sym c.of.ensures.outcome ∙ c.in-Line.is in
-    let memory : c.from_residual-in_err-seal-in-Line.result ≡ Err NoMemory = search rules in
-    subst (λ (r : Result (Unit {0}) MemStop). IsWriteOrSpent (terms_of g.B.Bus.history g.B.Bus.moved g.T.Tagger.data_tag_of g.T.Tagger.node_tag_of c.args.outside.now) c.args.limit c.args.line c.args.bytes.now
-    c.args.outside.now c.args.block.now c.seal.new.self c.bump.new.self r) (sym memory) (
-      line_not_last c.args.limit (counter_in old.pads.used c.args.line) next.0,
-      line_unwritten g.B.Bus.history g.B.Bus.moved g.T.Tagger.data_tag_of g.T.Tagger.node_tag_of c.args.line c.args.bytes.now old c.args.block.now c.reserve.new.self c.seal.new.self c.bump.new.self c.in-Line.counter c.place_of-place.result
-          c.in_ok-reserve-in-Line.ensures.taken c.requires.consistent c.requires.holds_last c.requires.inside (c.requires.started c.args.line) c.requires.current
-          next.1 next.0 c.place_of-place.ensures.place (c.bump.ensures.line c.in-Line.counter bumped_is) (c.bump.ensures.page_stays c.in-Line.counter bumped_is)
-          (λ other apart. c.bump.ensures.others_stay c.in-Line.counter other bumped_is apart)
-          c.seal.ensures.used c.seal.ensures.made c.seal.ensures.undone c.seal.ensures.moves c.seal.ensures.moved c.seal.ensures.honest c.in_err-seal-in-Line.ensures.err,
-    )
+    let counters = c.args.counters.now in
+    let e = c.in_ok-block.ensures in
+    let got : IsReached (terms_of h m d n old) old counters c.get.new.self c.get.new.counters None = record {
+      node = e.step;
+      levels = e.levels;
+      fits = λ going. e.fits c.requires.fits;
+      accounted = e.accounted c.requires.fits;
+      shows = e.shows c.requires.fits;
+    } in
+    let had : HadCounters h m d n old counters c.args.limit c.args.line c.page_of-page.result c.place_of-place.result c.get.new.self c.get.new.counters
+    c.in_ok-block.block c.get-2.result c.of.result = record {
+      reached = got;
+      inside = c.requires.inside;
+      page_is = c.page_of-page.ensures.page;
+      place_is = c.place_of-place.ensures.place;
+      same = e.same c.requires.fits;
+      block_is = e.block c.requires.fits;
+      is_block = e.is_block;
+      counter_is = c.get-2.ensures.counter;
+      foreseen_is = c.of.ensures.outcome;
+    } in
+    spent_early h m d n old counters c.get.new.self c.get.new.counters c.page_of-page.result got c.args.limit c.args.line c.args.bytes.now c.requires.risen
+    (say_same h m d n old counters c.requires.current c.get.new.self c.get.new.counters None got (e.same c.requires.fits)) (inl (e.same c.requires.fits)) c.page_of-page.ensures.page
+    (λ quiet.
+    let here = counter_here h m d n old counters c.requires.current c.args.limit c.args.line c.page_of-page.result c.place_of-place.result c.get.new.self c.get.new.counters
+    c.in_ok-block.block c.get-2.result c.of.result had quiet in
+    let full = c.of.ensures.spent.0 c.in-Spent.is in
+    let was_quiet = quiet_before old.engine.evidence c.get.new.self.engine.evidence e.step.step.evidence quiet in
+    here ∙ is_last c.args.limit c.get-2.result full.0 full.1 (subst (λ (k : Counter). k.page ≤ c.args.limit) here (c.requires.limited was_quiet)))
+    (λ quiet last. (e.same c.requires.fits quiet, e.once))
 
-pub returns-in_err-reserve-in-Page-clause-written : goal.returns-in_err-reserve-in-Page-clause-written
-returns-in_err-reserve-in-Page-clause-written g c =
+pub returns-in_err-reserve : goal.returns-in_err-reserve
+returns-in_err-reserve g c =
+    let h = g.B.Bus.history in
+    let m = g.B.Bus.moved in
+    let d = g.T.Tagger.data_tag_of in
+    let n = g.T.Tagger.node_tag_of in
     let old = c.args.outside.now in
-    let here : counter_in old.pads.used c.args.line ≡ c.get.result =
-    c.requires.current c.args.line refl ∙ ap (λ (p : ℕ). counter_of p c.args.block.now) (sym c.place_of-place.ensures.place) ∙ sym c.get.ensures.counter in
-    let next = page_next c.args.limit old.pads.used c.args.line c.get.result c.in-Page.page here (c.of.ensures.overflow c.in-Page.page c.in-Page.is) in
-    let memory : c.from_residual-in_err-reserve-in-Page.result ≡ Err NoMemory = search rules in
-    refused g.B.Bus.history g.B.Bus.moved g.T.Tagger.data_tag_of g.T.Tagger.node_tag_of c.args.line c.args.bytes.now old c.args.block.now c.args.limit c.reserve-in-Page.new.self
-    (page_not_last c.args.limit (counter_in old.pads.used c.args.line) next.1) (g.met.B.Bus.unmoved old.bus) c.in_err-reserve-in-Page.ensures.refused
-    c.requires.consistent c.requires.holds_last c.from_residual-in_err-reserve-in-Page.result memory
+    let counters = c.args.counters.now in
+    let e = c.in_ok-block.ensures in
+    let got : IsReached (terms_of h m d n old) old counters c.get.new.self c.get.new.counters None = record {
+      node = e.step;
+      levels = e.levels;
+      fits = λ going. e.fits c.requires.fits;
+      accounted = e.accounted c.requires.fits;
+      shows = e.shows c.requires.fits;
+    } in
+    let had : HadCounters h m d n old counters c.args.limit c.args.line c.page_of-page.result c.place_of-place.result c.get.new.self c.get.new.counters
+    c.in_ok-block.block c.get-2.result c.of.result = record {
+      reached = got;
+      inside = c.requires.inside;
+      page_is = c.page_of-page.ensures.page;
+      place_is = c.place_of-place.ensures.place;
+      same = e.same c.requires.fits;
+      block_is = e.block c.requires.fits;
+      is_block = e.is_block;
+      counter_is = c.get-2.ensures.counter;
+      foreseen_is = c.of.ensures.outcome;
+    } in
+    let differs = c.in_err-reserve.ensures.refused in
+    let same_bus : h c.reserve.new.self.bus ≡ h c.get.new.self.bus = ap h differs.bus in
+    let same_accesses = ap (λ (t : BusHistory). t.accesses) same_bus in
+    let stop : stop_of c.from_residual-in_err-reserve.result ≡ Some NoMemory = search rules in
+    record {
+      written = subst (λ (s : Option MemStop). IsWrite (terms_of h m d n old) c.args.limit c.args.line c.args.bytes.now old counters c.reserve.new.self c.get.new.counters s) (sym stop)
+          (stopped_early h m d n old counters c.reserve.new.self c.get.new.counters NoMemory
+          (refused_reached h m d n old counters c.get.new.self c.get.new.counters got (g.met.B.Bus.unmoved c.get.new.self.bus) g.met.B.Bus.moved_on c.reserve.new.self differs)
+          c.args.limit c.args.line c.args.bytes.now c.requires.risen (λ page is. cc)
+          (inl (λ quiet page. ap (λ e. counters_in c.get.new.counters e.made page) differs.engine
+          ∙ e.same c.requires.fits (sym (ap (λ e. e.evidence) differs.engine) ∙ quiet) page)) (λ place is. absurd (cc))
+          (λ quiet last. (
+            λ page. ap (λ e. counters_in c.get.new.counters e.made page) differs.engine
+                ∙ e.same c.requires.fits (sym (ap (λ e. e.evidence) differs.engine) ∙ quiet) page,
+            omega (arith, e.once, same_accesses),
+          )));
+      once = λ quiet short. (
+        omega (arith, e.once, same_accesses),
+        λ other. ap (λ (t : BusHistory). t.reads (line_place other)) same_bus ∙ e.step.lines.reads other,
+      );
+      few = omega (arith, e.once, same_accesses);
+    }
 
-pub returns-in_ok-seal-in-Line-clause-written : goal.returns-in_ok-seal-in-Line-clause-written
-returns-in_ok-seal-in-Line-clause-written g c =
+pub returns-in_err-counter : goal.returns-in_err-counter
+returns-in_err-counter g c =
+    let h = g.B.Bus.history in
+    let m = g.B.Bus.moved in
+    let d = g.T.Tagger.data_tag_of in
+    let n = g.T.Tagger.node_tag_of in
     let old = c.args.outside.now in
-    let here : counter_in old.pads.used c.args.line ≡ c.get.result =
-    c.requires.current c.args.line refl ∙ ap (λ (p : ℕ). counter_of p c.args.block.now) (sym c.place_of-place.ensures.place) ∙ sym c.get.ensures.counter in
-    let next = line_next old.pads.used c.args.line c.get.result c.in-Line.counter here (c.of.ensures.line c.in-Line.counter c.in-Line.is) in
-    let bumped_is : c.bump.result ≡ Line c.in-Line.counter =
-    c.bump.ensures.outcome ∙ ap (bumped c.args.limit) (sym c.get.ensures.counter) ∙ sym c.of.ensures.outcome ∙ c.in-Line.is in (
-      line_not_last c.args.limit (counter_in old.pads.used c.args.line) next.0,
-      line_written g.B.Bus.history g.B.Bus.moved g.T.Tagger.data_tag_of g.T.Tagger.node_tag_of c.args.line c.args.bytes.now old c.args.block.now c.reserve.new.self c.seal.new.self c.bump.new.self c.in-Line.counter c.place_of-place.result
-          c.in_ok-reserve-in-Line.ensures.taken c.requires.consistent c.requires.holds_last c.requires.inside (c.requires.started c.args.line) c.requires.current
-          next.1 next.0 c.place_of-place.ensures.place (c.bump.ensures.line c.in-Line.counter bumped_is) (c.bump.ensures.page_stays c.in-Line.counter bumped_is)
-          (λ other apart. c.bump.ensures.others_stay c.in-Line.counter other bumped_is apart)
-          c.seal.ensures.used c.seal.ensures.made c.seal.ensures.undone c.seal.ensures.moves c.seal.ensures.moved c.seal.ensures.honest c.in_ok-seal-in-Line.ensures.ok,
-    )
+    let counters = c.args.counters.now in
+    let e = c.in_ok-block.ensures in
+    let got : IsReached (terms_of h m d n old) old counters c.get.new.self c.get.new.counters None = record {
+      node = e.step;
+      levels = e.levels;
+      fits = λ going. e.fits c.requires.fits;
+      accounted = e.accounted c.requires.fits;
+      shows = e.shows c.requires.fits;
+    } in
+    let had : HadCounters h m d n old counters c.args.limit c.args.line c.page_of-page.result c.place_of-place.result c.get.new.self c.get.new.counters
+    c.in_ok-block.block c.get-2.result c.of.result = record {
+      reached = got;
+      inside = c.requires.inside;
+      page_is = c.page_of-page.ensures.page;
+      place_is = c.place_of-place.ensures.place;
+      same = e.same c.requires.fits;
+      block_is = e.block c.requires.fits;
+      is_block = e.is_block;
+      counter_is = c.get-2.ensures.counter;
+      foreseen_is = c.of.ensures.outcome;
+    } in
+    let many : ℕ = 64 + bump_messages c.args.levels in
+    let up_fits = roomy_fits h m d n old counters c.get.new.self c.get.new.counters got (g.met.B.Bus.unmoved c.get.new.self.bus) g.met.B.Bus.moved_on
+    c.reserve.new.self many c.in_ok-reserve.ensures.taken in
+    let same_bus : h c.reserve.new.self.bus ≡ h c.get.new.self.bus =
+    ap (λ (o : OutsideView g.row.B.Denot g.row.T.Denot). h o.bus) c.in_ok-reserve.ensures.taken in
+    let same_levels : c.reserve.new.self.engine.levels ≡ old.engine.levels =
+    ap (λ (o : OutsideView g.row.B.Denot g.row.T.Denot). o.engine.levels) c.in_ok-reserve.ensures.taken ∙ e.step.step.levels in
+    let same_accesses = ap (λ (t : BusHistory). t.accesses) same_bus in
+    let why = c.in_err-counter.field-0.0 in
+    let u = c.in_err-counter.ensures in
+    let stop : stop_of c.from_residual-in_err-counter.result ≡ Some why = search rules in
+    let up : IsReached (terms_of h m d n c.reserve.new.self) c.reserve.new.self c.get.new.counters c.bump.new.self c.bump.new.counters (Some why) = record {
+      node = u.step;
+      levels = u.levels;
+      fits = ok_where (Err why) tt u.unspent;
+      accounted = u.accounted up_fits;
+      shows = u.shows up_fits;
+    } in
+    let room = mid_room h m d n old counters c.get.new.self c.get.new.counters got (g.met.B.Bus.unmoved c.get.new.self.bus) g.met.B.Bus.moved_on
+    c.reserve.new.self many c.in_ok-reserve.ensures.taken c.bump.new.self c.bump.new.counters (Some why) up (ap (λ (l : ℕ). 64 + bump_messages l) c.requires.levels) u.pads u.room in
+    record {
+      written = subst (λ (s : Option MemStop). IsWrite (terms_of h m d n old) c.args.limit c.args.line c.args.bytes.now old counters c.bump.new.self c.bump.new.counters s) (sym stop)
+          (stopped_early h m d n old counters c.bump.new.self c.bump.new.counters why
+          (mid_reached h m d n old counters c.get.new.self c.get.new.counters got (g.met.B.Bus.unmoved c.get.new.self.bus) g.met.B.Bus.moved_on
+          c.reserve.new.self many c.in_ok-reserve.ensures.taken c.bump.new.self c.bump.new.counters (Some why) up)
+          c.args.limit c.args.line c.args.bytes.now c.requires.risen (λ page is. u.unspent page (ap (λ (s : MemStop). Err s) is)) (inr (room.0, room.2))
+          (λ place is.
+          let there = u.tampered place (ap (λ (s : MemStop). Err s) is) in (
+            rw (← c.page_of-page.ensures.page, ← same_levels) there.0,
+            mid_lied h m d n old counters c.get.new.self c.get.new.counters got (g.met.B.Bus.unmoved c.get.new.self.bus) g.met.B.Bus.moved_on
+                c.reserve.new.self many c.in_ok-reserve.ensures.taken c.bump.new.self c.bump.new.counters (Some why) up (there.1 up_fits),
+          ))
+          (λ quiet last.
+          let before = quiet_before c.reserve.new.self.engine.evidence c.bump.new.self.engine.evidence u.step.step.evidence quiet in
+          let got_quiet : c.get.new.self.engine.evidence ≡ None =
+          sym (ap (λ (o : OutsideView g.row.B.Denot g.row.T.Denot). o.engine.evidence) c.in_ok-reserve.ensures.taken) ∙ before in
+          absurd (not_last h m d n old counters c.requires.current c.args.limit c.args.line c.page_of-page.result c.place_of-place.result c.get.new.self c.get.new.counters
+          c.in_ok-block.block c.get-2.result c.of.result had got_quiet c.in_default.not-Spent c.of.ensures.spent.1 last)));
+      once = λ quiet short. (
+        omega (arith, e.once, same_accesses, u.once, same_levels),
+        λ other. u.step.lines.reads other ∙ ap (λ (t : BusHistory). t.reads (line_place other)) same_bus ∙ e.step.lines.reads other,
+      );
+      few = omega (arith, e.once, same_accesses, u.once, same_levels);
+    }
 
-pub returns-in_ok-seal-in-Line-clause-once : goal.returns-in_ok-seal-in-Line-clause-once
-returns-in_ok-seal-in-Line-clause-once g c = λ _.
-    line_once g.B.Bus.history c.args.outside.now c.reserve.new.self c.seal.new.self c.args.line
-    (sealed_line (tags_of g.T.Tagger.data_tag_of g.T.Tagger.node_tag_of c.reserve.new.self.engine) c.args.line c.in-Line.counter
-    (cipher_of c.reserve.new.self.pads.key c.args.line c.in-Line.counter c.args.bytes.now))
-    1 c.in_ok-reserve-in-Line.ensures.taken c.in_ok-seal-in-Line.ensures.ok
-
-pub returns-in_ok-seal-in-Line-clause-few : goal.returns-in_ok-seal-in-Line-clause-few
-returns-in_ok-seal-in-Line-clause-few g c =
-    let once = line_once g.B.Bus.history c.args.outside.now c.reserve.new.self c.seal.new.self c.args.line
-    (sealed_line (tags_of g.T.Tagger.data_tag_of g.T.Tagger.node_tag_of c.reserve.new.self.engine) c.args.line c.in-Line.counter
-    (cipher_of c.reserve.new.self.pads.key c.args.line c.in-Line.counter c.args.bytes.now))
-    1 c.in_ok-reserve-in-Line.ensures.taken c.in_ok-seal-in-Line.ensures.ok in
-    omega (arith, once.0)
-
-pub returns-in_ok-reserve-in-Page-clause-written : goal.returns-in_ok-reserve-in-Page-clause-written
-returns-in_ok-reserve-in-Page-clause-written g c =
+pub returns-in-Spent-2 : goal.returns-in-Spent-2
+returns-in-Spent-2 g c =
+    let h = g.B.Bus.history in
+    let m = g.B.Bus.moved in
+    let d = g.T.Tagger.data_tag_of in
+    let n = g.T.Tagger.node_tag_of in
     let old = c.args.outside.now in
-    let here : counter_in old.pads.used c.args.line ≡ c.get.result =
-    c.requires.current c.args.line refl ∙ ap (λ (p : ℕ). counter_of p c.args.block.now) (sym c.place_of-place.ensures.place) ∙ sym c.get.ensures.counter in
-    let next = page_next c.args.limit old.pads.used c.args.line c.get.result c.in-Page.page here (c.of.ensures.overflow c.in-Page.page c.in-Page.is) in
-    let bumped_is : c.bump-in-Page.result ≡ Page c.in-Page.page =
-    c.bump-in-Page.ensures.outcome ∙ ap (bumped c.args.limit) (sym c.get.ensures.counter) ∙ sym c.of.ensures.outcome ∙ c.in-Page.is in
-    let overflow = c.bump-in-Page.ensures.overflow c.in-Page.page bumped_is in
-    page_written g.B.Bus.history g.B.Bus.moved g.T.Tagger.data_tag_of g.T.Tagger.node_tag_of c.args.line c.args.bytes.now old c.args.block.now c.args.limit c.in-Page.page c.reserve-in-Page.new.self c.reencrypt_page.new.self
-    c.bump-in-Page.new.self c.in_ok-reserve-in-Page.ensures.taken next.0 next.1 next.2 overflow.1 c.reencrypt_page.result c.reencrypt_page.ensures.sealed
+    let counters = c.args.counters.now in
+    let e = c.in_ok-block.ensures in
+    let got : IsReached (terms_of h m d n old) old counters c.get.new.self c.get.new.counters None = record {
+      node = e.step;
+      levels = e.levels;
+      fits = λ going. e.fits c.requires.fits;
+      accounted = e.accounted c.requires.fits;
+      shows = e.shows c.requires.fits;
+    } in
+    let had : HadCounters h m d n old counters c.args.limit c.args.line c.page_of-page.result c.place_of-place.result c.get.new.self c.get.new.counters
+    c.in_ok-block.block c.get-2.result c.of.result = record {
+      reached = got;
+      inside = c.requires.inside;
+      page_is = c.page_of-page.ensures.page;
+      place_is = c.place_of-place.ensures.place;
+      same = e.same c.requires.fits;
+      block_is = e.block c.requires.fits;
+      is_block = e.is_block;
+      counter_is = c.get-2.ensures.counter;
+      foreseen_is = c.of.ensures.outcome;
+    } in
+    let many : ℕ = 64 + bump_messages c.args.levels in
+    let up_fits = roomy_fits h m d n old counters c.get.new.self c.get.new.counters got (g.met.B.Bus.unmoved c.get.new.self.bus) g.met.B.Bus.moved_on
+    c.reserve.new.self many c.in_ok-reserve.ensures.taken in
+    let same_bus : h c.reserve.new.self.bus ≡ h c.get.new.self.bus =
+    ap (λ (o : OutsideView g.row.B.Denot g.row.T.Denot). h o.bus) c.in_ok-reserve.ensures.taken in
+    let same_levels : c.reserve.new.self.engine.levels ≡ old.engine.levels =
+    ap (λ (o : OutsideView g.row.B.Denot g.row.T.Denot). o.engine.levels) c.in_ok-reserve.ensures.taken ∙ e.step.step.levels in
+    let same_accesses = ap (λ (t : BusHistory). t.accesses) same_bus in
+    let u = c.in_ok-counter.ensures in
+    let up : CountedUp h m d n old counters c.requires.current c.args.limit c.args.line c.page_of-page.result c.place_of-place.result c.get.new.self c.get.new.counters
+    c.in_ok-block.block c.get-2.result c.of.result had c.reserve.new.self c.bump.new.self c.bump.new.counters many c.in_ok-counter.field-0 = record {
+      taken = c.in_ok-reserve.ensures.taken;
+      reached = record {
+        node = u.step;
+        levels = u.levels;
+        fits = λ going. u.fits up_fits;
+        accounted = u.accounted up_fits;
+        shows = u.shows up_fits;
+      };
+      many = ap (λ (l : ℕ). 64 + bump_messages l) c.requires.levels;
+      pads = u.pads;
+      room = u.room;
+      outcome_is = u.outcome up_fits;
+      now = u.block up_fits;
+      others = u.others;
+    } in
+    record {
+      written = spent_after h m d n old counters c.requires.current c.args.limit c.args.line c.page_of-page.result c.place_of-place.result c.get.new.self c.get.new.counters
+          c.in_ok-block.block c.get-2.result c.of.result had (g.met.B.Bus.unmoved c.get.new.self.bus) g.met.B.Bus.moved_on c.reserve.new.self c.bump.new.self c.bump.new.counters
+          many c.in_ok-counter.field-0 up c.args.bytes.now c.requires.risen c.in-Spent-2.is c.in_default.not-Spent;
+      once = λ quiet short. (
+        omega (arith, e.once, same_accesses, u.once, same_levels),
+        λ other. u.step.lines.reads other ∙ ap (λ (t : BusHistory). t.reads (line_place other)) same_bus ∙ e.step.lines.reads other,
+      );
+      few = omega (arith, e.once, same_accesses, u.once, same_levels);
+    }
+
+pub returns-in_err-seal-in-Line : goal.returns-in_err-seal-in-Line
+returns-in_err-seal-in-Line g c =
+    let h = g.B.Bus.history in
+    let m = g.B.Bus.moved in
+    let d = g.T.Tagger.data_tag_of in
+    let n = g.T.Tagger.node_tag_of in
+    let old = c.args.outside.now in
+    let counters = c.args.counters.now in
+    let e = c.in_ok-block.ensures in
+    let got : IsReached (terms_of h m d n old) old counters c.get.new.self c.get.new.counters None = record {
+      node = e.step;
+      levels = e.levels;
+      fits = λ going. e.fits c.requires.fits;
+      accounted = e.accounted c.requires.fits;
+      shows = e.shows c.requires.fits;
+    } in
+    let had : HadCounters h m d n old counters c.args.limit c.args.line c.page_of-page.result c.place_of-place.result c.get.new.self c.get.new.counters
+    c.in_ok-block.block c.get-2.result c.of.result = record {
+      reached = got;
+      inside = c.requires.inside;
+      page_is = c.page_of-page.ensures.page;
+      place_is = c.place_of-place.ensures.place;
+      same = e.same c.requires.fits;
+      block_is = e.block c.requires.fits;
+      is_block = e.is_block;
+      counter_is = c.get-2.ensures.counter;
+      foreseen_is = c.of.ensures.outcome;
+    } in
+    let many : ℕ = 64 + bump_messages c.args.levels in
+    let up_fits = roomy_fits h m d n old counters c.get.new.self c.get.new.counters got (g.met.B.Bus.unmoved c.get.new.self.bus) g.met.B.Bus.moved_on
+    c.reserve.new.self many c.in_ok-reserve.ensures.taken in
+    let same_bus : h c.reserve.new.self.bus ≡ h c.get.new.self.bus =
+    ap (λ (o : OutsideView g.row.B.Denot g.row.T.Denot). h o.bus) c.in_ok-reserve.ensures.taken in
+    let same_levels : c.reserve.new.self.engine.levels ≡ old.engine.levels =
+    ap (λ (o : OutsideView g.row.B.Denot g.row.T.Denot). o.engine.levels) c.in_ok-reserve.ensures.taken ∙ e.step.step.levels in
+    let same_accesses = ap (λ (t : BusHistory). t.accesses) same_bus in
+    let u = c.in_ok-counter.ensures in
+    let up : CountedUp h m d n old counters c.requires.current c.args.limit c.args.line c.page_of-page.result c.place_of-place.result c.get.new.self c.get.new.counters
+    c.in_ok-block.block c.get-2.result c.of.result had c.reserve.new.self c.bump.new.self c.bump.new.counters many c.in_ok-counter.field-0 = record {
+      taken = c.in_ok-reserve.ensures.taken;
+      reached = record {
+        node = u.step;
+        levels = u.levels;
+        fits = λ going. u.fits up_fits;
+        accounted = u.accounted up_fits;
+        shows = u.shows up_fits;
+      };
+      many = ap (λ (l : ℕ). 64 + bump_messages l) c.requires.levels;
+      pads = u.pads;
+      room = u.room;
+      outcome_is = u.outcome up_fits;
+      now = u.block up_fits;
+      others = u.others;
+    } in
+    let stop : stop_of c.from_residual-in_err-seal-in-Line.result ≡ Some NoMemory = search rules in
+    let s = c.seal.ensures in
+    let same_last : h c.seal.new.self.bus ≡ h c.bump.new.self.bus = c.in_err-seal-in-Line.ensures.err in
+    let last_accesses = ap (λ (t : BusHistory). t.accesses) same_last in
+    record {
+      written = subst (λ (s : Option MemStop). IsWrite (terms_of h m d n old) c.args.limit c.args.line c.args.bytes.now old counters c.seal.new.self c.bump.new.counters s) (sym stop)
+          (line_unwritten h m d n old counters c.requires.current c.args.limit c.args.line c.page_of-page.result c.place_of-place.result c.get.new.self c.get.new.counters
+          c.in_ok-block.block c.get-2.result c.of.result had (g.met.B.Bus.unmoved c.get.new.self.bus) g.met.B.Bus.moved_on c.reserve.new.self c.bump.new.self c.bump.new.counters
+          many c.in_ok-counter.field-0 up c.requires.started e.read c.args.bytes.now c.in-Line.counter c.in-Line.is
+          (u.is_line c.in-Line.counter (ap (λ o. Ok o) c.in-Line.is)) c.of.ensures.line c.seal.new.self s.used s.made s.undone s.moves s.moved s.honest
+          c.requires.risen same_last);
+      once = λ quiet short. (
+        omega (arith, e.once, same_accesses, u.once, same_levels, last_accesses),
+        λ other. ap (λ (t : BusHistory). t.reads (line_place other)) same_last ∙ u.step.lines.reads other
+            ∙ ap (λ (t : BusHistory). t.reads (line_place other)) same_bus ∙ e.step.lines.reads other,
+      );
+      few = omega (arith, e.once, same_accesses, u.once, same_levels, last_accesses);
+    }
+
+pub returns-in_ok-seal-in-Line : goal.returns-in_ok-seal-in-Line
+returns-in_ok-seal-in-Line g c =
+    let h = g.B.Bus.history in
+    let m = g.B.Bus.moved in
+    let d = g.T.Tagger.data_tag_of in
+    let n = g.T.Tagger.node_tag_of in
+    let old = c.args.outside.now in
+    let counters = c.args.counters.now in
+    let e = c.in_ok-block.ensures in
+    let got : IsReached (terms_of h m d n old) old counters c.get.new.self c.get.new.counters None = record {
+      node = e.step;
+      levels = e.levels;
+      fits = λ going. e.fits c.requires.fits;
+      accounted = e.accounted c.requires.fits;
+      shows = e.shows c.requires.fits;
+    } in
+    let had : HadCounters h m d n old counters c.args.limit c.args.line c.page_of-page.result c.place_of-place.result c.get.new.self c.get.new.counters
+    c.in_ok-block.block c.get-2.result c.of.result = record {
+      reached = got;
+      inside = c.requires.inside;
+      page_is = c.page_of-page.ensures.page;
+      place_is = c.place_of-place.ensures.place;
+      same = e.same c.requires.fits;
+      block_is = e.block c.requires.fits;
+      is_block = e.is_block;
+      counter_is = c.get-2.ensures.counter;
+      foreseen_is = c.of.ensures.outcome;
+    } in
+    let many : ℕ = 64 + bump_messages c.args.levels in
+    let up_fits = roomy_fits h m d n old counters c.get.new.self c.get.new.counters got (g.met.B.Bus.unmoved c.get.new.self.bus) g.met.B.Bus.moved_on
+    c.reserve.new.self many c.in_ok-reserve.ensures.taken in
+    let same_bus : h c.reserve.new.self.bus ≡ h c.get.new.self.bus =
+    ap (λ (o : OutsideView g.row.B.Denot g.row.T.Denot). h o.bus) c.in_ok-reserve.ensures.taken in
+    let same_levels : c.reserve.new.self.engine.levels ≡ old.engine.levels =
+    ap (λ (o : OutsideView g.row.B.Denot g.row.T.Denot). o.engine.levels) c.in_ok-reserve.ensures.taken ∙ e.step.step.levels in
+    let same_accesses = ap (λ (t : BusHistory). t.accesses) same_bus in
+    let u = c.in_ok-counter.ensures in
+    let up : CountedUp h m d n old counters c.requires.current c.args.limit c.args.line c.page_of-page.result c.place_of-place.result c.get.new.self c.get.new.counters
+    c.in_ok-block.block c.get-2.result c.of.result had c.reserve.new.self c.bump.new.self c.bump.new.counters many c.in_ok-counter.field-0 = record {
+      taken = c.in_ok-reserve.ensures.taken;
+      reached = record {
+        node = u.step;
+        levels = u.levels;
+        fits = λ going. u.fits up_fits;
+        accounted = u.accounted up_fits;
+        shows = u.shows up_fits;
+      };
+      many = ap (λ (l : ℕ). 64 + bump_messages l) c.requires.levels;
+      pads = u.pads;
+      room = u.room;
+      outcome_is = u.outcome up_fits;
+      now = u.block up_fits;
+      others = u.others;
+    } in
+    let s = c.seal.ensures in
+    let wrote = c.in_ok-seal-in-Line.ensures.ok in
+    let put = sealed_line (tags_of d n c.bump.new.self.engine) c.args.line c.in-Line.counter
+    (cipher_of c.bump.new.self.pads.key c.args.line c.in-Line.counter c.args.bytes.now) in
+    let one = wrote_once (line_place c.args.line) put (h c.bump.new.self.bus) (h c.seal.new.self.bus) wrote in
+    let last_accesses = one_access c.args.line put (h c.bump.new.self.bus) (h c.seal.new.self.bus) wrote in
+    record {
+      written = line_written h m d n old counters c.requires.current c.args.limit c.args.line c.page_of-page.result c.place_of-place.result c.get.new.self c.get.new.counters
+          c.in_ok-block.block c.get-2.result c.of.result had (g.met.B.Bus.unmoved c.get.new.self.bus) g.met.B.Bus.moved_on c.reserve.new.self c.bump.new.self c.bump.new.counters
+          many c.in_ok-counter.field-0 up c.requires.started e.read c.args.bytes.now c.in-Line.counter c.in-Line.is
+          (u.is_line c.in-Line.counter (ap (λ o. Ok o) c.in-Line.is)) c.of.ensures.line c.seal.new.self s.used s.made s.undone s.moves s.moved s.honest
+          c.requires.risen wrote;
+      once = λ quiet short. (
+        omega (arith, e.once, same_accesses, u.once, same_levels, last_accesses),
+        λ other. ap (λ (f : Place → ℕ). f (line_place other)) one.reads ∙ u.step.lines.reads other
+            ∙ ap (λ (t : BusHistory). t.reads (line_place other)) same_bus ∙ e.step.lines.reads other,
+      );
+      few = omega (arith, e.once, same_accesses, u.once, same_levels, last_accesses);
+    }
+
+pub reencrypt_page-requires : goal.reencrypt_page-requires
+reencrypt_page-requires g c =
+    let h = g.B.Bus.history in
+    let m = g.B.Bus.moved in
+    let d = g.T.Tagger.data_tag_of in
+    let n = g.T.Tagger.node_tag_of in
+    let old = c.args.outside.now in
+    let counters = c.args.counters.now in
+    let e = c.in_ok-block.ensures in
+    let got : IsReached (terms_of h m d n old) old counters c.get.new.self c.get.new.counters None = record {
+      node = e.step;
+      levels = e.levels;
+      fits = λ going. e.fits c.requires.fits;
+      accounted = e.accounted c.requires.fits;
+      shows = e.shows c.requires.fits;
+    } in
+    let had : HadCounters h m d n old counters c.args.limit c.args.line c.page_of-page.result c.place_of-place.result c.get.new.self c.get.new.counters
+    c.in_ok-block.block c.get-2.result c.of.result = record {
+      reached = got;
+      inside = c.requires.inside;
+      page_is = c.page_of-page.ensures.page;
+      place_is = c.place_of-place.ensures.place;
+      same = e.same c.requires.fits;
+      block_is = e.block c.requires.fits;
+      is_block = e.is_block;
+      counter_is = c.get-2.ensures.counter;
+      foreseen_is = c.of.ensures.outcome;
+    } in
+    let many : ℕ = 64 + bump_messages c.args.levels in
+    let up_fits = roomy_fits h m d n old counters c.get.new.self c.get.new.counters got (g.met.B.Bus.unmoved c.get.new.self.bus) g.met.B.Bus.moved_on
+    c.reserve.new.self many c.in_ok-reserve.ensures.taken in
+    let same_bus : h c.reserve.new.self.bus ≡ h c.get.new.self.bus =
+    ap (λ (o : OutsideView g.row.B.Denot g.row.T.Denot). h o.bus) c.in_ok-reserve.ensures.taken in
+    let same_levels : c.reserve.new.self.engine.levels ≡ old.engine.levels =
+    ap (λ (o : OutsideView g.row.B.Denot g.row.T.Denot). o.engine.levels) c.in_ok-reserve.ensures.taken ∙ e.step.step.levels in
+    let same_accesses = ap (λ (t : BusHistory). t.accesses) same_bus in
+    let u = c.in_ok-counter.ensures in
+    let up : CountedUp h m d n old counters c.requires.current c.args.limit c.args.line c.page_of-page.result c.place_of-place.result c.get.new.self c.get.new.counters
+    c.in_ok-block.block c.get-2.result c.of.result had c.reserve.new.self c.bump.new.self c.bump.new.counters many c.in_ok-counter.field-0 = record {
+      taken = c.in_ok-reserve.ensures.taken;
+      reached = record {
+        node = u.step;
+        levels = u.levels;
+        fits = λ going. u.fits up_fits;
+        accounted = u.accounted up_fits;
+        shows = u.shows up_fits;
+      };
+      many = ap (λ (l : ℕ). 64 + bump_messages l) c.requires.levels;
+      pads = u.pads;
+      room = u.room;
+      outcome_is = u.outcome up_fits;
+      now = u.block up_fits;
+      others = u.others;
+    } in
+    let rooms = mid_rooms h m d n old counters c.requires.current c.args.limit c.args.line c.page_of-page.result c.place_of-place.result c.get.new.self c.get.new.counters
+    c.in_ok-block.block c.get-2.result c.of.result had (g.met.B.Bus.unmoved c.get.new.self.bus) g.met.B.Bus.moved_on c.reserve.new.self c.bump.new.self c.bump.new.counters
+    many c.in_ok-counter.field-0 up in
+    record {
+      inside = mid_inside h m d n old counters c.requires.current c.args.limit c.args.line c.page_of-page.result c.place_of-place.result c.get.new.self c.get.new.counters
+          c.in_ok-block.block c.get-2.result c.of.result had (g.met.B.Bus.unmoved c.get.new.self.bus) g.met.B.Bus.moved_on c.reserve.new.self c.bump.new.self c.bump.new.counters
+          many c.in_ok-counter.field-0 up;
+      consistent = mid_kept h m d n old counters c.requires.current c.args.limit c.args.line c.page_of-page.result c.place_of-place.result c.get.new.self c.get.new.counters
+          c.in_ok-block.block c.get-2.result c.of.result had (g.met.B.Bus.unmoved c.get.new.self.bus) g.met.B.Bus.moved_on c.reserve.new.self c.bump.new.self c.bump.new.counters
+          many c.in_ok-counter.field-0 up;
+      holds_last = mid_last h m d n old counters c.requires.current c.args.limit c.args.line c.page_of-page.result c.place_of-place.result c.get.new.self c.get.new.counters
+          c.in_ok-block.block c.get-2.result c.of.result had (g.met.B.Bus.unmoved c.get.new.self.bus) g.met.B.Bus.moved_on c.reserve.new.self c.bump.new.self c.bump.new.counters
+          many c.in_ok-counter.field-0 up;
+      risen = mid_rose h m d n old counters c.requires.current c.args.limit c.args.line c.page_of-page.result c.place_of-place.result c.get.new.self c.get.new.counters
+          c.in_ok-block.block c.get-2.result c.of.result had (g.met.B.Bus.unmoved c.get.new.self.bus) g.met.B.Bus.moved_on c.reserve.new.self c.bump.new.self c.bump.new.counters
+          many c.in_ok-counter.field-0 up c.requires.risen;
+      counters = mid_counters h m d n old counters c.requires.current c.args.limit c.args.line c.page_of-page.result c.place_of-place.result c.get.new.self c.get.new.counters
+          c.in_ok-block.block c.get-2.result c.of.result had (g.met.B.Bus.unmoved c.get.new.self.bus) g.met.B.Bus.moved_on c.reserve.new.self c.bump.new.self c.bump.new.counters
+          many c.in_ok-counter.field-0 up c.requires.started;
+      later = mid_later h m d n old counters c.requires.current c.args.limit c.args.line c.page_of-page.result c.place_of-place.result c.get.new.self c.get.new.counters
+          c.in_ok-block.block c.get-2.result c.of.result had (g.met.B.Bus.unmoved c.get.new.self.bus) g.met.B.Bus.moved_on c.reserve.new.self c.bump.new.self c.bump.new.counters
+          many c.in_ok-counter.field-0 up c.in-Page.raised c.in-Page.is c.of.ensures.overflow;
+      room = rooms.1;
+      pads_room = rooms.0;
+    }
+
+pub returns-in-Page : goal.returns-in-Page
+returns-in-Page g c =
+    let h = g.B.Bus.history in
+    let m = g.B.Bus.moved in
+    let d = g.T.Tagger.data_tag_of in
+    let n = g.T.Tagger.node_tag_of in
+    let old = c.args.outside.now in
+    let counters = c.args.counters.now in
+    let e = c.in_ok-block.ensures in
+    let got : IsReached (terms_of h m d n old) old counters c.get.new.self c.get.new.counters None = record {
+      node = e.step;
+      levels = e.levels;
+      fits = λ going. e.fits c.requires.fits;
+      accounted = e.accounted c.requires.fits;
+      shows = e.shows c.requires.fits;
+    } in
+    let had : HadCounters h m d n old counters c.args.limit c.args.line c.page_of-page.result c.place_of-place.result c.get.new.self c.get.new.counters
+    c.in_ok-block.block c.get-2.result c.of.result = record {
+      reached = got;
+      inside = c.requires.inside;
+      page_is = c.page_of-page.ensures.page;
+      place_is = c.place_of-place.ensures.place;
+      same = e.same c.requires.fits;
+      block_is = e.block c.requires.fits;
+      is_block = e.is_block;
+      counter_is = c.get-2.ensures.counter;
+      foreseen_is = c.of.ensures.outcome;
+    } in
+    let many : ℕ = 64 + bump_messages c.args.levels in
+    let up_fits = roomy_fits h m d n old counters c.get.new.self c.get.new.counters got (g.met.B.Bus.unmoved c.get.new.self.bus) g.met.B.Bus.moved_on
+    c.reserve.new.self many c.in_ok-reserve.ensures.taken in
+    let same_bus : h c.reserve.new.self.bus ≡ h c.get.new.self.bus =
+    ap (λ (o : OutsideView g.row.B.Denot g.row.T.Denot). h o.bus) c.in_ok-reserve.ensures.taken in
+    let same_levels : c.reserve.new.self.engine.levels ≡ old.engine.levels =
+    ap (λ (o : OutsideView g.row.B.Denot g.row.T.Denot). o.engine.levels) c.in_ok-reserve.ensures.taken ∙ e.step.step.levels in
+    let same_accesses = ap (λ (t : BusHistory). t.accesses) same_bus in
+    let u = c.in_ok-counter.ensures in
+    let up : CountedUp h m d n old counters c.requires.current c.args.limit c.args.line c.page_of-page.result c.place_of-place.result c.get.new.self c.get.new.counters
+    c.in_ok-block.block c.get-2.result c.of.result had c.reserve.new.self c.bump.new.self c.bump.new.counters many c.in_ok-counter.field-0 = record {
+      taken = c.in_ok-reserve.ensures.taken;
+      reached = record {
+        node = u.step;
+        levels = u.levels;
+        fits = λ going. u.fits up_fits;
+        accounted = u.accounted up_fits;
+        shows = u.shows up_fits;
+      };
+      many = ap (λ (l : ℕ). 64 + bump_messages l) c.requires.levels;
+      pads = u.pads;
+      room = u.room;
+      outcome_is = u.outcome up_fits;
+      now = u.block up_fits;
+      others = u.others;
+    } in
+    let p = c.reencrypt_page.ensures in
+    record {
+      written = page_written h m d n old counters c.requires.current c.args.limit c.args.line c.page_of-page.result c.place_of-place.result c.get.new.self c.get.new.counters
+          c.in_ok-block.block c.get-2.result c.of.result had (g.met.B.Bus.unmoved c.get.new.self.bus) g.met.B.Bus.moved_on c.reserve.new.self c.bump.new.self c.bump.new.counters
+          many c.in_ok-counter.field-0 up c.requires.started e.read c.args.bytes.now c.in-Page.raised c.in-Page.is c.of.ensures.overflow
+          c.reencrypt_page.new.self (stop_of c.reencrypt_page.result) p.sealed;
+      once = λ quiet short. absurd (short (page_overflows h m d n old counters c.requires.current c.args.limit c.args.line c.page_of-page.result c.place_of-place.result c.get.new.self c.get.new.counters
+          c.in_ok-block.block c.get-2.result c.of.result had (g.met.B.Bus.unmoved c.get.new.self.bus) g.met.B.Bus.moved_on c.reserve.new.self c.bump.new.self c.bump.new.counters
+          many c.in_ok-counter.field-0 up c.requires.started e.read c.args.bytes.now c.in-Page.raised c.in-Page.is c.of.ensures.overflow
+          c.reencrypt_page.new.self (stop_of c.reencrypt_page.result) p.sealed quiet));
+      few = omega (arith, e.once, same_accesses, u.once, same_levels, p.once);
+    }

@@ -6,14 +6,14 @@ use Rattle.tag_engine.specs.TagEngine.{tags_of}
 use Rattle.pad_stream.specs.Pad.{cipher_of}
 use Rattle.checked_bus.specs.Steps.{IsAccounted, IsCurrent}
 use Rattle.page_reencrypt.specs.Contents.{line_bytes, never_written}
-use Rattle.page_reencrypt.proofs.LineReads.{current, fresh_bytes, written_bytes}
+use Rattle.page_reencrypt.proofs.LineReads.{current, fresh_bytes, quiet_before, read_found, written_bytes}
 use Rattle.page_reencrypt.proofs.outside.Outside.read.Goals as goal
 
 pub returns-then-eq-clause-value : goal.returns-then-eq-clause-value
-returns-then-eq-clause-value g c = λ quiet.
+returns-then-eq-clause-value g c = λ was_quiet.
     let old = c.args.self.now in
     fresh_bytes (tags_of g.T.Tagger.data_tag_of g.T.Tagger.node_tag_of old.engine) old.engine.levels (g.B.Bus.history old.bus)
-    old.engine.made old.pads.used c.args.line c.args.counter c.requires.consistent c.requires.inside c.requires.counter
+    old.engine.made old.pads.used c.args.line c.args.counter c.requires.consistent (c.requires.risen was_quiet) c.requires.inside (c.requires.counter was_quiet)
     old.pads.key ((counter_eq-Decides c.args.counter never_written).0 (sym c.eq.ensures ∙ c.if-eq.true))
 
 pub returns-in_err-cipher-clause-accounted : goal.returns-in_err-cipher-clause-accounted
@@ -22,10 +22,12 @@ returns-in_err-cipher-clause-accounted g c = λ was.
     let outside = c.self.inside in
     let tags = tags_of g.T.Tagger.data_tag_of g.T.Tagger.node_tag_of outside.tags in
     let some : c.args.counter ≢ never_written = not_from_Decides _ (counter_eq-Decides c.args.counter never_written) (sym c.eq.ensures ∙ c.if-eq.false) in
-    let is : IsCurrent tags outside.pads.used outside.tags.made (g.B.Bus.history outside.bus).written c.args.line c.args.counter =
+    let is : outside.tags.evidence ≡ None → IsCurrent tags outside.pads.used outside.tags.made (g.B.Bus.history outside.bus).written c.args.line c.args.counter =
+    λ still.
+    let was_quiet : old.engine.evidence ≡ None = rw (← c.self.view_is) still in
     rw (← c.self.view_is) at
     (current (tags_of g.T.Tagger.data_tag_of g.T.Tagger.node_tag_of old.engine) old.engine.levels (g.B.Bus.history old.bus)
-    old.engine.made old.pads.used c.args.line c.args.counter c.requires.consistent c.requires.inside c.requires.counter some c.requires.holds_last) in
+    old.engine.made old.pads.used c.args.line c.args.counter c.requires.consistent (c.requires.risen was_quiet) c.requires.inside (c.requires.counter was_quiet) some c.requires.holds_last) in
     let before : IsAccounted tags outside.pads.used outside.tags.made (g.B.Bus.history outside.bus) None outside.tags.evidence = rw (← c.self.view_is) at was in
     let same : c.from_residual.result ≡ c.read_line-cipher.result = search rules in
     rw (← c.self.view_is, same) (c.read_line-cipher.ensures.honest outside.pads.used is before)
@@ -36,24 +38,28 @@ returns-in_err-cipher-clause-tampered g c = λ place stops.
     let outside = c.self.inside in
     let tags = tags_of g.T.Tagger.data_tag_of g.T.Tagger.node_tag_of outside.tags in
     let some : c.args.counter ≢ never_written = not_from_Decides _ (counter_eq-Decides c.args.counter never_written) (sym c.eq.ensures ∙ c.if-eq.false) in
-    let is : IsCurrent tags outside.pads.used outside.tags.made (g.B.Bus.history outside.bus).written c.args.line c.args.counter =
+    let is : outside.tags.evidence ≡ None → IsCurrent tags outside.pads.used outside.tags.made (g.B.Bus.history outside.bus).written c.args.line c.args.counter =
+    λ still.
+    let was_quiet : old.engine.evidence ≡ None = rw (← c.self.view_is) still in
     rw (← c.self.view_is) at
     (current (tags_of g.T.Tagger.data_tag_of g.T.Tagger.node_tag_of old.engine) old.engine.levels (g.B.Bus.history old.bus)
-    old.engine.made old.pads.used c.args.line c.args.counter c.requires.consistent c.requires.inside c.requires.counter some c.requires.holds_last) in
+    old.engine.made old.pads.used c.args.line c.args.counter c.requires.consistent (c.requires.risen was_quiet) c.requires.inside (c.requires.counter was_quiet) some c.requires.holds_last) in
     let refused : c.read_line-cipher.result ≡ Err (Tampered place) = search rules in
     let tampered = c.read_line-cipher.ensures.tampered place refused in
-    rw (← c.self.view_is) (tampered.0, tampered.1 outside.pads.used is)
+    (tampered.0, λ quiet. rw (← c.self.view_is) (tampered.1 outside.pads.used (is (rw (← c.self.view_is) at quiet))))
 
 pub returns-clause-value : goal.returns-clause-value
 returns-clause-value g c = λ quiet.
     let old = c.args.self.now in
+    let was_quiet : old.engine.evidence ≡ None =
+    rw (← c.self.view_is) (quiet_before c.self.inside.tags.evidence c.read_line-cipher.new.tags.evidence c.read_line-cipher.ensures.moves.evidence quiet) in
     let outside = c.self.inside in
     let some : c.args.counter ≢ never_written = not_from_Decides _ (counter_eq-Decides c.args.counter never_written) (sym c.eq.ensures ∙ c.if-eq.false) in
     let plain = cipher_of outside.pads.key c.args.line c.args.counter c.in_ok-cipher.field-0 in
     let written : plain ≡ line_bytes outside.pads.key outside.tags.made c.args.line =
     rw (← c.self.view_is) at
     (written_bytes (tags_of g.T.Tagger.data_tag_of g.T.Tagger.node_tag_of old.engine) old.engine.levels (g.B.Bus.history old.bus)
-    old.engine.made old.pads.used c.args.line c.args.counter c.requires.consistent c.requires.inside c.requires.counter some
+    old.engine.made old.pads.used c.args.line c.args.counter c.requires.consistent (c.requires.risen was_quiet) c.requires.inside (c.requires.counter was_quiet) some
     old.pads.key c.in_ok-cipher.field-0 (rw (← c.self.view_is) (c.in_ok-cipher.ensures.known.1 quiet))) in
     rw (← c.self.view_is) (◌∙◌ {b = plain} c.decrypt.ensures.plain written)
 
@@ -63,9 +69,30 @@ returns-clause-accounted g c = λ was.
     let outside = c.self.inside in
     let tags = tags_of g.T.Tagger.data_tag_of g.T.Tagger.node_tag_of outside.tags in
     let some : c.args.counter ≢ never_written = not_from_Decides _ (counter_eq-Decides c.args.counter never_written) (sym c.eq.ensures ∙ c.if-eq.false) in
+    let is : outside.tags.evidence ≡ None → IsCurrent tags outside.pads.used outside.tags.made (g.B.Bus.history outside.bus).written c.args.line c.args.counter =
+    λ still.
+    let was_quiet : old.engine.evidence ≡ None = rw (← c.self.view_is) still in
+    rw (← c.self.view_is) at
+    (current (tags_of g.T.Tagger.data_tag_of g.T.Tagger.node_tag_of old.engine) old.engine.levels (g.B.Bus.history old.bus)
+    old.engine.made old.pads.used c.args.line c.args.counter c.requires.consistent (c.requires.risen was_quiet) c.requires.inside (c.requires.counter was_quiet) some c.requires.holds_last) in
+    let before : IsAccounted tags outside.pads.used outside.tags.made (g.B.Bus.history outside.bus) None outside.tags.evidence = rw (← c.self.view_is) at was in
+    rw (← c.self.view_is) (c.in_ok-cipher.ensures.honest outside.pads.used is before)
+
+pub returns-clause-shows : goal.returns-clause-shows
+returns-clause-shows g c = λ quiet.
+    let old = c.args.self.now in
+    let outside = c.self.inside in
+    let tags = tags_of g.T.Tagger.data_tag_of g.T.Tagger.node_tag_of outside.tags in
+    let some : c.args.counter ≢ never_written = not_from_Decides _ (counter_eq-Decides c.args.counter never_written) (sym c.eq.ensures ∙ c.if-eq.false) in
     let is : IsCurrent tags outside.pads.used outside.tags.made (g.B.Bus.history outside.bus).written c.args.line c.args.counter =
     rw (← c.self.view_is) at
     (current (tags_of g.T.Tagger.data_tag_of g.T.Tagger.node_tag_of old.engine) old.engine.levels (g.B.Bus.history old.bus)
-    old.engine.made old.pads.used c.args.line c.args.counter c.requires.consistent c.requires.inside c.requires.counter some c.requires.holds_last) in
-    let before : IsAccounted tags outside.pads.used outside.tags.made (g.B.Bus.history outside.bus) None outside.tags.evidence = rw (← c.self.view_is) at was in
-    rw (← c.self.view_is) (c.in_ok-cipher.ensures.honest outside.pads.used is before)
+    old.engine.made old.pads.used c.args.line c.args.counter c.requires.consistent (c.requires.risen quiet) c.requires.inside (c.requires.counter quiet) some c.requires.holds_last) in
+    rw (← c.self.view_is) (c.read_line-cipher.ensures.shown outside.pads.used is (rw (← c.self.view_is) at quiet))
+
+pub returns-clause-found : goal.returns-clause-found
+returns-clause-found g c = λ evidence quiet shown.
+    let outside = c.self.inside in
+    read_found (tags_of g.T.Tagger.data_tag_of g.T.Tagger.node_tag_of outside.tags) c.args.line c.args.counter (g.B.Bus.history outside.bus)
+    (g.B.Bus.history c.read_line-cipher.new.bus) outside.tags c.read_line-cipher.new.tags c.read_line-cipher.result c.read_line-cipher.ensures.read
+    evidence (rw (← c.self.view_is) at quiet) shown

@@ -6,6 +6,7 @@ use Rattle.pad_stream.specs.Pad.{cipher_of}
 use Rattle.checked_bus.specs.SealedLine.{sealed_line}
 use Rattle.checked_bus.specs.Steps.{stop_of}
 use Rattle.page_reencrypt.specs.Outside.{AreSealedInOrder, LineWrite, OutsideView, terms_of}
+use Rattle.page_reencrypt.proofs.LineReads.{quiet_before}
 use Rattle.page_reencrypt.proofs.Reencrypting.{IsReady, line_sealed, line_unwritten, one_access, read_sealed, read_stopped, ready_own, ready_read}
 use Rattle.page_reencrypt.proofs.outside.Outside.reencrypt_line.Goals.{then-at-line, else-at-line+in_ok-plain}
 use Rattle.page_reencrypt.proofs.outside.Outside.reencrypt_line.Goals as goal
@@ -18,71 +19,71 @@ returns-in_err-plain-clause-sealed g c =
     let stop : stop_of c.from_residual.result ≡ Some why = search rules in
     subst (λ (s : Option MemStop). AreSealedInOrder (terms_of g.B.Bus.history g.B.Bus.moved g.T.Tagger.data_tag_of g.T.Tagger.node_tag_of c.args.self.now)
     write c.args.self.now (c.args.at ∷ []) c.read.new.self s) (sym stop)
-    (read_stopped g.B.Bus.history g.B.Bus.moved g.T.Tagger.data_tag_of g.T.Tagger.node_tag_of write c.args.self.now c.requires.consistent c.requires.holds_last
+    (read_stopped g.B.Bus.history g.B.Bus.moved g.T.Tagger.data_tag_of g.T.Tagger.node_tag_of write c.args.self.now c.requires.consistent c.requires.risen c.requires.holds_last
     c.args.at c.read.new.self why
-    (read_sealed g.B.Bus.history g.B.Bus.moved g.T.Tagger.data_tag_of g.T.Tagger.node_tag_of write c.args.self.now c.requires.consistent c.requires.holds_last
+    (read_sealed g.B.Bus.history g.B.Bus.moved g.T.Tagger.data_tag_of g.T.Tagger.node_tag_of write c.args.self.now c.requires.consistent c.requires.risen c.requires.holds_last
     c.args.at c.read.new.self (Err why) c.if-at-line.false c.requires.of_page
-    read.moved read.moves read.unmade read.room read.pads read.unwritten read.counted read.accounted read.tampered read.unspent)
+    read.moved read.moves read.unmade read.room read.pads read.unwritten read.counted read.accounted read.shows read.tampered read.unspent)
     (λ place is. (read.tampered place (ap (λ (s : MemStop). Err s) is)).0))
 
 pub returns-in_err-seal-clause-sealed : goal.returns-in_err-seal-clause-sealed
 returns-in_err-seal-clause-sealed g c =
     let write : LineWrite = record { line = c.args.line; bytes = c.args.bytes.now; counter = c.args.counter } in
     let stop : stop_of c.from_residual-in_err-seal.result ≡ Some NoMemory = search rules in
-    let ready : IsReady g.B.Bus.history g.B.Bus.moved g.T.Tagger.data_tag_of g.T.Tagger.node_tag_of write c.args.self.now c.requires.consistent c.requires.holds_last
+    let ready : IsReady g.B.Bus.history g.B.Bus.moved g.T.Tagger.data_tag_of g.T.Tagger.node_tag_of write c.args.self.now c.requires.consistent c.requires.risen c.requires.holds_last
     c.args.at c.if-at-line.plain c.if-at-line.self =
     elim c.if-at-line.branch [
       | then-at-line w ↦
           subst (λ (o : OutsideView g.row.B.Denot g.row.T.Denot).
-          IsReady g.B.Bus.history g.B.Bus.moved g.T.Tagger.data_tag_of g.T.Tagger.node_tag_of write c.args.self.now c.requires.consistent c.requires.holds_last
+          IsReady g.B.Bus.history g.B.Bus.moved g.T.Tagger.data_tag_of g.T.Tagger.node_tag_of write c.args.self.now c.requires.consistent c.requires.risen c.requires.holds_last
           c.args.at c.if-at-line.plain o) (sym w.self-is)
-          (ready_own g.B.Bus.history g.B.Bus.moved g.T.Tagger.data_tag_of g.T.Tagger.node_tag_of write c.args.self.now c.requires.consistent c.requires.holds_last
+          (ready_own g.B.Bus.history g.B.Bus.moved g.T.Tagger.data_tag_of g.T.Tagger.node_tag_of write c.args.self.now c.requires.consistent c.requires.risen c.requires.holds_last
           c.args.at c.if-at-line.plain (g.met.B.Bus.unmoved c.args.self.now.bus) w.if-at-line.true w.plain-is)
       | else-at-line+in_ok-plain w ↦
           let read = w.in_ok-plain.ensures in
           subst (λ (o : OutsideView g.row.B.Denot g.row.T.Denot).
-          IsReady g.B.Bus.history g.B.Bus.moved g.T.Tagger.data_tag_of g.T.Tagger.node_tag_of write c.args.self.now c.requires.consistent c.requires.holds_last
+          IsReady g.B.Bus.history g.B.Bus.moved g.T.Tagger.data_tag_of g.T.Tagger.node_tag_of write c.args.self.now c.requires.consistent c.requires.risen c.requires.holds_last
           c.args.at c.if-at-line.plain o) (sym w.self-is)
-          (ready_read g.B.Bus.history g.B.Bus.moved g.T.Tagger.data_tag_of g.T.Tagger.node_tag_of write c.args.self.now c.requires.consistent c.requires.holds_last
+          (ready_read g.B.Bus.history g.B.Bus.moved g.T.Tagger.data_tag_of g.T.Tagger.node_tag_of write c.args.self.now c.requires.consistent c.requires.risen c.requires.holds_last
           c.args.at c.if-at-line.plain w.in_ok-plain.plain w.read.new.self
-          (read_sealed g.B.Bus.history g.B.Bus.moved g.T.Tagger.data_tag_of g.T.Tagger.node_tag_of write c.args.self.now c.requires.consistent c.requires.holds_last
+          (read_sealed g.B.Bus.history g.B.Bus.moved g.T.Tagger.data_tag_of g.T.Tagger.node_tag_of write c.args.self.now c.requires.consistent c.requires.risen c.requires.holds_last
           c.args.at w.read.new.self (Ok w.in_ok-plain.plain) w.if-at-line.false c.requires.of_page
-          read.moved read.moves read.unmade read.room read.pads read.unwritten read.counted read.accounted read.tampered read.unspent)
-          read.unmade read.pads read.once w.if-at-line.false w.plain-is read.value (read.rose (λ is. cc)))
+          read.moved read.moves read.unmade read.room read.pads read.unwritten read.counted read.accounted read.shows read.tampered read.unspent)
+          read.unmade read.pads read.once w.if-at-line.false w.plain-is read.value (λ quiet. read.rose (quiet_before c.args.self.now.engine.evidence w.read.new.self.engine.evidence read.moves.evidence quiet) (λ is. cc)))
     ] in
     subst (λ (s : Option MemStop). AreSealedInOrder (terms_of g.B.Bus.history g.B.Bus.moved g.T.Tagger.data_tag_of g.T.Tagger.node_tag_of c.args.self.now)
     write c.args.self.now (c.args.at ∷ []) c.seal.new.self s) (sym stop)
-    (line_unwritten g.B.Bus.history g.B.Bus.moved g.T.Tagger.data_tag_of g.T.Tagger.node_tag_of write c.args.self.now c.requires.consistent c.requires.holds_last
-    c.args.at c.if-at-line.plain c.if-at-line.self c.seal.new.self c.args.old ready c.requires.inside c.requires.counter c.requires.later
+    (line_unwritten g.B.Bus.history g.B.Bus.moved g.T.Tagger.data_tag_of g.T.Tagger.node_tag_of write c.args.self.now c.requires.consistent c.requires.risen c.requires.holds_last
+    c.args.at c.if-at-line.plain c.if-at-line.self c.seal.new.self c.args.old ready c.requires.inside c.requires.counter
     c.seal.ensures.used c.seal.ensures.made c.seal.ensures.undone c.seal.ensures.moves c.seal.ensures.moved c.seal.ensures.honest g.met.B.Bus.moved_on
     c.in_err-seal.ensures.err)
 
 pub returns-clause-sealed : goal.returns-clause-sealed
 returns-clause-sealed g c =
     let write : LineWrite = record { line = c.args.line; bytes = c.args.bytes.now; counter = c.args.counter } in
-    let ready : IsReady g.B.Bus.history g.B.Bus.moved g.T.Tagger.data_tag_of g.T.Tagger.node_tag_of write c.args.self.now c.requires.consistent c.requires.holds_last
+    let ready : IsReady g.B.Bus.history g.B.Bus.moved g.T.Tagger.data_tag_of g.T.Tagger.node_tag_of write c.args.self.now c.requires.consistent c.requires.risen c.requires.holds_last
     c.args.at c.if-at-line.plain c.if-at-line.self =
     elim c.if-at-line.branch [
       | then-at-line w ↦
           subst (λ (o : OutsideView g.row.B.Denot g.row.T.Denot).
-          IsReady g.B.Bus.history g.B.Bus.moved g.T.Tagger.data_tag_of g.T.Tagger.node_tag_of write c.args.self.now c.requires.consistent c.requires.holds_last
+          IsReady g.B.Bus.history g.B.Bus.moved g.T.Tagger.data_tag_of g.T.Tagger.node_tag_of write c.args.self.now c.requires.consistent c.requires.risen c.requires.holds_last
           c.args.at c.if-at-line.plain o) (sym w.self-is)
-          (ready_own g.B.Bus.history g.B.Bus.moved g.T.Tagger.data_tag_of g.T.Tagger.node_tag_of write c.args.self.now c.requires.consistent c.requires.holds_last
+          (ready_own g.B.Bus.history g.B.Bus.moved g.T.Tagger.data_tag_of g.T.Tagger.node_tag_of write c.args.self.now c.requires.consistent c.requires.risen c.requires.holds_last
           c.args.at c.if-at-line.plain (g.met.B.Bus.unmoved c.args.self.now.bus) w.if-at-line.true w.plain-is)
       | else-at-line+in_ok-plain w ↦
           let read = w.in_ok-plain.ensures in
           subst (λ (o : OutsideView g.row.B.Denot g.row.T.Denot).
-          IsReady g.B.Bus.history g.B.Bus.moved g.T.Tagger.data_tag_of g.T.Tagger.node_tag_of write c.args.self.now c.requires.consistent c.requires.holds_last
+          IsReady g.B.Bus.history g.B.Bus.moved g.T.Tagger.data_tag_of g.T.Tagger.node_tag_of write c.args.self.now c.requires.consistent c.requires.risen c.requires.holds_last
           c.args.at c.if-at-line.plain o) (sym w.self-is)
-          (ready_read g.B.Bus.history g.B.Bus.moved g.T.Tagger.data_tag_of g.T.Tagger.node_tag_of write c.args.self.now c.requires.consistent c.requires.holds_last
+          (ready_read g.B.Bus.history g.B.Bus.moved g.T.Tagger.data_tag_of g.T.Tagger.node_tag_of write c.args.self.now c.requires.consistent c.requires.risen c.requires.holds_last
           c.args.at c.if-at-line.plain w.in_ok-plain.plain w.read.new.self
-          (read_sealed g.B.Bus.history g.B.Bus.moved g.T.Tagger.data_tag_of g.T.Tagger.node_tag_of write c.args.self.now c.requires.consistent c.requires.holds_last
+          (read_sealed g.B.Bus.history g.B.Bus.moved g.T.Tagger.data_tag_of g.T.Tagger.node_tag_of write c.args.self.now c.requires.consistent c.requires.risen c.requires.holds_last
           c.args.at w.read.new.self (Ok w.in_ok-plain.plain) w.if-at-line.false c.requires.of_page
-          read.moved read.moves read.unmade read.room read.pads read.unwritten read.counted read.accounted read.tampered read.unspent)
-          read.unmade read.pads read.once w.if-at-line.false w.plain-is read.value (read.rose (λ is. cc)))
+          read.moved read.moves read.unmade read.room read.pads read.unwritten read.counted read.accounted read.shows read.tampered read.unspent)
+          read.unmade read.pads read.once w.if-at-line.false w.plain-is read.value (λ quiet. read.rose (quiet_before c.args.self.now.engine.evidence w.read.new.self.engine.evidence read.moves.evidence quiet) (λ is. cc)))
     ] in
-    line_sealed g.B.Bus.history g.B.Bus.moved g.T.Tagger.data_tag_of g.T.Tagger.node_tag_of write c.args.self.now c.requires.consistent c.requires.holds_last
-    c.args.at c.if-at-line.plain c.if-at-line.self c.seal.new.self c.args.old ready c.requires.inside c.requires.counter c.requires.later
+    line_sealed g.B.Bus.history g.B.Bus.moved g.T.Tagger.data_tag_of g.T.Tagger.node_tag_of write c.args.self.now c.requires.consistent c.requires.risen c.requires.holds_last
+    c.args.at c.if-at-line.plain c.if-at-line.self c.seal.new.self c.args.old ready c.requires.inside c.requires.counter
     c.seal.ensures.used c.seal.ensures.made c.seal.ensures.undone c.seal.ensures.moves c.seal.ensures.moved c.seal.ensures.honest g.met.B.Bus.moved_on
     c.in_ok-seal.ensures.ok
 

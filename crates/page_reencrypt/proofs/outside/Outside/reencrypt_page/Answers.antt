@@ -4,16 +4,16 @@ use Rattle.sec_base.specs.Geometry.{page_of}
 use Rattle.checked_bus.specs.Steps.{stop_of}
 use Rattle.page_reencrypt.specs.Contents.{page_lines}
 use Rattle.page_reencrypt.specs.Outside.{AreSealedInOrder, LineWrite, terms_of}
-use Rattle.page_reencrypt.proofs.Reencrypting.{accesses_passed, accesses_stopped, page_consistent, page_counter, page_done, page_inside, page_last, page_more, page_more_reread, page_pads_room, page_room, page_stopped, sealed_none}
+use Rattle.page_reencrypt.proofs.Reencrypting.{accesses_passed, accesses_stopped, page_consistent, page_counter, page_done, page_inside, page_last, page_more, page_more_reread, page_pads_room, page_risen, page_room, page_stopped, sealed_none}
 use Rattle.page_reencrypt.proofs.Sealing.{listed_not}
 use Rattle.page_reencrypt.proofs.outside.Outside.reencrypt_page.Goals as goal
 
 pub loop-place-init : goal.loop-place-init
 loop-place-init g c = record {
   sealed = sealed_none g.B.Bus.history g.B.Bus.moved g.T.Tagger.data_tag_of g.T.Tagger.node_tag_of
-      (record { line = c.args.line; bytes = c.args.bytes.now; counter = c.args.counter }) c.args.self.now c.requires.consistent c.requires.holds_last
+      (record { line = c.args.line; bytes = c.args.bytes.now; counter = c.args.counter }) c.args.self.now c.requires.consistent c.requires.risen c.requires.holds_last
       (g.met.B.Bus.unmoved c.args.self.now.bus);
-  reread = λ other listed. absurd (listed_not other listed);
+  reread = λ quiet other listed. absurd (listed_not other listed);
   passed = λ before. absurd (omega (arith, before));
   at_most = omega arith;
 }
@@ -33,6 +33,12 @@ reencrypt_line-requires-clause-consistent g c =
     page_consistent g.B.Bus.history g.B.Bus.moved g.T.Tagger.data_tag_of g.T.Tagger.node_tag_of write c.args.self.now c.loop-place.self
     (64 * c.page_of-first.result) c.loop-place.place c.loop-place.invariant.sealed c.loop-place.invariant.reread
 
+pub reencrypt_line-requires-clause-risen : goal.reencrypt_line-requires-clause-risen
+reencrypt_line-requires-clause-risen g c =
+    let write : LineWrite = record { line = c.args.line; bytes = c.args.bytes.now; counter = c.args.counter } in
+    page_risen g.B.Bus.history g.B.Bus.moved g.T.Tagger.data_tag_of g.T.Tagger.node_tag_of write c.args.self.now c.loop-place.self
+    (64 * c.page_of-first.result) c.loop-place.place c.loop-place.invariant.sealed c.loop-place.invariant.reread
+
 pub reencrypt_line-requires-clause-holds_last : goal.reencrypt_line-requires-clause-holds_last
 reencrypt_line-requires-clause-holds_last g c =
     let write : LineWrite = record { line = c.args.line; bytes = c.args.bytes.now; counter = c.args.counter } in
@@ -46,7 +52,7 @@ reencrypt_line-requires-clause-counter g c =
     let here : 64 * c.page_of-first.result + c.from.result ≡ 64 * c.page_of-first.result + c.loop-place.place = omega (arith, c.from.ensures) in
     page_counter g.B.Bus.history g.B.Bus.moved g.T.Tagger.data_tag_of g.T.Tagger.node_tag_of write c.args.self.now c.loop-place.self
     (64 * c.page_of-first.result) c.loop-place.place c.loop-place.invariant.sealed c.loop-place.invariant.reread (64 * c.page_of-first.result + c.from.result) here
-    c.args.line c.args.block.now c.get.result start c.loop-place-test.true c.get.ensures.counter c.requires.counters
+    c.args.line c.args.block.now c.get.result start c.loop-place-test.true c.get.ensures.counter c.requires.counters c.requires.later
 
 pub reencrypt_line-requires-clause-room : goal.reencrypt_line-requires-clause-room
 reencrypt_line-requires-clause-room g c =

@@ -1,0 +1,12 @@
+pub mod Paths
+pub mod Trees
+pub mod PathReads
+pub mod SlotTags
+pub mod Puts
+pub mod NodeWrites
+pub mod PathWrites
+pub mod Boots
+pub mod Updates
+pub mod BootSteps
+pub mod WholeBoots
+pub mod DataCalls

@@ -1,0 +1,46 @@
+-- What boot makes: a node's children by slot, each with what is below it, and then the node itself.
+use Rattle.std.specs.Prelude.{ℕ, zero, suc, ◌+◌, ◌*◌, List, [], ◌∷◌, ◌++◌}
+use Rattle.sec_base.specs.Geometry.{arity, child}
+use Rattle.sec_base.specs.declared.message.Message.{Message}
+use Rattle.sec_base.specs.declared.message.Message.TheVariants.{Node}
+use Rattle.bonsai_tree.specs.Node.{no_block}
+
+-- the lists that f gives, from the first on, one after another
+unfoldable pub joined : {A : Type 0} → (ℕ → List A) → ℕ → List A
+joined f zero = []
+joined f (suc n) = joined f n ++ f n
+
+-- a node's block: zeros on level 0, and above it the tags of the children
+unfoldable pub boot_block : (Message → List ℕ) → ℕ → ℕ → ℕ → List ℕ
+boot_block tag_of levels zero index = no_block
+boot_block tag_of levels (suc level) index =
+    joined (λ slot. tag_of (Node level (child levels index slot) (boot_block tag_of levels level (child levels index slot)))) (arity levels)
+
+abbrev pub boot_message : (Message → List ℕ) → ℕ → ℕ → ℕ → Message
+boot_message tag_of levels level index = Node level index (boot_block tag_of levels level index)
+
+-- the messages of a node and of all that is below it
+unfoldable pub messages_from : (Message → List ℕ) → ℕ → ℕ → ℕ → List Message
+messages_from tag_of levels zero index = boot_message tag_of levels zero index ∷ []
+messages_from tag_of levels (suc level) index =
+    joined (λ slot. messages_from tag_of levels level (child levels index slot)) (arity levels)
+    ++ boot_message tag_of levels (suc level) index ∷ []
+
+-- how many nodes they are
+unfoldable pub nodes_from : ℕ → ℕ → ℕ
+nodes_from levels zero = 1
+nodes_from levels (suc level) = arity levels * nodes_from levels level + 1
+
+-- the messages of all nodes of a tree, and how many nodes it has
+abbrev pub boot_messages : (Message → List ℕ) → ℕ → List Message
+boot_messages tag_of levels = messages_from tag_of levels levels 0
+
+abbrev pub node_count : ℕ → ℕ
+node_count levels = nodes_from levels levels
+
+-- the messages of the first children of a node, each with what is below it, and the children's tags
+abbrev pub children_messages : (Message → List ℕ) → ℕ → ℕ → ℕ → ℕ → List Message
+children_messages tag_of levels level index slots = joined (λ slot. messages_from tag_of levels level (child levels index slot)) slots
+
+abbrev pub children_tags : (Message → List ℕ) → ℕ → ℕ → ℕ → ℕ → List ℕ
+children_tags tag_of levels level index slots = joined (λ slot. tag_of (boot_message tag_of levels level (child levels index slot))) slots

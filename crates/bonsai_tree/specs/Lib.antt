@@ -1,0 +1,7 @@
+pub mod Node
+pub mod Tree
+pub mod Boot
+pub mod Reading
+pub mod Writing
+pub mod Updating
+pub mod Booting

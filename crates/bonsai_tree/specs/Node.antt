@@ -1,0 +1,44 @@
+-- Blocks of nodes: a node's current block, and the tags of its children, each in a slot of 16 bytes.
+use Rattle.std.specs.Prelude.{ℕ, ◌+◌, ◌*◌, ◌/◌, ◌^◌, List, ◌++◌, take, drop, replicate, Bool, Option, Some, None, unwrap_or}
+use Rattle.sec_base.specs.declared.message.Message.{Message}
+use Rattle.sec_base.specs.declared.message.Message.TheVariants.{Node}
+use Rattle.sec_base.specs.declared.sealed.TheConstants.{TAG_LEN}
+use Rattle.sec_base.specs.Geometry.{arity}
+use Rattle.sec_base.specs.LastMessage.{last_node}
+
+-- a node's copy on the chip: its block, and whether that differs from what was written last
+pub record CachedNode : Type 0 where
+  pub block : List ℕ
+  pub changed : Bool
+
+-- the block of a node that was never made
+abbrev pub no_block : List ℕ
+no_block = replicate 64 0
+
+abbrev pub block_or_zeros : Option (List ℕ) → List ℕ
+block_or_zeros last = unwrap_or last no_block
+
+-- the current block of a node: its copy on the chip, else that of its last message, else zeros
+abbrev pub current_of : Option CachedNode → Option (List ℕ) → List ℕ
+current_of (Some copy) last = copy.block
+current_of None last = block_or_zeros last
+
+-- the tag that stands in a slot of a block, and the block with another tag there
+abbrev pub tag_in_slot : ℕ → List ℕ → List ℕ
+tag_in_slot slot block = take TAG_LEN (drop (TAG_LEN * slot) block)
+
+abbrev pub with_tag : ℕ → List ℕ → List ℕ → List ℕ
+with_tag slot tag block = take (TAG_LEN * slot) block ++ tag ++ drop (TAG_LEN * slot + TAG_LEN) block
+
+-- the tag that is kept of a node: that of its last block; zeros where it has none
+abbrev pub tag_of_last : (Message → List ℕ) → ℕ → ℕ → Option (List ℕ) → List ℕ
+tag_of_last tag_of level index None = replicate TAG_LEN 0
+tag_of_last tag_of level index (Some block) = tag_of (Node level index block)
+
+-- the node of a level on the path of a page: the page's own on level 0, the top node on the highest
+abbrev pub path_index : ℕ → ℕ → ℕ → ℕ
+path_index levels level page = page / arity levels ^ level
+
+-- the block of a page: that of its last message, zeros where it has none
+abbrev pub page_block : ℕ → List Message → List ℕ
+page_block page made = block_or_zeros (last_node 0 page made)

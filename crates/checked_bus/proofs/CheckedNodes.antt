@@ -1,0 +1,284 @@
+-- What a checked read of a node makes of a bus and a tag engine.
+use Rattle.std.proofs.Common.{◌≡◌, ◌≢◌, ℕ, inr, true, List, Option, Some, None, Result, Ok, Err, refl, ap, sym, ◌∙◌, subst, arith}
+use Rattle.std.specs.Option.{option_map, option_or}
+use Rattle.sec_base.specs.Count.{Rose}
+use Rattle.sec_base.specs.Geometry.{IsNode}
+use Rattle.sec_base.specs.Evidence.{NodeFails}
+use Rattle.sec_base.specs.LastMessage.{last_node}
+use Rattle.sec_base.specs.declared.counter.Counter.{Counter}
+use Rattle.sec_base.specs.declared.evidence.Evidence.{Evidence}
+use Rattle.sec_base.specs.declared.evidence.Evidence.TheVariants.{Collision}
+use Rattle.sec_base.specs.declared.message.Message.{Message}
+use Rattle.sec_base.specs.declared.message.Message.TheVariants.{Node}
+use Rattle.sec_base.specs.declared.place.Place.{Place}
+use Rattle.sec_base.specs.declared.place.Place.TheVariants.{Line as line_place, Node as node_place}
+use Rattle.sec_base.specs.declared.stop.MemStop.{MemStop}
+use Rattle.sec_base.specs.declared.stop.MemStop.TheVariants.{Tampered, Spent, NoMemory}
+use Rattle.bus_model.specs.BusHistory.{BusHistory, after_read, after_answer}
+use Rattle.bus_model.specs.FirstLie.{AccountsForLies, HonestOrCaught, IsOfFirstLie}
+use Rattle.bus_model.proofs.Steps.{answered}
+use Rattle.tag_engine.specs.TagEngine.{TagEngineView, collision_of}
+use Rattle.tag_engine.proofs.Collisions.{Collides, collides, known}
+use Rattle.checked_bus.specs.Checks.{PassedNode, FailedNode, IsCheckedNode}
+use Rattle.checked_bus.specs.Steps.{IsAccounted, IsCurrentNode, Moves, ReadsOnce, SameLines, SamePlace, stop_of}
+use Rattle.checked_bus.proofs.FalseAnswers.{lie_comes, lie_rises, first_lie_stays}
+use Rattle.checked_bus.proofs.Evidences.{first_stays, or_none, by_evidence}
+use Rattle.checked_bus.proofs.LineMessages.{some_same}
+use Rattle.checked_bus.proofs.PlaceReads.{answer_moves, answer_once, answer_others, answer_lines, answer_accounted, nothing_moves, nothing_once, nothing_others, nothing_lines}
+use Rattle.checked_bus.proofs.CheckedReads.{tampered, none_lied, still_honest, ended_accounted}
+
+pub no_line : (level index line : ℕ) → line_place line ≢ node_place level index
+no_line level index line same = absurd (cc)
+
+module _ {T : Type 0} (tag_of : Message → List ℕ) (level index : ℕ) (tag : List ℕ) (history history' : BusHistory)
+    (engine engine' : TagEngineView T) where
+  pub node_moves : (result : Result (List ℕ) MemStop) → IsCheckedNode tag_of level index tag history history' engine engine' result →
+      Moves history engine history' engine'
+  node_moves (Ok answer) passed =
+      answer_moves (node_place level index) passed.block history history' engine engine' passed.answered
+      (ap (λ (e : TagEngineView T). e.levels) passed.checked) (ap (λ (e : TagEngineView T). e.tagger) passed.checked)
+      (ap (λ (e : TagEngineView T). e.made) passed.checked)
+      (λ evidence is. ap (λ (e : TagEngineView T). e.evidence) passed.checked
+      ∙ first_stays engine.evidence (collision_of tag_of engine.made level index passed.block tag true) evidence is)
+  node_moves (Err (Spent page)) read = absurd read
+  node_moves (Err NoMemory) read = nothing_moves history history' engine engine' read.0 read.1
+  node_moves (Err (Tampered place)) read =
+      answer_moves (node_place level index) read.1.block history history' engine engine' read.1.answered
+      (ap (λ (e : TagEngineView T). e.levels) read.1.unchanged) (ap (λ (e : TagEngineView T). e.tagger) read.1.unchanged)
+      (ap (λ (e : TagEngineView T). e.made) read.1.unchanged)
+      (λ evidence is. ap (λ (e : TagEngineView T). e.evidence) read.1.unchanged ∙ is)
+
+  pub node_once : (result : Result (List ℕ) MemStop) → IsNode history.levels level index →
+      IsCheckedNode tag_of level index tag history history' engine engine' result →
+      ReadsOnce (node_place level index) history engine history' engine' (stop_of result)
+  node_once (Ok answer) inside passed =
+      answer_once (node_place level index) passed.block history history' engine engine' None passed.answered
+      (ap (λ (e : TagEngineView T). e.made) passed.checked) (ap (λ (e : TagEngineView T). e.room) passed.checked) inside (λ none. cc)
+  node_once (Err (Spent page)) inside read = absurd read
+  node_once (Err NoMemory) inside read = nothing_once (node_place level index) history history' engine engine' read.0 read.1
+  node_once (Err (Tampered place)) inside read =
+      answer_once (node_place level index) read.1.block history history' engine engine' (Some (Tampered place)) read.1.answered
+      (ap (λ (e : TagEngineView T). e.made) read.1.unchanged) (ap (λ (e : TagEngineView T). e.room) read.1.unchanged) inside (λ none. cc)
+
+  pub node_others : (result : Result (List ℕ) MemStop) (other : Place) → other ≢ node_place level index →
+      IsCheckedNode tag_of level index tag history history' engine engine' result → SamePlace other history engine.made history' engine'.made
+  node_others (Ok answer) other apart passed =
+      answer_others (node_place level index) passed.block history history' engine engine' other passed.answered
+      (ap (λ (e : TagEngineView T). e.made) passed.checked) apart
+  node_others (Err (Spent page)) other apart read = absurd read
+  node_others (Err NoMemory) other apart read = nothing_others other history history' engine engine' read.0 read.1
+  node_others (Err (Tampered place)) other apart read =
+      answer_others (node_place level index) read.1.block history history' engine engine' other read.1.answered
+      (ap (λ (e : TagEngineView T). e.made) read.1.unchanged) apart
+
+  pub node_lines : (result : Result (List ℕ) MemStop) → IsCheckedNode tag_of level index tag history history' engine engine' result →
+      SameLines history engine.made history' engine'.made
+  node_lines (Ok answer) passed =
+      answer_lines (node_place level index) passed.block history history' engine engine' passed.answered
+      (ap (λ (e : TagEngineView T). e.made) passed.checked) (no_line level index)
+  node_lines (Err (Spent page)) read = absurd read
+  node_lines (Err NoMemory) read = nothing_lines history history' engine engine' read.0 read.1
+  node_lines (Err (Tampered place)) read =
+      answer_lines (node_place level index) read.1.block history history' engine engine' read.1.answered
+      (ap (λ (e : TagEngineView T). e.made) read.1.unchanged) (no_line level index)
+
+  shown_here : (answer : List ℕ) (passed : PassedNode tag_of level index tag history history' engine engine' answer) → engine.evidence ≡ None →
+      engine'.evidence ≡ collision_of tag_of engine.made level index passed.block tag true
+  shown_here answer passed quiet =
+      ap (λ (e : TagEngineView T). e.evidence) passed.checked
+      ∙ ap (λ (o : Option Evidence). option_or o (collision_of tag_of engine.made level index passed.block tag true)) quiet
+
+  -- A block that passed though it isn't the last one is answered
+  pub node_accepted : (answer : List ℕ) (at_level at made_at : ℕ) (bytes under : List ℕ) →
+      PassedNode tag_of level index tag history history' engine engine' answer → engine.evidence ≡ None →
+      engine'.evidence ≡ Some (Collision at_level at made_at bytes under) → (at_level ≡ level) × (at ≡ index) × (under ≡ tag) × (answer ≡ bytes)
+  node_accepted answer at_level at made_at bytes under passed quiet shown =
+      let found = collides tag_of engine.made level index passed.block tag (Collision at_level at made_at bytes under)
+      (sym (shown_here answer passed quiet) ∙ shown) in
+      let same : Collision at_level at made_at bytes under ≡ Collision level index found.at passed.block tag = found.is in
+      let block : bytes ≡ passed.block = cc in
+      (cc, cc, cc, passed.given ∙ sym block)
+
+  pub stopped_quiet : (stop : MemStop) (evidence : Evidence) → IsCheckedNode tag_of level index tag history history' engine engine' (Err stop) →
+      engine.evidence ≡ None → engine'.evidence ≡ Some evidence → ⊥
+  stopped_quiet (Spent page) evidence read quiet shown = read
+  stopped_quiet NoMemory evidence read quiet shown =
+      let same : engine'.evidence ≡ None = ap (λ (e : TagEngineView T). e.evidence) read.1 ∙ quiet in absurd (cc)
+  stopped_quiet (Tampered place) evidence read quiet shown =
+      let same : engine'.evidence ≡ None = ap (λ (e : TagEngineView T). e.evidence) read.1.unchanged ∙ quiet in absurd (cc)
+
+  -- Where there was no memory
+
+  refused_accounted : (used : List (ℕ × Counter)) → IsCheckedNode tag_of level index tag history history' engine engine' (Err NoMemory) →
+      IsAccounted tag_of used engine.made history None engine.evidence →
+      IsAccounted tag_of used engine'.made history' (Some NoMemory) engine'.evidence
+  refused_accounted used read was =
+      subst (λ (t : BusHistory). IsAccounted tag_of used engine'.made t (Some NoMemory) engine'.evidence) (sym read.0)
+      (subst (λ (e : TagEngineView T). IsAccounted tag_of used e.made history (Some NoMemory) e.evidence) (sym read.1)
+      (ended_accounted tag_of used engine.made history NoMemory engine.evidence (λ place is. cc) was))
+
+  -- With evidence from before, under any tag
+
+  after_evidence : (used : List (ℕ × Counter)) (first : Evidence) → engine.evidence ≡ Some first → (result : Result (List ℕ) MemStop) →
+      IsCheckedNode tag_of level index tag history history' engine engine' result → IsAccounted tag_of used engine.made history None engine.evidence →
+      IsAccounted tag_of used engine'.made history' (stop_of result) engine'.evidence
+  after_evidence used first before (Ok answer) passed was =
+      let moves : Moves history engine history' engine' = node_moves (Ok answer) passed in
+      answer_accounted (node_place level index) passed.block history history' engine engine' tag_of used None first passed.answered
+      (ap (λ (e : TagEngineView T). e.made) passed.checked) before (moves.evidence first before) was
+  after_evidence used first before (Err (Spent page)) read was = absurd read
+  after_evidence used first before (Err NoMemory) read was = refused_accounted used read was
+  after_evidence used first before (Err (Tampered place)) read was =
+      answer_accounted (node_place level index) read.1.block history history' engine engine' tag_of used (Some (Tampered place)) first read.1.answered
+      (ap (λ (e : TagEngineView T). e.made) read.1.unchanged) before (ap (λ (e : TagEngineView T). e.evidence) read.1.unchanged ∙ before) was
+
+  -- Under the tag of the node's last block
+
+  module _ (current : IsCurrentNode tag_of engine.made history.written level index tag) where
+    -- a block without it is not what was written
+    failed_differs : (block : List ℕ) → tag ≢ tag_of (Node level index block) → block ≢ history.written (node_place level index)
+    failed_differs block untagged = λ same.
+        untagged (current.tagged ∙ ap (λ (x : List ℕ). tag_of (Node level index x)) (sym (same ∙ current.stored)))
+
+    -- nor is one that isn't the last
+    collided_differs : (block : List ℕ) (evidence : Evidence) → Collides tag_of engine.made level index block tag evidence →
+        block ≢ history.written (node_place level index)
+    collided_differs block evidence found = λ same.
+        let last : Some found.last ≡ Some current.block =
+        sym (ap (λ (o : Option (ℕ × List ℕ)). option_map (λ (x : ℕ × List ℕ). x.1) o) found.made_last) ∙ current.last in
+        let is : found.last ≡ current.block = some_same found.last current.block last in
+        found.differs (is ∙ sym (same ∙ current.stored))
+
+    -- a block with it and without evidence is the last one
+    last_answered : (block : List ℕ) → collision_of tag_of engine.made level index block tag true ≡ None → block ≡ current.block
+    last_answered block unshown = known tag_of engine.made level index block tag current.block (sym unshown) current.last current.tagged
+
+    pub node_known : (answer : List ℕ) → PassedNode tag_of level index tag history history' engine engine' answer → engine'.evidence ≡ None →
+        last_node level index engine.made ≡ Some answer
+    node_known answer passed quiet =
+        let unshown : collision_of tag_of engine.made level index passed.block tag true ≡ None =
+        or_none engine.evidence (collision_of tag_of engine.made level index passed.block tag true)
+        (sym (ap (λ (e : TagEngineView T). e.evidence) passed.checked) ∙ quiet) in
+        current.last ∙ ap (λ (x : List ℕ). Some x) (sym (passed.given ∙ last_answered passed.block unshown))
+
+    block_fails : (block : List ℕ) → tag ≢ tag_of (Node level index block) → NodeFails tag_of engine.made level index block
+    block_fails block untagged = record {
+      true_block = current.block;
+      last = current.last;
+      fails = λ same. untagged (current.tagged ∙ sym same);
+    }
+
+    -- it comes where an answer was false
+    pub node_lied : FailedNode tag_of level index tag history history' engine engine' → Rose history.lies history'.lies
+    node_lied failed =
+        subst (λ (t : BusHistory). Rose history.lies t.lies) (sym failed.answered)
+        (lie_rises history (node_place level index) failed.block (failed_differs failed.block failed.untagged))
+
+    -- so does evidence
+    pub collided_lied : (result : Result (List ℕ) MemStop) → IsCheckedNode tag_of level index tag history history' engine engine' result →
+        engine.evidence ≡ None → engine'.evidence ≢ None → Rose history.lies history'.lies
+    collided_lied (Ok answer) passed quiet shown =
+        by_evidence engine'.evidence (λ none. absurd (shown none))
+        (λ evidence is.
+        let found = collides tag_of engine.made level index passed.block tag evidence (sym (shown_here answer passed quiet) ∙ is) in
+        subst (λ (t : BusHistory). Rose history.lies t.lies) (sym passed.answered)
+        (lie_rises history (node_place level index) passed.block (collided_differs passed.block evidence found)))
+    collided_lied (Err (Spent page)) read quiet shown = absurd read
+    collided_lied (Err NoMemory) read quiet shown = absurd (shown (ap (λ (e : TagEngineView T). e.evidence) read.1 ∙ quiet))
+    collided_lied (Err (Tampered place)) read quiet shown = absurd (shown (ap (λ (e : TagEngineView T). e.evidence) read.1.unchanged ∙ quiet))
+
+    module _ (used : List (ℕ × Counter)) where
+      failed_answers : (block : List ℕ) → tag ≢ tag_of (Node level index block) → history.lies ≡ 0 →
+          HonestOrCaught tag_of used engine.made (after_read (node_place level index) block history) (tampered (Some (Tampered (node_place level index))))
+      failed_answers block untagged none =
+          let lie = lie_comes history (node_place level index) block none (failed_differs block untagged) in
+          inr (record {
+            lies = lie.lies;
+            lie = record { access = (after_read (node_place level index) block history).accesses; place = node_place level index; bytes = block };
+            first = lie.first;
+            last = refl;
+            fails = block_fails block untagged;
+            ended = refl;
+          })
+
+      passed_answers : (block : List ℕ) → history.lies ≡ 0 → collision_of tag_of engine.made level index block tag true ≡ None →
+          HonestOrCaught tag_of used engine.made (after_read (node_place level index) block history) (tampered None)
+      passed_answers block none unshown =
+          let same : block ≡ history.written (node_place level index) = last_answered block unshown ∙ sym current.stored in
+          let is : after_read (node_place level index) block history ≡ after_answer (node_place level index) history =
+          answered (node_place level index) block history same in
+          still_honest tag_of used engine.made (after_read (node_place level index) block history) None
+          (ap (λ (t : BusHistory). t.lies) is ∙ none) (λ place taken. cc)
+
+      shown_first : (block : List ℕ) (evidence : Evidence) → history.lies ≡ 0 →
+          collision_of tag_of engine.made level index block tag true ≡ Some evidence →
+          IsOfFirstLie engine.made (after_read (node_place level index) block history) evidence
+      shown_first block evidence none shown =
+          let found = collides tag_of engine.made level index block tag evidence shown in
+          let lie = lie_comes history (node_place level index) block none (collided_differs block evidence found) in
+          let after : BusHistory = after_read (node_place level index) block history in
+          subst (λ (e : Evidence). IsOfFirstLie engine.made after e) (sym found.is) (record {
+            lies = omega (arith, lie.lies);
+            lie = record { access = after.accesses; place = node_place level index; bytes = block };
+            first = lie.first;
+            place = refl;
+            bytes = refl;
+            counter = tt;
+          })
+
+      passed_accounted : (block : List ℕ) (before : Option Evidence) → AccountsForLies tag_of used engine.made history (tampered None) before →
+          AccountsForLies tag_of used engine.made (after_read (node_place level index) block history) (tampered None)
+          (option_or before (collision_of tag_of engine.made level index block tag true))
+      passed_accounted block None account =
+          let none : history.lies ≡ 0 = none_lied tag_of used engine.made history (account.answers refl) in
+          record {
+            answers = λ unshown. passed_answers block none unshown;
+            shown = λ evidence is. shown_first block evidence none is;
+          }
+      passed_accounted block (Some first) account = record {
+        answers = λ quiet. absurd (cc);
+        shown = λ evidence is. first_lie_stays history engine.made (node_place level index) block evidence (account.shown evidence is);
+      }
+
+      failed_accounted : (block : List ℕ) → tag ≢ tag_of (Node level index block) →
+          AccountsForLies tag_of used engine.made history (tampered None) engine.evidence →
+          AccountsForLies tag_of used engine.made (after_read (node_place level index) block history)
+          (tampered (Some (Tampered (node_place level index)))) engine.evidence
+      failed_accounted block untagged account = record {
+        answers = λ quiet. failed_answers block untagged (none_lied tag_of used engine.made history (account.answers quiet));
+        shown = λ evidence is. first_lie_stays history engine.made (node_place level index) block evidence (account.shown evidence is);
+      }
+
+      pub node_accounted : (result : Result (List ℕ) MemStop) → IsCheckedNode tag_of level index tag history history' engine engine' result →
+          IsAccounted tag_of used engine.made history None engine.evidence →
+          IsAccounted tag_of used engine'.made history' (stop_of result) engine'.evidence
+      node_accounted (Ok answer) passed was =
+          subst (λ (t : BusHistory). IsAccounted tag_of used engine'.made t None engine'.evidence) (sym passed.answered)
+          (subst (λ (made : List Message). IsAccounted tag_of used made (after_read (node_place level index) passed.block history) None engine'.evidence)
+          (sym (ap (λ (e : TagEngineView T). e.made) passed.checked)) (record {
+            account = subst (λ (o : Option Evidence). AccountsForLies tag_of used engine.made (after_read (node_place level index) passed.block history) (tampered None) o)
+                (sym (ap (λ (e : TagEngineView T). e.evidence) passed.checked))
+                (passed_accounted passed.block engine.evidence was.account);
+            genuine = passed.genuine;
+          }))
+      node_accounted (Err (Spent page)) read was = absurd read
+      node_accounted (Err NoMemory) read was = refused_accounted used read was
+      node_accounted (Err (Tampered place)) read was =
+          subst (λ (p : Place). IsAccounted tag_of used engine'.made history' (Some (Tampered p)) engine'.evidence) (sym read.0)
+          (subst (λ (t : BusHistory). IsAccounted tag_of used engine'.made t (Some (Tampered (node_place level index))) engine'.evidence) (sym read.1.answered)
+          (subst (λ (e : TagEngineView T). IsAccounted tag_of used e.made (after_read (node_place level index) read.1.block history)
+          (Some (Tampered (node_place level index))) e.evidence)
+          (sym read.1.unchanged) (record {
+            account = failed_accounted read.1.block read.1.untagged was.account;
+            genuine = was.genuine;
+          })))
+
+  -- Where the tag is that of the last block unless there is evidence
+
+  pub node_honest : (used : List (ℕ × Counter)) →
+      (engine.evidence ≡ None → IsCurrentNode tag_of engine.made history.written level index tag) → (result : Result (List ℕ) MemStop) →
+      IsCheckedNode tag_of level index tag history history' engine engine' result → IsAccounted tag_of used engine.made history None engine.evidence →
+      IsAccounted tag_of used engine'.made history' (stop_of result) engine'.evidence
+  node_honest used current result read was =
+      by_evidence engine.evidence (λ none. node_accounted (current none) used result read was)
+      (λ first before. after_evidence used first before result read was)

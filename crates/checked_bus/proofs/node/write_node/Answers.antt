@@ -1,0 +1,77 @@
+use Rattle.std.proofs.Common.{rules}
+use Rattle.sec_base.specs.declared.message.Message.TheVariants.{Node}
+use Rattle.sec_base.specs.declared.place.Place.TheVariants.{Node as node_place}
+use Rattle.tag_engine.specs.TagEngine.{tags_of}
+use Rattle.checked_bus.proofs.TaggedWrites.{done_or_not, wrote_once, wrote_or_not, node_last, no_line_made, write_moves, write_others, write_lines, write_accounted}
+use Rattle.checked_bus.proofs.CheckedNodes.{no_line}
+use Rattle.checked_bus.proofs.node.write_node.Goals as goal
+
+-- Refused, out of memory
+
+pub returns-in_err-write_node-clause-made : goal.returns-in_err-write_node-clause-made
+returns-in_err-write_node-clause-made g c = search rules
+
+pub returns-in_err-write_node-clause-others : goal.returns-in_err-write_node-clause-others
+returns-in_err-write_node-clause-others g c =
+    write_others (node_place c.args.level c.args.index) (Node c.args.level c.args.index c.args.block.now)
+    (g.B.Bus.history c.args.bus.now) (g.B.Bus.history c.write_node.new.self) c.args.tags.now c.make_node.new.self (returns-in_err-write_node-clause-made g c)
+    (wrote_or_not (node_place c.args.level c.args.index) c.args.block.now (g.B.Bus.history c.args.bus.now) (g.B.Bus.history c.write_node.new.self)
+    (done_or_not c.write_node.result c.write_node.ensures.ok c.write_node.ensures.err))
+    (node_last c.args.tags.now.made c.args.level c.args.index c.args.block.now)
+
+pub returns-in_err-write_node-clause-lines : goal.returns-in_err-write_node-clause-lines
+returns-in_err-write_node-clause-lines g c =
+    write_lines (node_place c.args.level c.args.index) (Node c.args.level c.args.index c.args.block.now)
+    (g.B.Bus.history c.args.bus.now) (g.B.Bus.history c.write_node.new.self) c.args.tags.now c.make_node.new.self (returns-in_err-write_node-clause-made g c)
+    (wrote_or_not (node_place c.args.level c.args.index) c.args.block.now (g.B.Bus.history c.args.bus.now) (g.B.Bus.history c.write_node.new.self)
+    (done_or_not c.write_node.result c.write_node.ensures.ok c.write_node.ensures.err))
+    (no_line_made c.args.level c.args.index c.args.block.now) (no_line c.args.level c.args.index)
+
+pub returns-in_err-write_node-clause-honest : goal.returns-in_err-write_node-clause-honest
+returns-in_err-write_node-clause-honest g c =
+    write_accounted (node_place c.args.level c.args.index) (Node c.args.level c.args.index c.args.block.now)
+    (g.B.Bus.history c.args.bus.now) (g.B.Bus.history c.write_node.new.self) c.args.tags.now c.make_node.new.self (returns-in_err-write_node-clause-made g c)
+    (wrote_or_not (node_place c.args.level c.args.index) c.args.block.now (g.B.Bus.history c.args.bus.now) (g.B.Bus.history c.write_node.new.self)
+    (done_or_not c.write_node.result c.write_node.ensures.ok c.write_node.ensures.err))
+    (tags_of g.T.Tagger.data_tag_of g.T.Tagger.node_tag_of c.args.tags.now)
+
+-- Written
+
+pub returns-clause-made : goal.returns-clause-made
+returns-clause-made g c = search rules
+
+pub returns-clause-moves : goal.returns-clause-moves
+returns-clause-moves g c =
+    write_moves (node_place c.args.level c.args.index) (Node c.args.level c.args.index c.args.block.now)
+    (g.B.Bus.history c.args.bus.now) (g.B.Bus.history c.write_node.new.self) c.args.tags.now c.make_node.new.self (returns-clause-made g c)
+    (wrote_or_not (node_place c.args.level c.args.index) c.args.block.now (g.B.Bus.history c.args.bus.now) (g.B.Bus.history c.write_node.new.self)
+    (done_or_not c.write_node.result c.write_node.ensures.ok c.write_node.ensures.err))
+
+pub returns-clause-once : goal.returns-clause-once
+returns-clause-once g c =
+    wrote_once (node_place c.args.level c.args.index) c.args.block.now (g.B.Bus.history c.args.bus.now) (g.B.Bus.history c.write_node.new.self)
+    (search rules)
+
+pub returns-clause-others : goal.returns-clause-others
+returns-clause-others g c =
+    write_others (node_place c.args.level c.args.index) (Node c.args.level c.args.index c.args.block.now)
+    (g.B.Bus.history c.args.bus.now) (g.B.Bus.history c.write_node.new.self) c.args.tags.now c.make_node.new.self (returns-clause-made g c)
+    (wrote_or_not (node_place c.args.level c.args.index) c.args.block.now (g.B.Bus.history c.args.bus.now) (g.B.Bus.history c.write_node.new.self)
+    (done_or_not c.write_node.result c.write_node.ensures.ok c.write_node.ensures.err))
+    (node_last c.args.tags.now.made c.args.level c.args.index c.args.block.now)
+
+pub returns-clause-lines : goal.returns-clause-lines
+returns-clause-lines g c =
+    write_lines (node_place c.args.level c.args.index) (Node c.args.level c.args.index c.args.block.now)
+    (g.B.Bus.history c.args.bus.now) (g.B.Bus.history c.write_node.new.self) c.args.tags.now c.make_node.new.self (returns-clause-made g c)
+    (wrote_or_not (node_place c.args.level c.args.index) c.args.block.now (g.B.Bus.history c.args.bus.now) (g.B.Bus.history c.write_node.new.self)
+    (done_or_not c.write_node.result c.write_node.ensures.ok c.write_node.ensures.err))
+    (no_line_made c.args.level c.args.index c.args.block.now) (no_line c.args.level c.args.index)
+
+pub returns-clause-honest : goal.returns-clause-honest
+returns-clause-honest g c =
+    write_accounted (node_place c.args.level c.args.index) (Node c.args.level c.args.index c.args.block.now)
+    (g.B.Bus.history c.args.bus.now) (g.B.Bus.history c.write_node.new.self) c.args.tags.now c.make_node.new.self (returns-clause-made g c)
+    (wrote_or_not (node_place c.args.level c.args.index) c.args.block.now (g.B.Bus.history c.args.bus.now) (g.B.Bus.history c.write_node.new.self)
+    (done_or_not c.write_node.result c.write_node.ensures.ok c.write_node.ensures.err))
+    (tags_of g.T.Tagger.data_tag_of g.T.Tagger.node_tag_of c.args.tags.now)

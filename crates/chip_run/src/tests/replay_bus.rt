@@ -1,0 +1,207 @@
+// A bus that answers what stood there before.
+ghost use Rattle.std.specs.Prelude.{◌≡◌, ◌==◌, ◌++◌, IfOk, Some, if◌then◌else◌, not};
+ghost use Rattle.std.specs.Option.{option_map};
+ghost use Rattle.std.specs.Str.{bytes_eq};
+ghost use Rattle.sec_base.specs.Count.{more_by};
+ghost use Rattle.sec_base.specs.Evidence.{sealed_bytes};
+ghost use Rattle.bus_model.specs.BusHistory.{new_history};
+ghost use Rattle.bus_model.specs.HonestBus.{honest_history};
+
+use bus_model::{Bus, HonestBus};
+use sec_base::{Geometry, NoMemory, Place, Sealed};
+use std::alloc::{AllocError, Global};
+
+// A false answer: which access it was, its place and its bytes.
+#[derive(Debug, Drop)]
+struct FalseAnswer {
+    access: u64,
+    place: Place,
+    bytes: Vec<u8>,
+}
+
+// How many answers were false, and the first of them.
+#[derive(Debug, Drop)]
+struct Lies {
+    count: u64,
+    first: Option<FalseAnswer>,
+}
+
+impl Lies {
+    // Counts a false answer.
+    fn tell(&mut self, access: u64, place: Place, bytes: Vec<u8>)
+        ensures count { self.new.count ≡ more_by 1 self.old.count }
+        ensures first { self.new.first ≡ (if self.old.count == 0
+            then Some (record { access = access; place = place; bytes = bytes }) else self.old.first) }
+    {
+        if self.count == 0 {
+            self.first = Some(FalseAnswer {
+                access,
+                place,
+                bytes,
+            });
+        }
+        self.count = self.count.saturating_add(1);
+    }
+}
+
+// What stood at the places of line 64 and of the nodes on its path after the first write of the line, in a memory of one
+// level; from then on it is replayed.
+#[derive(Clone, Copy, Debug)]
+struct Stale {
+    line: Sealed,
+    counters: [u8; 64],
+    top: [u8; 64],
+    is_replayed: bool,
+}
+
+impl Stale {
+    fn keep_line(&mut self, line: u32, sealed: &Sealed) {
+        if line == 64 && !self.is_replayed {
+            self.line = *sealed;
+            self.is_replayed = true;
+        }
+    }
+
+    fn keep_node(&mut self, level: u8, index: u32, block: &[u8; 64]) {
+        if self.is_replayed {
+            return;
+        }
+        match (level, index) {
+            (0, 1) => self.counters = *block,
+            (1, 0) => self.top = *block,
+            _ => {}
+        }
+    }
+
+    // What is replayed of a node, if it is one that is.
+    fn node(&self, level: u8, index: u32) -> Option<[u8; 64]> {
+        match (self.is_replayed, level, index) {
+            (true, 0, 1) => Some(self.counters),
+            (true, 1, 0) => Some(self.top),
+            _ => None,
+        }
+    }
+}
+
+// It replays line 64 and the nodes on its path below a level.
+#[derive(Drop)]
+pub(crate) struct ReplayBus {
+    bus: HonestBus,
+    alloc: Global,
+    below: u8,
+    stale: Stale,
+    accesses: u64,
+    lies: Lies,
+}
+
+impl ReplayBus {
+    pub(crate) fn new(alloc: Global, geometry: Geometry, below: u8) -> Result<ReplayBus, NoMemory>
+        ensures { IfOk result (λ bus. record (honest_history bus.bus) {
+          accesses = bus.accesses;
+          lies = bus.lies.count;
+          lie = option_map (λ answer. record { access = answer.access; place = answer.place; bytes = answer.bytes.items }) bus.lies.first;
+        } ≡ new_history geometry) }
+    {
+        let line = Sealed {
+            cipher: [0; 64],
+            tag: [0; 16],
+        };
+        Ok(ReplayBus {
+            bus: HonestBus::new(alloc, geometry)?,
+            alloc,
+            below,
+            stale: Stale {
+                line,
+                counters: [0; 64],
+                top: [0; 64],
+                is_replayed: false,
+            },
+            accesses: 0,
+            lies: Lies {
+                count: 0,
+                first: None,
+            },
+        })
+    }
+
+    // How many answers were false.
+    pub(crate) fn lies(&self) -> u64 {
+        self.lies.count
+    }
+}
+
+impl Bus for ReplayBus {
+    ghost history = { λ bus. record (honest_history bus.bus) {
+      accesses = bus.accesses;
+      lies = bus.lies.count;
+      lie = option_map (λ answer. record { access = answer.access; place = answer.place; bytes = answer.bytes.items }) bus.lies.first;
+    } };
+
+    ghost moved = { λ _ _. Unit {0} };
+
+    ghost unmoved = { λ _. tt };
+
+    ghost moved_on = { λ _ _ _ _ _. tt };
+
+    fn read_data(&mut self, line: u32) -> Result<Sealed, NoMemory> {
+        let answer = self.stale.line;
+        let bytes = bytes_of(self.alloc, &answer)?;
+        let sealed = self.bus.read_data(line)?;
+        self.accesses = self.accesses.saturating_add(1);
+        if !self.stale.is_replayed || line != 64 {
+            return Ok(sealed);
+        }
+        if !differs(answer, sealed) {
+            return Ok(sealed);
+        }
+        self.lies.tell(self.accesses, Place::Line(line), bytes);
+        Ok(answer)
+    }
+
+    fn write_data(&mut self, line: u32, sealed: &Sealed) -> Result<(), NoMemory> {
+        self.bus.write_data(line, sealed)?;
+        self.accesses = self.accesses.saturating_add(1);
+        self.stale.keep_line(line, sealed);
+        Ok(())
+    }
+
+    fn read_node(&mut self, level: u8, index: u32) -> Result<[u8; 64], NoMemory> {
+        let stale = if level < self.below {
+            self.stale.node(level, index)
+        } else {
+            None
+        };
+        let answer = stale.unwrap_or([0; 64]);
+        let bytes = Vec::from_slice(self.alloc, &answer)?;
+        let block = self.bus.read_node(level, index)?;
+        self.accesses = self.accesses.saturating_add(1);
+        if stale.is_none() || answer == block {
+            return Ok(block);
+        }
+        self.lies
+            .tell(self.accesses, Place::Node { level, index }, bytes);
+        Ok(answer)
+    }
+
+    fn write_node(&mut self, level: u8, index: u32, block: &[u8; 64]) -> Result<(), NoMemory> {
+        self.bus.write_node(level, index, block)?;
+        self.accesses = self.accesses.saturating_add(1);
+        self.stale.keep_node(level, index, block);
+        Ok(())
+    }
+}
+
+// What stands at the place of a line.
+fn bytes_of(alloc: Global, sealed: &Sealed) -> Result<Vec<u8>, AllocError>
+    ensures { IfOk result (λ bytes. bytes.items ≡ sealed_bytes sealed.now) }
+{
+    let mut bytes = Vec::from_slice(alloc, &sealed.cipher)?;
+    bytes.extend_from_slice(&sealed.tag)?;
+    Ok(bytes)
+}
+
+fn differs(first: Sealed, second: Sealed) -> bool
+    ensures { result ≡ not (bytes_eq (sealed_bytes first) (sealed_bytes second)) }
+{
+    first != second
+}

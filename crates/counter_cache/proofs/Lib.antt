@@ -1,0 +1,3 @@
+pub mod Blocks
+pub mod Rising
+pub mod Bumps

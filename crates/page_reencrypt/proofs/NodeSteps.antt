@@ -1,0 +1,152 @@
+-- What a step over the nodes leaves of the memory outside.
+use Rattle.std.proofs.Common.{◌≡◌, ◌≢◌, ◌⊎◌, inl, inr, ℕ, List, [], ◌∷◌, ◌++◌, length, Option, Some, None, Contains, Result, Ok, Err, OnOk, OnErr, refl, ap, sym, ◌∙◌, subst, arith, append_assoc}
+use Rattle.std.proofs.lemmas.List.{append-nil}
+use Rattle.std.proofs.lemmas.List.Elements.{Contains-append_left}
+use Rattle.sec_base.specs.declared.counter.Counter.{Counter}
+use Rattle.sec_base.specs.declared.message.Message.{Message}
+use Rattle.sec_base.specs.declared.message.Message.TheVariants.{Line, Node}
+use Rattle.sec_base.specs.declared.place.Place.TheVariants.{Line as line_place}
+use Rattle.sec_base.specs.declared.stop.MemStop.{MemStop}
+use Rattle.sec_base.specs.declared.stop.MemStop.TheVariants.{NoMemory}
+use Rattle.sec_base.specs.Geometry.{line_count}
+use Rattle.sec_base.specs.LastMessage.{data_pairs, data_part, last_data}
+use Rattle.sec_base.specs.Place.{zeros_of}
+use Rattle.sec_base.proofs.LastMessages.{last_of_other}
+use Rattle.bus_model.specs.BusHistory.{BusHistory}
+use Rattle.tag_engine.specs.TagEngine.{TagEngineView, tags_of}
+use Rattle.checked_bus.specs.Accesses.{WritesMessages}
+use Rattle.checked_bus.specs.Steps.{Moves as StepMoves, SameLines, stop_of}
+use Rattle.checked_bus.specs.Steps.{unwritten_in}
+use Rattle.checked_bus.proofs.Steps.{same_pairs}
+use Rattle.bonsai_tree.specs.Tree.{HoldsTree, IsTree, NodesAreMade, NodesHoldLast, TreeView}
+use Rattle.page_reencrypt.specs.Consistency.{IsConsistent}
+use Rattle.page_reencrypt.specs.Contents.{HoldsLast, HoldsSealed, IsSealed}
+use Rattle.page_reencrypt.specs.Outside.{AreConsistent, HaveLast, HaveLastNodes, IsNodeStep, MemoryTerms, OutsideView, terms_of}
+use Rattle.page_reencrypt.proofs.Nodes.{line_before}
+use Rattle.page_reencrypt.proofs.Unmade.{same_tags}
+
+pub ok_map : {A E P Q : Type 0} (result : Result A E) → (P → Q) → OnOk result P → OnOk result Q
+ok_map (Ok value) follows done = follows done
+ok_map (Err error) follows done = tt
+
+pub err_map : {A E P Q : Type 0} (result : Result A E) → (P → Q) → OnErr result P → OnErr result Q
+err_map (Ok value) follows refused = tt
+err_map (Err error) follows refused = follows refused
+
+-- no page's counters are on the chip
+pub none_cached : (page : ℕ) → ¬ Contains [] page
+none_cached page listed = omega (arith, listed.1)
+
+pub shows_by : {A P : Type 0} (found : Option A) → (found ≢ None → P) → (found ≡ None) ⊎ P
+shows_by None shown = inl refl
+shows_by (Some evidence) shown = inr (shown (λ none. cc))
+
+pub not_refused : {A : Type 0} (result : Result A MemStop) → stop_of result ≢ Some NoMemory → result ≢ Err NoMemory
+not_refused result goes_on is = goes_on (ap stop_of is)
+
+-- messages of nodes are the last of no line
+pub last_data-nodes : (made more : List Message) (line : ℕ) → data_pairs more ≡ [] → last_data line (made ++ more) ≡ last_data line made
+unfolding data_pairs
+last_data-nodes made [] line none = ap (last_data line) (append-nil made)
+last_data-nodes made (Node level index block ∷ more) line none =
+    ap (last_data line) (sym (append_assoc made (Node level index block ∷ []) more))
+    ∙ last_data-nodes (made ++ Node level index block ∷ []) more line none
+    ∙ last_of_other (data_part line) made (Node level index block) refl
+last_data-nodes made (Line other counter cipher ∷ more) line none = absurd (cc)
+
+pub same_last_data : (old new : BusHistory) (made made' : List Message) (line : ℕ) → SameLines old made new made' → last_data line made' ≡ last_data line made
+same_last_data old new made made' line lines = ap (last_data line) lines.made_more ∙ last_data-nodes made lines.more line lines.no_lines
+
+module _ (tag_of : Message → List ℕ) (old new : BusHistory) (made made' : List Message) (lines : SameLines old made new made') where
+  -- what was sealed still is
+  still_sealed : (used : List (ℕ × Counter)) (line : ℕ) (bytes : List ℕ) → IsSealed tag_of made used line bytes → IsSealed tag_of made' used line bytes
+  still_sealed used line bytes is = record {
+    counter = is.counter;
+    cipher = is.cipher;
+    made_there = subst (λ (m : List Message). Contains m (Line line is.counter is.cipher)) (sym lines.made_more)
+        (Contains-append_left made lines.more (Line line is.counter is.cipher) is.made_there);
+    used_there = is.used_there;
+    sealed = is.sealed;
+  }
+
+  holds_still : (count : ℕ) (used : List (ℕ × Counter)) → HoldsSealed tag_of count made used old.written → HoldsSealed tag_of count made' used new.written
+  holds_still count used was = record {
+    holds = λ line inside.
+        subst (λ (bytes : List ℕ). (bytes ≡ zeros_of (line_place line)) ⊎ IsSealed tag_of made' used line bytes) (sym (lines.written line))
+        (elim (was.holds line inside) [
+          | inl zeros ↦ inl zeros
+          | inr is ↦ inr (still_sealed used line (old.written (line_place line)) is)
+        ]);
+  }
+
+  pub lines_last : (count : ℕ) → HoldsLast tag_of count made old.written → HoldsLast tag_of count made' new.written
+  lines_last count was = record {
+    holds = λ line counter cipher inside last.
+        lines.written line ∙ was.holds line counter cipher inside (sym (same_last_data old new made made' line lines) ∙ last);
+  }
+
+  pub nodes_consistent : (levels : ℕ) (used : List (ℕ × Counter)) → IsConsistent tag_of levels old made used → new.levels ≡ old.levels →
+      NodesAreMade levels made' new.written → IsConsistent tag_of levels new made' used
+  nodes_consistent levels used kept same nodes = record {
+    bus_levels = same ∙ kept.bus_levels;
+    inside = kept.inside;
+    paired = same_pairs old new made made' lines ∙ kept.paired;
+    long = λ line counter cipher listed.
+        kept.long line counter cipher (line_before made lines.more line counter cipher lines.no_lines
+        (subst (λ (m : List Message). Contains m (Line line counter cipher)) lines.made_more listed));
+    sealed = holds_still (line_count levels) used kept.sealed;
+    nodes = nodes;
+  }
+
+module _ {B T : Type 0} (history : B → BusHistory) (moved : B → B → Type 0) (d n : T → List ℕ → List ℕ) (old : OutsideView B T)
+    (bus : B) (engine : TagEngineView T) where
+  abbrev terms : MemoryTerms B
+  terms = terms_of history moved d n old
+
+  abbrev new : OutsideView B T
+  new = record { bus = bus; engine = engine; pads = old.pads }
+
+  pub node_step : (tree : TreeView) (stop : Option MemStop) → tree.levels ≡ old.engine.levels →
+      AreConsistent terms old → HaveLast terms old → HaveLastNodes terms old → moved old.bus bus →
+      StepMoves (history old.bus) old.engine (history bus) engine →
+      SameLines (history old.bus) old.engine.made (history bus) engine.made →
+      ((more : List Message) → engine.made ≡ old.engine.made ++ more → WritesMessages (history old.bus) (history bus) (length more) (unwritten_in stop)) →
+      (NodesAreMade tree.levels old.engine.made (history old.bus).written → NodesAreMade tree.levels engine.made (history bus).written) →
+      (NodesHoldLast tree.levels old.engine.made (history old.bus).written → stop ≢ Some NoMemory → NodesHoldLast tree.levels engine.made (history bus).written) →
+      IsNodeStep terms old new stop
+  node_step tree stop levels kept last nodes went moves lines writes made_blocks last_blocks = record {
+    bus = went;
+    step = record {
+      bus_levels = moves.bus_levels;
+      levels = moves.levels;
+      tagger = moves.tagger;
+      more = lines.more;
+      made = lines.made_more;
+      evidence = moves.evidence;
+      reads = moves.reads;
+      accesses = moves.accesses;
+      lies = moves.lies;
+    };
+    pairs = lines.no_lines;
+    lines = lines;
+    used = refl;
+    key = refl;
+    writes = writes lines.more lines.made_more;
+    consistent = nodes_consistent terms.tag_of (history old.bus) (history bus) old.engine.made engine.made lines old.engine.levels old.pads.used kept moves.bus_levels
+        (subst (λ (l : ℕ). NodesAreMade l engine.made (history bus).written) levels
+        (made_blocks (subst (λ (l : ℕ). NodesAreMade l old.engine.made (history old.bus).written) (sym levels) kept.nodes)));
+    holds_last = lines_last terms.tag_of (history old.bus) (history bus) old.engine.made engine.made lines (line_count old.engine.levels) last;
+    nodes_hold_last = λ goes_on.
+        subst (λ (l : ℕ). NodesHoldLast l engine.made (history bus).written) levels
+        (last_blocks (subst (λ (l : ℕ). NodesHoldLast l old.engine.made (history old.bus).written) (sym levels) nodes) goes_on);
+  }
+
+  -- the tree still fits, or there is evidence
+  pub fits_before : (tree : TreeView) → (old.engine.evidence ≡ None → IsTree terms.tag_of tree old.engine.made (history old.bus).written) →
+      HoldsTree (tags_of d n) tree (history old.bus) old.engine
+  fits_before tree fits = record { fits = fits }
+
+  pub fits_after : (tree : TreeView) → engine.tagger ≡ old.engine.tagger → engine.levels ≡ old.engine.levels → HoldsTree (tags_of d n) tree (history bus) engine →
+      engine.evidence ≡ None → IsTree terms.tag_of tree engine.made (history bus).written
+  fits_after tree tagger levels holds quiet =
+      subst (λ (t : Message → List ℕ). IsTree t tree engine.made (history bus).written) (same_tags d n old.engine engine tagger levels) (holds.fits quiet)

@@ -1,0 +1,87 @@
+-- What holds of the nodes where lines alone are touched, and of the lines where nodes alone are.
+use Rattle.std.proofs.Common.{◌≡◌, ◌≢◌, ◌⊎◌, inl, inr, ℕ, cond, nat_lt, List, [], ◌∷◌, ◌++◌, length, Option, Some, Contains, refl, ap, sym, ◌∙◌, subst, arith}
+use Rattle.std.proofs.lemmas.List.Elements.{Contains-append_cases, Contains-append_left}
+use Rattle.sec_base.specs.declared.counter.Counter.{Counter}
+use Rattle.sec_base.specs.declared.message.Message.{Message}
+use Rattle.sec_base.specs.declared.message.Message.TheVariants.{Line, Node}
+use Rattle.sec_base.specs.declared.place.Place.{Place}
+use Rattle.sec_base.specs.declared.place.Place.TheVariants.{Line as line_place, Node as node_place}
+use Rattle.sec_base.specs.Geometry.{parent, slot}
+use Rattle.sec_base.specs.LastMessage.{data_pairs, last_node, node_part}
+use Rattle.sec_base.specs.Place.{at_place, zeros_of}
+use Rattle.sec_base.proofs.LastMessages.{last_of_other}
+use Rattle.sec_base.proofs.SamePlaces.{at_place-there}
+use Rattle.bonsai_tree.specs.Node.{block_or_zeros, current_of, tag_in_slot, tag_of_last}
+use Rattle.bonsai_tree.specs.Tree.{IsTree, NodesAreMade, NodesHoldLast, TreeView, cached_node, current_block, kept_tag}
+use Rattle.page_reencrypt.proofs.RisingPairs.{pair_listed}
+
+-- A message of a line is none of a node.
+pub last_node-line : (made : List Message) (line : ℕ) (counter : Counter) (cipher : List ℕ) (level index : ℕ) →
+    last_node level index (made ++ Line line counter cipher ∷ []) ≡ last_node level index made
+last_node-line made line counter cipher level index = last_of_other (node_part level index) made (Line line counter cipher) refl
+
+-- and a line's place is none of a node
+pub node_there : (line : ℕ) (bytes : List ℕ) (written : Place → List ℕ) (level index : ℕ) →
+    at_place (line_place line) bytes written (node_place level index) ≡ written (node_place level index)
+node_there line bytes written level index =
+    let apart : node_place level index ≢ line_place line = λ e. absurd (cc) in
+    at_place-there (line_place line) (node_place level index) bytes written apart
+
+-- What was made for nodes still was, where more is made and their places hold what they held.
+pub nodes_more : (levels : ℕ) (made more : List Message) (written written' : Place → List ℕ) → NodesAreMade levels made written →
+    ((level index : ℕ) → written' (node_place level index) ≡ written (node_place level index)) → NodesAreMade levels (made ++ more) written'
+nodes_more levels made more written written' was same = record {
+  holds = λ level index inside.
+      subst (λ (bytes : List ℕ). (bytes ≡ zeros_of (node_place level index)) ⊎ Contains (made ++ more) (Node level index bytes)) (sym (same level index))
+      (elim (was.holds level index inside) [
+        | inl zeros ↦ inl zeros
+        | inr there ↦ inr (Contains-append_left made more (Node level index (written (node_place level index))) there)
+      ]);
+}
+
+-- The last blocks stand at their places still, where these and those are the same.
+pub nodes_last : (levels : ℕ) (made made' : List Message) (written written' : Place → List ℕ) → NodesHoldLast levels made written →
+    ((level index : ℕ) → written' (node_place level index) ≡ written (node_place level index)) →
+    ((level index : ℕ) → last_node level index made' ≡ last_node level index made) → NodesHoldLast levels made' written'
+nodes_last levels made made' written written' was same last = record {
+  holds = λ level index block inside is. same level index ∙ was.holds level index block inside (sym (last level index) ∙ is);
+}
+
+-- And the tree fits still.
+module _ (tag_of : Message → List ℕ) (tree : TreeView) (made made' : List Message) (written written' : Place → List ℕ)
+    (same : (level index : ℕ) → written' (node_place level index) ≡ written (node_place level index))
+    (last : (level index : ℕ) → last_node level index made' ≡ last_node level index made) where
+  block_same : (level index : ℕ) → current_block tree made' level index ≡ current_block tree made level index
+  block_same level index = ap (λ (l : Option (List ℕ)). current_of (cached_node tree level index) l) (last level index)
+
+  kept_same : (level index : ℕ) → kept_tag tree made' level index ≡ kept_tag tree made level index
+  kept_same level index =
+      ap (λ (block : List ℕ). cond (nat_lt level tree.levels) (tag_in_slot (slot tree.levels index) block) tree.root)
+      (block_same (parent tree.levels level index).0 (parent tree.levels level index).1)
+
+  pub tree_same : IsTree tag_of tree made written → IsTree tag_of tree made' written'
+  tree_same was = record {
+    slots = λ level index inside.
+        kept_same level index ∙ was.slots level index inside
+        ∙ ap (λ (l : Option (List ℕ)). tag_of_last tag_of level index l) (sym (last level index));
+    made_all = λ level index inside.
+        last level index ∙ was.made_all level index inside ∙ ap (λ (l : Option (List ℕ)). Some (block_or_zeros l)) (sym (last level index));
+    stored = λ level index inside. same level index ∙ was.stored level index inside ∙ ap block_or_zeros (sym (last level index));
+    clean = λ level index copy inside is unchanged. was.clean level index copy inside is unchanged ∙ ap block_or_zeros (sym (last level index));
+    long = λ level index inside. ap length (block_same level index) ∙ was.long level index inside;
+  }
+
+-- Messages without lines
+
+pub no_line : (more : List Message) (line : ℕ) (counter : Counter) (cipher : List ℕ) → data_pairs more ≡ [] → ¬ Contains more (Line line counter cipher)
+no_line more line counter cipher none listed =
+    let there = subst (λ (pairs : List (ℕ × Counter)). Contains pairs (line, counter)) none (pair_listed more line counter cipher listed) in
+    omega (arith, there.1)
+
+pub line_before : (made more : List Message) (line : ℕ) (counter : Counter) (cipher : List ℕ) → data_pairs more ≡ [] →
+    Contains (made ++ more) (Line line counter cipher) → Contains made (Line line counter cipher)
+line_before made more line counter cipher none listed =
+    elim (Contains-append_cases made more (Line line counter cipher) listed) [
+      | inl early ↦ early
+      | inr late ↦ absurd (no_line more line counter cipher none late)
+    ]

@@ -1,0 +1,372 @@
+-- What steps over the nodes reach, one after another, and what a write makes of the memory outside after them.
+use Rattle.std.proofs.Common.{◌≡◌, ◌≢◌, ◌⊎◌, inl, inr, ℕ, ◌+◌, ◌≤◌, List, [], ◌∷◌, ◌++◌, length, map, take, Option, Some, None, Contains, refl, ap, sym, ◌∙◌, subst, arith, append_assoc, length-append}
+use Rattle.std.proofs.lemmas.List.{append-nil, length-map, length-take}
+use Rattle.sec_base.specs.declared.counter.Counter.{Counter}
+use Rattle.sec_base.specs.declared.message.Message.{Message}
+use Rattle.sec_base.specs.declared.message.Message.TheVariants.{Line, Node}
+use Rattle.sec_base.specs.declared.place.Place.{Place}
+use Rattle.sec_base.specs.declared.place.Place.TheVariants.{Line as line_place, Node as node_place}
+use Rattle.sec_base.specs.declared.stop.MemStop.{MemStop}
+use Rattle.sec_base.specs.declared.stop.MemStop.TheVariants.{Tampered, Spent}
+use Rattle.sec_base.specs.Count.{Rose}
+use Rattle.sec_base.specs.Geometry.{page_of}
+use Rattle.sec_base.specs.LastMessage.{data_pairs, last_data, IsFresh}
+use Rattle.bus_model.specs.BusHistory.{BusHistory}
+use Rattle.tag_engine.specs.TagEngine.{with_room as tags_with_room}
+use Rattle.pad_stream.specs.Pad.{cipher_of}
+use Rattle.pad_stream.specs.PadEngine.{PadEngineView}
+use Rattle.pad_stream.specs.Pads.{AreRising}
+use Rattle.checked_bus.specs.Accesses.{WritesMessages}
+use Rattle.checked_bus.specs.Steps.{IsAccounted, Moves as StepMoves}
+use Rattle.checked_bus.specs.Steps.{unwritten_in}
+use Rattle.checked_bus.proofs.Steps.{counted_not, data_pairs-append, moves_on as step_on, same_lines_not, same_lines_on}
+use Rattle.split_counter.specs.CounterBlock.{block_of, last_counter, next_counter}
+use Rattle.bonsai_tree.specs.Node.{block_or_zeros, path_index}
+use Rattle.bonsai_tree.specs.Tree.{IsOnPath, PathWasRead, fetch_accesses}
+use Rattle.counter_cache.specs.Counters.{CountersView, counters_in}
+use Rattle.checked_bus.proofs.Writes.{writes_on}
+use Rattle.page_reencrypt.specs.Consistency.{IsConsistent}
+use Rattle.page_reencrypt.specs.Contents.{bytes_of, counter_in, line_bytes, lines_encrypted}
+use Rattle.page_reencrypt.specs.Outside.{AreAccounted, AreConsistent, AreSealedInOrder, CountersSay, HaveLast, HaveLastNodes, HaveRisen, IsNodeStep, IsWrite, MemoryTerms, OutsideView, ShowsLies, TreeFits}
+use Rattle.page_reencrypt.specs.SealedLines.{AreReread}
+use Rattle.page_reencrypt.specs.Stops.{lasting_stop}
+use Rattle.page_reencrypt.proofs.LineReads.{quiet_before}
+use Rattle.page_reencrypt.proofs.NodeSteps.{same_last_data}
+use Rattle.page_reencrypt.proofs.Nodes.{nodes_last, tree_same}
+use Rattle.page_reencrypt.proofs.Sealing.{listed_not}
+use Rattle.page_reencrypt.proofs.Stops.{other_stop}
+
+-- as many messages as lines and counters, at least
+pub pairs_short : (made : List Message) → length (data_pairs made) ≤ length made
+unfolding data_pairs
+pairs_short [] = omega arith
+pairs_short (Line line counter cipher ∷ made) = omega (arith, pairs_short made)
+pairs_short (Node level index block ∷ made) = omega (arith, pairs_short made)
+
+no_pairs : data_pairs [] ≡ []
+unfolding data_pairs
+no_pairs = refl
+
+writes_none : (history : BusHistory) (unwritten : ℕ) → WritesMessages history history 0 unwritten
+writes_none history unwritten = record { writes = 0; counted = counted_not history; at_most = omega arith; at_least = omega arith }
+
+module _ {B T : Type 0} (terms : MemoryTerms B) where
+  -- The memory outside after steps over the nodes, with its counters.
+  pub record IsReached (old : OutsideView B T) (counters : CountersView) (new : OutsideView B T) (counters' : CountersView) (stop : Option MemStop) : Type 0 where
+    pub node : IsNodeStep terms old new stop
+    pub levels : counters'.tree.levels ≡ counters.tree.levels
+    pub fits : lasting_stop stop ≡ None → TreeFits terms new counters'
+    pub accounted : AreAccounted terms old None → AreAccounted terms new stop
+    pub shows : ShowsLies terms old new
+
+  pub node_step_on : ((first second third : B) → terms.moved first second → terms.moved second third → terms.moved first third) →
+      (first second third : OutsideView B T) (stop : Option MemStop) → IsNodeStep terms first second None → IsNodeStep terms second third stop →
+      IsNodeStep terms first third stop
+  node_step_on moved_on first second third stop a b =
+      let step = step_on (terms.history first.bus) (terms.history second.bus) (terms.history third.bus) first.engine second.engine third.engine a.step b.step in
+      record {
+        bus = moved_on first.bus second.bus third.bus a.bus b.bus;
+        step = record {
+          bus_levels = step.bus_levels;
+          levels = step.levels;
+          tagger = step.tagger;
+          more = a.step.more ++ b.step.more;
+          made = b.step.made ∙ ap (λ (made : List Message). made ++ b.step.more) a.step.made ∙ append_assoc first.engine.made a.step.more b.step.more;
+          evidence = step.evidence;
+          reads = step.reads;
+          accesses = step.accesses;
+          lies = step.lies;
+        };
+        pairs = data_pairs-append a.step.more b.step.more ∙ ap (λ (xs : List (ℕ × Counter)). xs ++ data_pairs b.step.more) a.pairs ∙ b.pairs;
+        lines = same_lines_on (terms.history first.bus) (terms.history second.bus) (terms.history third.bus) first.engine.made second.engine.made third.engine.made
+            a.lines b.lines;
+        used = b.used ∙ a.used;
+        key = b.key ∙ a.key;
+        writes = subst (λ (messages : ℕ). WritesMessages (terms.history first.bus) (terms.history third.bus) messages (unwritten_in stop))
+            (sym (length-append a.step.more b.step.more))
+            (writes_on (terms.history first.bus) (terms.history second.bus) (terms.history third.bus) (length a.step.more) (length b.step.more) (unwritten_in stop)
+            b.step.bus_levels b.step.reads b.step.accesses a.writes b.writes);
+        consistent = b.consistent;
+        holds_last = b.holds_last;
+        nodes_hold_last = b.nodes_hold_last;
+      }
+
+  pub shows_on : (first second third : OutsideView B T) → StepMoves (terms.history first.bus) first.engine (terms.history second.bus) second.engine →
+      StepMoves (terms.history second.bus) second.engine (terms.history third.bus) third.engine →
+      ShowsLies terms first second → ShowsLies terms second third → ShowsLies terms first third
+  shows_on first second third step more a b = λ quiet.
+      elim (a quiet) [
+        | inl still ↦
+            elim (b still) [
+              | inl quiet_on ↦ inl quiet_on
+              | inr rose ↦ inr (omega (arith, rose, step.lies))
+            ]
+        | inr rose ↦ inr (omega (arith, rose, more.lies))
+      ]
+
+  pub reached_on : ((first second third : B) → terms.moved first second → terms.moved second third → terms.moved first third) →
+      (first second third : OutsideView B T) (counters counters' counters'' : CountersView) (stop : Option MemStop) →
+      IsReached first counters second counters' None → IsReached second counters' third counters'' stop → IsReached first counters third counters'' stop
+  reached_on moved_on first second third counters counters' counters'' stop a b = record {
+    node = node_step_on moved_on first second third stop a.node b.node;
+    levels = b.levels ∙ a.levels;
+    fits = b.fits;
+    accounted = λ was. b.accounted (a.accounted was);
+    shows = shows_on first second third a.node.step b.node.step a.shows b.shows;
+  }
+
+  -- memory was taken, or some of it
+  pub reached_roomy : (old new : OutsideView B T) (counters : CountersView) (stop : Option MemStop) (messages : ℕ) (pads : PadEngineView) → terms.moved old.bus old.bus →
+      AreConsistent terms old → HaveLast terms old → HaveLastNodes terms old → TreeFits terms old counters → ((place : Place) → stop ≢ Some (Tampered place)) →
+      pads.used ≡ old.pads.used → pads.key ≡ old.pads.key →
+      new ≡ record { bus = old.bus; engine = tags_with_room messages old.engine; pads = pads } → IsReached old counters new counters stop
+  reached_roomy old new counters stop messages pads unmoved kept last nodes fits untampered used key is =
+      let roomy : OutsideView B T = record { bus = old.bus; engine = tags_with_room messages old.engine; pads = pads } in
+      subst (λ (o : OutsideView B T). IsReached old counters o counters stop) (sym is)
+      (record {
+        node = record {
+          bus = unmoved;
+          step = record {
+            bus_levels = refl;
+            levels = refl;
+            tagger = refl;
+            more = [];
+            made = sym (append-nil old.engine.made);
+            evidence = λ evidence is. is;
+            reads = λ place. omega arith;
+            accesses = omega arith;
+            lies = omega arith;
+          };
+          pairs = no_pairs;
+          lines = same_lines_not (terms.history old.bus) old.engine.made;
+          used = used;
+          key = key;
+          writes = writes_none (terms.history old.bus) (unwritten_in stop);
+          consistent = subst (IsConsistent terms.tag_of terms.levels (terms.history old.bus) old.engine.made) (sym used) kept;
+          holds_last = last;
+          nodes_hold_last = λ goes_on. nodes;
+        };
+        levels = refl;
+        fits = λ going. fits;
+        accounted = λ was.
+            subst (λ (u : List (ℕ × Counter)). IsAccounted terms.tag_of u old.engine.made (terms.history old.bus) stop old.engine.evidence) (sym used)
+            (other_stop terms.tag_of old.pads.used old.engine.made (terms.history old.bus) None stop old.engine.evidence (λ place is. cc) untampered was);
+        shows = λ quiet. inl quiet;
+      })
+
+  -- where it stands at the same messages and entries, it stopped as spent
+  pub reached_spent : (old : OutsideView B T) (counters : CountersView) (new : OutsideView B T) (counters' : CountersView) (page : ℕ) →
+      IsReached old counters new counters' None → IsReached old counters new counters' (Some (Spent page))
+  reached_spent old counters new counters' page is = record {
+    node = record {
+      bus = is.node.bus;
+      step = is.node.step;
+      pairs = is.node.pairs;
+      lines = is.node.lines;
+      used = is.node.used;
+      key = is.node.key;
+      writes = is.node.writes;
+      consistent = is.node.consistent;
+      holds_last = is.node.holds_last;
+      nodes_hold_last = λ goes_on. is.node.nodes_hold_last (λ none. cc);
+    };
+    levels = is.levels;
+    fits = λ going. is.fits refl;
+    accounted = λ was.
+        other_stop terms.tag_of new.pads.used new.engine.made (terms.history new.bus) None (Some (Spent page)) new.engine.evidence (λ place is. cc) (λ place is. cc)
+        (is.accounted was);
+    shows = is.shows;
+  }
+
+  module _ (old : OutsideView B T) (counters : CountersView) (new : OutsideView B T) (counters' : CountersView) (stop : Option MemStop)
+      (reached : IsReached old counters new counters' stop) where
+    reached_quiet : new.engine.evidence ≡ None → old.engine.evidence ≡ None
+    reached_quiet quiet = quiet_before old.engine.evidence new.engine.evidence reached.node.step.evidence quiet
+
+    pub reached_risen : HaveRisen terms old → HaveRisen terms new
+    reached_risen rose quiet = subst AreRising (sym reached.node.used) (rose (reached_quiet quiet))
+
+    -- each line keeps its last message
+    pub reached_data : (line : ℕ) → last_data line new.engine.made ≡ last_data line old.engine.made
+    reached_data line =
+        same_last_data (terms.history old.bus) (terms.history new.bus) old.engine.made new.engine.made line reached.node.lines
+
+    -- The write stopped before a line was sealed.
+    pub early_write : (limit line : ℕ) (bytes : List ℕ) → HaveRisen terms old → stop ≢ None →
+        (lasting_stop stop ≡ None → CountersSay terms new counters') →
+        (new.engine.evidence ≡ None → (page : ℕ) → counters_in counters' new.engine.made page ≡ counters_in counters old.engine.made page)
+        ⊎ ((64 ≤ new.pads.room) × (length old.engine.made + 64 ≤ length new.engine.made + new.engine.room)) →
+        ((place : Place) → stop ≡ Some (Tampered place) → IsOnPath terms.levels 0 (page_of line) place
+        × (old.engine.evidence ≡ None → Rose (terms.history old.bus).lies (terms.history new.bus).lies)) →
+        ((page : ℕ) → stop ≡ Some (Spent page) → (page ≡ page_of line) × (new.engine.evidence ≡ None → counter_in old.pads.used line ≡ last_counter limit)) →
+        (new.engine.evidence ≡ None → counter_in old.pads.used line ≡ last_counter limit →
+        ((page : ℕ) → counters_in counters' new.engine.made page ≡ counters_in counters old.engine.made page)
+        × ((terms.history new.bus).accesses ≤ (terms.history old.bus).accesses + fetch_accesses terms.levels)) →
+        IsWrite terms limit line bytes old counters new counters' stop
+    early_write limit line bytes rose stopped say reserved tampered spent used_up = record {
+      bus = reached.node.bus;
+      step = reached.node.step;
+      levels = reached.levels;
+      key = reached.node.key;
+      writes = reached.node.writes;
+      consistent = reached.node.consistent;
+      risen = reached_risen rose;
+      holds_last = λ goes_on. reached.node.holds_last;
+      nodes_hold_last = reached.node.nodes_hold_last;
+      counter = next_counter (counter_in old.pads.used line);
+      next = λ quiet. refl;
+      count = 0;
+      within = omega arith;
+      whole = λ none. absurd (stopped none);
+      entries = reached.node.used ∙ sym (append-nil old.pads.used);
+      pairs = reached.node.pairs;
+      unwritten = λ none. reached.node.lines.written;
+      own = λ listed. absurd (omega (arith, listed.1));
+      own_bytes = λ listed. absurd (omega (arith, listed.1));
+      not_yet = λ unlisted. reached_data line;
+      others = λ quiet other differs. ap (bytes_of old.pads.key other) (reached_data other);
+      reread = λ quiet other listed. absurd (omega (arith, listed.1));
+      fits = reached.fits;
+      current = say;
+      reserved =
+          elim reserved [
+            | inl same ↦ inl (refl, same)
+            | inr roomy ↦ let used = ap length reached.node.used in inr (omega (arith, used, roomy.0), roomy.1)
+          ];
+      path = λ none. absurd (stopped none);
+      accounted = reached.accounted;
+      lied = λ place is quiet. (tampered place is).1 quiet;
+      tampered = λ place is. inl (tampered place is).0;
+      failed = λ other is.
+          let on_path = (tampered (line_place other) is).0 in
+          let here : line_place other ≡ node_place on_path.level _ = on_path.place_is in absurd (cc);
+      spent = λ page is. ((spent page is).0, refl, (spent page is).1);
+      used_up = λ quiet last. (refl, stopped, (used_up quiet last).0, (used_up quiet last).1, λ place is. (tampered place is).0);
+    }
+
+  -- Its lines were sealed, or a front part of them.
+  module _ (old : OutsideView B T) (counters : CountersView) (mid : OutsideView B T) (counters' : CountersView) (new : OutsideView B T)
+      (reached : IsReached old counters mid counters' None) (line : ℕ) (bytes : List ℕ) (counter : Counter) (stop : Option MemStop)
+      (sealed : AreSealedInOrder terms (record { line = line; bytes = bytes; counter = counter }) mid (lines_encrypted counter line) new stop) where
+    abbrev part : List ℕ
+    part = take sealed.count (lines_encrypted counter line)
+
+    abbrev whole_step : StepMoves (terms.history old.bus) old.engine (terms.history new.bus) new.engine
+    whole_step =
+        let step = step_on (terms.history old.bus) (terms.history mid.bus) (terms.history new.bus) old.engine mid.engine new.engine reached.node.step sealed.sealed.step in
+        record {
+          bus_levels = step.bus_levels;
+          levels = step.levels;
+          tagger = step.tagger;
+          more = reached.node.step.more ++ sealed.sealed.step.more;
+          made = sealed.sealed.step.made ∙ ap (λ (made : List Message). made ++ sealed.sealed.step.more) reached.node.step.made
+              ∙ append_assoc old.engine.made reached.node.step.more sealed.sealed.step.more;
+          evidence = step.evidence;
+          reads = step.reads;
+          accesses = step.accesses;
+          lies = step.lies;
+        }
+
+    late_writes : WritesMessages (terms.history old.bus) (terms.history new.bus) (length whole_step.more) (unwritten_in stop)
+    late_writes =
+        subst (λ (messages : ℕ). WritesMessages (terms.history old.bus) (terms.history new.bus) messages (unwritten_in stop))
+        (sym (length-append reached.node.step.more sealed.sealed.step.more))
+        (writes_on (terms.history old.bus) (terms.history mid.bus) (terms.history new.bus) (length reached.node.step.more) (length sealed.sealed.step.more)
+        (unwritten_in stop) sealed.sealed.step.bus_levels sealed.sealed.step.reads sealed.sealed.step.accesses reached.node.writes
+        (record {
+          writes = sealed.sealed.writes;
+          counted = sealed.sealed.counted;
+          at_most = omega (arith, sealed.sealed.as_many, sealed.sealed.at_most);
+          at_least = omega (arith, sealed.sealed.as_many, sealed.sealed.at_least);
+        }))
+
+    late_quiet : new.engine.evidence ≡ None → mid.engine.evidence ≡ None
+    late_quiet quiet = quiet_before mid.engine.evidence new.engine.evidence sealed.sealed.step.evidence quiet
+
+    -- the tree under the counters fits still
+    pub late_fits : TreeFits terms new counters'
+    late_fits quiet =
+        tree_same terms.tag_of counters'.tree mid.engine.made new.engine.made (terms.history mid.bus).written (terms.history new.bus).written
+        sealed.sealed.nodes.written sealed.sealed.nodes.last (reached.fits refl (late_quiet quiet))
+
+    -- and the counters are the same
+    pub late_counters : (page : ℕ) → counters_in counters' new.engine.made page ≡ counters_in counters' mid.engine.made page
+    late_counters page = ap (λ (last : Option (List ℕ)). block_of (block_or_zeros last)) (sealed.sealed.nodes.last 0 page)
+
+    late_nodes : HaveLastNodes terms new
+    late_nodes =
+        nodes_last terms.levels mid.engine.made new.engine.made (terms.history mid.bus).written (terms.history new.bus).written
+        (reached.node.nodes_hold_last (λ is. cc)) sealed.sealed.nodes.written sealed.sealed.nodes.last
+
+    late_reread : new.engine.evidence ≡ None → AreReread line part old.pads.used (terms.history old.bus) (terms.history new.bus)
+    late_reread quiet = λ other listed differs.
+        elim (sealed.reread quiet other listed differs) [
+          | inl fresh ↦ inl (subst (IsFresh other) reached.node.used fresh)
+          | inr rose ↦ let before = reached.node.step.reads (line_place other) in inr (omega (arith, rose, before))
+        ]
+
+    pub late_write : ((first second third : B) → terms.moved first second → terms.moved second third → terms.moved first third) → (limit : ℕ) → (new.engine.evidence ≡ None → counter ≡ next_counter (counter_in old.pads.used line)) →
+        (new.engine.evidence ≡ None → counter_in old.pads.used line ≢ last_counter limit) →
+        (stop ≡ None → CountersSay terms new counters') → 64 ≤ mid.pads.room → length old.engine.made + 64 ≤ length mid.engine.made + mid.engine.room →
+        PathWasRead counters.tree old.engine.made 0 (page_of line) (terms.history old.bus) (terms.history mid.bus) →
+        ((place : Place) → stop ≡ Some (Tampered place) → counter.line ≡ 0) → (lasting_stop stop ≡ None → stop ≡ None) →
+        IsWrite terms limit line bytes old counters new counters' stop
+    late_write moved_on limit next below say entries_room room path overflow going = record {
+      bus = moved_on old.bus mid.bus new.bus reached.node.bus sealed.sealed.bus;
+      step = whole_step;
+      levels = reached.levels;
+      key = sealed.sealed.key ∙ reached.node.key;
+      writes = late_writes;
+      consistent = sealed.sealed.consistent;
+      risen = sealed.sealed.risen;
+      holds_last = sealed.sealed.holds_last;
+      nodes_hold_last = λ goes_on. late_nodes;
+      counter = counter;
+      next = next;
+      count = sealed.count;
+      within = sealed.within;
+      whole = sealed.whole;
+      entries = sealed.sealed.entries ∙ ap (λ (used : List (ℕ × Counter)). used ++ map (λ at. (at, counter)) part) reached.node.used;
+      pairs = data_pairs-append reached.node.step.more sealed.sealed.step.more
+          ∙ ap (λ (xs : List (ℕ × Counter)). xs ++ data_pairs sealed.sealed.step.more) reached.node.pairs ∙ sealed.sealed.pairs;
+      unwritten = λ none at.
+          let nothing : part ≡ [] = ap (λ (k : ℕ). take k (lines_encrypted counter line)) none in
+          sealed.sealed.untouched at (λ listed. listed_not at (subst (λ (xs : List ℕ). Contains xs at) nothing listed)) ∙ reached.node.lines.written at;
+      own = λ listed. subst (λ (k : List ℕ). last_data line new.engine.made ≡ Some (counter, cipher_of k line counter bytes)) reached.node.key (sealed.sealed.own listed);
+      own_bytes = λ listed. subst (λ (k : List ℕ). line_bytes k new.engine.made line ≡ bytes) reached.node.key (sealed.sealed.own_bytes listed);
+      not_yet = λ unlisted. sealed.sealed.not_yet unlisted ∙ reached_data old counters mid counters' None reached line;
+      others = λ quiet other differs.
+          subst (λ (k : List ℕ). line_bytes k new.engine.made other ≡ line_bytes k mid.engine.made other) reached.node.key (sealed.sealed.others quiet other differs)
+          ∙ ap (bytes_of old.pads.key other) (reached_data old counters mid counters' None reached other);
+      reread = late_reread;
+      fits = λ goes_on. late_fits;
+      current = λ goes_on. say (going goes_on);
+      reserved =
+          let many = length-take sealed.count (lines_encrypted counter line) in
+          let used = ap length (sealed.sealed.entries) ∙ length-append mid.pads.used (map (λ at. (at, counter)) part) in
+          let mapped = length-map {A = ℕ} {B = ℕ × Counter} in
+          let before = ap length reached.node.used in
+          let made = ap length sealed.sealed.step.made ∙ length-append mid.engine.made sealed.sealed.step.more in
+          inr (
+            omega (arith, used, mapped, before, entries_room, sealed.sealed.pads_room),
+            omega (arith, made, room, sealed.sealed.room, sealed.sealed.as_many),
+          );
+      path = λ none. record {
+        rose = λ level above inside uncached.
+            elim (path.rose level above inside uncached) [
+              | inl never ↦ inl never
+              | inr rose ↦
+                  let on = sealed.sealed.step.reads (node_place level (path_index counters.tree.levels level (page_of line))) in inr (omega (arith, rose, on))
+            ];
+      };
+      accounted = λ was. sealed.sealed.accounted (reached.accounted was);
+      lied = λ place is quiet.
+          elim (reached.shows quiet) [
+            | inl still ↦ let rose = sealed.sealed.lied place is still in omega (arith, rose, reached.node.step.lies)
+            | inr rose ↦ omega (arith, rose, sealed.sealed.step.lies)
+          ];
+      tampered = λ place is. inr (sealed.sealed.tampered place is, overflow place is);
+      failed = sealed.failed;
+      spent = λ page is. absurd (sealed.sealed.unspent page is);
+      used_up = λ quiet last. absurd (below quiet last);
+    }

@@ -1,0 +1,173 @@
+-- What a read of a line makes of the lines outside.
+use Rattle.std.proofs.Common.{◌≡◌, ◌≢◌, inl, inr, ℕ, ◌<◌, ◌≤◌, List, [], ◌++◌, Option, Some, None, Result, IfOk, refl, ap, sym, ◌∙◌, subst, arith}
+use Rattle.std.specs.Option.{option_or}
+use Rattle.std.specs.Result.{result_err}
+use Rattle.std.proofs.lemmas.List.{append-nil}
+use Rattle.sec_base.specs.declared.counter.Counter.{Counter}
+use Rattle.sec_base.specs.declared.message.Message.{Message}
+use Rattle.sec_base.specs.declared.stop.MemStop.{MemStop}
+use Rattle.sec_base.specs.declared.stop.MemStop.TheVariants.{Spent}
+use Rattle.sec_base.specs.Geometry.{line_count}
+use Rattle.sec_base.specs.LastMessage.{data_pairs, last_data}
+use Rattle.sec_base.specs.Lines.{line_at}
+use Rattle.sec_base.proofs.JoinedLines.{joined_lines-same, line_at-joined_lines}
+use Rattle.bus_model.specs.BusHistory.{BusHistory}
+use Rattle.tag_engine.specs.TagEngine.{TagEngineView, tags_of}
+use Rattle.pad_stream.specs.PadEngine.{PadEngineView}
+use Rattle.pad_stream.specs.Pads.{AreRising}
+use Rattle.checked_bus.specs.Steps.{IsAccounted, stop_of}
+use Rattle.checked_bus.specs.Steps.{unwritten_in}
+use Rattle.split_counter.specs.CounterBlock.{counter_of, place_of}
+use Rattle.counter_cache.specs.Counters.{CountersView}
+use Rattle.page_reencrypt.specs.Contents.{ArePaged, AreUnskipped, AreWithin, IsSpent, bytes_of, contents_of, counter_in, line_bytes}
+use Rattle.page_reencrypt.specs.LineLengths.{length-line_bytes}
+use Rattle.page_reencrypt.specs.Outside.{CountersSay, IsLineRead, MemoryTerms, OutsideView, terms_of}
+use Rattle.page_reencrypt.specs.SealedLines.{AreProtected, CountersRise, IsUnsealed, ReadMoved, SealedLinesView, contents}
+use Rattle.page_reencrypt.specs.SealedLinesInside.{outside_of}
+use Rattle.page_reencrypt.specs.Stops.{lasting_stop}
+use Rattle.page_reencrypt.proofs.Kept.{err_stop, none_before, protected_after, stop_accounted, stop_lasts, stop_memory, stop_spent, stop_unwritten}
+use Rattle.page_reencrypt.proofs.LineReads.{quiet_before}
+use Rattle.page_reencrypt.proofs.Moves.{moves_not}
+use Rattle.page_reencrypt.proofs.NextWrites.{stopped_by}
+use Rattle.page_reencrypt.proofs.NodeSteps.{last_data-nodes}
+use Rattle.page_reencrypt.proofs.RisingPairs.{last_none}
+use Rattle.page_reencrypt.proofs.Unmade.{same_tags}
+
+-- after a stop that lasts
+pub lasting_read : {B T : Type 0} (history : B → BusHistory) (bus_moved : B → B → Type 0) (tags : TagEngineView T → Message → List ℕ) →
+    ((bus : B) → bus_moved bus bus) → (lines : SealedLinesView B T) (line : ℕ) (stop : MemStop) →
+    lasting_stop lines.stopped ≡ Some stop → ReadMoved history bus_moved tags lines line lines
+lasting_read history bus_moved tags bus_unmoved lines line stop lasting = record {
+  moves = moves_not history bus_moved tags bus_unmoved lines;
+  read = record { path = λ going uncached. absurd (cc); read = λ going quiet. absurd (cc) };
+}
+
+pub unsealed_not : {B T : Type 0} (history : B → BusHistory) (lines : SealedLinesView B T) → IsUnsealed history lines lines
+unfolding data_pairs
+unsealed_not history lines = record {
+  unused = refl;
+  more = [];
+  messages = sym (append-nil lines.engine.made);
+  untagged = refl;
+  unwritten_to = λ line. refl;
+}
+
+-- the bytes of a line are those that the contents have there
+pub read_value : (key : List ℕ) (lines : ℕ) (made : List Message) (line : ℕ) (result : Result (List ℕ) MemStop) → line < lines →
+    IfOk result (λ bytes. bytes ≡ line_bytes key made line) → IfOk result (λ bytes. bytes ≡ line_at (contents_of key lines made) line)
+read_value key lines made line result inside is =
+    subst (λ (there : List ℕ). IfOk result (λ bytes. bytes ≡ there))
+    (sym (line_at-joined_lines (line_bytes key made) lines line (length-line_bytes key made) inside)) is
+
+-- messages of nodes leave the contents
+pub contents_same : (key key' : List ℕ) (levels levels' : ℕ) (made more made' : List Message) → key' ≡ key → levels' ≡ levels → made' ≡ made ++ more →
+    data_pairs more ≡ [] → contents_of key' (line_count levels') made' ≡ contents_of key (line_count levels) made
+contents_same key key' levels levels' made more made' same_key same_levels grew none =
+    ap (λ (k : List ℕ). contents_of k (line_count levels') made') same_key
+    ∙ ap (λ (l : ℕ). contents_of key (line_count l) made') same_levels
+    ∙ joined_lines-same (line_bytes key made') (line_bytes key made) (line_count levels)
+    (λ line inside. ap (bytes_of key line) (ap (last_data line) grew ∙ last_data-nodes made more line none))
+
+module _ {B T : Type 0} (d n : T → List ℕ → List ℕ) (history : B → BusHistory) (bus_moved : B → B → Type 0) (m : SealedLinesView B T) (line : ℕ)
+    (kept : AreProtected d n history m) (going : lasting_stop m.stopped ≡ None) (inside : line < line_count m.engine.levels)
+    (new : OutsideView B T) (counters : CountersView) (result : Result (List ℕ) MemStop)
+    (r : IsLineRead (terms_of history bus_moved d n (outside_of m)) line (outside_of m) m.counters new counters result)
+    (stopped : Option MemStop) (stops : stopped ≡ option_or (result_err result) m.stopped) where
+  abbrev terms : MemoryTerms B
+  terms = terms_of history bus_moved d n (outside_of m)
+
+  abbrev after : SealedLinesView B T
+  after = record { bus = new.bus; engine = new.engine; pads = new.pads; counters = counters; limit = m.limit; stopped = stopped }
+
+  is_stop : stopped ≡ option_or (stop_of result) m.stopped
+  is_stop = stops ∙ ap (λ (o : Option MemStop). option_or o m.stopped) (err_stop result)
+
+  same_used : new.pads.used ≡ m.pads.used
+  same_used = ap (λ (p : PadEngineView). p.used) r.pads
+
+  was_quiet : new.engine.evidence ≡ None → m.engine.evidence ≡ None
+  was_quiet quiet = quiet_before m.engine.evidence new.engine.evidence r.step.evidence quiet
+
+  unspent : (page : ℕ) → stop_of result ≢ Some (Spent page)
+  unspent page is = r.unspent page (stopped_by result (Spent page) is)
+
+  not_stopped : lasting_stop stopped ≡ None → stop_of result ≡ None
+  not_stopped goes_on =
+      elim (stop_lasts m.stopped going (stop_of result) (subst (λ (s : Option MemStop). lasting_stop s ≡ None) is_stop goes_on)) [
+        | inl none ↦ none
+        | inr spent ↦ absurd (unspent spent.0 spent.1)
+      ]
+
+  read_rises : new.engine.evidence ≡ None → CountersRise m.engine.levels m.limit new.pads.used stopped
+  read_rises quiet =
+      let was = kept.rise (was_quiet quiet) in
+      record {
+        rising = subst AreRising (sym same_used) was.rising;
+        within = subst (AreWithin m.limit) (sym same_used) was.within;
+        unskipped = subst (AreUnskipped (line_count m.engine.levels)) (sym same_used) was.unskipped;
+        paged = λ goes_on. subst (ArePaged (line_count m.engine.levels)) (sym same_used) (was.paged going);
+        spent = λ page is.
+            elim (stop_spent m.stopped going (stop_of result) page (sym is_stop ∙ is)) [
+              | inl before ↦ subst (λ (u : List (ℕ × Counter)). IsSpent (line_count m.engine.levels) m.limit u page) (sym same_used) (was.spent page before)
+              | inr now ↦ absurd (unspent page now)
+            ];
+      }
+
+  read_says : lasting_stop stopped ≡ None → CountersSay terms new counters
+  read_says goes_on quiet page within other of_page =
+      ap (λ (u : List (ℕ × Counter)). counter_in u other) same_used
+      ∙ (kept.through going (was_quiet quiet)).current page within other of_page
+      ∙ ap (counter_of (place_of other)) (sym (r.same quiet page))
+
+  -- what held holds after it
+  pub read_kept : AreProtected d n history after
+  read_kept =
+      protected_after d n history bus_moved m new counters stopped r.step.tagger r.step.levels (r.levels ∙ kept.tree_levels) r.consistent (λ goes_on. r.holds_last)
+      (λ goes_on. r.nodes_hold_last (stop_memory m.stopped going (stop_of result) (λ is. goes_on (is_stop ∙ is)))) read_rises
+      (λ goes_on. r.fits (not_stopped goes_on)) read_says
+
+  pub read_contents : contents after ≡ contents m
+  read_contents =
+      contents_same m.pads.key new.pads.key m.engine.levels new.engine.levels m.engine.made r.step.more new.engine.made
+      (ap (λ (p : PadEngineView). p.key) r.pads) r.step.levels r.step.made r.pairs
+
+  pub read_unsealed : IsUnsealed history m after
+  read_unsealed = record {
+    unused = same_used;
+    more = r.step.more;
+    messages = r.step.made;
+    untagged = r.pairs;
+    unwritten_to = r.written;
+  }
+
+  -- how it moves
+  pub read_moved : ReadMoved history bus_moved (tags_of d n) m line after
+  read_moved = record {
+    moves = record {
+      bus = r.bus;
+      step = r.step;
+      key = ap (λ (p : PadEngineView). p.key) r.pads;
+      limit = refl;
+      entries = [];
+      used_more = same_used ∙ sym (append-nil m.pads.used);
+      accesses =
+          let more = subst (λ (s : Option MemStop). unwritten_in (stop_of result) ≤ unwritten_in s) (sym is_stop) (stop_unwritten m.stopped going (stop_of result)) in
+          record { writes = r.writes.writes; counted = r.writes.counted; at_most = r.writes.at_most; at_least = omega (arith, more, r.writes.at_least) };
+      idle = λ stop is. absurd (cc);
+      accounted = λ was.
+          let before = none_before m.stopped going (tags_of d n m.engine) m.pads.used m.engine.made (history m.bus) m.engine.evidence was in
+          subst (λ (t : Message → List ℕ). IsAccounted t new.pads.used new.engine.made (history new.bus) stopped new.engine.evidence)
+          (sym (same_tags d n m.engine new.engine r.step.tagger r.step.levels))
+          (subst (λ (s : Option MemStop). IsAccounted (tags_of d n m.engine) new.pads.used new.engine.made (history new.bus) s new.engine.evidence) (sym is_stop)
+          (stop_accounted m.stopped going (tags_of d n m.engine) new.pads.used new.engine.made (history new.bus) new.engine.evidence (stop_of result)
+          (r.accounted before)));
+    };
+    read = record {
+      path = λ goes_on uncached. r.path (not_stopped goes_on);
+      read = λ goes_on quiet.
+          elim (r.rose quiet (not_stopped goes_on)) [
+            | inl fresh ↦ inl (last_none (line_count m.engine.levels) m.engine.made m.pads.used line kept.always.consistent.paired inside fresh)
+            | inr rose ↦ inr rose
+          ];
+    };
+  }

@@ -1,0 +1,256 @@
+-- The steps of a read of a line: its page's counters are read, and then its place.
+use Rattle.std.proofs.Common.{◌≡◌, ◌≢◌, ◌⊎◌, inl, inr, ℕ, ◌+◌, ◌<◌, ◌≤◌, List, length, Option, Some, None, Result, Ok, Err, IfOk, IsOk, refl, ap, sym, ◌∙◌, subst, arith}
+use Rattle.sec_base.specs.declared.counter.Counter.{Counter}
+use Rattle.sec_base.specs.declared.evidence.Evidence.{Evidence}
+use Rattle.sec_base.specs.declared.evidence.Evidence.TheVariants.{Collision, Forgery}
+use Rattle.sec_base.specs.declared.message.Message.{Message}
+use Rattle.sec_base.specs.declared.place.Place.{Place}
+use Rattle.sec_base.specs.declared.place.Place.TheVariants.{Line as line_place, Node as node_place}
+use Rattle.sec_base.specs.declared.sealed.Sealed.{Sealed}
+use Rattle.sec_base.specs.declared.stop.MemStop.{MemStop}
+use Rattle.sec_base.specs.declared.stop.MemStop.TheVariants.{Tampered, Spent, NoMemory}
+use Rattle.sec_base.specs.Count.{Rose}
+use Rattle.sec_base.specs.Evidence.{evidence_place}
+use Rattle.sec_base.specs.Geometry.{line_count, page_of}
+use Rattle.sec_base.specs.LastMessage.{IsFresh, last_node}
+use Rattle.bus_model.specs.BusHistory.{BusHistory}
+use Rattle.tag_engine.specs.TagEngine.{tags_of}
+use Rattle.pad_stream.specs.Pad.{cipher_of}
+use Rattle.pad_stream.specs.PadEngine.{PadEngineView}
+use Rattle.checked_bus.specs.Accesses.{AreCounted}
+use Rattle.checked_bus.specs.Steps.{Moves as StepMoves, stop_of}
+use Rattle.checked_bus.specs.Steps.{unwritten_in}
+use Rattle.checked_bus.proofs.LineMessages.{some_same}
+use Rattle.checked_bus.proofs.Steps.{moves_on as step_on}
+use Rattle.split_counter.specs.CounterBlock.{CounterBlockView, block_of, counter_of, place_of}
+use Rattle.bonsai_tree.specs.Tree.{IsOnPath, PathWasRead, fetch_accesses}
+use Rattle.bonsai_tree.specs.Node.{path_index}
+use Rattle.counter_cache.specs.Counters.{CountersView, counters_in}
+use Rattle.checked_bus.proofs.Writes.{writes_on}
+use Rattle.page_reencrypt.specs.Consistency.{IsConsistent}
+use Rattle.page_reencrypt.specs.Contents.{HoldsLast, bytes_of, line_bytes}
+use Rattle.page_reencrypt.specs.Outside.{AreAccounted, IsLineRead, MemoryTerms, OutsideView, ShowsLies, TreeFits, terms_of}
+use Rattle.page_reencrypt.specs.SealedLines.{IsReadUnder}
+use Rattle.page_reencrypt.proofs.LineReads.{quiet_before}
+use Rattle.page_reencrypt.proofs.Nodes.{nodes_last, tree_same}
+use Rattle.page_reencrypt.proofs.Reaching.{IsReached, reached_data, shows_on}
+use Rattle.page_reencrypt.proofs.Sealing.{same_terms}
+use Rattle.page_reencrypt.proofs.Unmade.{same_consistent}
+
+if_ok : {A : Type 0} {P Q : A → Type 0} (result : Result A MemStop) → ((value : A) → P value → Q value) → IfOk result P → IfOk result Q
+if_ok (Ok value) follows holds = follows value holds
+if_ok (Err stop) follows holds = tt
+
+ok_value : {A E : Type 0} → A → Result A E → A
+ok_value other (Ok value) = value
+ok_value other (Err error) = other
+
+pub ok_same : {A E : Type 0} (x y : A) (first second : Result A E) → first ≡ Ok x → second ≡ Ok y → first ≡ second → x ≡ y
+unfolding ok_value
+ok_same x y first second one two same = ap (ok_value x) (sym one ∙ same ∙ two)
+
+pub not_node : {P : Type 0} (levels page at : ℕ) → IsOnPath levels 0 page (line_place at) → P
+not_node levels page at on_path =
+    let here : line_place at ≡ node_place on_path.level (path_index levels on_path.level page) = on_path.place_is in absurd (cc)
+
+-- evidence of a line was found where a line was read
+before_line : (levels page at : ℕ) (counter : Counter) (sealed : Sealed) (made_count : ℕ) (before after : Option Evidence) →
+    ((evidence : Evidence) → before ≡ Some evidence → IsOnPath levels 0 page (evidence_place evidence)) →
+    ((evidence : Evidence) → before ≡ Some evidence → after ≡ Some evidence) → after ≡ Some (Forgery at counter sealed made_count) → before ≡ None
+before_line levels page at counter sealed made_count None after found stays is = refl
+before_line levels page at counter sealed made_count (Some evidence) after found stays is =
+    let same : evidence ≡ Forgery at counter sealed made_count = some_same evidence (Forgery at counter sealed made_count) (sym (stays evidence refl) ∙ is) in
+    not_node levels page at (subst (λ (e : Evidence). IsOnPath levels 0 page (evidence_place e)) same (found evidence refl))
+
+-- and that of a node before
+before_node : (level index made_at line : ℕ) (block tag : List ℕ) (before after : Option Evidence) →
+    ((evidence : Evidence) → before ≡ None → after ≡ Some evidence → evidence_place evidence ≡ line_place line) →
+    ((evidence : Evidence) → before ≡ Some evidence → after ≡ Some evidence) → after ≡ Some (Collision level index made_at block tag) →
+    before ≡ Some (Collision level index made_at block tag)
+before_node level index made_at line block tag None after found stays is =
+    let here : node_place level index ≡ line_place line = found (Collision level index made_at block tag) refl is in absurd (cc)
+before_node level index made_at line block tag (Some evidence) after found stays is = sym (stays evidence refl) ∙ is
+
+module _ {B T : Type 0} (history : B → BusHistory) (moved : B → B → Type 0) (d n : T → List ℕ → List ℕ) (old : OutsideView B T) (counters : CountersView) (line page : ℕ)
+    (page_is : page ≡ page_of line) where
+  abbrev terms : MemoryTerms B
+  terms = terms_of history moved d n old
+
+  -- the counters were not had
+  pub unread : (new : OutsideView B T) (counters' : CountersView) (why : MemStop) → IsReached terms old counters new counters' (Some why) → new.pads ≡ old.pads →
+      (history new.bus).accesses ≤ (history old.bus).accesses + fetch_accesses old.engine.levels →
+      (new.engine.evidence ≡ None → (other : ℕ) → counters_in counters' new.engine.made other ≡ counters_in counters old.engine.made other) →
+      ((evidence : Evidence) → old.engine.evidence ≡ None → new.engine.evidence ≡ Some evidence → IsOnPath old.engine.levels 0 page (evidence_place evidence)) →
+      ((place : Place) → why ≡ Tampered place → IsOnPath old.engine.levels 0 page place
+      × (old.engine.evidence ≡ None → Rose (history old.bus).lies (history new.bus).lies)) →
+      ((spent : ℕ) → why ≢ Spent spent) → IsLineRead terms line old counters new counters' (Err why)
+  unread new counters' why reached pads once same found tampered unspent = record {
+    bus = reached.node.bus;
+    step = reached.node.step;
+    pairs = reached.node.pairs;
+    levels = reached.levels;
+    pads = pads;
+    writes = reached.node.writes;
+    once = omega (arith, once);
+    written = reached.node.lines.written;
+    alone = λ other differs. reached.node.lines.reads other;
+    consistent = reached.node.consistent;
+    holds_last = reached.node.holds_last;
+    nodes_hold_last = reached.node.nodes_hold_last;
+    fits = λ none. absurd (cc);
+    same = same;
+    value = λ quiet. tt;
+    path = λ none. absurd (cc);
+    rose = λ quiet none. absurd (cc);
+    fresh = λ quiet fresh. reached.node.lines.reads line;
+    accounted = reached.accounted;
+    shows = reached.shows;
+    accepted = λ at under sealed made_count quiet is.
+        not_node old.engine.levels page at (found (Forgery at under sealed made_count) quiet is);
+    accepted_counters = λ made_at block tag quiet is. tt;
+    tampered = λ place is.
+        let same_stop : why ≡ Tampered place = cc in
+        let there = tampered place same_stop in
+        (inr (subst (λ (p : ℕ). IsOnPath old.engine.levels 0 p place) page_is there.0), there.1);
+    unspent = λ spent is. let same_stop : why ≡ Spent spent = cc in unspent spent same_stop;
+  }
+
+  -- they were, and the line was read under its own
+
+  module _ (got : OutsideView B T) (counters' : CountersView) (place : ℕ) (block : CounterBlockView) (a : IsReached terms old counters got counters' None)
+      (got_pads : got.pads ≡ old.pads) (place_is : place ≡ place_of line) (inside : line < line_count old.engine.levels)
+      (new : OutsideView B T) (counter : Counter) (result : Result (List ℕ) MemStop) (counter_is : counter ≡ counter_of place block)
+      (r : StepMoves (history got.bus) got.engine (history new.bus) new.engine) (unmade : new.engine.made ≡ got.engine.made) (pads : new.pads ≡ got.pads)
+      (unwritten : (history new.bus).written ≡ (history got.bus).written) where
+    abbrev whole_step : StepMoves (history old.bus) old.engine (history new.bus) new.engine
+    whole_step =
+        let step = step_on (history old.bus) (history got.bus) (history new.bus) old.engine got.engine new.engine a.node.step r in
+        record {
+          bus_levels = step.bus_levels;
+          levels = step.levels;
+          tagger = step.tagger;
+          more = a.node.step.more;
+          made = unmade ∙ a.node.step.made;
+          evidence = step.evidence;
+          reads = step.reads;
+          accesses = step.accesses;
+          lies = step.lies;
+        }
+
+    got_terms : terms_of history moved d n got ≡ terms
+    got_terms = same_terms history moved d n old got a.node.step.tagger a.node.step.levels
+
+    got_quiet : new.engine.evidence ≡ None → got.engine.evidence ≡ None
+    got_quiet quiet = quiet_before got.engine.evidence new.engine.evidence r.evidence quiet
+
+    all_pads : new.pads ≡ old.pads
+    all_pads = pads ∙ got_pads
+
+    read_fits : TreeFits terms new counters'
+    read_fits quiet =
+        tree_same terms.tag_of counters'.tree got.engine.made new.engine.made (history got.bus).written (history new.bus).written
+        (λ level index. ap (λ (w : Place → List ℕ). w (node_place level index)) unwritten)
+        (λ level index. ap (λ (made : List Message). last_node level index made) unmade)
+        (a.fits refl (got_quiet quiet))
+
+    read_consistent : IsConsistent terms.tag_of terms.levels (history new.bus) new.engine.made new.pads.used
+    read_consistent =
+        subst (λ (p : PadEngineView). IsConsistent terms.tag_of terms.levels (history new.bus) new.engine.made p.used) (sym pads)
+        (subst (λ (made : List Message). IsConsistent terms.tag_of terms.levels (history new.bus) made got.pads.used) (sym unmade)
+        (same_consistent terms.tag_of terms.levels (history got.bus) (history new.bus) got.engine.made got.pads.used a.node.consistent r.bus_levels unwritten))
+
+    got_bytes : line_bytes got.pads.key got.engine.made line ≡ line_bytes old.pads.key old.engine.made line
+    got_bytes =
+        ap (λ (p : PadEngineView). line_bytes p.key got.engine.made line) got_pads
+        ∙ ap (bytes_of old.pads.key line) (reached_data terms old counters got counters' None a line)
+
+    pub line_read : (history got.bus).accesses ≤ (history old.bus).accesses + fetch_accesses old.engine.levels →
+        (got.engine.evidence ≡ None → (other : ℕ) → counters_in counters' got.engine.made other ≡ counters_in counters old.engine.made other) →
+        PathWasRead counters.tree old.engine.made 0 page (history old.bus) (history got.bus) →
+        ((evidence : Evidence) → old.engine.evidence ≡ None → got.engine.evidence ≡ Some evidence → IsOnPath old.engine.levels 0 page (evidence_place evidence)) →
+        ((made_at : ℕ) (bytes tag : List ℕ) → old.engine.evidence ≡ None →
+        got.engine.evidence ≡ Some (Collision 0 page made_at bytes tag) → block ≡ block_of bytes) →
+        moved old.bus new.bus → AreCounted (history got.bus) (history new.bus) 0 → (history new.bus).accesses ≤ (history got.bus).accesses + 1 →
+        ((other : ℕ) → other ≢ line → (history new.bus).reads (line_place other) ≡ (history got.bus).reads (line_place other)) →
+        (new.engine.evidence ≡ None → IfOk result (λ bytes. bytes ≡ line_bytes got.pads.key got.engine.made line)) →
+        (got.engine.evidence ≡ None → IsFresh line got.pads.used → IsOk result × (new ≡ got)) →
+        (got.engine.evidence ≡ None → result ≢ Err NoMemory →
+        IsFresh line got.pads.used ⊎ Rose ((history got.bus).reads (line_place line)) ((history new.bus).reads (line_place line))) →
+        (AreAccounted (terms_of history moved d n got) got None → AreAccounted (terms_of history moved d n got) new (stop_of result)) →
+        ShowsLies (terms_of history moved d n got) got new →
+        ((evidence : Evidence) → got.engine.evidence ≡ None → new.engine.evidence ≡ Some evidence → evidence_place evidence ≡ line_place line) →
+        IfOk result (IsReadUnder (tags_of d n got.engine) got.pads.key line counter (history new.bus)) →
+        ((at : ℕ) (under : Counter) (sealed : Sealed) (made_count : ℕ) → got.engine.evidence ≡ None →
+        new.engine.evidence ≡ Some (Forgery at under sealed made_count) → (at ≡ line) × (result ≡ Ok (cipher_of got.pads.key line under sealed.cipher))) →
+        ((place : Place) → result ≡ Err (Tampered place) → (place ≡ line_place line)
+        × (got.engine.evidence ≡ None → Rose (history got.bus).lies (history new.bus).lies)) →
+        ((spent : ℕ) → result ≢ Err (Spent spent)) → IsLineRead terms line old counters new counters' result
+    line_read got_once same path node_found node_accepted went counted once alone value fresh rose accounted shows found under accepted tampered unspent = record {
+      bus = went;
+      step = whole_step;
+      pairs = a.node.pairs;
+      levels = a.levels;
+      pads = all_pads;
+      writes = let more = writes_on (history old.bus) (history got.bus) (history new.bus) (length a.node.step.more) 0 (unwritten_in (stop_of result))
+          r.bus_levels r.reads r.accesses a.node.writes (record { writes = 0; counted = counted; at_most = omega arith; at_least = omega arith }) in
+          record { writes = more.writes; counted = more.counted; at_most = omega (arith, more.at_most); at_least = omega (arith, more.at_least) };
+      once = omega (arith, got_once, once);
+      written = λ at. ap (λ (w : Place → List ℕ). w (line_place at)) unwritten ∙ a.node.lines.written at;
+      alone = λ other differs. alone other differs ∙ a.node.lines.reads other;
+      consistent = read_consistent;
+      holds_last =
+          subst (λ (made : List Message). HoldsLast terms.tag_of (line_count terms.levels) made (history new.bus).written) (sym unmade)
+          (subst (HoldsLast terms.tag_of (line_count terms.levels) got.engine.made) (sym unwritten) a.node.holds_last);
+      nodes_hold_last = λ goes_on.
+          nodes_last terms.levels got.engine.made new.engine.made (history got.bus).written (history new.bus).written (a.node.nodes_hold_last (λ is. cc))
+          (λ level index. ap (λ (w : Place → List ℕ). w (node_place level index)) unwritten)
+          (λ level index. ap (λ (made : List Message). last_node level index made) unmade);
+      fits = λ none. read_fits;
+      same = λ quiet other. ap (λ (made : List Message). counters_in counters' made other) unmade ∙ same (got_quiet quiet) other;
+      value = λ quiet. if_ok result (λ bytes is. is ∙ got_bytes) (value quiet);
+      path = λ none. record {
+        rose = λ level above within uncached.
+            let on = r.reads (node_place level (path_index counters.tree.levels level (page_of line))) in
+            elim ((subst (λ (p : ℕ). PathWasRead counters.tree old.engine.made 0 p (history old.bus) (history got.bus)) page_is path).rose level above within uncached) [
+              | inl never ↦ inl never
+              | inr rose ↦ inr (omega (arith, rose, on))
+            ];
+      };
+      rose = λ quiet none.
+          elim (rose (got_quiet quiet) (λ memory. let stop : stop_of result ≡ Some NoMemory = ap stop_of memory in cc)) [
+            | inl was ↦ inl (subst (λ (p : PadEngineView). IsFresh line p.used) got_pads was)
+            | inr up ↦ let before = a.node.lines.reads line in inr (omega (arith, up, before))
+          ];
+      fresh = λ quiet was.
+          let same_all = (fresh (got_quiet quiet) (subst (λ (p : PadEngineView). IsFresh line p.used) (sym got_pads) was)).1 in
+          ap (λ (o : OutsideView B T). (history o.bus).reads (line_place line)) same_all ∙ a.node.lines.reads line;
+      accounted = λ was.
+          subst (λ (t : MemoryTerms B). AreAccounted t new (stop_of result)) got_terms
+          (accounted (subst (λ (t : MemoryTerms B). AreAccounted t got None) (sym got_terms) (a.accounted was)));
+      shows = shows_on terms old got new a.node.step r a.shows shows;
+      accepted = λ at counter_used sealed made_count quiet is.
+          let still : got.engine.evidence ≡ None =
+          before_line old.engine.levels page at counter_used sealed made_count got.engine.evidence new.engine.evidence (λ evidence there. node_found evidence quiet there)
+          r.evidence is in
+          let answered = accepted at counter_used sealed made_count still is in
+          (answered.0, answered.1 ∙ ap (λ (p : PadEngineView). Ok (cipher_of p.key line counter_used sealed.cipher)) got_pads);
+      accepted_counters = λ made_at bytes tag quiet is.
+          let before = before_node 0 (page_of line) made_at line bytes tag got.engine.evidence new.engine.evidence found r.evidence is in
+          let block_is : block ≡ block_of bytes =
+          node_accepted made_at bytes tag quiet (before ∙ ap (λ (p : ℕ). Some (Collision 0 p made_at bytes tag)) (sym page_is)) in
+          let counter_now : counter ≡ counter_of (place_of line) (block_of bytes) =
+          counter_is ∙ ap (λ (p : ℕ). counter_of p block) place_is ∙ ap (counter_of (place_of line)) block_is in
+          subst (λ (c : Counter). IfOk result (IsReadUnder terms.tag_of old.pads.key line c (history new.bus))) counter_now
+          (subst (λ (t : MemoryTerms B). IfOk result (IsReadUnder t.tag_of old.pads.key line counter (history new.bus))) got_terms
+          (subst (λ (p : PadEngineView). IfOk result (IsReadUnder (tags_of d n got.engine) p.key line counter (history new.bus))) got_pads under));
+      tampered = λ place is.
+          let there = tampered place is in (
+            inl there.0,
+            λ quiet.
+                elim (a.shows quiet) [
+                  | inl still ↦ let rose = there.1 still in omega (arith, rose, a.node.step.lies)
+                  | inr rose ↦ omega (arith, rose, r.lies)
+                ],
+          );
+      unspent = unspent;
+    }

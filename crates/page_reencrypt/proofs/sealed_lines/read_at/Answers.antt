@@ -1,0 +1,96 @@
+use Rattle.std.proofs.Common.{◌≡◌, ℕ, List, Some, None, Result, Ok, Err, refl, ap, sym, subst, rules}
+use Rattle.sec_base.specs.declared.counter.Counter.{Counter}
+use Rattle.sec_base.specs.declared.stop.MemStop.{MemStop}
+use Rattle.page_reencrypt.specs.Outside.{HasCounter, IsLineRead, terms_of}
+use Rattle.page_reencrypt.proofs.LineReads.{quiet_before}
+use Rattle.page_reencrypt.proofs.NextWrites.{HadCounters, counter_here, ok_where}
+use Rattle.page_reencrypt.proofs.ReadSteps.{line_read, ok_same, unread}
+use Rattle.page_reencrypt.proofs.Reaching.{IsReached}
+use Rattle.split_counter.specs.CounterBlock.{block_of, bumped}
+use Rattle.page_reencrypt.proofs.sealed_lines.read_at.Goals as goal
+
+pub returns-in_err-block : goal.returns-in_err-block
+returns-in_err-block g c =
+    let h = g.B.Bus.history in
+    let m = g.B.Bus.moved in
+    let d = g.T.Tagger.data_tag_of in
+    let n = g.T.Tagger.node_tag_of in
+    let old = c.args.outside.now in
+    let counters = c.args.counters.now in
+    let why = c.in_err-block.field-0.0 in
+    let e = c.in_err-block.ensures in
+    let is : c.from_residual.result ≡ Err why = search rules in
+    let reached : IsReached (terms_of h m d n old) old counters c.get.new.self c.get.new.counters (Some why) = record {
+      node = e.step;
+      levels = e.levels;
+      fits = ok_where (Err why) tt e.unspent;
+      accounted = e.accounted c.requires.fits;
+      shows = e.shows c.requires.fits;
+    } in
+    record {
+      read = subst (λ (r : Result (List ℕ) MemStop). IsLineRead (terms_of h m d n old) c.args.line old counters c.get.new.self c.get.new.counters r) (sym is)
+          (unread h m d n old counters c.args.line c.page_of.result c.page_of.ensures.page c.get.new.self c.get.new.counters why reached e.pads e.once (e.same c.requires.fits) e.found
+          (λ place same.
+          let there = e.tampered place (ap (λ (s : MemStop). Err s) same) in (there.0, there.1 c.requires.fits))
+          (λ page same. e.unspent page (ap (λ (s : MemStop). Err s) same)));
+    }
+
+pub read-requires-clause-counter : goal.read-requires-clause-counter
+read-requires-clause-counter g c = λ quiet.
+    let h = g.B.Bus.history in
+    let m = g.B.Bus.moved in
+    let d = g.T.Tagger.data_tag_of in
+    let n = g.T.Tagger.node_tag_of in
+    let old = c.args.outside.now in
+    let counters = c.args.counters.now in
+    let e = c.in_ok-block.ensures in
+    let got : IsReached (terms_of h m d n old) old counters c.get.new.self c.get.new.counters None = record {
+      node = e.step;
+      levels = e.levels;
+      fits = λ going. e.fits c.requires.fits;
+      accounted = e.accounted c.requires.fits;
+      shows = e.shows c.requires.fits;
+    } in
+    let had : HadCounters h m d n old counters 0 c.args.line c.page_of.result c.place_of.result c.get.new.self c.get.new.counters
+    c.in_ok-block.block c.get-2.result (bumped 0 c.get-2.result) = record {
+      reached = got;
+      inside = c.requires.inside;
+      page_is = c.page_of.ensures.page;
+      place_is = c.place_of.ensures.place;
+      same = e.same c.requires.fits;
+      block_is = e.block c.requires.fits;
+      is_block = e.is_block;
+      counter_is = c.get-2.ensures.counter;
+      foreseen_is = refl;
+    } in
+    let here = counter_here h m d n old counters c.requires.current 0 c.args.line c.page_of.result c.place_of.result c.get.new.self c.get.new.counters
+    c.in_ok-block.block c.get-2.result (bumped 0 c.get-2.result) had quiet in
+    let was_quiet = quiet_before old.engine.evidence c.get.new.self.engine.evidence e.step.step.evidence quiet in
+    subst (λ (used : List (ℕ × Counter)). HasCounter used c.args.line c.get-2.result) (sym e.step.used)
+    (subst (HasCounter old.pads.used c.args.line) here (c.requires.started was_quiet c.args.line))
+
+pub returns : goal.returns
+returns g c =
+    let h = g.B.Bus.history in
+    let m = g.B.Bus.moved in
+    let d = g.T.Tagger.data_tag_of in
+    let n = g.T.Tagger.node_tag_of in
+    let old = c.args.outside.now in
+    let counters = c.args.counters.now in
+    let e = c.in_ok-block.ensures in
+    let r = c.read.ensures in
+    let got : IsReached (terms_of h m d n old) old counters c.get.new.self c.get.new.counters None = record {
+      node = e.step;
+      levels = e.levels;
+      fits = λ going. e.fits c.requires.fits;
+      accounted = e.accounted c.requires.fits;
+      shows = e.shows c.requires.fits;
+    } in
+    record {
+      read = line_read h m d n old counters c.args.line c.page_of.result c.page_of.ensures.page c.get.new.self c.get.new.counters c.place_of.result
+          c.in_ok-block.block got e.pads c.place_of.ensures.place c.requires.inside c.read.new.self c.get-2.result c.read.result c.get-2.ensures.counter
+          r.moves r.unmade r.pads r.unwritten e.once (e.same c.requires.fits) e.read e.found
+          (λ made_at bytes tag quiet is. ok_same c.in_ok-block.block (block_of bytes) (Ok c.in_ok-block.block) (Ok (block_of bytes)) refl refl (e.accepted made_at bytes tag quiet is))
+          (g.met.B.Bus.moved_on old.bus c.get.new.self.bus c.read.new.self.bus e.step.bus r.moved) r.counted r.once r.alone r.value r.fresh r.rose
+          r.accounted r.shows r.found r.under r.accepted r.tampered r.unspent;
+    }

@@ -1,0 +1,13 @@
+use Rattle.std.proofs.Common.{ap}
+use Rattle.sec_base.specs.Evidence.{sealed_bytes}
+use Rattle.sec_base.specs.declared.place.Place.TheVariants.{Line}
+use Rattle.bus_model.specs.HonestBus.{honest_history}
+use Rattle.bus_model.proofs.FlipSteps.{if_err}
+use Rattle.page_reencrypt.proofs.Replays.{any_write, lied_out}
+use Rattle.page_reencrypt.proofs.tests.ReplayBusBus.write_data.Goals as goal
+
+pub returns-in_err-write_data-clause-err : goal.returns-in_err-write_data-clause-err
+returns-in_err-write_data-clause-err c = if_err c.from_residual.result (ap lied_out c.in_err-write_data.ensures.err)
+
+pub returns-clause-ok : goal.returns-clause-ok
+returns-clause-ok c = any_write (Line c.args.line) (sealed_bytes c.args.sealed.now) (honest_history c.args.self.now.bus) (honest_history c.write_data.new.self) c.in_ok-write_data.ensures.ok

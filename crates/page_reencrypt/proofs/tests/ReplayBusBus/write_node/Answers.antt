@@ -1,0 +1,16 @@
+use Rattle.std.proofs.Common.{ap, ◌∙◌}
+use Rattle.sec_base.specs.declared.place.Place.TheVariants.{Node}
+use Rattle.bus_model.specs.BusHistory.{after_write}
+use Rattle.bus_model.specs.HonestBus.{honest_history}
+use Rattle.bus_model.proofs.FlipSteps.{if_err}
+use Rattle.page_reencrypt.proofs.Replays.{any_write, lied_out}
+use Rattle.page_reencrypt.proofs.tests.ReplayBusBus.write_node.Goals as goal
+
+pub returns-in_err-write_node-clause-err : goal.returns-in_err-write_node-clause-err
+returns-in_err-write_node-clause-err c =
+    if_err c.from_residual.result (ap lied_out c.in_err-write_node.ensures.err ∙ ap (λ bus. lied_out (honest_history bus)) c.keep.ensures)
+
+pub returns-clause-ok : goal.returns-clause-ok
+returns-clause-ok c =
+    any_write (Node c.args.level c.args.index) c.args.block.now (honest_history c.args.self.now.bus) (honest_history c.write_node.new.self)
+    (c.in_ok-write_node.ensures.ok ∙ ap (λ bus. after_write (Node c.args.level c.args.index) c.args.block.now (honest_history bus)) c.keep.ensures)

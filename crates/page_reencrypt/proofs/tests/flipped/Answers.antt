@@ -1,6 +1,0 @@
-use Rattle.bus_model.specs.FlipBus.{flip_history}
-use Rattle.bus_model.proofs.Steps.{nothing_written}
-use Rattle.page_reencrypt.proofs.tests.flipped.Goals as goal
-
-pub boot-lines-requires-clause-nothing_written : goal.boot-lines-requires-clause-nothing_written
-boot-lines-requires-clause-nothing_written c = nothing_written _ (flip_history c.in_ok-bus.bus) c.in_ok-bus.ensures.history
