@@ -1,6 +1,5 @@
 // A bus that is honest but for one answer.
-ghost use Rattle.std.specs.Prelude.{◌≡◌, ◌<◌, not, IsOk, IfOk, OnOk, OnErr};
-ghost use Rattle.std.specs.Str.{bytes_eq};
+ghost use Rattle.std.specs.Prelude.{◌≡◌, ◌<◌, if◌then◌else◌, IsOk, IfOk, OnOk, OnErr};
 ghost use Rattle.sec_base.specs.Evidence.{sealed_bytes};
 ghost use Rattle.sec_base.specs.Place.{IsPlace, place_size};
 ghost use Rattle.sec_base.specs.declared.place.Place.TheVariants.{Line, Node};
@@ -9,7 +8,7 @@ ghost use Rattle.bus_model.specs.FlipBus.{flip_history, is_due, with_flip, next_
 
 use crate::bus::Bus;
 use crate::honest_bus::HonestBus;
-use crate::lies::{FalseAnswer, Lies};
+use crate::lies::Lies;
 use sec_base::{Geometry, NoMemory, Place, Sealed};
 use std::alloc::Global;
 use std::marker::Model;
@@ -63,10 +62,7 @@ impl FlipBus {
                 offset,
                 mask,
             },
-            lies: Lies {
-                count: 0,
-                first: None,
-            },
+            lies: Lies::none(),
         })
     }
 
@@ -101,19 +97,10 @@ impl Bus for FlipBus {
         ensures moved { Unit {0} }
     {
         let due = is_due(&self.flip, Place::Line(line), self.bus.line_reads(line));
-        let sealed = self.bus.read_data(line)?;
-        if !due {
-            return Ok(sealed);
-        }
-        let answer = flip_sealed(&sealed, self.flip.offset, self.flip.mask);
-        if differs(answer, sealed) {
-            let access = self.bus.accesses();
-            self.lies.tell(FalseAnswer::Sealed {
-                access,
-                line,
-                sealed: answer,
-            });
-        }
+        let written = self.bus.read_data(line)?;
+        let answer = answer_sealed(&self.flip, due, &written);
+        let access = self.bus.accesses();
+        self.lies.judge_sealed(access, line, &written, &answer);
         Ok(answer)
     }
 
@@ -143,26 +130,14 @@ impl Bus for FlipBus {
         ensures levels { (flip_history self.new).levels ≡ (flip_history self.old).levels }
         ensures moved { Unit {0} }
     {
-        let due = is_due(
-            &self.flip,
-            Place::Node { level, index },
-            self.bus.node_reads(level, index),
-        );
-        let block = self.bus.read_node(level, index)?;
-        if !due {
-            return Ok(block);
-        }
-        let changed = flip_block(&block, self.flip.offset, self.flip.mask);
-        if changed != block {
-            let number = self.bus.accesses();
-            self.lies.tell(FalseAnswer::Block {
-                access: number,
-                level,
-                index,
-                block: changed,
-            });
-        }
-        Ok(changed)
+        let place = Place::Node { level, index };
+        let due = is_due(&self.flip, place, self.bus.node_reads(level, index));
+        let written = self.bus.read_node(level, index)?;
+        let answer = answer_block(&self.flip, due, &written);
+        let access = self.bus.accesses();
+        self.lies
+            .judge_block(access, level, index, &written, &answer);
+        Ok(answer)
     }
 
     fn write_node(&mut self, level: u8, index: u32, block: &[u8; 64]) -> Result<(), NoMemory>
@@ -196,18 +171,33 @@ fn flip_byte(bytes: &mut [u8], offset: usize, mask: u8)
     }
 }
 
+// The answer to a read that is due to be changed, or isn't.
+fn answer_block(flip: &Flip, due: bool, block: &[u8; 64]) -> [u8; 64]
+    ensures { result ≡ (if due then with_flip flip.now.offset flip.now.mask block.now else block.now) }
+{
+    if due {
+        flip_block(block, flip.offset, flip.mask)
+    } else {
+        *block
+    }
+}
+
+fn answer_sealed(flip: &Flip, due: bool, sealed: &Sealed) -> Sealed
+    ensures { sealed_bytes result ≡ (if due then with_flip flip.now.offset flip.now.mask (sealed_bytes sealed.now) else sealed_bytes sealed.now) }
+{
+    if due {
+        flip_sealed(sealed, flip.offset, flip.mask)
+    } else {
+        *sealed
+    }
+}
+
 fn flip_block(block: &[u8; 64], offset: u8, mask: u8) -> [u8; 64]
     ensures { result ≡ with_flip offset mask block.now }
 {
     let mut answer = *block;
     flip_byte(&mut answer, offset as usize, mask);
     answer
-}
-
-fn differs(first: Sealed, second: Sealed) -> bool
-    ensures { result ≡ not (bytes_eq (sealed_bytes first) (sealed_bytes second)) }
-{
-    first != second
 }
 
 // The tag stands behind the 64 bytes of the line.

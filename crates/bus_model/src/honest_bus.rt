@@ -67,24 +67,24 @@ impl HonestBus {
 }
 
 impl HonestBus {
-    // How often the line's place was read.
-    pub(crate) fn line_reads(&self, line: u32) -> u64
+    /// How often the line's place was read.
+    pub fn line_reads(&self, line: u32) -> u64
         requires { IsPlace self.now.levels (Line line) }
         ensures { result ≡ (honest_history self.now).reads (Line line) }
     {
         self.lines[line as usize].reads
     }
 
-    // How often the node's place was read.
-    pub(crate) fn node_reads(&self, level: u8, index: u32) -> u64
+    /// How often the node's place was read.
+    pub fn node_reads(&self, level: u8, index: u32) -> u64
         requires { IsPlace self.now.levels (Node level index) }
         ensures { result ≡ (honest_history self.now).reads (Node level index) }
     {
         self.nodes[self.geometry.node_number(level, index) as usize].reads
     }
 
-    // How many reads and writes there were.
-    pub(crate) fn accesses(&self) -> u64
+    /// How many reads and writes there were.
+    pub fn accesses(&self) -> u64
         ensures { result ≡ (honest_history self.now).accesses }
     {
         self.accesses
@@ -118,7 +118,17 @@ impl Bus for HonestBus {
         Ok(place.sealed)
     }
 
-    fn write_data(&mut self, line: u32, sealed: &Sealed) -> Result<(), NoMemory> {
+    /// It is never refused.
+    fn write_data(&mut self, line: u32, sealed: &Sealed) -> Result<(), NoMemory>
+        requires inside { IsPlace (honest_history self.old).levels (Line line) }
+
+        ensures is_ok { IsOk result }
+
+        ensures ok { OnOk result (honest_history self.new ≡ after_write (Line line) (sealed_bytes sealed.now) (honest_history self.old)) }
+        ensures err { OnErr result (honest_history self.new ≡ honest_history self.old) }
+        ensures levels { (honest_history self.new).levels ≡ (honest_history self.old).levels }
+        ensures moved { Unit {0} }
+    {
         self.accesses = self.accesses.saturating_add(1);
         let place = &mut self.lines[line as usize];
         place.sealed = *sealed;
@@ -143,7 +153,17 @@ impl Bus for HonestBus {
         Ok(node.block)
     }
 
-    fn write_node(&mut self, level: u8, index: u32, block: &[u8; 64]) -> Result<(), NoMemory> {
+    /// It is never refused.
+    fn write_node(&mut self, level: u8, index: u32, block: &[u8; 64]) -> Result<(), NoMemory>
+        requires inside { IsPlace (honest_history self.old).levels (Node level index) }
+
+        ensures is_ok { IsOk result }
+
+        ensures ok { OnOk result (honest_history self.new ≡ after_write (Node level index) block.now (honest_history self.old)) }
+        ensures err { OnErr result (honest_history self.new ≡ honest_history self.old) }
+        ensures levels { (honest_history self.new).levels ≡ (honest_history self.old).levels }
+        ensures moved { Unit {0} }
+    {
         self.accesses = self.accesses.saturating_add(1);
         let node = &mut self.nodes[self.geometry.node_number(level, index) as usize];
         node.block = *block;

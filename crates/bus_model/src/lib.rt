@@ -12,3 +12,4 @@ mod tests;
 pub use bus::Bus;
 pub use flip_bus::FlipBus;
 pub use honest_bus::HonestBus;
+pub use lies::{FalseAnswer, Lies};

@@ -1,19 +1,10 @@
-use Rattle.std.proofs.Common.{refl}
 use Rattle.sec_base.specs.Evidence.{sealed_bytes}
 use Rattle.sec_base.specs.declared.place.Place.TheVariants.{Line}
-use Rattle.bus_model.proofs.FlipSteps.{flip_read, flip_lied, alike, unlike, lie_at}
+use Rattle.bus_model.specs.HonestBus.{honest_history}
+use Rattle.bus_model.proofs.LieSteps.{judged_read}
 use Rattle.bus_model.proofs.flip_bus.FlipBusBus.read_data.Goals as goal
 
-pub returns-then-not-due-clause-ok : goal.returns-then-not-due-clause-ok
-returns-then-not-due-clause-ok c =
-    rw (← c.self.view_is) (flip_read c.self.inside.bus c.read_data.new.self c.self.inside.flip c.self.inside.lies (Line c.args.line) (sealed_bytes c.in_ok-sealed.sealed) (sealed_bytes c.in_ok-sealed.sealed) c.in_ok-sealed.ensures.ok c.in_ok-sealed.ensures.answer refl)
-
-pub returns-then-differs-clause-ok : goal.returns-then-differs-clause-ok
-returns-then-differs-clause-ok c =
-    rw (← c.self.view_is) (flip_lied c.self.inside.bus c.read_data.new.self c.self.inside.flip c.self.inside.lies c.tell.new.self (Line c.args.line) (sealed_bytes c.in_ok-sealed.sealed) (sealed_bytes c.flip_sealed-answer.result) _
-    c.in_ok-sealed.ensures.ok c.in_ok-sealed.ensures.answer (unlike (sealed_bytes c.flip_sealed-answer.result) (sealed_bytes c.in_ok-sealed.sealed) c.if-differs.ensures) c.tell.ensures.count c.tell.ensures.first
-    (lie_at (Line c.args.line) (sealed_bytes c.flip_sealed-answer.result) c.accesses-access.ensures))
-
-pub returns-else-differs-clause-ok : goal.returns-else-differs-clause-ok
-returns-else-differs-clause-ok c =
-    rw (← c.self.view_is) (flip_read c.self.inside.bus c.read_data.new.self c.self.inside.flip c.self.inside.lies (Line c.args.line) (sealed_bytes c.in_ok-sealed.sealed) (sealed_bytes c.flip_sealed-answer.result) c.in_ok-sealed.ensures.ok c.in_ok-sealed.ensures.answer (alike (sealed_bytes c.flip_sealed-answer.result) (sealed_bytes c.in_ok-sealed.sealed) c.if-differs.ensures))
+pub returns-clause-ok : goal.returns-clause-ok
+returns-clause-ok c =
+    rw (← c.self.view_is) (judged_read (honest_history c.self.inside.bus) (honest_history c.read_data.new.self) c.self.inside.lies c.judge_sealed.new.self (Line c.args.line) (sealed_bytes c.in_ok-written.written) (sealed_bytes c.answer_sealed-answer.result) c.accesses-access.result
+    c.in_ok-written.ensures.ok c.in_ok-written.ensures.answer c.accesses-access.ensures c.judge_sealed.ensures)

@@ -1,6 +1,6 @@
 use Rattle.std.proofs.Common.{not, ap, sym, ◌∙◌, rules}
-use Rattle.bus_model.proofs.FlipSteps.{bytes_eq-parts}
-use Rattle.bus_model.proofs.flip_bus.differs.Goals as goal
+use Rattle.bus_model.proofs.LieSteps.{bytes_eq-parts}
+use Rattle.bus_model.proofs.lies.differs.Goals as goal
 
 pub returns : goal.returns
 returns c =
