@@ -1,2 +1,3 @@
 pub mod KeyBlocks
 pub mod Tagging
+pub mod XorPieces

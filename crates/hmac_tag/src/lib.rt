@@ -1,4 +1,5 @@
-//! HMAC with SHA-256 (FIPS 198-1), the keys that a device key gives, and the tags of messages.
+//! HMAC with SHA-256 (FIPS 198-1), the keys that a device key gives, and the tags of messages: by HMAC, and by xor for
+//! teaching.
 #![tactic(auto)]
 
 mod derivation;
@@ -6,7 +7,9 @@ mod mac;
 mod tagger;
 #[cfg(test)]
 mod tests;
+mod xor_tagger;
 
 pub use derivation::{Keys, derive};
 pub use mac::hmac;
 pub use tagger::HmacTagger;
+pub use xor_tagger::XorTagger;

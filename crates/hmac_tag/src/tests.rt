@@ -1,6 +1,6 @@
 ghost use Rattle.std.specs.Prelude.{◌≤◌};
 
-use crate::{HmacTagger, derive, hmac};
+use crate::{HmacTagger, Keys, XorTagger, derive, hmac};
 use sec_base::Tagger;
 use std::fmt::Write;
 use std::test::Fail;
@@ -135,6 +135,61 @@ fn keys_and_tags_of_a_device(rt: HostRuntime) -> Result<(), Fail> {
     ];
     for (bytes, expected) in cases {
         assert_eq!(rt; digits(&rt, bytes)?.as_str(), expected);
+    }
+    Ok(())
+}
+
+// Keys whose line key and tree key are these.
+fn keys_of_messages(line_key: [u8; 32], tree_key: [u8; 32]) -> Keys {
+    Keys {
+        enc_key: [0; 16],
+        line_key,
+        tree_key,
+        report_key: [0; 32],
+    }
+}
+
+// Line 5 under the counter (0, 1), all zeros, and node 2 of level 1 with a byte in each piece, the last a part of one:
+// from Python, and the first two by hand. Of a key 16 bytes count.
+#[test]
+fn tags_by_xor(rt: HostRuntime) -> Result<(), Fail> {
+    let mut data = [0; 78];
+    data[0] = 0x44;
+    data[1] = 5;
+    data[13] = 1;
+    let mut node = [0; 70];
+    node[0] = 0x4e;
+    node[1] = 1;
+    node[2] = 2;
+    node[19] = 0x11;
+    node[36] = 0x22;
+    node[53] = 0x33;
+    node[69] = 0x44;
+    let mut line_key = [0xff; 32];
+    line_key[..16].copy_from_slice(&counting::<16>());
+    let mut tree_key = [0x0f; 32];
+    tree_key[..16].copy_from_slice(&[0xf0; 16]);
+    let cases = [
+        (
+            keys_of_messages([0; 32], [0; 32]),
+            "44050000000000000000000000010000",
+            "4e010211227700000000000000000000",
+        ),
+        (
+            keys_of_messages(counting(), tree_key),
+            "440402030405060708090a0b0c0c0e0f",
+            "bef1f2e1d287f0f0f0f0f0f0f0f0f0f0",
+        ),
+        (
+            keys_of_messages(line_key, [0xf0; 32]),
+            "440402030405060708090a0b0c0c0e0f",
+            "bef1f2e1d287f0f0f0f0f0f0f0f0f0f0",
+        ),
+    ];
+    for (keys, data_tag, node_tag) in cases {
+        let (of_data, of_node) = tags(&XorTagger::new(&keys), &data, &node);
+        assert_eq!(rt; digits(&rt, &of_data)?.as_str(), data_tag);
+        assert_eq!(rt; digits(&rt, &of_node)?.as_str(), node_tag);
     }
     Ok(())
 }
