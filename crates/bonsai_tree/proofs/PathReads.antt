@@ -1,15 +1,16 @@
 -- Reads of a path, one after another.
-use Rattle.std.proofs.Common.{◌≡◌, ◌≢◌, ◌⊎◌, inl, inr, ℕ, ◌+◌, ◌-◌, ◌/◌, ◌^◌, ◌<◌, ◌≤◌, List, [], true, Option, Some, None, Result, Ok, Err, slice_index_or, length, set, refl, ap, sym, ◌∙◌, subst, arith}
+use Rattle.std.proofs.Common.{◌≡◌, ◌≢◌, ◌⊎◌, inl, inr, ℕ, ◌+◌, ◌<◌, ◌≤◌, List, [], true, nat_lt, if◌then◌else◌, Option, Some, None, Result, Ok, Err, slice_index_or, length, set, refl, ap, sym, ◌∙◌, subst, arith}
 use Rattle.std.proofs.lemmas.Bool.{cases_order}
 use Rattle.std.proofs.lemmas.List.{get_or-set_same, get_or-set_other}
 use Rattle.sec_base.specs.Count.{Rose, RoseBy}
-use Rattle.sec_base.specs.Geometry.{page_count}
+use Rattle.sec_base.specs.Geometry.{page_count, slot}
 use Rattle.sec_base.specs.LastMessage.{last_node}
 use Rattle.sec_base.specs.declared.counter.Counter.{Counter}
 use Rattle.sec_base.specs.Evidence.{evidence_place}
 use Rattle.sec_base.specs.declared.evidence.Evidence.{Evidence}
 use Rattle.sec_base.specs.declared.evidence.Evidence.TheVariants.{Collision}
 use Rattle.sec_base.specs.declared.message.Message.{Message}
+use Rattle.sec_base.specs.declared.message.Message.TheVariants.{Node}
 use Rattle.sec_base.specs.declared.place.Place.{Place}
 use Rattle.sec_base.specs.declared.place.Place.TheVariants.{Node as node_place}
 use Rattle.sec_base.specs.declared.stop.MemStop.{MemStop}
@@ -21,9 +22,10 @@ use Rattle.std.specs.Option.{option_or}
 use Rattle.checked_bus.specs.Checks.{IsCheckedNode}
 use Rattle.checked_bus.specs.Steps.{IsAccounted, IsCurrentNode, Moves, ReadsOnce, SameLines, stop_of}
 use Rattle.checked_bus.proofs.Steps.{moves_not, moves_on, same_lines_not, same_lines_on}
-use Rattle.bonsai_tree.specs.Node.{block_or_zeros, path_index}
+use Rattle.bonsai_tree.specs.Node.{block_or_zeros, path_index, tag_in_slot}
 use Rattle.bonsai_tree.specs.Tree.{TreeView, HoldsTree, IsTree}
-use Rattle.bonsai_tree.specs.Reading.{IsPath, IsPathRead, path_tag}
+use Rattle.bonsai_tree.specs.Path.{AreChecked, HasAccepted, path_tag}
+use Rattle.bonsai_tree.specs.Reading.{IsPath, IsPathRead}
 use Rattle.checked_bus.proofs.Steps.{counted_not, counted_on}
 use Rattle.bonsai_tree.proofs.Trees.{is_current, was_none}
 
@@ -67,6 +69,9 @@ node_found {T} tag_of level index tag history history' engine engine' (Err NoMem
 pub stop_is : (result : Result (List ℕ) MemStop) (stop : MemStop) → stop_of result ≡ Some stop → result ≡ Err stop
 stop_is (Ok block) stop is = absurd (cc)
 stop_is (Err other) stop is = cc
+
+abbrev pub ok_block : List ℕ → Result (List ℕ) MemStop
+ok_block block = Ok block
 
 stop_or_not : (stop : Option MemStop) → (stop ≡ Some NoMemory) ⊎ (stop ≢ Some NoMemory)
 stop_or_not None = inr (λ (e : None ≡ Some NoMemory). absurd (cc))
@@ -306,3 +311,62 @@ module _ {T : Type 0} (d n : T → List ℕ → List ℕ) where
               let same : engine'.evidence ≡ Some (Collision level index made_at bytes tag) = cc in
               absurd (omega (arith, read.above none level index made_at bytes tag same))
         ]
+
+    -- the tag that a path keeps of a node rests on the block above it
+    keeps_tag : (level at : ℕ) (path : List (List ℕ)) (block : List ℕ) → level ≤ at →
+        path_tag tree page at (set path level block) ≡ path_tag tree page at path
+    keeps_tag level at path block high =
+        let differs : at + 1 ≢ level = λ (e : at + 1 ≡ level). absurd (omega arith) in
+        ap (λ (above : List ℕ). if nat_lt at tree.levels then tag_in_slot (slot tree.levels (path_index tree.levels at page)) above else tree.root)
+        (get_or-set_other path level (at + 1) block [] differs)
+
+    -- the block that is put into the path was checked as those above it
+    pub put_checked : (tag_of : Message → List ℕ) (level : ℕ) (path : List (List ℕ)) (block : List ℕ) → level < length path →
+        path_tag tree page level path ≡ tag_of (Node level (path_index tree.levels level page) block) →
+        AreChecked tag_of tree (level + 1) page path → AreChecked tag_of tree level page (set path level block)
+    put_checked tag_of level path block room tagged above = record {
+      tagged = λ at low high. elim (cases_order at level) [
+        | inl same ↦
+            subst (λ (k : ℕ). path_tag tree page k (set path level block) ≡ tag_of (Node k (path_index tree.levels k page) (slice_index_or (set path level block) k [])))
+            (sym same) (keeps_tag level level path block (omega arith) ∙ tagged
+            ∙ ap (λ (b : List ℕ). tag_of (Node level (path_index tree.levels level page) b)) (sym (get_or-set_same path level block [] room)))
+        | inr apart ↦
+            let differs : at ≢ level = λ (e : at ≡ level). absurd (omega arith) in
+            keeps_tag level at path block low ∙ above.tagged at (omega arith) high
+            ∙ ap (λ (b : List ℕ). tag_of (Node at (path_index tree.levels at page) b)) (sym (get_or-set_other path level at block [] differs))
+      ];
+    }
+
+    -- a collision that was found is of a block on the path
+    pub put_accepted : (level : ℕ) (engine engine' engine'' : TagEngineView T) (path : List (List ℕ)) (block : List ℕ) → level < length path →
+        ((evidence : Evidence) → engine'.evidence ≡ Some evidence → engine''.evidence ≡ Some evidence) →
+        ((at_level at made_at : ℕ) (bytes under : List ℕ) → engine'.evidence ≡ None → engine''.evidence ≡ Some (Collision at_level at made_at bytes under) →
+        (at_level ≡ level) × (block ≡ bytes)) →
+        (engine.evidence ≡ None → (at_level at made_at : ℕ) (bytes under : List ℕ) → engine'.evidence ≡ Some (Collision at_level at made_at bytes under) → level + 1 ≤ at_level) →
+        HasAccepted engine.evidence engine'.evidence path → HasAccepted engine.evidence engine''.evidence (set path level block)
+    put_accepted level engine engine' engine'' path block room stays accepted above was none at_level at made_at bytes under is =
+        elim (some_or_none engine'.evidence) [
+          | inl still ↦
+              let found : (at_level ≡ level) × (block ≡ bytes) = accepted at_level at made_at bytes under still is in
+              subst (λ (k : ℕ). slice_index_or (set path level block) k [] ≡ bytes) (sym found.0) (get_or-set_same path level block [] room ∙ found.1)
+          | inr shown ↦
+              let kept : engine''.evidence ≡ Some shown.0 = stays shown.0 shown.1 in
+              let same : engine'.evidence ≡ Some (Collision at_level at made_at bytes under) = cc in
+              let high : level + 1 ≤ at_level = above none at_level at made_at bytes under same in
+              let differs : at_level ≢ level = λ (e : at_level ≡ level). absurd (omega arith) in
+              get_or-set_other path level at_level block [] differs ∙ was none at_level at made_at bytes under same
+        ]
+
+    -- a node that was read and checked has the tag that the path keeps of it
+    pub node_tagged : (level index : ℕ) (tag : List ℕ) (path : List (List ℕ)) (mid new : BusHistory) (engine engine' engine'' : TagEngineView T) (block : List ℕ) →
+        index ≡ path_index tree.levels level page → tag ≡ path_tag tree page level path → tags_of d n engine' ≡ tags_of d n engine →
+        IsCheckedNode (tags_of d n engine') level index tag mid new engine' engine'' (Ok block) →
+        path_tag tree page level path ≡ tags_of d n engine (Node level (path_index tree.levels level page) block)
+    node_tagged level index tag path mid new engine engine' engine'' block index_is tag_is tags passed =
+        sym tag_is ∙ passed.tagged
+        ∙ ap (λ (i : ℕ). tags_of d n engine' (Node level i passed.block)) index_is
+        ∙ ap (λ (b : List ℕ). tags_of d n engine' (Node level (path_index tree.levels level page) b)) (sym passed.given)
+        ∙ ap (λ (t : Message → List ℕ). t (Node level (path_index tree.levels level page) block)) tags
+
+    pub block_same : (block bytes : List ℕ) → ok_block block ≡ ok_block bytes → block ≡ bytes
+    block_same block bytes is = cc

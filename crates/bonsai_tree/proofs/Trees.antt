@@ -10,7 +10,8 @@ use Rattle.std.proofs.lemmas.Bool.Decides.{Decides-ltb}
 use Rattle.checked_bus.specs.Steps.{IsCurrentNode}
 use Rattle.bonsai_tree.specs.Node.{block_or_zeros, path_index, tag_in_slot, tag_of_last}
 use Rattle.bonsai_tree.specs.Tree.{TreeView, IsTree, kept_tag}
-use Rattle.bonsai_tree.specs.Reading.{IsPath, path_tag}
+use Rattle.bonsai_tree.specs.Path.{path_tag}
+use Rattle.bonsai_tree.specs.Reading.{IsPath}
 use Rattle.bonsai_tree.proofs.Paths.{is_on_path, path_parent}
 
 -- where there is none now, there was none before

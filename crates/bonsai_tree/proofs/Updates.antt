@@ -56,6 +56,7 @@ module _ {T : Type 0} (d n : T → List ℕ → List ℕ) (tree tree' : TreeView
     others = λ other differs. refl;
     honest = λ used holds was. account_stopped (tags_of d n engine) used engine.made old (Some NoMemory) engine.evidence (λ place is. absurd (cc)) was;
     shown = λ holds none some. absurd (some none);
+    found = λ none evidence is. absurd (cc);
     tampered = λ place is. absurd (cc);
     on_path = λ place is. absurd (cc);
     unmade = λ place is. absurd (cc);
@@ -124,6 +125,7 @@ module _ {T : Type 0} (d n : T → List ℕ → List ℕ) (tree tree' : TreeView
               subst (λ (t : Message → List ℕ). IsAccounted t used engine'.made new (Some why) engine'.evidence) tags_same
               (read.honest (taken_holds holds) used (taken_account used was));
           shown = λ holds none some. read.shown (taken_holds holds) (evidence_same ∙ none) some;
+          found = λ none evidence is. read.found (evidence_same ∙ none) evidence is;
           tampered = λ place is holds none. read.lied (taken_holds holds) (evidence_same ∙ none) place (ap Some (stop_same why (Tampered place) is));
           on_path = λ place is. read.tampered place (ap Some (stop_same why (Tampered place) is));
           unmade = λ place is. (made, read.written);
@@ -210,6 +212,7 @@ module _ {T : Type 0} (d n : T → List ℕ → List ℕ) (tree tree' : TreeView
                 let still : engine'.evidence ≢ None = λ (e : engine'.evidence ≡ None). some (wrote.evidence ∙ e) in
                 let rose : Rose old.lies mid.lies = read.shown (taken_holds was) (evidence_same ∙ none) still in
                 omega (arith, rose, wrote.lies);
+            found = λ none evidence is. read.found (evidence_same ∙ none) evidence (sym wrote.evidence ∙ is);
             tampered = λ place is. absurd (untampered place is);
             on_path = λ place is. absurd (untampered place is);
             unmade = λ place is. absurd (untampered place is);

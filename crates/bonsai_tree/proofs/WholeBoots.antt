@@ -1,5 +1,5 @@
 -- What boot comes to as a whole.
-use Rattle.std.proofs.Common.{◌≡◌, inl, ℕ, zero, suc, ◌-◌, ◌^◌, ◌<◌, List, [], ◌++◌, length, None, Result, Ok, Err, refl, ap, sym, ◌∙◌, subst, arith, length-append}
+use Rattle.std.proofs.Common.{◌≡◌, inl, ℕ, zero, suc, ◌+◌, ◌-◌, ◌^◌, ◌<◌, ◌≤◌, max, List, [], ◌++◌, length, None, Result, Ok, Err, refl, ap, sym, ◌∙◌, subst, arith, length-append}
 use Rattle.std.specs.Prelude.{IfOk, OnOk}
 use Rattle.sec_base.specs.Count.{more_by}
 use Rattle.sec_base.specs.Geometry.{IsNode, page_count}
@@ -16,7 +16,7 @@ use Rattle.checked_bus.specs.Accesses.{WritesMessages}
 use Rattle.checked_bus.specs.Steps.{Moves, SameLines, unwritten_in}
 use Rattle.checked_bus.proofs.Steps.{moves_not, moves_on, same_lines_not, same_lines_on}
 use Rattle.checked_bus.proofs.Writes.{reads_alone}
-use Rattle.bonsai_tree.specs.Boot.{boot_message, messages_from, nodes_from}
+use Rattle.bonsai_tree.specs.Boot.{boot_message, messages_from, node_count, nodes_from}
 use Rattle.bonsai_tree.specs.Booting.{IsBooting}
 use Rattle.bonsai_tree.specs.Node.{block_or_zeros, no_block, page_block}
 use Rattle.bonsai_tree.specs.Tree.{IsTree, NodesAreMade, NodesHoldLast, want_of}
@@ -163,3 +163,11 @@ module _ {T : Type 0} (levels : ℕ) (old : BusHistory) (engine : TagEngineView 
         (wrote.last_blocks refl (first_last levels taken.made old.written (made_same ∙ nothing_made)))
         (root_is ∙ ap (λ (t : Message → List ℕ). t (boot_message t levels levels 0)) tags_same)
     whole_fits long (Err stop) wrote made root_is = tt
+
+-- there was memory for all nodes before the first was made
+pub room_for_all : {T : Type 0} (levels n : ℕ) (engine taken engine' : TagEngineView T) (more : List Message) → taken ≡ with_room n engine →
+    node_count levels ≤ n → engine'.made ≡ taken.made ++ more → taken.room ≤ engine'.room + length more →
+    node_count levels ≤ length engine'.made + engine'.room
+room_for_all {T} levels n engine taken engine' more taken_is many made_is room =
+    let had : taken.room ≡ max engine.room n = ap (λ (e : TagEngineView T). e.room) taken_is in
+    omega (arith, had, many, room, ap length made_is, length-append taken.made more)

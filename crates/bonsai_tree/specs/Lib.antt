@@ -1,5 +1,6 @@
 pub mod Node
 pub mod Tree
+pub mod Path
 pub mod Boot
 pub mod Reading
 pub mod Writing

@@ -1,7 +1,6 @@
 -- What reads of a path make of the bus and the tag engine. It serves private contracts alone.
-use Rattle.std.specs.Prelude.{◌≡◌, ◌≢◌, ℕ, ◌+◌, ◌-◌, ◌≤◌, List, [], Option, Some, None, slice_index_or, nat_lt, if◌then◌else◌}
+use Rattle.std.specs.Prelude.{◌≡◌, ◌≢◌, ℕ, ◌+◌, ◌-◌, ◌≤◌, List, [], Option, Some, None, slice_index_or}
 use Rattle.sec_base.specs.Count.{Rose}
-use Rattle.sec_base.specs.Geometry.{slot}
 use Rattle.sec_base.specs.LastMessage.{last_node}
 use Rattle.sec_base.specs.declared.counter.Counter.{Counter}
 use Rattle.sec_base.specs.Evidence.{evidence_place}
@@ -16,7 +15,7 @@ use Rattle.bus_model.specs.BusHistory.{BusHistory}
 use Rattle.tag_engine.specs.TagEngine.{TagEngineView}
 use Rattle.checked_bus.specs.Steps.{IsAccounted, Moves, SameLines}
 use Rattle.checked_bus.specs.Accesses.{AreCounted}
-use Rattle.bonsai_tree.specs.Node.{block_or_zeros, path_index, tag_in_slot}
+use Rattle.bonsai_tree.specs.Node.{block_or_zeros, path_index}
 use Rattle.bonsai_tree.specs.Tree.{TreeView, HoldsTree, IsOnPath}
 
 -- The nodes on a page's path from a level on were read from the top down and checked, or those above where a read stopped.
@@ -51,10 +50,3 @@ pub record IsPathRead {T : Type 0} (tags : TagEngineView T → Message → List 
 pub record IsPath (levels from page : ℕ) (made : List Message) (path : List (List ℕ)) : Type 0 where
   pub blocks : (level : ℕ) → from ≤ level → level ≤ levels →
       slice_index_or path level [] ≡ block_or_zeros (last_node level (path_index levels level page) made)
-
--- the tag that is kept of the node of a level on a page's path, where the path has its parent's block
-abbrev pub path_tag : TreeView → ℕ → ℕ → List (List ℕ) → List ℕ
-path_tag tree page level path =
-    if nat_lt level tree.levels
-    then tag_in_slot (slot tree.levels (path_index tree.levels level page)) (slice_index_or path (level + 1) [])
-    else tree.root

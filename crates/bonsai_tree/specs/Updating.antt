@@ -2,7 +2,9 @@
 use Rattle.std.specs.Prelude.{◌≡◌, ◌≢◌, ◌⊎◌, ℕ, ◌+◌, ◌≤◌, List, ◌++◌, length, Some, None, Result, Err, OnOk, OnErr}
 use Rattle.sec_base.specs.Count.{Rose}
 use Rattle.sec_base.specs.LastMessage.{last_node}
+use Rattle.sec_base.specs.Evidence.{evidence_place}
 use Rattle.sec_base.specs.declared.counter.Counter.{Counter}
+use Rattle.sec_base.specs.declared.evidence.Evidence.{Evidence}
 use Rattle.sec_base.specs.declared.message.Message.{Message}
 use Rattle.sec_base.specs.declared.place.Place.{Place}
 use Rattle.sec_base.specs.declared.stop.MemStop.{MemStop}
@@ -24,6 +26,7 @@ pub record IsUpdated {T : Type 0} (tags : TagEngineView T → Message → List �
       IsAccounted (tags engine) used engine.made old None engine.evidence →
       IsAccounted (tags engine) used engine'.made new (stop_of result) engine'.evidence
   pub shown : HoldsTree tags tree old engine → engine.evidence ≡ None → engine'.evidence ≢ None → Rose old.lies new.lies
+  pub found : engine.evidence ≡ None → (evidence : Evidence) → engine'.evidence ≡ Some evidence → IsOnPath tree.levels 1 page (evidence_place evidence)
   pub tampered : (place : Place) → result ≡ Err (Tampered place) → HoldsTree tags tree old engine → engine.evidence ≡ None → Rose old.lies new.lies
   pub on_path : (place : Place) → result ≡ Err (Tampered place) → IsOnPath tree.levels 1 page place
   pub unmade : (place : Place) → result ≡ Err (Tampered place) → (engine'.made ≡ engine.made) × (new.written ≡ old.written)

@@ -1,5 +1,5 @@
 // How the nodes of a new tree are made and written.
-ghost use Rattle.std.specs.Prelude.{◌≡◌, ◌+◌, ◌-◌, ◌*◌, ◌<◌, ◌≤◌, ◌++◌, [], IfOk, OnOk};
+ghost use Rattle.std.specs.Prelude.{◌≡◌, ◌+◌, ◌-◌, ◌*◌, ◌<◌, ◌≤◌, ◌++◌, ◌⊎◌, [], length, IfOk, OnOk, OnErr};
 ghost use Rattle.sec_base.specs.Count.{more_by};
 ghost use Rattle.sec_base.specs.Geometry.{IsNode, arity};
 ghost use Rattle.bus_model.specs.BusHistory.{NothingWritten};
@@ -97,6 +97,8 @@ pub(crate) fn boot_tree<B: Bus, T: Tagger>(
     ensures made { OnOk result (tags.new.made ≡ boot_messages (tags_of T.data_tag_of T.node_tag_of tags.old) geometry) }
     ensures accesses { OnOk result ((B.history bus.new).accesses ≡ more_by (node_count geometry) (B.history bus.old).accesses) }
     ensures stored { OnOk result (NodesHoldLast geometry tags.new.made (B.history bus.new).written) }
+    ensures reserved { OnErr result (((B.history bus.new ≡ B.history bus.old) × (tags.new ≡ tags.old))
+        ⊎ (node_count geometry ≤ length tags.new.made + tags.new.room)) }
     ensures fits { IfOk result (λ root. IsTree (tags_of T.data_tag_of T.node_tag_of tags.old)
         (record { levels = geometry; root = root }) tags.new.made (B.history bus.new).written) }
     ensures moved { B.moved bus.old bus.new }

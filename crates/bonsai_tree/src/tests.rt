@@ -11,6 +11,7 @@ use crate::Tree;
 use bus_model::{Bus, FlipBus, HonestBus};
 use sec_base::{Evidence, Geometry, MemStop, Message, NoMemory, Place, Sealed, Tagger};
 use std::alloc::Global;
+use std::process::Abort;
 use std::test::Fail;
 use tag_engine::TagEngine;
 
@@ -121,11 +122,12 @@ impl Bus for CountingBus {
     }
 }
 
-// A bus that changes a bit of its first answer from a node's place.
+// A bus that changes a bit of its `k`-th answer from a node's place.
 fn flipping(
     alloc: Global,
     geometry: Geometry,
     place: Place,
+    k: u64,
     offset: u8,
 ) -> Result<FlipBus, NoMemory>
     requires { offset < 64 }
@@ -133,7 +135,7 @@ fn flipping(
     ensures nothing_written { IfOk result (λ bus. NothingWritten (flip_history bus)) }
     ensures levels { IfOk result (λ bus. (flip_history bus).levels ≡ geometry) }
 {
-    FlipBus::new(alloc, geometry, place, 1, offset, 1)
+    FlipBus::new(alloc, geometry, place, k, offset, 1)
 }
 
 // More calls than any test makes.
@@ -215,127 +217,218 @@ fn a_fetch_reads_a_path_and_an_update_writes_one(rt: HostRuntime) -> Result<(), 
     Ok(())
 }
 
+// A tree with its bus and its tag engine.
+#[derive(Drop)]
+struct Flipped {
+    geometry: Geometry,
+    bus: FlipBus,
+    tags: TagEngine<Quarters>,
+    tree: Tree,
+    ghost bus_fits: { (flip_history bus).levels ≡ geometry },
+    ghost engine_fits: { tags.levels ≡ geometry },
+    ghost tree_fits: { tree.levels ≡ geometry },
+}
+
+impl Flipped {
+    // A bit of a node is flipped at its `k`-th read.
+    fn new(alloc: Global, levels: u8, level: u8, index: u32, k: u64) -> Result<Flipped, Fail> {
+        let geometry = Geometry::new(levels).ok_or("no geometry")?;
+        let mut bus = flipping(alloc, geometry, Place::Node { level, index }, k, 0)?;
+        let mut tags = TagEngine::new(alloc, Quarters, geometry)?;
+        let tree = Tree::boot(alloc, geometry, &mut bus, &mut tags)?;
+        Ok(Flipped {
+            geometry,
+            bus,
+            tags,
+            tree,
+        })
+    }
+
+    fn fetch(&mut self, rt: &impl Abort, page: u32) -> Result<[u8; 64], MemStop> {
+        assert!(rt; page < self.geometry.pages());
+        self.tree.fetch(&mut self.bus, &mut self.tags, page)
+    }
+
+    // The page at which fetches of all pages in order meet the flipped bit as tampering of the node, if one does. All
+    // others answer zeros.
+    fn caught_at(&mut self, rt: &impl Abort, level: u8, index: u32) -> Option<u32> {
+        let tampered = MemStop::Tampered(Place::Node { level, index });
+        let mut caught = None;
+        for page in 0..self.geometry.pages() {
+            match self.fetch(rt, page) {
+                Ok(block) => assert_eq!(rt; block, [0; 64], "page {page}"),
+                Err(stop) => {
+                    assert_eq!(rt; stop, tampered, "page {page}");
+                    assert_eq!(rt; caught, None, "page {page}");
+                    caught = Some(page);
+                }
+            }
+        }
+        assert_eq!(rt; self.bus.lies() == 1, caught.is_some());
+        caught
+    }
+}
+
+// A node of level k stands above 4^k pages, and is read once for each of them.
 #[test]
-fn a_flipped_node_is_tampering_of_its_place(rt: HostRuntime) -> Result<(), Fail> {
+fn each_node_that_is_flipped_is_tampering_at_that_read(rt: HostRuntime) -> Result<(), Fail> {
     let rows = [
-        (0, 0, 0),
-        (0, 1, 1),
-        (0, 2, 2),
-        (0, 3, 3),
-        (1, 0, 0),
-        (1, 0, 3),
+        (1, 0, 4, 1),
+        (1, 1, 1, 4),
+        (2, 0, 16, 1),
+        (2, 1, 4, 4),
+        (2, 2, 1, 16),
     ];
-    for (level, index, page) in rows {
-        let geometry = Geometry::new(1).ok_or("no geometry")?;
-        assert!(rt; page < geometry.pages());
-        let place = Place::Node { level, index };
-        let mut bus = flipping(rt.alloc(), geometry, place, 0)?;
-        let mut tags = TagEngine::new(rt.alloc(), Quarters, geometry)?;
-        let mut tree = Tree::boot(rt.alloc(), geometry, &mut bus, &mut tags)?;
-        let tampered = Err(MemStop::Tampered(place));
-        assert_eq!(rt;
-            tree.fetch(&mut bus, &mut tags, page),
-            tampered,
-            "node {level} {index}"
-        );
-        assert_eq!(rt; bus.lies(), 1);
-        assert_eq!(rt;
-            tree.fetch(&mut bus, &mut tags, page),
-            Ok([0; 64]),
-            "node {level} {index}"
-        );
-        let (_made, evidence) = tags.finish();
-        assert_eq!(rt; evidence, None);
+    for (levels, level, nodes, pages) in rows {
+        for index in 0..nodes {
+            let first = index * pages;
+            let reads = [
+                (1, Some(first)),
+                (u64::from(pages), Some(first + pages - 1)),
+                (u64::from(pages) + 1, None),
+            ];
+            for (k, page) in reads {
+                let mut flipped = Flipped::new(rt.alloc(), levels, level, index, k)?;
+                assert_eq!(rt;
+                    flipped.caught_at(&rt, level, index),
+                    page,
+                    "node {level} {index} at {levels}, read {k}"
+                );
+            }
+        }
     }
     Ok(())
 }
 
+// All tags are zeros, so each node's block is zeros. What passes is used: a page whose tag it keeps has another one then.
 #[test]
 fn two_blocks_with_one_tag_are_a_collision(rt: HostRuntime) -> Result<(), Fail> {
-    let geometry = Geometry::new(1).ok_or("no geometry")?;
-    let place = Place::Node { level: 0, index: 1 };
-    let mut bus = flipping(rt.alloc(), geometry, place, 63)?;
-    let mut tags = TagEngine::new(rt.alloc(), Zeros, geometry)?;
-    let mut tree = Tree::boot(rt.alloc(), geometry, &mut bus, &mut tags)?;
-    let mut accepted = [0; 64];
-    accepted[63] = 1;
-    assert_eq!(rt; tree.fetch(&mut bus, &mut tags, 1), Ok(accepted));
-    let (made, evidence) = tags.finish();
-    let collision = Evidence::Collision {
-        level: 0,
-        index: 1,
-        made_at: 1,
-        accepted,
-        tag: [0; 16],
-    };
-    assert_eq!(rt; evidence, Some(collision));
-    let true_block = Message::Node {
-        level: 0,
-        index: 1,
-        block: [0; 64],
-    };
-    assert_eq!(rt; made.get(1), Some(true_block));
+    let mut last_bit = [0; 64];
+    last_bit[63] = 1;
+    let rows = [
+        (1, 0, 1, 1, 1, Ok(last_bit)),
+        (1, 1, 0, 4, 0, Ok([0; 64])),
+        (
+            1,
+            1,
+            0,
+            4,
+            3,
+            Err(MemStop::Tampered(Place::Node { level: 0, index: 3 })),
+        ),
+        (2, 1, 2, 14, 8, Ok([0; 64])),
+        (2, 2, 0, 20, 11, Ok([0; 64])),
+        (
+            2,
+            2,
+            0,
+            20,
+            12,
+            Err(MemStop::Tampered(Place::Node { level: 1, index: 3 })),
+        ),
+    ];
+    for (levels, level, index, made_at, page, answer) in rows {
+        let geometry = Geometry::new(levels).ok_or("no geometry")?;
+        assert!(rt; page < geometry.pages());
+        let place = Place::Node { level, index };
+        let mut bus = flipping(rt.alloc(), geometry, place, 1, 63)?;
+        let mut tags = TagEngine::new(rt.alloc(), Zeros, geometry)?;
+        let mut tree = Tree::boot(rt.alloc(), geometry, &mut bus, &mut tags)?;
+        assert_eq!(rt;
+            tree.fetch(&mut bus, &mut tags, page),
+            answer,
+            "{place}, {page}"
+        );
+        let (made, evidence) = tags.finish();
+        let collision = Evidence::Collision {
+            level,
+            index,
+            made_at,
+            accepted: last_bit,
+            tag: [0; 16],
+        };
+        assert_eq!(rt; evidence, Some(collision), "{place}, {page}");
+        let true_block = Message::Node {
+            level,
+            index,
+            block: [0; 64],
+        };
+        assert_eq!(rt; made.get(made_at), Some(true_block), "{place}, {page}");
+    }
     Ok(())
 }
 
-// Page 2 of a memory of four pages has a second block, and the bus answers the first again: alone, or with its parent.
-fn replayed(alloc: Global, with_parent: bool) -> Result<Result<[u8; 64], MemStop>, Fail> {
-    let geometry = Geometry::new(1).ok_or("no geometry")?;
+// Page 0 of a tree of two levels has a second block, and the bus answers the first again, with the nodes above it up to a
+// level.
+fn replayed(alloc: Global, up_to: u8) -> Result<Result<[u8; 64], MemStop>, Fail> {
+    let geometry = Geometry::new(2).ok_or("no geometry")?;
     let mut bus = CountingBus::new(alloc, geometry, MANY)?;
     let mut tags = TagEngine::new(alloc, Quarters, geometry)?;
     let mut tree = Tree::boot(alloc, geometry, &mut bus, &mut tags)?;
-    tree.update(&mut bus, &mut tags, 2, &[1; 64])?;
-    let block = bus.read_node(0, 2)?;
+    tree.update(&mut bus, &mut tags, 0, &[1; 64])?;
+    let block = bus.read_node(0, 0)?;
     let parent = bus.read_node(1, 0)?;
-    tree.update(&mut bus, &mut tags, 2, &[2; 64])?;
-    bus.write_node(0, 2, &block)?;
-    if with_parent {
+    let top = bus.read_node(2, 0)?;
+    tree.update(&mut bus, &mut tags, 0, &[2; 64])?;
+    bus.write_node(0, 0, &block)?;
+    if up_to > 0 {
         bus.write_node(1, 0, &parent)?;
     }
-    Ok(tree.fetch(&mut bus, &mut tags, 2))
+    if up_to > 1 {
+        bus.write_node(2, 0, &top)?;
+    }
+    Ok(tree.fetch(&mut bus, &mut tags, 0))
 }
 
 #[test]
-fn an_old_counter_block_is_tampering(rt: HostRuntime) -> Result<(), Fail> {
-    let alone = Err(MemStop::Tampered(Place::Node { level: 0, index: 2 }));
-    assert_eq!(rt; replayed(rt.alloc(), false)?, alone);
-    let with_parent = Err(MemStop::Tampered(Place::Node { level: 1, index: 0 }));
-    assert_eq!(rt; replayed(rt.alloc(), true)?, with_parent);
+fn old_nodes_are_tampering_of_the_highest(rt: HostRuntime) -> Result<(), Fail> {
+    for level in 0..3 {
+        let highest = Err(MemStop::Tampered(Place::Node { level, index: 0 }));
+        assert_eq!(rt; replayed(rt.alloc(), level)?, highest, "level {level}");
+    }
     Ok(())
 }
 
+// Boot writes all nodes. A fetch reads a path, and an update reads one but for the page's block and writes one: the message
+// of a write that is refused was made.
 #[test]
 fn each_call_that_is_refused_is_want_of_memory(rt: HostRuntime) -> Result<(), Fail> {
-    let geometry = Geometry::new(1).ok_or("no geometry")?;
-    for left in 0..5 {
-        let mut bus = CountingBus::new(rt.alloc(), geometry, left)?;
-        let mut tags = TagEngine::new(rt.alloc(), Quarters, geometry)?;
-        assert!(rt;
-            Tree::boot(rt.alloc(), geometry, &mut bus, &mut tags).is_err(),
-            "boot, {left}"
-        );
-    }
-    for left in 5..7 {
-        let mut bus = CountingBus::new(rt.alloc(), geometry, left)?;
-        let mut tags = TagEngine::new(rt.alloc(), Quarters, geometry)?;
-        let mut tree = Tree::boot(rt.alloc(), geometry, &mut bus, &mut tags)?;
-        let refused = Err(MemStop::NoMemory);
-        assert_eq!(rt;
-            tree.fetch(&mut bus, &mut tags, 0),
-            refused,
-            "fetch, {left}"
-        );
-    }
-    for left in 5..8 {
-        let mut bus = CountingBus::new(rt.alloc(), geometry, left)?;
-        let mut tags = TagEngine::new(rt.alloc(), Quarters, geometry)?;
-        let mut tree = Tree::boot(rt.alloc(), geometry, &mut bus, &mut tags)?;
-        let refused = Err(MemStop::NoMemory);
-        assert_eq!(rt;
-            tree.update(&mut bus, &mut tags, 0, &[1; 64]),
-            refused,
-            "update, {left}"
-        );
+    for (levels, nodes) in [(1u8, 5u64), (2, 21)] {
+        let geometry = Geometry::new(levels).ok_or("no geometry")?;
+        let reads = u64::from(levels);
+        assert!(rt; geometry.pages() > 0);
+        for left in 0..nodes {
+            let mut bus = CountingBus::new(rt.alloc(), geometry, left)?;
+            let mut tags = TagEngine::new(rt.alloc(), Quarters, geometry)?;
+            assert!(rt;
+                Tree::boot(rt.alloc(), geometry, &mut bus, &mut tags).is_err(),
+                "boot, {left}"
+            );
+            let (made, evidence) = tags.finish();
+            assert_eq!(rt; made.len(), left + 1, "boot, {left}");
+            assert_eq!(rt; evidence, None, "boot, {left}");
+        }
+        for left in nodes..nodes + reads + 1 {
+            let mut bus = CountingBus::new(rt.alloc(), geometry, left)?;
+            let mut tags = TagEngine::new(rt.alloc(), Quarters, geometry)?;
+            let mut tree = Tree::boot(rt.alloc(), geometry, &mut bus, &mut tags)?;
+            assert_eq!(rt;
+                tree.fetch(&mut bus, &mut tags, 0),
+                Err(MemStop::NoMemory),
+                "fetch, {left}"
+            );
+        }
+        for left in nodes..nodes + 2 * reads + 1 {
+            let mut bus = CountingBus::new(rt.alloc(), geometry, left)?;
+            let mut tags = TagEngine::new(rt.alloc(), Quarters, geometry)?;
+            let mut tree = Tree::boot(rt.alloc(), geometry, &mut bus, &mut tags)?;
+            let answer = tree.update(&mut bus, &mut tags, 0, &[1; 64]);
+            assert_eq!(rt; answer, Err(MemStop::NoMemory), "update, {left}");
+            let (made, evidence) = tags.finish();
+            let more = (left + 1).saturating_sub(nodes + reads);
+            assert_eq!(rt; made.len(), nodes + more, "update, {left}");
+            assert_eq!(rt; evidence, None, "update, {left}");
+        }
     }
     Ok(())
 }

@@ -17,7 +17,8 @@ ghost use Rattle.checked_bus.specs.Accesses.{WritesMessages};
 ghost use Rattle.checked_bus.specs.Steps.{IsAccounted, Moves, SameLines, stop_of, unwritten_in};
 ghost use Rattle.bonsai_tree.specs.Boot.{boot_messages, node_count};
 ghost use Rattle.bonsai_tree.specs.Node.{no_block, page_block, path_index};
-ghost use Rattle.bonsai_tree.specs.Reading.{IsPath, IsPathRead, path_tag};
+ghost use Rattle.bonsai_tree.specs.Path.{AreChecked, HasAccepted, IsBelowPath, path_tag};
+ghost use Rattle.bonsai_tree.specs.Reading.{IsPath, IsPathRead};
 ghost use Rattle.bonsai_tree.specs.Tree.{HoldsTree, IsOnPath, NodesAreMade, NodesHoldLast, OnlyWroteNodes, PathWasRead, cached_node, cached_nodes, fetch_accesses, update_accesses, update_messages, want_of};
 ghost use Rattle.bonsai_tree.specs.Updating.{IsUpdated};
 ghost use Rattle.bonsai_tree.specs.Writing.{IsBegun, WritesNodes};
@@ -70,6 +71,10 @@ impl Tree {
         ensures zeros { OnOk result ((page : ℕ) → page < page_count geometry → page_block page tags.new.made ≡ no_block) }
         ensures holds { IfOk result (λ tree. HoldsTree (tags_of T.data_tag_of T.node_tag_of) tree (B.history bus.new) tags.new) }
         ensures empty { IfOk result (λ tree. (level : ℕ) → cached_nodes tree level ≡ []) }
+
+        // A refusal comes before anything was done, or there was memory for the messages of all nodes.
+        ensures reserved { OnErr result (((B.history bus.new ≡ B.history bus.old) × (tags.new ≡ tags.old))
+            ⊎ (node_count geometry ≤ length tags.new.made + tags.new.room)) }
 
         // Whether memory was there or not.
         ensures quiet { tags.new.evidence ≡ tags.old.evidence }
@@ -124,6 +129,10 @@ impl Tree {
             tags.old.evidence ≡ None → Rose (B.history bus.old).lies (B.history bus.new).lies }
         ensures on_path { (place : Place) → result ≡ Err (Tampered place) → IsOnPath self.old.levels 0 page place }
         ensures unspent { (spent : ℕ) → result ≢ Err (Spent spent) }
+
+        // Whatever was answered, it is at the end of a path that was checked from the top down.
+        ensures checked { IfOk result (IsBelowPath (tags_of T.data_tag_of T.node_tag_of tags.old) self.old page
+            tags.old.evidence tags.new.evidence) }
 
         ensures read { OnOk result (PathWasRead self.old tags.old.made 0 page (B.history bus.old) (B.history bus.new)) }
         ensures once { (B.history bus.new).accesses ≤ (B.history bus.old).accesses + fetch_accesses self.old.levels }
@@ -182,6 +191,8 @@ impl Tree {
             HoldsTree (tags_of T.data_tag_of T.node_tag_of) self.old (B.history bus.old) tags.old →
             IsAccounted (tags_of T.data_tag_of T.node_tag_of tags.old) used tags.old.made (B.history bus.old) None tags.old.evidence →
             IsAccounted (tags_of T.data_tag_of T.node_tag_of tags.old) used tags.new.made (B.history bus.new) (stop_of result) tags.new.evidence }
+        ensures found { (evidence : Evidence) → tags.old.evidence ≡ None → tags.new.evidence ≡ Some evidence →
+            IsOnPath self.old.levels 1 page (evidence_place evidence) }
         ensures shown { HoldsTree (tags_of T.data_tag_of T.node_tag_of) self.old (B.history bus.old) tags.old →
             tags.old.evidence ≡ None → tags.new.evidence ≢ None → Rose (B.history bus.old).lies (B.history bus.new).lies }
         ensures tampered { (place : Place) → result ≡ Err (Tampered place) →
@@ -262,6 +273,8 @@ impl Tree {
         ensures accepted { (index made_at : ℕ) (bytes tag : List ℕ) → tags.old.evidence ≡ None →
             tags.new.evidence ≡ Some (Collision level index made_at bytes tag) →
             IsOk result × (slice_index_or path.new level [] ≡ bytes) }
+        ensures checked { OnOk result (AreChecked (tags_of T.data_tag_of T.node_tag_of tags.old) self.now level page path.new) }
+        ensures kept { OnOk result (HasAccepted tags.old.evidence tags.new.evidence path.new) }
         ensures moved { B.moved bus.old bus.new }
     {
         if level > self.geometry.levels() {

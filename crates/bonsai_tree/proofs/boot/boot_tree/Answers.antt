@@ -1,4 +1,4 @@
-use Rattle.std.proofs.Common.{◌≡◌, ◌++◌, ℕ, Option, Some, sym, subst, rules}
+use Rattle.std.proofs.Common.{◌≡◌, ◌++◌, inr, ℕ, Option, Some, sym, subst, arith, rules}
 use Rattle.std.specs.Prelude.{IfOk, OnOk}
 use Rattle.tag_engine.specs.TagEngine.{tags_of}
 use Rattle.checked_bus.specs.Steps.{unwritten_in}
@@ -7,7 +7,9 @@ use Rattle.sec_base.specs.declared.stop.MemStop.{MemStop}
 use Rattle.sec_base.specs.declared.stop.MemStop.TheVariants.{NoMemory}
 use Rattle.bonsai_tree.specs.Booting.{IsBooting}
 use Rattle.bonsai_tree.specs.Tree.{want_of}
-use Rattle.bonsai_tree.proofs.WholeBoots.{booting, booting_not, tag_long, whole_accesses, whole_fits, whole_made, whole_stored}
+use Rattle.bonsai_tree.proofs.WholeBoots.{booting, booting_not, tag_long, room_for_all, whole_accesses, whole_fits, whole_made, whole_stored}
+use Rattle.bonsai_tree.proofs.Boots.{few_nodes}
+use Rattle.bonsai_tree.proofs.Trees.{on_err}
 use Rattle.bonsai_tree.proofs.boot.boot_tree.Goals as goal
 
 pub returns-in_err-reserve-clause-booting : goal.returns-in_err-reserve-clause-booting
@@ -49,3 +51,8 @@ returns-clause-fits g c =
     ≡ c.reserve.new.self.made ++ messages_from (tags_of g.T.Tagger.data_tag_of g.T.Tagger.node_tag_of c.reserve.new.self) c.args.geometry k 0)) c.levels-top.ensures.levels c.boot_node.ensures.made)
     (subst (λ (k : ℕ). IfOk c.boot_node.result (λ root. root
     ≡ tags_of g.T.Tagger.data_tag_of g.T.Tagger.node_tag_of c.reserve.new.self (boot_message (tags_of g.T.Tagger.data_tag_of g.T.Tagger.node_tag_of c.reserve.new.self) c.args.geometry k 0))) c.levels-top.ensures.levels c.boot_node.ensures.tag)
+
+pub returns-clause-reserved : goal.returns-clause-reserved
+returns-clause-reserved g c =
+    on_err c.boot_node.result (inr (room_for_all c.args.geometry _ c.args.tags.now c.reserve.new.self c.boot_node.new.tags c.boot_node.ensures.wrote.moves.more
+    c.in_ok-reserve.ensures.taken (grind (arith, few_nodes)) c.boot_node.ensures.wrote.moves.made c.boot_node.ensures.wrote.room))

@@ -1,9 +1,9 @@
-use Rattle.std.proofs.Common.{◌≡◌, ℕ, List, Result, Option, Some, Ok, Err, sym, subst, rules}
+use Rattle.std.proofs.Common.{◌≡◌, ℕ, List, Result, Option, Some, Ok, Err, refl, sym, subst, rules}
 use Rattle.sec_base.specs.declared.stop.MemStop.{MemStop}
 use Rattle.tag_engine.specs.TagEngine.{tags_of}
 use Rattle.checked_bus.specs.Steps.{stop_of}
 use Rattle.bonsai_tree.specs.Reading.{IsPathRead}
-use Rattle.bonsai_tree.proofs.PathReads.{NodeRead, collision_here, node_found, node_read_as, read_blocks, read_none, read_on, read_stopped}
+use Rattle.bonsai_tree.proofs.PathReads.{block_same, collision_here, node_found, node_read_as, node_tagged, put_accepted, put_checked, read_blocks, read_none, read_on, read_stopped, same_tags}
 use Rattle.bonsai_tree.proofs.tree.Tree.+read_path.Goals as goal
 
 pub returns-then-level-levels-clause-read : goal.returns-then-level-levels-clause-read
@@ -95,3 +95,28 @@ returns-in_err-path-clause-accepted g t c = λ index made_at bytes tag none is.
     c.in_ok-read_path.ensures.read c.in_err-path.ensures.moves.evidence
     (λ still shown. (c.in_err-path.ensures.accepted c.args.level index made_at bytes tag still shown).3) none is in
     absurd (cc)
+
+pub returns-clause-checked : goal.returns-clause-checked
+returns-clause-checked g t c =
+    let tags : tags_of g.T.Tagger.data_tag_of g.T.Tagger.node_tag_of c.read_path.new.tags ≡ tags_of g.T.Tagger.data_tag_of g.T.Tagger.node_tag_of c.args.tags.now =
+    same_tags g.T.Tagger.data_tag_of g.T.Tagger.node_tag_of (g.B.Bus.history c.args.bus.now) (g.B.Bus.history c.read_path.new.bus)
+    c.args.tags.now c.read_path.new.tags c.in_ok-read_path.ensures.read.moves in
+    put_checked g.T.Tagger.data_tag_of g.T.Tagger.node_tag_of c.args.self.now c.args.page
+    (tags_of g.T.Tagger.data_tag_of g.T.Tagger.node_tag_of c.args.tags.now) c.args.level c.read_path.new.path c.in_ok-path.field-0 (search rules)
+    (node_tagged g.T.Tagger.data_tag_of g.T.Tagger.node_tag_of c.args.self.now c.args.page c.args.level c.path_index.result c.path_tag-tag.result c.read_path.new.path
+    (g.B.Bus.history c.read_path.new.bus) (g.B.Bus.history c.read_node.new.bus) c.args.tags.now c.read_path.new.tags c.read_node.new.tags c.in_ok-path.field-0
+    c.path_index.ensures.index c.path_tag-tag.ensures tags c.in_ok-path.ensures.read)
+    c.in_ok-read_path.ensures.checked
+
+pub returns-clause-kept : goal.returns-clause-kept
+returns-clause-kept g t c =
+    put_accepted g.T.Tagger.data_tag_of g.T.Tagger.node_tag_of c.args.self.now c.args.page c.args.level
+    c.args.tags.now c.read_path.new.tags c.read_node.new.tags c.read_path.new.path c.in_ok-path.field-0 (search rules)
+    c.in_ok-path.ensures.moves.evidence
+    (λ at_level at made_at bytes under still is.
+    let found = c.in_ok-path.ensures.accepted at_level at made_at bytes under still is in
+    (found.0, block_same g.T.Tagger.data_tag_of g.T.Tagger.node_tag_of c.args.self.now c.args.page c.in_ok-path.field-0 bytes found.3))
+    c.in_ok-read_path.ensures.read.above c.in_ok-read_path.ensures.kept
+
+pub returns-clause-accepted : goal.returns-clause-accepted
+returns-clause-accepted g t c = λ index made_at bytes tag none is. (refl, returns-clause-kept g t c none c.args.level index made_at bytes tag is)
