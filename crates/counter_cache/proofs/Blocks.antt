@@ -1,5 +1,5 @@
 -- The counters that a page's last message spells.
-use Rattle.std.proofs.Common.{◌≡◌, ◌⊎◌, inl, inr, ℕ, List, Option, Some, None, refl, ap, sym, ◌∙◌}
+use Rattle.std.proofs.Common.{◌≡◌, ◌⊎◌, inl, inr, ℕ, List, Option, Some, refl, ap, ◌∙◌}
 use Rattle.sec_base.specs.declared.message.Message.{Message}
 use Rattle.sec_base.specs.LastMessage.{last_node}
 use Rattle.split_counter.specs.Digits.{digits_of, number_of}

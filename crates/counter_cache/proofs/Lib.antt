@@ -1,3 +1,4 @@
 pub mod Blocks
 pub mod Rising
 pub mod Bumps
+pub mod CheckedBumps

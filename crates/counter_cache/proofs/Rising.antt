@@ -1,13 +1,12 @@
 -- A bump lets no counter go down.
-use Rattle.std.proofs.Common.{◌≡◌, ◌≢◌, ◌==◌, ℕ, ◌+◌, ◌*◌, ◌^◌, ◌<◌, ◌≤◌, ◌⊎◌, inl, inr, Bool, true, false, cond, nat_lt, List, length, replicate, slice_index, slice_set, refl, ap, sym, ◌∙◌, subst, arith}
+use Rattle.std.proofs.Common.{◌≡◌, ◌==◌, ℕ, ◌+◌, ◌<◌, ◌≤◌, ◌⊎◌, inl, inr, Bool, true, false, cond, nat_lt, replicate, slice_index, slice_set, refl, ap, sym, ◌∙◌, subst, arith}
 use Rattle.std.proofs.lemmas.Bool.{cases_eq}
 use Rattle.std.proofs.lemmas.Bool.Decides.{Decides-ltb}
-use Rattle.std.proofs.lemmas.List.{get_or-replicate, get_or-set_same, get_or-set_other}
+use Rattle.std.proofs.lemmas.List.{get_or-set_same, get_or-set_other}
 use Rattle.std.proofs.lemmas.List.Elements.{All-get_or}
 use Rattle.sec_base.specs.declared.counter.Counter.{Counter}
-use Rattle.split_counter.specs.declared.bumped.Bumped.{Bumped}
 use Rattle.split_counter.specs.declared.bumped.Bumped.TheVariants.{Line, Page, Spent}
-use Rattle.split_counter.specs.CounterBlock.{CounterBlockView, IsCounterBlock, after_bump, after_outcome, bumped, counter_number, counter_of, next_counter}
+use Rattle.split_counter.specs.CounterBlock.{CounterBlockView, IsCounterBlock, after_bump, after_outcome, bumped, counter_number, counter_of}
 
 line_fits : (block : CounterBlockView) (at : ℕ) → IsCounterBlock block → at < 64 → slice_index block.lines at < 128
 line_fits block at is inside = All-get_or (λ (counter : ℕ). counter < 128) block.lines at 0 (omega (arith, is.whole)) is.lines_fit

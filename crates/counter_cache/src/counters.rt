@@ -17,7 +17,7 @@ ghost use Rattle.checked_bus.specs.Steps.{IsAccounted, Moves, SameLines, stop_of
 ghost use Rattle.split_counter.specs.declared.bumped.Bumped.TheVariants.{Line, Page, Spent};
 ghost use Rattle.split_counter.specs.CounterBlock.{IsCounterBlock, after_bump, block_of, bumped, counter_number, counter_of, new_block};
 ghost use Rattle.bonsai_tree.specs.Boot.{boot_messages, node_count};
-ghost use Rattle.counter_cache.specs.Counters.{HoldsCounters, bump_accesses, bump_messages, cached_pages, counters_in};
+ghost use Rattle.counter_cache.specs.Counters.{AreBelowPath, HoldsCounters, IsBumped, bump_accesses, bump_messages, cached_pages, counters_in};
 ghost use Rattle.bonsai_tree.specs.Tree.{IsOnPath, NodesAreMade, NodesHoldLast, OnlyWroteNodes, PathWasRead, fetch_accesses, want_of};
 ghost use Rattle.checked_bus.specs.Accesses.{WritesMessages};
 ghost use Rattle.checked_bus.specs.Steps.{unwritten_in};
@@ -126,6 +126,10 @@ impl Counters {
         ensures on_path { (place : Place) → result ≡ Err (Tampered place) → IsOnPath self.old.tree.levels 0 page place }
         ensures unspent { (spent : ℕ) → result ≢ Err (stop_spent spent) }
 
+        // Whatever was answered, they are at the end of a path that was checked from the top down.
+        ensures checked { IfOk result (AreBelowPath (tags_of T.data_tag_of T.node_tag_of tags.old) self.old page
+            tags.old.evidence tags.new.evidence) }
+
         // A block without a copy on the chip is read from its place, with all nodes above it.
         ensures read { ¬ Contains (cached_pages self.old) page →
             OnOk result (PathWasRead self.old.tree tags.old.made 0 page (B.history bus.old) (B.history bus.new)) }
@@ -200,6 +204,8 @@ impl Counters {
         ensures unspent { (spent : ℕ) → result ≢ Err (stop_spent spent) }
 
         // A false answer is shown as evidence or taken for tampering.
+        ensures found { (evidence : Evidence) → tags.old.evidence ≡ None → tags.new.evidence ≡ Some evidence →
+            IsOnPath self.old.tree.levels 0 page (evidence_place evidence) }
         ensures honest { (used : List (ℕ × Counter)) →
             HoldsCounters (tags_of T.data_tag_of T.node_tag_of) self.old (B.history bus.old) tags.old →
             IsAccounted (tags_of T.data_tag_of T.node_tag_of tags.old) used tags.old.made (B.history bus.old) None tags.old.evidence →
@@ -211,10 +217,17 @@ impl Counters {
             tags.old.evidence ≡ None → Rose (B.history bus.old).lies (B.history bus.new).lies }
         ensures on_path { (at : Place) → result ≡ Err (Tampered at) → IsOnPath self.old.tree.levels 0 page at }
 
-        // A block without a copy on the chip is read from its place, with all nodes above it.
+        // Whatever was answered, what is counted up is at the end of a path that was checked from the top down.
+        ensures checked { IfOk result (IsBumped (tags_of T.data_tag_of T.node_tag_of tags.old) self.old self.new page place limit
+            tags.old.evidence tags.new.evidence tags.new.made) }
+
+        // A block without a copy on the chip is read from its place, with all nodes above it. Where the line is spent,
+        // nothing else is.
         ensures read { ¬ Contains (cached_pages self.old) page →
             OnOk result (PathWasRead self.old.tree tags.old.made 0 page (B.history bus.old) (B.history bus.new)) }
         ensures once { (B.history bus.new).accesses ≤ (B.history bus.old).accesses + bump_accesses self.old.tree.levels }
+        ensures spent_once { result ≡ Ok Spent →
+            (B.history bus.new).accesses ≤ (B.history bus.old).accesses + fetch_accesses self.old.tree.levels }
         ensures few_copies { length (cached_pages self.new) ≤ 32 }
         ensures new_copies { (other : ℕ) → Contains (cached_pages self.new) other → Contains (cached_pages self.old) other
             ⊎ (last_node 0 other tags.old.made ≡ None)
