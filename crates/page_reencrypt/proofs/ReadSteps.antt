@@ -25,7 +25,7 @@ use Rattle.checked_bus.proofs.Steps.{moves_on as step_on}
 use Rattle.split_counter.specs.CounterBlock.{CounterBlockView, block_of, counter_of, place_of}
 use Rattle.bonsai_tree.specs.Tree.{IsOnPath, PathWasRead, fetch_accesses}
 use Rattle.bonsai_tree.specs.Node.{path_index}
-use Rattle.counter_cache.specs.Counters.{CountersView, counters_in}
+use Rattle.counter_cache.specs.Counters.{AreBelowPath, CountersView, counters_in}
 use Rattle.checked_bus.proofs.Writes.{writes_on}
 use Rattle.page_reencrypt.specs.Consistency.{IsConsistent}
 use Rattle.page_reencrypt.specs.Contents.{HoldsLast, bytes_of, line_bytes}
@@ -71,6 +71,21 @@ before_node level index made_at line block tag None after found stays is =
     let here : node_place level index ≡ line_place line = found (Collision level index made_at block tag) refl is in absurd (cc)
 before_node level index made_at line block tag (Some evidence) after found stays is = sym (stays evidence refl) ∙ is
 
+-- a path leads to the counters, also where more was found since
+below_on : (tag_of : Message → List ℕ) (counters : CountersView) (page : ℕ) (before mid after : Option Evidence) (block : CounterBlockView) →
+    AreBelowPath tag_of counters page before mid block →
+    ((level index made_at : ℕ) (bytes tag : List ℕ) → after ≡ Some (Collision level index made_at bytes tag) → mid ≡ Some (Collision level index made_at bytes tag)) →
+    AreBelowPath tag_of counters page before after block
+below_on tag_of counters page before mid after block was earlier = record {
+  bytes = was.bytes;
+  below = record {
+    path = was.below.path;
+    leads = was.below.leads;
+    accepted = λ none level index made_at bytes tag is. was.below.accepted none level index made_at bytes tag (earlier level index made_at bytes tag is);
+  };
+  spelled = was.spelled;
+}
+
 module _ {B T : Type 0} (history : B → BusHistory) (moved : B → B → Type 0) (d n : T → List ℕ → List ℕ) (old : OutsideView B T) (counters : CountersView) (line page : ℕ)
     (page_is : page ≡ page_of line) where
   abbrev terms : MemoryTerms B
@@ -108,6 +123,7 @@ module _ {B T : Type 0} (history : B → BusHistory) (moved : B → B → Type 0
     accepted = λ at under sealed made_count quiet is.
         not_node old.engine.levels page at (found (Forgery at under sealed made_count) quiet is);
     accepted_counters = λ made_at block tag quiet is. tt;
+    checked = tt;
     tampered = λ place is.
         let same_stop : why ≡ Tampered place = cc in
         let there = tampered place same_stop in
@@ -170,6 +186,7 @@ module _ {B T : Type 0} (history : B → BusHistory) (moved : B → B → Type 0
         ((evidence : Evidence) → old.engine.evidence ≡ None → got.engine.evidence ≡ Some evidence → IsOnPath old.engine.levels 0 page (evidence_place evidence)) →
         ((made_at : ℕ) (bytes tag : List ℕ) → old.engine.evidence ≡ None →
         got.engine.evidence ≡ Some (Collision 0 page made_at bytes tag) → block ≡ block_of bytes) →
+        AreBelowPath terms.tag_of counters page old.engine.evidence got.engine.evidence block →
         moved old.bus new.bus → AreCounted (history got.bus) (history new.bus) 0 → (history new.bus).accesses ≤ (history got.bus).accesses + 1 →
         ((other : ℕ) → other ≢ line → (history new.bus).reads (line_place other) ≡ (history got.bus).reads (line_place other)) →
         (new.engine.evidence ≡ None → IfOk result (λ bytes. bytes ≡ line_bytes got.pads.key got.engine.made line)) →
@@ -185,7 +202,7 @@ module _ {B T : Type 0} (history : B → BusHistory) (moved : B → B → Type 0
         ((place : Place) → result ≡ Err (Tampered place) → (place ≡ line_place line)
         × (got.engine.evidence ≡ None → Rose (history got.bus).lies (history new.bus).lies)) →
         ((spent : ℕ) → result ≢ Err (Spent spent)) → IsLineRead terms line old counters new counters' result
-    line_read got_once same path node_found node_accepted went counted once alone value fresh rose accounted shows found under accepted tampered unspent = record {
+    line_read got_once same path node_found node_accepted below went counted once alone value fresh rose accounted shows found under accepted tampered unspent = record {
       bus = went;
       step = whole_step;
       pairs = a.node.pairs;
@@ -241,6 +258,17 @@ module _ {B T : Type 0} (history : B → BusHistory) (moved : B → B → Type 0
           let counter_now : counter ≡ counter_of (place_of line) (block_of bytes) =
           counter_is ∙ ap (λ (p : ℕ). counter_of p block) place_is ∙ ap (counter_of (place_of line)) block_is in
           subst (λ (c : Counter). IfOk result (IsReadUnder terms.tag_of old.pads.key line c (history new.bus))) counter_now
+          (subst (λ (t : MemoryTerms B). IfOk result (IsReadUnder t.tag_of old.pads.key line counter (history new.bus))) got_terms
+          (subst (λ (p : PadEngineView). IfOk result (IsReadUnder (tags_of d n got.engine) p.key line counter (history new.bus))) got_pads under));
+      checked =
+          if_ok result (λ bytes read. record {
+            block = block;
+            below = subst (λ (p : ℕ). AreBelowPath terms.tag_of counters p old.engine.evidence new.engine.evidence block) page_is
+                (below_on terms.tag_of counters page old.engine.evidence got.engine.evidence new.engine.evidence block below
+                (λ level index made_at block_there tag. before_node level index made_at line block_there tag got.engine.evidence new.engine.evidence found r.evidence));
+            read = subst (λ (c : Counter). IsReadUnder terms.tag_of old.pads.key line c (history new.bus) bytes)
+                (counter_is ∙ ap (λ (p : ℕ). counter_of p block) place_is) read;
+          })
           (subst (λ (t : MemoryTerms B). IfOk result (IsReadUnder t.tag_of old.pads.key line counter (history new.bus))) got_terms
           (subst (λ (p : PadEngineView). IfOk result (IsReadUnder (tags_of d n got.engine) p.key line counter (history new.bus))) got_pads under));
       tampered = λ place is.

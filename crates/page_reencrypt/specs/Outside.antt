@@ -27,7 +27,7 @@ use Rattle.bonsai_tree.specs.Tree.{IsOnPath, IsTree, NodesHoldLast, PathWasRead,
 use Rattle.counter_cache.specs.Counters.{CountersView, counters_in}
 use Rattle.page_reencrypt.specs.Consistency.{IsConsistent}
 use Rattle.page_reencrypt.specs.Contents.{HoldsLast, counter_in, line_bytes, lines_encrypted, never_written}
-use Rattle.page_reencrypt.specs.SealedLines.{AreReread, IsBeside, IsOfPage, IsReadUnder}
+use Rattle.page_reencrypt.specs.SealedLines.{AreReread, IsBeside, IsOfPage, IsReadBelowPath, IsReadUnder}
 use Rattle.page_reencrypt.specs.Stops.{lasting_stop}
 
 -- the bus, the tag engine and the pads
@@ -149,6 +149,8 @@ module _ {B T : Type 0} (terms : MemoryTerms B) where
     pub accepted_counters : (made_at : ℕ) (block tag : List ℕ) → old.engine.evidence ≡ None →
         new.engine.evidence ≡ Some (Collision 0 (page_of line) made_at block tag) →
         IfOk result (IsReadUnder terms.tag_of old.pads.key line (counter_of (place_of line) (block_of block)) (terms.history new.bus))
+    -- whatever was answered, the counters were at the end of a checked path
+    pub checked : IfOk result (IsReadBelowPath terms.tag_of old.pads.key counters line old.engine.evidence new.engine.evidence (terms.history new.bus))
     pub tampered : (place : Place) → result ≡ Err (Tampered place) → ((place ≡ line_place line) ⊎ IsOnPath terms.levels 0 (page_of line) place)
         × (old.engine.evidence ≡ None → Rose (terms.history old.bus).lies (terms.history new.bus).lies)
     pub unspent : (page : ℕ) → result ≢ Err (Spent page)

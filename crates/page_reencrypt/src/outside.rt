@@ -22,10 +22,10 @@ ghost use Rattle.pad_stream.specs.Pads.{IsBefore};
 ghost use Rattle.checked_bus.specs.Accesses.{AreCounted};
 ghost use Rattle.checked_bus.specs.SealedLine.{sealed_line};
 ghost use Rattle.checked_bus.specs.Steps.{IsAccounted, Moves as StepMoves, stop_of};
-ghost use Rattle.split_counter.specs.CounterBlock.{IsCounterBlock, after_bump, block_of, bumped, counter_of, place_of};
+ghost use Rattle.split_counter.specs.CounterBlock.{CounterBlockView, IsCounterBlock, after_bump, block_of, bumped, counter_of, place_of};
 ghost use Rattle.split_counter.specs.declared.bumped.Bumped.TheVariants.{Line as line_counter};
 ghost use Rattle.bonsai_tree.specs.Tree.{IsOnPath, PathWasRead, fetch_accesses};
-ghost use Rattle.counter_cache.specs.Counters.{bump_accesses, bump_messages, counters_in};
+ghost use Rattle.counter_cache.specs.Counters.{AreBelowPath, bump_accesses, bump_messages, counters_in};
 ghost use Rattle.page_reencrypt.specs.Contents.{line_bytes, page_lines};
 ghost use Rattle.page_reencrypt.specs.Outside.{AreAccounted, AreConsistent, AreSealedInOrder, DiffersInRoom, HasCounter, HaveLast, HaveLastNodes, HaveRisen, IsNodeStep, ShowsLies, TreeFits, terms_of, with_room};
 ghost use Rattle.page_reencrypt.specs.SealedLines.{IsReadUnder};
@@ -107,6 +107,8 @@ impl<B: Bus, T: Tagger> Outside<B, T> {
             IsOnPath self.old.engine.levels 0 page (evidence_place evidence) }
         ensures accepted { (made_at : ℕ) (bytes tag : List ℕ) → self.old.engine.evidence ≡ None →
             self.new.engine.evidence ≡ Some (Collision 0 page made_at bytes tag) → result ≡ Ok (block_of bytes) }
+        ensures checked { (block : CounterBlockView) → result ≡ Ok block → AreBelowPath (tags_of T.data_tag_of T.node_tag_of self.old.engine)
+            counters.old page self.old.engine.evidence self.new.engine.evidence block }
         ensures tampered { (place : Place) → result ≡ Err (Tampered place) → IsOnPath self.old.engine.levels 0 page place
             × (TreeFits (terms_of B.history B.moved T.data_tag_of T.node_tag_of self.old) self.old counters.old →
             self.old.engine.evidence ≡ None → Rose (B.history self.old.bus).lies (B.history self.new.bus).lies) }

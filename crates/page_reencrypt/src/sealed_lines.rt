@@ -23,7 +23,7 @@ ghost use Rattle.bonsai_tree.specs.Tree.{IsOnPath, PathWasRead, fetch_accesses};
 ghost use Rattle.counter_cache.specs.Counters.{bump_accesses};
 ghost use Rattle.page_reencrypt.specs.Contents.{counter_in, entries_of_write};
 ghost use Rattle.page_reencrypt.specs.Outside.{AreConsistent, CountersSay, HasCounter, HaveLast, HaveLastNodes, HaveRisen, IsLineRead, IsWrite, TreeFits, terms_of};
-ghost use Rattle.page_reencrypt.specs.SealedLines.{AreNew, AreProtected, AreReread, AreWrittenThrough, HadMemory, IsReadUnder, IsSealedAnew, IsSealedInPart, IsTamperedInWrite, IsUnbooted, IsQuiet, IsUnsealed, Moves, ReadMoved, SameCounters, contents, enc_key, evidence, levels, lines_of, lines_of_write, made, tag_in, used};
+ghost use Rattle.page_reencrypt.specs.SealedLines.{AreNew, AreProtected, AreReread, AreWrittenThrough, HadMemory, IsReadBelowPath, IsReadUnder, IsSealedAnew, IsSealedInPart, IsTamperedInWrite, IsUnbooted, IsQuiet, IsUnsealed, Moves, ReadMoved, SameCounters, contents, enc_key, evidence, levels, lines_of, lines_of_write, made, tag_in, used};
 ghost use Rattle.page_reencrypt.specs.Stops.{lasting_stop};
 
 use crate::account::Account;
@@ -202,6 +202,10 @@ impl<B: Bus, T: Tagger> LineStore for SealedLines<B, T> {
             IsQuiet self.old → evidence self.new ≡ Some (Collision 0 (page_of line) made_at block tag) →
             IfOk result (IsReadUnder (tag_in T.data_tag_of T.node_tag_of self.old) (enc_key self.old) line
             (counter_of (place_of line) (block_of block)) (B.history self.new.bus)) }
+
+        // Whatever was answered, the counters were at the end of a path that was checked from the top down.
+        ensures checked { lasting_stop self.old.stopped ≡ None → IfOk result (IsReadBelowPath (tag_in T.data_tag_of T.node_tag_of self.old)
+            (enc_key self.old) self.old.counters line (evidence self.old) (evidence self.new) (B.history self.new.bus)) }
 
         // Evidence comes only of a false answer.
         ensures shown { lasting_stop self.old.stopped ≡ None → IsQuiet self.old →

@@ -1,5 +1,5 @@
 -- What a load and a store make of a memory.
-use Rattle.std.proofs.Common.{◌≡◌, ◌≢◌, ◌⊎◌, inl, inr, ℕ, zero, suc, ◌+◌, ◌/◌, ◌^◌, ◌≤◌, List, [], ◌∷◌, ◌++◌, length, length-append, map, take, Some, None, Result, Ok, Err, OnErr, Contains, refl, ap, sym, ◌∙◌, subst, arith, append_assoc}
+use Rattle.std.proofs.Common.{◌≡◌, ◌≢◌, ◌⊎◌, inl, inr, ℕ, zero, suc, ◌+◌, ◌/◌, List, [], ◌∷◌, ◌++◌, length, length-append, map, take, Some, None, Result, Ok, Err, OnErr, Contains, refl, ap, sym, ◌∙◌, subst, arith, append_assoc}
 use Rattle.std.proofs.Math.Nat.{div-one, pow-zero}
 use Rattle.std.proofs.lemmas.List.{append-nil}
 use Rattle.sec_base.specs.Count.{Rose, RoseBy}
@@ -7,12 +7,10 @@ use Rattle.sec_base.specs.Geometry.{arity, page_of}
 use Rattle.sec_base.specs.LastMessage.{data_pairs, last_node, last_pair}
 use Rattle.sec_base.specs.Width.{number_at}
 use Rattle.sec_base.specs.declared.counter.Counter.{Counter}
-use Rattle.sec_base.specs.declared.geometry.TheConstants.{LINES_PER_PAGE}
 use Rattle.sec_base.specs.declared.message.Message.{Message}
 use Rattle.sec_base.specs.declared.place.Place.{Place}
 use Rattle.sec_base.specs.declared.place.Place.TheVariants.{Line as line_place, Node as node_place}
 use Rattle.sec_base.specs.declared.stop.MemStop.{MemStop}
-use Rattle.sec_base.specs.declared.stop.MemStop.TheVariants.{Tampered}
 use Rattle.sec_base.specs.declared.width.Width.{Width}
 use Rattle.bus_model.specs.BusHistory.{BusHistory}
 use Rattle.tag_engine.specs.TagEngine.{TagEngineView}
@@ -20,13 +18,13 @@ use Rattle.pad_stream.specs.Pad.{cipher_of}
 use Rattle.checked_bus.proofs.Steps.{data_pairs-append}
 use Rattle.split_counter.specs.CounterBlock.{next_counter, place_of}
 use Rattle.bonsai_tree.specs.Node.{path_index}
-use Rattle.bonsai_tree.specs.Tree.{IsOnPath, PathWasRead}
+use Rattle.bonsai_tree.specs.Tree.{IsOnPath}
 use Rattle.page_reencrypt.specs.Contents.{counter_in, entries_of_write, lines_encrypted}
 use Rattle.page_reencrypt.specs.SealedLines.{AreReread, HadMemory, IsBeside, IsSealedAnew, IsSealedInPart, IsTamperedInWrite, IsUnsealed, Moves, ReadMoved, SameCounters, SealedLinesView, enc_key, made, used}
 use Rattle.page_reencrypt.specs.SealedLines as lines
 use Rattle.page_reencrypt.specs.Stops.{lasting_stop}
 use Rattle.page_reencrypt.proofs.Moves.{moves_not, moves_on}
-use Rattle.secure_memory.specs.SecureRam.{SecureRamView, IsMoved, IsOfLine, IsQuiet, IsWrittenAnew, IsWrittenInPart, LineHad, PageHad, PageRead, PathHad, WereHad, cached_pages, evidence, held_lines, stopped}
+use Rattle.secure_memory.specs.SecureRam.{SecureRamView, IsMoved, IsOfLine, IsQuiet, IsWrittenAnew, IsWrittenInPart, LineHad, PageHad, PageRead, PathHad, WereHad, evidence, stopped}
 use Rattle.secure_memory.specs.Moving.{line_sooner, page_sooner, was_none}
 
 only_line : (line other : ℕ) → Contains (line ∷ []) other → other ≡ line

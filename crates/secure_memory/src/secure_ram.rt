@@ -21,7 +21,7 @@ ghost use Rattle.split_counter.specs.CounterBlock.{block_of, counter_of, last_co
 ghost use Rattle.bonsai_tree.specs.Tree.{fetch_accesses};
 ghost use Rattle.page_reencrypt.specs.Contents.{counter_in, entries_of_write};
 ghost use Rattle.page_reencrypt.specs.SealedLines.{AreNew, AreProtected, AreReread, AreWrittenThrough, HadMemory, IsBeside, IsUnbooted, IsUnsealed, SameCounters, enc_key, lines_of_write, tag_in};
-ghost use Rattle.secure_memory.specs.SecureRam.{IsMoved, IsNumberUnder, IsOfLine, IsQuiet, IsWrittenAnew, IsWrittenInPart, LineHad, PathHad, cached_pages, contents, evidence, held_lines, levels, lines_of, load_accesses, made, most_held, stopped, store_accesses, used};
+ghost use Rattle.secure_memory.specs.SecureRam.{IsMoved, IsNumberBelowPath, IsNumberUnder, IsOfLine, IsQuiet, IsWrittenAnew, IsWrittenInPart, LineHad, PathHad, cached_pages, contents, evidence, held_lines, levels, lines_of, load_accesses, made, most_held, stopped, store_accesses, used};
 
 use bus_model::Bus;
 use hmac_tag::Keys;
@@ -185,6 +185,11 @@ impl<B: Bus, T: Tagger> Ram for SecureRam<B, T> {
             evidence self.new ≡ Some (Collision 0 (page_of (line_of addr)) made_at block tag) →
             IfOk result (IsNumberUnder (tag_in T.data_tag_of T.node_tag_of self.old.lines) (enc_key self.old.lines) (line_of addr)
             (counter_of (place_of (line_of addr)) (block_of block)) (B.history self.new.lines.bus) (addr % 64) width) }
+
+        // Whatever was answered, the counters were at the end of a path that was checked from the top down.
+        ensures checked { stopped self.old ≡ None → IfOk result (IsNumberBelowPath (tag_in T.data_tag_of T.node_tag_of self.old.lines)
+            (enc_key self.old.lines) self.old.lines.counters (line_of addr) (evidence self.old) (evidence self.new)
+            (B.history self.new.lines.bus) (addr % 64) width) }
 
         // Tampering comes only of the line or of a node on the path of its page, and where an answer was false or there was
         // evidence before.

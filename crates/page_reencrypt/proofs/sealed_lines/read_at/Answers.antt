@@ -91,6 +91,7 @@ returns g c =
           c.in_ok-block.block got e.pads c.place_of.ensures.place c.requires.inside c.read.new.self c.get-2.result c.read.result c.get-2.ensures.counter
           r.moves r.unmade r.pads r.unwritten e.once (e.same c.requires.fits) e.read e.found
           (λ made_at bytes tag quiet is. ok_same c.in_ok-block.block (block_of bytes) (Ok c.in_ok-block.block) (Ok (block_of bytes)) refl refl (e.accepted made_at bytes tag quiet is))
+          (e.checked c.in_ok-block.block refl)
           (g.met.B.Bus.moved_on old.bus c.get.new.self.bus c.read.new.self.bus e.step.bus r.moved) r.counted r.once r.alone r.value r.fresh r.rose
           r.accounted r.shows r.found r.under r.accepted r.tampered r.unspent;
     }

@@ -7,6 +7,7 @@ use Rattle.tag_engine.specs.TagEngine.{tags_of}
 use Rattle.page_reencrypt.specs.SealedLines.{ReadMoved, SealedLinesView}
 use Rattle.page_reencrypt.specs.SealedLinesInside.{sealed_lines_view}
 use Rattle.page_reencrypt.specs.Stops.{lasting_stop}
+use Rattle.page_reencrypt.proofs.LineReads.{quiet_before}
 use Rattle.page_reencrypt.proofs.ReadCalls.{lasting_read, read_contents, read_kept, read_moved, read_unsealed, read_value, unsealed_not}
 use Rattle.page_reencrypt.proofs.sealed_lines.SealedLinesLineStore.read_line.Goals as goal
 
@@ -109,3 +110,15 @@ returns-clause-tampered g c = λ place _ is.
 
 pub returns-clause-shown : goal.returns-clause-shown
 returns-clause-shown g c = λ _ quiet. rw (← c.self.view_is) (c.read_at-read.ensures.read.shows (rw (← c.self.view_is) at quiet))
+
+pub returns-clause-checked : goal.returns-clause-checked
+returns-clause-checked g c = λ _. rw (← c.self.view_is) c.read_at-read.ensures.read.checked
+
+pub returns-clause-accepted_counters : goal.returns-clause-accepted_counters
+returns-clause-accepted_counters g c = λ made_at block tag _ quiet found.
+    rw (← c.self.view_is) (c.read_at-read.ensures.read.accepted_counters made_at block tag (rw (← c.self.view_is) at quiet) found)
+
+pub returns-clause-lost : goal.returns-clause-lost
+returns-clause-lost g c = λ quiet.
+    let was = sealed_lines_view c.self.inside in
+    rw (← c.self.view_is) (quiet_before was.engine.evidence c.read_at-read.new.outside.engine.evidence c.read_at-read.ensures.read.step.evidence quiet)

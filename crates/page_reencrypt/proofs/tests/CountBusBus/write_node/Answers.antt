@@ -1,6 +1,6 @@
 use Rattle.std.proofs.Common.{ap, ◌∙◌}
 use Rattle.bus_model.specs.FlipBus.{flip_history}
-use Rattle.bus_model.proofs.FlipSteps.{if_err}
+use Rattle.bus_model.proofs.LieSteps.{if_err}
 use Rattle.page_reencrypt.proofs.tests.CountBusBus.write_node.Goals as goal
 
 pub returns-in_err-write_node-clause-err : goal.returns-in_err-write_node-clause-err

@@ -2,7 +2,7 @@ use Rattle.std.proofs.Common.{ap}
 use Rattle.sec_base.specs.Evidence.{sealed_bytes}
 use Rattle.sec_base.specs.declared.place.Place.TheVariants.{Line}
 use Rattle.bus_model.specs.HonestBus.{honest_history}
-use Rattle.bus_model.proofs.FlipSteps.{if_err}
+use Rattle.bus_model.proofs.LieSteps.{if_err}
 use Rattle.page_reencrypt.proofs.Replays.{any_write, lied_out}
 use Rattle.page_reencrypt.proofs.tests.ReplayBusBus.write_data.Goals as goal
 

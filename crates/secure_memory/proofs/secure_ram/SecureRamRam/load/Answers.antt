@@ -2,6 +2,7 @@ use Rattle.std.proofs.Common.{◌≡◌, ◌%◌, ◌∷◌, [], Some, None, Err
 use Rattle.sec_base.specs.Count.{Rose}
 use Rattle.sec_base.specs.Geometry.{line_of}
 use Rattle.sec_base.specs.Width.{number_at}
+use Rattle.sec_base.specs.declared.place.Place.TheVariants.{Line as line_place}
 use Rattle.sec_base.specs.declared.stop.MemStop.{MemStop}
 use Rattle.sec_base.specs.declared.stop.MemStop.TheVariants.{Tampered}
 use Rattle.sec_base.proofs.LineNumbers.{number_read}
@@ -9,7 +10,7 @@ use Rattle.tag_engine.specs.TagEngine.{tags_of}
 use Rattle.split_counter.specs.CounterBlock.{block_of, counter_of, place_of}
 use Rattle.page_reencrypt.specs.SealedLines.{SameCounters, enc_key, tag_in, contents as line_contents}
 use Rattle.page_reencrypt.specs.Stops.{lasting_stop}
-use Rattle.secure_memory.specs.SecureRam.{SecureRamView, IsMoved, IsNumberUnder, IsOfLine, IsQuiet, LineHad, contents, stopped}
+use Rattle.secure_memory.specs.SecureRam.{SecureRamView, IsMoved, IsNumberBelowPath, IsNumberUnder, IsOfLine, IsQuiet, LineHad, contents, stopped}
 use Rattle.secure_memory.proofs.LineCalls.{accepted_number, line_had, loaded_moved, stopped_unmoved, unsealed_not}
 use Rattle.secure_memory.proofs.secure_ram.SecureRamRam.load.Goals as goal
 
@@ -101,3 +102,20 @@ returns-in_err-line-clause-tampered g c = λ place going is.
     subst (λ (m : SecureRamView g.row.B.Denot g.row.T.Denot). IsOfLine m (line_of c.args.addr) place
     × (IsQuiet m → Rose (g.B.Bus.history m.lines.bus).lies (g.B.Bus.history c.read_line.new.self.bus).lies)) c.self.view_is
     (c.in_err-line.ensures.tampered place (ap lasting_stop was_going) (ap (λ (s : MemStop). Err s) why))
+
+pub returns-clause-checked : goal.returns-clause-checked
+returns-clause-checked g c = λ going.
+    let was_going : c.self.inside.lines.stopped ≡ None = search rules in
+    subst (λ (m : SecureRamView g.row.B.Denot g.row.T.Denot).
+    IsNumberBelowPath (tag_in g.T.Tagger.data_tag_of g.T.Tagger.node_tag_of m.lines) (enc_key m.lines) m.lines.counters (line_of c.args.addr)
+    m.lines.engine.evidence c.read_line.new.self.engine.evidence (g.B.Bus.history c.read_line.new.self.bus) (c.args.addr % 64) c.args.width c.read.result)
+    c.self.view_is (record {
+      bytes = c.in_ok-line.line;
+      read = c.in_ok-line.ensures.checked (ap lasting_stop was_going);
+      number_is = c.read.ensures.value;
+    })
+
+pub returns-clause-alone : goal.returns-clause-alone
+returns-clause-alone g c = λ other differs.
+    c.in_ok-line.ensures.alone other differs
+    ∙ ap (λ (m : SecureRamView g.row.B.Denot g.row.T.Denot). (g.B.Bus.history m.lines.bus).reads (line_place other)) c.self.view_is

@@ -1,7 +1,8 @@
-use Rattle.std.proofs.Common.{◌≡◌, ◌≢◌, ◌⊎◌, inl, inr, ℕ, ◌+◌, ◌≤◌, ◌∷◌, [], Some, None, Err, OnOk, OnErr, refl, ap, sym, ◌∙◌, subst, rules, arith}
+use Rattle.std.proofs.Common.{◌≡◌, ◌≢◌, ◌⊎◌, inl, inr, ℕ, ◌+◌, ◌≤◌, List, ◌∷◌, [], Some, None, Err, OnOk, OnErr, refl, ap, sym, ◌∙◌, subst, rules, arith}
 use Rattle.std.proofs.lemmas.Result.{on_err_weaker, on_ok_weaker}
 use Rattle.sec_base.specs.Count.{Rose}
 use Rattle.sec_base.specs.Geometry.{line_of, page_of}
+use Rattle.sec_base.specs.declared.counter.Counter.{Counter}
 use Rattle.sec_base.specs.declared.place.Place.TheVariants.{Line as line_place}
 use Rattle.sec_base.specs.declared.stop.MemStop.{MemStop}
 use Rattle.sec_base.specs.declared.stop.MemStop.TheVariants.{Tampered, Spent}
@@ -14,8 +15,8 @@ use Rattle.bonsai_tree.specs.Tree.{fetch_accesses}
 use Rattle.page_reencrypt.specs.Contents.{counter_in}
 use Rattle.page_reencrypt.specs.SealedLines.{AreReread, HadMemory, IsBeside, IsUnsealed, SameCounters, SealedLinesView, lines_of_write, contents as line_contents}
 use Rattle.page_reencrypt.specs.Stops.{lasting_stop}
-use Rattle.secure_memory.specs.SecureRam.{SecureRamView, IsMoved, IsOfLine, IsQuiet, IsWrittenAnew, IsWrittenInPart, LineHad, PathHad, contents, levels, load_accesses, stopped, used}
-use Rattle.secure_memory.specs.Moving.{line_sooner, was_none}
+use Rattle.secure_memory.specs.SecureRam.{SecureRamView, IsMoved, IsOfLine, IsQuiet, IsWrittenAnew, IsWrittenInPart, LineHad, PathHad, contents, levels, load_accesses, stopped, store_accesses, used}
+use Rattle.secure_memory.specs.Moving.{line_sooner}
 use Rattle.secure_memory.proofs.LineCalls.{failed_sooner, lied_on, line_had, none_in_part, nothing_reserved, nothing_written, path_had, path_sooner, place_in_write, read_not_beside, reread_sooner, reserved_sooner, stopped_unmoved, stored_moved, unsealed_on, written_anew, written_in_part}
 use Rattle.secure_memory.proofs.secure_ram.SecureRamRam.store.Given.{Over}
 use Rattle.secure_memory.proofs.secure_ram.SecureRamRam.store.Goals as goal
@@ -264,3 +265,16 @@ returns-clause-used_up g c = λ going quiet last.
       λ page. done.2 page ∙ c.in_ok-line.ensures.same_counters (ap lasting_stop was_going) (c.write_line.ensures.lost quiet) page,
       omega (arith, same_levels, read, wrote),
     )
+
+pub returns-clause-once : goal.returns-clause-once
+returns-clause-once g c = λ quiet.
+    subst (λ (m : SecureRamView g.row.B.Denot g.row.T.Denot). (next_counter (counter_in (used m) (line_of c.args.addr))).line ≢ 0 →
+    ((g.B.Bus.history c.write_line.new.self.bus).accesses ≤ (g.B.Bus.history m.lines.bus).accesses + store_accesses (levels m))
+    × ((other : ℕ) → other ≢ line_of c.args.addr →
+    (g.B.Bus.history c.write_line.new.self.bus).reads (line_place other) ≡ (g.B.Bus.history m.lines.bus).reads (line_place other))) c.self.view_is
+    (λ apart.
+    let read = c.in_ok-line.ensures in
+    let wrote = c.write_line.ensures.once quiet
+    (subst (λ (u : List (ℕ × Counter)). (next_counter (counter_in u (line_of c.args.addr))).line ≢ 0) (sym read.unsealed.unused) apart) in
+    let same : c.read_line.new.self.engine.levels ≡ c.self.inside.lines.engine.levels = read.moved.moves.step.levels in
+    (omega (arith, wrote.0, read.once, same), λ other differs. wrote.1 other ∙ read.alone other differs))
