@@ -1,0 +1,6 @@
+pub mod TwoParts
+pub mod MaskedBytes
+pub mod PlaceChanges
+pub mod DueLines
+pub mod ScriptTies
+pub mod ScriptStates

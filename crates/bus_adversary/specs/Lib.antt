@@ -1,0 +1,7 @@
+pub mod PlaceBytes
+pub mod StoredPlaces
+pub mod PlaceCounts
+pub mod NextAccess
+pub mod Adversary
+pub mod ChangedPlaces
+pub mod ScriptBus
