@@ -82,7 +82,7 @@ pub fn run<S: Sink>(
     let mut session = Session::new(image, input, memory, budget);
     let ending = session.finish(out);
     let retired = session.retired();
-    let _memory = session.into_memory();
+    let (_memory, _calls) = session.into_parts();
     PlainRecord { retired, ending }
 }
 

@@ -1,10 +1,15 @@
 -- Bytes that are printed piece by piece.
-use Rattle.std.proofs.Common.{◌≡◌, ◌+◌, ◌-◌, ◌≤◌, ℕ, List, ◌++◌, take, drop, refl, sym, ◌∙◌, ap, subst, arith, inl, inr, Contains, append_assoc, Option, None, Some, Ok}
+use Rattle.std.proofs.Common.{◌≡◌, ◌+◌, ◌-◌, ◌≤◌, ℕ, List, [], ◌++◌, take, drop, refl, sym, ◌∙◌, ap, subst, arith, append_assoc, Option, None, Some, Ok}
 use Rattle.std.proofs.Math.Seq.{take-add}
-use Rattle.std.proofs.lemmas.List.{drop-drop}
+use Rattle.std.proofs.lemmas.List.{append-nil, drop-drop, take-append-drop}
 use Rattle.sec_base.specs.Prefix.{IsPrefix}
+use Rattle.sec_base.specs.Sink.{Gains, IsSilent, SinkState}
 use Rattle.sec_base.specs.declared.stop.MemStop.{MemStop}
+use Rattle.sec_base.proofs.Writes.{gains_both, written_after-nil}
+use Rattle.sha2.specs.Hashers.{Holds256}
+use Rattle.sha2.specs.declared.Sha256.{Sha256}
 use Rattle.rv32_core.specs.Print.{StopsAs}
+use Rattle.rv32_core.specs.Printing.{Digests, Prints}
 use Rattle.rv32_core.specs.State.{memory_bytes}
 
 pub bytes_parts : (memory : List ℕ) (from a n : ℕ) → memory_bytes memory from (a + n) ≡ memory_bytes memory from a ++ memory_bytes memory (from + a) n
@@ -40,3 +45,53 @@ prefix_both memory printed piece from at n count h inside is front =
 pub none_from_ok : (stopped : Option MemStop) (x : Unit {0}) → StopsAs stopped (Ok x) → stopped ≡ None
 none_from_ok None x h = refl
 none_from_ok (Some stop) x h = cc
+
+-- What the sink and the digest take
+
+digests_nothing : (digest : Sha256) → Digests digest [] digest
+digests_nothing digest held holds = subst (λ (bytes : List ℕ). Holds256 digest bytes) (sym (append-nil held)) holds
+
+pub prints_nothing : (out : SinkState) (digest : Sha256) → Prints out digest [] out digest
+prints_nothing out digest = (sym (written_after-nil out.written), digests_nothing digest)
+
+pub prints_nothing_as : (out : SinkState) (digest digest' : Sha256) → digest' ≡ digest → Prints out digest [] out digest'
+prints_nothing_as out digest digest' same = subst (λ (d : Sha256). Prints out digest [] out d) (sym same) (prints_nothing out digest)
+
+-- bytes, and then more
+pub prints_both : (first more : List ℕ) (old mid new : SinkState) (digest digest' digest'' : Sha256) → Prints old digest first mid digest' → Prints mid digest' more new digest'' → Prints old digest (first ++ more) new digest''
+prints_both first more old mid new digest digest' digest'' before after = (
+  gains_both first more old mid new before.0 after.0,
+  λ held holds.
+      subst (λ (bytes : List ℕ). Holds256 digest'' bytes) (append_assoc held first more)
+      (after.1 (held ++ first) (before.1 held holds)),
+)
+
+-- up to the rest, a piece was printed
+pub record IsPrintedUpTo (old new : SinkState) (digest digest' : Sha256) (whole rest : List ℕ) : Type 0 where
+  pub front : List ℕ
+  pub parts : whole ≡ front ++ rest
+  pub prints : Prints old digest front new digest'
+  pub faults : old.faults ≤ new.faults
+
+pub piece_begins : (old : SinkState) (digest : Sha256) (whole : List ℕ) → IsPrintedUpTo old old digest digest whole whole
+piece_begins old digest whole = record { front = []; parts = refl; prints = prints_nothing old digest; faults = omega arith }
+
+pub piece_goes_on : (old mid new : SinkState) (digest digest' digest'' : Sha256) (whole rest : List ℕ) (n : ℕ) → IsPrintedUpTo old mid digest digest' whole rest → Gains mid (take n rest) new → Digests digest' (take n rest) digest'' → mid.faults ≤ new.faults → IsPrintedUpTo old new digest digest'' whole (drop n rest)
+piece_goes_on old mid new digest digest' digest'' whole rest n before gains digests faults =
+    let was = before.faults in
+    record {
+      front = before.front ++ take n rest;
+      parts = before.parts ∙ ap (λ (xs : List ℕ). before.front ++ xs) (sym (take-append-drop n rest)) ∙ sym (append_assoc before.front (take n rest) (drop n rest));
+      prints = prints_both before.front (take n rest) old mid new digest digest' digest'' before.prints (gains, digests);
+      faults = omega arith;
+    }
+
+-- the sink stopped
+pub piece_stopped : (old mid new : SinkState) (digest digest' : Sha256) (whole rest : List ℕ) → IsPrintedUpTo old mid digest digest' whole rest → IsSilent mid new → (printed : List ℕ) × Prints old digest printed new digest' × IsPrefix printed whole
+piece_stopped old mid new digest digest' whole rest before silent =
+    (before.front, (silent ∙ before.prints.0, before.prints.1), (rest, before.parts))
+
+-- nothing is left
+pub piece_done : (old new : SinkState) (digest digest' : Sha256) (whole rest : List ℕ) → IsPrintedUpTo old new digest digest' whole rest → rest ≡ [] → (printed : List ℕ) × Prints old digest printed new digest' × (printed ≡ whole)
+piece_done old new digest digest' whole rest before none =
+    (before.front, before.prints, sym (before.parts ∙ ap (λ (xs : List ℕ). before.front ++ xs) none ∙ append-nil before.front))

@@ -1,13 +1,12 @@
 -- What the services make of a state.
-use Rattle.std.proofs.Common.{◌≡◌, ◌≢◌, ◌+◌, ◌-◌, ℕ, Bool, true, false, List, [], ◌∷◌, length, take, drop, refl, sym, ◌∙◌, ap, inr, subst, arith, Result, Ok, Err, cond, ne_eqb}
-use Rattle.std.specs.Result.{OnOk}
+use Rattle.std.proofs.Common.{◌≡◌, ◌≢◌, ◌+◌, ◌-◌, ℕ, Bool, true, false, List, [], length, take, drop, refl, sym, ◌∙◌, ap, inr, subst, arith, Result, Ok, ne_eqb}
 use Rattle.std.proofs.lemmas.List.{length-take, take_min}
 use Rattle.rv32_core.specs.declared.step.Step.{Step}
-use Rattle.rv32_core.specs.declared.step.Step.TheVariants.{Retired}
+use Rattle.rv32_core.specs.declared.step.Step.TheVariants.{Halted, Retired}
 use Rattle.rv32_core.specs.declared.step.StepStop.{StepStop}
-use Rattle.rv32_core.specs.State.{State, CoreView, next_core_with, with_bytes}
+use Rattle.rv32_core.specs.State.{State, CoreView, next_core, next_core_with, with_bytes}
 use Rattle.rv32_core.specs.After.{After, only_state}
-use Rattle.rv32_core.specs.Services.{service, read_service, write_service, after_input, with_answer, next_input, is_output, is_inside, a0, a1, a2, a7}
+use Rattle.rv32_core.specs.Services.{service, brk_service, exit_service, read_service, write_service, after_input, with_answer, next_input, is_output, is_inside, a0, a1, a2, a7}
 use Rattle.rv32_core.specs.TouchedLines.{AreTouched, byte_lines, service_lines, read_lines, write_lines}
 use Rattle.rv32_core.specs.Outcome.{IsOutcome, IsHalfDone, input_taken}
 
@@ -16,6 +15,14 @@ use Rattle.rv32_core.specs.Outcome.{IsOutcome, IsHalfDone, input_taken}
 pub service_of_read : (state : State) → a7 state ≡ 63 → service state ≡ read_service state
 unfolding service
 service_of_read state number = rw number refl
+
+service_of_brk : (state : State) → a7 state ≡ 214 → service state ≡ brk_service state
+unfolding service
+service_of_brk state number = rw number refl
+
+service_of_exit : (state : State) → a7 state ≡ 93 → service state ≡ exit_service state
+unfolding service
+service_of_exit state number = rw number refl
 
 pub service_of_other : (state : State) → a7 state ≢ 63 → a7 state ≢ 64 → a7 state ≢ 93 → a7 state ≢ 214 →
     service state ≡ only_state (with_answer state 4294967258)
@@ -48,6 +55,19 @@ pub answer_outcome : (after : After) (result : Result Step StepStop) (state : St
     IsOutcome (Ok after) result state (record { core = core; calls = state.calls; memory = state.memory }) []
 answer_outcome after result state core value retired is made =
     rw retired (ap (λ (a : After). Ok a) made ∙ ap (λ (h : CoreView). Ok (only_state (record { core = h; calls = state.calls; memory = state.memory }))) (sym is))
+
+-- What one of the services does
+pub read_outcome : (result : Result Step StepStop) (old new : State) → a7 old ≡ 63 → IsOutcome (Ok (read_service old)) result old new [] → IsOutcome (Ok (service old)) result old new []
+read_outcome result old new number done = subst (λ (a : After). IsOutcome (Ok a) result old new []) (sym (service_of_read old number)) done
+
+pub brk_outcome : (result : Result Step StepStop) (old new : State) → a7 old ≡ 214 → IsOutcome (Ok (brk_service old)) result old new [] → IsOutcome (Ok (service old)) result old new []
+brk_outcome result old new number done = subst (λ (a : After). IsOutcome (Ok a) result old new []) (sym (service_of_brk old number)) done
+
+pub exit_outcome : (result : Result Step StepStop) (old : State) (core : CoreView) → a7 old ≡ 93 → result ≡ Ok (Halted (a0 old)) → core ≡ next_core old.core →
+    IsOutcome (Ok (service old)) result old (record { core = core; calls = old.calls; memory = old.memory }) []
+exit_outcome result old core number halted is =
+    subst (λ (a : After). IsOutcome (Ok a) result old (record { core = core; calls = old.calls; memory = old.memory }) []) (sym (service_of_exit old number))
+    (rw (halted, is) refl)
 
 -- Reading
 

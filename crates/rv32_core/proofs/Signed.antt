@@ -1,5 +1,5 @@
 -- Words read in two's complement, as Rust's casts do.
-use Rattle.std.proofs.Common.{◌≡◌, ◌<◌, ◌≤◌, ◌^◌, ℕ, suc, ◌-◌, ◌-ℤ◌, pos, negsuc, refl, inl, inr, lt-ltb, le-ltb, w32}
+use Rattle.std.proofs.Common.{◌≡◌, ◌<◌, ◌^◌, ℕ, suc, ◌-◌, ◌-ℤ◌, pos, negsuc, refl, inl, inr, lt-ltb, le-ltb, w32}
 use Rattle.std.proofs.lemmas.Bool.{cases_lt}
 use Rattle.std.specs.Int.{cast_signed}
 use Rattle.rv32_decode.specs.Words.{signed_number}

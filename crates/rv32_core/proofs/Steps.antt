@@ -1,7 +1,5 @@
 -- What a fetch and a decoded word make of a step.
-use Rattle.std.proofs.Common.{inl, ◌≡◌, ◌↔◌, ◌+◌, ◌<◌, ◌≤◌, arith, ℕ, List, [], ◌∷◌, ◌++◌, length, refl, sym, ◌∙◌, ap, subst, Option, None, Some, Result, Ok, Err, lt-ltb, le-ltb}
-use Rattle.std.specs.Result.{OnOk}
-use Rattle.std.proofs.lemmas.List.Elements.{Contains-append_left, Contains-append_right}
+use Rattle.std.proofs.Common.{inl, ◌≡◌, ◌↔◌, ◌+◌, ◌<◌, ◌≤◌, arith, ℕ, List, [], length, refl, sym, ◌∙◌, ap, subst, Option, None, Some, Result, Ok, Err, lt-ltb, le-ltb}
 use Rattle.sec_base.specs.declared.ending.Cause.{Cause}
 use Rattle.sec_base.specs.declared.ending.Cause.TheVariants.{Illegal}
 use Rattle.rv32_decode.specs.declared.Inst.{Inst}
@@ -9,7 +7,7 @@ use Rattle.rv32_decode.specs.Decoding.{instruction_of}
 use Rattle.rv32_core.specs.declared.step.Step.{Step}
 use Rattle.rv32_core.specs.declared.step.StepStop.{StepStop}
 use Rattle.rv32_core.specs.declared.step.StepStop.TheVariants.{Trap, Mem, WriteFault}
-use Rattle.rv32_core.specs.State.{State, CoreView, CallsView}
+use Rattle.rv32_core.specs.State.{State, CoreView, ServicesView}
 use Rattle.rv32_core.specs.After.{After}
 use Rattle.rv32_core.specs.Effect.{next, effect, fetched_word}
 use Rattle.rv32_core.specs.Fetch.{IsFetched, StopsFetch}
@@ -22,7 +20,7 @@ half_done_same (Ok after) old new same = inl same
 half_done_same (Err cause) old new same = same
 
 -- a fetch that stops
-pub fetch_stopped : (stop : StepStop) (core : CoreView) (calls : CallsView) (memory memory' : List ℕ) →
+pub fetch_stopped : (stop : StepStop) (core : CoreView) (calls : ServicesView) (memory memory' : List ℕ) →
     IsFetched memory core.pc (Err stop) → memory' ≡ memory →
     IsOutcome (next (record { core = core; calls = calls; memory = memory })) (Err stop) (record { core = core; calls = calls; memory = memory }) (record { core = core; calls = calls; memory = memory' }) []
 unfolding next

@@ -1,5 +1,5 @@
 -- What the instructions compute from words: the RISC-V unprivileged manual, RV32I 2.1 (section 2.4) and M 2.0.
-use Rattle.std.specs.Prelude.{ℕ, ℤ, pos, ◌+◌, ◌-◌, ◌*◌, ◌/◌, ◌%◌, ◌^◌, ◌==◌, ◌*ℤ◌, nat_lt, int_lt, int_div, int_rem, Bool, if◌then◌else◌}
+use Rattle.std.specs.Prelude.{ℕ, ℤ, pos, ◌+◌, ◌-◌, ◌*◌, ◌/◌, ◌%◌, ◌^◌, ◌==◌, ◌*ℤ◌, int_lt, int_div, int_rem, Bool, if◌then◌else◌}
 use Rattle.std.specs.Int.{int_shr}
 use Rattle.sec_base.specs.declared.width.Width.{Width}
 use Rattle.sec_base.specs.Width.{width_bytes}

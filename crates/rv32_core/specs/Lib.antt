@@ -8,6 +8,7 @@ pub mod Machine
 pub mod Fetch
 pub mod Extension
 pub mod Print
+pub mod Printing
 pub mod Outcome
 pub mod Follows
 pub mod Turnover

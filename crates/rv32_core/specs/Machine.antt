@@ -4,7 +4,7 @@ use Rattle.sec_base.specs.declared.ending.Cause.{Cause}
 use Rattle.sec_base.specs.declared.image.Image.{Image}
 use Rattle.sec_base.specs.declared.segment.Segment.{Segment}
 use Rattle.sec_base.specs.Opening.{opening_memory, first_break}
-use Rattle.rv32_core.specs.State.{State, CallsView, opening_core}
+use Rattle.rv32_core.specs.State.{State, ServicesView, opening_core}
 use Rattle.rv32_core.specs.After.{After}
 use Rattle.rv32_core.specs.Effect.{next}
 
@@ -38,7 +38,7 @@ unfoldable pub plain : Machine → ℕ → Machine
 plain machine zero = machine
 plain machine (suc n) = one_more (plain machine n)
 
-abbrev pub opening_calls : List Segment → List ℕ → CallsView
+abbrev pub opening_calls : List Segment → List ℕ → ServicesView
 opening_calls segments input = record {
   input = input;
   position = 0;

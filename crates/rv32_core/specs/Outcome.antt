@@ -8,7 +8,7 @@ use Rattle.rv32_core.specs.declared.step.Step.{Step}
 use Rattle.rv32_core.specs.declared.step.Step.TheVariants.{Retired, Halted}
 use Rattle.rv32_core.specs.declared.step.StepStop.{StepStop}
 use Rattle.rv32_core.specs.declared.step.StepStop.TheVariants.{Trap, Mem, WriteFault}
-use Rattle.rv32_core.specs.State.{State, CallsView, with_bytes}
+use Rattle.rv32_core.specs.State.{State, ServicesView, with_bytes}
 use Rattle.rv32_core.specs.After.{After}
 use Rattle.rv32_core.specs.Services.{a1, next_input}
 
@@ -22,7 +22,7 @@ prints_of (Ok after) = after.prints
 prints_of (Err cause) = []
 
 -- the bytes of the input that an instruction takes
-abbrev pub input_taken : CallsView → CallsView → List ℕ
+abbrev pub input_taken : ServicesView → ServicesView → List ℕ
 input_taken old new = next_input old (new.position - old.position)
 
 -- the memory with the first of the bytes that the instruction takes from the input, from a1 on

@@ -1,6 +1,8 @@
 -- How a service prints bytes of the memory, and how that stops. The contracts of private functions alone cite it.
 use Rattle.std.specs.Prelude.{◌≡◌, ℕ, ◌-◌, ◌%◌, min, List, Option, Some, None, Result, Ok, Err}
 use Rattle.sec_base.specs.Prefix.{IsPrefix}
+use Rattle.sec_base.specs.declared.sink.SinkStop.{SinkStop}
+use Rattle.sec_base.specs.declared.sink.SinkStop.TheVariants.{Failed, NoMemory as no_memory}
 use Rattle.sec_base.specs.declared.stop.MemStop.{MemStop}
 use Rattle.sec_base.specs.declared.stop.MemStop.TheVariants.{NoMemory}
 use Rattle.rv32_core.specs.declared.step.StepStop.{StepStop}
@@ -23,3 +25,8 @@ StopsAs None (Ok value) = Unit {0}
 StopsAs None (Err (Trap cause)) = ⊥
 StopsAs None (Err (Mem stop)) = stop ≡ NoMemory
 StopsAs None (Err WriteFault) = Unit {0}
+
+-- how an instruction stops where the sink does
+abbrev pub sink_stop : SinkStop → StepStop
+sink_stop Failed = WriteFault
+sink_stop no_memory = Mem NoMemory

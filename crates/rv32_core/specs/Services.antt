@@ -1,6 +1,6 @@
 -- The services of ECALL: the number stands in a7, the arguments in a0 to a2, the answer comes in a0.
 use Rattle.std.specs.Prelude.{ℕ, ◌+◌, ◌-◌, ◌^◌, ◌==◌, nat_le, ◌||◌, ◌&&◌, not, if◌then◌else◌, Bool, List, [], length, take, drop, Some, None}
-use Rattle.rv32_core.specs.State.{State, CallsView, register, next_core_with, next_state, next_state_with, memory_bytes, with_bytes}
+use Rattle.rv32_core.specs.State.{State, ServicesView, register, next_core_with, next_state, next_state_with, memory_bytes, with_bytes}
 use Rattle.rv32_core.specs.After.{After, only_state}
 
 abbrev pub a0 : State → ℕ
@@ -34,10 +34,10 @@ abbrev pub is_input : ℕ → Bool
 is_input descriptor = descriptor == 0
 
 -- the next bytes of the input, at most so many
-abbrev pub next_input : CallsView → ℕ → List ℕ
+abbrev pub next_input : ServicesView → ℕ → List ℕ
 next_input calls count = take count (drop calls.position calls.input)
 
-abbrev pub with_position : CallsView → ℕ → CallsView
+abbrev pub with_position : ServicesView → ℕ → ServicesView
 with_position calls position = record {
   input = calls.input;
   position = position;
@@ -45,7 +45,7 @@ with_position calls position = record {
   brk = calls.brk;
 }
 
-abbrev pub with_break : CallsView → ℕ → CallsView
+abbrev pub with_break : ServicesView → ℕ → ServicesView
 with_break calls brk = record {
   input = calls.input;
   position = calls.position;
@@ -83,7 +83,7 @@ abbrev pub exit_service : State → After
 exit_service state = record { state = next_state state; prints = []; exit = Some (a0 state) }
 
 -- 214, brk: the break moves to a0 where that is no lower than it was at first and leaves the stack a page
-abbrev pub is_break : CallsView → ℕ → ℕ → Bool
+abbrev pub is_break : ServicesView → ℕ → ℕ → Bool
 is_break calls size address = nat_le calls.first_break address && nat_le (address + 4096) size
 
 abbrev pub new_break : State → ℕ

@@ -1,5 +1,6 @@
 -- What a program can see of the machine that runs it (RISC-V unprivileged manual, RV32I, 2.1).
 use Rattle.std.specs.Prelude.{ℕ, ◌+◌, ◌-◌, ◌%◌, ◌^◌, List, ◌++◌, length, take, drop, replicate, slice_index, slice_set, ◌==◌, if◌then◌else◌}
+use Rattle.sha2.specs.declared.Sha256.{Sha256}
 
 -- the core: its program counter and its 32 registers
 pub record CoreView : Type 0 where
@@ -7,18 +8,23 @@ pub record CoreView : Type 0 where
   pub registers : List ℕ
 
 -- what the services know: the input, how much of it was read, and the program's break, now and at first
-pub record CallsView : Type 0 where
+pub record ServicesView : Type 0 where
   pub input : List ℕ
   pub position : ℕ
   pub first_break : ℕ
   pub brk : ℕ
 
+-- these, and the running digest of what the sink took, which no program sees
+pub record CallsView : Type 0 where
+  pub services : ServicesView
+  pub digest : Sha256
+
 pub record State : Type 0 where
   pub core : CoreView
-  pub calls : CallsView
+  pub calls : ServicesView
   pub memory : List ℕ
 
-abbrev pub state_of : CoreView → CallsView → List ℕ → State
+abbrev pub state_of : CoreView → ServicesView → List ℕ → State
 state_of core calls memory = record { core = core; calls = calls; memory = memory }
 
 -- the sum of two words

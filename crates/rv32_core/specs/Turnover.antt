@@ -4,7 +4,6 @@ use Rattle.std.specs.List.{list_any, filter}
 use Rattle.std.specs.Set.{distinct_count}
 use Rattle.sec_base.specs.Geometry.{page_of}
 use Rattle.sec_base.specs.Lines.{line_at}
-use Rattle.rv32_core.specs.State.{State}
 use Rattle.rv32_core.specs.TouchedLines.{touched_lines}
 use Rattle.rv32_core.specs.Machine.{Machine, plain}
 

@@ -8,7 +8,7 @@ ghost use Rattle.rv32_core.specs.Effect.{data_fault, load_effect, store_effect};
 ghost use Rattle.rv32_core.specs.Extension.{extension as extension_of};
 ghost use Rattle.rv32_core.specs.Fetch.{IsFetched, StopsFetch};
 ghost use Rattle.rv32_core.specs.Outcome.{CarriesStop, IsOutcome, OnlyTraps};
-ghost use Rattle.rv32_core.specs.State.{CallsView, state_of};
+ghost use Rattle.rv32_core.specs.State.{ServicesView, state_of};
 ghost use Rattle.rv32_core.specs.TouchedLines.{AreTouched, access_line};
 ghost use Rattle.rv32_core.specs.declared.step.StepStop.TheVariants.{WriteFault};
 
@@ -57,7 +57,7 @@ impl Core {
     ) -> Result<Step, StepStop>
         requires { IsInst inst.now }
 
-        ensures outcome { IsReliable M.stopped M.sound ram.old ram.new → (calls : CallsView) →
+        ensures outcome { IsReliable M.stopped M.sound ram.old ram.new → (calls : ServicesView) →
             let before = state_of self.old calls (M.contents ram.old) in
             IsOutcome (load_effect (extension_of extension) width inst.now before) result before (state_of self.new calls (M.contents ram.new)) [] }
         ensures stays { OnErr result (self.new ≡ self.old) }
@@ -87,7 +87,7 @@ impl Core {
     ) -> Result<Step, StepStop>
         requires { IsInst inst.now }
 
-        ensures outcome { IsReliable M.stopped M.sound ram.old ram.new → (calls : CallsView) →
+        ensures outcome { IsReliable M.stopped M.sound ram.old ram.new → (calls : ServicesView) →
             let before = state_of self.old calls (M.contents ram.old) in
             IsOutcome (store_effect width inst.now before) result before (state_of self.new calls (M.contents ram.new)) [] }
         ensures stays { OnErr result (self.new ≡ self.old) }

@@ -1,17 +1,22 @@
-ghost use Rattle.std.specs.Prelude.{◌≡◌, ◌+◌, ◌≤◌, All, length, if◌then◌else◌};
+ghost use Rattle.std.specs.Prelude.{◌≡◌, ◌+◌, ◌≤◌, ℕ, List, [], All, length, if◌then◌else◌};
+ghost use Rattle.sha2.specs.Hashers.{Holds256};
+ghost use Rattle.sha2.specs.Sha256.{sha256};
 ghost use Rattle.sec_base.specs.Segment.{IsSegment};
 ghost use Rattle.sec_base.specs.Opening.{first_break as break_after, segments_end as end_of};
 
 use sec_base::{Image, Segment};
+use sha2::{Digest, Sha256};
 use std::marker::Model;
 
-/// What the services know of a run: its input, how much of it was read, and the program's break.
+/// What the services know of a run: its input, how much of it was read, and the program's break. With it goes the
+/// running digest of what the sink took.
 #[derive(Drop)]
 pub struct Calls<'a> {
     input: &'a [u8],
     position: usize,
     first_break: u32,
     brk: u32,
+    digest: Sha256,
 }
 
 impl<'a> Model for Calls<'a> {
@@ -21,10 +26,13 @@ impl<'a> Model for Calls<'a> {
     ghost Value = { CallsView };
 
     ghost view = { λ calls. record {
-      input = calls.input.now;
-      position = calls.position;
-      first_break = calls.first_break;
-      brk = calls.brk;
+      services = record {
+        input = calls.input.now;
+        position = calls.position;
+        first_break = calls.first_break;
+        brk = calls.brk;
+      };
+      digest = calls.digest;
     } };
 
     ghost invariant = { λ calls. calls.position ≤ length calls.input.now };
@@ -32,11 +40,13 @@ impl<'a> Model for Calls<'a> {
 
 impl<'a> Calls<'a> {
     ghost use Rattle.rv32_core.specs.Machine.{opening_calls};
+    ghost use Rattle.rv32_core.specs.Printing.{Digests};
     ghost use Rattle.rv32_core.specs.Services.{next_input, with_position, is_break, with_break};
 
-    /// The services of a program that begins with this input.
+    /// The services of a program that begins with this input. The sink took nothing yet.
     pub fn new(input: &'a [u8], image: &Image) -> Calls<'a>
-        ensures { result ≡ opening_calls image.now.segments input.now }
+        ensures services { result.services ≡ opening_calls image.now.segments input.now }
+        ensures digest { Holds256 result.digest [] }
     {
         let first_break = first_break(image);
         Calls {
@@ -44,13 +54,36 @@ impl<'a> Calls<'a> {
             position: 0,
             first_break,
             brk: first_break,
+            digest: Sha256::new(),
         }
+    }
+
+    /// The SHA-256 of what the sink took.
+    pub fn finish(self) -> [u8; 32]
+        ensures { (taken : List ℕ) → Holds256 self.entry.digest taken → result ≡ sha256 taken }
+    {
+        let Calls {
+            input: _,
+            position: _,
+            first_break: _,
+            brk: _,
+            digest,
+        } = self;
+        digest.finalize()
+    }
+
+    /// The sink took these bytes.
+    pub(crate) fn digest(&mut self, bytes: &[u8])
+        ensures services { self.new.services ≡ self.old.services }
+        ensures digest { Digests self.old.digest bytes.now self.new.digest }
+    {
+        self.digest.update(bytes);
     }
 
     /// The next bytes of the input, at most so many.
     pub(crate) fn next_bytes(&self, count: u32) -> &[u8]
-        ensures bytes { result.now ≡ next_input self.now count }
-        ensures left { self.now.position + length result.now ≤ length self.now.input }
+        ensures bytes { result.now ≡ next_input self.now.services count }
+        ensures left { self.now.services.position + length result.now ≤ length self.now.services.input }
     {
         let rest = &self.input[self.position..];
         &rest[..rest.len().min(count as usize)]
@@ -58,16 +91,18 @@ impl<'a> Calls<'a> {
 
     /// So many bytes of the input were read.
     pub(crate) fn advance(&mut self, count: usize)
-        requires { self.old.position + count ≤ length self.old.input }
-        ensures { self.new ≡ with_position self.old (self.old.position + count) }
+        requires { self.old.services.position + count ≤ length self.old.services.input }
+        ensures services { self.new.services ≡ with_position self.old.services (self.old.services.position + count) }
+        ensures digest { self.new.digest ≡ self.old.digest }
     {
         self.position += count;
     }
 
     /// Moves the break to an address where it may stand, and returns the break.
     pub(crate) fn move_break(&mut self, address: u32, size: u32) -> u32
-        ensures answer { result ≡ (if is_break self.old size address then address else self.old.brk) }
-        ensures moved { self.new ≡ with_break self.old result }
+        ensures answer { result ≡ (if is_break self.old.services size address then address else self.old.services.brk) }
+        ensures moved { self.new.services ≡ with_break self.old.services result }
+        ensures digest { self.new.digest ≡ self.old.digest }
     {
         if self.first_break <= address && u64::from(address) + 4096 <= u64::from(size) {
             self.brk = address;

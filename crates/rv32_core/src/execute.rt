@@ -2,10 +2,10 @@
 ghost use Rattle.std.specs.Prelude.{◌≡◌, ◌≤◌, ℕ, List, None, Err, OnErr};
 ghost use Rattle.sec_base.specs.Count.{Rose};
 ghost use Rattle.sec_base.specs.Ram.{GoesOn, IsReliable};
-ghost use Rattle.sec_base.specs.Sink.{Gains};
 ghost use Rattle.rv32_decode.specs.Encoding.{IsInst};
 ghost use Rattle.rv32_core.specs.Effect.{effect};
 ghost use Rattle.rv32_core.specs.Outcome.{CarriesStop, IsOutcome, IsSinkStop};
+ghost use Rattle.rv32_core.specs.Printing.{Prints};
 ghost use Rattle.rv32_core.specs.State.{state_of};
 ghost use Rattle.rv32_core.specs.TouchedLines.{AreTouched, data_lines};
 ghost use Rattle.rv32_core.specs.declared.step.StepStop.TheVariants.{WriteFault};
@@ -34,20 +34,20 @@ impl Core {
     ) -> Result<Step, StepStop>
         requires { IsInst inst.now }
 
-        ensures outcome { let before = state_of self.old calls.old (M.contents ram.old) in
-            (printed : List ℕ) × Gains (S.state out.old) printed (S.state out.new)
+        ensures outcome { let before = state_of self.old calls.old.services (M.contents ram.old) in
+            (printed : List ℕ) × Prints (S.state out.old) calls.old.digest printed (S.state out.new) calls.new.digest
             × (IsReliable M.stopped M.sound ram.old ram.new → IsOutcome (effect inst.now.op inst.now before) result before
-            (state_of self.new calls.new (M.contents ram.new)) printed) }
-        ensures stays { OnErr result ((self.new ≡ self.old) × (calls.new ≡ calls.old)) }
+            (state_of self.new calls.new.services (M.contents ram.new)) printed) }
+        ensures stays { OnErr result ((self.new ≡ self.old) × (calls.new.services ≡ calls.old.services)) }
 
         ensures mem { M.stopped ram.old ≡ None → CarriesStop (M.stopped ram.new) result }
         ensures sink_stop { IsReliable M.stopped M.sound ram.old ram.new → M.stopped ram.new ≡ None → IsSinkStop result
-            (effect inst.now.op inst.now (state_of self.old calls.old (M.contents ram.old))) }
+            (effect inst.now.op inst.now (state_of self.old calls.old.services (M.contents ram.old))) }
         ensures write_fault { result ≡ Err WriteFault → Rose (S.state out.old).faults (S.state out.new).faults }
         ensures faults { (S.state out.old).faults ≤ (S.state out.new).faults }
 
         ensures moved { GoesOn M.extent M.sound M.moved (λ lines. AreTouched result
-            (data_lines inst.now.op inst.now (state_of self.old calls.old (M.contents ram.old))) lines) ram.old ram.new }
+            (data_lines inst.now.op inst.now (state_of self.old calls.old.services (M.contents ram.old))) lines) ram.old ram.new }
     {
         match inst.op {
             Op::Lui => self.retire(inst.rd, immediate(inst)),

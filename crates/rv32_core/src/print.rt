@@ -2,18 +2,20 @@
 ghost use Rattle.std.specs.Prelude.{◌≡◌, ◌+◌, ◌<◌, ◌≤◌, ◌^◌, ℕ, List, None, Some, Err, length, IfErr, OnOk, OnErr};
 ghost use Rattle.sec_base.specs.Count.{Rose};
 ghost use Rattle.sec_base.specs.Ram.{GoesOn, IsReliable};
-ghost use Rattle.sec_base.specs.Sink.{Gains};
 ghost use Rattle.rv32_core.specs.Print.{IsPrinted, StopsAs, piece_length as length_of_piece};
+ghost use Rattle.rv32_core.specs.Printing.{Prints};
 ghost use Rattle.rv32_core.specs.State.{memory_bytes};
 ghost use Rattle.rv32_core.specs.TouchedLines.{AreTouched, byte_lines};
 ghost use Rattle.rv32_core.specs.declared.step.StepStop.TheVariants.{WriteFault};
 
+use crate::calls::Calls;
 use crate::step::StepStop;
-use sec_base::{MemStop, Ram, Sink, SinkStop, Width, write_all};
+use sec_base::{MemStop, Ram, Sink, Width};
 
 /// Prints so many bytes of the memory from an address on.
 pub fn print<M: Ram, S: Sink>(
     ram: &mut M,
+    calls: &mut Calls,
     out: &mut S,
     from: u32,
     count: u32,
@@ -21,9 +23,10 @@ pub fn print<M: Ram, S: Sink>(
     requires inside { 0 < count → from + count ≤ M.extent ram.old }
     requires fits { 0 < count → from + count < 2 ^ 32 }
 
-    ensures printed { (printed : List ℕ) × Gains (S.state out.old) printed (S.state out.new)
+    ensures printed { (printed : List ℕ) × Prints (S.state out.old) calls.old.digest printed (S.state out.new) calls.new.digest
         × (IsReliable M.stopped M.sound ram.old ram.new → IsPrinted result (memory_bytes (M.contents ram.old) from count) printed) }
     ensures contents { IsReliable M.stopped M.sound ram.old ram.new → M.contents ram.new ≡ M.contents ram.old }
+    ensures services { calls.new.services ≡ calls.old.services }
 
     ensures mem { M.stopped ram.old ≡ None → StopsAs (M.stopped ram.new) result }
     ensures some { M.stopped ram.old ≡ None → M.stopped ram.new ≡ None → OnErr result (0 < count) }
@@ -37,7 +40,7 @@ pub fn print<M: Ram, S: Sink>(
     let mut at = from;
     while at < end {
         let length = piece_length(at, end);
-        print_piece(ram, out, at, length)?;
+        print_piece(ram, calls, out, at, length)?;
         at += length;
     }
     Ok(())
@@ -54,6 +57,7 @@ fn piece_length(at: u32, end: u32) -> u32
 // Prints at most 64 bytes as one piece.
 fn print_piece<M: Ram, S: Sink>(
     ram: &mut M,
+    calls: &mut Calls,
     out: &mut S,
     from: u32,
     count: u32,
@@ -62,9 +66,10 @@ fn print_piece<M: Ram, S: Sink>(
     requires fits { from + count < 2 ^ 32 }
     requires short { count ≤ 64 }
 
-    ensures printed { (printed : List ℕ) × Gains (S.state out.old) printed (S.state out.new)
+    ensures printed { (printed : List ℕ) × Prints (S.state out.old) calls.old.digest printed (S.state out.new) calls.new.digest
         × (IsReliable M.stopped M.sound ram.old ram.new → IsPrinted result (memory_bytes (M.contents ram.old) from count) printed) }
     ensures contents { IsReliable M.stopped M.sound ram.old ram.new → M.contents ram.new ≡ M.contents ram.old }
+    ensures services { calls.new.services ≡ calls.old.services }
 
     ensures mem { M.stopped ram.old ≡ None → StopsAs (M.stopped ram.new) result }
     ensures write_fault { result ≡ Err WriteFault → Rose (S.state out.old).faults (S.state out.new).faults }
@@ -76,11 +81,27 @@ fn print_piece<M: Ram, S: Sink>(
     let mut buffer = [0; 64];
     let piece = &mut buffer[..count as usize];
     load_piece(ram, from, piece)?;
-    match write_all(out, piece) {
-        Ok(()) => Ok(()),
-        Err(SinkStop::Failed) => Err(StepStop::WriteFault),
-        Err(SinkStop::NoMemory) => Err(StepStop::Mem(MemStop::NoMemory)),
+    write_piece(calls, out, piece)?;
+    Ok(())
+}
+
+// Writes a piece, in as many writes as the sink takes, and digests what it took: after an error a front part of it.
+fn write_piece<S: Sink>(calls: &mut Calls, out: &mut S, piece: &[u8]) -> Result<(), StepStop>
+    ensures printed { (printed : List ℕ) × Prints (S.state out.old) calls.old.digest printed (S.state out.new) calls.new.digest
+        × IsPrinted result piece.now printed }
+    ensures services { calls.new.services ≡ calls.old.services }
+
+    ensures mem { StopsAs None result }
+    ensures write_fault { result ≡ Err WriteFault → Rose (S.state out.old).faults (S.state out.new).faults }
+    ensures faults { (S.state out.old).faults ≤ (S.state out.new).faults }
+{
+    let mut rest = piece;
+    while !rest.is_empty() {
+        let taken = out.write(rest)?;
+        calls.digest(&rest[..taken]);
+        rest = &rest[taken..];
     }
+    Ok(())
 }
 
 // Loads the bytes from an address on, one by one.

@@ -3,10 +3,10 @@ ghost use Rattle.std.specs.Prelude.{◌≡◌, ◌%◌, ◌<◌, ◌≤◌, ◌�
 ghost use Rattle.sec_base.specs.Count.{Rose};
 ghost use Rattle.sec_base.specs.Geometry.{IsMemorySize};
 ghost use Rattle.sec_base.specs.Ram.{GoesOn, IsReliable};
-ghost use Rattle.sec_base.specs.Sink.{Gains};
 ghost use Rattle.sec_base.specs.declared.ending.Cause.{Cause};
 ghost use Rattle.rv32_core.specs.Effect.{next};
 ghost use Rattle.rv32_core.specs.Outcome.{CarriesStop, IsOutcome, IsSinkStop};
+ghost use Rattle.rv32_core.specs.Printing.{Prints};
 ghost use Rattle.rv32_core.specs.State.{next_core, next_core_with, opening_core, register, state_of, with_pc, with_register};
 ghost use Rattle.rv32_core.specs.TouchedLines.{AreTouched, touched_lines};
 ghost use Rattle.rv32_core.specs.declared.step.Step.{Step};
@@ -80,26 +80,27 @@ impl Core {
         calls: &mut Calls,
         out: &mut S,
     ) -> Result<Step, StepStop>
-        // Where the memory can be relied on, it is the plain machine's instruction.
-        ensures outcome { let before = state_of self.old calls.old (M.contents ram.old) in
-            (printed : List ℕ) × Gains (S.state out.old) printed (S.state out.new)
+        // Where the memory can be relied on, it is the plain machine's instruction. What the sink took, the digest took too,
+        // also after a stop.
+        ensures outcome { let before = state_of self.old calls.old.services (M.contents ram.old) in
+            (printed : List ℕ) × Prints (S.state out.old) calls.old.digest printed (S.state out.new) calls.new.digest
             × (IsReliable M.stopped M.sound ram.old ram.new → IsOutcome (next before) result before
-            (state_of self.new calls.new (M.contents ram.new)) printed) }
-        ensures stays { OnErr result ((self.new ≡ self.old) × (calls.new ≡ calls.old)) }
+            (state_of self.new calls.new.services (M.contents ram.new)) printed) }
+        ensures stays { OnErr result ((self.new ≡ self.old) × (calls.new.services ≡ calls.old.services)) }
 
         // Where the memory did not stop either, it traps exactly where that instruction does.
         ensures traps { IsReliable M.stopped M.sound ram.old ram.new → M.stopped ram.new ≡ None → (cause : Cause) →
-            (result ≡ Err (Trap cause)) ↔ (next (state_of self.old calls.old (M.contents ram.old)) ≡ Err cause) }
+            (result ≡ Err (Trap cause)) ↔ (next (state_of self.old calls.old.services (M.contents ram.old)) ≡ Err cause) }
         ensures mem { M.stopped ram.old ≡ None → CarriesStop (M.stopped ram.new) result }
         ensures sink_stop { IsReliable M.stopped M.sound ram.old ram.new → M.stopped ram.new ≡ None →
-            IsSinkStop result (next (state_of self.old calls.old (M.contents ram.old))) }
+            IsSinkStop result (next (state_of self.old calls.old.services (M.contents ram.old))) }
         ensures write_fault { result ≡ Err WriteFault → Rose (S.state out.old).faults (S.state out.new).faults }
         ensures faults { (S.state out.old).faults ≤ (S.state out.new).faults }
 
         // It touches the lines of that instruction, in order, and after an error a front part of them.
         ensures moved { GoesOn M.extent M.sound M.moved
             (λ lines. IsReliable M.stopped M.sound ram.old ram.new →
-            AreTouched result (touched_lines (state_of self.old calls.old (M.contents ram.old))) lines)
+            AreTouched result (touched_lines (state_of self.old calls.old.services (M.contents ram.old))) lines)
             ram.old ram.new }
     {
         let word = fetch(ram, self.pc)?;

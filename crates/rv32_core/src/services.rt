@@ -2,11 +2,11 @@
 ghost use Rattle.std.specs.Prelude.{◌≡◌, ◌≢◌, ◌≤◌, ℕ, List, [], None, Ok, Err, OnErr};
 ghost use Rattle.sec_base.specs.Count.{Rose};
 ghost use Rattle.sec_base.specs.Ram.{GoesOn, IsReliable};
-ghost use Rattle.sec_base.specs.Sink.{Gains};
 ghost use Rattle.rv32_decode.specs.Words.{word_of_signed};
 ghost use Rattle.rv32_core.specs.Outcome.{CarriesStop, IsOutcome, IsSinkStop, OnlyTraps};
+ghost use Rattle.rv32_core.specs.Printing.{Prints};
 ghost use Rattle.rv32_core.specs.Services.{brk_service, is_inside, is_output, read_service, service, write_service};
-ghost use Rattle.rv32_core.specs.State.{CallsView, next_core, next_core_with, register, state_of};
+ghost use Rattle.rv32_core.specs.State.{next_core, next_core_with, register, state_of};
 ghost use Rattle.rv32_core.specs.TouchedLines.{AreTouched, read_lines, service_lines, write_lines};
 ghost use Rattle.rv32_core.specs.declared.step.Step.TheVariants.{Halted, Retired};
 ghost use Rattle.rv32_core.specs.declared.step.StepStop.TheVariants.{WriteFault};
@@ -51,25 +51,25 @@ impl Core {
         calls: &mut Calls,
         out: &mut S,
     ) -> Result<Step, StepStop>
-        ensures outcome { let before = state_of self.old calls.old (M.contents ram.old) in
-            (printed : List ℕ) × Gains (S.state out.old) printed (S.state out.new)
+        ensures outcome { let before = state_of self.old calls.old.services (M.contents ram.old) in
+            (printed : List ℕ) × Prints (S.state out.old) calls.old.digest printed (S.state out.new) calls.new.digest
             × (IsReliable M.stopped M.sound ram.old ram.new → IsOutcome (Ok (service before)) result before
-            (state_of self.new calls.new (M.contents ram.new)) printed) }
-        ensures stays { OnErr result ((self.new ≡ self.old) × (calls.new ≡ calls.old)) }
+            (state_of self.new calls.new.services (M.contents ram.new)) printed) }
+        ensures stays { OnErr result ((self.new ≡ self.old) × (calls.new.services ≡ calls.old.services)) }
 
         ensures mem { M.stopped ram.old ≡ None → CarriesStop (M.stopped ram.new) result }
         ensures sink_stop { IsReliable M.stopped M.sound ram.old ram.new → M.stopped ram.new ≡ None →
-            IsSinkStop result (Ok (service (state_of self.old calls.old (M.contents ram.old)))) }
+            IsSinkStop result (Ok (service (state_of self.old calls.old.services (M.contents ram.old)))) }
         ensures write_fault { result ≡ Err WriteFault → Rose (S.state out.old).faults (S.state out.new).faults }
         ensures faults { (S.state out.old).faults ≤ (S.state out.new).faults }
 
         ensures moved { GoesOn M.extent M.sound M.moved
-            (λ lines. AreTouched result (service_lines (state_of self.old calls.old (M.contents ram.old))) lines)
+            (λ lines. AreTouched result (service_lines (state_of self.old calls.old.services (M.contents ram.old))) lines)
             ram.old ram.new }
     {
         match self.reg(A7) {
             READ => self.read_input(ram, calls),
-            WRITE => self.write_output(ram, out),
+            WRITE => self.write_output(ram, calls, out),
             EXIT => self.exit(),
             BRK => self.move_break(ram, calls),
             _ => self.refuse(NO_SUCH_SERVICE),
@@ -78,17 +78,18 @@ impl Core {
 
     // The next a2 bytes of the input, or what is left of it, are stored from a1 on.
     fn read_input<M: Ram>(&mut self, ram: &mut M, calls: &mut Calls) -> Result<Step, StepStop>
-        ensures outcome { let before = state_of self.old calls.old (M.contents ram.old) in
+        ensures outcome { let before = state_of self.old calls.old.services (M.contents ram.old) in
             IsReliable M.stopped M.sound ram.old ram.new → IsOutcome (Ok (read_service before)) result before
-            (state_of self.new calls.new (M.contents ram.new)) [] }
-        ensures stays { OnErr result ((self.new ≡ self.old) × (calls.new ≡ calls.old)) }
+            (state_of self.new calls.new.services (M.contents ram.new)) [] }
+        ensures stays { OnErr result ((self.new ≡ self.old) × (calls.new.services ≡ calls.old.services)) }
+        ensures digest { calls.new.digest ≡ calls.old.digest }
 
         ensures mem { M.stopped ram.old ≡ None → CarriesStop (M.stopped ram.new) result }
         ensures only_traps { M.stopped ram.old ≡ None → M.stopped ram.new ≡ None → OnlyTraps result }
         ensures write_fault { result ≢ Err WriteFault }
 
         ensures moved { GoesOn M.extent M.sound M.moved
-            (λ lines. AreTouched result (read_lines (state_of self.old calls.old (M.contents ram.old))) lines)
+            (λ lines. AreTouched result (read_lines (state_of self.old calls.old.services (M.contents ram.old))) lines)
             ram.old ram.new }
     {
         let from = self.reg(A1);
@@ -107,21 +108,28 @@ impl Core {
     }
 
     // Prints the a2 bytes from a1 on to the descriptor in a0.
-    fn write_output<M: Ram, S: Sink>(&mut self, ram: &mut M, out: &mut S) -> Result<Step, StepStop>
-        ensures outcome { (printed : List ℕ) × Gains (S.state out.old) printed (S.state out.new)
-            × (IsReliable M.stopped M.sound ram.old ram.new → (calls : CallsView) →
-            let before = state_of self.old calls (M.contents ram.old) in
-            IsOutcome (Ok (write_service before)) result before (state_of self.new calls (M.contents ram.new)) printed) }
+    fn write_output<M: Ram, S: Sink>(
+        &mut self,
+        ram: &mut M,
+        calls: &mut Calls,
+        out: &mut S,
+    ) -> Result<Step, StepStop>
+        ensures outcome { let before = state_of self.old calls.old.services (M.contents ram.old) in
+            (printed : List ℕ) × Prints (S.state out.old) calls.old.digest printed (S.state out.new) calls.new.digest
+            × (IsReliable M.stopped M.sound ram.old ram.new → IsOutcome (Ok (write_service before)) result before
+            (state_of self.new calls.new.services (M.contents ram.new)) printed) }
         ensures stays { OnErr result (self.new ≡ self.old) }
+        ensures services { calls.new.services ≡ calls.old.services }
 
         ensures mem { M.stopped ram.old ≡ None → CarriesStop (M.stopped ram.new) result }
-        ensures sink_stop { IsReliable M.stopped M.sound ram.old ram.new → M.stopped ram.new ≡ None → (calls : CallsView) →
-            IsSinkStop result (Ok (write_service (state_of self.old calls (M.contents ram.old)))) }
+        ensures sink_stop { IsReliable M.stopped M.sound ram.old ram.new → M.stopped ram.new ≡ None →
+            IsSinkStop result (Ok (write_service (state_of self.old calls.old.services (M.contents ram.old)))) }
         ensures write_fault { result ≡ Err WriteFault → Rose (S.state out.old).faults (S.state out.new).faults }
         ensures faults { (S.state out.old).faults ≤ (S.state out.new).faults }
 
-        ensures moved { GoesOn M.extent M.sound M.moved (λ lines. (calls : CallsView) →
-            AreTouched result (write_lines (state_of self.old calls (M.contents ram.old))) lines) ram.old ram.new }
+        ensures moved { GoesOn M.extent M.sound M.moved
+            (λ lines. AreTouched result (write_lines (state_of self.old calls.old.services (M.contents ram.old))) lines)
+            ram.old ram.new }
     {
         let from = self.reg(A1);
         let count = self.reg(A2);
@@ -131,7 +139,7 @@ impl Core {
         if !reaches_inside(from, count, ram.size()) {
             return self.refuse(BAD_ADDRESS);
         }
-        print(ram, out, from, count)?;
+        print(ram, calls, out, from, count)?;
         self.retire(A0, count)
     }
 
@@ -147,8 +155,9 @@ impl Core {
 
     // Moves the program's break to the address in a0, where it may stand there.
     fn move_break<M: Ram>(&mut self, ram: &M, calls: &mut Calls) -> Result<Step, StepStop>
-        ensures outcome { let before = state_of self.old calls.old (M.contents ram.now) in
-            IsOutcome (Ok (brk_service before)) result before (state_of self.new calls.new (M.contents ram.now)) [] }
+        ensures outcome { let before = state_of self.old calls.old.services (M.contents ram.now) in
+            IsOutcome (Ok (brk_service before)) result before (state_of self.new calls.new.services (M.contents ram.now)) [] }
+        ensures digest { calls.new.digest ≡ calls.old.digest }
         ensures retired { result ≡ Ok Retired }
     {
         let brk = calls.move_break(self.reg(A0), ram.size());

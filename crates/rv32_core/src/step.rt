@@ -1,8 +1,9 @@
 // What an instruction comes to.
 ghost use Rattle.std.specs.Prelude.{◌≡◌};
+ghost use Rattle.rv32_core.specs.Print.{sink_stop};
 ghost use Rattle.rv32_core.specs.declared.step.StepStop.TheVariants.{Mem};
 
-use sec_base::{Cause, MemStop};
+use sec_base::{Cause, MemStop, SinkStop};
 
 /// What an instruction that was retired leads to.
 #[derive(Clone, Copy, Debug, PartialEq, Eq)]
@@ -30,5 +31,16 @@ impl From<MemStop> for StepStop {
     #[inline]
     fn from(stop: MemStop) -> Self {
         StepStop::Mem(stop)
+    }
+}
+
+impl From<SinkStop> for StepStop {
+    ghost from_gives = { λ sink stop. stop ≡ sink_stop sink };
+
+    fn from(stop: SinkStop) -> Self {
+        match stop {
+            SinkStop::Failed => StepStop::WriteFault,
+            SinkStop::NoMemory => StepStop::Mem(MemStop::NoMemory),
+        }
     }
 }

@@ -1,7 +1,9 @@
 ghost use Rattle.std.specs.Prelude.{◌<◌, List, ℕ};
 
 use super::*;
-use sec_base::{Bytes, Cause, Image, MemStop, MemorySink, Ram, Segment, Segments, Width};
+use sec_base::{
+    Bytes, Cause, Image, MemStop, MemorySink, Ram, Segment, Segments, Sink, SinkStop, Width,
+};
 use std::alloc::{AllocError, Global};
 use std::test::Fail;
 
@@ -263,5 +265,104 @@ fn a_jump_out_of_the_memory_is_retired(rt: HostRuntime) -> Result<(), Fail> {
         Err(StepStop::Trap(Cause::OutsideMemory))
     );
     assert_eq!(rt; (core.pc(), core.reg(10)), (16_384, 4));
+    Ok(())
+}
+
+// SHA-256 of no bytes, of `A`, `ABCDE`, `ABCDEFGH` and `ABCDEABCDEFGH`, by Python 3.11's hashlib.
+const OF_NOTHING: [u8; 32] = [
+    0xe3, 0xb0, 0xc4, 0x42, 0x98, 0xfc, 0x1c, 0x14, 0x9a, 0xfb, 0xf4, 0xc8, 0x99, 0x6f, 0xb9, 0x24,
+    0x27, 0xae, 0x41, 0xe4, 0x64, 0x9b, 0x93, 0x4c, 0xa4, 0x95, 0x99, 0x1b, 0x78, 0x52, 0xb8, 0x55,
+];
+
+const OF_A: [u8; 32] = [
+    0x55, 0x9a, 0xea, 0xd0, 0x82, 0x64, 0xd5, 0x79, 0x5d, 0x39, 0x09, 0x71, 0x8c, 0xdd, 0x05, 0xab,
+    0xd4, 0x95, 0x72, 0xe8, 0x4f, 0xe5, 0x55, 0x90, 0xee, 0xf3, 0x1a, 0x88, 0xa0, 0x8f, 0xdf, 0xfd,
+];
+
+const OF_ABCDE: [u8; 32] = [
+    0xf0, 0x39, 0x3f, 0xeb, 0xe8, 0xba, 0xaa, 0x55, 0xe3, 0x2f, 0x7b, 0xe2, 0xa7, 0xcc, 0x18, 0x0b,
+    0xf3, 0x4e, 0x52, 0x13, 0x7d, 0x99, 0xe0, 0x56, 0xc8, 0x17, 0xa9, 0xc0, 0x7b, 0x8f, 0x23, 0x9a,
+];
+
+const OF_ABCDEFGH: [u8; 32] = [
+    0x9a, 0xc2, 0x19, 0x7d, 0x92, 0x58, 0x25, 0x7b, 0x1a, 0xe8, 0x46, 0x3e, 0x42, 0x14, 0xe4, 0xcd,
+    0x0a, 0x57, 0x8b, 0xc1, 0x51, 0x7f, 0x24, 0x15, 0x92, 0x8b, 0x91, 0xbe, 0x42, 0x83, 0xfc, 0x48,
+];
+
+const OF_BOTH: [u8; 32] = [
+    0xd6, 0x79, 0x7d, 0x7e, 0x16, 0xff, 0xbc, 0x4c, 0xec, 0xb2, 0x71, 0x44, 0xc7, 0x44, 0xaf, 0x6b,
+    0x6b, 0x27, 0x46, 0x6e, 0xd7, 0xef, 0xcd, 0xea, 0x43, 0x3f, 0xda, 0xdc, 0x0c, 0x91, 0x91, 0x86,
+];
+
+// Tells nothing, takes two bytes of a piece at a time, and fails once it took so many.
+#[derive(Drop)]
+struct Narrow {
+    left: usize,
+    faults: u64,
+}
+
+impl Sink for Narrow {
+    ghost use Rattle.std.specs.Prelude.{None};
+
+    ghost state = { λ sink. record { written = None; faults = sink.faults } };
+
+    fn write(&mut self, piece: &[u8]) -> Result<usize, SinkStop> {
+        let taken = piece.len().min(2).min(self.left);
+        if taken == 0 && !piece.is_empty() {
+            self.faults = self.faults.saturating_add(1);
+            return Err(SinkStop::Failed);
+        }
+        self.left -= taken;
+        Ok(taken)
+    }
+}
+
+// A memory with `ABCDEFGH` from address 60 on, of which four bytes are a piece.
+fn with_letters() -> FewBytes {
+    let mut ram = FewBytes::new(ECALL);
+    for i in 0..8u8 {
+        ram.set_byte(60 + u32::from(i), 65 + u32::from(i));
+    }
+    ram
+}
+
+#[test]
+fn the_digest_is_of_what_the_sink_took(rt: HostRuntime) -> Result<(), Fail> {
+    let image = image(rt.alloc())?;
+    let rows = [
+        (9, 0, Ok(Step::Retired), OF_NOTHING),
+        (9, 1, Ok(Step::Retired), OF_A),
+        (0, 8, Err(StepStop::WriteFault), OF_NOTHING),
+        (1, 8, Err(StepStop::WriteFault), OF_A),
+        (5, 8, Err(StepStop::WriteFault), OF_ABCDE),
+        (8, 8, Ok(Step::Retired), OF_ABCDEFGH),
+    ];
+    for (left, count, answer, digest) in rows {
+        let mut calls = Calls::new(b"", &image);
+        let mut out = Narrow { left, faults: 0 };
+        let step = asking(64, 1, 60, count).step(&mut with_letters(), &mut calls, &mut out);
+        assert_eq!(rt; step, answer, "{count} bytes to a sink of {left}");
+        assert_eq!(rt; calls.finish(), digest, "{count} bytes to a sink of {left}");
+    }
+    Ok(())
+}
+
+// What was taken before a stop stays in it.
+#[test]
+fn the_digest_goes_on_after_a_stop(rt: HostRuntime) -> Result<(), Fail> {
+    let mut calls = Calls::new(b"", &image(rt.alloc())?);
+    let mut ram = with_letters();
+    let mut out = Narrow { left: 5, faults: 0 };
+    let mut core = asking(64, 1, 60, 8);
+    assert_eq!(rt;
+        core.step(&mut ram, &mut calls, &mut out),
+        Err(StepStop::WriteFault)
+    );
+    let mut out = MemorySink::new(rt.alloc(), &[])?;
+    assert_eq!(rt;
+        core.step(&mut ram, &mut calls, &mut out),
+        Ok(Step::Retired)
+    );
+    assert_eq!(rt; calls.finish(), OF_BOTH);
     Ok(())
 }

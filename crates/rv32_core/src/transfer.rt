@@ -3,7 +3,7 @@ ghost use Rattle.std.specs.Prelude.{◌≡◌, ◌%◌, ℕ, List, [], OnErr};
 ghost use Rattle.rv32_decode.specs.Encoding.{IsInst};
 ghost use Rattle.rv32_core.specs.Effect.{branch_effect, jump_effect, target_fault};
 ghost use Rattle.rv32_core.specs.Outcome.{IsOutcome, OnlyTraps};
-ghost use Rattle.rv32_core.specs.State.{CallsView, state_of};
+ghost use Rattle.rv32_core.specs.State.{ServicesView, state_of};
 
 use crate::processor::Core;
 use crate::step::{Step, StepStop};
@@ -16,7 +16,7 @@ impl Core {
     pub(crate) fn jump(&mut self, target: u32, inst: &Inst) -> Result<Step, StepStop>
         requires { IsInst inst.now }
 
-        ensures outcome { (calls : CallsView) (memory : List ℕ) → let before = state_of self.old calls memory in
+        ensures outcome { (calls : ServicesView) (memory : List ℕ) → let before = state_of self.old calls memory in
             IsOutcome (jump_effect target inst.now before) result before (state_of self.new calls memory) [] }
         ensures stays { OnErr result (self.new ≡ self.old) }
         ensures only_traps { OnlyTraps result }
@@ -33,7 +33,7 @@ impl Core {
     // A branch, where it is taken or not.
     #[inline]
     pub(crate) fn branch(&mut self, taken: bool, inst: &Inst) -> Result<Step, StepStop>
-        ensures outcome { (calls : CallsView) (memory : List ℕ) → let before = state_of self.old calls memory in
+        ensures outcome { (calls : ServicesView) (memory : List ℕ) → let before = state_of self.old calls memory in
             IsOutcome (branch_effect taken inst.now before) result before (state_of self.new calls memory) [] }
         ensures stays { OnErr result (self.new ≡ self.old) }
         ensures only_traps { OnlyTraps result }

@@ -7,7 +7,7 @@ use Rattle.sec_base.specs.declared.stop.MemStop.TheVariants.{Tampered as tampere
 use Rattle.sec_base.specs.declared.place.Place.{Place}
 use Rattle.sec_base.specs.declared.segment.Segment.{Segment}
 use Rattle.sec_base.specs.Opening.{opening_memory}
-use Rattle.rv32_core.specs.State.{State, CoreView, CallsView, opening_core}
+use Rattle.rv32_core.specs.State.{State, CoreView, ServicesView, opening_core}
 use Rattle.rv32_core.specs.Effect.{next}
 use Rattle.rv32_core.specs.Outcome.{prints_of}
 use Rattle.rv32_core.specs.Machine.{Machine, plain, opening_calls, opening_of}
@@ -18,20 +18,20 @@ use Rattle.rv32_run.proofs.Turns.{stop_ends}
 
 -- A program as it begins
 
-opening_reaches : (entry size : ℕ) (segments : List Segment) (input : List ℕ) (core : CoreView) (calls : CallsView) (memory : List ℕ) → core ≡ opening_core entry size → calls ≡ opening_calls segments input → memory ≡ opening_memory size segments → Reaches (opening_of entry size segments input) 0 core calls memory []
+opening_reaches : (entry size : ℕ) (segments : List Segment) (input : List ℕ) (core : CoreView) (calls : ServicesView) (memory : List ℕ) → core ≡ opening_core entry size → calls ≡ opening_calls segments input → memory ≡ opening_memory size segments → Reaches (opening_of entry size segments input) 0 core calls memory []
 unfolding plain opening_of
 opening_reaches entry size segments input core calls memory is_core services bytes = sym (
     ap (λ (h : CoreView). going_on (record { core = h; calls = calls; memory = memory }) [] 0) is_core
-    ∙ ap (λ (s : CallsView). going_on (record { core = opening_core entry size; calls = s; memory = memory }) [] 0) services
+    ∙ ap (λ (s : ServicesView). going_on (record { core = opening_core entry size; calls = s; memory = memory }) [] 0) services
     ∙ ap (λ (m : List ℕ). going_on (record { core = opening_core entry size; calls = opening_calls segments input; memory = m }) [] 0) bytes)
 
-pub opening_begins : (entry size : ℕ) (segments : List Segment) (input : List ℕ) (core : CoreView) (calls : CallsView) (memory : List ℕ) (n : ℕ) → core ≡ opening_core entry size → calls ≡ opening_calls segments input → memory ≡ opening_memory size segments → n ≡ 0 → Reaches (opening_of entry size segments input) n core calls memory []
+pub opening_begins : (entry size : ℕ) (segments : List Segment) (input : List ℕ) (core : CoreView) (calls : ServicesView) (memory : List ℕ) (n : ℕ) → core ≡ opening_core entry size → calls ≡ opening_calls segments input → memory ≡ opening_memory size segments → n ≡ 0 → Reaches (opening_of entry size segments input) n core calls memory []
 opening_begins entry size segments input core calls memory n is_core services bytes none =
     subst (λ (m : ℕ). Reaches (opening_of entry size segments input) m core calls memory []) (sym none)
     (opening_reaches entry size segments input core calls memory is_core services bytes)
 
 -- a session that began so follows it
-pub opening_follows : (entry size : ℕ) (segments : List Segment) (input : List ℕ) (core : CoreView) (calls : CallsView) (opened memory : List ℕ) (n budget allowance finished retired : ℕ) (ended ending : Ending) (printed : List ℕ) → core ≡ opening_core entry size → calls ≡ opening_calls segments input → opened ≡ opening_memory size segments → n ≡ 0 → budget ≡ allowance → retired ≡ finished → ending ≡ ended → ((start : Machine) (before : List ℕ) → Reaches start n core calls opened before → FollowsWith start budget finished ended memory (before ++ printed)) → FollowsWith (opening_of entry size segments input) allowance retired ending memory printed
+pub opening_follows : (entry size : ℕ) (segments : List Segment) (input : List ℕ) (core : CoreView) (calls : ServicesView) (opened memory : List ℕ) (n budget allowance finished retired : ℕ) (ended ending : Ending) (printed : List ℕ) → core ≡ opening_core entry size → calls ≡ opening_calls segments input → opened ≡ opening_memory size segments → n ≡ 0 → budget ≡ allowance → retired ≡ finished → ending ≡ ended → ((start : Machine) (before : List ℕ) → Reaches start n core calls opened before → FollowsWith start budget finished ended memory (before ++ printed)) → FollowsWith (opening_of entry size segments input) allowance retired ending memory printed
 opening_follows entry size segments input core calls opened memory n budget allowance finished retired ended ending printed is_core services bytes none same count is follows =
     let start = opening_of entry size segments input in
     let here = opening_begins entry size segments input core calls opened n is_core services bytes none in

@@ -9,7 +9,7 @@ use Rattle.rv32_core.specs.declared.step.Step.{Step}
 use Rattle.rv32_core.specs.declared.step.Step.TheVariants.{Halted as Halted_step}
 use Rattle.rv32_core.specs.declared.step.StepStop.{StepStop}
 use Rattle.rv32_core.specs.declared.step.StepStop.TheVariants.{Trap, Mem, WriteFault as WriteFault_step}
-use Rattle.rv32_core.specs.State.{State, CoreView, CallsView}
+use Rattle.rv32_core.specs.State.{State, CoreView, ServicesView}
 use Rattle.rv32_core.specs.Effect.{next}
 use Rattle.rv32_core.specs.Outcome.{IsOutcome, prints_of}
 use Rattle.rv32_core.specs.Machine.{Machine, plain}
@@ -30,10 +30,10 @@ stop_ends stop ending state before printed n budget e =
 
 -- A session as it begins, and the parts that it is made of
 
-pub begun_reaches : {M : Type 0} (contents : M → List ℕ) (parts session : SessionView M) (start : Machine) (before : List ℕ) → parts ≡ session → Reaches start session.retired session.core session.calls (contents session.memory) before → Reaches start parts.retired parts.core parts.calls (contents parts.memory) (before ++ [])
+pub begun_reaches : {M : Type 0} (contents : M → List ℕ) (parts session : SessionView M) (start : Machine) (before : List ℕ) → parts ≡ session → Reaches start session.retired session.core session.calls.services (contents session.memory) before → Reaches start parts.retired parts.core parts.calls.services (contents parts.memory) (before ++ [])
 begun_reaches {M} contents parts session start before same here =
-    subst (λ (r : SessionView M). Reaches start r.retired r.core r.calls (contents r.memory) (before ++ [])) (sym same)
-    (subst (λ (xs : List ℕ). Reaches start session.retired session.core session.calls (contents session.memory) xs) (sym (append-nil before)) here)
+    subst (λ (r : SessionView M). Reaches start r.retired r.core r.calls.services (contents r.memory) (before ++ [])) (sym same)
+    (subst (λ (xs : List ℕ). Reaches start session.retired session.core session.calls.services (contents session.memory) xs) (sym (append-nil before)) here)
 
 pub begun_going : {M : Type 0} (stopped : M → Option MemStop) (parts session : SessionView M) → parts ≡ session → stopped session.memory ≡ None → stopped parts.memory ≡ None
 begun_going {M} stopped parts session same going = subst (λ (r : SessionView M). stopped r.memory ≡ None) (sym same) going
@@ -118,7 +118,7 @@ stop_prints start n m ending state printed here count stops prints =
 
 -- One turn after others: what they printed, together
 
-pub reaches_on : (start : Machine) (n : ℕ) (core : CoreView) (calls : CallsView) (memory before first second : List ℕ) → Reaches start n core calls memory (before ++ first ++ second) → Reaches start n core calls memory (before ++ (first ++ second))
+pub reaches_on : (start : Machine) (n : ℕ) (core : CoreView) (calls : ServicesView) (memory before first second : List ℕ) → Reaches start n core calls memory (before ++ first ++ second) → Reaches start n core calls memory (before ++ (first ++ second))
 reaches_on start n core calls memory before first second here =
     here ∙ ap (λ (xs : List ℕ). going_on (record { core = core; calls = calls; memory = memory }) xs n) (append_assoc before first second)
 

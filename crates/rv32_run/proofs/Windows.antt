@@ -40,7 +40,7 @@ pub record Chip : Type 1 where
   pub rises : (a b : M) (xs : List ℕ) → moved a xs b → (place : ℕ) → RoseBy 0 (reads a place) (reads b place)
   pub few : (m : M) → fits m → length (kept m) < bound
   pub inside : (m : M) (line : ℕ) → fits m → is_old (contents m) line ≡ true → group line < places
-  pub paid : (a b : M) (xs : List ℕ) → moved a xs b → stopped b ≡ None → quiet b → (line : ℕ) → Contains xs line → is_old (contents a) line ≡ true →
+  pub paid : (a b : M) (xs : List ℕ) → moved a xs b → fits a → stopped b ≡ None → quiet b → (line : ℕ) → Contains xs line → is_old (contents a) line ≡ true →
       Contains (kept a) (group line) ⊎ Rose (reads a (group line)) (reads b (group line))
 
 -- a window is open since a memory with its bytes
@@ -61,7 +61,7 @@ window_reads : (chip : Chip) (began now : chip.M) (lines touched : List ℕ) →
 window_reads chip began now lines touched moved fits going quiet listed many =
     let found = some_of_more (chip.kept began) chip.group (is_old (chip.contents began)) (λ line. Rose (chip.reads began (chip.group line)) (chip.reads now (chip.group line))) touched
     (omega (arith, chip.few began fits, many))
-    (λ line there old. elim (chip.paid began now lines moved going quiet line (listed line there) old) [
+    (λ line there old. elim (chip.paid began now lines moved fits going quiet line (listed line there) old) [
       | inl held ↦ inl (list_any-from_Contains nat_eq_equiv (chip.group line) (chip.kept began) held)
       | inr rose ↦ inr rose
     ]) in

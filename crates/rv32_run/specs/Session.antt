@@ -4,12 +4,12 @@ use Rattle.sec_base.specs.declared.ending.Ending.{Ending}
 use Rattle.sec_base.specs.declared.ending.Ending.TheVariants.{Halted, Trapped, OutOfSteps, Tampered, Spent, WriteFault, NoMemory}
 use Rattle.sec_base.specs.declared.stop.MemStop.{MemStop}
 use Rattle.sec_base.specs.declared.stop.MemStop.TheVariants.{Tampered as tampered, Spent as spent, NoMemory as no_memory}
-use Rattle.rv32_core.specs.State.{CoreView, CallsView}
+use Rattle.rv32_core.specs.State.{CoreView, ServicesView}
 use Rattle.rv32_core.specs.Machine.{Machine, plain}
 use Rattle.rv32_core.specs.Follows.{Follows}
 
 -- after n instructions the plain machine is in this state, has printed this, and goes on
-abbrev pub Reaches : Machine → ℕ → CoreView → CallsView → List ℕ → List ℕ → Type 0
+abbrev pub Reaches : Machine → ℕ → CoreView → ServicesView → List ℕ → List ℕ → Type 0
 Reaches start n core calls memory printed = plain start n ≡ record {
   state = record { core = core; calls = calls; memory = memory };
   output = printed;
@@ -33,7 +33,7 @@ pub record FollowsWith (start : Machine) (budget retired : ℕ) (ending : Ending
   pub leaves : ¬ IsMemoryEnding ending → memory ≡ (plain start retired).state.memory
 
 -- a turn leads on to what the plain machine reaches, or ends as a run that follows it
-abbrev pub Turns : Machine → ℕ → Option Ending → ℕ → CoreView → CallsView → List ℕ → List ℕ → Type 0
+abbrev pub Turns : Machine → ℕ → Option Ending → ℕ → CoreView → ServicesView → List ℕ → List ℕ → Type 0
 Turns start budget None retired core calls memory printed = Reaches start retired core calls memory printed
 Turns start budget (Some ending) retired core calls memory printed = FollowsWith start budget retired ending memory printed
 

@@ -1,13 +1,14 @@
 // A run that is under way.
-ghost use Rattle.std.specs.Prelude.{◌≡◌, ◌↔◌, ◌<◌, ◌≤◌, ◌++◌, ℕ, List, None, Some, IfSome, length};
+ghost use Rattle.std.specs.Prelude.{◌≡◌, ◌↔◌, ◌<◌, ◌≤◌, ◌++◌, ℕ, List, [], None, Some, IfSome, length};
 ghost use Rattle.sec_base.specs.declared.ending.Ending.TheVariants.{OutOfSteps, WriteFault};
 ghost use Rattle.sec_base.specs.Count.{Rose};
 ghost use Rattle.sec_base.specs.Ram.{GoesOn};
-ghost use Rattle.sec_base.specs.Sink.{Gains};
+ghost use Rattle.sha2.specs.Hashers.{Holds256};
 ghost use Rattle.rv32_core.specs.State.{opening_core, state_of};
 ghost use Rattle.rv32_core.specs.Effect.{next};
 ghost use Rattle.rv32_core.specs.Outcome.{prints_of};
 ghost use Rattle.rv32_core.specs.Machine.{Machine, plain, opening_calls};
+ghost use Rattle.rv32_core.specs.Printing.{Prints};
 ghost use Rattle.rv32_run.specs.Trail.{IsInstruction, HasTrail};
 ghost use Rattle.rv32_run.specs.Session.{Reaches, FollowsWith, Turns, retired_after, IsStop, stop_ending, CarriesEnding};
 
@@ -42,7 +43,8 @@ impl<'a, M: Ram> Session<'a, M> {
     /// A program in its memory, before its first instruction.
     pub fn new(image: &Image, input: &'a [u8], memory: M, budget: u64) -> Session<'a, M>
         ensures core { result.core ≡ opening_core image.now.entry image.now.size }
-        ensures calls { result.calls ≡ opening_calls image.now.segments input.now }
+        ensures services { result.calls.services ≡ opening_calls image.now.segments input.now }
+        ensures nothing_taken { Holds256 result.calls.digest [] }
         ensures memory { result.memory ≡ memory }
         ensures retired { result.retired ≡ 0 }
         ensures budget { result.budget ≡ budget }
@@ -63,18 +65,19 @@ impl<'a, M: Ram> Session<'a, M> {
         self.retired
     }
 
-    /// The memory as it is.
-    pub fn into_memory(self) -> M
-        ensures { result ≡ self.entry.memory }
+    /// The memory as it is, and the services, which have the digest of what the sink took.
+    pub fn into_parts(self) -> (M, Calls<'a>)
+        ensures memory { result.0 ≡ self.entry.memory }
+        ensures calls { result.1 ≡ self.entry.calls }
     {
         let Session {
             core: _core,
-            calls: _calls,
+            calls,
             memory,
             retired: _,
             budget: _,
         } = self;
-        memory
+        (memory, calls)
     }
 
     /// Goes on to the end.
@@ -83,9 +86,9 @@ impl<'a, M: Ram> Session<'a, M> {
         requires going { M.stopped self.old.memory ≡ None }
 
         // Where the memory can be relied on, the run follows the plain machine.
-        ensures follows { (printed : List ℕ) × Gains (S.state out.old) printed (S.state out.new)
+        ensures follows { (printed : List ℕ) × Prints (S.state out.old) self.old.calls.digest printed (S.state out.new) self.new.calls.digest
             × (M.sound self.new.memory → (start : Machine) (before : List ℕ) →
-            Reaches start self.old.retired self.old.core self.old.calls (M.contents self.old.memory) before →
+            Reaches start self.old.retired self.old.core self.old.calls.services (M.contents self.old.memory) before →
             FollowsWith start self.old.budget self.new.retired result (M.contents self.new.memory) (before ++ printed)) }
         ensures within { self.new.retired ≤ self.old.budget }
         ensures budget_used { result ≡ OutOfSteps → self.new.retired ≡ self.old.budget }
@@ -93,7 +96,7 @@ impl<'a, M: Ram> Session<'a, M> {
         // A stop comes while the budget allows one more instruction, and where the memory did not stop, at one that prints.
         ensures early { IsStop result → self.new.retired < self.old.budget }
         ensures sink_stop { M.stopped self.new.memory ≡ None → M.sound self.new.memory → (start : Machine) (before : List ℕ) →
-            Reaches start self.old.retired self.old.core self.old.calls (M.contents self.old.memory) before →
+            Reaches start self.old.retired self.old.core self.old.calls.services (M.contents self.old.memory) before →
             IsStop result → 0 < length (prints_of (next (plain start self.new.retired).state)) }
 
         ensures mem { CarriesEnding (M.stopped self.new.memory) (Some result) }
@@ -104,7 +107,7 @@ impl<'a, M: Ram> Session<'a, M> {
 
         // It went through a memory of the plain machine after each instruction that was retired.
         ensures trail { M.sound self.new.memory → (start : Machine) (before : List ℕ) →
-            Reaches start self.old.retired self.old.core self.old.calls (M.contents self.old.memory) before →
+            Reaches start self.old.retired self.old.core self.old.calls.services (M.contents self.old.memory) before →
             HasTrail M.stopped M.contents M.moved start self.old.retired self.new.retired self.old.memory self.new.memory }
     {
         let mut retired = self.retired;
@@ -140,10 +143,10 @@ fn turn<M: Ram, S: Sink>(
     requires going { M.stopped memory.old ≡ None }
 
     // Where the memory can be relied on, it goes on as the plain machine does.
-    ensures turns { (printed : List ℕ) × Gains (S.state out.old) printed (S.state out.new)
+    ensures turns { (printed : List ℕ) × Prints (S.state out.old) calls.old.digest printed (S.state out.new) calls.new.digest
         × (M.sound memory.new → (start : Machine) (before : List ℕ) →
-        Reaches start retired.old core.old calls.old (M.contents memory.old) before →
-        Turns start budget result retired.new core.new calls.new (M.contents memory.new) (before ++ printed)) }
+        Reaches start retired.old core.old calls.old.services (M.contents memory.old) before →
+        Turns start budget result retired.new core.new calls.new.services (M.contents memory.new) (before ++ printed)) }
 
     ensures out_of_steps { (result ≡ Some OutOfSteps) ↔ (retired.old ≡ budget) }
     ensures retired { retired.new ≡ retired_after result retired.old }
@@ -151,7 +154,7 @@ fn turn<M: Ram, S: Sink>(
     // Where the memory did not stop, only an instruction that prints is stopped.
     ensures sink_stop { M.stopped memory.new ≡ None → M.sound memory.new → IfSome result (λ ending.
         IsStop ending → 0 < length (prints_of (next
-        (state_of core.old calls.old (M.contents memory.old))))) }
+        (state_of core.old calls.old.services (M.contents memory.old))))) }
 
     ensures mem { CarriesEnding (M.stopped memory.new) result }
     ensures write_fault { result ≡ Some WriteFault → Rose (S.state out.old).faults (S.state out.new).faults }
@@ -159,7 +162,7 @@ fn turn<M: Ram, S: Sink>(
 
     ensures moved { GoesOn M.extent M.sound M.moved (λ _. Unit {0}) memory.old memory.new }
     ensures instruction { retired.old < retired.new → M.sound memory.new → (start : Machine) (before : List ℕ) →
-        Reaches start retired.old core.old calls.old (M.contents memory.old) before →
+        Reaches start retired.old core.old calls.old.services (M.contents memory.old) before →
         IsInstruction M.stopped M.contents M.moved start retired.old memory.old memory.new }
 {
     if *retired == budget {

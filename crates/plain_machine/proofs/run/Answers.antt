@@ -24,9 +24,9 @@ follows g c =
     let image = c.args.image.now in
     let session = c.new-session.result in
     let began = c.new-session.ensures in
-    opening_follows image.entry image.size image.segments c.args.input.now session.core session.calls session.memory _
+    opening_follows image.entry image.size image.segments c.args.input.now session.core session.calls.services session.memory _
     session.retired session.budget c.args.budget c.finish-ending.new.self.retired c.retired-retired.result c.finish-ending.result c.finish-ending.result c.finish-ending.ensures.follows.0
-    began.core began.calls (began.memory ∙ c.in-Ok.ensures) began.retired began.budget c.retired-retired.ensures refl
+    began.core began.services (began.memory ∙ c.in-Ok.ensures) began.retired began.budget c.retired-retired.ensures refl
     (c.finish-ending.ensures.follows.2 tt)
 
 -- the instruction at which it stopped prints
@@ -36,13 +36,13 @@ prints g c stops =
     let session = c.new-session.result in
     let began = c.new-session.ensures in
     let start = opening image c.args.input.now in
-    let begins = opening_begins image.entry image.size image.segments c.args.input.now session.core session.calls session.memory session.retired
-    began.core began.calls (began.memory ∙ c.in-Ok.ensures) began.retired in
+    let begins = opening_begins image.entry image.size image.segments c.args.input.now session.core session.calls.services session.memory session.retired
+    began.core began.services (began.memory ∙ c.in-Ok.ensures) began.retired in
     subst (λ (n : ℕ). 0 < length (prints_of (next (plain start n).state))) (sym c.retired-retired.ensures)
     (c.finish-ending.ensures.sink_stop refl tt start [] begins stops)
 
 pub returns-clause-follows : goal.returns-clause-follows
-returns-clause-follows g c = (c.finish-ending.ensures.follows.0, c.finish-ending.ensures.follows.1, (follows g c).follows)
+returns-clause-follows g c = (c.finish-ending.ensures.follows.0, c.finish-ending.ensures.follows.1.0, (follows g c).follows)
 
 pub returns-clause-whole : goal.returns-clause-whole
 returns-clause-whole g c = λ faultless memory.

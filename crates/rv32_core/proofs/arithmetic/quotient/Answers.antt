@@ -1,4 +1,4 @@
-use Rattle.std.proofs.Common.{rules, ◌≡◌, ◌-◌, ◌^◌, ◌==◌, if◌then◌else◌, w32, sym}
+use Rattle.std.proofs.Common.{rules, ◌≡◌, ◌-◌, ◌^◌, ◌==◌, if◌then◌else◌, w32}
 use Rattle.std.specs.Int.{cast_signed, cast_unsigned}
 use Rattle.std.specs.Prelude.{int_div}
 use Rattle.rv32_core.proofs.Signed.{signed_word}

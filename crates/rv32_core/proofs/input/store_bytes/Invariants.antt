@@ -1,4 +1,4 @@
-use Rattle.std.proofs.Common.{◌≡◌, ℕ, List, None, take}
+use Rattle.std.proofs.Common.{◌≡◌, take}
 use Rattle.sec_base.specs.Ram.{GoesOn, IsReliable}
 use Rattle.rv32_core.specs.State.{with_bytes}
 use Rattle.rv32_core.specs.TouchedLines.{byte_lines}

@@ -1,4 +1,4 @@
-use Rattle.std.proofs.Common.{◌≡◌, ℕ, List, None}
+use Rattle.std.proofs.Common.{◌≡◌}
 use Rattle.sec_base.specs.Ram.{GoesOn, IsReliable}
 use Rattle.rv32_core.specs.TouchedLines.{byte_lines}
 use Rattle.rv32_core.proofs.Loading.{IsLoading}

@@ -1,9 +1,8 @@
 use Rattle.std.proofs.Common.{◌≡◌, ◌-◌, List, [], ◌++◌, ◌∙◌, refl, sym, ap, arith, subst, ℕ}
 use Rattle.std.proofs.lemmas.Result.{err_from_is_err_and}
 use Rattle.sec_base.specs.Prefix.{IsPrefix}
-use Rattle.sec_base.proofs.Writes.{gains_both, written_after-nil}
 use Rattle.rv32_core.specs.State.{memory_bytes}
-use Rattle.rv32_core.proofs.Printed.{bytes_both, prefix_both, none_from_ok}
+use Rattle.rv32_core.proofs.Printed.{bytes_both, prefix_both, prints_both, prints_nothing, none_from_ok}
 use Rattle.rv32_core.proofs.TouchedLines.{no_lines, piece_front, piece_lines, touched_front, untouched}
 use Rattle.rv32_core.proofs.print.print.Goals as goal
 
@@ -11,8 +10,9 @@ pub loop-at-init : goal.loop-at-init
 loop-at-init g c =
     let none : c.args.from - c.args.from ≡ 0 = omega arith in
     record {
-      printed = ([], sym (written_after-nil _), λ reliable. rw none refl);
+      printed = ([], prints_nothing (g.S.Sink.state c.args.out.now) c.args.calls.now.digest, λ reliable. rw none refl);
       contents = λ reliable. refl;
+      services = refl;
       begun = omega arith;
       inside = omega arith;
       ended = omega arith;
@@ -31,13 +31,14 @@ loop-at-preserved g c =
     record {
       printed = (
         before.printed.0 ++ whole.0,
-        gains_both before.printed.0 whole.0 (g.S.Sink.state c.args.out.now) (g.S.Sink.state c.loop-at.out) (g.S.Sink.state c.print_piece.new.out) before.printed.1 whole.1,
+        prints_both before.printed.0 whole.0 (g.S.Sink.state c.args.out.now) (g.S.Sink.state c.loop-at.out) (g.S.Sink.state c.print_piece.new.out) c.args.calls.now.digest c.loop-at.calls.digest c.print_piece.new.calls.digest before.printed.1 whole.1,
         λ reliable.
             ap (λ (x : List ℕ). x ++ whole.0) (before.printed.2 (reliable.0, more.lost reliable.1))
             ∙ ap (λ (x : List ℕ). memory_bytes (g.M.Ram.contents c.args.ram.now) c.args.from (c.loop-at.at - c.args.from) ++ x) (whole.2 (before.stopped reliable.0, reliable.1) ∙ ap (λ (x : List ℕ). memory_bytes x c.loop-at.at n) (before.contents (reliable.0, more.lost reliable.1)))
             ∙ bytes_both (g.M.Ram.contents c.args.ram.now) c.args.from c.loop-at.at n before.begun,
       );
       contents = λ reliable. piece.contents (before.stopped reliable.0, reliable.1) ∙ before.contents (reliable.0, more.lost reliable.1);
+      services = piece.services ∙ before.services;
       begun = omega arith;
       inside = omega arith;
       ended = before.ended;
@@ -59,7 +60,7 @@ returns-in_err-print_piece-clause-printed g c =
     let p = err_from_is_err_and c.from_residual.result c.from_residual.ensures.1 in
     let lost = c.in_err-print_piece.ensures.moved.lost in (
       before.printed.0 ++ part.0,
-      gains_both before.printed.0 part.0 (g.S.Sink.state c.args.out.now) (g.S.Sink.state c.loop-at.out) (g.S.Sink.state c.print_piece.new.out) before.printed.1 part.1,
+      prints_both before.printed.0 part.0 (g.S.Sink.state c.args.out.now) (g.S.Sink.state c.loop-at.out) (g.S.Sink.state c.print_piece.new.out) c.args.calls.now.digest c.loop-at.calls.digest c.print_piece.new.calls.digest before.printed.1 part.1,
       λ reliable.
           rw p.1 (prefix_both (g.M.Ram.contents c.args.ram.now) before.printed.0 part.0 c.args.from c.loop-at.at c.piece_length-length.result c.args.count before.begun (omega arith)
           (before.printed.2 (reliable.0, lost reliable.1))

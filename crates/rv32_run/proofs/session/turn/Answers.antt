@@ -3,7 +3,7 @@ use Rattle.rv32_core.specs.declared.step.Step.TheVariants.{Retired, Halted}
 use Rattle.rv32_core.specs.declared.step.StepStop.TheVariants.{Trap, Mem, WriteFault}
 use Rattle.rv32_core.specs.State.{CoreView, state_of}
 use Rattle.rv32_core.proofs.Plain.{step_reaches}
-use Rattle.sec_base.proofs.Writes.{written_after-nil}
+use Rattle.rv32_core.proofs.Printed.{prints_nothing}
 use Rattle.rv32_run.proofs.Turns.{turn_ends, turn_halts, turn_traps, turn_stops, turn_fails}
 use Rattle.rv32_run.proofs.Trails.{step_instruction}
 use Rattle.rv32_run.proofs.session.turn.Goals as goal
@@ -11,10 +11,10 @@ use Rattle.rv32_run.proofs.session.turn.Goals as goal
 pub returns-then-retired-budget-clause-turns : goal.returns-then-retired-budget-clause-turns
 returns-then-retired-budget-clause-turns g c = (
   [],
-  sym (written_after-nil _),
+  prints_nothing (g.S.Sink.state c.args.out.now) c.args.calls.now.digest,
   λ sound start before here.
       turn_ends start c.args.budget c.args.retired.now
-      (state_of c.args.core.now c.args.calls.now (g.M.Ram.contents c.args.memory.now))
+      (state_of c.args.core.now c.args.calls.now.services (g.M.Ram.contents c.args.memory.now))
       before here c.if-retired-budget.true,
 )
 
@@ -26,8 +26,8 @@ returns-in-Ok-Retired-clause-turns g c =
       outcome.1,
       λ sound start before here.
           step_reaches start c.args.retired.now
-          (state_of c.args.core.now c.args.calls.now (g.M.Ram.contents c.args.memory.now))
-          (state_of c.step.new.self c.step.new.calls (g.M.Ram.contents c.step.new.ram))
+          (state_of c.args.core.now c.args.calls.now.services (g.M.Ram.contents c.args.memory.now))
+          (state_of c.step.new.self c.step.new.calls.services (g.M.Ram.contents c.step.new.ram))
           before outcome.0 c.step.result here (outcome.2 (c.requires.going, sound)) is,
     )
 
@@ -39,8 +39,8 @@ returns-in-Ok-Halted-clause-turns g c =
       outcome.1,
       λ sound start before here.
           turn_halts start c.args.budget c.args.retired.now
-          (state_of c.args.core.now c.args.calls.now (g.M.Ram.contents c.args.memory.now))
-          (state_of c.step.new.self c.step.new.calls (g.M.Ram.contents c.step.new.ram))
+          (state_of c.args.core.now c.args.calls.now.services (g.M.Ram.contents c.args.memory.now))
+          (state_of c.step.new.self c.step.new.calls.services (g.M.Ram.contents c.step.new.ram))
           before outcome.0 c.step.result c.in-Ok-Halted.code here (omega arith) (outcome.2 (c.requires.going, sound)) is,
     )
 
@@ -52,8 +52,8 @@ returns-in-Err-Trap-clause-turns g c =
       outcome.1,
       λ sound start before here.
           turn_traps start c.args.budget c.args.retired.now
-          (state_of c.args.core.now c.args.calls.now (g.M.Ram.contents c.args.memory.now))
-          (state_of c.step.new.self c.step.new.calls (g.M.Ram.contents c.step.new.ram))
+          (state_of c.args.core.now c.args.calls.now.services (g.M.Ram.contents c.args.memory.now))
+          (state_of c.step.new.self c.step.new.calls.services (g.M.Ram.contents c.step.new.ram))
           before outcome.0 c.step.result c.in-Err-Trap.cause c.pc.result here (omega arith) (outcome.2 (c.requires.going, sound)) is
           (c.pc.ensures ∙ ap (λ (core : CoreView). core.pc) c.in-Err-Trap.ensures.stays.0),
     )
@@ -66,8 +66,8 @@ returns-in-Err-Mem-clause-turns g c =
       outcome.1,
       λ sound start before here.
           turn_stops start c.args.budget c.args.retired.now
-          (state_of c.args.core.now c.args.calls.now (g.M.Ram.contents c.args.memory.now))
-          (state_of c.step.new.self c.step.new.calls (g.M.Ram.contents c.step.new.ram))
+          (state_of c.args.core.now c.args.calls.now.services (g.M.Ram.contents c.args.memory.now))
+          (state_of c.step.new.self c.step.new.calls.services (g.M.Ram.contents c.step.new.ram))
           before outcome.0 c.step.result c.in-Err-Mem.stop c.ending_of.result here c.requires.within (outcome.2 (c.requires.going, sound)) is c.ending_of.ensures,
     )
 
@@ -79,8 +79,8 @@ returns-in-Err-WriteFault-clause-turns g c =
       outcome.1,
       λ sound start before here.
           turn_fails start c.args.budget c.args.retired.now
-          (state_of c.args.core.now c.args.calls.now (g.M.Ram.contents c.args.memory.now))
-          (state_of c.step.new.self c.step.new.calls (g.M.Ram.contents c.step.new.ram))
+          (state_of c.args.core.now c.args.calls.now.services (g.M.Ram.contents c.args.memory.now))
+          (state_of c.step.new.self c.step.new.calls.services (g.M.Ram.contents c.step.new.ram))
           before outcome.0 c.step.result here c.requires.within (outcome.2 (c.requires.going, sound)) is,
     )
 
@@ -90,8 +90,8 @@ returns-in-Ok-Retired-clause-instruction g c =
     let is : c.step.result ≡ Ok Retired = cc in
     λ more sound start before here.
     step_instruction g.M.Ram.stopped g.M.Ram.contents g.M.Ram.moved start c.args.retired.now c.args.memory.now c.step.new.ram
-    (state_of c.args.core.now c.args.calls.now (g.M.Ram.contents c.args.memory.now))
-    (state_of c.step.new.self c.step.new.calls (g.M.Ram.contents c.step.new.ram))
+    (state_of c.args.core.now c.args.calls.now.services (g.M.Ram.contents c.args.memory.now))
+    (state_of c.step.new.self c.step.new.calls.services (g.M.Ram.contents c.step.new.ram))
     before outcome.0 c.step.result Retired c.step.ensures.moved.lines here (outcome.2 (c.requires.going, sound)) is
     (c.step.ensures.mem c.requires.going) refl c.step.ensures.moved.moved (c.step.ensures.moved.touched (c.requires.going, sound))
 
@@ -101,7 +101,7 @@ returns-in-Ok-Halted-clause-instruction g c =
     let is : c.step.result ≡ Ok (Halted c.in-Ok-Halted.code) = cc in
     λ more sound start before here.
     step_instruction g.M.Ram.stopped g.M.Ram.contents g.M.Ram.moved start c.args.retired.now c.args.memory.now c.step.new.ram
-    (state_of c.args.core.now c.args.calls.now (g.M.Ram.contents c.args.memory.now))
-    (state_of c.step.new.self c.step.new.calls (g.M.Ram.contents c.step.new.ram))
+    (state_of c.args.core.now c.args.calls.now.services (g.M.Ram.contents c.args.memory.now))
+    (state_of c.step.new.self c.step.new.calls.services (g.M.Ram.contents c.step.new.ram))
     before outcome.0 c.step.result (Halted c.in-Ok-Halted.code) c.step.ensures.moved.lines here (outcome.2 (c.requires.going, sound)) is
     (c.step.ensures.mem c.requires.going) refl c.step.ensures.moved.moved (c.step.ensures.moved.touched (c.requires.going, sound))

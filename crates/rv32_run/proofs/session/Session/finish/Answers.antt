@@ -1,13 +1,12 @@
 use Rattle.std.proofs.Common.{[], ◌++◌, sym, ap, ◌∙◌, arith}
-use Rattle.sec_base.proofs.Writes.{written_after-nil}
-use Rattle.sec_base.proofs.Writes.{gains_both}
+use Rattle.rv32_core.proofs.Printed.{prints_both, prints_nothing_as}
 use Rattle.rv32_run.proofs.Turns.{begun_reaches, begun_within, begun_going, carries_on, allowed, reaches_on, follows_on, stop_prints}
 use Rattle.rv32_run.proofs.Trails.{walk_begins, walked_on, walk_ends}
 use Rattle.rv32_run.proofs.session.Session.finish.Goals as goal
 
 pub loop-ending-init : goal.loop-ending-init
 loop-ending-init g c = record {
-  turns = ([], sym (written_after-nil _), λ sound start before here. begun_reaches g.M.Ram.contents _ c.args.self.now start before c.self.view_is here);
+  turns = ([], prints_nothing_as (g.S.Sink.state c.args.out.now) c.args.self.now.calls.digest _ (ap (λ session. session.calls.digest) c.self.view_is), λ sound start before here. begun_reaches g.M.Ram.contents _ c.args.self.now start before c.self.view_is here);
   within = begun_within _ c.args.self.now c.self.view_is c.requires.within;
   budget = ap (λ session. session.budget) c.self.view_is;
   going = begun_going g.M.Ram.stopped _ c.args.self.now c.self.view_is c.requires.going;
@@ -31,7 +30,8 @@ loop-ending-preserved g c =
     record {
       turns = (
         so_far.turns.0 ++ turn.turns.0,
-        gains_both so_far.turns.0 turn.turns.0 (g.S.Sink.state c.args.out.now) (g.S.Sink.state c.loop-ending.out) (g.S.Sink.state c.turn-turned.new.out) so_far.turns.1 turn.turns.1,
+        prints_both so_far.turns.0 turn.turns.0 (g.S.Sink.state c.args.out.now) (g.S.Sink.state c.loop-ending.out) (g.S.Sink.state c.turn-turned.new.out)
+            c.args.self.now.calls.digest c.loop-ending.self-inside.calls.digest c.turn-turned.new.calls.digest so_far.turns.1 turn.turns.1,
         λ sound start before here.
             reaches_on start _ _ _ _ before so_far.turns.0 turn.turns.0
             (turn.turns.2 sound start (before ++ so_far.turns.0) (so_far.turns.2 (turn.moved.lost sound) start before here)),
@@ -61,7 +61,8 @@ returns-in-Some-clause-follows g c =
     let so_far = c.loop-ending.invariant in
     let turn = c.in-Some.ensures in (
       so_far.turns.0 ++ turn.turns.0,
-      gains_both so_far.turns.0 turn.turns.0 (g.S.Sink.state c.args.out.now) (g.S.Sink.state c.loop-ending.out) (g.S.Sink.state c.turn-turned.new.out) so_far.turns.1 turn.turns.1,
+      prints_both so_far.turns.0 turn.turns.0 (g.S.Sink.state c.args.out.now) (g.S.Sink.state c.loop-ending.out) (g.S.Sink.state c.turn-turned.new.out)
+          c.args.self.now.calls.digest c.loop-ending.self-inside.calls.digest c.turn-turned.new.calls.digest so_far.turns.1 turn.turns.1,
       λ sound start before here.
           follows_on start _ _ _ _ _ before so_far.turns.0 turn.turns.0 so_far.budget
           (turn.turns.2 sound start (before ++ so_far.turns.0) (so_far.turns.2 (turn.moved.lost sound) start before here)),
