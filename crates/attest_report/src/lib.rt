@@ -2,6 +2,7 @@
 //! their digits. `verify` reads such a text, or tells the first refusal of it that holds.
 #![tactic(auto)]
 
+mod ending;
 mod refusal;
 mod report;
 #[cfg(test)]
@@ -9,6 +10,7 @@ mod tests;
 mod text;
 mod verification;
 
+pub use ending::ending_and_code;
 pub use refusal::ReportError;
 pub use report::{Report, report_bytes};
 pub use text::write_report;

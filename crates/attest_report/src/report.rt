@@ -17,9 +17,9 @@ pub struct Report {
     pub output_digest: [u8; 32],
     /// How many instructions were retired.
     pub retired: u64,
-    /// 0 halted, 1 trapped, 4 out of steps, 5 tampered, 6 spent.
+    /// The number of its ending, by `ending_and_code`.
     pub ending: u8,
-    /// The exit code where it halted, the number of the cause where it trapped, or else 0.
+    /// The code of its ending, by `ending_and_code`.
     pub code: u32,
     /// Chosen by the one who asks, so that no earlier report will do.
     pub nonce: [u8; 16],

@@ -1,7 +1,8 @@
 // The texts are from Python 3.11: its `struct`, `hashlib` and `hmac`.
 ghost use Rattle.std.specs.Prelude.{◌≤◌};
 
-use crate::{Report, ReportError, report_bytes, verify, write_report};
+use crate::{Report, ReportError, ending_and_code, report_bytes, verify, write_report};
+use sec_base::{Cause, Ending, Place};
 use std::test::Fail;
 
 // The HMAC of `report` under the device key 00 01 02 .. 1f.
@@ -164,5 +165,29 @@ fn refusals_have_numbers_and_names(rt: HostRuntime) {
     for (refusal, code, name) in cases {
         assert_eq!(rt; refusal.code(), code);
         assert_eq!(rt; refusal.name(), name);
+    }
+}
+
+fn trapped(cause: Cause) -> Ending {
+    Ending::Trapped { cause, pc: 64 }
+}
+
+#[test]
+fn endings_have_numbers_and_codes(rt: HostRuntime) {
+    let cases = [
+        (Ending::Halted(7), Some((0, 7))),
+        (trapped(Cause::Illegal), Some((1, 1))),
+        (trapped(Cause::MisalignedTarget), Some((1, 2))),
+        (trapped(Cause::MisalignedData), Some((1, 3))),
+        (trapped(Cause::OutsideMemory), Some((1, 4))),
+        (trapped(Cause::Breakpoint), Some((1, 5))),
+        (Ending::OutOfSteps, Some((4, 0))),
+        (Ending::Tampered(Place::Line(9)), Some((5, 0))),
+        (Ending::Spent(9), Some((6, 0))),
+        (Ending::WriteFault, None),
+        (Ending::NoMemory, None),
+    ];
+    for (ending, told) in cases {
+        assert_eq!(rt; ending_and_code(ending), told, "{ending}");
     }
 }

@@ -11,12 +11,14 @@ abbrev pub segment_record : Segment → List ℕ
 segment_record segment =
     u32_bytes segment.addr ++ u32_bytes (length segment.bytes) ++ u32_bytes segment.length ++ segment.bytes
 
--- entry, size and the number of segments, and each segment in order
-abbrev pub image_record : Image → List ℕ
-image_record image =
-    u32_bytes image.entry ++ u32_bytes image.size ++ u32_bytes (length image.segments)
-    ++ flat_map segment_record image.segments
+-- its entry, the size of the memory and the number of segments, and each segment in order
+abbrev pub program_record : ℕ → ℕ → List Segment → List ℕ
+program_record entry size segments =
+    u32_bytes entry ++ u32_bytes size ++ u32_bytes (length segments) ++ flat_map segment_record segments
 
--- its SHA-256
-unfoldable pub measurement_of : Image → List ℕ
-measurement_of image = sha256 (image_record image)
+-- the SHA-256 of these
+unfoldable pub measurement_by : ℕ → ℕ → List Segment → List ℕ
+measurement_by entry size segments = sha256 (program_record entry size segments)
+
+abbrev pub measurement_of : Image → List ℕ
+measurement_of image = measurement_by image.entry image.size image.segments

@@ -9,7 +9,7 @@ use sec_base::{Image, Segment};
 use sha2::{Digest, Sha256};
 
 /// The measurement of a program, which takes no memory.
-#[tactic(auto, unfolding(crate::specs::Measurement::measurement_of))]
+#[tactic(auto, unfolding(crate::specs::Measurement::measurement_by))]
 pub fn measure(image: &Image) -> [u8; 32]
     ensures { result ≡ measurement_of image.now }
 {
