@@ -1,10 +1,11 @@
 -- The theorem of a run, from what it hands out of its memory and what its session says.
 use Rattle.std.proofs.Common.{◌==◌, ◌≡◌, ◌≢◌, ◌⊎◌, ◌↔◌, inl, inr, ◌^◌, ◌<◌, ◌≤◌, ℕ, Bool, List, Option, Some, None, IfSome, Contains, length, refl, ap, subst, arith}
 use Rattle.std.proofs.lemmas.List.Sums.{count_by-le-length, length-filter}
+use Rattle.sha2.specs.Sha256.{sha256}
 use Rattle.sec_base.specs.Count.{Rose, RoseBy}
 use Rattle.sec_base.specs.Evidence.{IsEvidence}
 use Rattle.sec_base.specs.Gain.{Gain}
-use Rattle.sec_base.specs.Geometry.{line_count, page_of}
+use Rattle.sec_base.specs.Geometry.{line_count, page_count, page_of}
 use Rattle.sec_base.specs.LastMessage.{data_pairs}
 use Rattle.sec_base.specs.Sink.{SinkState, Gains}
 use Rattle.sec_base.specs.declared.counter.Counter.{Counter}
@@ -13,7 +14,7 @@ use Rattle.sec_base.specs.declared.ending.Ending.TheVariants.{Halted, Trapped, O
 use Rattle.sec_base.specs.declared.evidence.Evidence.{Evidence}
 use Rattle.sec_base.specs.declared.message.Message.{Message}
 use Rattle.sec_base.specs.declared.place.Place.{Place}
-use Rattle.sec_base.specs.declared.place.Place.TheVariants.{Line}
+use Rattle.sec_base.specs.declared.place.Place.TheVariants.{Line, Node}
 use Rattle.sec_base.specs.declared.stop.MemStop.{MemStop}
 use Rattle.sec_base.specs.declared.stop.MemStop.TheVariants.{NoMemory as no_memory}
 use Rattle.bus_model.specs.BusHistory.{BusHistory}
@@ -23,7 +24,7 @@ use Rattle.rv32_core.specs.Effect.{next}
 use Rattle.rv32_core.specs.Follows.{Follows, IsWhole}
 use Rattle.rv32_core.specs.Machine.{Machine, plain}
 use Rattle.rv32_core.specs.Outcome.{prints_of}
-use Rattle.rv32_core.specs.Turnover.{turnover}
+use Rattle.rv32_core.specs.Turnover.{page_turnover, turnover}
 use Rattle.rv32_core.proofs.Plain.{whole_run}
 use Rattle.rv32_run.specs.Session.{CarriesEnding, IsMemoryEnding, IsStop}
 use Rattle.checked_bus.specs.Accesses.{WritesMessages}
@@ -33,6 +34,7 @@ use Rattle.pad_stream.specs.Pads.{of_lines}
 use Rattle.bonsai_tree.specs.Tree.{NodesAreMade, NodesHoldLast}
 use Rattle.page_reencrypt.specs.Contents.{ArePaged, HoldsLast, HoldsSealed, IsSpent, counter_in}
 use Rattle.page_reencrypt.specs.SealedLines.{CountersRise}
+use Rattle.chip_run.specs.Report.{signed_report}
 use Rattle.chip_run.specs.Run.{Terms, EndedAtBoot, EndsAnywhere, default_page_limit, unwritten_at, IsWrittenOut, HoldsAlways, HoldsWithoutEvidence, ShowsEvidence, RunsProtected}
 use Rattle.chip_run.specs.declared.record.RunRecord.{RunRecord}
 use Rattle.chip_run.proofs.Closing.{ended_account, never_wanting, not_lasting, stopped_spent}
@@ -56,6 +58,12 @@ pub record OfMemory (terms : Terms) (before after : BusHistory) (run : RunRecord
   pub reads : (place : Place) → RoseBy 0 (before.reads place) (after.reads place)
   pub levels_are : after.levels ≡ terms.levels
 
+-- The places of the lines, and of the pages' counter blocks, were read at least as often as the run turned over.
+abbrev pub ReadsTurnover : Terms → BusHistory → BusHistory → RunRecord → Type 0
+ReadsTurnover terms before after run =
+    Gain (line_count terms.levels) (λ line. before.reads (Line line)) (λ line. after.reads (Line line)) (turnover terms.start run.retired)
+    × Gain (page_count terms.levels) (λ page. before.reads (Node 0 page)) (λ page. after.reads (Node 0 page)) (page_turnover terms.start run.retired)
+
 -- What the instructions came to, where a memory held them or stopped before the first one.
 pub record OfSession (terms : Terms) (out out' : SinkState) (printed : List ℕ) (before after : BusHistory) (run : RunRecord) : Type 0 where
   pub gained : Gains out printed out'
@@ -70,9 +78,8 @@ pub record OfSession (terms : Terms) (out out' : SinkState) (printed : List ℕ)
   pub out_of_steps : run.evidence ≡ None → ¬ IsMemoryEnding run.ending → ((run.ending ≡ OutOfSteps)
       ↔ ((run.retired ≡ terms.budget) × ((plain terms.start terms.budget).exit ≡ None)))
   pub prints : run.evidence ≡ None → run.ending ≡ WriteFault → 0 < length (prints_of (next (plain terms.start run.retired).state))
-  pub turned : run.evidence ≡ None → Gain (line_count terms.levels) (λ line. before.reads (Line line)) (λ line. after.reads (Line line))
-      (turnover terms.start run.retired)
-  pub report : run.report ≡ None
+  pub turned : run.evidence ≡ None → ReadsTurnover terms before after run
+  pub report : run.report ≡ signed_report terms.report (sha256 printed) run.retired run.ending
 
 -- Where no answer was false
 
@@ -160,7 +167,6 @@ module _ (terms : Terms) (out out' : SinkState) (printed : List ℕ) (before aft
     whole = λ faultless honest some.
         honest_run terms.start terms.budget run.retired run.ending printed terms.tag_of run.used run.made after run.evidence honest account session.follows
         (λ fault. faultless (session.write_fault fault)) some;
-    report = session.report;
   }
 
   without_evidence : run.evidence ≡ None → HoldsWithoutEvidence terms printed before after run
@@ -179,7 +185,8 @@ module _ (terms : Terms) (out out' : SinkState) (printed : List ℕ) (before aft
     written_out = session.written_out quiet;
     out_of_steps = session.out_of_steps quiet;
     prints = session.prints quiet;
-    turnover = session.turned quiet;
+    turnover = (session.turned quiet).0;
+    page_turnover = (session.turned quiet).1;
   }
 
   shows : (evidence : Evidence) → run.evidence ≡ Some evidence → ShowsEvidence terms after run evidence
@@ -192,6 +199,7 @@ module _ (terms : Terms) (out out' : SinkState) (printed : List ℕ) (before aft
   runs_protected = record {
     printed = printed;
     gained = session.gained;
+    report = session.report;
     always = holds_always;
     without_evidence = without_evidence;
     with_evidence = all_shown run.evidence (ShowsEvidence terms after run) shows;

@@ -1,8 +1,10 @@
 pub mod TurnoverCases
+pub mod Booted
 pub mod Closing
 pub mod Ends
 pub mod Memories
 pub mod Turned
+pub mod Reports
 pub mod Runs
 pub mod Outcomes
 pub mod Replays

@@ -1,5 +1,5 @@
 -- What a run hands out of its memory, from one that was booted to one that is given up.
-use Rattle.std.proofs.Common.{◌≡◌, ◌≢◌, inl, inr, ℕ, ◌+◌, ◌^◌, ◌<◌, ◌≤◌, List, [], ◌++◌, length, length-append, Option, Some, None, IfSome, refl, sym, ap, ◌∙◌, subst, arith}
+use Rattle.std.proofs.Common.{◌≡◌, ◌≢◌, inl, inr, ℕ, ◌+◌, ◌^◌, ◌<◌, List, [], ◌++◌, length, length-append, Option, Some, None, IfSome, refl, sym, ap, ◌∙◌, subst, arith}
 use Rattle.sec_base.specs.Count.{RoseBy}
 use Rattle.sec_base.specs.Evidence.{IsEvidence}
 use Rattle.sec_base.specs.Geometry.{line_count}
@@ -26,6 +26,7 @@ use Rattle.pad_stream.specs.Pads.{of_lines}
 use Rattle.page_reencrypt.specs.Contents.{AreUnskipped, AreWithin, HoldsSealed, contents_of}
 use Rattle.page_reencrypt.specs.SealedLines.{AccountsForAll, AreNew, AreProtected, CountersRise, IsQuiet, IsUnbooted, Moves, SealedLinesView, contents, enc_key, evidence, levels, made, used}
 use Rattle.secure_memory.specs.SecureRam.{IsMoved, SecureRamView}
+use Rattle.chip_run.specs.Report.{ReportTerms}
 use Rattle.chip_run.specs.Run.{Terms, EndedAtBoot, unwritten_at}
 use Rattle.chip_run.specs.declared.record.RunRecord.{RunRecord}
 use Rattle.checked_bus.proofs.Steps.{counted_on}
@@ -169,12 +170,12 @@ module _ {B T : Type 0} (d n : T → List ℕ → List ℕ) (history : B → Bus
       let same : (history booted.bus).reads place ≡ (history bus).reads place = ap (λ (reads : Place → ℕ). reads place) new.wrote.reads in
       omega (arith, same, moves.step.reads place)
 
-  pub run_memory : (start : Machine) (budget : ℕ) (closed : B) (run : RunRecord) → (history bus).lies ≡ 0 → AreProtected d n history lines →
+  pub run_memory : (start : Machine) (budget : ℕ) (report : ReportTerms) (closed : B) (run : RunRecord) → (history bus).lies ≡ 0 → AreProtected d n history lines →
       run.made ≡ made lines → run.used ≡ used lines → length run.used < 2 ^ 64 →
       (IsQuiet lines → ShareNoBlock (enc_key lines) run.used) → run.evidence ≡ evidence lines → closed ≡ lines.bus → CarriesEnding lines.stopped (Some run.ending) →
-      OfMemory (record { start = start; budget = budget; levels = depth; page_limit = limit; tag_of = engine_tag (d tagger) (n tagger) depth; enc_key = key })
+      OfMemory (record { start = start; budget = budget; levels = depth; page_limit = limit; tag_of = engine_tag (d tagger) (n tagger) depth; enc_key = key; report = report })
       (history bus) (history closed) run
-  run_memory start budget closed run honest kept made_is used_is few apart evidence_is bus_is carries =
+  run_memory start budget report closed run honest kept made_is used_is few apart evidence_is bus_is carries =
       let words = in_words lines closed tagger depth key limit run.made run.evidence run.used in
       let same : lines ≡ words =
       same_lines lines closed tagger depth key limit run.made run.evidence run.used bus_is (moves.step.tagger ∙ new.tagger_is) (moves.step.levels ∙ new.depth_is)

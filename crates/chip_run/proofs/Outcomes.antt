@@ -1,5 +1,6 @@
 -- The ways in which a run ends before its first instruction.
 use Rattle.std.proofs.Common.{◌≡◌, ℕ, List, [], None}
+use Rattle.sha2.specs.Sha256.{sha256}
 use Rattle.sec_base.specs.Sink.{SinkState}
 use Rattle.sec_base.specs.declared.ending.Ending.TheVariants.{NoMemory}
 use Rattle.sec_base.specs.declared.segment.Segment.{Segment}
@@ -9,19 +10,21 @@ use Rattle.bus_model.specs.BusHistory.{BusHistory, NothingWritten}
 use Rattle.rv32_core.specs.Machine.{opening_of}
 use Rattle.rv32_run.specs.Session.{stop_ending}
 use Rattle.page_reencrypt.specs.SealedLines.{IsUnbooted}
+use Rattle.chip_run.specs.Report.{signed_report}
 use Rattle.chip_run.specs.Run.{Terms, RunsProtected}
 use Rattle.chip_run.specs.declared.record.RunRecord.{RunRecord}
 use Rattle.chip_run.proofs.Ends.{OfMemory, runs_protected}
 use Rattle.chip_run.proofs.Memories.{unbooted_memory}
+use Rattle.chip_run.proofs.Reports.{unreported}
 use Rattle.chip_run.proofs.Runs.{stopped_session}
 
 -- its memory stopped while the program was stored
 pub storing_stopped : (terms : Terms) (out : SinkState) (before after : BusHistory) (run : RunRecord) (entry size : ℕ) (segments : List Segment) (input : List ℕ) (stop : MemStop) →
-    terms.start ≡ opening_of entry size segments input → OfMemory terms before after run → run.retired ≡ 0 → run.ending ≡ stop_ending stop → run.report ≡ None →
-    RunsProtected terms out out before after run
-storing_stopped terms out before after run entry size segments input stop begins memory none ended unsigned =
+    terms.start ≡ opening_of entry size segments input → OfMemory terms before after run → run.retired ≡ 0 → run.ending ≡ stop_ending stop →
+    run.report ≡ signed_report terms.report (sha256 []) run.retired run.ending → RunsProtected terms out out before after run
+storing_stopped terms out before after run entry size segments input stop begins memory none ended signed =
     runs_protected terms out out [] before after run memory
-    (stopped_session terms out before after run entry size segments input stop begins none ended unsigned memory.reads)
+    (stopped_session terms out before after run entry size segments input stop begins none ended signed memory.reads)
 
 -- no memory was found for its memory
 pub boot_refused : (terms : Terms) (out : SinkState) (before after : BusHistory) (run : RunRecord) (entry size : ℕ) (segments : List Segment) (input : List ℕ) →
@@ -30,4 +33,4 @@ pub boot_refused : (terms : Terms) (out : SinkState) (before after : BusHistory)
     RunsProtected terms out out before after run
 boot_refused terms out before after run entry size segments input begins as_many honest empty booting none ended none_made none_used quiet unsigned =
     storing_stopped terms out before after run entry size segments input no_memory begins
-    (unbooted_memory terms before after run as_many honest empty booting none ended none_made none_used quiet) none ended unsigned
+    (unbooted_memory terms before after run as_many honest empty booting none ended none_made none_used quiet) none ended (unreported terms.report (sha256 []) run.retired run.ending run.report ended unsigned)

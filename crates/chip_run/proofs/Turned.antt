@@ -1,4 +1,4 @@
--- What a run read from the places of the lines.
+-- What a run read from the places of the lines, and of the pages' counter blocks.
 use Rattle.std.proofs.Common.{◌≡◌, inl, inr, ◌+◌, ◌*◌, ◌<◌, ◌≤◌, ◌⊎◌, ℕ, List, true, false, take, length, None, sym, ap, ◌∙◌, subst, arith}
 use Rattle.std.specs.Prelude.{not, nat_eq, Contains}
 use Rattle.std.specs.List.{list_any}
@@ -6,11 +6,11 @@ use Rattle.std.proofs.lemmas.Bool.{false≢true, cases_lt}
 use Rattle.std.proofs.lemmas.List.{drop_all}
 use Rattle.sec_base.specs.declared.message.Message.{Message}
 use Rattle.sec_base.specs.declared.place.Place.{Place}
-use Rattle.sec_base.specs.declared.place.Place.TheVariants.{Line as line_place}
+use Rattle.sec_base.specs.declared.place.Place.TheVariants.{Line as line_place, Node}
 use Rattle.sec_base.specs.declared.segment.Segment.{Segment}
 use Rattle.sec_base.specs.Count.{Rose, RoseBy}
 use Rattle.sec_base.specs.Gain.{Gain}
-use Rattle.sec_base.specs.Geometry.{line_count}
+use Rattle.sec_base.specs.Geometry.{line_count, page_count, page_of}
 use Rattle.sec_base.specs.LastMessage.{last_data}
 use Rattle.sec_base.specs.Lines.{line_at}
 use Rattle.sec_base.specs.Opening.{opening_memory}
@@ -19,14 +19,15 @@ use Rattle.sec_base.proofs.JoinedLines.{line_at-joined_lines}
 use Rattle.bus_model.specs.BusHistory.{BusHistory}
 use Rattle.tag_engine.specs.TagEngine.{TagEngineView}
 use Rattle.rv32_core.specs.Machine.{Machine, opening_of}
-use Rattle.rv32_core.specs.Turnover.{is_old, turnover}
+use Rattle.rv32_core.specs.Turnover.{is_old, page_turnover, turnover, turnover_by}
 use Rattle.rv32_run.specs.Trail.{HasTrail}
 use Rattle.rv32_run.proofs.Windows.{Chip, turnover_begun}
 use Rattle.page_reencrypt.specs.Contents.{bytes_of, contents_of, line_bytes}
 use Rattle.page_reencrypt.specs.LineLengths.{length-contents_of, length-line_bytes}
 use Rattle.page_reencrypt.specs.SealedLines.{enc_key, levels}
-use Rattle.secure_memory.specs.SecureRam.{IsMoved, IsQuiet, SecureRamView, contents, held_lines, lines_of, made, stopped}
+use Rattle.secure_memory.specs.SecureRam.{IsMoved, IsQuiet, SecureRamView, contents, held_lines, lines_of, made, pages_on_chip, stopped}
 use Rattle.secure_memory.specs.Moving.{moved_on, unmoved, was_none}
+use Rattle.chip_run.proofs.Booted.{HasMessage, has_before, has_last}
 use Rattle.chip_run.proofs.TurnoverCases.{turned_by_none}
 
 -- a line past the end has no bytes, and one that was never tagged has zeros
@@ -61,60 +62,129 @@ old_was_had history bus_moved tags old new lines line moved going quiet listed i
       ]
     ]
 
--- the memory as a chip that holds some of its lines
-chip_of : {B T : Type 0} → (history : B → BusHistory) → (bus_moved : B → B → Type 0) → (tags : TagEngineView T → Message → List ℕ) →
-    ((bus : B) → bus_moved bus bus) → ((a b c : B) → bus_moved a b → bus_moved b c → bus_moved a c) → ℕ → Chip
-chip_of {B} {T} history bus_moved tags bus_unmoved bus_moved_on depth = record {
-  M = SecureRamView B T;
-  contents = λ m. contents m;
-  stopped = λ m. stopped m;
-  moved = λ a xs b. IsMoved history bus_moved tags a xs b;
-  quiet = λ m. IsQuiet m;
-  fits = λ m. levels m.lines ≡ depth;
-  reads = λ m line. (history m.lines.bus).reads (line_place line);
-  kept = λ m. held_lines m;
-  group = λ line. line;
-  places = line_count depth;
-  bound = 129;
-  unmoved = λ m. unmoved history bus_moved tags bus_unmoved m;
-  moved_on = λ a b c xs ys first second. moved_on history bus_moved tags bus_moved_on a b c xs ys first second;
-  sooner = λ a b xs moved quiet. was_none a.lines.engine.evidence b.lines.engine.evidence moved.moves.step.evidence quiet;
-  later = λ a b xs moved fits. moved.moves.step.levels ∙ fits;
-  rises = λ a b xs moved line. moved.moves.step.reads (line_place line);
-  few = λ m fits. omega arith;
-  inside = λ m line fits old.
-      subst (λ (n : ℕ). line < line_count n) fits (old_is_inside (enc_key m.lines) (lines_of m) (made m) line old);
-  paid = λ a b xs moved going quiet line listed old. old_was_had history bus_moved tags a b xs line moved going quiet listed old;
-}
+-- of the page of an old line something was on the chip, or its counter block was read
+page_was_had : {B T : Type 0} (history : B → BusHistory) (bus_moved : B → B → Type 0) (tags : TagEngineView T → Message → List ℕ) (old new : SecureRamView B T) (lines : List ℕ) (line : ℕ) →
+    IsMoved history bus_moved tags old lines new → HasMessage (page_of line) (made old) → stopped new ≡ None → IsQuiet new → Contains lines line →
+    Contains (pages_on_chip old) (page_of line) ⊎ Rose ((history old.lines.bus).reads (Node 0 (page_of line))) ((history new.lines.bus).reads (Node 0 (page_of line)))
+page_was_had history bus_moved tags old new lines line moved has going quiet listed =
+    elim ((moved.had going quiet).touched line listed).1 [
+      | inl there ↦ inl there
+      | inr had ↦ elim had [
+        | inl never ↦ absurd (has_last (page_of line) (made old) has never)
+        | inr rose ↦ inr rose
+      ]
+    ]
+
+-- it has so many levels, and each page's counter block was tagged
+pub record IsBooted {B T : Type 0} (depth : ℕ) (memory : SecureRamView B T) : Type 0 where
+  pub levels_are : levels memory.lines ≡ depth
+  pub tagged : (page : ℕ) → page < page_count depth → HasMessage page (made memory)
+
+page_inside : {B T : Type 0} (depth : ℕ) (memory : SecureRamView B T) (line : ℕ) → levels memory.lines ≡ depth → is_old (contents memory) line ≡ true → page_of line < page_count depth
+page_inside depth memory line fits old =
+    let inside = subst (λ (n : ℕ). line < line_count n) fits (old_is_inside (enc_key memory.lines) (lines_of memory) (made memory) line old) in
+    omega (arith, inside)
+
+module _ {B T : Type 0} (history : B → BusHistory) (bus_moved : B → B → Type 0) (tags : TagEngineView T → Message → List ℕ)
+    (bus_unmoved : (bus : B) → bus_moved bus bus) (bus_moved_on : (a b c : B) → bus_moved a b → bus_moved b c → bus_moved a c) (depth : ℕ) where
+  still_booted : (a b : SecureRamView B T) (lines : List ℕ) → IsMoved history bus_moved tags a lines b → IsBooted depth a → IsBooted depth b
+  still_booted a b lines moved booted = record {
+    levels_are = moved.moves.step.levels ∙ booted.levels_are;
+    tagged = λ page below.
+        subst (HasMessage page) (sym moved.moves.step.made) (has_before page (made a) moved.moves.step.more (booted.tagged page below));
+  }
+
+  -- the memory as a chip that holds some lines, and as one that has something of some pages
+  holds_lines : Chip
+  holds_lines = record {
+    M = SecureRamView B T;
+    contents = λ m. contents m;
+    stopped = λ m. stopped m;
+    moved = λ a xs b. IsMoved history bus_moved tags a xs b;
+    quiet = λ m. IsQuiet m;
+    fits = λ m. IsBooted depth m;
+    reads = λ m line. (history m.lines.bus).reads (line_place line);
+    kept = λ m. held_lines m;
+    group = λ line. line;
+    places = line_count depth;
+    bound = 129;
+    unmoved = λ m. unmoved history bus_moved tags bus_unmoved m;
+    moved_on = λ a b c xs ys first second. moved_on history bus_moved tags bus_moved_on a b c xs ys first second;
+    sooner = λ a b xs moved quiet. was_none a.lines.engine.evidence b.lines.engine.evidence moved.moves.step.evidence quiet;
+    later = λ a b xs moved fits. still_booted a b xs moved fits;
+    rises = λ a b xs moved line. moved.moves.step.reads (line_place line);
+    few = λ m fits. omega arith;
+    inside = λ m line fits old.
+        subst (λ (n : ℕ). line < line_count n) fits.levels_are (old_is_inside (enc_key m.lines) (lines_of m) (made m) line old);
+    paid = λ a b xs moved fits going quiet line listed old. old_was_had history bus_moved tags a b xs line moved going quiet listed old;
+  }
+
+  has_pages : Chip
+  has_pages = record {
+    M = SecureRamView B T;
+    contents = λ m. contents m;
+    stopped = λ m. stopped m;
+    moved = λ a xs b. IsMoved history bus_moved tags a xs b;
+    quiet = λ m. IsQuiet m;
+    fits = λ m. IsBooted depth m;
+    reads = λ m page. (history m.lines.bus).reads (Node 0 page);
+    kept = λ m. pages_on_chip m;
+    group = page_of;
+    places = page_count depth;
+    bound = 161;
+    unmoved = λ m. unmoved history bus_moved tags bus_unmoved m;
+    moved_on = λ a b c xs ys first second. moved_on history bus_moved tags bus_moved_on a b c xs ys first second;
+    sooner = λ a b xs moved quiet. was_none a.lines.engine.evidence b.lines.engine.evidence moved.moves.step.evidence quiet;
+    later = λ a b xs moved fits. still_booted a b xs moved fits;
+    rises = λ a b xs moved page. moved.moves.step.reads (Node 0 page);
+    few = λ m fits. omega arith;
+    inside = λ m line fits old. page_inside depth m line fits.levels_are old;
+    paid = λ a b xs moved fits going quiet line listed old.
+        page_was_had history bus_moved tags a b xs line moved (fits.tagged (page_of line) (page_inside depth a line fits.levels_are old)) going quiet listed;
+  }
+
+  -- What was read from places that a function names, by a run that began with a memory and by the calls before it.
+  all_read : (reads : B → ℕ → ℕ) (places turned : ℕ) (bus closed : B) (first end : SecureRamView B T) →
+      Gain places (reads first.lines.bus) (reads end.lines.bus) turned → ((place : ℕ) → RoseBy 0 (reads bus place) (reads first.lines.bus place)) →
+      ((place : ℕ) → RoseBy 0 (reads first.lines.bus place) (reads end.lines.bus place)) → closed ≡ end.lines.bus → Gain places (reads bus) (reads closed) turned
+  all_read reads places turned bus closed first end ran before during is =
+      let stored : Gain places (reads bus) (reads first.lines.bus) 0 = gain_none places (reads bus) (reads first.lines.bus) before in
+      let whole : Gain places (reads bus) (reads end.lines.bus) (0 + turned) =
+      gain_on places (reads bus) (reads first.lines.bus) (reads end.lines.bus) 0 turned during stored ran in
+      let none : 0 + turned ≡ turned = omega arith in
+      subst (λ (b : B). Gain places (reads bus) (reads b) turned) (sym is)
+      (subst (λ (k : ℕ). Gain places (reads bus) (reads end.lines.bus) k) none whole)
+
+  -- a whole run
+  module _ (from n count : ℕ) (start : Machine) (bus closed : B) (first end : SecureRamView B T) (listed : List ℕ)
+      (moved : IsMoved history bus_moved tags first listed end) (begun : from ≡ 0) (same : contents first ≡ start.state.memory) (fits : IsBooted depth first) (quiet : IsQuiet end)
+      (went : HasTrail (λ m. stopped m) (λ m. contents m) (λ a xs b. IsMoved history bus_moved tags a xs b) start from n first end)
+      (as_many : count ≡ n) (before : (place : Place) → RoseBy 0 ((history bus).reads place) ((history first.lines.bus).reads place)) (is : closed ≡ end.lines.bus) where
+    lines_turned : Gain (line_count depth) (λ line. (history bus).reads (line_place line)) (λ line. (history closed).reads (line_place line)) (turnover start count)
+    unfolding holds_lines
+    lines_turned =
+        subst (λ (k : ℕ). Gain (line_count depth) (λ line. (history bus).reads (line_place line)) (λ line. (history closed).reads (line_place line)) (turnover start k)) (sym as_many)
+        (all_read (λ b line. (history b).reads (line_place line)) (line_count depth) (turnover start n) bus closed first end
+        (turnover_begun holds_lines start from n first end begun same fits quiet went)
+        (λ line. before (line_place line)) (λ line. moved.moves.step.reads (line_place line)) is)
+
+    pages_turned : Gain (page_count depth) (λ page. (history bus).reads (Node 0 page)) (λ page. (history closed).reads (Node 0 page)) (page_turnover start count)
+    unfolding has_pages
+    pages_turned =
+        subst (λ (k : ℕ). Gain (page_count depth) (λ page. (history bus).reads (Node 0 page)) (λ page. (history closed).reads (Node 0 page)) (page_turnover start k)) (sym as_many)
+        (all_read (λ b page. (history b).reads (Node 0 page)) (page_count depth) (page_turnover start n) bus closed first end
+        (turnover_begun has_pages start from n first end begun same fits quiet went)
+        (λ page. before (Node 0 page)) (λ page. moved.moves.step.reads (Node 0 page)) is)
+
+    pub run_turned : Gain (line_count depth) (λ line. (history bus).reads (line_place line)) (λ line. (history closed).reads (line_place line)) (turnover start count)
+        × Gain (page_count depth) (λ page. (history bus).reads (Node 0 page)) (λ page. (history closed).reads (Node 0 page)) (page_turnover start count)
+    run_turned = (lines_turned, pages_turned)
 
 -- a run of no instruction, in which no count of reads fell
-pub nothing_turned : (start : Machine) (places n : ℕ) (old new : ℕ → ℕ) → n ≡ 0 → ((place : ℕ) → RoseBy 0 (old place) (new place)) → Gain places old new (turnover start n)
-nothing_turned start places n old new none rises =
-    subst (λ (k : ℕ). Gain places old new (turnover start k)) (sym none)
-    (subst (λ (turned : ℕ). Gain places old new turned) (sym (turned_by_none start)) (gain_none places old new rises))
-
--- a whole run
-pub run_turned : {B T : Type 0} (history : B → BusHistory) (bus_moved : B → B → Type 0) (tags : TagEngineView T → Message → List ℕ)
-    (bus_unmoved : (bus : B) → bus_moved bus bus) (bus_moved_on : (a b c : B) → bus_moved a b → bus_moved b c → bus_moved a c)
-    (depth from n count : ℕ) (start : Machine) (bus closed : B) (first end : SecureRamView B T) (listed : List ℕ) →
-    IsMoved history bus_moved tags first listed end → from ≡ 0 → contents first ≡ start.state.memory → levels first.lines ≡ depth → IsQuiet end →
-    HasTrail (λ m. stopped m) (λ m. contents m) (λ a xs b. IsMoved history bus_moved tags a xs b) start from n first end →
-    count ≡ n → ((place : Place) → RoseBy 0 ((history bus).reads place) ((history first.lines.bus).reads place)) → closed ≡ end.lines.bus →
-    Gain (line_count depth) (λ line. (history bus).reads (line_place line)) (λ line. (history closed).reads (line_place line)) (turnover start count)
-unfolding chip_of
-run_turned {B} {T} history bus_moved tags bus_unmoved bus_moved_on depth from n count start bus closed first end listed moved begun same fits quiet went as_many before is =
-    let reads : B → ℕ → ℕ = λ b line. (history b).reads (line_place line) in
-    let places = line_count depth in
-    let turned = turnover start n in
-    let ran : Gain places (reads first.lines.bus) (reads end.lines.bus) turned =
-    turnover_begun (chip_of history bus_moved tags bus_unmoved bus_moved_on depth) start from n first end begun same fits quiet went in
-    let stored : Gain places (reads bus) (reads first.lines.bus) 0 = gain_none places (reads bus) (reads first.lines.bus) (λ line. before (line_place line)) in
-    let whole : Gain places (reads bus) (reads end.lines.bus) (0 + turned) =
-    gain_on places (reads bus) (reads first.lines.bus) (reads end.lines.bus) 0 turned (λ line. moved.moves.step.reads (line_place line)) stored ran in
-    let none : 0 + turned ≡ turned = omega arith in
-    subst (λ (b : B). Gain places (reads bus) (reads b) (turnover start count)) (sym is)
-    (subst (λ (k : ℕ). Gain places (reads bus) (reads end.lines.bus) (turnover start k)) (sym as_many)
-    (subst (λ (k : ℕ). Gain places (reads bus) (reads end.lines.bus) k) none whole))
+pub nothing_turned : (group : ℕ → ℕ) (bound : ℕ) (start : Machine) (places n : ℕ) (old new : ℕ → ℕ) → n ≡ 0 → ((place : ℕ) → RoseBy 0 (old place) (new place)) → Gain places old new (turnover_by group bound start n)
+nothing_turned group bound start places n old new none rises =
+    subst (λ (k : ℕ). Gain places old new (turnover_by group bound start k)) (sym none)
+    (subst (λ (turned : ℕ). Gain places old new turned) (sym (turned_by_none group bound start)) (gain_none places old new rises))
 
 -- the memory of a program as it begins
 pub opening_bytes : (entry size : ℕ) (segments : List Segment) (input bytes : List ℕ) → bytes ≡ opening_memory size segments → bytes ≡ (opening_of entry size segments input).state.memory

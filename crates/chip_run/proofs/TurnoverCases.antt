@@ -3,7 +3,7 @@ use Rattle.std.proofs.Common.{◌≡◌, ℕ, List, [], ◌∷◌, ◌++◌, rep
 use Rattle.sec_base.specs.Geometry.{page_of}
 use Rattle.rv32_core.specs.Machine.{Machine, plain}
 use Rattle.rv32_core.specs.TouchedLines.{touched_lines}
-use Rattle.rv32_core.specs.Turnover.{Window, blank_groups, next_window, old_groups, turnover, window_at, with_touched}
+use Rattle.rv32_core.specs.Turnover.{Window, blank_groups, next_window, old_groups, turnover_by, window_at, with_touched}
 
 -- a window in which lines 0 and 1 are old, and 2 and 3 blank
 abbrev window : List ℕ → Window
@@ -41,9 +41,9 @@ unfolding next_window
 closed_by_both = refl
 
 -- no instruction turns nothing over
-pub turned_by_none : (start : Machine) → turnover start 0 ≡ 0
+pub turned_by_none : (group : ℕ → ℕ) (bound : ℕ) (start : Machine) → turnover_by group bound start 0 ≡ 0
 unfolding window_at
-turned_by_none start = refl
+turned_by_none group bound start = refl
 
 -- Two instructions that touch these lines, in a memory that neither changes
 

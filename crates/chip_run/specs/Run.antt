@@ -1,16 +1,17 @@
 -- What a run on protected memory comes to.
-use Rattle.std.specs.Prelude.{◌≡◌, ◌≢◌, ◌+◌, ◌-◌, ◌^◌, ◌<◌, ◌≤◌, ◌↔◌, ◌⊎◌, ℕ, List, [], None, IfSome, length, Contains}
+use Rattle.std.specs.Prelude.{◌≡◌, ◌≢◌, ◌-◌, ◌^◌, ◌<◌, ◌≤◌, ◌↔◌, ◌⊎◌, ℕ, List, [], None, IfSome, length, Contains}
+use Rattle.sha2.specs.Sha256.{sha256}
 use Rattle.sec_base.specs.declared.counter.Counter.{Counter}
 use Rattle.sec_base.specs.declared.ending.Ending.{Ending}
 use Rattle.sec_base.specs.declared.ending.Ending.TheVariants.{Halted, Trapped, OutOfSteps, Tampered, Spent, WriteFault, NoMemory}
 use Rattle.sec_base.specs.declared.evidence.Evidence.{Evidence}
 use Rattle.sec_base.specs.declared.message.Message.{Message}
 use Rattle.sec_base.specs.declared.place.Place.{Place}
-use Rattle.sec_base.specs.declared.place.Place.TheVariants.{Line}
+use Rattle.sec_base.specs.declared.place.Place.TheVariants.{Line, Node}
 use Rattle.sec_base.specs.Count.{Rose, RoseBy}
 use Rattle.sec_base.specs.Evidence.{IsEvidence}
 use Rattle.sec_base.specs.Gain.{Gain}
-use Rattle.sec_base.specs.Geometry.{line_count}
+use Rattle.sec_base.specs.Geometry.{line_count, page_count}
 use Rattle.sec_base.specs.LastMessage.{data_pairs}
 use Rattle.sec_base.specs.Lines.{line_at}
 use Rattle.sec_base.specs.Sink.{SinkState, Gains}
@@ -22,17 +23,18 @@ use Rattle.rv32_core.specs.Effect.{next}
 use Rattle.rv32_core.specs.Follows.{Follows, IsWhole}
 use Rattle.rv32_core.specs.Machine.{Machine, plain}
 use Rattle.rv32_core.specs.Outcome.{prints_of}
-use Rattle.rv32_core.specs.Turnover.{turnover}
+use Rattle.rv32_core.specs.Turnover.{page_turnover, turnover}
 use Rattle.rv32_run.specs.Session.{IsMemoryEnding, IsStop}
 use Rattle.checked_bus.specs.Accesses.{WritesMessages}
 use Rattle.bonsai_tree.specs.Tree.{NodesAreMade, NodesHoldLast}
 use Rattle.page_reencrypt.specs.Contents.{ArePaged, AreUnskipped, AreWithin, HoldsLast, HoldsSealed, IsSpent, line_bytes}
 use Rattle.page_reencrypt.specs.SealedLines.{IsUnbooted}
+use Rattle.chip_run.specs.Report.{ReportTerms, signed_report}
 use Rattle.chip_run.specs.declared.record.RunRecord.{RunRecord}
 
 -- What a run is of: the plain machine as the program begins on its input, how many instructions may be retired, the
--- levels of the memory's tree, how high a page counter may rise, the tags of messages, and the key that lines are
--- encrypted under.
+-- levels of the memory's tree, how high a page counter may rise, the tags of messages, the key that lines are
+-- encrypted under, and what its report is of.
 pub record Terms : Type 0 where
   pub start : Machine
   pub budget : ℕ
@@ -40,6 +42,7 @@ pub record Terms : Type 0 where
   pub page_limit : ℕ
   pub tag_of : Message → List ℕ
   pub enc_key : List ℕ
+  pub report : ReportTerms
 
 -- how many lines may stand on the chip alone as a run ends
 abbrev pub most_left : ℕ
@@ -108,8 +111,6 @@ pub record HoldsAlways (terms : Terms) (out out' : SinkState) (before after : Bu
   -- was spent, or it ended out of memory
   pub whole : ¬ (Rose out.faults out'.faults) → after.lies ≡ 0 → run.ending ≢ NoMemory →
       IsWhole terms.start terms.budget run.retired run.ending ⊎ ((page : ℕ) × (run.ending ≡ Spent page))
-  -- nothing is signed yet
-  pub report : run.report ≡ None
 
 -- Where there is no evidence. What rests on counters stands here, since they come from outside.
 pub record HoldsWithoutEvidence (terms : Terms) (printed : List ℕ) (before after : BusHistory) (run : RunRecord) : Type 0 where
@@ -140,9 +141,12 @@ pub record HoldsWithoutEvidence (terms : Terms) (printed : List ℕ) (before aft
       ↔ ((run.retired ≡ terms.budget) × ((plain terms.start terms.budget).exit ≡ None)))
   -- a write fails only at an instruction that prints
   pub prints : run.ending ≡ WriteFault → 0 < length (prints_of (next (plain terms.start run.retired).state))
-  -- the places of the lines were read together at least as often as the run turned over what the chip can hold
+  -- the places of the lines were read together at least as often as the run turned over what the chip can hold, and so
+  -- were the places of the pages' counter blocks, by pages
   pub turnover : Gain (line_count terms.levels) (λ line. before.reads (Line line)) (λ line. after.reads (Line line))
       (turnover terms.start run.retired)
+  pub page_turnover : Gain (page_count terms.levels) (λ page. before.reads (Node 0 page)) (λ page. after.reads (Node 0 page))
+      (page_turnover terms.start run.retired)
 
 -- What evidence is: what it says, and of the first false answer.
 pub record ShowsEvidence (terms : Terms) (after : BusHistory) (run : RunRecord) (evidence : Evidence) : Type 0 where
@@ -152,9 +156,11 @@ pub record ShowsEvidence (terms : Terms) (after : BusHistory) (run : RunRecord) 
 -- The theorem. A run on protected memory printed some bytes to the sink; without evidence it follows the plain machine,
 -- each false answer of the bus ended it as tampering at that access, and no pad encrypted two lines; or else it hands
 -- out evidence: a message that passed a check though it was never tagged, or two unequal blocks of one node with one tag.
+-- With evidence or without, its report is of the bytes that it printed.
 pub record RunsProtected (terms : Terms) (out out' : SinkState) (before after : BusHistory) (run : RunRecord) : Type 0 where
   pub printed : List ℕ
   pub gained : Gains out printed out'
+  pub report : run.report ≡ signed_report terms.report (sha256 printed) run.retired run.ending
   pub always : HoldsAlways terms out out' before after run
   pub without_evidence : run.evidence ≡ None → HoldsWithoutEvidence terms printed before after run
   pub with_evidence : IfSome run.evidence (ShowsEvidence terms after run)

@@ -13,11 +13,12 @@ use sec_base::{Ending, Messages, Pads, Tagger};
 use secure_memory::SecureRam;
 use std::alloc::Global;
 
-// The record of a run that retired so many instructions and ended so, with its bus.
+// The record of a run that retired so many instructions, ended so and has this report, with its bus.
 pub(crate) fn close<B: Bus, T: Tagger>(
     memory: SecureRam<B, T>,
     retired: u64,
     ending: Ending,
+    report: Option<[u8; 158]>,
 ) -> (RunRecord, B)
     ensures retired { result.0.retired ≡ retired }
     ensures ending { result.0.ending ≡ ending }
@@ -26,7 +27,7 @@ pub(crate) fn close<B: Bus, T: Tagger>(
     ensures used { result.0.used ≡ used_by memory }
     ensures few { length result.0.used < 2 ^ 64 }
     ensures apart { IsQuiet memory → ShareNoBlock (enc_key memory.lines) result.0.used }
-    ensures report { result.0.report ≡ None }
+    ensures report { result.0.report ≡ report }
     ensures bus { result.1 ≡ memory.lines.bus }
 
     ensures genuine { IfSome result.0.evidence
@@ -45,7 +46,7 @@ pub(crate) fn close<B: Bus, T: Tagger>(
         evidence,
         made,
         used,
-        report: None,
+        report,
     };
     (record, bus)
 }

@@ -7,6 +7,7 @@ ghost use Rattle.sec_base.specs.Segment.{IsSegment};
 
 mod refusing_bus;
 mod replay_bus;
+mod reports;
 
 use crate::{RunRecord, Setup, run};
 use bus_model::{Bus, FlipBus, HonestBus};
@@ -447,7 +448,6 @@ fn each_write_is_tagged(rt: HostRuntime) -> Result<(), Fail> {
     assert_eq!(rt; done.ending, Ending::Halted(65));
     assert_eq!(rt; done.retired, 6);
     assert_eq!(rt; done.evidence, None);
-    assert_eq!(rt; done.report, None);
     assert_eq!(rt; done.made.len(), 5 + 7 * 3);
     for at in 0..5u8 {
         let Some(Message::Node { level, index, .. }) = done.made.get(u64::from(at)) else {
@@ -744,6 +744,7 @@ fn a_run_ends_where_the_bus_is_out_of_memory(rt: HostRuntime) -> Result<(), Fail
         let retired = (refused - 1).saturating_sub(37) / 3;
         assert_eq!(rt; done.retired, retired, "access {refused}");
         assert_eq!(rt; done.evidence, None, "access {refused}");
+        assert_eq!(rt; done.report.is_some(), refused == 47, "access {refused}");
         assert_eq!(rt; done.made.is_empty(), refused < 6, "access {refused}");
     }
     Ok(())

@@ -1,5 +1,5 @@
 use Rattle.std.proofs.Common.{not, ap, sym, ◌∙◌, rules}
-use Rattle.bus_model.proofs.FlipSteps.{bytes_eq-parts}
+use Rattle.bus_model.proofs.LieSteps.{bytes_eq-parts}
 use Rattle.chip_run.proofs.tests.replay_bus.differs.Goals as goal
 
 pub returns : goal.returns

@@ -3,7 +3,7 @@ use Rattle.sec_base.specs.Evidence.{sealed_bytes}
 use Rattle.sec_base.specs.declared.place.Place.TheVariants.{Line}
 use Rattle.bus_model.specs.BusHistory.{Lie}
 use Rattle.bus_model.specs.HonestBus.{honest_history}
-use Rattle.bus_model.proofs.FlipSteps.{unlike}
+use Rattle.bus_model.proofs.LieSteps.{unlike}
 use Rattle.chip_run.specs.declared.tests.replay_bus.FalseAnswer.{FalseAnswer}
 use Rattle.chip_run.proofs.Replays.{first_told, own_answered, own_lied}
 use Rattle.chip_run.proofs.tests.replay_bus.ReplayBusBus.read_data.Goals as goal

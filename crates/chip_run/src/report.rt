@@ -1,0 +1,40 @@
+// The report of a run.
+ghost use Rattle.std.specs.Prelude.{◌≡◌};
+ghost use Rattle.elf_load.specs.Measurement.{measurement_of};
+ghost use Rattle.chip_run.specs.Report as told;
+
+use crate::record::Setup;
+use attest_report::{Report, ending_and_code, report_bytes};
+use elf_load::measure;
+use sec_base::{Ending, Image};
+use sha2::{Digest, Sha256};
+
+// The signed report of a run whose output has this digest, that retired so many instructions and ended so, where its
+// ending makes one.
+pub(crate) fn signed_report(
+    image: &Image,
+    input: &[u8],
+    setup: &Setup,
+    output_digest: [u8; 32],
+    retired: u64,
+    ending: Ending,
+) -> Option<[u8; 158]>
+    ensures { result ≡ told.signed_report (record {
+      measurement = measurement_of image.now;
+      input = input.now;
+      nonce = setup.now.nonce;
+      report_key = setup.now.keys.report_key;
+    }) output_digest retired ending }
+{
+    let (ending, code) = ending_and_code(ending)?;
+    let report = Report {
+        measurement: measure(image),
+        input_digest: Sha256::digest(input),
+        output_digest,
+        retired,
+        ending,
+        code,
+        nonce: setup.nonce,
+    };
+    Some(report_bytes(&report, &setup.keys.report_key))
+}

@@ -1,0 +1,148 @@
+// The reports of runs on the input `abc` under the nonce 01 02 .. 10. The texts are from Python 3.11: its `struct`,
+// `hashlib` and `hmac`.
+ghost use Rattle.std.specs.Prelude.{◌<◌, ◌≤◌, length};
+ghost use Rattle.sec_base.specs.Place.{place_size};
+
+use super::{COUNT_DOWN, EXIT_65, LINE_64, PRINT_A, Zeros, flat, keys};
+use crate::{Setup, run};
+use attest_report::write_report;
+use bus_model::FlipBus;
+use hmac_tag::HmacTagger;
+use sec_base::{Geometry, Image, MemorySink, Place, Tagger};
+use std::alloc::Global;
+use std::test::Fail;
+
+const EBREAK: [u32; 1] = [0x0010_0073];
+
+// A place that no program here reads, so that no answer is false.
+const NOWHERE: Place = Place::Line(255);
+
+const HALTED: &[u8; 316] = b"\
+    014187fa751bd71f78b94b3c5cbc470f79b7bee7d8f886544ea79353bb69f47e1e\
+    ba7816bf8f01cfea414140de5dae2223b00361a396177a9cb410ff61f20015ad\
+    559aead08264d5795d3909718cdd05abd49572e84fe55590eef31a88a08fdffd\
+    0a0000000000000000010000000102030405060708090a0b0c0d0e0f10\
+    80978ea3a8289de454b82f9a5ea8bf28e79780f08a270785e02d99c95cc75345";
+
+const TRAPPED: &[u8; 316] = b"\
+    01fcb372646f92a83df6a2555c25a9036ad2203d9c763da552884da77826d860b5\
+    ba7816bf8f01cfea414140de5dae2223b00361a396177a9cb410ff61f20015ad\
+    e3b0c44298fc1c149afbf4c8996fb92427ae41e4649b934ca495991b7852b855\
+    000000000000000001050000000102030405060708090a0b0c0d0e0f10\
+    8a90a64044a4faa24f2d2c9054337563cd775451633cdec4e0ad293ddd2501ab";
+
+const OUT_OF_STEPS: &[u8; 316] = b"\
+    014187fa751bd71f78b94b3c5cbc470f79b7bee7d8f886544ea79353bb69f47e1e\
+    ba7816bf8f01cfea414140de5dae2223b00361a396177a9cb410ff61f20015ad\
+    559aead08264d5795d3909718cdd05abd49572e84fe55590eef31a88a08fdffd\
+    090000000000000004000000000102030405060708090a0b0c0d0e0f10\
+    a3221192d307253f9666ad498af3b50325662c7ac63099a75799ae1dfccc5167";
+
+const TAMPERED: &[u8; 316] = b"\
+    014187fa751bd71f78b94b3c5cbc470f79b7bee7d8f886544ea79353bb69f47e1e\
+    ba7816bf8f01cfea414140de5dae2223b00361a396177a9cb410ff61f20015ad\
+    559aead08264d5795d3909718cdd05abd49572e84fe55590eef31a88a08fdffd\
+    080000000000000005000000000102030405060708090a0b0c0d0e0f10\
+    8ec84ea2158de20150fd2b720e0e94b4770e281be9da0997c7289f1ae23cde6b";
+
+const SPENT: &[u8; 316] = b"\
+    016b4093e711b53e6df3fd6aa6c38880834ab3a641546997d410023665f7ed2d07\
+    ba7816bf8f01cfea414140de5dae2223b00361a396177a9cb410ff61f20015ad\
+    e3b0c44298fc1c149afbf4c8996fb92427ae41e4649b934ca495991b7852b855\
+    800100000000000006000000000102030405060708090a0b0c0d0e0f10\
+    bb361c60344d0571844d01557a8ea7329afdf43d37abb12dace246e468f19d43";
+
+const WITH_EVIDENCE: &[u8; 316] = b"\
+    011d9ee55fcff4372bf9435da38697081f675226ab4eac0254be8819e3057bdc05\
+    ba7816bf8f01cfea414140de5dae2223b00361a396177a9cb410ff61f20015ad\
+    e3b0c44298fc1c149afbf4c8996fb92427ae41e4649b934ca495991b7852b855\
+    060000000000000000400000000102030405060708090a0b0c0d0e0f10\
+    2b265f62218f0b1bb4f01d64dda9bbce68a666a43a8a178dfa9b3a9711790816";
+
+// The text of the report of a program of a few words, or nothing where there is none. The lowest bit of the `k`-th
+// answer of a place is flipped, and the writes with these numbers fail.
+fn reported<T: Tagger>(
+    alloc: Global,
+    words: &[u32],
+    limits: (u64, u64),
+    flip: (Place, u64),
+    fails: &[u64],
+    tagger: T,
+) -> Result<Vec<u8>, Fail>
+    requires words { length words.now ≤ 16 }
+    requires place { 0 < place_size flip.0 }
+{
+    let geometry = Geometry::new(1).ok_or("no geometry")?;
+    let image = Image {
+        entry: 0,
+        size: 16384,
+        segments: flat(alloc, words)?,
+    };
+    let setup = Setup {
+        geometry,
+        keys: keys(),
+        budget: limits.0,
+        page_limit: limits.1,
+        nonce: [1, 2, 3, 4, 5, 6, 7, 8, 9, 10, 11, 12, 13, 14, 15, 16],
+    };
+    let bus = FlipBus::new(alloc, geometry, flip.0, flip.1, 0, 1)?;
+    let mut out = MemorySink::new(alloc, fails)?;
+    let (record, _bus) = run(alloc, &image, b"abc", &setup, tagger, bus, &mut out);
+    match record.report {
+        Some(bytes) => {
+            let text = write_report(alloc, &bytes).ok().ok_or("no memory")?;
+            Ok(text.into_vec())
+        }
+        None => Ok(Vec::new(alloc)),
+    }
+}
+
+#[test]
+fn a_report_tells_how_the_program_ended(rt: HostRuntime) -> Result<(), Fail> {
+    let alloc = rt.alloc();
+    let rows: [(u64, &[u8; 316]); 2] = [(2000, HALTED), (9, OUT_OF_STEPS)];
+    for (budget, expected) in rows {
+        let tagger = HmacTagger::new(&keys());
+        let text = reported(alloc, &PRINT_A, (budget, 0), (NOWHERE, 1), &[], tagger)?;
+        assert_eq!(rt; text.as_slice(), expected.as_slice(), "budget {budget}");
+    }
+    let tagger = HmacTagger::new(&keys());
+    let text = reported(alloc, &EBREAK, (2000, 0), (NOWHERE, 1), &[], tagger)?;
+    assert_eq!(rt; text.as_slice(), TRAPPED.as_slice());
+    Ok(())
+}
+
+// The 18th answer for line 0 is that of the fetch behind the write.
+#[test]
+fn a_report_tells_how_the_memory_stopped(rt: HostRuntime) -> Result<(), Fail> {
+    let alloc = rt.alloc();
+    let tagger = HmacTagger::new(&keys());
+    let text = reported(
+        alloc,
+        &PRINT_A,
+        (2000, 0),
+        (Place::Line(0), 18),
+        &[],
+        tagger,
+    )?;
+    assert_eq!(rt; text.as_slice(), TAMPERED.as_slice());
+    let tagger = HmacTagger::new(&keys());
+    let text = reported(alloc, &COUNT_DOWN, (2000, 0), (NOWHERE, 1), &[], tagger)?;
+    assert_eq!(rt; text.as_slice(), SPENT.as_slice());
+    Ok(())
+}
+
+#[test]
+fn a_report_knows_of_no_evidence(rt: HostRuntime) -> Result<(), Fail> {
+    let text = reported(rt.alloc(), &EXIT_65, (2000, 0), (LINE_64, 1), &[], Zeros)?;
+    assert_eq!(rt; text.as_slice(), WITH_EVIDENCE.as_slice());
+    Ok(())
+}
+
+#[test]
+fn a_write_fault_makes_no_report(rt: HostRuntime) -> Result<(), Fail> {
+    let tagger = HmacTagger::new(&keys());
+    let text = reported(rt.alloc(), &PRINT_A, (2000, 0), (NOWHERE, 1), &[1], tagger)?;
+    assert!(rt; text.is_empty());
+    Ok(())
+}
