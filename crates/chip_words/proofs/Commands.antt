@@ -15,9 +15,9 @@ use Rattle.clap.specs.Faults.{check_fault, defaults_fault, entered_fault, level_
 use Rattle.clap.specs.declared.builder.value_parser.ValueParser.TheVariants.{Unsigned}
 use Rattle.clap.proofs.ValueTestLemmas.{accepts-Accepts}
 use Rattle.std.proofs.lemmas.Slice.Eq.{bytes_eq-Decides}
-use Rattle.chip_words.specs.App.{chip_app, file_rule, levels_rule, page_limit_rule, steps_rule}
+use Rattle.chip_words.specs.App.{chip_app, file_rule, key_rule, levels_rule, nonce_rule, page_limit_rule, steps_rule, tags_rule}
 use Rattle.chip_words.specs.Request.{numeral_value, value_of}
-use Rattle.chip_words.specs.Commands.{HasExecution, HasItsValues, HasNumber, HasProgram, HasProtectedRun, HasValue, IfCommand}
+use Rattle.chip_words.specs.Commands.{HasExecution, HasItsValues, HasNumber, HasProgram, HasProtectedRun, HasReport, HasValue, IfCommand}
 use Rattle.chip_words.proofs.Walks.{IsNoHelp, both_empty}
 use Rattle.chip_words.proofs.Fits.{AllFit, HasSome, IsIn, Owns, defaults_have, finished_fits, first_passes, row_found, walk_fits}
 
@@ -111,6 +111,15 @@ levels_built = filled levels_rule
 abbrev steps_built : Rule
 steps_built = filled steps_rule
 
+abbrev key_built : Rule
+key_built = filled key_rule
+
+abbrev nonce_built : Rule
+nonce_built = filled nonce_rule
+
+abbrev tags_built : Rule
+tags_built = filled tags_rule
+
 abbrev page_limit_built : Rule
 page_limit_built = filled page_limit_rule
 
@@ -138,7 +147,7 @@ execution_there s words clean program in_steps own_steps =
       steps = (number_there 0 (2 ^ 64 - 1) (codes "steps") steps.0 (rows_after s.rules [] words) steps.1 steps.2).0;
     }
 
-abbrev run_built : Shape
+abbrev pub run_built : Shape
 run_built = slice_index_or (built chip_app).subs 0 help_shape
 
 abbrev plain_built : Shape
@@ -151,12 +160,19 @@ asm_built = slice_index_or (built chip_app).subs 2 help_shape
 abbrev inspection_built : Text → Shape
 inspection_built name = record (slice_index_or (built chip_app).subs 3 help_shape) { name = name }
 
+-- `verify`
+abbrev pub verify_built : Shape
+verify_built = slice_index_or (built chip_app).subs 5 help_shape
+
 run_owns : Owns run_built.rules run_built.rules
 run_owns = (
   (refl, λ takes. refl),
   (
     (refl, λ takes. absurd cc),
-    ((refl, λ takes. refl), ((refl, λ takes. refl), ((refl, λ takes. refl), ((refl, λ takes. refl), ((refl, λ takes. absurd cc), tt))))),
+    (
+      (refl, λ takes. refl),
+      ((refl, λ takes. refl), ((refl, λ takes. refl), ((refl, λ takes. refl), ((refl, λ takes. refl), ((refl, λ takes. refl), ((refl, λ takes. refl), ((refl, λ takes. refl), ((refl, λ takes. absurd cc), tt)))))))),
+    ),
   ),
 )
 
@@ -169,6 +185,9 @@ plain_owns = (
 asm_owns : Owns asm_built.rules asm_built.rules
 asm_owns = ((refl, λ takes. refl), ((refl, λ takes. refl), ((refl, λ takes. absurd cc), tt)))
 
+verify_owns : Owns verify_built.rules verify_built.rules
+verify_owns = ((refl, λ takes. refl), ((refl, λ takes. refl), ((refl, λ takes. absurd cc), tt)))
+
 inspection_owns : (name : Text) → Owns (inspection_built name).rules (inspection_built name).rules
 inspection_owns name = ((refl, λ takes. refl), ((refl, λ takes. absurd cc), ((refl, λ takes. refl), ((refl, λ takes. absurd cc), tt))))
 
@@ -177,9 +196,15 @@ run_has words e =
     let s = run_built in
     let clean = faultless s words run_owns e in
     let program = program_there s words clean refl (inl refl) refl (inr (inr (inl refl))) refl in
-    let limit = default_passed s words page_limit_built clean (inr (inr (inr (inr (inr (inl refl)))))) tt refl refl in
+    let key = default_passed s words key_built clean (inr (inr (inr (inr (inr (inr (inl refl))))))) tt refl refl in
+    let nonce = default_passed s words nonce_built clean (inr (inr (inr (inr (inr (inr (inr (inl refl)))))))) tt refl refl in
+    let tags = default_passed s words tags_built clean (inr (inr (inr (inr (inr (inr (inr (inr (inl refl))))))))) tt refl refl in
+    let limit = default_passed s words page_limit_built clean (inr (inr (inr (inr (inr (inr (inr (inr (inr (inl refl)))))))))) tt refl refl in
     record {
       execution = execution_there s words clean program (inr (inr (inr (inr (inl refl))))) refl;
+      key = value_there (codes "key") key.0 (rows_after s.rules [] words) key.1;
+      nonce = value_there (codes "nonce") nonce.0 (rows_after s.rules [] words) nonce.1;
+      tags = value_there (codes "tags") tags.0 (rows_after s.rules [] words) tags.1;
       page_limit = (number_there 0 (2 ^ 64 - 1) (codes "page-limit") limit.0 (rows_after s.rules [] words) limit.1 limit.2).0;
     }
 
@@ -200,44 +225,103 @@ inspection_has name words e =
     let s = inspection_built name in
     program_there s words (faultless s words (inspection_owns name) e) refl (inl refl) refl (inr (inr (inl refl))) refl
 
+verify_has : (words : List Text) → level_fault verify_built [] nothing_held words false [] ≡ [] → HasReport (rows_after verify_built.rules [] words)
+verify_has words e =
+    let s = verify_built in
+    let clean = faultless s words verify_owns e in
+    let file = required_passed s words file_built clean refl (inl refl) refl refl refl in
+    let key = default_passed s words key_built clean (inr (inl refl)) tt refl refl in
+    record {
+      file = value_there (codes "file") file.0 (rows_after s.rules [] words) file.1;
+      key = value_there (codes "key") key.0 (rows_after s.rules [] words) key.1;
+    }
+
 as_run : (words : List Text) → level_fault run_built [] nothing_held words false [] ≡ []
     → HasItsValues (codes "run") (rows_after run_built.rules [] words)
-as_run words e = let h = run_has words e in record { program = h.execution.program; run = λ is. h; plain = λ is. absurd cc }
+as_run words e = let h = run_has words e in record {
+  run = λ is. h;
+  plain = λ is. absurd cc;
+  asm = λ is. absurd cc;
+  dis = λ is. absurd cc;
+  measure = λ is. absurd cc;
+  verify = λ is. absurd cc;
+}
 
 as_plain : (words : List Text) → level_fault plain_built [] nothing_held words false [] ≡ []
     → HasItsValues (codes "plain") (rows_after plain_built.rules [] words)
-as_plain words e = let h = plain_has words e in record { program = h.program; run = λ is. absurd cc; plain = λ is. h }
+as_plain words e = let h = plain_has words e in record {
+  run = λ is. absurd cc;
+  plain = λ is. h;
+  asm = λ is. absurd cc;
+  dis = λ is. absurd cc;
+  measure = λ is. absurd cc;
+  verify = λ is. absurd cc;
+}
 
 as_assembly : (words : List Text) → level_fault asm_built [] nothing_held words false [] ≡ []
     → HasItsValues (codes "asm") (rows_after asm_built.rules [] words)
-as_assembly words e = record { program = asm_has words e; run = λ is. absurd cc; plain = λ is. absurd cc }
+as_assembly words e = let h = asm_has words e in record {
+  run = λ is. absurd cc;
+  plain = λ is. absurd cc;
+  asm = λ is. h;
+  dis = λ is. absurd cc;
+  measure = λ is. absurd cc;
+  verify = λ is. absurd cc;
+}
 
 as_dis : (words : List Text) → level_fault (inspection_built (codes "dis")) [] nothing_held words false [] ≡ []
     → HasItsValues (codes "dis") (rows_after (inspection_built (codes "dis")).rules [] words)
-as_dis words e = record { program = inspection_has (codes "dis") words e; run = λ is. absurd cc; plain = λ is. absurd cc }
+as_dis words e = let h = inspection_has (codes "dis") words e in record {
+  run = λ is. absurd cc;
+  plain = λ is. absurd cc;
+  asm = λ is. absurd cc;
+  dis = λ is. h;
+  measure = λ is. absurd cc;
+  verify = λ is. absurd cc;
+}
 
 as_measure : (words : List Text) → level_fault (inspection_built (codes "measure")) [] nothing_held words false [] ≡ []
     → HasItsValues (codes "measure") (rows_after (inspection_built (codes "measure")).rules [] words)
-as_measure words e = record { program = inspection_has (codes "measure") words e; run = λ is. absurd cc; plain = λ is. absurd cc }
+as_measure words e = let h = inspection_has (codes "measure") words e in record {
+  run = λ is. absurd cc;
+  plain = λ is. absurd cc;
+  asm = λ is. absurd cc;
+  dis = λ is. absurd cc;
+  measure = λ is. h;
+  verify = λ is. absurd cc;
+}
 
--- the command that was met is one of the five, and has its values
+as_verification : (words : List Text) → level_fault verify_built [] nothing_held words false [] ≡ []
+    → HasItsValues (codes "verify") (rows_after verify_built.rules [] words)
+as_verification words e = let h = verify_has words e in record {
+  run = λ is. absurd cc;
+  plain = λ is. absurd cc;
+  asm = λ is. absurd cc;
+  dis = λ is. absurd cc;
+  measure = λ is. absurd cc;
+  verify = λ is. h;
+}
+
+-- the command that was met is one of the six, and has its values
 pub command_has : (stop : Option (Text × List Text)) → IsNoHelp stop → entered_fault (built chip_app) stop ≡ [] → IfCommand (entered (built chip_app) stop)
 command_has None free e = tt
 command_has (Some p) free e =
     go (bytes_eq (codes "run") p.0) refl (bytes_eq (codes "plain") p.0) refl (bytes_eq (codes "asm") p.0) refl (bytes_eq (codes "dis") p.0) refl
-    (bytes_eq (codes "measure") p.0) refl (bytes_eq (codes "help") p.0) refl
+    (bytes_eq (codes "measure") p.0) refl (bytes_eq (codes "verify") p.0) refl (bytes_eq (codes "help") p.0) refl
   where
     help_is : bytes_eq (codes "help") p.0 ≡ true → bytes_eq p.0 (codes "help") ≡ true
     help_is is = (bytes_eq-Decides p.0 (codes "help")).1 (sym ((bytes_eq-Decides (codes "help") p.0).0 is))
 
     go : (a : Bool) → bytes_eq (codes "run") p.0 ≡ a → (b : Bool) → bytes_eq (codes "plain") p.0 ≡ b
         → (c : Bool) → bytes_eq (codes "asm") p.0 ≡ c → (d : Bool) → bytes_eq (codes "dis") p.0 ≡ d
-        → (m : Bool) → bytes_eq (codes "measure") p.0 ≡ m → (h : Bool) → bytes_eq (codes "help") p.0 ≡ h
+        → (m : Bool) → bytes_eq (codes "measure") p.0 ≡ m → (k : Bool) → bytes_eq (codes "verify") p.0 ≡ k
+        → (h : Bool) → bytes_eq (codes "help") p.0 ≡ h
         → IfCommand (entered (built chip_app) (Some p))
-    go true x b y c z d u m v h w = rw x (as_run p.1 (rw x at e))
-    go false x true y c z d u m v h w = rw (x, y) (as_plain p.1 (rw (x, y) at e))
-    go false x false y true z d u m v h w = rw (x, y, z) (as_assembly p.1 (rw (x, y, z) at e))
-    go false x false y false z true u m v h w = rw (x, y, z, u) (as_dis p.1 (rw (x, y, z, u) at e))
-    go false x false y false z false u true v h w = rw (x, y, z, u, v) (as_measure p.1 (rw (x, y, z, u, v) at e))
-    go false x false y false z false u false v true w = absurd (let bad = rw (help_is w) at free in cc)
-    go false x false y false z false u false v false w = rw (x, y, z, u, v, w) tt
+    go true x b y c z d u m v k q h w = rw x (as_run p.1 (rw x at e))
+    go false x true y c z d u m v k q h w = rw (x, y) (as_plain p.1 (rw (x, y) at e))
+    go false x false y true z d u m v k q h w = rw (x, y, z) (as_assembly p.1 (rw (x, y, z) at e))
+    go false x false y false z true u m v k q h w = rw (x, y, z, u) (as_dis p.1 (rw (x, y, z, u) at e))
+    go false x false y false z false u true v k q h w = rw (x, y, z, u, v) (as_measure p.1 (rw (x, y, z, u, v) at e))
+    go false x false y false z false u false v true q h w = rw (x, y, z, u, v, q) (as_verification p.1 (rw (x, y, z, u, v, q) at e))
+    go false x false y false z false u false v false q true w = absurd (let bad = rw (help_is w) at free in cc)
+    go false x false y false z false u false v false q false w = rw (x, y, z, u, v, q, w) tt

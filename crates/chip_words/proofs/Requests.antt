@@ -1,11 +1,12 @@
 -- What follows from a request.
-use Rattle.std.proofs.Common.{◌≡◌, ◌≤◌, ◌∙◌, ap, subst, Bool, List, [], Option, Some, None, Ok, true, false, refl, sym, inl, inr, is_some, if◌then◌else◌, unwrap_or}
-use Rattle.std.specs.Prelude.{◌↔◌, codes, IsSome}
+use Rattle.std.proofs.Common.{◌≡◌, ◌≤◌, ◌∙◌, ap, subst, ℕ, Bool, List, [], Option, Some, None, Result, Ok, Err, true, false, refl, sym, inl, inr, is_some, if◌then◌else◌, unwrap_or}
+use Rattle.std.specs.Prelude.{◌↔◌, codes, IfSome, IsTrue}
+use Rattle.std.specs.Result.{result_unwrap_or}
 use Rattle.std.specs.Str.{bytes_eq}
 use Rattle.std.proofs.lemmas.Slice.Eq.{bytes_eq-Decides}
 use Rattle.clap.specs.Values.{kind_of}
 use Rattle.clap.specs.Kinds.{FailsBy, HasKind, Kinds, check_kinds, or_else}
-use Rattle.clap.specs.Walk.{Held, Names, Row, Text, finished, is_empty, nothing_held, settled, stop_after, walk, walk_from}
+use Rattle.clap.specs.Walk.{Held, Names, Row, Text, finished, is_empty, nothing_held, rows_after, settled, stop_after, walk, walk_from}
 use Rattle.clap.specs.Simple.{App, HasMatchesOf, Shape, argument_words, built, entered, is_simple, names_of, subcommand_of, subcommand_rows_of}
 use Rattle.clap.specs.Faults.{check_fault, defaults_fault, entered_fault, fault_of, is_simple_and_free, level_fault, settle_fault, walk_fault}
 use Rattle.clap.specs.declared.error.Error.{Error}
@@ -14,12 +15,14 @@ use Rattle.clap.specs.declared.parser.matches.ArgMatches.{ArgMatches}
 use Rattle.clap.proofs.OnLiterals.{clap_on_literals}
 use Rattle.clap.proofs.SimpleLemmas.{is_nil}
 use Rattle.chip_words.specs.App.{chip_app}
-use Rattle.chip_words.specs.Request.{Asked, asked_file, asked_in, execution_of, program_of, request_of, run_of, text_of, to_assemble, to_disassemble, to_measure, to_run, to_run_plain}
-use Rattle.chip_words.specs.Words.{IfUsage}
-use Rattle.chip_words.specs.declared.request.WordsError.{WordsError}
-use Rattle.chip_words.specs.declared.request.WordsError.TheVariants.{Usage, NoMemory}
-use Rattle.chip_words.specs.Commands.{HasExecution, HasProgram, IfCommand}
-use Rattle.chip_words.proofs.Commands.{command_has}
+use Rattle.chip_words.specs.Request.{Asked, WordsFault, asked_in, asked_program, device_key_of, execution_of, is_taken, program_of, report_of, request_of, run_of, run_on, terms_of, text_of, to_assemble, to_disassemble, to_measure, to_run, to_run_plain, to_verify, not_taken, verify_under}
+use Rattle.chip_words.specs.Words.{Explains, IfUsage}
+use Rattle.chip_words.specs.declared.fault.ValueFault.{ValueFault}
+use Rattle.chip_words.specs.declared.fault.WordsError.{WordsError}
+use Rattle.chip_words.specs.declared.fault.WordsError.TheVariants.{Usage, WrongValue, NoMemory}
+use Rattle.chip_words.specs.declared.request.Terms.{Terms}
+use Rattle.chip_words.specs.Commands.{HasExecution, HasProgram, HasProtectedRun, IfCommand}
+use Rattle.chip_words.proofs.Commands.{command_has, run_built, verify_built}
 use Rattle.chip_words.proofs.Walks.{IsNoHelp, both_empty, walk_keeps}
 
 -- ---- a level without a fault
@@ -51,32 +54,45 @@ level_parts s names h words has below needs e =
 
 -- ---- the command that was met
 
--- one of the five
+-- a run is taken, whatever its terms come to
+run_taken : (values : List Row) (terms : Result Terms ValueFault) → is_taken (run_on values terms) ≡ true
+run_taken values (Ok terms) = refl
+run_taken values (Err fault) = refl
+
+-- a check of a report is taken, whatever its key comes to
+verification_taken : (values : List Row) (key : Result (List ℕ) ValueFault) → is_taken (verify_under values key) ≡ true
+verification_taken values (Ok key) = refl
+verification_taken values (Err fault) = refl
+
+-- one of the six
 named : (stop : Option (Text × List Text)) → IsNoHelp stop → is_some (entered (built chip_app) stop) ≡ true
-    → is_some (asked_in (entered (built chip_app) stop)) ≡ true
-named None free some = some
+    → is_taken (asked_in (entered (built chip_app) stop)) ≡ true
+named None free some = absurd cc
 named (Some p) free some =
     go (bytes_eq (codes "run") p.0) refl (bytes_eq (codes "plain") p.0) refl (bytes_eq (codes "asm") p.0) refl (bytes_eq (codes "dis") p.0) refl
-    (bytes_eq (codes "measure") p.0) refl (bytes_eq (codes "help") p.0) refl
+    (bytes_eq (codes "measure") p.0) refl (bytes_eq (codes "verify") p.0) refl (bytes_eq (codes "help") p.0) refl
   where
     help_is : bytes_eq (codes "help") p.0 ≡ true → bytes_eq p.0 (codes "help") ≡ true
     help_is e = (bytes_eq-Decides p.0 (codes "help")).1 (sym ((bytes_eq-Decides (codes "help") p.0).0 e))
 
     go : (a : Bool) → bytes_eq (codes "run") p.0 ≡ a → (b : Bool) → bytes_eq (codes "plain") p.0 ≡ b
         → (c : Bool) → bytes_eq (codes "asm") p.0 ≡ c → (d : Bool) → bytes_eq (codes "dis") p.0 ≡ d
-        → (m : Bool) → bytes_eq (codes "measure") p.0 ≡ m → (h : Bool) → bytes_eq (codes "help") p.0 ≡ h
-        → is_some (asked_in (entered (built chip_app) (Some p))) ≡ true
-    go true x b y c z d u m v h w = rw x refl
-    go false x true y c z d u m v h w = rw (x, y) refl
-    go false x false y true z d u m v h w = rw (x, y, z) refl
-    go false x false y false z true u m v h w = rw (x, y, z, u) refl
-    go false x false y false z false u true v h w = rw (x, y, z, u, v) refl
-    go false x false y false z false u false v true w = absurd (let bad = rw (help_is w) at free in cc)
-    go false x false y false z false u false v false w = absurd (let bad = rw (x, y, z, u, v, w) at some in cc)
+        → (m : Bool) → bytes_eq (codes "measure") p.0 ≡ m → (k : Bool) → bytes_eq (codes "verify") p.0 ≡ k
+        → (h : Bool) → bytes_eq (codes "help") p.0 ≡ h
+        → is_taken (asked_in (entered (built chip_app) (Some p))) ≡ true
+    go true x b y c z d u m v k q h w = rw x (run_taken (rows_after run_built.rules [] p.1) (terms_of (rows_after run_built.rules [] p.1)))
+    go false x true y c z d u m v k q h w = rw (x, y) refl
+    go false x false y true z d u m v k q h w = rw (x, y, z) refl
+    go false x false y false z true u m v k q h w = rw (x, y, z, u) refl
+    go false x false y false z false u true v k q h w = rw (x, y, z, u, v) refl
+    go false x false y false z false u false v true q h w =
+        rw (x, y, z, u, v, q) (verification_taken (rows_after verify_built.rules [] p.1) (device_key_of (rows_after verify_built.rules [] p.1)))
+    go false x false y false z false u false v false q true w = absurd (let bad = rw (help_is w) at free in cc)
+    go false x false y false z false u false v false q false w = absurd (let bad = rw (x, y, z, u, v, q, w) at some in cc)
 
 -- words without a fault ask for something, and their command has its values
 asks : (words : List Text) → fault_of chip_app words ≡ []
-    → (is_some (asked_in (subcommand_of chip_app words)) ≡ true) × IfCommand (subcommand_of chip_app words)
+    → (is_taken (asked_in (subcommand_of chip_app words)) ≡ true) × IfCommand (subcommand_of chip_app words)
 asks words e =
     let a = built chip_app in
     let taken = argument_words chip_app words in
@@ -95,38 +111,38 @@ chip_is_simple : is_simple chip_app ≡ true
 unfolding clap_on_literals
 chip_is_simple = refl
 
-none_chosen : (kinds : Kinds) (request : Option Asked) → (kinds ≡ [] → ⊥) → (if is_empty kinds then request else None) ≡ None
+none_chosen : (kinds : Kinds) (request : Result Asked WordsFault) → (kinds ≡ [] → ⊥) → (if is_empty kinds then request else Err not_taken) ≡ Err not_taken
 none_chosen kinds request some = go (is_empty kinds) refl
   where
-    go : (b : Bool) → is_empty kinds ≡ b → (if is_empty kinds then request else None) ≡ None
+    go : (b : Bool) → is_empty kinds ≡ b → (if is_empty kinds then request else Err not_taken) ≡ Err not_taken
     go true is = absurd (some (is_nil kinds is))
     go false is = rw is refl
 
 request_of-taken : (words : List Text) → fault_of chip_app words ≡ [] → request_of words ≡ asked_in (subcommand_of chip_app words)
-request_of-taken words e = ap (λ (kinds : Kinds). if is_empty kinds then asked_in (subcommand_of chip_app words) else None) e
+request_of-taken words e = ap (λ (kinds : Kinds). if is_empty kinds then asked_in (subcommand_of chip_app words) else Err not_taken) e
 
--- words ask for something just where they have no fault
-pub request_is_there : (words : List Text) → IsSome (request_of words) ↔ (fault_of chip_app words ≡ [])
-request_is_there words = (go (is_empty (fault_of chip_app words)) refl, λ e. ap is_some (request_of-taken words e) ∙ (asks words e).0)
+-- words are taken just where they have no fault
+pub request_is_taken : (words : List Text) → IsTrue (is_taken (request_of words)) ↔ (fault_of chip_app words ≡ [])
+request_is_taken words = (go (is_empty (fault_of chip_app words)) refl, λ e. ap is_taken (request_of-taken words e) ∙ (asks words e).0)
   where
-    go : (b : Bool) → is_empty (fault_of chip_app words) ≡ b → IsSome (request_of words) → fault_of chip_app words ≡ []
+    go : (b : Bool) → is_empty (fault_of chip_app words) ≡ b → IsTrue (is_taken (request_of words)) → fault_of chip_app words ≡ []
     go true is some = is_nil (fault_of chip_app words) is
     go false is some = absurd (let bad : false ≡ true = rw is at some in cc)
 
 -- a parse of the words has found what they ask for
 pub parse_asks : (a : App) (words : List Text) (m : ArgMatches) → a ≡ chip_app → HasMatchesOf a words m
     → (is_simple_and_free a ≡ true → FailsBy {T = ArgMatches} (fault_of a words) (Ok m))
-    → (request_of words ≡ asked_in (subcommand_rows_of m)) × (is_some (asked_in (subcommand_rows_of m)) ≡ true) × IfCommand (subcommand_rows_of m)
+    → (request_of words ≡ asked_in (subcommand_rows_of m)) × (is_taken (asked_in (subcommand_rows_of m)) ≡ true) × IfCommand (subcommand_rows_of m)
 parse_asks a words m is matches fails =
     let none : fault_of chip_app words ≡ [] = subst (λ (x : App). is_simple_and_free x ≡ true → fault_of x words ≡ []) is fails chip_is_free in
     let rows : subcommand_rows_of m ≡ subcommand_of chip_app words = (subst (λ (x : App). HasMatchesOf x words m) is matches chip_is_simple).1 in
     let found = asks words none in
-    (request_of-taken words none ∙ ap asked_in (sym rows), ap (λ o. is_some (asked_in o)) rows ∙ found.0, subst IfCommand (sym rows) found.1)
+    (request_of-taken words none ∙ ap asked_in (sym rows), ap (λ o. is_taken (asked_in o)) rows ∙ found.0, subst IfCommand (sym rows) found.1)
 
--- words that a parse refuses, and not because it is out of memory, ask for nothing
+-- words that a parse refuses, and not because it is out of memory, are not taken
 pub refusal_asks : (a : App) (words : List Text) (e : Error) → a ≡ chip_app
     → (is_simple_and_free a ≡ true → HasKind (fault_of a words) e) → (kind_of e ≡ OutOfMemory → ⊥)
-    → request_of words ≡ None
+    → request_of words ≡ Err not_taken
 refusal_asks a words e is fails kept =
     let kind : HasKind (fault_of chip_app words) e = subst (λ (x : App). is_simple_and_free x ≡ true → HasKind (fault_of x words) e) is fails chip_is_free in
     none_chosen (fault_of chip_app words) (asked_in (subcommand_of chip_app words)) (λ none.
@@ -135,44 +151,65 @@ refusal_asks a words e is fails kept =
 -- ---- the numbers of a request
 
 -- what holds of each command's values holds of what it asks for
-asked_keeps : (P : Asked → Type 0) (o : Option (Text × List Row)) (r : Asked)
-    → ((values : List Row) → HasExecution values → P (to_run (run_of values)) × P (to_run_plain (execution_of values)))
-    → ((values : List Row) → HasProgram values
-    → P (to_assemble (text_of values)) × P (to_disassemble (program_of values)) × P (to_measure (program_of values)))
-    → IfCommand o → asked_in o ≡ Some r → P r
-asked_keeps P None r executes writes has e = absurd cc
-asked_keeps P (Some p) r executes writes has e =
+record Keeps (P : Asked → Type 0) : Type 0 where
+  run : (values : List Row) (terms : Terms) → HasProtectedRun values → P (to_run (run_of values terms))
+  plain : (values : List Row) → HasExecution values → P (to_run_plain (execution_of values))
+  asm : (values : List Row) → HasProgram values → P (to_assemble (text_of values))
+  dis : (values : List Row) → HasProgram values → P (to_disassemble (program_of values))
+  measure : (values : List Row) → HasProgram values → P (to_measure (program_of values))
+  verify : (values : List Row) (key : List ℕ) → P (to_verify (report_of values key))
+
+asked_keeps : (P : Asked → Type 0) (o : Option (Text × List Row)) (r : Asked) → Keeps P → IfCommand o → asked_in o ≡ Ok r → P r
+asked_keeps P None r keeps has e = absurd cc
+asked_keeps P (Some p) r keeps has e =
     go (bytes_eq p.0 (codes "run")) refl (bytes_eq p.0 (codes "plain")) refl (bytes_eq p.0 (codes "asm")) refl
-    (bytes_eq p.0 (codes "dis")) refl (bytes_eq p.0 (codes "measure")) refl
+    (bytes_eq p.0 (codes "dis")) refl (bytes_eq p.0 (codes "measure")) refl (bytes_eq p.0 (codes "verify")) refl
   where
-    at : (x : Asked) → P x → Some x ≡ Some r → P r
-    at x h is = subst (λ (o : Option Asked). P (unwrap_or o x)) is h
+    at : (x : Asked) → P x → ◌≡◌ {A = Result Asked WordsFault} (Ok x) (Ok r) → P r
+    at x h is = subst (λ (o : Result Asked WordsFault). P (result_unwrap_or o x)) is h
+
+    on_terms : (terms : Result Terms ValueFault) → ((t : Terms) → P (to_run (run_of p.1 t))) → run_on p.1 terms ≡ Ok r → P r
+    on_terms (Ok terms) holds is = at (to_run (run_of p.1 terms)) (holds terms) is
+    on_terms (Err fault) holds is = absurd cc
+
+    under_key : (key : Result (List ℕ) ValueFault) → verify_under p.1 key ≡ Ok r → P r
+    under_key (Ok key) is = at (to_verify (report_of p.1 key)) (keeps.verify p.1 key) is
+    under_key (Err fault) is = absurd cc
 
     go : (a : Bool) → bytes_eq p.0 (codes "run") ≡ a → (b : Bool) → bytes_eq p.0 (codes "plain") ≡ b
         → (c : Bool) → bytes_eq p.0 (codes "asm") ≡ c → (d : Bool) → bytes_eq p.0 (codes "dis") ≡ d
-        → (m : Bool) → bytes_eq p.0 (codes "measure") ≡ m → P r
-    go true x b y c z d u m v = at (to_run (run_of p.1)) (executes p.1 (has.run x).execution).0 (rw x at e)
-    go false x true y c z d u m v = at (to_run_plain (execution_of p.1)) (executes p.1 (has.plain y)).1 (rw (x, y) at e)
-    go false x false y true z d u m v = at (to_assemble (text_of p.1)) (writes p.1 has.program).0 (rw (x, y, z) at e)
-    go false x false y false z true u m v = at (to_disassemble (program_of p.1)) (writes p.1 has.program).1 (rw (x, y, z, u) at e)
-    go false x false y false z false u true v = at (to_measure (program_of p.1)) (writes p.1 has.program).2 (rw (x, y, z, u, v) at e)
-    go false x false y false z false u false v = absurd (let bad : None ≡ Some r = rw (x, y, z, u, v) at e in cc)
+        → (m : Bool) → bytes_eq p.0 (codes "measure") ≡ m → (k : Bool) → bytes_eq p.0 (codes "verify") ≡ k → P r
+    go true x b y c z d u m v k q = on_terms (terms_of p.1) (λ terms. keeps.run p.1 terms (has.run x)) (rw x at e)
+    go false x true y c z d u m v k q = at (to_run_plain (execution_of p.1)) (keeps.plain p.1 (has.plain y)) (rw (x, y) at e)
+    go false x false y true z d u m v k q = at (to_assemble (text_of p.1)) (keeps.asm p.1 (has.asm z)) (rw (x, y, z) at e)
+    go false x false y false z true u m v k q = at (to_disassemble (program_of p.1)) (keeps.dis p.1 (has.dis u)) (rw (x, y, z, u) at e)
+    go false x false y false z false u true v k q = at (to_measure (program_of p.1)) (keeps.measure p.1 (has.measure v)) (rw (x, y, z, u, v) at e)
+    go false x false y false z false u false v true q = under_key (device_key_of p.1) (rw (x, y, z, u, v, q) at e)
+    go false x false y false z false u false v false q =
+        absurd (let bad : ◌≡◌ {A = Result Asked WordsFault} (Err not_taken) (Ok r) = rw (x, y, z, u, v, q) at e in cc)
 
-request_keeps : (P : Asked → Type 0) (words : List Text) (r : Asked)
-    → ((values : List Row) → HasExecution values → P (to_run (run_of values)) × P (to_run_plain (execution_of values)))
-    → ((values : List Row) → HasProgram values
-    → P (to_assemble (text_of values)) × P (to_disassemble (program_of values)) × P (to_measure (program_of values)))
-    → request_of words ≡ Some r → P r
-request_keeps P words r executes writes e =
-    let none = (request_is_there words).0 (ap is_some e) in
-    asked_keeps P (subcommand_of chip_app words) r executes writes (asks words none).1 (sym (request_of-taken words none) ∙ e)
+request_keeps : (P : Asked → Type 0) (words : List Text) (r : Asked) → Keeps P → request_of words ≡ Ok r → P r
+request_keeps P words r keeps e =
+    let none = (request_is_taken words).0 (ap is_taken e) in
+    asked_keeps P (subcommand_of chip_app words) r keeps (asks words none).1 (sym (request_of-taken words none) ∙ e)
 
-pub request_of-levels : (words : List Text) (r : Asked) → request_of words ≡ Some r → (1 ≤ (asked_file r).levels) × ((asked_file r).levels ≤ 6)
-request_of-levels words r e = request_keeps (λ x. (1 ≤ (asked_file x).levels) × ((asked_file x).levels ≤ 6)) words r
-    (λ values has. (has.program.bounds, has.program.bounds)) (λ values has. (has.bounds, has.bounds, has.bounds)) e
+-- a request that names a program names levels from 1 to 6
+abbrev pub HasLevels : Asked → Type 0
+HasLevels asked = IfSome (asked_program asked) (λ file. (1 ≤ file.levels) × (file.levels ≤ 6))
+
+pub request_of-levels : (words : List Text) (r : Asked) → request_of words ≡ Ok r → HasLevels r
+request_of-levels words r e = request_keeps HasLevels words r (record {
+  run = λ values terms has. has.execution.program.bounds;
+  plain = λ values has. has.program.bounds;
+  asm = λ values has. has.bounds;
+  dis = λ values has. has.bounds;
+  measure = λ values has. has.bounds;
+  verify = λ values key. tt;
+}) e
 
 -- ---- errors
 
-pub IfUsage-weaker : (e : WordsError) (P Q : Type 0) → IfUsage e P → (P → Q) → IfUsage e Q
-IfUsage-weaker (Usage text) P Q h weaker = weaker h
-IfUsage-weaker NoMemory P Q h weaker = tt
+pub usage_explains : (e : WordsError) (P : Type 0) (request : Result Asked WordsFault) → IfUsage e P → (P → request ≡ Err not_taken) → Explains e request
+usage_explains (Usage text) P request h untakes = untakes h
+usage_explains (WrongValue fault) P request h untakes = absurd h
+usage_explains NoMemory P request h untakes = tt

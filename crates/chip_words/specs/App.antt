@@ -35,6 +35,34 @@ steps_rule = record (new_rule (codes "steps")) {
   defaults = codes "10000000" ∷ [];
 }
 
+-- `--script F`
+abbrev pub script_rule : Rule
+script_rule = record (new_rule (codes "script")) { long = Some (codes "script"); value_names = 1 }
+
+-- `--tags T`, and `hmac` where it is left out
+abbrev pub tags_rule : Rule
+tags_rule = record (new_rule (codes "tags")) {
+  long = Some (codes "tags");
+  value_names = 1;
+  defaults = codes "hmac" ∷ [];
+}
+
+-- `--key HEX`, and the bytes 00 to 1f where it is left out
+abbrev pub key_rule : Rule
+key_rule = record (new_rule (codes "key")) {
+  long = Some (codes "key");
+  value_names = 1;
+  defaults = codes "000102030405060708090a0b0c0d0e0f101112131415161718191a1b1c1d1e1f" ∷ [];
+}
+
+-- `--nonce HEX`, and sixteen zero bytes where it is left out
+abbrev pub nonce_rule : Rule
+nonce_rule = record (new_rule (codes "nonce")) {
+  long = Some (codes "nonce");
+  value_names = 1;
+  defaults = codes "00000000000000000000000000000000" ∷ [];
+}
+
 -- `--page-limit N`, any number of 64 bits, and the greatest where it is left out
 abbrev pub page_limit_rule : Rule
 page_limit_rule = record (new_rule (codes "page-limit")) {
@@ -58,7 +86,12 @@ execution_rules = inspection_rules ++ input_rule ∷ steps_rule ∷ []
 
 -- what `run` takes
 abbrev pub protected_run_rules : List Rule
-protected_run_rules = execution_rules ++ page_limit_rule ∷ []
+protected_run_rules =
+    execution_rules ++ script_rule ∷ key_rule ∷ nonce_rule ∷ tags_rule ∷ page_limit_rule ∷ []
+
+-- what `verify` takes
+abbrev pub verification_rules : List Rule
+verification_rules = file_rule ∷ key_rule ∷ []
 
 -- a command with these arguments
 abbrev pub command : Text → List Rule → Shape
@@ -77,5 +110,6 @@ chip_app = record {
       ∷ command (codes "asm") assembly_rules
       ∷ command (codes "dis") inspection_rules
       ∷ command (codes "measure") inspection_rules
+      ∷ command (codes "verify") verification_rules
       ∷ [];
 }

@@ -25,13 +25,24 @@ pub record HasExecution (values : List Row) : Type 0 where
 
 pub record HasProtectedRun (values : List Row) : Type 0 where
   pub execution : HasExecution values
+  pub key : HasValue (codes "key") values
+  pub nonce : HasValue (codes "nonce") values
+  pub tags : HasValue (codes "tags") values
   pub page_limit : HasNumber (codes "page-limit") values
+
+-- which report, and under which key
+pub record HasReport (values : List Row) : Type 0 where
+  pub file : HasValue (codes "file") values
+  pub key : HasValue (codes "key") values
 
 -- a command has the values that it can't do without
 pub record HasItsValues (name : Text) (values : List Row) : Type 0 where
-  pub program : HasProgram values
   pub run : bytes_eq name (codes "run") ≡ true → HasProtectedRun values
   pub plain : bytes_eq name (codes "plain") ≡ true → HasExecution values
+  pub asm : bytes_eq name (codes "asm") ≡ true → HasProgram values
+  pub dis : bytes_eq name (codes "dis") ≡ true → HasProgram values
+  pub measure : bytes_eq name (codes "measure") ≡ true → HasProgram values
+  pub verify : bytes_eq name (codes "verify") ≡ true → HasReport values
 
 abbrev pub IfCommand : Option (Text × List Row) → Type 0
 IfCommand None = ⊤

@@ -1,4 +1,5 @@
 pub mod App
+pub mod Fault
 pub mod Request
 pub mod Commands
 pub mod Words

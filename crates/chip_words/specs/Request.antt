@@ -1,14 +1,20 @@
--- What a list of words asks for: what `clap`'s definition of the command line gives for them.
-use Rattle.std.specs.Prelude.{ℕ, Bool, List, [], ◌∷◌, ◌-◌, ◌^◌, replicate, Option, Some, None, option_and_then, unwrap_or, codes, if◌then◌else◌}
+-- What a list of words asks for: what `clap`'s definition of the command line gives for them, and then the checks of
+-- their values.
+use Rattle.std.specs.Prelude.{ℕ, Bool, List, [], Option, Some, None, ok_or, unwrap_or, Result, Ok, Err, true, false, codes, if◌then◌else◌}
+use Rattle.std.specs.Result.{result_ok}
 use Rattle.std.specs.Str.{bytes_eq}
 use Rattle.std.specs.Str.Parse.{digits_value, without_leading_plus}
 use Rattle.clap.specs.Walk.{Row, Text, first_of, is_empty, one_of}
 use Rattle.clap.specs.Simple.{subcommand_of}
 use Rattle.clap.specs.Faults.{fault_of}
+use Rattle.hex.specs.Hex.{decode_sized}
 use Rattle.chip_words.specs.App.{chip_app}
+use Rattle.chip_words.specs.declared.fault.ValueFault.{ValueFault}
+use Rattle.chip_words.specs.declared.fault.ValueFault.TheVariants.{Tags as wrong_tags, Key as wrong_key, Nonce as wrong_nonce}
 use Rattle.chip_words.specs.declared.request.ProgramForm.{ProgramForm}
 use Rattle.chip_words.specs.declared.request.ProgramForm.TheVariants.{ElfFile, FlatFile, AssemblyText}
-use Rattle.chip_words.specs.declared.request.Tags.TheVariants.{Hmac}
+use Rattle.chip_words.specs.declared.request.Tags.{Tags}
+use Rattle.chip_words.specs.declared.request.Tags.TheVariants.{Hmac, Xor}
 use Rattle.chip_words.specs.declared.request.Terms.{Terms}
 
 -- a program's file: its name, its form, and the levels of the tree whose memory the program is for
@@ -23,10 +29,16 @@ pub record ExecutionAsked : Type 0 where
   pub input : Option Text
   pub steps : ℕ
 
--- what is to be run on protected memory, and how that memory is protected
+-- what is to be run on protected memory, the script of the adversary outside, and how that memory is protected
 pub record RunAsked : Type 0 where
   pub execution : ExecutionAsked
+  pub script : Option Text
   pub terms : Terms
+
+-- a report's file, and the key of the device that it is checked for
+pub record ReportAsked : Type 0 where
+  pub name : Text
+  pub device_key : List ℕ
 
 -- what is to be done, and with which file
 pub data Asked : Type 0 where
@@ -35,27 +47,21 @@ pub data Asked : Type 0 where
   to_assemble : FileAsked → Asked
   to_disassemble : FileAsked → Asked
   to_measure : FileAsked → Asked
+  to_verify : ReportAsked → Asked
 
--- the file of a request's program
-abbrev pub asked_file : Asked → FileAsked
-asked_file (to_run run) = run.execution.file
-asked_file (to_run_plain execution) = execution.file
-asked_file (to_assemble file) = file
-asked_file (to_disassemble file) = file
-asked_file (to_measure file) = file
+-- why words ask for nothing: `clap` doesn't take them; or it does, and a value of theirs doesn't have its form
+pub data WordsFault : Type 0 where
+  not_taken : WordsFault
+  wrong_value : ValueFault → WordsFault
 
--- ---- the terms of a run
-
--- the bytes 00 to 1f
-abbrev pub default_key : List ℕ
-default_key =
-    0 ∷ 1 ∷ 2 ∷ 3 ∷ 4 ∷ 5 ∷ 6 ∷ 7 ∷ 8 ∷ 9 ∷ 10 ∷ 11 ∷ 12 ∷ 13 ∷ 14 ∷ 15 ∷
-    16 ∷ 17 ∷ 18 ∷ 19 ∷ 20 ∷ 21 ∷ 22 ∷ 23 ∷ 24 ∷ 25 ∷ 26 ∷ 27 ∷ 28 ∷ 29 ∷ 30 ∷ 31 ∷ []
-
--- the terms that hold where no word names another
-abbrev pub default_terms : Terms
-default_terms =
-    record { device_key = default_key; tags = Hmac; page_limit = 2 ^ 64 - 1; nonce = replicate 16 0 }
+-- the file of a request's program, where it has one
+abbrev pub asked_program : Asked → Option FileAsked
+asked_program (to_run run) = Some run.execution.file
+asked_program (to_run_plain execution) = Some execution.file
+asked_program (to_assemble file) = Some file
+asked_program (to_disassemble file) = Some file
+asked_program (to_measure file) = Some file
+asked_program (to_verify report) = None
 
 -- ---- the values of a command
 
@@ -102,29 +108,83 @@ execution_of values =
 abbrev pub page_limit_of : List Row → ℕ
 page_limit_of values = numeral_value (value_of (codes "page-limit") values)
 
--- the page limit is the value's, and the other terms are those by default
-abbrev pub terms_of : List Row → Terms
-terms_of values = record default_terms { page_limit = page_limit_of values }
+abbrev pub script_name_of : List Row → Option Text
+script_name_of values = first_of (codes "script") values
 
-abbrev pub run_of : List Row → RunAsked
-run_of values = record { execution = execution_of values; terms = terms_of values }
+-- ---- the values that `clap` takes as any text, each tested after the ones before it
+
+-- the kind of tags of this name
+abbrev pub tags_named : Text → Option Tags
+tags_named name = if bytes_eq name (codes "hmac") then Some Hmac
+    else (if bytes_eq name (codes "xor") then Some Xor else None)
+
+abbrev pub tags_of : List Row → Result Tags ValueFault
+tags_of values = ok_or (tags_named (value_of (codes "tags") values)) wrong_tags
+
+-- so many bytes, of two digits each, in either case
+abbrev pub bytes_in_hex : ℕ → Text → Option (List ℕ)
+bytes_in_hex count digits = result_ok (decode_sized digits count)
+
+abbrev pub device_key_of : List Row → Result (List ℕ) ValueFault
+device_key_of values = ok_or (bytes_in_hex 32 (value_of (codes "key") values)) wrong_key
+
+abbrev pub nonce_of : List Row → Result (List ℕ) ValueFault
+nonce_of values = ok_or (bytes_in_hex 16 (value_of (codes "nonce") values)) wrong_nonce
+
+-- one value after another, as long as each has its form
+infixl 10 ◌>>=◌
+abbrev pub ◌>>=◌ : {X Y : Type 0} → Result X ValueFault → (X → Result Y ValueFault) → Result Y ValueFault
+Ok x >>= next = next x
+Err fault >>= next = Err fault
+
+-- the terms of a run, or the first of tags, key and nonce that doesn't have its form
+abbrev pub terms_of : List Row → Result Terms ValueFault
+terms_of values = do
+  tags ← tags_of values
+  key ← device_key_of values
+  nonce ← nonce_of values
+  Ok (record { device_key = key; tags = tags; page_limit = page_limit_of values; nonce = nonce })
 
 -- ---- the request
 
+abbrev pub run_of : List Row → Terms → RunAsked
+run_of values terms = record { execution = execution_of values; script = script_name_of values; terms = terms }
+
+-- a run on these terms, where their values have their form
+abbrev pub run_on : List Row → Result Terms ValueFault → Result Asked WordsFault
+run_on values (Ok terms) = Ok (to_run (run_of values terms))
+run_on values (Err fault) = Err (wrong_value fault)
+
+abbrev pub report_of : List Row → List ℕ → ReportAsked
+report_of values key = record { name = value_of (codes "file") values; device_key = key }
+
+-- a report that is checked under this key, where it has its form
+abbrev pub verify_under : List Row → Result (List ℕ) ValueFault → Result Asked WordsFault
+verify_under values (Ok key) = Ok (to_verify (report_of values key))
+verify_under values (Err fault) = Err (wrong_value fault)
+
 -- what the command of this name asks for, with these values
-abbrev pub asked_by : Text → List Row → Option Asked
-asked_by name values = if bytes_eq name (codes "run") then Some (to_run (run_of values))
-    else (if bytes_eq name (codes "plain") then Some (to_run_plain (execution_of values))
-    else (if bytes_eq name (codes "asm") then Some (to_assemble (text_of values))
-    else (if bytes_eq name (codes "dis") then Some (to_disassemble (program_of values))
-    else (if bytes_eq name (codes "measure") then Some (to_measure (program_of values)) else None))))
+abbrev pub asked_by : Text → List Row → Result Asked WordsFault
+asked_by name values = if bytes_eq name (codes "run") then run_on values (terms_of values)
+    else (if bytes_eq name (codes "plain") then Ok (to_run_plain (execution_of values))
+    else (if bytes_eq name (codes "asm") then Ok (to_assemble (text_of values))
+    else (if bytes_eq name (codes "dis") then Ok (to_disassemble (program_of values))
+    else (if bytes_eq name (codes "measure") then Ok (to_measure (program_of values))
+    else (if bytes_eq name (codes "verify") then verify_under values (device_key_of values) else Err not_taken)))))
 
 -- what a command asks for, where there is one
-abbrev pub asked_in : Option (Text × List Row) → Option Asked
-asked_in command = option_and_then (λ c. asked_by c.0 c.1) command
+abbrev pub asked_in : Option (Text × List Row) → Result Asked WordsFault
+asked_in None = Err not_taken
+asked_in (Some command) = asked_by command.0 command.1
 
--- The words ask for something where `clap` has no fault to find in them: then their command says what, and its values
--- say of which file and how.
-abbrev pub request_of : List Text → Option Asked
+-- The words ask for something where `clap` has no fault to find in them: then their command says what, and its values,
+-- which have to have their form, say of which file and how.
+abbrev pub request_of : List Text → Result Asked WordsFault
 request_of words =
-    if is_empty (fault_of chip_app words) then asked_in (subcommand_of chip_app words) else None
+    if is_empty (fault_of chip_app words) then asked_in (subcommand_of chip_app words) else Err not_taken
+
+-- `clap` takes the words
+abbrev pub is_taken : Result Asked WordsFault → Bool
+is_taken (Ok asked) = true
+is_taken (Err (wrong_value fault)) = true
+is_taken (Err not_taken) = false

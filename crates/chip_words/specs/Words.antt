@@ -1,15 +1,17 @@
 -- What the library's values say: requests and errors as the clauses see them.
-use Rattle.std.specs.Prelude.{List, map, option_map, ⊤}
+use Rattle.std.specs.Prelude.{◌≡◌, List, map, option_map, Result, Ok, Err, ⊤}
 use Rattle.std.specs.Borrow.{Bor}
 use Rattle.clap.specs.Walk.{Text}
-use Rattle.chip_words.specs.Request.{Asked, ExecutionAsked, FileAsked, RunAsked, to_assemble, to_disassemble, to_measure, to_run, to_run_plain}
+use Rattle.chip_words.specs.Request.{Asked, ExecutionAsked, FileAsked, ReportAsked, RunAsked, WordsFault, to_assemble, to_disassemble, to_measure, to_run, to_run_plain, to_verify, wrong_value, not_taken}
+use Rattle.chip_words.specs.declared.fault.ValueFault.{ValueFault}
+use Rattle.chip_words.specs.declared.fault.WordsError.{WordsError}
+use Rattle.chip_words.specs.declared.fault.WordsError.TheVariants.{Usage, WrongValue, NoMemory}
 use Rattle.chip_words.specs.declared.request.Execution.{Execution}
 use Rattle.chip_words.specs.declared.request.ProgramFile.{ProgramFile}
 use Rattle.chip_words.specs.declared.request.ProtectedRun.{ProtectedRun}
+use Rattle.chip_words.specs.declared.request.ReportFile.{ReportFile}
 use Rattle.chip_words.specs.declared.request.Request.{Request}
-use Rattle.chip_words.specs.declared.request.Request.TheVariants.{Run, Plain, Asm, Dis, Measure}
-use Rattle.chip_words.specs.declared.request.WordsError.{WordsError}
-use Rattle.chip_words.specs.declared.request.WordsError.TheVariants.{Usage, NoMemory}
+use Rattle.chip_words.specs.declared.request.Request.TheVariants.{Run, Plain, Asm, Dis, Measure, Verify}
 
 -- what the words point to
 abbrev pub texts : List (Bor Text) → List Text
@@ -26,7 +28,14 @@ execution_asked execution = record {
 }
 
 abbrev pub run_asked : ProtectedRun → RunAsked
-run_asked run = record { execution = execution_asked run.execution; terms = run.terms }
+run_asked run = record {
+  execution = execution_asked run.execution;
+  script = option_map (λ text. text.now) run.script;
+  terms = run.terms;
+}
+
+abbrev pub report_asked : ReportFile → ReportAsked
+report_asked report = record { name = report.name.now; device_key = report.device_key }
 
 -- what the request asks for
 abbrev pub asked : Request → Asked
@@ -35,8 +44,21 @@ asked (Plain execution) = to_run_plain (execution_asked execution)
 asked (Asm file) = to_assemble (file_asked file)
 asked (Dis file) = to_disassemble (file_asked file)
 asked (Measure file) = to_measure (file_asked file)
+asked (Verify report) = to_verify (report_asked report)
 
--- where the error is of the words, and not of memory
+-- what the values of a command come to
+abbrev pub answer_asked : Result Request ValueFault → Result Asked WordsFault
+answer_asked (Ok request) = Ok (asked request)
+answer_asked (Err fault) = Err (wrong_value fault)
+
+-- the error says why the words ask for nothing, unless there was no memory
+abbrev pub Explains : WordsError → Result Asked WordsFault → Type 0
+Explains (Usage text) request = request ≡ Err not_taken
+Explains (WrongValue fault) request = request ≡ Err (wrong_value fault)
+Explains NoMemory request = ⊤
+
+-- the error is of words that `clap` doesn't take, and then this holds; or there was no memory
 abbrev pub IfUsage : WordsError → Type 0 → Type 0
 IfUsage (Usage text) P = P
+IfUsage (WrongValue fault) P = ⊥
 IfUsage NoMemory P = ⊤

@@ -3,8 +3,8 @@ ghost use Rattle.std.specs.Prelude.{◌≡◌, [], IfOk, false};
 ghost use Rattle.clap.specs.Walk.{rule_of};
 ghost use Rattle.clap.specs.Simple.{app_of, shape_of};
 ghost use Rattle.clap.specs.declared.builder.command.Command.TheViews.{out-Command as fields_of};
-ghost use Rattle.chip_words.specs.App.{assembly_rules, chip_app, command, execution_rules, inspection_rules, protected_run_rules};
-ghost use Rattle.chip_words.specs.App.{file_rule, flat_rule, input_rule, levels_rule, page_limit_rule, steps_rule};
+ghost use Rattle.chip_words.specs.App.{assembly_rules, chip_app, command, execution_rules, inspection_rules, protected_run_rules, verification_rules};
+ghost use Rattle.chip_words.specs.App.{file_rule, flat_rule, input_rule, key_rule, levels_rule, nonce_rule, page_limit_rule, script_rule, steps_rule, tags_rule};
 
 use clap::{Arg, ArgAction, Command, value_parser};
 use std::alloc::{AllocError, Global};
@@ -17,6 +17,7 @@ pub(crate) fn app<'a>(alloc: Global) -> Result<Command<'a>, AllocError>
     let asm = assembly(alloc, "asm", "Makes the ELF file of an assembly text")?;
     let dis = inspection(alloc, "dis", "Lists the instructions of a program")?;
     let measure = inspection(alloc, "measure", "Tells the measurement of a program")?;
+    let verify = verification(alloc, "verify", "Checks a report and tells what it says")?;
     let app = Command::new(alloc, "chip")
         .subcommand_required(true)
         .arg_required_else_help(true)
@@ -24,7 +25,8 @@ pub(crate) fn app<'a>(alloc: Global) -> Result<Command<'a>, AllocError>
         .subcommand(plain)?
         .subcommand(asm)?
         .subcommand(dis)?
-        .subcommand(measure)?;
+        .subcommand(measure)?
+        .subcommand(verify)?;
     Ok(app)
 }
 
@@ -37,7 +39,12 @@ fn protected_run<'a>(
     ensures shape { IfOk result (λ c. shape_of c ≡ command name.entry.now protected_run_rules) }
     ensures local { IfOk result (λ c. (fields_of c).has_globals ≡ false) }
 {
-    let command = execution(alloc, name, about)?.arg(page_limit(alloc))?;
+    let command = execution(alloc, name, about)?
+        .arg(script(alloc))?
+        .arg(key(alloc))?
+        .arg(nonce(alloc))?
+        .arg(tags(alloc))?
+        .arg(page_limit(alloc))?;
     Ok(command)
 }
 
@@ -74,6 +81,18 @@ fn inspection<'a>(alloc: Global, name: &'a str, about: &'a str) -> Result<Comman
         .arg(file(alloc, "The program"))?
         .arg(flat(alloc))?
         .arg(levels(alloc))?;
+    Ok(command)
+}
+
+// A command that checks a report.
+fn verification<'a>(alloc: Global, name: &'a str, about: &'a str) -> Result<Command<'a>, AllocError>
+    ensures shape { IfOk result (λ c. shape_of c ≡ command name.entry.now verification_rules) }
+    ensures local { IfOk result (λ c. (fields_of c).has_globals ≡ false) }
+{
+    let command = Command::new(alloc, name)
+        .about(about)
+        .arg(file(alloc, "The report"))?
+        .arg(key(alloc))?;
     Ok(command)
 }
 
@@ -129,6 +148,49 @@ fn steps<'a>(alloc: Global) -> Arg<'a>
         .value_parser(value_parser!(u64))
         .default_value("10000000")
         .help("How many instructions may be retired")
+}
+
+fn script<'a>(alloc: Global) -> Arg<'a>
+    ensures rule { rule_of result ≡ script_rule }
+    ensures local { result.global ≡ false }
+{
+    Arg::new(alloc, "script")
+        .long("script")
+        .value_name("F")
+        .help("What an adversary does to the memory outside the chip, nothing by default")
+}
+
+fn key<'a>(alloc: Global) -> Arg<'a>
+    ensures rule { rule_of result ≡ key_rule }
+    ensures local { result.global ≡ false }
+{
+    Arg::new(alloc, "key")
+        .long("key")
+        .value_name("HEX")
+        .default_value("000102030405060708090a0b0c0d0e0f101112131415161718191a1b1c1d1e1f")
+        .help("The key of the device, of 64 digits")
+}
+
+fn nonce<'a>(alloc: Global) -> Arg<'a>
+    ensures rule { rule_of result ≡ nonce_rule }
+    ensures local { result.global ≡ false }
+{
+    Arg::new(alloc, "nonce")
+        .long("nonce")
+        .value_name("HEX")
+        .default_value("00000000000000000000000000000000")
+        .help("What the report is to answer, of 32 digits")
+}
+
+fn tags<'a>(alloc: Global) -> Arg<'a>
+    ensures rule { rule_of result ≡ tags_rule }
+    ensures local { result.global ≡ false }
+{
+    Arg::new(alloc, "tags")
+        .long("tags")
+        .value_name("T")
+        .default_value("hmac")
+        .help("How memory is tagged: hmac, or xor, which can be forged and is for teaching")
 }
 
 fn page_limit<'a>(alloc: Global) -> Arg<'a>

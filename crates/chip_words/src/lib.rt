@@ -1,15 +1,16 @@
 //! The words of the command line: what they ask for.
 #![tactic(auto)]
 
-ghost use Rattle.std.specs.Prelude.{◌≡◌, ◌≢◌, ◌≤◌, ◌↔◌, [], Some, None, IfOk, IfErr, IsSome};
+ghost use Rattle.std.specs.Prelude.{◌≡◌, ◌≢◌, ◌≤◌, ◌↔◌, [], Ok, IfOk, IfErr, IfSome, IsTrue};
 ghost use Rattle.clap.specs.Values.{kind_of};
 ghost use Rattle.clap.specs.declared.error.kind.ErrorKind.TheVariants.{OutOfMemory};
 ghost use Rattle.clap.specs.Faults.{fault_of};
 ghost use Rattle.chip_words.specs.App.{chip_app};
-ghost use Rattle.chip_words.specs.Request.{asked_file, request_of};
-ghost use Rattle.chip_words.specs.Words.{asked, texts, IfUsage};
+ghost use Rattle.chip_words.specs.Request.{asked_program, is_taken, request_of};
+ghost use Rattle.chip_words.specs.Words.{asked, texts, Explains, IfUsage};
 
 mod app;
+mod fault;
 mod request;
 #[cfg(test)]
 mod tests;
@@ -17,26 +18,30 @@ mod values;
 
 use clap::Error;
 use clap::error::ErrorKind;
+pub use fault::{ValueFault, WordsError};
 pub use request::{
-    Execution, ProgramFile, ProgramForm, ProtectedRun, Request, Tags, Terms, WordsError,
+    Execution, ProgramFile, ProgramForm, ProtectedRun, ReportFile, Request, Tags, Terms,
 };
 use std::alloc::Global;
 
 /// What the words of the process ask for, the program's name first. A question for help is refused too, and its answer is
 /// the text.
-#[tactic(auto, using(crate::proofs::Requests::request_is_there))]
+#[tactic(auto, using(crate::proofs::Requests::request_is_taken))]
 pub fn read_words<'a>(alloc: Global, words: &'a [&'a str]) -> Result<Request<'a>, WordsError>
-    ensures taken { IfOk result (λ request. request_of (texts words.now) ≡ Some (asked request)) }
-    ensures refused { IfErr result (λ error. IfUsage error (request_of (texts words.now) ≡ None)) }
+    ensures taken { IfOk result (λ request. request_of (texts words.now) ≡ Ok (asked request)) }
+    ensures refused { IfErr result (λ error. Explains error (request_of (texts words.now))) }
     ensures levels { IfOk result (λ request.
-        (1 ≤ (asked_file (asked request)).levels) × ((asked_file (asked request)).levels ≤ 6)) }
+        IfSome (asked_program (asked request)) (λ file. (1 ≤ file.levels) × (file.levels ≤ 6))) }
 
-    // Words ask for something just where clap has no fault to find in them.
-    ensures faultless { IsSome (request_of (texts words.now)) ↔ (fault_of chip_app (texts words.now) ≡ []) }
+    // Words are taken just where clap has no fault to find in them. Then their values are tested.
+    ensures faultless { IsTrue (is_taken (request_of (texts words.now))) ↔ (fault_of chip_app (texts words.now) ≡ []) }
 {
     let app = app::app(alloc)?;
     match app.try_get_matches_from(words) {
-        Ok(matches) => Ok(values::requested(&matches)),
+        Ok(matches) => match values::requested(&matches) {
+            Ok(request) => Ok(request),
+            Err(fault) => Err(WordsError::WrongValue(fault)),
+        },
         Err(error) => Err(refusal(alloc, &error)),
     }
 }

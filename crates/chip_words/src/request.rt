@@ -1,11 +1,5 @@
-// What words ask for, and why they ask for nothing.
-ghost use Rattle.std.specs.Prelude.{◌≡◌};
-ghost use Rattle.chip_words.specs.Request.{default_terms};
-ghost use Rattle.chip_words.specs.declared.request.WordsError.TheVariants.{NoMemory as no_memory};
-
+// What words ask for.
 use sec_base::Geometry;
-use std::alloc::AllocError;
-use thiserror::Error;
 
 /// What the words ask for.
 #[derive(Clone, Copy, Debug, PartialEq, Eq)]
@@ -20,6 +14,8 @@ pub enum Request<'a> {
     Dis(ProgramFile<'a>),
     /// To tell a program's measurement.
     Measure(ProgramFile<'a>),
+    /// To check a report, and to tell what it says.
+    Verify(ReportFile<'a>),
 }
 
 /// What is to be run on protected memory, and on what terms.
@@ -27,6 +23,8 @@ pub enum Request<'a> {
 pub struct ProtectedRun<'a> {
     /// What is to be run, and how.
     pub execution: Execution<'a>,
+    /// The file of what an adversary does to the memory outside the chip, where there is one.
+    pub script: Option<&'a str>,
     /// How its memory is protected.
     pub terms: Terms,
 }
@@ -44,27 +42,22 @@ pub struct Terms {
     pub nonce: [u8; 16],
 }
 
-impl Default for Terms {
-    fn default() -> Self
-        ensures { result ≡ default_terms }
-    {
-        Terms {
-            device_key: [
-                0, 1, 2, 3, 4, 5, 6, 7, 8, 9, 10, 11, 12, 13, 14, 15, 16, 17, 18, 19, 20, 21, 22,
-                23, 24, 25, 26, 27, 28, 29, 30, 31,
-            ],
-            tags: Tags::Hmac,
-            page_limit: u64::MAX,
-            nonce: [0; 16],
-        }
-    }
-}
-
 /// How messages are tagged.
 #[derive(Clone, Copy, Debug, PartialEq, Eq)]
 pub enum Tags {
     /// By HMAC with SHA-256.
     Hmac,
+    /// By an exclusive or of the message's pieces, which can be forged and is for teaching.
+    Xor,
+}
+
+/// A report's file, and the key of the device that it is checked for.
+#[derive(Clone, Copy, Debug, PartialEq, Eq)]
+pub struct ReportFile<'a> {
+    /// The file's name.
+    pub name: &'a str,
+    /// The key that the keys of the device are derived from.
+    pub device_key: [u8; 32],
 }
 
 /// What is to be run, and how.
@@ -98,23 +91,4 @@ pub enum ProgramForm {
     FlatFile,
     /// An assembly text.
     AssemblyText,
-}
-
-/// Why words ask for nothing that can be done.
-#[derive(Debug, Drop, Error)]
-pub enum WordsError {
-    /// They are no request, or a question for help: clap's text for the user.
-    #[error("{0}")]
-    Usage(String),
-    /// There was no memory to read them.
-    #[error("out of memory")]
-    NoMemory,
-}
-
-impl From<AllocError> for WordsError {
-    ghost from_gives = { λ _ error. error ≡ no_memory };
-
-    fn from(_: AllocError) -> Self {
-        WordsError::NoMemory
-    }
 }

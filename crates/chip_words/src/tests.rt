@@ -2,7 +2,9 @@
 // stands anywhere behind its command, its value stands in the next word or behind `=`, after `--` no word is an option,
 // and no option stands twice.
 use super::ProgramForm::{AssemblyText, ElfFile, FlatFile};
-use super::{Execution, ProgramFile, ProgramForm, Request, Tags, WordsError, read_words};
+use super::{
+    Execution, ProgramFile, ProgramForm, Request, Tags, ValueFault, WordsError, read_words,
+};
 use std::alloc::{AllocError, Global};
 use std::test::Fail;
 
@@ -10,13 +12,14 @@ use std::test::Fail;
 // run.
 type Parts<'a> = (&'a str, &'a str, ProgramForm, Option<&'a str>, u8, u64);
 
-fn parts<'a>(request: &Request<'a>) -> Parts<'a> {
+fn parts<'a>(request: &Request<'a>) -> Option<Parts<'a>> {
     match request {
-        Request::Run(run) => execution_parts("run", &run.execution),
-        Request::Plain(execution) => execution_parts("plain", execution),
-        Request::Asm(file) => file_parts("asm", file),
-        Request::Dis(file) => file_parts("dis", file),
-        Request::Measure(file) => file_parts("measure", file),
+        Request::Run(run) => Some(execution_parts("run", &run.execution)),
+        Request::Plain(execution) => Some(execution_parts("plain", execution)),
+        Request::Asm(file) => Some(file_parts("asm", file)),
+        Request::Dis(file) => Some(file_parts("dis", file)),
+        Request::Measure(file) => Some(file_parts("measure", file)),
+        Request::Verify(_) => None,
     }
 }
 
@@ -42,14 +45,14 @@ fn asks_for(alloc: Global, line: &str, expected: Parts<'_>) -> Result<bool, Allo
     let Ok(request) = read_words(alloc, words.as_slice()) else {
         return Ok(false);
     };
-    Ok(parts(&request) == expected)
+    Ok(parts(&request) == Some(expected))
 }
 
 fn usage(alloc: Global, line: &str) -> Result<Option<String>, AllocError> {
     let words: Vec<&str> = line.split_whitespace().collect(alloc)?;
     let text = match read_words(alloc, words.as_slice()) {
         Err(WordsError::Usage(text)) => Some(text),
-        Ok(_) | Err(WordsError::NoMemory) => None,
+        Ok(_) | Err(WordsError::WrongValue(_) | WordsError::NoMemory) => None,
     };
     Ok(text)
 }
@@ -144,6 +147,186 @@ fn page_limits(rt: HostRuntime) -> Result<(), Fail> {
     Ok(())
 }
 
+// Whether a line of words asks for a run with this script and these tags.
+fn runs_with(
+    alloc: Global,
+    line: &str,
+    script: Option<&str>,
+    tags: Tags,
+) -> Result<bool, AllocError> {
+    let words: Vec<&str> = line.split_whitespace().collect(alloc)?;
+    let Ok(Request::Run(run)) = read_words(alloc, words.as_slice()) else {
+        return Ok(false);
+    };
+    Ok((run.script, run.terms.tags) == (script, tags))
+}
+
+#[test]
+fn scripts_and_tags(rt: HostRuntime) -> Result<(), Fail> {
+    let rows = [
+        ("chip run p", None, Tags::Hmac),
+        ("chip run p --script s", Some("s"), Tags::Hmac),
+        ("chip run p --tags hmac --input i", None, Tags::Hmac),
+        ("chip run p --tags=xor --levels 1", None, Tags::Xor),
+        ("chip run --tags xor --script=p -- p", Some("p"), Tags::Xor),
+        ("chip run p --input s --script i", Some("i"), Tags::Hmac),
+    ];
+    for (line, script, tags) in rows {
+        assert!(rt; runs_with(rt.alloc(), line, script, tags)?, "{line}");
+    }
+    Ok(())
+}
+
+// The value of a line that doesn't have its form.
+fn wrong_value(alloc: Global, line: &str) -> Result<Option<ValueFault>, AllocError> {
+    let words: Vec<&str> = line.split_whitespace().collect(alloc)?;
+    match read_words(alloc, words.as_slice()) {
+        Err(WordsError::WrongValue(fault)) => Ok(Some(fault)),
+        _ => Ok(None),
+    }
+}
+
+// A value is tested where `clap` has no fault to find.
+#[test]
+fn wrong_values(rt: HostRuntime) -> Result<(), Fail> {
+    let rows = [
+        ("chip run p --tags md5", Some(ValueFault::Tags)),
+        ("chip run p --tags Hmac", Some(ValueFault::Tags)),
+        ("chip run p --tags hmacs --script s", Some(ValueFault::Tags)),
+        ("chip run p --tags xo", Some(ValueFault::Tags)),
+        ("chip run p --tags=", Some(ValueFault::Tags)),
+        ("chip run p --tags xor", None),
+        ("chip run p --tags md5 --levels 7", None),
+        ("chip plain p --tags md5", None),
+        ("chip run p --key 00", Some(ValueFault::Key)),
+        ("chip run p --key=", Some(ValueFault::Key)),
+        ("chip run p --nonce 00 --levels 2", Some(ValueFault::Nonce)),
+        ("chip run p --nonce=", Some(ValueFault::Nonce)),
+        ("chip verify r --key 00", Some(ValueFault::Key)),
+        // The first of tags, key and nonce is told, wherever it stands.
+        (
+            "chip run p --nonce 0 --key 0 --tags x",
+            Some(ValueFault::Tags),
+        ),
+        ("chip run p --nonce 0 --key 0", Some(ValueFault::Key)),
+        ("chip run p --nonce 0 --key 0 --steps x", None),
+        ("chip verify r --nonce 0 --key 0", None),
+    ];
+    for (line, fault) in rows {
+        assert_eq!(rt; wrong_value(rt.alloc(), line)?, fault, "{line}");
+    }
+    assert_eq!(rt; ValueFault::Tags.name(), "tags");
+    assert_eq!(rt; ValueFault::Key.name(), "key");
+    assert_eq!(rt; ValueFault::Nonce.name(), "nonce");
+    Ok(())
+}
+
+// A line of words with digits behind them.
+fn with_digits(alloc: Global, line: &str, digits: &str) -> Result<String, AllocError> {
+    format!(in alloc; "{line} {digits}")
+}
+
+const KEY_DIGITS: &str = "fffefdfcfbfaf9f8f7f6f5f4f3f2f1f0efeeedecebeae9e8e7e6e5e4e3e2e1e0";
+
+const NONCE_DIGITS: &str = "101112131415161718191a1b1c1d1e1f";
+
+// A line of words, how many zeros stand behind it, and the value that doesn't have its form.
+const LENGTHS: [(&str, usize, Option<ValueFault>); 12] = [
+    ("chip run p --key", 62, Some(ValueFault::Key)),
+    ("chip run p --key", 63, Some(ValueFault::Key)),
+    ("chip run p --key", 64, None),
+    ("chip run p --key", 65, Some(ValueFault::Key)),
+    ("chip run p --key", 66, Some(ValueFault::Key)),
+    ("chip verify r --key", 63, Some(ValueFault::Key)),
+    ("chip verify r --key", 64, None),
+    ("chip verify r --key", 65, Some(ValueFault::Key)),
+    ("chip run p --nonce", 31, Some(ValueFault::Nonce)),
+    ("chip run p --nonce", 32, None),
+    ("chip run p --nonce", 33, Some(ValueFault::Nonce)),
+    ("chip run p --nonce", 64, Some(ValueFault::Nonce)),
+];
+
+#[test]
+fn keys_and_nonces_have_their_length(rt: HostRuntime) -> Result<(), Fail> {
+    for (line, count, fault) in LENGTHS {
+        let mut digits = String::new(rt.alloc());
+        for _ in 0..count {
+            digits.push('0')?;
+        }
+        let words = with_digits(rt.alloc(), line, digits.as_str())?;
+        assert_eq!(rt; wrong_value(rt.alloc(), words.as_str())?, fault, "{words}");
+    }
+    Ok(())
+}
+
+#[test]
+fn other_letters_are_no_digits(rt: HostRuntime) -> Result<(), Fail> {
+    let wrong = "gffefdfcfbfaf9f8f7f6f5f4f3f2f1f0efeeedecebeae9e8e7e6e5e4e3e2e1e0";
+    let words = with_digits(rt.alloc(), "chip run p --key", wrong)?;
+    let fault = wrong_value(rt.alloc(), words.as_str())?;
+    assert_eq!(rt; fault, Some(ValueFault::Key));
+    let wrong = "101112131415161718191a1b1c1d1e1:";
+    let words = with_digits(rt.alloc(), "chip run p --nonce", wrong)?;
+    let fault = wrong_value(rt.alloc(), words.as_str())?;
+    assert_eq!(rt; fault, Some(ValueFault::Nonce));
+    Ok(())
+}
+
+// Digits of either case are the same key and the same nonce.
+#[test]
+fn keys_and_nonces_are_read(rt: HostRuntime) -> Result<(), Fail> {
+    let words = [
+        "chip",
+        "run",
+        "p",
+        "--key",
+        KEY_DIGITS,
+        "--nonce",
+        NONCE_DIGITS,
+    ];
+    let capitals = [
+        "chip",
+        "run",
+        "p",
+        "--nonce=101112131415161718191A1B1C1D1E1F",
+        "--key=FFFEFDFCFBFAF9F8F7F6F5F4F3F2F1F0EFEEEDECEBEAE9E8E7E6E5E4E3E2E1E0",
+    ];
+    let lines: [&[&str]; 2] = [&words, &capitals];
+    for line in lines {
+        let Ok(Request::Run(run)) = read_words(rt.alloc(), line) else {
+            return Err(Fail::from("no run"));
+        };
+        for (byte, expected) in run.terms.device_key.iter().zip((0xe0..=0xff).rev()) {
+            assert_eq!(rt; *byte, expected);
+        }
+        for (byte, expected) in run.terms.nonce.iter().zip(0x10..=0x1f) {
+            assert_eq!(rt; *byte, expected);
+        }
+    }
+    Ok(())
+}
+
+// A report's file and the device's key, which is the bytes 00 to 1f where none is named.
+#[test]
+fn reports_to_check(rt: HostRuntime) -> Result<(), Fail> {
+    let Ok(Request::Verify(report)) = read_words(rt.alloc(), &["chip", "verify", "r"]) else {
+        return Err(Fail::from("no report"));
+    };
+    assert_eq!(rt; report.name, "r");
+    for (byte, expected) in report.device_key.iter().zip(0..32) {
+        assert_eq!(rt; *byte, expected);
+    }
+    let words = ["chip", "verify", "--key", KEY_DIGITS, "--", "--key"];
+    let Ok(Request::Verify(report)) = read_words(rt.alloc(), &words) else {
+        return Err(Fail::from("no report"));
+    };
+    assert_eq!(rt; report.name, "--key");
+    for (byte, expected) in report.device_key.iter().zip((0xe0..=0xff).rev()) {
+        assert_eq!(rt; *byte, expected);
+    }
+    Ok(())
+}
+
 // The device's key is the bytes 00 to 1f, tags are HMACs, a page counter may be any number of 64 bits, and the nonce is
 // zeros.
 #[test]
@@ -187,10 +370,20 @@ fn refusals(rt: HostRuntime) -> Result<(), Fail> {
         "chip run p --page-limit=",
         "chip run p --page_limit 1",
         "chip run p --input --flat",
-        "chip run p --key 00",
+        "chip run p --key",
+        "chip run p --key 00 --key 00",
+        "chip run p --nonce",
+        "chip run p --nonce 00 --nonce 00",
+        "chip plain p --key 00",
+        "chip plain p --nonce 00",
         "chip run p -f",
         "chip plain p -- --flat",
         "chip plain p --page-limit 1",
+        "chip plain p --script s",
+        "chip plain p --tags xor",
+        "chip run p --script",
+        "chip run p --tags",
+        "chip run p --tags xor --tags xor",
         "chip dis p --steps 3",
         "chip dis p --input i",
         "chip dis p --page-limit 1",
@@ -203,6 +396,13 @@ fn refusals(rt: HostRuntime) -> Result<(), Fail> {
         "chip measure p q",
         "chip measure p --steps 3",
         "chip measure p --page-limit 1",
+        "chip measure p --key 00",
+        "chip verify",
+        "chip verify r s",
+        "chip verify r --levels 1",
+        "chip verify r --flat",
+        "chip verify r --nonce 00",
+        "chip verify r --key",
         "chip assemble p",
         "chip --flat run p",
         "chip frob",

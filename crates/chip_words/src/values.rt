@@ -1,50 +1,96 @@
 // What a command is asked for, by its values.
-ghost use Rattle.std.specs.Prelude.{◌≡◌, IsSome, Some, option_map};
+ghost use Rattle.std.specs.Prelude.{◌≡◌, IsTrue, codes, option_map};
 ghost use Rattle.clap.specs.Walk.{first_of, rows_of};
 ghost use Rattle.clap.specs.Words.{found_of, subcommand_rows_of};
-ghost use Rattle.chip_words.specs.Commands.{HasExecution, HasNumber, HasProgram, HasProtectedRun, HasValue, IfCommand};
-ghost use Rattle.chip_words.specs.Request.{asked_in, execution_of, file_of, form_of, is_flat as is_flat_in, levels_of, numeral_value, program_of, run_of, terms_of, value_of};
-ghost use Rattle.chip_words.specs.Words.{asked, execution_asked, file_asked, run_asked};
+ghost use Rattle.chip_words.specs.Commands.{HasExecution, HasNumber, HasProgram, HasProtectedRun, HasReport, HasValue, IfCommand};
+ghost use Rattle.chip_words.specs.Request.{asked_in, device_key_of, execution_of, file_of, form_of, is_flat as is_flat_in, is_taken, levels_of, nonce_of, numeral_value, program_of, report_of, run_of, tags_of, terms_of, value_of};
+ghost use Rattle.chip_words.specs.Words.{answer_asked, execution_asked, file_asked, report_asked, run_asked};
 
-use crate::request::{Execution, ProgramFile, ProgramForm, ProtectedRun, Request, Terms};
+use crate::fault::ValueFault;
+use crate::request::{
+    Execution, ProgramFile, ProgramForm, ProtectedRun, ReportFile, Request, Tags, Terms,
+};
 use clap::ArgMatches;
+use hex::FromHex;
 use sec_base::Geometry;
 
-// What the command that was met asks for.
-pub(crate) fn requested<'a>(matches: &ArgMatches<'a>) -> Request<'a>
-    requires asks { IsSome (asked_in (subcommand_rows_of matches.now)) }
+// What the command that was met asks for, where its values have their form.
+pub(crate) fn requested<'a>(matches: &ArgMatches<'a>) -> Result<Request<'a>, ValueFault>
+    requires taken { IsTrue (is_taken (asked_in (subcommand_rows_of matches.now))) }
     requires values { IfCommand (subcommand_rows_of matches.now) }
-    ensures { asked_in (subcommand_rows_of matches.now) ≡ Some (asked result) }
+    ensures { asked_in (subcommand_rows_of matches.now) ≡ answer_asked result }
 {
     let (name, values) = matches.subcommand().unwrap();
     match name {
-        "run" => Request::Run(protected_run(values)),
-        "plain" => Request::Plain(execution(values)),
-        "asm" => Request::Asm(file(values, ProgramForm::AssemblyText)),
-        "dis" => Request::Dis(program(values)),
-        "measure" => Request::Measure(program(values)),
+        "run" => Ok(Request::Run(protected_run(values, terms(values)?))),
+        "plain" => Ok(Request::Plain(execution(values))),
+        "asm" => Ok(Request::Asm(file(values, ProgramForm::AssemblyText))),
+        "dis" => Ok(Request::Dis(program(values))),
+        "measure" => Ok(Request::Measure(program(values))),
+        "verify" => Ok(Request::Verify(report_file(values, device_key(values)?))),
         _ => unreachable!(),
     }
 }
 
-fn protected_run<'a>(values: &ArgMatches<'a>) -> ProtectedRun<'a>
+fn protected_run<'a>(values: &ArgMatches<'a>, terms: Terms) -> ProtectedRun<'a>
     requires { HasProtectedRun (rows_of (found_of values.now)) }
-    ensures { run_asked result ≡ run_of (rows_of (found_of values.now)) }
+    ensures { run_asked result ≡ run_of (rows_of (found_of values.now)) terms }
 {
     ProtectedRun {
         execution: execution(values),
-        terms: terms(values),
+        script: text(values, "script"),
+        terms,
     }
 }
 
-// The terms of a run. Words name its page limit alone.
-fn terms(values: &ArgMatches<'_>) -> Terms
+// The terms of a run, where tags, key and nonce have their form.
+fn terms(values: &ArgMatches<'_>) -> Result<Terms, ValueFault>
     requires { HasProtectedRun (rows_of (found_of values.now)) }
     ensures { result ≡ terms_of (rows_of (found_of values.now)) }
 {
-    Terms {
+    let tags = tags(values)?;
+    let device_key = device_key(values)?;
+    let nonce = nonce(values)?;
+    Ok(Terms {
+        device_key,
+        tags,
         page_limit: number(values, "page-limit"),
-        ..Terms::default()
+        nonce,
+    })
+}
+
+fn tags(values: &ArgMatches<'_>) -> Result<Tags, ValueFault>
+    requires { HasProtectedRun (rows_of (found_of values.now)) }
+    ensures { result ≡ tags_of (rows_of (found_of values.now)) }
+{
+    match value(values, "tags") {
+        "hmac" => Ok(Tags::Hmac),
+        "xor" => Ok(Tags::Xor),
+        _ => Err(ValueFault::Tags),
+    }
+}
+
+fn device_key(values: &ArgMatches<'_>) -> Result<[u8; 32], ValueFault>
+    requires { HasValue (codes "key") (rows_of (found_of values.now)) }
+    ensures { result ≡ device_key_of (rows_of (found_of values.now)) }
+{
+    <[u8; 32] as FromHex>::from_hex(value(values, "key")).map_err(|_| ValueFault::Key)
+}
+
+fn nonce(values: &ArgMatches<'_>) -> Result<[u8; 16], ValueFault>
+    requires { HasValue (codes "nonce") (rows_of (found_of values.now)) }
+    ensures { result ≡ nonce_of (rows_of (found_of values.now)) }
+{
+    <[u8; 16] as FromHex>::from_hex(value(values, "nonce")).map_err(|_| ValueFault::Nonce)
+}
+
+fn report_file<'a>(values: &ArgMatches<'a>, device_key: [u8; 32]) -> ReportFile<'a>
+    requires { HasReport (rows_of (found_of values.now)) }
+    ensures { report_asked result ≡ report_of (rows_of (found_of values.now)) device_key }
+{
+    ReportFile {
+        name: value(values, "file"),
+        device_key,
     }
 }
 

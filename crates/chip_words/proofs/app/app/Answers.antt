@@ -17,4 +17,6 @@ returns c =
     ∙ ap₂ with_subcommand plain c.in_ok-asm.ensures.shape in
     let dis = c.in_ok-subcommand-4.ensures.shape c.in_ok-dis.ensures.local
     ∙ ap₂ with_subcommand asm c.in_ok-dis.ensures.shape in
-    c.in_ok-app.ensures.shape c.in_ok-measure.ensures.local ∙ ap₂ with_subcommand dis c.in_ok-measure.ensures.shape
+    let measure = c.in_ok-subcommand-5.ensures.shape c.in_ok-measure.ensures.local
+    ∙ ap₂ with_subcommand dis c.in_ok-measure.ensures.shape in
+    c.in_ok-app.ensures.shape c.in_ok-verify.ensures.local ∙ ap₂ with_subcommand measure c.in_ok-verify.ensures.shape
