@@ -1,6 +1,6 @@
 -- What a call owes follows from what it came to.
-use Rattle.chip_words.specs.Request.{Asked}
-use Rattle.std.specs.Prelude.{Option}
+use Rattle.chip_words.specs.Request.{Asked, WordsFault}
+use Rattle.std.specs.Prelude.{Result}
 use Rattle.chip_main.specs.declared.Done.{Done}
 use Rattle.chip_main.specs.World.{World}
 use Rattle.chip_main.specs.Course.{Outcome}
@@ -10,7 +10,7 @@ use Rattle.chip_main.proofs.RunOutcomes as runs
 use Rattle.chip_main.proofs.Requested as requested
 use Rattle.chip_main.proofs.Wholes as wholes
 
-pub says_status : {request : Option Asked} {old new : World} {answer : Done} → Outcome request old new answer → SaysStatus request old new answer
+pub says_status : {request : Result Asked WordsFault} {old new : World} {answer : Done} → Outcome request old new answer → SaysStatus request old new answer
 says_status o = record {
   statuses = outcomes.statuses o;
   done = runs.is_done o;
@@ -21,11 +21,12 @@ says_status o = record {
   tampered = runs.tampered o;
   spent = runs.spent o;
   evidence = runs.with_evidence o;
+  tag_differs = outcomes.tag_differs o;
   read_fault = outcomes.read_fault o;
   write_fault = runs.write_fault o;
 }
 
-pub gives_asked : {request : Option Asked} {old new : World} {answer : Done} → Outcome request old new answer → GivesAsked request old new answer
+pub gives_asked : {request : Result Asked WordsFault} {old new : World} {answer : Done} → Outcome request old new answer → GivesAsked request old new answer
 gives_asked o = record {
   none = requested.none o;
   run = requested.run o;
@@ -33,7 +34,8 @@ gives_asked o = record {
   asm = requested.asm o;
   dis = requested.dis o;
   measure = requested.measure o;
+  verify = requested.verify o;
 }
 
-pub gives_due : {request : Option Asked} {old new : World} {answer : Done} → Outcome request old new answer → GivesDue request old new answer
-gives_due o = record { unfit = requested.unfit o; whole = wholes.whole o; whole_run = wholes.whole_run o }
+pub gives_due : {request : Result Asked WordsFault} {old new : World} {answer : Done} → Outcome request old new answer → GivesDue request old new answer
+gives_due o = record { unfit = requested.unfit o; whole = wholes.whole o; whole_run = wholes.whole_run o; whole_report = wholes.whole_report o }

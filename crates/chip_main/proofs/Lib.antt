@@ -1,7 +1,7 @@
-pub mod HonestBuses
 pub mod Lines
 pub mod DeviceRuns
 pub mod Takings
+pub mod Verdicts
 pub mod Courses
 pub mod RunStatuses
 pub mod Outcomes

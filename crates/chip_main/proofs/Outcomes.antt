@@ -1,5 +1,6 @@
 -- What the course of a call says of its status and of what was told.
-use Rattle.std.proofs.Common.{◌≡◌, ◌≢◌, ◌<◌, ◌≤◌, ◌⊎◌, inl, inr, List, ℕ, Option, Some, None, Ok, Err, IfSome, refl, sym, ◌∙◌, subst, arith}
+use Rattle.std.proofs.Common.{◌≡◌, ◌≢◌, ◌<◌, ◌≤◌, ◌⊎◌, inl, inr, List, ℕ, Option, Some, None, Result, Ok, Err, IfSome, refl, sym, ap, ◌∙◌, subst, arith}
+use Rattle.std.specs.Result.{IsErr, is_err}
 use Rattle.sec_base.specs.Count.{Rose}
 use Rattle.sec_base.specs.Files.{FilesState}
 use Rattle.sec_base.specs.Sink.{SinkState}
@@ -9,11 +10,11 @@ use Rattle.sec_base.specs.declared.ending.Ending.TheVariants.{Halted, Trapped, O
 use Rattle.sec_base.specs.declared.sink.SinkStop.TheVariants.{Failed, NoMemory as no_memory}
 use Rattle.sec_base.specs.Sink.{GainsFront}
 use Rattle.plain_machine.specs.declared.PlainRecord.{PlainRecord}
-use Rattle.chip_words.specs.Request.{Asked}
+use Rattle.chip_words.specs.Request.{Asked, WordsFault}
 use Rattle.chip_main.specs.declared.refusal.Refusal.{Refusal}
-use Rattle.chip_main.specs.declared.refusal.Refusal.TheVariants.{Usage, Unread, TooLong, Elf, Asm}
+use Rattle.chip_main.specs.declared.refusal.Refusal.TheVariants.{Usage, WrongValue, Unread, TooLong, Elf, Asm, Script, Report}
 use Rattle.chip_main.specs.declared.course.Course.{Course}
-use Rattle.chip_main.specs.declared.course.Course.TheVariants.{Refused, NoMemory, Ran, RanPlain, Written}
+use Rattle.chip_main.specs.declared.course.Course.TheVariants.{Refused, NoMemory, Ran, RanPlain, Written, OtherTag}
 use Rattle.chip_main.specs.declared.Done.{Done}
 use Rattle.chip_main.specs.World.{World}
 use Rattle.chip_main.specs.Needs.{needs_of}
@@ -21,21 +22,22 @@ use Rattle.chip_main.specs.Causes.{IsRefused, Stops}
 use Rattle.chip_main.specs.Status.{IsStatus, Telling, code_of, ending_status, evidence_status, refusal_status, run_status, status_with, text_status, untold_ending_status}
 use Rattle.chip_main.specs.declared.status.Status.{Status}
 use Rattle.chip_main.specs.declared.status.Status.TheVariants as status
-use Rattle.chip_main.specs.Buses.{lies_of, run_history}
-use Rattle.chip_main.specs.Answer.{FileRefused, TellsEnding, TellsPlain, TellsRun}
-use Rattle.chip_main.specs.Texts.{plain_text, record_text}
+use Rattle.chip_main.specs.Buses.{LiesByScript, lies_of, run_history}
+use Rattle.chip_main.specs.Answer.{FileRefused, TellsEnding, TellsPlain, TellsResult, TellsRun}
+use Rattle.chip_main.specs.Requests.{OtherTagRequest}
+use Rattle.chip_main.specs.Texts.{plain_text, record_text, tag_differs_line}
 use Rattle.chip_main.specs.Course.{CameAbout, Outcome, TellsCourse, course_bus, course_run, course_status, status_of}
 
 -- ---- the whole of a call
 
-pub outcome : (request : Option Asked) (old new : World) (done : Done) (course : Course) (told : Telling) → CameAbout course request old.files new.files old.out new.out → TellsCourse course old.note new.note told →
-    done.status ≡ code_of (status_of course told) → done.run ≡ course_run course → done.bus ≡ course_bus course → done.lies ≡ lies_of (course_bus course) → Outcome request old new done
-outcome request old new done course told came tells status_is run_is bus_is lies_is =
-    record { course = course; told = told; came = came; tells = tells; status = status_is; run = run_is; bus = bus_is; lies = lies_is }
+pub outcome : (request : Result Asked WordsFault) (old new : World) (done : Done) (course : Course) (told : Telling) → CameAbout course request old.files new.files old.out new.out → TellsCourse course old.note new.note told →
+    done.status ≡ code_of (status_of course told) → done.run ≡ course_run course → done.bus ≡ course_bus course → done.lies ≡ lies_of (course_bus course) → IfSome (course_bus course) LiesByScript → Outcome request old new done
+outcome request old new done course told came tells status_is run_is bus_is lies_is by_script =
+    record { course = course; told = told; came = came; tells = tells; status = status_is; run = run_is; bus = bus_is; lies = lies_is; by_script = by_script }
 
 -- ---- the statuses
 
-pub statuses : {request : Option Asked} {old new : World} {done : Done} → Outcome request old new done → IsStatus done.status
+pub statuses : {request : Result Asked WordsFault} {old new : World} {done : Done} → Outcome request old new done → IsStatus done.status
 statuses o = (status_of o.course o.told, o.status)
 
 -- ---- which course a status is of
@@ -58,8 +60,9 @@ course_is NoMemory (Err Failed) status low is = is
 course_is (Ran run bus) (Err Failed) status low is = absurd (omega (arith, untold_high run.ending))
 course_is (RanPlain run) (Err Failed) status low is = absurd (omega (arith, untold_high run.ending))
 course_is (Written telling) (Err Failed) status low is = is
+course_is OtherTag (Err Failed) status low is = absurd (omega arith)
 
-pub own_status : {request : Option Asked} {old new : World} {done : Done} → (o : Outcome request old new done) → (status : ℕ) → status < 9 → done.status ≡ status →
+pub own_status : {request : Result Asked WordsFault} {old new : World} {done : Done} → (o : Outcome request old new done) → (status : ℕ) → status < 9 → done.status ≡ status →
     code_of (course_status o.course) ≡ status
 own_status o status low is = course_is o.course o.told status low (sym o.status ∙ is)
 
@@ -112,53 +115,66 @@ refusal_is NoMemory status refusing is = absurd (let fewer = refusing.1 in omega
 refusal_is (Ran run bus) status refusing is = absurd (apart (code_of (run_status run)) status (run_result run.evidence run.ending) refusing is)
 refusal_is (RanPlain run) status refusing is = absurd (apart (code_of (ending_status run.ending)) status (ending_result run.ending) refusing is)
 refusal_is (Written telling) status refusing is = absurd (apart (code_of (text_status telling)) status (text_result telling) refusing is)
+refusal_is OtherTag status refusing is = absurd (apart 11 status (inr (inr (omega arith))) refusing is)
 
 -- so it has its cause
-refused_as : {request : Option Asked} {old new : World} {done : Done} → Outcome request old new done → (status : ℕ) → IsOfRefusal status → done.status ≡ status →
+refused_as : {request : Result Asked WordsFault} {old new : World} {done : Done} → Outcome request old new done → (status : ℕ) → IsOfRefusal status → done.status ≡ status →
     (refusal : Refusal) × IsRefused refusal request old.files new.files × (code_of (refusal_status refusal) ≡ status)
 refused_as {request} {old} {new} o status refusing is =
     let found = refusal_is o.course status refusing (own_status o status refusing.1 is) in
     let came = subst (λ (course : Course). CameAbout course request old.files new.files old.out new.out) found.1 o.came in
     (found.0, came.0, found.2)
 
-usage_cause : (refusal : Refusal) (request : Option Asked) (files files' : FilesState) → IsRefused refusal request files files' → code_of (refusal_status refusal) ≡ 2 → request ≡ None
-usage_cause (Usage text) request files files' cause is = cause.0
+usage_cause : (refusal : Refusal) (request : Result Asked WordsFault) (files files' : FilesState) → IsRefused refusal request files files' → code_of (refusal_status refusal) ≡ 2 → IsErr request
+usage_cause (Usage text) request files files' cause is = ap is_err cause.0
+usage_cause (WrongValue fault) request files files' cause is = ap is_err cause.0
 usage_cause Unread request files files' cause is = absurd (omega arith)
 usage_cause TooLong request files files' cause is = absurd (omega arith)
 usage_cause (Elf fault) request files files' cause is = absurd (omega arith)
 usage_cause (Asm line fault) request files files' cause is = absurd (omega arith)
+usage_cause (Script line fault) request files files' cause is = absurd (omega arith)
+usage_cause (Report fault) request files files' cause is = absurd (omega arith)
 
-pub usage : {request : Option Asked} {old new : World} {done : Done} → Outcome request old new done → done.status ≡ 2 → request ≡ None
+pub usage : {request : Result Asked WordsFault} {old new : World} {done : Done} → Outcome request old new done → done.status ≡ 2 → IsErr request
 usage {request} {old} {new} o is =
     let found = refused_as o 2 (omega arith, omega arith, inl (omega arith)) is in usage_cause found.0 request old.files new.files found.1 found.2
 
-file_cause : (refusal : Refusal) (request : Option Asked) (files files' : FilesState) → IsRefused refusal request files files' → code_of (refusal_status refusal) ≡ 3 → Stops refusal (needs_of request) files files'
+file_cause : (refusal : Refusal) (request : Result Asked WordsFault) (files files' : FilesState) → IsRefused refusal request files files' → code_of (refusal_status refusal) ≡ 3 → Stops refusal (needs_of request) files files'
 file_cause (Usage text) request files files' cause is = absurd (omega arith)
+file_cause (WrongValue fault) request files files' cause is = absurd (omega arith)
 file_cause Unread request files files' cause is = absurd (omega arith)
 file_cause TooLong request files files' cause is = cause
 file_cause (Elf fault) request files files' cause is = cause
 file_cause (Asm line fault) request files files' cause is = cause
+file_cause (Script line fault) request files files' cause is = cause
+file_cause (Report fault) request files files' cause is = cause
 
 refused_is : (refusal : Refusal) → code_of (refusal_status refusal) ≡ 3 → refusal_status refusal ≡ status.Refused
 refused_is (Usage text) is = absurd (omega arith)
+refused_is (WrongValue fault) is = absurd (omega arith)
 refused_is Unread is = absurd (omega arith)
 refused_is TooLong is = refl
 refused_is (Elf fault) is = refl
 refused_is (Asm line fault) is = refl
+refused_is (Script line fault) is = refl
+refused_is (Report fault) is = refl
 
-pub refused : {request : Option Asked} {old new : World} {done : Done} → Outcome request old new done → done.status ≡ 3 →
+pub refused : {request : Result Asked WordsFault} {old new : World} {done : Done} → Outcome request old new done → done.status ≡ 3 →
     FileRefused request old.files new.files
 refused {request} {old} {new} o is =
     let found = refused_as o 3 (omega arith, omega arith, inl (omega arith)) is in (found.0, refused_is found.0 found.2, file_cause found.0 request old.files new.files found.1 found.2)
 
-unread_cause : (refusal : Refusal) (request : Option Asked) (files files' : FilesState) → IsRefused refusal request files files' → code_of (refusal_status refusal) ≡ 8 → Stops Unread (needs_of request) files files'
+unread_cause : (refusal : Refusal) (request : Result Asked WordsFault) (files files' : FilesState) → IsRefused refusal request files files' → code_of (refusal_status refusal) ≡ 8 → Stops Unread (needs_of request) files files'
 unread_cause (Usage text) request files files' cause is = absurd (omega arith)
+unread_cause (WrongValue fault) request files files' cause is = absurd (omega arith)
 unread_cause Unread request files files' cause is = cause
 unread_cause TooLong request files files' cause is = absurd (omega arith)
 unread_cause (Elf fault) request files files' cause is = absurd (omega arith)
 unread_cause (Asm line fault) request files files' cause is = absurd (omega arith)
+unread_cause (Script line fault) request files files' cause is = absurd (omega arith)
+unread_cause (Report fault) request files files' cause is = absurd (omega arith)
 
-pub read_fault : {request : Option Asked} {old new : World} {done : Done} → Outcome request old new done → done.status ≡ 8 → Stops Unread (needs_of request) old.files new.files
+pub read_fault : {request : Result Asked WordsFault} {old new : World} {done : Done} → Outcome request old new done → done.status ≡ 8 → Stops Unread (needs_of request) old.files new.files
 read_fault {request} {old} {new} o is =
     let found = refused_as o 8 (omega arith, omega arith, inr (omega arith)) is in unread_cause found.0 request old.files new.files found.1 found.2
 
@@ -183,6 +199,7 @@ told_run (Refused refusal) telling note note' tells = tt
 told_run NoMemory telling note note' tells = tt
 told_run (RanPlain run) telling note note' tells = tt
 told_run (Written written) telling note note' tells = tt
+told_run OtherTag telling note note' tells = tt
 told_run (Ran run bus) (Ok _) note note' tells = inl (tells, refl)
 told_run (Ran run bus) (Err Failed) note note' tells =
     untold_ending (record_text run (run_history bus).lies) (run_status run) run.ending note note' tells.0 tells.1
@@ -193,3 +210,79 @@ told_plain run (Ok _) note note' tells = inl (tells, refl)
 told_plain run (Err Failed) note note' tells =
     untold_ending (plain_text run) (ending_status run.ending) run.ending note note' tells.0 tells.1
 told_plain run (Err no_memory) note note' tells = inr (tells, inr refl)
+
+pub told_other_tag : (telling : Telling) (note note' : SinkState) → TellsCourse OtherTag note note' telling → TellsResult tag_differs_line status.TagDiffers (code_of (status_of OtherTag telling)) note note'
+told_other_tag (Ok _) note note' tells = inl (tells, refl)
+told_other_tag (Err Failed) note note' tells = inr (tells.0, inl (refl, tells.1))
+told_other_tag (Err no_memory) note note' tells = inr (tells, inr refl)
+
+-- ---- a tag that differs
+
+refusal_low : (refusal : Refusal) → code_of (refusal_status refusal) < 11
+refusal_low (Usage text) = omega arith
+refusal_low (WrongValue fault) = omega arith
+refusal_low Unread = omega arith
+refusal_low TooLong = omega arith
+refusal_low (Elf fault) = omega arith
+refusal_low (Asm line fault) = omega arith
+refusal_low (Script line fault) = omega arith
+refusal_low (Report fault) = omega arith
+
+ending_low : (ending : Ending) → code_of (ending_status ending) < 11
+ending_low (Halted exit) = omega arith
+ending_low (Trapped cause pc) = omega arith
+ending_low OutOfSteps = omega arith
+ending_low (Tampered place) = omega arith
+ending_low (Spent page) = omega arith
+ending_low WriteFault = omega arith
+ending_low memory_ended = omega arith
+
+evidence_low : (ending : Ending) → code_of (evidence_status ending) < 11
+evidence_low (Halted exit) = omega arith
+evidence_low (Trapped cause pc) = omega arith
+evidence_low OutOfSteps = omega arith
+evidence_low (Tampered place) = omega arith
+evidence_low (Spent page) = omega arith
+evidence_low WriteFault = omega arith
+evidence_low memory_ended = omega arith
+
+untold_low : (ending : Ending) → code_of (untold_ending_status ending) < 11
+untold_low (Halted exit) = omega arith
+untold_low (Trapped cause pc) = omega arith
+untold_low OutOfSteps = omega arith
+untold_low (Tampered place) = omega arith
+untold_low (Spent page) = omega arith
+untold_low WriteFault = omega arith
+untold_low memory_ended = omega arith
+
+run_low : (evidence : Option Evidence) (ending : Ending) → code_of (status_with evidence ending) < 11
+run_low None ending = ending_low ending
+run_low (Some evidence) ending = evidence_low ending
+
+text_low : (telling : Telling) → code_of (text_status telling) < 11
+text_low (Ok _) = omega arith
+text_low (Err Failed) = omega arith
+text_low (Err no_memory) = omega arith
+
+-- no other course has this status
+other_tag_is : (course : Course) (telling : Telling) → code_of (status_of course telling) ≡ 11 → course ≡ OtherTag
+other_tag_is OtherTag telling is = refl
+other_tag_is (Refused refusal) (Ok _) is = absurd (let low = refusal_low refusal in omega arith)
+other_tag_is (Refused refusal) (Err Failed) is = absurd (let low = refusal_low refusal in omega arith)
+other_tag_is (Refused refusal) (Err no_memory) is = absurd (omega arith)
+other_tag_is NoMemory (Ok _) is = absurd (omega arith)
+other_tag_is NoMemory (Err Failed) is = absurd (omega arith)
+other_tag_is NoMemory (Err no_memory) is = absurd (omega arith)
+other_tag_is (Ran run bus) (Ok _) is = absurd (let low = run_low run.evidence run.ending in omega arith)
+other_tag_is (Ran run bus) (Err Failed) is = absurd (let low = untold_low run.ending in omega arith)
+other_tag_is (Ran run bus) (Err no_memory) is = absurd (omega arith)
+other_tag_is (RanPlain run) (Ok _) is = absurd (let low = ending_low run.ending in omega arith)
+other_tag_is (RanPlain run) (Err Failed) is = absurd (let low = untold_low run.ending in omega arith)
+other_tag_is (RanPlain run) (Err no_memory) is = absurd (omega arith)
+other_tag_is (Written written) (Ok _) is = absurd (let low = text_low written in omega arith)
+other_tag_is (Written written) (Err Failed) is = absurd (let low = text_low written in omega arith)
+other_tag_is (Written written) (Err no_memory) is = absurd (omega arith)
+
+pub tag_differs : {request : Result Asked WordsFault} {old new : World} {done : Done} → Outcome request old new done → done.status ≡ 11 → OtherTagRequest request old.files new.files
+tag_differs {request} {old} {new} o is =
+    (subst (λ (course : Course). CameAbout course request old.files new.files old.out new.out) (other_tag_is o.course o.told (sym o.status ∙ is)) o.came).0

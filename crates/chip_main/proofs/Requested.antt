@@ -1,36 +1,39 @@
 -- What was asked of the files, and what each request came to.
-use Rattle.std.proofs.Common.{◌≡◌, ◌≢◌, ◌⊎◌, inl, inr, List, [], ◌∷◌, ◌++◌, ℕ, length, Option, Some, None, Ok, Err, IfSome, refl, sym, ap, ◌∙◌, subst, arith, append-nil, append_assoc}
+use Rattle.std.proofs.Common.{◌≡◌, ◌≢◌, ◌⊎◌, inl, inr, List, [], ◌∷◌, ◌++◌, ℕ, length, Option, Some, None, Result, Ok, Err, IfSome, refl, sym, ap, ◌∙◌, subst, arith, append-nil, append_assoc}
 use Rattle.sec_base.specs.Files.{FilesState, HasBytes}
 use Rattle.sec_base.specs.Sink.{SinkState}
 use Rattle.sec_base.specs.declared.image.Image.{Image}
 use Rattle.sec_base.specs.declared.sink.SinkStop.TheVariants.{Failed, NoMemory as no_memory}
-use Rattle.bus_model.specs.BusHistory.{BusHistory}
 use Rattle.plain_machine.specs.declared.PlainRecord.{PlainRecord}
 use Rattle.chip_run.specs.declared.RunRecord.{RunRecord}
-use Rattle.chip_words.specs.Request.{Asked, FileAsked, ExecutionAsked, RunAsked, to_assemble, to_disassemble, to_measure, to_run, to_run_plain, asked_file}
+use Rattle.chip_words.specs.declared.fault.ValueFault.{ValueFault}
+use Rattle.chip_words.specs.Request.{Asked, FileAsked, ExecutionAsked, ReportAsked, RunAsked, WordsFault, to_assemble, to_disassemble, to_measure, to_run, to_run_plain, to_verify}
 use Rattle.chip_main.specs.declared.refusal.Refusal.{Refusal}
-use Rattle.chip_main.specs.declared.refusal.Refusal.TheVariants.{Usage, Unread, TooLong, Elf, Asm}
+use Rattle.chip_main.specs.declared.refusal.Refusal.TheVariants.{Usage, WrongValue, Unread, TooLong, Elf, Asm, Script, Report}
 use Rattle.chip_main.specs.declared.run_bus.RunBus.{RunBus}
 use Rattle.chip_main.specs.declared.course.Course.{Course}
-use Rattle.chip_main.specs.declared.course.Course.TheVariants.{Refused, NoMemory, Ran, RanPlain, Written}
+use Rattle.chip_main.specs.declared.course.Course.TheVariants.{Refused, NoMemory, Ran, RanPlain, Written, OtherTag}
 use Rattle.chip_main.specs.declared.Done.{Done}
 use Rattle.chip_main.specs.World.{World}
-use Rattle.chip_main.specs.Texts.{elf_file, listing, measurement_line}
+use Rattle.chip_main.specs.Taken.{ReadsReport}
+use Rattle.chip_main.specs.Texts.{elf_file, listing, measurement_line, tag_differs_line}
 use Rattle.chip_main.specs.Needs.{Need, AreAccepted, HasTold, IsAccepted, IsUnfit, asked_needs, names, needs_of, program_need}
 use Rattle.chip_main.specs.Causes.{Asks, AsksFront, AsksNothing, IsRefused, RunsOut, Stops}
-use Rattle.chip_main.specs.Requests.{PlainlyRunsRequest, RunsRequest, Writes, WritesRequest}
+use Rattle.chip_main.specs.Requests.{OtherTagRequest, PlainlyRunsRequest, RunsRequest, Writes, WritesRequest}
 use Rattle.chip_main.specs.Status.{IsOneOf, code_of, Telling}
 use Rattle.chip_main.specs.declared.status.Status.{Status}
 use Rattle.chip_main.specs.declared.status.Status.TheVariants as status
-use Rattle.chip_main.specs.Buses.{AreBothAnd}
-use Rattle.chip_main.specs.Answer.{Delivers, GivesPlainRun, GivesRun, GivesText, LacksMemory, PlainlyRan, RanAndTold, TellsPlain, TellsRefusal, TellsRun, Undone, undone_statuses}
+use Rattle.chip_main.specs.Buses.{AreBothAnd, LiesByScript}
+use Rattle.chip_main.specs.Answer.{Delivers, DeliversReport, GivesPlainRun, GivesReport, GivesRun, GivesText, LacksMemory, PlainlyRan, RanAndTold, TellsOtherTag, TellsPlain, TellsRefusal, TellsResult, TellsRun, Undone, undone_statuses}
 use Rattle.chip_main.specs.Course.{CameAbout, Outcome, TellsCourse, course_bus, course_run, status_of}
-use Rattle.chip_main.proofs.Courses.{execution_accepted, program_accepted}
-use Rattle.chip_main.proofs.Outcomes.{told_plain, told_run}
+use Rattle.chip_main.proofs.Courses.{execution_accepted, program_accepted, run_accepted}
+use Rattle.chip_main.proofs.Takings.{asks_more}
+use Rattle.chip_main.proofs.Outcomes.{told_other_tag, told_plain, told_run}
+use Rattle.chip_main.proofs.RunStatuses.{tampers_by_script}
 
 -- ---- where something was done, all files were taken
 
-pub record AllTaken (request : Option Asked) (files files' : FilesState) : Type 0 where
+pub record AllTaken (request : Result Asked WordsFault) (files files' : FilesState) : Type 0 where
   pub some : needs_of request ≢ []
   pub asked : Asks (needs_of request) files files'
   pub accepted : AreAccepted files (needs_of request)
@@ -41,53 +44,61 @@ some_needs (to_run_plain execution) none = cc
 some_needs (to_assemble file) none = cc
 some_needs (to_disassemble file) none = cc
 some_needs (to_measure file) none = cc
+some_needs (to_verify report) none = cc
 
-all_taken : (asked : Asked) (files files' : FilesState) → Asks (asked_needs asked) files files' → AreAccepted files (asked_needs asked) → AllTaken (Some asked) files files'
+all_taken : (asked : Asked) (files files' : FilesState) → Asks (asked_needs asked) files files' → AreAccepted files (asked_needs asked) → AllTaken (Ok asked) files files'
 all_taken asked files files' asks accepted = record { some = some_needs asked; asked = asks; accepted = accepted }
 
-ran_taken : (request : Option Asked) (files files' : FilesState) (out out' : SinkState) (run : RunRecord) (told : BusHistory) → RunsRequest request files files' out out' run told → AllTaken request files files'
-ran_taken None files files' out out' run told came = absurd came
-ran_taken (Some (to_run asked)) files files' out out' run told came =
-    all_taken (to_run asked) files files' came.2.asked (execution_accepted asked.execution files files' came.0 came.1 came.2)
-ran_taken (Some (to_run_plain execution)) files files' out out' run told came = absurd came
-ran_taken (Some (to_assemble file)) files files' out out' run told came = absurd came
-ran_taken (Some (to_disassemble file)) files files' out out' run told came = absurd came
-ran_taken (Some (to_measure file)) files files' out out' run told came = absurd came
+ran_taken : (request : Result Asked WordsFault) (files files' : FilesState) (out out' : SinkState) (run : RunRecord) (bus : RunBus) → RunsRequest request files files' out out' run bus → AllTaken request files files'
+ran_taken (Err fault) files files' out out' run bus came = absurd came
+ran_taken (Ok (to_run asked)) files files' out out' run bus came =
+    all_taken (to_run asked) files files' came.reads.asked (run_accepted asked files files' came.program came.script came.input came.reads)
+ran_taken (Ok (to_run_plain execution)) files files' out out' run bus came = absurd came
+ran_taken (Ok (to_assemble file)) files files' out out' run bus came = absurd came
+ran_taken (Ok (to_disassemble file)) files files' out out' run bus came = absurd came
+ran_taken (Ok (to_measure file)) files files' out out' run bus came = absurd came
+ran_taken (Ok (to_verify report)) files files' out out' run bus came = absurd came
 
-plainly_ran_taken : (request : Option Asked) (files files' : FilesState) (out out' : SinkState) (run : PlainRecord) → PlainlyRunsRequest request files files' out out' run → AllTaken request files files'
-plainly_ran_taken None files files' out out' run came = absurd came
-plainly_ran_taken (Some (to_run asked)) files files' out out' run came = absurd came
-plainly_ran_taken (Some (to_run_plain execution)) files files' out out' run came =
+plainly_ran_taken : (request : Result Asked WordsFault) (files files' : FilesState) (out out' : SinkState) (run : PlainRecord) → PlainlyRunsRequest request files files' out out' run → AllTaken request files files'
+plainly_ran_taken (Err fault) files files' out out' run came = absurd came
+plainly_ran_taken (Ok (to_run asked)) files files' out out' run came = absurd came
+plainly_ran_taken (Ok (to_run_plain execution)) files files' out out' run came =
     all_taken (to_run_plain execution) files files' came.2.asked (execution_accepted execution files files' came.0 came.1 came.2)
-plainly_ran_taken (Some (to_assemble file)) files files' out out' run came = absurd came
-plainly_ran_taken (Some (to_disassemble file)) files files' out out' run came = absurd came
-plainly_ran_taken (Some (to_measure file)) files files' out out' run came = absurd came
+plainly_ran_taken (Ok (to_assemble file)) files files' out out' run came = absurd came
+plainly_ran_taken (Ok (to_disassemble file)) files files' out out' run came = absurd came
+plainly_ran_taken (Ok (to_measure file)) files files' out out' run came = absurd came
+plainly_ran_taken (Ok (to_verify report)) files files' out out' run came = absurd came
 
 -- the one file of a request for a text
 text_taken : (asked : Asked) (file : FileAsked) (text : Image → List ℕ) (files files' : FilesState) (out out' : SinkState) (telling : Telling) → asked_needs asked ≡ program_need file ∷ [] → Writes file text files files' out out' telling →
-    AllTaken (Some asked) files files'
+    AllTaken (Ok asked) files files'
 text_taken asked file text files files' out out' telling needs writes = all_taken asked files files'
     (subst (λ (n : List Need). Asks n files files') (sym needs) writes.takes.asked)
     (subst (λ (n : List Need). AreAccepted files n) (sym needs) (program_accepted file writes.program files writes.takes.program_is, tt))
 
-written_taken : (request : Option Asked) (files files' : FilesState) (out out' : SinkState) (telling : Telling) → WritesRequest request files files' out out' telling → AllTaken request files files'
-written_taken None files files' out out' telling came = absurd came
-written_taken (Some (to_run asked)) files files' out out' telling came = absurd came
-written_taken (Some (to_run_plain execution)) files files' out out' telling came = absurd came
-written_taken (Some (to_assemble file)) files files' out out' telling came = text_taken (to_assemble file) file elf_file files files' out out' telling refl came
-written_taken (Some (to_disassemble file)) files files' out out' telling came = text_taken (to_disassemble file) file listing files files' out out' telling refl came
-written_taken (Some (to_measure file)) files files' out out' telling came = text_taken (to_measure file) file measurement_line files files' out out' telling refl came
+-- the one file of the check of a report
+report_taken : (asked : ReportAsked) (files files' : FilesState) (text : List ℕ) → ReadsReport asked files files' text → AllTaken (Ok (to_verify asked)) files files'
+report_taken asked files files' text reads = all_taken (to_verify asked) files files' reads.asked ((text, reads.accepted), tt)
+
+written_taken : (request : Result Asked WordsFault) (files files' : FilesState) (out out' : SinkState) (telling : Telling) → WritesRequest request files files' out out' telling → AllTaken request files files'
+written_taken (Err fault) files files' out out' telling came = absurd came
+written_taken (Ok (to_run asked)) files files' out out' telling came = absurd came
+written_taken (Ok (to_run_plain execution)) files files' out out' telling came = absurd came
+written_taken (Ok (to_assemble file)) files files' out out' telling came = text_taken (to_assemble file) file elf_file files files' out out' telling refl came
+written_taken (Ok (to_disassemble file)) files files' out out' telling came = text_taken (to_disassemble file) file listing files files' out out' telling refl came
+written_taken (Ok (to_measure file)) files files' out out' telling came = text_taken (to_measure file) file measurement_line files files' out out' telling refl came
+written_taken (Ok (to_verify report)) files files' out out' telling came = report_taken report files files' came.text came.reads
+
+other_tag_taken : (request : Result Asked WordsFault) (files files' : FilesState) → OtherTagRequest request files files' → AllTaken request files files'
+other_tag_taken (Err fault) files files' came = absurd came
+other_tag_taken (Ok (to_run asked)) files files' came = absurd came
+other_tag_taken (Ok (to_run_plain execution)) files files' came = absurd came
+other_tag_taken (Ok (to_assemble file)) files files' came = absurd came
+other_tag_taken (Ok (to_disassemble file)) files files' came = absurd came
+other_tag_taken (Ok (to_measure file)) files files' came = absurd came
+other_tag_taken (Ok (to_verify report)) files files' came = report_taken report files files' came.0 came.1
 
 -- ---- what was asked for
-
-names_of_both : (before after : List Need) → names (before ++ after) ≡ names before ++ names after
-names_of_both [] after = refl
-names_of_both (need ∷ before) after = ap (λ (l : List (List ℕ)). need.name ∷ l) (names_of_both before after)
-
-asks_more : (before after : List Need) (old mid new : FilesState) → Asks before old mid → Asks after mid new → Asks (before ++ after) old new
-asks_more before after old mid new first others =
-    others ∙ ap (λ (asked : List (List ℕ)). asked ++ names after) first ∙ append_assoc old.asked (names before) (names after)
-    ∙ ap (λ (l : List (List ℕ)). old.asked ++ l) (sym (names_of_both before after))
 
 front_stops : (refusal : Refusal) (needs : List Need) (files files' : FilesState) → Stops refusal needs files files' → AsksFront needs files files'
 front_stops refusal needs files files' stops =
@@ -102,19 +113,23 @@ front_all needs files files' asked = (needs, ([], sym (append-nil needs)), asked
 front_none : (needs : List Need) (files files' : FilesState) → AsksNothing files files' → AsksFront needs files files'
 front_none needs files files' same = ([], (needs, refl), same ∙ sym (append-nil files.asked))
 
-front : (course : Course) (request : Option Asked) (files files' : FilesState) (out out' : SinkState) → CameAbout course request files files' out out' → AsksFront (needs_of request) files files'
+front : (course : Course) (request : Result Asked WordsFault) (files files' : FilesState) (out out' : SinkState) → CameAbout course request files files' out out' → AsksFront (needs_of request) files files'
 front (Refused (Usage text)) request files files' out out' came = front_none (needs_of request) files files' came.0.1
+front (Refused (WrongValue fault)) request files files' out out' came = front_none (needs_of request) files files' came.0.1
 front (Refused Unread) request files files' out out' came = front_stops Unread (needs_of request) files files' came.0
 front (Refused TooLong) request files files' out out' came = front_stops TooLong (needs_of request) files files' came.0
 front (Refused (Elf fault)) request files files' out out' came = front_stops (Elf fault) (needs_of request) files files' came.0
 front (Refused (Asm line fault)) request files files' out out' came = front_stops (Asm line fault) (needs_of request) files files' came.0
+front (Refused (Script line fault)) request files files' out out' came = front_stops (Script line fault) (needs_of request) files files' came.0
+front (Refused (Report fault)) request files files' out out' came = front_stops (Report fault) (needs_of request) files files' came.0
 front NoMemory request files files' out out' came =
     (came.0.before ++ came.0.tried, (came.0.after, came.0.order), came.0.asked)
-front (Ran run bus) request files files' out out' came = front_all (needs_of request) files files' (ran_taken request files files' out out' run _ came).asked
+front (Ran run bus) request files files' out out' came = front_all (needs_of request) files files' (ran_taken request files files' out out' run bus came).asked
 front (RanPlain run) request files files' out out' came = front_all (needs_of request) files files' (plainly_ran_taken request files files' out out' run came).asked
 front (Written telling) request files files' out out' came = front_all (needs_of request) files files' (written_taken request files files' out out' telling came).asked
+front OtherTag request files files' out out' came = front_all (needs_of request) files files' (other_tag_taken request files files' came.0).asked
 
-pub asks_front : {request : Option Asked} {old new : World} {done : Done} → Outcome request old new done → AsksFront (needs_of request) old.files new.files
+pub asks_front : {request : Result Asked WordsFault} {old new : World} {done : Done} → Outcome request old new done → AsksFront (needs_of request) old.files new.files
 asks_front {request} {old} {new} o = front o.course request old.files new.files old.out new.out o.came
 
 -- ---- requests that need nothing
@@ -134,10 +149,13 @@ asks_none : (needs : List Need) (files files' : FilesState) → needs ≡ [] →
 asks_none needs files files' none asked =
     asked.2 ∙ ap (λ (n : List Need). files.asked ++ names n) (no_front asked.0 asked.1.0 (sym none ∙ asked.1.1)) ∙ append-nil files.asked
 
-pub unasked : {request : Option Asked} {old new : World} {done : Done} → Outcome request old new done → request ≡ None → AsksNothing old.files new.files
-unasked {request} {old} {new} o none = asks_none (needs_of request) old.files new.files (ap needs_of none) (asks_front o)
+pub unasked : {request : Result Asked WordsFault} {old new : World} {done : Done} → Outcome request old new done → (fault : WordsFault) → request ≡ Err fault → AsksNothing old.files new.files
+unasked {request} {old} {new} o fault none = asks_none (needs_of request) old.files new.files (ap needs_of none) (asks_front o)
 
 -- ---- where nothing was done
+
+not_both : (asked : Asked) (why : WordsFault) → ◌≢◌ {A = Result Asked WordsFault} (Ok asked) (Err why)
+not_both asked why is = cc
 
 abbrev pub refused_statuses : List Status
 refused_statuses = status.Usage ∷ status.NoMemory ∷ []
@@ -147,6 +165,11 @@ usage_listed text (Ok _) = (0, omega arith, refl)
 usage_listed text (Err Failed) = (0, omega arith, refl)
 usage_listed text (Err no_memory) = (1, omega arith, refl)
 
+value_listed : (fault : ValueFault) (telling : Telling) → IsOneOf refused_statuses (code_of (status_of (Refused (WrongValue fault)) telling))
+value_listed fault (Ok _) = (0, omega arith, refl)
+value_listed fault (Err Failed) = (0, omega arith, refl)
+value_listed fault (Err no_memory) = (1, omega arith, refl)
+
 no_memory_listed : (telling : Telling) → IsOneOf refused_statuses (code_of (status_of NoMemory telling))
 no_memory_listed (Ok _) = (1, omega arith, refl)
 no_memory_listed (Err Failed) = (1, omega arith, refl)
@@ -155,36 +178,44 @@ no_memory_listed (Err no_memory) = (1, omega arith, refl)
 abbrev pub unrun_statuses : List Status
 unrun_statuses = status.Refused ∷ status.ReadFault ∷ status.NoMemory ∷ []
 
-refusal_unrun : (refusal : Refusal) (telling : Telling) (asked : Asked) (files files' : FilesState) → IsRefused refusal (Some asked) files files' → IsOneOf unrun_statuses (code_of (status_of (Refused refusal) telling))
+refusal_unrun : (refusal : Refusal) (telling : Telling) (asked : Asked) (files files' : FilesState) → IsRefused refusal (Ok asked) files files' → IsOneOf unrun_statuses (code_of (status_of (Refused refusal) telling))
 refusal_unrun refusal (Err no_memory) asked files files' cause = (2, omega arith, refl)
-refusal_unrun (Usage text) telling asked files files' cause = let e : Some asked ≡ None = cause.0 in absurd cc
+refusal_unrun (Usage text) telling asked files files' cause = absurd (not_both asked _ cause.0)
+refusal_unrun (WrongValue fault) telling asked files files' cause = absurd (not_both asked _ cause.0)
 refusal_unrun Unread (Ok _) asked files files' cause = (1, omega arith, refl)
 refusal_unrun TooLong (Ok _) asked files files' cause = (0, omega arith, refl)
 refusal_unrun (Elf fault) (Ok _) asked files files' cause = (0, omega arith, refl)
 refusal_unrun (Asm line fault) (Ok _) asked files files' cause = (0, omega arith, refl)
+refusal_unrun (Script line fault) (Ok _) asked files files' cause = (0, omega arith, refl)
+refusal_unrun (Report fault) (Ok _) asked files files' cause = (0, omega arith, refl)
 refusal_unrun Unread (Err Failed) asked files files' cause = (1, omega arith, refl)
 refusal_unrun TooLong (Err Failed) asked files files' cause = (0, omega arith, refl)
 refusal_unrun (Elf fault) (Err Failed) asked files files' cause = (0, omega arith, refl)
 refusal_unrun (Asm line fault) (Err Failed) asked files files' cause = (0, omega arith, refl)
+refusal_unrun (Script line fault) (Err Failed) asked files files' cause = (0, omega arith, refl)
+refusal_unrun (Report fault) (Err Failed) asked files files' cause = (0, omega arith, refl)
 
 no_memory_unrun : (telling : Telling) → IsOneOf unrun_statuses (code_of (status_of NoMemory telling))
 no_memory_unrun (Ok _) = (2, omega arith, refl)
 no_memory_unrun (Err Failed) = (2, omega arith, refl)
 no_memory_unrun (Err no_memory) = (2, omega arith, refl)
 
-refusal_listed : (request : Option Asked) (refusal : Refusal) (telling : Telling) (files files' : FilesState) → IsRefused refusal request files files' → IsOneOf (undone_statuses request) (code_of (status_of (Refused refusal) telling))
-refusal_listed (Some asked) refusal telling files files' cause = refusal_unrun refusal telling asked files files' cause
-refusal_listed None (Usage text) telling files files' cause = usage_listed text telling
-refusal_listed None Unread telling files files' cause = absurd (nothing_stops Unread [] files files' refl cause)
-refusal_listed None TooLong telling files files' cause = absurd (nothing_stops TooLong [] files files' refl cause)
-refusal_listed None (Elf fault) telling files files' cause = absurd (nothing_stops (Elf fault) [] files files' refl cause)
-refusal_listed None (Asm line fault) telling files files' cause = absurd (nothing_stops (Asm line fault) [] files files' refl cause)
+refusal_listed : (request : Result Asked WordsFault) (refusal : Refusal) (telling : Telling) (files files' : FilesState) → IsRefused refusal request files files' → IsOneOf (undone_statuses request) (code_of (status_of (Refused refusal) telling))
+refusal_listed (Ok asked) refusal telling files files' cause = refusal_unrun refusal telling asked files files' cause
+refusal_listed (Err why) (Usage text) telling files files' cause = usage_listed text telling
+refusal_listed (Err why) (WrongValue fault) telling files files' cause = value_listed fault telling
+refusal_listed (Err why) Unread telling files files' cause = absurd (nothing_stops Unread [] files files' refl cause)
+refusal_listed (Err why) TooLong telling files files' cause = absurd (nothing_stops TooLong [] files files' refl cause)
+refusal_listed (Err why) (Elf fault) telling files files' cause = absurd (nothing_stops (Elf fault) [] files files' refl cause)
+refusal_listed (Err why) (Asm line fault) telling files files' cause = absurd (nothing_stops (Asm line fault) [] files files' refl cause)
+refusal_listed (Err why) (Script line fault) telling files files' cause = absurd (nothing_stops (Script line fault) [] files files' refl cause)
+refusal_listed (Err why) (Report fault) telling files files' cause = absurd (nothing_stops (Report fault) [] files files' refl cause)
 
-lack_listed : (request : Option Asked) (telling : Telling) → IsOneOf (undone_statuses request) (code_of (status_of NoMemory telling))
-lack_listed (Some asked) telling = no_memory_unrun telling
-lack_listed None telling = no_memory_listed telling
+lack_listed : (request : Result Asked WordsFault) (telling : Telling) → IsOneOf (undone_statuses request) (code_of (status_of NoMemory telling))
+lack_listed (Ok asked) telling = no_memory_unrun telling
+lack_listed (Err why) telling = no_memory_listed telling
 
-refusal_told : (refusal : Refusal) (telling : Telling) (request : Option Asked) (old new : World) (status : ℕ) → IsRefused refusal request old.files new.files → TellsCourse (Refused refusal) old.note new.note telling →
+refusal_told : (refusal : Refusal) (telling : Telling) (request : Result Asked WordsFault) (old new : World) (status : ℕ) → IsRefused refusal request old.files new.files → TellsCourse (Refused refusal) old.note new.note telling →
     status ≡ code_of (status_of (Refused refusal) telling) → TellsRefusal request old new status
 refusal_told refusal (Ok _) request old new status cause tells is = record { refusal = refusal; cause = cause; text = inl tells; status_is = inl is }
 refusal_told refusal (Err Failed) request old new status cause tells is =
@@ -192,7 +223,7 @@ refusal_told refusal (Err Failed) request old new status cause tells is =
 refusal_told refusal (Err no_memory) request old new status cause tells is =
     record { refusal = refusal; cause = cause; text = inr (tells, inr is); status_is = inr is }
 
-lack_told : (telling : Telling) (request : Option Asked) (old new : World) (status : ℕ) → RunsOut (needs_of request) old.files new.files → TellsCourse NoMemory old.note new.note telling →
+lack_told : (telling : Telling) (request : Result Asked WordsFault) (old new : World) (status : ℕ) → RunsOut (needs_of request) old.files new.files → TellsCourse NoMemory old.note new.note telling →
     status ≡ code_of (status_of NoMemory telling) → LacksMemory request old new status
 lack_told telling request old new status runs_out tells is =
     record { runs_out = runs_out; silent = tells.0; status_is = is ∙ ap (λ t. code_of (status_of NoMemory t)) tells.1 }
@@ -204,8 +235,9 @@ IfUndone NoMemory P = P
 IfUndone (Ran run bus) P = Unit {0}
 IfUndone (RanPlain run) P = Unit {0}
 IfUndone (Written telling) P = Unit {0}
+IfUndone OtherTag P = Unit {0}
 
-undone_of : (course : Course) (telling : Telling) (request : Option Asked) (old new : World) (done : Done) → CameAbout course request old.files new.files old.out new.out → TellsCourse course old.note new.note telling →
+undone_of : (course : Course) (telling : Telling) (request : Result Asked WordsFault) (old new : World) (done : Done) → CameAbout course request old.files new.files old.out new.out → TellsCourse course old.note new.note telling →
     done.status ≡ code_of (status_of course telling) → done.run ≡ course_run course → IfUndone course (Undone request old new done)
 undone_of (Refused refusal) telling request old new done came tells status_is run_is = record {
   told = inl (refusal_told refusal telling request old new done.status came.0 tells status_is);
@@ -222,47 +254,51 @@ undone_of NoMemory telling request old new done came tells status_is run_is = re
 undone_of (Ran run bus) telling request old new done came tells status_is run_is = tt
 undone_of (RanPlain run) telling request old new done came tells status_is run_is = tt
 undone_of (Written written) telling request old new done came tells status_is run_is = tt
+undone_of OtherTag telling request old new done came tells status_is run_is = tt
 
 -- the same for a request that is known
-undone : {request : Option Asked} {old new : World} {done : Done} → (o : Outcome request old new done) → (is : Option Asked) → request ≡ is → IfUndone o.course (Undone is old new done)
-undone {request} {old} {new} {done} o is same = subst (λ (r : Option Asked). IfUndone o.course (Undone r old new done)) same
+undone : {request : Result Asked WordsFault} {old new : World} {done : Done} → (o : Outcome request old new done) → (is : Result Asked WordsFault) → request ≡ is → IfUndone o.course (Undone is old new done)
+undone {request} {old} {new} {done} o is same = subst (λ (r : Result Asked WordsFault). IfUndone o.course (Undone r old new done)) same
     (undone_of o.course o.told request old new done o.came o.tells o.status o.run)
 
-pub came_as : {request : Option Asked} {old new : World} {done : Done} → (o : Outcome request old new done) → (is : Option Asked) → request ≡ is → CameAbout o.course is old.files new.files old.out new.out
-came_as {request} {old} {new} o is same = subst (λ (r : Option Asked). CameAbout o.course r old.files new.files old.out new.out) same o.came
+pub came_as : {request : Result Asked WordsFault} {old new : World} {done : Done} → (o : Outcome request old new done) → (is : Result Asked WordsFault) → request ≡ is → CameAbout o.course is old.files new.files old.out new.out
+came_as {request} {old} {new} o is same = subst (λ (r : Result Asked WordsFault). CameAbout o.course r old.files new.files old.out new.out) same o.came
 
 -- ---- what was done
 
 -- something was done only for a request of its command
-undone_without : (course : Course) (P : Type 0) (files files' : FilesState) (out out' : SinkState) → CameAbout course None files files' out out' → IfUndone course P → P
-undone_without (Refused refusal) P files files' out out' came holds = holds
-undone_without NoMemory P files files' out out' came holds = holds
-undone_without (Ran run bus) P files files' out out' came holds = absurd came
-undone_without (RanPlain run) P files files' out out' came holds = absurd came
-undone_without (Written telling) P files files' out out' came holds = absurd came
+undone_without : (course : Course) (why : WordsFault) (P : Type 0) (files files' : FilesState) (out out' : SinkState) → CameAbout course (Err why) files files' out out' → IfUndone course P → P
+undone_without (Refused refusal) why P files files' out out' came holds = holds
+undone_without NoMemory why P files files' out out' came holds = holds
+undone_without (Ran run bus) why P files files' out out' came holds = absurd came
+undone_without (RanPlain run) why P files files' out out' came holds = absurd came
+undone_without (Written telling) why P files files' out out' came holds = absurd came
+undone_without OtherTag why P files files' out out' came holds = absurd came.0
 
-pub none : {request : Option Asked} {old new : World} {done : Done} → Outcome request old new done → request ≡ None → AsksNothing old.files new.files × Undone None old new done
-none {request} {old} {new} {done} o is =
-    (unasked o is, undone_without o.course (Undone None old new done) old.files new.files old.out new.out (came_as o None is) (undone o None is))
+pub none : {request : Result Asked WordsFault} {old new : World} {done : Done} → Outcome request old new done → (why : WordsFault) → request ≡ Err why → AsksNothing old.files new.files × Undone (Err why) old new done
+none {request} {old} {new} {done} o why is =
+    (unasked o why is, undone_without o.course why (Undone (Err why) old new done) old.files new.files old.out new.out (came_as o (Err why) is) (undone o (Err why) is))
 
-ran : (course : Course) (asked : RunAsked) (P : Type 0) (old new : World) (done : Done) → CameAbout course (Some (to_run asked)) old.files new.files old.out new.out →
+ran : (course : Course) (asked : RunAsked) (P : Type 0) (old new : World) (done : Done) → CameAbout course (Ok (to_run asked)) old.files new.files old.out new.out → IfSome (course_bus course) LiesByScript →
     IfSome (course_run course) (λ run. TellsRun done.status run done.lies old.note new.note) → IfUndone course P →
     AreBothAnd (course_run course) (course_bus course) (RanAndTold asked old new done) ⊎ P
-ran (Refused refusal) asked P old new done came tells holds = inr holds
-ran NoMemory asked P old new done came tells holds = inr holds
-ran (Ran run bus) asked P old new done came tells holds = inl (record { runs = came; tells = tells })
-ran (RanPlain run) asked P old new done came tells holds = absurd came
-ran (Written written) asked P old new done came tells holds = absurd came
+ran (Refused refusal) asked P old new done came by_script tells holds = inr holds
+ran NoMemory asked P old new done came by_script tells holds = inr holds
+ran (Ran run bus) asked P old new done came by_script tells holds =
+    inl (record { runs = came; by_script = tampers_by_script bus by_script came.runs; tells = tells })
+ran (RanPlain run) asked P old new done came by_script tells holds = absurd came
+ran (Written written) asked P old new done came by_script tells holds = absurd came
+ran OtherTag asked P old new done came by_script tells holds = absurd came.0
 
-pub run : {request : Option Asked} {old new : World} {done : Done} → Outcome request old new done → (asked : RunAsked) → request ≡ Some (to_run asked) → GivesRun asked old new done
+pub run : {request : Result Asked WordsFault} {old new : World} {done : Done} → Outcome request old new done → (asked : RunAsked) → request ≡ Ok (to_run asked) → GivesRun asked old new done
 run {request} {old} {new} {done} o asked asks =
     let tells : IfSome (course_run o.course) (λ run. TellsRun done.status run done.lies old.note new.note) = rw (o.status, o.lies) (told_run o.course o.told old.note new.note o.tells) in
-    let at = ran o.course asked (Undone (Some (to_run asked)) old new done) old new done
-    (came_as o (Some (to_run asked)) asks) tells (undone o (Some (to_run asked)) asks) in
-    let with_run = subst (λ (r : Option RunRecord). AreBothAnd r (course_bus o.course) (RanAndTold asked old new done) ⊎ Undone (Some (to_run asked)) old new done) (sym o.run) at in
-    subst (λ (b : Option RunBus). AreBothAnd done.run b (RanAndTold asked old new done) ⊎ Undone (Some (to_run asked)) old new done) (sym o.bus) with_run
+    let at = ran o.course asked (Undone (Ok (to_run asked)) old new done) old new done
+    (came_as o (Ok (to_run asked)) asks) o.by_script tells (undone o (Ok (to_run asked)) asks) in
+    let with_run = subst (λ (r : Option RunRecord). AreBothAnd r (course_bus o.course) (RanAndTold asked old new done) ⊎ Undone (Ok (to_run asked)) old new done) (sym o.run) at in
+    subst (λ (b : Option RunBus). AreBothAnd done.run b (RanAndTold asked old new done) ⊎ Undone (Ok (to_run asked)) old new done) (sym o.bus) with_run
 
-plainly_ran : (course : Course) (telling : Telling) (execution : ExecutionAsked) (P : Type 0) (old new : World) (done : Done) → CameAbout course (Some (to_run_plain execution)) old.files new.files old.out new.out →
+plainly_ran : (course : Course) (telling : Telling) (execution : ExecutionAsked) (P : Type 0) (old new : World) (done : Done) → CameAbout course (Ok (to_run_plain execution)) old.files new.files old.out new.out →
     TellsCourse course old.note new.note telling → done.status ≡ code_of (status_of course telling) → done.run ≡ course_run course → IfUndone course P → PlainlyRan execution old new done ⊎ P
 plainly_ran (Refused refusal) telling execution P old new done came tells status_is run_is holds = inr holds
 plainly_ran NoMemory telling execution P old new done came tells status_is run_is holds = inr holds
@@ -274,11 +310,12 @@ plainly_ran (RanPlain run) telling execution P old new done came tells status_is
   no_run = run_is;
 })
 plainly_ran (Written written) telling execution P old new done came tells status_is run_is holds = absurd came
+plainly_ran OtherTag telling execution P old new done came tells status_is run_is holds = absurd came.0
 
-pub plain : {request : Option Asked} {old new : World} {done : Done} → Outcome request old new done → (execution : ExecutionAsked) → request ≡ Some (to_run_plain execution) → GivesPlainRun execution old new done
+pub plain : {request : Result Asked WordsFault} {old new : World} {done : Done} → Outcome request old new done → (execution : ExecutionAsked) → request ≡ Ok (to_run_plain execution) → GivesPlainRun execution old new done
 plain {request} {old} {new} {done} o execution asks =
-    plainly_ran o.course o.told execution (Undone (Some (to_run_plain execution)) old new done) old new done
-    (came_as o (Some (to_run_plain execution)) asks) o.tells o.status o.run (undone o (Some (to_run_plain execution)) asks)
+    plainly_ran o.course o.told execution (Undone (Ok (to_run_plain execution)) old new done) old new done
+    (came_as o (Ok (to_run_plain execution)) asks) o.tells o.status o.run (undone o (Ok (to_run_plain execution)) asks)
 
 delivered : (file : FileAsked) (text : Image → List ℕ) (written telling : Telling) (old new : World) (done : Done) → Writes file text old.files new.files old.out new.out written → TellsCourse (Written written) old.note new.note telling →
     done.status ≡ code_of (status_of (Written written) telling) → done.run ≡ None → Delivers file text old new done
@@ -292,6 +329,7 @@ WritesOr NoMemory file text files files' out out' = Unit {0}
 WritesOr (Ran run bus) file text files files' out out' = ⊥
 WritesOr (RanPlain run) file text files files' out out' = ⊥
 WritesOr (Written telling) file text files files' out out' = Writes file text files files' out out' telling
+WritesOr OtherTag file text files files' out out' = ⊥
 
 delivered_or : (course : Course) (telling : Telling) (file : FileAsked) (text : Image → List ℕ) (P : Type 0) (old new : World) (done : Done) → WritesOr course file text old.files new.files old.out new.out →
     TellsCourse course old.note new.note telling → done.status ≡ code_of (status_of course telling) → done.run ≡ course_run course → IfUndone course P → Delivers file text old new done ⊎ P
@@ -301,45 +339,76 @@ delivered_or (Ran run bus) telling file text P old new done writes tells status_
 delivered_or (RanPlain run) telling file text P old new done writes tells status_is run_is holds = absurd writes
 delivered_or (Written written) telling file text P old new done writes tells status_is run_is holds =
     inl (delivered file text written telling old new done writes tells status_is run_is)
+delivered_or OtherTag telling file text P old new done writes tells status_is run_is holds = absurd writes
 
-gives_text : {request : Option Asked} {old new : World} {done : Done} → (o : Outcome request old new done) → (asked : Asked) (text : Image → List ℕ) → request ≡ Some asked →
-    WritesOr o.course (asked_file asked) text old.files new.files old.out new.out → GivesText asked text old new done
-gives_text {request} {old} {new} {done} o asked text asks writes =
-    delivered_or o.course o.told (asked_file asked) text (Undone (Some asked) old new done) old new done writes o.tells o.status o.run (undone o (Some asked) asks)
+gives_text : {request : Result Asked WordsFault} {old new : World} {done : Done} → (o : Outcome request old new done) → (asked : Asked) (file : FileAsked) (text : Image → List ℕ) → request ≡ Ok asked →
+    WritesOr o.course file text old.files new.files old.out new.out → GivesText asked file text old new done
+gives_text {request} {old} {new} {done} o asked file text asks writes =
+    delivered_or o.course o.told file text (Undone (Ok asked) old new done) old new done writes o.tells o.status o.run (undone o (Ok asked) asks)
 
 -- the request is for one of the texts
-pub asm_came : (course : Course) (file : FileAsked) (files files' : FilesState) (out out' : SinkState) → CameAbout course (Some (to_assemble file)) files files' out out' → WritesOr course file elf_file files files' out out'
+pub asm_came : (course : Course) (file : FileAsked) (files files' : FilesState) (out out' : SinkState) → CameAbout course (Ok (to_assemble file)) files files' out out' → WritesOr course file elf_file files files' out out'
 asm_came (Refused refusal) file files files' out out' came = tt
 asm_came NoMemory file files files' out out' came = tt
 asm_came (Ran run bus) file files files' out out' came = came
 asm_came (RanPlain run) file files files' out out' came = came
 asm_came (Written telling) file files files' out out' came = came
+asm_came OtherTag file files files' out out' came = came.0
 
-pub dis_came : (course : Course) (file : FileAsked) (files files' : FilesState) (out out' : SinkState) → CameAbout course (Some (to_disassemble file)) files files' out out' → WritesOr course file listing files files' out out'
+pub dis_came : (course : Course) (file : FileAsked) (files files' : FilesState) (out out' : SinkState) → CameAbout course (Ok (to_disassemble file)) files files' out out' → WritesOr course file listing files files' out out'
 dis_came (Refused refusal) file files files' out out' came = tt
 dis_came NoMemory file files files' out out' came = tt
 dis_came (Ran run bus) file files files' out out' came = came
 dis_came (RanPlain run) file files files' out out' came = came
 dis_came (Written telling) file files files' out out' came = came
+dis_came OtherTag file files files' out out' came = came.0
 
-pub measure_came : (course : Course) (file : FileAsked) (files files' : FilesState) (out out' : SinkState) → CameAbout course (Some (to_measure file)) files files' out out' → WritesOr course file measurement_line files files' out out'
+pub measure_came : (course : Course) (file : FileAsked) (files files' : FilesState) (out out' : SinkState) → CameAbout course (Ok (to_measure file)) files files' out out' → WritesOr course file measurement_line files files' out out'
 measure_came (Refused refusal) file files files' out out' came = tt
 measure_came NoMemory file files files' out out' came = tt
 measure_came (Ran run bus) file files files' out out' came = came
 measure_came (RanPlain run) file files files' out out' came = came
 measure_came (Written telling) file files files' out out' came = came
+measure_came OtherTag file files files' out out' came = came.0
 
-pub asm : {request : Option Asked} {old new : World} {done : Done} → Outcome request old new done → (file : FileAsked) → request ≡ Some (to_assemble file) → GivesText (to_assemble file) elf_file old new done
+pub asm : {request : Result Asked WordsFault} {old new : World} {done : Done} → Outcome request old new done → (file : FileAsked) → request ≡ Ok (to_assemble file) → GivesText (to_assemble file) file elf_file old new done
 asm {old = old} {new = new} o file asks =
-    gives_text o (to_assemble file) elf_file asks (asm_came o.course file old.files new.files old.out new.out (came_as o (Some (to_assemble file)) asks))
+    gives_text o (to_assemble file) file elf_file asks (asm_came o.course file old.files new.files old.out new.out (came_as o (Ok (to_assemble file)) asks))
 
-pub dis : {request : Option Asked} {old new : World} {done : Done} → Outcome request old new done → (file : FileAsked) → request ≡ Some (to_disassemble file) → GivesText (to_disassemble file) listing old new done
+pub dis : {request : Result Asked WordsFault} {old new : World} {done : Done} → Outcome request old new done → (file : FileAsked) → request ≡ Ok (to_disassemble file) → GivesText (to_disassemble file) file listing old new done
 dis {old = old} {new = new} o file asks =
-    gives_text o (to_disassemble file) listing asks (dis_came o.course file old.files new.files old.out new.out (came_as o (Some (to_disassemble file)) asks))
+    gives_text o (to_disassemble file) file listing asks (dis_came o.course file old.files new.files old.out new.out (came_as o (Ok (to_disassemble file)) asks))
 
-pub measure : {request : Option Asked} {old new : World} {done : Done} → Outcome request old new done → (file : FileAsked) → request ≡ Some (to_measure file) → GivesText (to_measure file) measurement_line old new done
+pub measure : {request : Result Asked WordsFault} {old new : World} {done : Done} → Outcome request old new done → (file : FileAsked) → request ≡ Ok (to_measure file) → GivesText (to_measure file) file measurement_line old new done
 measure {old = old} {new = new} o file asks =
-    gives_text o (to_measure file) measurement_line asks (measure_came o.course file old.files new.files old.out new.out (came_as o (Some (to_measure file)) asks))
+    gives_text o (to_measure file) file measurement_line asks (measure_came o.course file old.files new.files old.out new.out (came_as o (Ok (to_measure file)) asks))
+
+-- a report was checked
+verified : (course : Course) (telling : Telling) (asked : ReportAsked) (P : Type 0) (old new : World) (done : Done) → CameAbout course (Ok (to_verify asked)) old.files new.files old.out new.out →
+    TellsCourse course old.note new.note telling → done.status ≡ code_of (status_of course telling) → done.run ≡ course_run course → IfUndone course P →
+    DeliversReport asked old new done ⊎ TellsOtherTag asked old new done ⊎ P
+verified (Refused refusal) telling asked P old new done came tells status_is run_is holds = inr (inr holds)
+verified NoMemory telling asked P old new done came tells status_is run_is holds = inr (inr holds)
+verified (Ran run bus) telling asked P old new done came tells status_is run_is holds = absurd came
+verified (RanPlain run) telling asked P old new done came tells status_is run_is holds = absurd came
+verified (Written written) telling asked P old new done came tells status_is run_is holds = inl (record {
+  telling = written;
+  writes = came;
+  status_is = status_is ∙ ap (λ t. code_of (status_of (Written written) t)) tells.1;
+  no_run = run_is;
+  silent = tells.0;
+})
+verified OtherTag telling asked P old new done came tells status_is run_is holds = inr (inl (record {
+  finds = came.0;
+  tells = subst (λ (n : ℕ). TellsResult tag_differs_line status.TagDiffers n old.note new.note) (sym status_is) (told_other_tag telling old.note new.note tells);
+  no_run = run_is;
+  silent = came.1;
+}))
+
+pub verify : {request : Result Asked WordsFault} {old new : World} {done : Done} → Outcome request old new done → (asked : ReportAsked) → request ≡ Ok (to_verify asked) → GivesReport asked old new done
+verify {request} {old} {new} {done} o asked asks =
+    verified o.course o.told asked (Undone (Ok (to_verify asked)) old new done) old new done
+    (came_as o (Ok (to_verify asked)) asks) o.tells o.status o.run (undone o (Ok (to_verify asked)) asks)
 
 -- ---- files that are to be refused
 
@@ -360,43 +429,51 @@ not_unfit need bytes other files content accepted (inr fault) =
     fault (ap need.fault (sym (same_bytes files.held need.name bytes other content accepted.told)) ∙ accepted.formed)
 
 -- so such a file is not among those that were all taken
-untaken : (before : List Need) (need : Need) (after : List Need) (bytes : List ℕ) (request : Option Asked) (files files' : FilesState) → needs_of request ≡ before ++ need ∷ after → HasTold files.held need.name bytes →
+untaken : (before : List Need) (need : Need) (after : List Need) (bytes : List ℕ) (request : Result Asked WordsFault) (files files' : FilesState) → needs_of request ≡ before ++ need ∷ after → HasTold files.held need.name bytes →
     IsUnfit need bytes → ¬ AllTaken request files files'
 untaken before need after bytes request files files' order content unfit taken =
     let at = accepted_at before need after files (subst (λ (needs : List Need). AreAccepted files needs) order taken.accepted) in
     not_unfit need bytes at.0 files content at.1 unfit
 
-refusal_unfit : (refusal : Refusal) (telling : Telling) (before : List Need) (need : Need) (after : List Need) (request : Option Asked) (files files' : FilesState) → needs_of request ≡ before ++ need ∷ after → IsRefused refusal request files files' →
+refusal_unfit : (refusal : Refusal) (telling : Telling) (before : List Need) (need : Need) (after : List Need) (request : Result Asked WordsFault) (files files' : FilesState) → needs_of request ≡ before ++ need ∷ after → IsRefused refusal request files files' →
     IsOneOf unrun_statuses (code_of (status_of (Refused refusal) telling))
 refusal_unfit refusal (Err no_memory) before need after request files files' order cause = (2, omega arith, refl)
 refusal_unfit (Usage text) (Ok _) before need after request files files' order cause = absurd (no_place before need after (sym (ap needs_of cause.0) ∙ order))
+refusal_unfit (WrongValue fault) (Ok _) before need after request files files' order cause = absurd (no_place before need after (sym (ap needs_of cause.0) ∙ order))
 refusal_unfit Unread (Ok _) before need after request files files' order cause = (1, omega arith, refl)
 refusal_unfit TooLong (Ok _) before need after request files files' order cause = (0, omega arith, refl)
 refusal_unfit (Elf fault) (Ok _) before need after request files files' order cause = (0, omega arith, refl)
 refusal_unfit (Asm line fault) (Ok _) before need after request files files' order cause = (0, omega arith, refl)
+refusal_unfit (Script line fault) (Ok _) before need after request files files' order cause = (0, omega arith, refl)
+refusal_unfit (Report fault) (Ok _) before need after request files files' order cause = (0, omega arith, refl)
 refusal_unfit (Usage text) (Err Failed) before need after request files files' order cause = absurd (no_place before need after (sym (ap needs_of cause.0) ∙ order))
+refusal_unfit (WrongValue fault) (Err Failed) before need after request files files' order cause = absurd (no_place before need after (sym (ap needs_of cause.0) ∙ order))
 refusal_unfit Unread (Err Failed) before need after request files files' order cause = (1, omega arith, refl)
 refusal_unfit TooLong (Err Failed) before need after request files files' order cause = (0, omega arith, refl)
 refusal_unfit (Elf fault) (Err Failed) before need after request files files' order cause = (0, omega arith, refl)
 refusal_unfit (Asm line fault) (Err Failed) before need after request files files' order cause = (0, omega arith, refl)
+refusal_unfit (Script line fault) (Err Failed) before need after request files files' order cause = (0, omega arith, refl)
+refusal_unfit (Report fault) (Err Failed) before need after request files files' order cause = (0, omega arith, refl)
 
 no_memory_unfit : (telling : Telling) → IsOneOf unrun_statuses (code_of (status_of NoMemory telling))
 no_memory_unfit (Ok _) = (2, omega arith, refl)
 no_memory_unfit (Err Failed) = (2, omega arith, refl)
 no_memory_unfit (Err no_memory) = (2, omega arith, refl)
 
-unfit_listed : (course : Course) (telling : Telling) (before : List Need) (need : Need) (after : List Need) (bytes : List ℕ) (request : Option Asked) (files files' : FilesState) (out out' : SinkState) → needs_of request ≡ before ++ need ∷ after →
+unfit_listed : (course : Course) (telling : Telling) (before : List Need) (need : Need) (after : List Need) (bytes : List ℕ) (request : Result Asked WordsFault) (files files' : FilesState) (out out' : SinkState) → needs_of request ≡ before ++ need ∷ after →
     HasTold files.held need.name bytes → IsUnfit need bytes → CameAbout course request files files' out out' → IsOneOf unrun_statuses (code_of (status_of course telling))
 unfit_listed (Refused refusal) telling before need after bytes request files files' out out' order content unfit came = refusal_unfit refusal telling before need after request files files' order came.0
 unfit_listed NoMemory telling before need after bytes request files files' out out' order content unfit came = no_memory_unfit telling
 unfit_listed (Ran run bus) telling before need after bytes request files files' out out' order content unfit came =
-    absurd (untaken before need after bytes request files files' order content unfit (ran_taken request files files' out out' run _ came))
+    absurd (untaken before need after bytes request files files' order content unfit (ran_taken request files files' out out' run bus came))
 unfit_listed (RanPlain run) telling before need after bytes request files files' out out' order content unfit came =
     absurd (untaken before need after bytes request files files' order content unfit (plainly_ran_taken request files files' out out' run came))
 unfit_listed (Written written) telling before need after bytes request files files' out out' order content unfit came =
     absurd (untaken before need after bytes request files files' order content unfit (written_taken request files files' out out' written came))
+unfit_listed OtherTag telling before need after bytes request files files' out out' order content unfit came =
+    absurd (untaken before need after bytes request files files' order content unfit (other_tag_taken request files files' came.0))
 
-pub unfit : {request : Option Asked} {old new : World} {done : Done} → Outcome request old new done → (before after : List Need) (need : Need) (bytes : List ℕ) →
+pub unfit : {request : Result Asked WordsFault} {old new : World} {done : Done} → Outcome request old new done → (before after : List Need) (need : Need) (bytes : List ℕ) →
     needs_of request ≡ before ++ need ∷ after → HasTold old.files.held need.name bytes → IsUnfit need bytes → IsOneOf unrun_statuses done.status
 unfit {request} {old} {new} o before after need bytes order content is =
     subst (λ (n : ℕ). IsOneOf unrun_statuses n) (sym o.status) (unfit_listed o.course o.told before need after bytes request old.files new.files old.out new.out order content is o.came)

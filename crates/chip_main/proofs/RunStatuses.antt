@@ -1,17 +1,21 @@
 -- What the status of a run on protected memory says of how it ended.
-use Rattle.std.proofs.Common.{◌≡◌, ◌≢◌, ◌<◌, ◌≤◌, inl, inr, List, ℕ, Option, Some, None, IfSome, refl, sym, ◌∙◌, subst, arith}
+use Rattle.std.proofs.Common.{◌≡◌, ◌≢◌, ◌<◌, ◌≤◌, inl, inr, List, ℕ, Option, Some, None, IfSome, IsTrue, refl, sym, ◌∙◌, subst, arith}
 use Rattle.sec_base.specs.Sink.{SinkState}
 use Rattle.sec_base.specs.declared.evidence.Evidence.{Evidence}
 use Rattle.sec_base.specs.declared.message.Message.{Message}
 use Rattle.sec_base.specs.declared.ending.Ending.{Ending}
 use Rattle.sec_base.specs.declared.ending.Ending.TheVariants.{Halted, Trapped, OutOfSteps, Tampered, Spent, WriteFault, NoMemory}
 use Rattle.sec_base.specs.declared.place.Place.{Place}
-use Rattle.bus_model.specs.BusHistory.{BusHistory}
+use Rattle.bus_adversary.specs.ChangedPlaces.{script_may_change}
+use Rattle.bus_model.specs.BusHistory.{BusHistory, Lie}
 use Rattle.chip_run.specs.Run.{RunsProtected, ShowsEvidence, Terms}
 use Rattle.chip_run.specs.declared.RunRecord.{RunRecord}
 use Rattle.bus_model.specs.FirstLie.{HonestOrCaught, IsCaught}
 use Rattle.sec_base.specs.Program.{Program}
 use Rattle.chip_words.specs.Request.{RunAsked}
+use Rattle.chip_main.specs.declared.run_bus.RunBus.{RunBus}
+use Rattle.chip_main.specs.Answer.{TampersByScript}
+use Rattle.chip_main.specs.Buses.{LiesByScript, run_history, bus_script}
 use Rattle.chip_main.specs.Device.{device_tag, terms_of}
 use Rattle.chip_main.specs.Status.{code_of, ending_status, evidence_status, status_with, run_status}
 use Rattle.chip_main.specs.Endings.{EndedWithoutEvidence, IsHalted, IsTrapped, IsOutOfSteps, EndedTampered, EndedSpent, EndedWithEvidence}
@@ -126,34 +130,34 @@ caught tag_of run told place ended (inl honest) = absurd (honest.untampered plac
 caught tag_of run told place ended (inr is) = is
 
 -- the causes of the statuses
-pub halted_cause : {terms : Terms} {old new : SinkState} {before told : BusHistory} {run : RunRecord} → RunsProtected terms old new before told run → code_of (run_status run) ≡ 0 → EndedWithoutEvidence IsHalted run told
+pub halted_cause : {terms : Terms} {old new : SinkState} {before : BusHistory} {run : RunRecord} (bus : RunBus) → RunsProtected terms old new before (run_history bus) run → code_of (run_status run) ≡ 0 → EndedWithoutEvidence IsHalted run bus
 unfolding HasNoEvidence
-halted_cause {run = run} runs is =
+halted_cause {run = run} bus runs is =
     let low = low_status run 0 is (omega arith) in record { no_evidence = low.0; ended = halted_of run.ending low.1 }
 
-pub trapped_cause : {terms : Terms} {old new : SinkState} {before told : BusHistory} {run : RunRecord} → RunsProtected terms old new before told run → code_of (run_status run) ≡ 1 → EndedWithoutEvidence IsTrapped run told
+pub trapped_cause : {terms : Terms} {old new : SinkState} {before : BusHistory} {run : RunRecord} (bus : RunBus) → RunsProtected terms old new before (run_history bus) run → code_of (run_status run) ≡ 1 → EndedWithoutEvidence IsTrapped run bus
 unfolding HasNoEvidence
-trapped_cause {run = run} runs is =
+trapped_cause {run = run} bus runs is =
     let low = low_status run 1 is (omega arith) in record { no_evidence = low.0; ended = trapped_of run.ending low.1 }
 
-pub out_of_steps_cause : {terms : Terms} {old new : SinkState} {before told : BusHistory} {run : RunRecord} → RunsProtected terms old new before told run → code_of (run_status run) ≡ 4 → EndedWithoutEvidence IsOutOfSteps run told
+pub out_of_steps_cause : {terms : Terms} {old new : SinkState} {before : BusHistory} {run : RunRecord} (bus : RunBus) → RunsProtected terms old new before (run_history bus) run → code_of (run_status run) ≡ 4 → EndedWithoutEvidence IsOutOfSteps run bus
 unfolding HasNoEvidence
-out_of_steps_cause {run = run} runs is =
+out_of_steps_cause {run = run} bus runs is =
     let low = low_status run 4 is (omega arith) in record { no_evidence = low.0; ended = out_of_steps_of run.ending low.1 }
 
-pub tampered_cause : (asked : RunAsked) (program : Program) (input : List ℕ) {old new : SinkState} {before told : BusHistory} {run : RunRecord} → RunsProtected (terms_of asked program input) old new before told run → code_of (run_status run) ≡ 5 → EndedTampered asked run told
+pub tampered_cause : (asked : RunAsked) (program : Program) (input : List ℕ) (bus : RunBus) {old new : SinkState} {before : BusHistory} {run : RunRecord} → RunsProtected (terms_of asked program input) old new before (run_history bus) run → code_of (run_status run) ≡ 5 → EndedTampered asked run bus
 unfolding HasNoEvidence
-tampered_cause asked program input {told = told} {run = run} runs is =
+tampered_cause asked program input bus {run = run} runs is =
     let low = low_status run 5 is (omega arith) in
     let ending = tampered_of run.ending low.1 in
     record {
       no_evidence = low.0;
-      caught = caught (device_tag asked.terms asked.execution.file.levels) run told ending.0 ending.1 (runs.without_evidence low.0).answers;
+      caught = caught (device_tag asked.terms asked.execution.file.levels) run (run_history bus) ending.0 ending.1 (runs.without_evidence low.0).answers;
     }
 
-pub spent_cause : (asked : RunAsked) (program : Program) (input : List ℕ) {old new : SinkState} {before told : BusHistory} {run : RunRecord} → RunsProtected (terms_of asked program input) old new before told run → code_of (run_status run) ≡ 6 → EndedSpent asked run told
+pub spent_cause : (asked : RunAsked) (program : Program) (input : List ℕ) (bus : RunBus) {old new : SinkState} {before : BusHistory} {run : RunRecord} → RunsProtected (terms_of asked program input) old new before (run_history bus) run → code_of (run_status run) ≡ 6 → EndedSpent asked run bus
 unfolding HasNoEvidence
-spent_cause asked program input {run = run} runs is =
+spent_cause asked program input bus {run = run} runs is =
     let low = low_status run 6 is (omega arith) in
     let ending = spent_of run.ending low.1 in
     record {
@@ -164,10 +168,10 @@ spent_cause asked program input {run = run} runs is =
       below = λ default. (runs.without_evidence low.0).unspent default ending.0 ending.1;
     }
 
-pub evidence_cause : (asked : RunAsked) (program : Program) (input : List ℕ) {old new : SinkState} {before told : BusHistory} {run : RunRecord} → RunsProtected (terms_of asked program input) old new before told run → code_of (run_status run) ≡ 7 → EndedWithEvidence asked run told
-evidence_cause asked program input {told = told} {run = run} runs is =
+pub evidence_cause : (asked : RunAsked) (program : Program) (input : List ℕ) (bus : RunBus) {old new : SinkState} {before : BusHistory} {run : RunRecord} → RunsProtected (terms_of asked program input) old new before (run_history bus) run → code_of (run_status run) ≡ 7 → EndedWithEvidence asked run bus
+evidence_cause asked program input bus {run = run} runs is =
     let found = evidence_of run.evidence run.ending is in
-    let shown = if_some (ShowsEvidence (terms_of asked program input) told run) run.evidence found.0 found.1 runs.with_evidence in
+    let shown = if_some (ShowsEvidence (terms_of asked program input) (run_history bus) run) run.evidence found.0 found.1 runs.with_evidence in
     record {
       evidence = found.0;
       there = found.1;
@@ -176,6 +180,19 @@ evidence_cause asked program input {told = told} {run = run} runs is =
       written = fault_is_no_seven run.evidence run.ending is;
       in_memory = memory_is_no_seven run.evidence run.ending is;
     }
+
+-- where the first false answer is about a place that the script may change, so is tampering
+if_place : (P : Place → Type 0) (first : Option Lie) (lie : Lie) (place : Place) → first ≡ Some lie → lie.place ≡ place → IfSome first (λ l. P l.place) → P place
+if_place P first lie place is same holds = subst P same (if_some (λ l. P l.place) first lie is holds)
+
+same_place : {first second : Place} {ending : Ending} → ending ≡ Tampered first → ending ≡ Tampered second → first ≡ second
+same_place {first} {second} ended other = let e : Tampered first ≡ Tampered second = sym ended ∙ other in cc
+
+pub tampers_by_script : {terms : Terms} {old new : SinkState} {before : BusHistory} {run : RunRecord} (bus : RunBus) → LiesByScript bus → RunsProtected terms old new before (run_history bus) run → TampersByScript run bus
+tampers_by_script {terms = terms} {run = run} bus by_script runs = λ place none ended.
+    let is = caught terms.tag_of run (run_history bus) place ended (runs.without_evidence none).answers in
+    if_place (λ p. IsTrue (script_may_change (bus_script bus) p)) (run_history bus).lie is.lie place is.first
+    (same_place is.ended ended) by_script.first
 
 -- evidence is of a false answer
 none_without_lie : (terms : Terms) (evidence : Option Evidence) (run : RunRecord) (told : BusHistory) → IfSome evidence (ShowsEvidence terms told run) → told.lies ≡ 0 → evidence ≡ None

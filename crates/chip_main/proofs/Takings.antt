@@ -7,21 +7,26 @@ use Rattle.sec_base.specs.Files.{FilesState, HasBytes, HasOver}
 use Rattle.sec_base.specs.declared.files.ReadStop.{ReadStop}
 use Rattle.sec_base.specs.declared.files.ReadStop.TheVariants.{Failed, Long, NoMemory as no_memory_read}
 use Rattle.sec_base.specs.declared.image.Image.{Image}
+use Rattle.adversary_script.specs.Script.{script_of}
+use Rattle.adversary_script.specs.declared.fault.ScriptError.{ScriptError}
+use Rattle.adversary_script.specs.declared.fault.ScriptError.TheVariants.{Fault as ScriptFaulty, NoMemory as script_no_memory}
+use Rattle.adversary_script.specs.declared.fault.ScriptFault.{ScriptFault}
+use Rattle.adversary_script.specs.declared.script.ScriptLine.{ScriptLine}
 use Rattle.elf_load.specs.Program.{elf_program, flat_program}
 use Rattle.rv32_asm.specs.Program.{assembled_program}
-use Rattle.chip_words.specs.Request.{ExecutionAsked, FileAsked}
+use Rattle.chip_words.specs.Request.{ExecutionAsked, FileAsked, RunAsked}
 use Rattle.chip_words.specs.declared.request.ProgramForm.{ProgramForm}
 use Rattle.chip_words.specs.declared.request.ProgramForm.TheVariants.{ElfFile, FlatFile, AssemblyText}
 use Rattle.sec_base.specs.Program.{IsImageOf, Program}
 use Rattle.chip_main.specs.declared.refusal.Refusal.{Refusal}
-use Rattle.chip_main.specs.declared.refusal.Refusal.TheVariants.{Usage, Unread, TooLong, Elf, Asm}
+use Rattle.chip_main.specs.declared.refusal.Refusal.TheVariants.{Usage, WrongValue, Unread, TooLong, Elf, Asm, Script, Report}
 use Rattle.chip_main.specs.declared.stop.Stop.{Stop}
 use Rattle.chip_main.specs.declared.stop.Stop.TheVariants.{Refused, NoMemory}
-use Rattle.chip_main.specs.Program.{IsImageIn, limit_of, or_refusal, program_in, program_of_file}
-use Rattle.chip_main.specs.Needs.{Need, AreAccepted, IsAccepted, input_needs, names, program_need}
+use Rattle.chip_main.specs.Program.{IsImageIn, limit_of, or_refusal, program_in, program_of_file, script_in, script_limit}
+use Rattle.chip_main.specs.Needs.{Need, AreAccepted, IsAccepted, input_needs, names, program_need, script_need, script_needs}
 use Rattle.chip_main.specs.Causes.{Asks, IsCause, IsMisformed, IsLater}
-use Rattle.chip_main.specs.Stop.{IsStoppedBy, read_stop_of}
-use Rattle.chip_main.specs.Taken.{IsInput, IsProgram, ReadsExecution}
+use Rattle.chip_main.specs.Stop.{IsStoppedBy, read_stop_of, script_stop_of}
+use Rattle.chip_main.specs.Taken.{IsInput, IsProgram, IsScript, IsScriptFile, ReadsExecution, ReadsRun}
 
 -- what holds of each error that a result may be holds of its error
 pub at_err : {A E : Type 0} (result : Result A E) (P : E → Type 0) → ((error : E) → result ≡ Err error → P error) → IfErr result P
@@ -84,18 +89,21 @@ misformed files file bytes refusal told within is =
 -- a reason that a file's bytes may be refused for
 abbrev pub IsOfBytes : Refusal → Type 0
 IsOfBytes (Usage text) = ⊥
+IsOfBytes (WrongValue fault) = ⊥
 IsOfBytes Unread = ⊥
 IsOfBytes TooLong = ⊥
 IsOfBytes (Elf fault) = Unit {0}
 IsOfBytes (Asm line fault) = Unit {0}
+IsOfBytes (Script line fault) = Unit {0}
+IsOfBytes (Report fault) = Unit {0}
 
-as_refused : (refusal other : Refusal) → IsOfBytes refusal → ◌≡◌ {A = Result Program Refusal} (Err refusal) (Err other) → IsOfBytes other
+as_refused : {X : Type 0} (refusal other : Refusal) → IsOfBytes refusal → ◌≡◌ {A = Result X Refusal} (Err refusal) (Err other) → IsOfBytes other
 as_refused refusal other is same =
     let both : Some refusal ≡ Some other = ap result_err same in subst (λ (o : Option Refusal). IfSome o IsOfBytes) both is
 
-fault_refused : {E : Type 0} (refused : E → Refusal) (read : Result Program E) (refusal : Refusal) → ((fault : E) → IsOfBytes (refused fault)) →
+fault_refused : {X E : Type 0} (refused : E → Refusal) (read : Result X E) (refusal : Refusal) → ((fault : E) → IsOfBytes (refused fault)) →
     or_refusal refused read ≡ Err refusal → IsOfBytes refusal
-fault_refused refused (Ok program) refusal of_bytes is = absurd cc
+fault_refused refused (Ok read) refusal of_bytes is = absurd cc
 fault_refused refused (Err fault) refusal of_bytes is = as_refused (refused fault) refusal (of_bytes fault) is
 
 file_refused : (form : ProgramForm) (size : ℕ) (bytes : List ℕ) (refusal : Refusal) → program_in form size bytes ≡ Err refusal → IsOfBytes refusal
@@ -104,12 +112,15 @@ file_refused FlatFile size bytes refusal is = fault_refused Elf (flat_program by
 file_refused AssemblyText size bytes refusal is =
     fault_refused (λ fault. Asm fault.line fault.code) (assembled_program bytes size) refusal (λ fault. tt) is
 
-is_cause : (refusal : Refusal) (need : Need) (old new : FilesState) → IsOfBytes refusal → IsMisformed refusal need old → IsCause refusal need old new
+pub is_cause : (refusal : Refusal) (need : Need) (old new : FilesState) → IsOfBytes refusal → IsMisformed refusal need old → IsCause refusal need old new
 is_cause (Usage text) need old new of_bytes bad = absurd of_bytes
+is_cause (WrongValue fault) need old new of_bytes bad = absurd of_bytes
 is_cause Unread need old new of_bytes bad = absurd of_bytes
 is_cause TooLong need old new of_bytes bad = absurd of_bytes
 is_cause (Elf fault) need old new of_bytes bad = bad
 is_cause (Asm line fault) need old new of_bytes bad = bad
+is_cause (Script line fault) need old new of_bytes bad = bad
+is_cause (Report fault) need old new of_bytes bad = bad
 
 -- its file was read, and is no program
 pub untold : (stop : Stop) (file : FileAsked) (bytes : List ℕ) (old new : FilesState) → HasBytes old.held file.name bytes → length bytes ≤ limit_of file.form → Asks (program_need file ∷ []) old new →
@@ -171,6 +182,7 @@ misformed_before refusal need old mid same bad = record {
 -- the cause in the read of a file is one in all that was read
 pub whole_cause : (refusal : Refusal) (need : Need) (old mid new : FilesState) → IsLater old mid → IsCause refusal need mid new → IsCause refusal need old new
 whole_cause (Usage text) need old mid new later cause = cause
+whole_cause (WrongValue fault) need old mid new later cause = cause
 whole_cause Unread need old mid new later cause = let risen : Rose mid.faults new.faults = cause in let grew = later.faults in omega arith
 whole_cause TooLong need old mid new later cause = (
   subst (λ (held : Option (List ℕ → Option (List ℕ))). HasOver held need.name need.limit) later.held cause.0,
@@ -178,39 +190,51 @@ whole_cause TooLong need old mid new later cause = (
 )
 whole_cause (Elf fault) need old mid new later cause = misformed_before (Elf fault) need old mid later.held cause
 whole_cause (Asm line fault) need old mid new later cause = misformed_before (Asm line fault) need old mid later.held cause
+whole_cause (Script line fault) need old mid new later cause = misformed_before (Script line fault) need old mid later.held cause
+whole_cause (Report fault) need old mid new later cause = misformed_before (Report fault) need old mid later.held cause
 
-asks_both : (need : Need) (needs : List Need) (old mid new : FilesState) → Asks (need ∷ []) old mid → Asks needs mid new → Asks (need ∷ needs) old new
-asks_both need needs old mid new first others =
-    others ∙ ap (λ (asked : List (List ℕ)). asked ++ names needs) first ∙ append_assoc old.asked (need.name ∷ []) (names needs)
+names_of_both : (before after : List Need) → names (before ++ after) ≡ names before ++ names after
+names_of_both [] after = refl
+names_of_both (need ∷ before) after = ap (λ (l : List (List ℕ)). need.name ∷ l) (names_of_both before after)
 
--- the first file was taken, and one of the others stopped it
-pub stops_later : (stop : Stop) (need : Need) (bytes : List ℕ) (needs : List Need) (old mid new : FilesState) → IsAccepted old need bytes → Asks (need ∷ []) old mid → IsLater old mid →
-    IsStoppedBy stop needs mid new → IsStoppedBy stop (need ∷ needs) old new
-stops_later (Refused refusal) need bytes needs old mid new accepted asked later stops = record {
-  before = need ∷ stops.before;
+pub asks_more : (before after : List Need) (old mid new : FilesState) → Asks before old mid → Asks after mid new → Asks (before ++ after) old new
+asks_more before after old mid new first others =
+    others ∙ ap (λ (asked : List (List ℕ)). asked ++ names after) first ∙ append_assoc old.asked (names before) (names after)
+    ∙ ap (λ (l : List (List ℕ)). old.asked ++ l) (sym (names_of_both before after))
+
+pub both_accepted : (first others : List Need) (files : FilesState) → AreAccepted files first → AreAccepted files others → AreAccepted files (first ++ others)
+both_accepted [] others files accepted more = more
+both_accepted (need ∷ first) others files accepted more = (accepted.0, both_accepted first others files accepted.1 more)
+
+-- the first files were taken, and one of the others stopped it
+pub stops_later : (stop : Stop) (first needs : List Need) (old mid new : FilesState) → AreAccepted old first → Asks first old mid → IsLater old mid → IsStoppedBy stop needs mid new → IsStoppedBy stop (first ++ needs) old new
+stops_later (Refused refusal) first needs old mid new accepted asked later stops = record {
+  before = first ++ stops.before;
   here = stops.here;
   after = stops.after;
-  order = ap (λ (l : List Need). need ∷ l) stops.order;
-  accepted = ((bytes, accepted), all_before stops.before old mid later.held stops.accepted);
+  order = ap (λ (l : List Need). first ++ l) stops.order ∙ sym (append_assoc first stops.before (stops.here ∷ stops.after));
+  accepted = both_accepted first stops.before old accepted (all_before stops.before old mid later.held stops.accepted);
   mid = stops.mid;
   later = later_on old mid stops.mid later stops.later;
-  reached = asks_both need stops.before old mid stops.mid asked stops.reached;
+  reached = asks_more first stops.before old mid stops.mid asked stops.reached;
   asked = stops.asked;
   cause = stops.cause;
 }
-stops_later NoMemory need bytes needs old mid new accepted asked later stops = record {
-  before = need ∷ stops.before;
+stops_later NoMemory first needs old mid new accepted asked later stops = record {
+  before = first ++ stops.before;
   tried = stops.tried;
   after = stops.after;
-  order = ap (λ (l : List Need). need ∷ l) stops.order;
-  accepted = ((bytes, accepted), all_before stops.before old mid later.held stops.accepted);
+  order = ap (λ (l : List Need). first ++ l) stops.order ∙ sym (append_assoc first (stops.before ++ stops.tried) stops.after)
+      ∙ ap (λ (l : List Need). l ++ stops.after) (sym (append_assoc first stops.before stops.tried));
+  accepted = both_accepted first stops.before old accepted (all_before stops.before old mid later.held stops.accepted);
   one = stops.one;
-  asked = asks_both need (stops.before ++ stops.tried) old mid new asked stops.asked;
+  asked = subst (λ (l : List Need). Asks l old new) (sym (append_assoc first stops.before stops.tried))
+      (asks_more first (stops.before ++ stops.tried) old mid new asked stops.asked);
 }
 
--- the first file stopped it
-pub stops_first : (stop : Stop) (need : Need) (more : List Need) (old new : FilesState) → IsStoppedBy stop (need ∷ []) old new → IsStoppedBy stop (need ∷ more) old new
-stops_first (Refused refusal) need more old new stops = record {
+-- one of the first files stopped it
+pub stops_first : (stop : Stop) (needs more : List Need) (old new : FilesState) → IsStoppedBy stop needs old new → IsStoppedBy stop (needs ++ more) old new
+stops_first (Refused refusal) needs more old new stops = record {
   before = stops.before;
   here = stops.here;
   after = stops.after ++ more;
@@ -222,7 +246,7 @@ stops_first (Refused refusal) need more old new stops = record {
   asked = stops.asked;
   cause = stops.cause;
 }
-stops_first NoMemory need more old new stops = record {
+stops_first NoMemory needs more old new stops = record {
   before = stops.before;
   tried = stops.tried;
   after = stops.after ++ more;
@@ -244,5 +268,43 @@ pub takes_both : (execution : ExecutionAsked) (program : Program) (input : List 
 takes_both execution program input old mid new told first same is others = record {
   program_is = told;
   input_is = input_before execution.input input old mid same is;
-  asked = asks_both (program_need execution.file) (input_needs execution.input) old mid new first others;
+  asked = asks_more (program_need execution.file ∷ []) (input_needs execution.input) old mid new first others;
+}
+
+-- ---- a script
+
+-- its file was read, and is one
+pub tells_script : (files : FilesState) (levels : ℕ) (name bytes : List ℕ) (script : List ScriptLine) → HasBytes files.held name bytes → length bytes ≤ script_limit → script_of levels bytes ≡ Ok script →
+    IsScriptFile files levels name script
+tells_script files levels name bytes script told within is =
+    let same : script_in levels bytes ≡ Ok script = ap (or_refusal (λ fault. Script fault.line fault.code)) is in
+    record { bytes = bytes; accepted = record { told = told; within = within; formed = ap result_err same }; is = same }
+
+-- its file was read, and is no script
+pub no_script : (error : ScriptError) (levels : ℕ) (name bytes : List ℕ) (old new : FilesState) → HasBytes old.held name bytes → length bytes ≤ script_limit → Asks (script_need levels name ∷ []) old new →
+    ((line : ℕ) (code : ScriptFault) → error ≡ ScriptFaulty line code → script_of levels bytes ≡ Err (record { line = line; code = code })) → IsStoppedBy (script_stop_of error) (script_need levels name ∷ []) old new
+no_script (ScriptFaulty line code) levels name bytes old new told within asked refused =
+    let same : script_in levels bytes ≡ Err (Script line code) = ap (or_refusal (λ fault. Script fault.line fault.code)) (refused line code refl) in
+    stops_here (Script line code) (script_need levels name) old new asked
+    (record { bytes = bytes; told = told; within = within; fault = ap result_err same })
+no_script script_no_memory levels name bytes old new told within asked refused = runs_out_here (script_need levels name) old new (inr asked)
+
+script_before : (levels : ℕ) (file : Option (List ℕ)) (script : Option (List ScriptLine)) (old mid : FilesState) → mid.held ≡ old.held → IsScript mid levels file script → IsScript old levels file script
+script_before levels None None old mid same is = tt
+script_before levels None (Some script) old mid same is = absurd is
+script_before levels (Some file) None old mid same is = absurd is
+script_before levels (Some file) (Some script) old mid same is =
+    record { bytes = is.bytes; accepted = accepted_before _ is.bytes old mid same is.accepted; is = is.is }
+
+-- all three were taken
+pub takes_all : (asked : RunAsked) (program : Program) (script : Option (List ScriptLine)) (input : List ℕ) (old mid late new : FilesState) → IsProgram old asked.execution.file program →
+    Asks (program_need asked.execution.file ∷ []) old mid → mid.held ≡ old.held → IsScript mid asked.execution.file.levels asked.script script →
+    Asks (script_needs asked.execution.file.levels asked.script) mid late → late.held ≡ mid.held → IsInput late asked.execution.input input → Asks (input_needs asked.execution.input) late new →
+    ReadsRun asked old new program script input
+takes_all asked program script input old mid late new told first same is then later has others = record {
+  program_is = told;
+  script_is = script_before asked.execution.file.levels asked.script script old mid same is;
+  input_is = input_before asked.execution.input input old late (later ∙ same) has;
+  asked = asks_more (program_need asked.execution.file ∷ []) (script_needs asked.execution.file.levels asked.script ++ input_needs asked.execution.input) old mid new first
+      (asks_more (script_needs asked.execution.file.levels asked.script) (input_needs asked.execution.input) mid late new then others);
 }

@@ -1,5 +1,6 @@
 -- Where the files tell all that is needed and nothing fails, what was asked for is done whole.
-use Rattle.std.proofs.Common.{◌≡◌, ◌≢◌, ◌<◌, ◌≤◌, ◌⊎◌, inl, inr, List, [], ◌∷◌, ℕ, suc, length, Option, Some, None, Ok, Err, IsSome, refl, sym, ap, ◌∙◌, subst, arith}
+use Rattle.std.proofs.Common.{◌≡◌, ◌≢◌, ◌<◌, ◌≤◌, ◌⊎◌, inl, inr, List, [], ◌∷◌, ℕ, suc, length, Option, Some, None, Result, Ok, Err, IsSome, refl, sym, ap, ◌∙◌, subst, arith}
+use Rattle.adversary_script.specs.declared.script.ScriptLine.{ScriptLine}
 use Rattle.sec_base.specs.Count.{Rose}
 use Rattle.sec_base.specs.Files.{FilesState, HasBytes, HasOver, IsOver}
 use Rattle.sec_base.specs.Sink.{SinkState}
@@ -12,32 +13,36 @@ use Rattle.rv32_core.specs.Follows.{IsWhole}
 use Rattle.plain_machine.specs.declared.PlainRecord.{PlainRecord}
 use Rattle.chip_run.specs.Run.{RunsProtected}
 use Rattle.chip_run.specs.declared.RunRecord.{RunRecord}
-use Rattle.chip_words.specs.Request.{Asked, ExecutionAsked, FileAsked, RunAsked, asked_file, to_assemble, to_disassemble, to_measure, to_run, to_run_plain}
+use Rattle.chip_words.specs.Request.{Asked, ExecutionAsked, FileAsked, ReportAsked, RunAsked, WordsFault, to_assemble, to_disassemble, to_measure, to_run, to_run_plain, to_verify}
 use Rattle.sec_base.specs.Program.{Program}
 use Rattle.chip_main.specs.declared.refusal.Refusal.{Refusal}
-use Rattle.chip_main.specs.declared.refusal.Refusal.TheVariants.{Usage, Unread, TooLong, Elf, Asm}
+use Rattle.chip_main.specs.declared.refusal.Refusal.TheVariants.{Usage, WrongValue, Unread, TooLong, Elf, Asm, Script, Report}
 use Rattle.chip_main.specs.declared.run_bus.RunBus.{RunBus}
 use Rattle.chip_main.specs.declared.course.Course.{Course}
-use Rattle.chip_main.specs.declared.course.Course.TheVariants.{Refused, NoMemory, Ran, RanPlain, Written}
+use Rattle.chip_main.specs.declared.course.Course.TheVariants.{Refused, NoMemory, Ran, RanPlain, Written, OtherTag}
 use Rattle.chip_main.specs.declared.Done.{Done}
 use Rattle.chip_main.specs.World.{World}
 use Rattle.chip_main.specs.Device.{terms_of}
 use Rattle.chip_main.specs.Program.{opening, program_of_file}
 use Rattle.chip_main.specs.PlainRun.{RunsPlain}
-use Rattle.chip_main.specs.Needs.{Need, AreAccepted, HasTold, IsAccepted, asked_needs}
+use Rattle.attest_report.specs.declared.refusal.ReportError.{ReportError}
+use Rattle.attest_report.specs.declared.refusal.ReportError.TheVariants.{Tag}
+use Rattle.chip_main.specs.Verdict.{verdict_of}
+use Rattle.chip_main.specs.Needs.{Need, AreAccepted, HasTold, IsAccepted, asked_needs, report_need}
 use Rattle.chip_main.specs.Causes.{IsCause, IsMisformed, IsRefused, Stops}
 use Rattle.chip_main.specs.Taken.{IsInput, IsProgram, Tell}
 use Rattle.chip_main.specs.Status.{IsOneOf, code_of, Telling, ending_status, run_status}
 use Rattle.chip_main.specs.declared.status.Status.{Status}
 use Rattle.chip_main.specs.declared.status.Status.TheVariants as status
 use Rattle.chip_main.specs.Buses.{AreBothAnd, lies_of, run_history}
-use Rattle.chip_main.specs.Whole.{Faultless, RanWhole, Ready, plain_status, whole_statuses}
-use Rattle.chip_main.specs.Requests.{PlainlyRuns, RunsExecution, Writes}
+use Rattle.chip_main.specs.Whole.{Faultless, RanWhole, Ready, plain_status, verdict_status, whole_statuses}
+use Rattle.chip_main.specs.Requests.{PlainlyRuns, RunsRequested, Writes, WritesReport}
 use Rattle.chip_main.specs.Course.{CameAbout, Outcome, TellsCourse, course_bus, course_run, status_of}
 use Rattle.chip_main.specs.Texts.{elf_file, listing, measurement_line}
-use Rattle.chip_main.proofs.Courses.{input_accepted, program_accepted}
+use Rattle.chip_main.proofs.Courses.{all_accepted, input_accepted, program_accepted}
 use Rattle.chip_main.proofs.Takings.{whole_cause}
 use Rattle.chip_main.proofs.Requested.{WritesOr, accepted_at, asm_came, came_as, dis_came, measure_came, same_bytes}
+use Rattle.chip_main.proofs.Verdicts.{made_verdict}
 use Rattle.chip_main.proofs.RunStatuses.{honest_without_evidence, run_status_without_evidence}
 
 -- ---- nothing is refused
@@ -63,33 +68,39 @@ formed refusal need bytes files tells accepted bad =
 
 no_cause : (refusal : Refusal) (need : Need) (bytes : List ℕ) (files files' : FilesState) → Tell files → IsAccepted files need bytes → ¬ Rose files.faults files'.faults → ¬ IsCause refusal need files files'
 no_cause (Usage text) need bytes files files' tells accepted quiet cause = cause
+no_cause (WrongValue fault) need bytes files files' tells accepted quiet cause = cause
 no_cause Unread need bytes files files' tells accepted quiet cause = quiet cause
 no_cause TooLong need bytes files files' tells accepted quiet cause =
     not_over files.held need.name bytes need.limit (has_told files.held need.name bytes tells accepted.told) accepted.within cause.0
 no_cause (Elf fault) need bytes files files' tells accepted quiet cause = formed (Elf fault) need bytes files tells accepted cause
 no_cause (Asm line fault) need bytes files files' tells accepted quiet cause = formed (Asm line fault) need bytes files tells accepted cause
+no_cause (Script line fault) need bytes files files' tells accepted quiet cause = formed (Script line fault) need bytes files tells accepted cause
+no_cause (Report fault) need bytes files files' tells accepted quiet cause = formed (Report fault) need bytes files tells accepted cause
 
 no_stop : (refusal : Refusal) (needs : List Need) (files files' : FilesState) → Tell files → AreAccepted files needs → ¬ Rose files.faults files'.faults → ¬ Stops refusal needs files files'
 no_stop refusal needs files files' tells accepted quiet stops =
     let at = accepted_at stops.before stops.here stops.after files (subst (λ (n : List Need). AreAccepted files n) stops.order accepted) in
     no_cause refusal stops.here at.0 files files' tells at.1 quiet (whole_cause refusal stops.here files stops.mid files' stops.later stops.cause)
 
-unrefused : (refusal : Refusal) (asked : Asked) (files files' : FilesState) → Tell files → AreAccepted files (asked_needs asked) → ¬ Rose files.faults files'.faults → ¬ IsRefused refusal (Some asked) files files'
-unrefused (Usage text) asked files files' tells accepted quiet cause = let e : Some asked ≡ None = cause.0 in cc
+unrefused : (refusal : Refusal) (asked : Asked) (files files' : FilesState) → Tell files → AreAccepted files (asked_needs asked) → ¬ Rose files.faults files'.faults → ¬ IsRefused refusal (Ok asked) files files'
+unrefused (Usage text) asked files files' tells accepted quiet cause = let e : ◌≡◌ {A = Result Asked WordsFault} (Ok asked) (Err _) = cause.0 in cc
+unrefused (WrongValue fault) asked files files' tells accepted quiet cause = let e : ◌≡◌ {A = Result Asked WordsFault} (Ok asked) (Err _) = cause.0 in cc
 unrefused Unread asked files files' tells accepted quiet cause = no_stop Unread (asked_needs asked) files files' tells accepted quiet cause
 unrefused TooLong asked files files' tells accepted quiet cause = no_stop TooLong (asked_needs asked) files files' tells accepted quiet cause
 unrefused (Elf fault) asked files files' tells accepted quiet cause = no_stop (Elf fault) (asked_needs asked) files files' tells accepted quiet cause
 unrefused (Asm line fault) asked files files' tells accepted quiet cause = no_stop (Asm line fault) (asked_needs asked) files files' tells accepted quiet cause
+unrefused (Script line fault) asked files files' tells accepted quiet cause = no_stop (Script line fault) (asked_needs asked) files files' tells accepted quiet cause
+unrefused (Report fault) asked files files' tells accepted quiet cause = no_stop (Report fault) (asked_needs asked) files files' tells accepted quiet cause
 
 -- all that is needed is accepted
-ready_accepted : (asked : Asked) (files : FilesState) (program : Program) (input : List ℕ) → Ready asked files program input → AreAccepted files (asked_needs asked)
-ready_accepted (to_run asked) files program input ready =
-    (program_accepted asked.execution.file program files ready.program_is, input_accepted asked.execution.input input files ready.input_is)
-ready_accepted (to_run_plain execution) files program input ready =
+ready_accepted : (asked : Asked) (files : FilesState) (program : Program) (script : Option (List ScriptLine)) (input : List ℕ) → Ready asked files program script input → AreAccepted files (asked_needs asked)
+ready_accepted (to_run asked) files program script input ready = all_accepted asked files program script input ready.program_is ready.script_is ready.input_is
+ready_accepted (to_run_plain execution) files program script input ready =
     (program_accepted execution.file program files ready.program_is, input_accepted execution.input input files ready.input_is)
-ready_accepted (to_assemble file) files program input ready = (program_accepted file program files ready.program_is, tt)
-ready_accepted (to_disassemble file) files program input ready = (program_accepted file program files ready.program_is, tt)
-ready_accepted (to_measure file) files program input ready = (program_accepted file program files ready.program_is, tt)
+ready_accepted (to_assemble file) files program script input ready = (program_accepted file program files ready.program_is, tt)
+ready_accepted (to_disassemble file) files program script input ready = (program_accepted file program files ready.program_is, tt)
+ready_accepted (to_measure file) files program script input ready = (program_accepted file program files ready.program_is, tt)
+ready_accepted (to_verify report) files program script input ready = absurd ready.program_is
 
 -- ---- what was taken is what is ready
 
@@ -114,8 +125,8 @@ memory_cases memory_ended = inl refl
 -- ---- a run on protected memory
 
 -- it is the run over the whole budget
-abbrev pub IsRunWhole : ExecutionAsked → Program → List ℕ → ℕ → RunRecord → BusHistory → Type 0
-IsRunWhole execution program input status run told =
+abbrev pub IsRunWhole : ExecutionAsked → Program → List ℕ → ℕ → RunRecord → RunBus → Type 0
+IsRunWhole execution program input status run bus =
     IsWhole (opening execution.file.levels program input) execution.steps run.retired run.ending × (status ≡ code_of (ending_status run.ending))
 
 abbrev pub other_statuses : List Status
@@ -127,9 +138,9 @@ other status is = subst (λ (n : ℕ). IsOneOf other_statuses n) (sym is) (1, om
 used_up : (status : ℕ) → status ≡ 6 → IsOneOf other_statuses status
 used_up status is = subst (λ (n : ℕ). IsOneOf other_statuses n) (sym is) (0, omega arith, refl)
 
-ran_whole : (asked : RunAsked) (program : Program) (input : List ℕ) (out out' : SinkState) (before told : BusHistory) (run : RunRecord) → RunsProtected (terms_of asked program input) out out' before told run → told.lies ≡ 0 → ¬ Rose out.faults out'.faults →
-    IsOneOf other_statuses (code_of (run_status run)) ⊎ IsRunWhole asked.execution program input (code_of (run_status run)) run told
-ran_whole asked program input out out' before told run runs none quiet =
+ran_whole : (asked : RunAsked) (program : Program) (input : List ℕ) (out out' : SinkState) (before : BusHistory) (bus : RunBus) (run : RunRecord) → RunsProtected (terms_of asked program input) out out' before (run_history bus) run → (run_history bus).lies ≡ 0 → ¬ Rose out.faults out'.faults →
+    IsOneOf other_statuses (code_of (run_status run)) ⊎ IsRunWhole asked.execution program input (code_of (run_status run)) run bus
+ran_whole asked program input out out' before bus run runs none quiet =
     let ending_is = run_status_without_evidence run (honest_without_evidence runs none) in
     elim (memory_cases run.ending) [
       | inl gone ↦ inl (other (code_of (run_status run)) (ending_is ∙ ap (λ e. code_of (ending_status e)) gone))
@@ -139,37 +150,39 @@ ran_whole asked program input out out' before told run runs none quiet =
       ]
     ]
 
-ran_ready : (asked : RunAsked) (program : Program) (input : List ℕ) (files files' : FilesState) (out out' : SinkState) (run : RunRecord) (told : BusHistory) → Ready (to_run asked) files program input → RunsExecution asked files files' out out' run told →
-    told.lies ≡ 0 → ¬ Rose out.faults out'.faults → IsOneOf other_statuses (code_of (run_status run)) ⊎ IsRunWhole asked.execution program input (code_of (run_status run)) run told
-ran_ready asked program input files files' out out' run told ready came none quiet =
-    let same = same_program files asked.execution.file program came.0 ready.tells ready.program_is came.2.program_is in
-    let same_in = same_input asked.execution.input input came.1 files ready.tells ready.input_is came.2.input_is in
-    ran_whole asked program input out out' (new_history asked.execution.file.levels) told run
-    (subst (λ (p : Program). RunsProtected (terms_of asked p input) out out' (new_history asked.execution.file.levels) told run) same
-    (subst (λ (i : List ℕ). RunsProtected (terms_of asked came.0 i) out out' (new_history asked.execution.file.levels) told run) same_in came.3)) none quiet
+ran_ready : (asked : RunAsked) (program : Program) (script : Option (List ScriptLine)) (input : List ℕ) (files files' : FilesState) (out out' : SinkState) (run : RunRecord) (bus : RunBus) → Ready (to_run asked) files program script input → RunsRequested asked files files' out out' run bus →
+    (run_history bus).lies ≡ 0 → ¬ Rose out.faults out'.faults → IsOneOf other_statuses (code_of (run_status run)) ⊎ IsRunWhole asked.execution program input (code_of (run_status run)) run bus
+ran_ready asked program script input files files' out out' run bus ready came none quiet =
+    let same = same_program files asked.execution.file program came.program ready.tells ready.program_is came.reads.program_is in
+    let same_in = same_input asked.execution.input input came.input files ready.tells ready.input_is came.reads.input_is in
+    ran_whole asked program input out out' (new_history asked.execution.file.levels) bus run
+    (subst (λ (p : Program). RunsProtected (terms_of asked p input) out out' (new_history asked.execution.file.levels) (run_history bus) run) same
+    (subst (λ (i : List ℕ). RunsProtected (terms_of asked came.program i) out out' (new_history asked.execution.file.levels) (run_history bus) run) same_in came.runs)) none quiet
 
-whole_of : (course : Course) (telling : Telling) (asked : RunAsked) (program : Program) (input : List ℕ) (files files' : FilesState) (out out' note note' : SinkState) → CameAbout course (Some (to_run asked)) files files' out out' →
-    TellsCourse course note note' telling → Ready (to_run asked) files program input → lies_of (course_bus course) ≡ 0 → ¬ Rose files.faults files'.faults → ¬ Rose out.faults out'.faults → ¬ Rose note.faults note'.faults →
+whole_of : (course : Course) (telling : Telling) (asked : RunAsked) (program : Program) (script : Option (List ScriptLine)) (input : List ℕ) (files files' : FilesState) (out out' note note' : SinkState) → CameAbout course (Ok (to_run asked)) files files' out out' →
+    TellsCourse course note note' telling → Ready (to_run asked) files program script input → lies_of (course_bus course) ≡ 0 → ¬ Rose files.faults files'.faults → ¬ Rose out.faults out'.faults → ¬ Rose note.faults note'.faults →
     IsOneOf other_statuses (code_of (status_of course telling)) ⊎ AreBothAnd (course_run course) (course_bus course) (IsRunWhole asked.execution program input (code_of (status_of course telling)))
-whole_of course (Err no_memory) asked program input files files' out out' note note' came tells ready none quiet_files quiet_out quiet_note = inl (other 10 refl)
-whole_of (Refused refusal) (Ok _) asked program input files files' out out' note note' came tells ready none quiet_files quiet_out quiet_note =
-    absurd (unrefused refusal (to_run asked) files files' ready.tells (ready_accepted (to_run asked) files program input ready) quiet_files came.0)
-whole_of (Refused refusal) (Err Failed) asked program input files files' out out' note note' came tells ready none quiet_files quiet_out quiet_note = absurd (quiet_note tells.1)
-whole_of NoMemory (Ok _) asked program input files files' out out' note note' came tells ready none quiet_files quiet_out quiet_note = inl (other 10 refl)
-whole_of NoMemory (Err Failed) asked program input files files' out out' note note' came tells ready none quiet_files quiet_out quiet_note = inl (other 10 refl)
-whole_of (Ran run bus) (Ok _) asked program input files files' out out' note note' came tells ready none quiet_files quiet_out quiet_note =
-    ran_ready asked program input files files' out out' run (run_history bus) ready came none quiet_out
-whole_of (Ran run bus) (Err Failed) asked program input files files' out out' note note' came tells ready none quiet_files quiet_out quiet_note = absurd (quiet_note tells.1)
-whole_of (RanPlain run) (Ok _) asked program input files files' out out' note note' came tells ready none quiet_files quiet_out quiet_note = absurd came
-whole_of (RanPlain run) (Err Failed) asked program input files files' out out' note note' came tells ready none quiet_files quiet_out quiet_note = absurd came
-whole_of (Written written) (Ok _) asked program input files files' out out' note note' came tells ready none quiet_files quiet_out quiet_note = absurd came
-whole_of (Written written) (Err Failed) asked program input files files' out out' note note' came tells ready none quiet_files quiet_out quiet_note = absurd came
+whole_of course (Err no_memory) asked program script input files files' out out' note note' came tells ready none quiet_files quiet_out quiet_note = inl (other 10 refl)
+whole_of (Refused refusal) (Ok _) asked program script input files files' out out' note note' came tells ready none quiet_files quiet_out quiet_note =
+    absurd (unrefused refusal (to_run asked) files files' ready.tells (ready_accepted (to_run asked) files program script input ready) quiet_files came.0)
+whole_of (Refused refusal) (Err Failed) asked program script input files files' out out' note note' came tells ready none quiet_files quiet_out quiet_note = absurd (quiet_note tells.1)
+whole_of NoMemory (Ok _) asked program script input files files' out out' note note' came tells ready none quiet_files quiet_out quiet_note = inl (other 10 refl)
+whole_of NoMemory (Err Failed) asked program script input files files' out out' note note' came tells ready none quiet_files quiet_out quiet_note = inl (other 10 refl)
+whole_of (Ran run bus) (Ok _) asked program script input files files' out out' note note' came tells ready none quiet_files quiet_out quiet_note =
+    ran_ready asked program script input files files' out out' run bus ready came none quiet_out
+whole_of (Ran run bus) (Err Failed) asked program script input files files' out out' note note' came tells ready none quiet_files quiet_out quiet_note = absurd (quiet_note tells.1)
+whole_of (RanPlain run) (Ok _) asked program script input files files' out out' note note' came tells ready none quiet_files quiet_out quiet_note = absurd came
+whole_of (RanPlain run) (Err Failed) asked program script input files files' out out' note note' came tells ready none quiet_files quiet_out quiet_note = absurd came
+whole_of (Written written) (Ok _) asked program script input files files' out out' note note' came tells ready none quiet_files quiet_out quiet_note = absurd came
+whole_of (Written written) (Err Failed) asked program script input files files' out out' note note' came tells ready none quiet_files quiet_out quiet_note = absurd came
+whole_of OtherTag (Ok _) asked program script input files files' out out' note note' came tells ready none quiet_files quiet_out quiet_note = absurd came.0
+whole_of OtherTag (Err Failed) asked program script input files files' out out' note note' came tells ready none quiet_files quiet_out quiet_note = absurd came.0
 
-pub whole_run : {request : Option Asked} {old new : World} {done : Done} → Outcome request old new done → (asked : RunAsked) (program : Program) (input : List ℕ) →
-    request ≡ Some (to_run asked) → Ready (to_run asked) old.files program input → Faultless (to_run asked) old new done → IsOneOf other_statuses done.status ⊎ RanWhole asked.execution program input done
-whole_run {request} {old} {new} {done} o asked program input asks ready sound =
-    rw (o.run, o.bus, o.status) (whole_of o.course o.told asked program input old.files new.files old.out new.out old.note new.note
-    (came_as o (Some (to_run asked)) asks) o.tells ready (sym o.lies ∙ sound.bus) sound.files sound.out sound.note)
+pub whole_run : {request : Result Asked WordsFault} {old new : World} {done : Done} → Outcome request old new done → (asked : RunAsked) (program : Program) (script : Option (List ScriptLine)) (input : List ℕ) →
+    request ≡ Ok (to_run asked) → Ready (to_run asked) old.files program script input → Faultless (to_run asked) old new done → IsOneOf other_statuses done.status ⊎ RanWhole asked.execution program input done
+whole_run {request} {old} {new} {done} o asked program script input asks ready sound =
+    rw (o.run, o.bus, o.status) (whole_of o.course o.told asked program script input old.files new.files old.out new.out old.note new.note
+    (came_as o (Ok (to_run asked)) asks) o.tells ready (sym o.lies ∙ sound.bus) sound.files sound.out sound.note)
 
 -- the status of a whole run is the plain machine's
 status_of_whole : (run : Option RunRecord) (bus : Option RunBus) (execution : ExecutionAsked) (program : Program) (input : List ℕ) (status : ℕ) → AreBothAnd run bus (IsRunWhole execution program input status) → status ≡ code_of (plain_status execution program input)
@@ -199,36 +212,38 @@ plainly_whole execution program input out out' run runs quiet = elim (memory_cas
   | inr had ↦ (0, omega arith, sym (ap (λ e. code_of (ending_status e)) (runs.whole quiet had).ending_is))
 ]
 
-plainly_ready : (execution : ExecutionAsked) (program : Program) (input : List ℕ) (files files' : FilesState) (out out' : SinkState) (run : PlainRecord) → Ready (to_run_plain execution) files program input → PlainlyRuns execution files files' out out' run →
+plainly_ready : (execution : ExecutionAsked) (program : Program) (script : Option (List ScriptLine)) (input : List ℕ) (files files' : FilesState) (out out' : SinkState) (run : PlainRecord) → Ready (to_run_plain execution) files program script input → PlainlyRuns execution files files' out out' run →
     ¬ Rose out.faults out'.faults → IsOneOf (plain_statuses execution program input) (code_of (ending_status run.ending))
-plainly_ready execution program input files files' out out' run ready came quiet =
+plainly_ready execution program script input files files' out out' run ready came quiet =
     let same = same_program files execution.file program came.0 ready.tells ready.program_is came.2.program_is in
     let same_in = same_input execution.input input came.1 files ready.tells ready.input_is came.2.input_is in
     plainly_whole execution program input out out' run (rw (← same, ← same_in) came.3) quiet
 
-whole_plain_of : (course : Course) (telling : Telling) (execution : ExecutionAsked) (program : Program) (input : List ℕ) (files files' : FilesState) (out out' note note' : SinkState) → CameAbout course (Some (to_run_plain execution)) files files' out out' →
-    TellsCourse course note note' telling → Ready (to_run_plain execution) files program input → ¬ Rose files.faults files'.faults → ¬ Rose out.faults out'.faults → ¬ Rose note.faults note'.faults →
+whole_plain_of : (course : Course) (telling : Telling) (execution : ExecutionAsked) (program : Program) (script : Option (List ScriptLine)) (input : List ℕ) (files files' : FilesState) (out out' note note' : SinkState) → CameAbout course (Ok (to_run_plain execution)) files files' out out' →
+    TellsCourse course note note' telling → Ready (to_run_plain execution) files program script input → ¬ Rose files.faults files'.faults → ¬ Rose out.faults out'.faults → ¬ Rose note.faults note'.faults →
     IsOneOf (plain_statuses execution program input) (code_of (status_of course telling))
-whole_plain_of course (Err no_memory) execution program input files files' out out' note note' came tells ready quiet_files quiet_out quiet_note = plain_other execution program input 10 refl
-whole_plain_of (Refused refusal) (Ok _) execution program input files files' out out' note note' came tells ready quiet_files quiet_out quiet_note =
-    absurd (unrefused refusal (to_run_plain execution) files files' ready.tells (ready_accepted (to_run_plain execution) files program input ready) quiet_files came.0)
-whole_plain_of (Refused refusal) (Err Failed) execution program input files files' out out' note note' came tells ready quiet_files quiet_out quiet_note = absurd (quiet_note tells.1)
-whole_plain_of NoMemory (Ok _) execution program input files files' out out' note note' came tells ready quiet_files quiet_out quiet_note = plain_other execution program input 10 refl
-whole_plain_of NoMemory (Err Failed) execution program input files files' out out' note note' came tells ready quiet_files quiet_out quiet_note = plain_other execution program input 10 refl
-whole_plain_of (Ran run bus) (Ok _) execution program input files files' out out' note note' came tells ready quiet_files quiet_out quiet_note = absurd came
-whole_plain_of (Ran run bus) (Err Failed) execution program input files files' out out' note note' came tells ready quiet_files quiet_out quiet_note = absurd came
-whole_plain_of (RanPlain run) (Ok _) execution program input files files' out out' note note' came tells ready quiet_files quiet_out quiet_note =
-    plainly_ready execution program input files files' out out' run ready came quiet_out
-whole_plain_of (RanPlain run) (Err Failed) execution program input files files' out out' note note' came tells ready quiet_files quiet_out quiet_note = absurd (quiet_note tells.1)
-whole_plain_of (Written written) (Ok _) execution program input files files' out out' note note' came tells ready quiet_files quiet_out quiet_note = absurd came
-whole_plain_of (Written written) (Err Failed) execution program input files files' out out' note note' came tells ready quiet_files quiet_out quiet_note = absurd came
+whole_plain_of course (Err no_memory) execution program script input files files' out out' note note' came tells ready quiet_files quiet_out quiet_note = plain_other execution program input 10 refl
+whole_plain_of (Refused refusal) (Ok _) execution program script input files files' out out' note note' came tells ready quiet_files quiet_out quiet_note =
+    absurd (unrefused refusal (to_run_plain execution) files files' ready.tells (ready_accepted (to_run_plain execution) files program script input ready) quiet_files came.0)
+whole_plain_of (Refused refusal) (Err Failed) execution program script input files files' out out' note note' came tells ready quiet_files quiet_out quiet_note = absurd (quiet_note tells.1)
+whole_plain_of NoMemory (Ok _) execution program script input files files' out out' note note' came tells ready quiet_files quiet_out quiet_note = plain_other execution program input 10 refl
+whole_plain_of NoMemory (Err Failed) execution program script input files files' out out' note note' came tells ready quiet_files quiet_out quiet_note = plain_other execution program input 10 refl
+whole_plain_of (Ran run bus) (Ok _) execution program script input files files' out out' note note' came tells ready quiet_files quiet_out quiet_note = absurd came
+whole_plain_of (Ran run bus) (Err Failed) execution program script input files files' out out' note note' came tells ready quiet_files quiet_out quiet_note = absurd came
+whole_plain_of (RanPlain run) (Ok _) execution program script input files files' out out' note note' came tells ready quiet_files quiet_out quiet_note =
+    plainly_ready execution program script input files files' out out' run ready came quiet_out
+whole_plain_of (RanPlain run) (Err Failed) execution program script input files files' out out' note note' came tells ready quiet_files quiet_out quiet_note = absurd (quiet_note tells.1)
+whole_plain_of (Written written) (Ok _) execution program script input files files' out out' note note' came tells ready quiet_files quiet_out quiet_note = absurd came
+whole_plain_of (Written written) (Err Failed) execution program script input files files' out out' note note' came tells ready quiet_files quiet_out quiet_note = absurd came
+whole_plain_of OtherTag (Ok _) execution program script input files files' out out' note note' came tells ready quiet_files quiet_out quiet_note = absurd came.0
+whole_plain_of OtherTag (Err Failed) execution program script input files files' out out' note note' came tells ready quiet_files quiet_out quiet_note = absurd came.0
 
-plain_whole : {request : Option Asked} {old new : World} {done : Done} → Outcome request old new done → (execution : ExecutionAsked) (program : Program) (input : List ℕ) →
-    request ≡ Some (to_run_plain execution) → Ready (to_run_plain execution) old.files program input → Faultless (to_run_plain execution) old new done → IsOneOf (plain_statuses execution program input) done.status
-plain_whole {request} {old} {new} {done} o execution program input asks ready sound =
+plain_whole : {request : Result Asked WordsFault} {old new : World} {done : Done} → Outcome request old new done → (execution : ExecutionAsked) (program : Program) (script : Option (List ScriptLine)) (input : List ℕ) →
+    request ≡ Ok (to_run_plain execution) → Ready (to_run_plain execution) old.files program script input → Faultless (to_run_plain execution) old new done → IsOneOf (plain_statuses execution program input) done.status
+plain_whole {request} {old} {new} {done} o execution program script input asks ready sound =
     subst (λ (n : ℕ). IsOneOf (plain_statuses execution program input) n) (sym o.status)
-    (whole_plain_of o.course o.told execution program input old.files new.files old.out new.out old.note new.note
-    (came_as o (Some (to_run_plain execution)) asks) o.tells ready sound.files sound.out sound.note)
+    (whole_plain_of o.course o.told execution program script input old.files new.files old.out new.out old.note new.note
+    (came_as o (Ok (to_run_plain execution)) asks) o.tells ready sound.files sound.out sound.note)
 
 -- ---- a text
 
@@ -241,37 +256,85 @@ written_whole (Ok _) telling file text files files' out out' note note' writes t
 written_whole (Err Failed) telling file text files files' out out' note note' writes tells quiet = absurd (quiet writes.written.1)
 written_whole (Err no_memory) telling file text files files' out out' note note' writes tells quiet = rw tells.1 (1, omega arith, refl)
 
-whole_text_of : (course : Course) (telling : Telling) (asked : Asked) (text : Image → List ℕ) (program : Program) (input : List ℕ) (files files' : FilesState) (out out' note note' : SinkState) →
-    CameAbout course (Some asked) files files' out out' → WritesOr course (asked_file asked) text files files' out out' → TellsCourse course note note' telling → Ready asked files program input → ¬ Rose files.faults files'.faults → ¬ Rose out.faults out'.faults →
+whole_text_of : (course : Course) (telling : Telling) (asked : Asked) (file : FileAsked) (text : Image → List ℕ) (program : Program) (script : Option (List ScriptLine)) (input : List ℕ) (files files' : FilesState) (out out' note note' : SinkState) →
+    CameAbout course (Ok asked) files files' out out' → WritesOr course file text files files' out out' → TellsCourse course note note' telling → Ready asked files program script input → ¬ Rose files.faults files'.faults → ¬ Rose out.faults out'.faults →
     IsOneOf text_statuses (code_of (status_of course telling))
-whole_text_of (Refused refusal) telling asked text program input files files' out out' note note' came writes tells ready quiet_files quiet_out =
-    absurd (unrefused refusal asked files files' ready.tells (ready_accepted asked files program input ready) quiet_files came.0)
-whole_text_of NoMemory telling asked text program input files files' out out' note note' came writes tells ready quiet_files quiet_out = rw tells.1 (1, omega arith, refl)
-whole_text_of (Ran run bus) telling asked text program input files files' out out' note note' came writes tells ready quiet_files quiet_out = absurd writes
-whole_text_of (RanPlain run) telling asked text program input files files' out out' note note' came writes tells ready quiet_files quiet_out = absurd writes
-whole_text_of (Written written) telling asked text program input files files' out out' note note' came writes tells ready quiet_files quiet_out =
-    written_whole written telling (asked_file asked) text files files' out out' note note' writes tells quiet_out
+whole_text_of (Refused refusal) telling asked file text program script input files files' out out' note note' came writes tells ready quiet_files quiet_out =
+    absurd (unrefused refusal asked files files' ready.tells (ready_accepted asked files program script input ready) quiet_files came.0)
+whole_text_of NoMemory telling asked file text program script input files files' out out' note note' came writes tells ready quiet_files quiet_out = rw tells.1 (1, omega arith, refl)
+whole_text_of (Ran run bus) telling asked file text program script input files files' out out' note note' came writes tells ready quiet_files quiet_out = absurd writes
+whole_text_of (RanPlain run) telling asked file text program script input files files' out out' note note' came writes tells ready quiet_files quiet_out = absurd writes
+whole_text_of (Written written) telling asked file text program script input files files' out out' note note' came writes tells ready quiet_files quiet_out =
+    written_whole written telling file text files files' out out' note note' writes tells quiet_out
+whole_text_of OtherTag telling asked file text program script input files files' out out' note note' came writes tells ready quiet_files quiet_out = absurd writes
 
-text_whole : {request : Option Asked} {old new : World} {done : Done} → (o : Outcome request old new done) → (asked : Asked) (text : Image → List ℕ) (program : Program) (input : List ℕ) → request ≡ Some asked →
-    WritesOr o.course (asked_file asked) text old.files new.files old.out new.out → Ready asked old.files program input → Faultless asked old new done → IsOneOf text_statuses done.status
-text_whole {request} {old} {new} {done} o asked text program input asks writes ready sound =
+text_whole : {request : Result Asked WordsFault} {old new : World} {done : Done} → (o : Outcome request old new done) → (asked : Asked) (file : FileAsked) (text : Image → List ℕ) (program : Program) (script : Option (List ScriptLine)) (input : List ℕ) → request ≡ Ok asked →
+    WritesOr o.course file text old.files new.files old.out new.out → Ready asked old.files program script input → Faultless asked old new done → IsOneOf text_statuses done.status
+text_whole {request} {old} {new} {done} o asked file text program script input asks writes ready sound =
     subst (λ (n : ℕ). IsOneOf text_statuses n) (sym o.status)
-    (whole_text_of o.course o.told asked text program input old.files new.files old.out new.out old.note new.note
-    (came_as o (Some asked) asks) writes o.tells ready sound.files sound.out)
+    (whole_text_of o.course o.told asked file text program script input old.files new.files old.out new.out old.note new.note
+    (came_as o (Ok asked) asks) writes o.tells ready sound.files sound.out)
 
 -- ---- any request
 
-pub whole : {request : Option Asked} {old new : World} {done : Done} → Outcome request old new done → (asked : Asked) (program : Program) (input : List ℕ) →
-    request ≡ Some asked → Ready asked old.files program input → Faultless asked old new done → IsOneOf (whole_statuses asked program input) done.status
-whole {done = done} o (to_run asked) program input asks ready sound =
-    run_whole asked.execution program input done (whole_run o asked program input asks ready sound)
-whole o (to_run_plain execution) program input asks ready sound = plain_whole o execution program input asks ready sound
-whole {old = old} {new = new} o (to_assemble file) program input asks ready sound =
-    let writes = asm_came o.course file old.files new.files old.out new.out (came_as o (Some (to_assemble file)) asks) in
-    text_whole o (to_assemble file) elf_file program input asks writes ready sound
-whole {old = old} {new = new} o (to_disassemble file) program input asks ready sound =
-    let writes = dis_came o.course file old.files new.files old.out new.out (came_as o (Some (to_disassemble file)) asks) in
-    text_whole o (to_disassemble file) listing program input asks writes ready sound
-whole {old = old} {new = new} o (to_measure file) program input asks ready sound =
-    let writes = measure_came o.course file old.files new.files old.out new.out (came_as o (Some (to_measure file)) asks) in
-    text_whole o (to_measure file) measurement_line program input asks writes ready sound
+pub whole : {request : Result Asked WordsFault} {old new : World} {done : Done} → Outcome request old new done → (asked : Asked) (program : Program) (script : Option (List ScriptLine)) (input : List ℕ) →
+    request ≡ Ok asked → Ready asked old.files program script input → Faultless asked old new done → IsOneOf (whole_statuses asked program input) done.status
+whole {done = done} o (to_run asked) program script input asks ready sound =
+    run_whole asked.execution program input done (whole_run o asked program script input asks ready sound)
+whole o (to_run_plain execution) program script input asks ready sound = plain_whole o execution program script input asks ready sound
+whole {old = old} {new = new} o (to_assemble file) program script input asks ready sound =
+    let writes = asm_came o.course file old.files new.files old.out new.out (came_as o (Ok (to_assemble file)) asks) in
+    text_whole o (to_assemble file) file elf_file program script input asks writes ready sound
+whole {old = old} {new = new} o (to_disassemble file) program script input asks ready sound =
+    let writes = dis_came o.course file old.files new.files old.out new.out (came_as o (Ok (to_disassemble file)) asks) in
+    text_whole o (to_disassemble file) file listing program script input asks writes ready sound
+whole {old = old} {new = new} o (to_measure file) program script input asks ready sound =
+    let writes = measure_came o.course file old.files new.files old.out new.out (came_as o (Ok (to_measure file)) asks) in
+    text_whole o (to_measure file) file measurement_line program script input asks writes ready sound
+whole o (to_verify report) program script input asks ready sound = absurd ready.program_is
+
+-- ---- a report
+
+abbrev pub checked_statuses : ReportAsked → List ℕ → List Status
+checked_statuses asked text = verdict_status (verdict_of asked.device_key text) ∷ status.NoMemory ∷ []
+
+lacking : (asked : ReportAsked) (text : List ℕ) → IsOneOf (checked_statuses asked text) 10
+lacking asked text = (1, omega arith, refl)
+
+-- the verdict on what was read is that on what is ready
+with_verdict : (asked : ReportAsked) (files : FilesState) (text other : List ℕ) (verdict : Option ReportError) → Tell files → IsAccepted files (report_need asked) text →
+    IsAccepted files (report_need asked) other → verdict_of asked.device_key other ≡ verdict → verdict_of asked.device_key text ≡ verdict
+with_verdict asked files text other verdict tells ready taken is =
+    ap (verdict_of asked.device_key) (sym (told_bytes files asked.name text other tells ready.told taken.told)) ∙ is
+
+written_report_whole : (written telling : Telling) (asked : ReportAsked) (text : List ℕ) (files files' : FilesState) (out out' note note' : SinkState) → WritesReport asked files files' out out' written →
+    TellsCourse (Written written) note note' telling → Tell files → IsAccepted files (report_need asked) text → ¬ Rose out.faults out'.faults →
+    IsOneOf (checked_statuses asked text) (code_of (status_of (Written written) telling))
+written_report_whole (Ok _) telling asked text files files' out out' note note' writes tells told ready quiet =
+    let verdict = with_verdict asked files text writes.text None told ready writes.reads.accepted (made_verdict writes.made) in
+    rw tells.1 (0, omega arith, ap (λ v. code_of (verdict_status v)) verdict)
+written_report_whole (Err Failed) telling asked text files files' out out' note note' writes tells told ready quiet = absurd (quiet writes.written.1)
+written_report_whole (Err no_memory) telling asked text files files' out out' note note' writes tells told ready quiet = rw tells.1 (lacking asked text)
+
+whole_report_of : (course : Course) (telling : Telling) (asked : ReportAsked) (text : List ℕ) (files files' : FilesState) (out out' note note' : SinkState) → CameAbout course (Ok (to_verify asked)) files files' out out' →
+    TellsCourse course note note' telling → Tell files → IsAccepted files (report_need asked) text → ¬ Rose files.faults files'.faults → ¬ Rose out.faults out'.faults → ¬ Rose note.faults note'.faults →
+    IsOneOf (checked_statuses asked text) (code_of (status_of course telling))
+whole_report_of (Refused refusal) telling asked text files files' out out' note note' came tells told ready quiet_files quiet_out quiet_note =
+    absurd (unrefused refusal (to_verify asked) files files' told ((text, ready), tt) quiet_files came.0)
+whole_report_of NoMemory telling asked text files files' out out' note note' came tells told ready quiet_files quiet_out quiet_note = rw tells.1 (lacking asked text)
+whole_report_of (Ran run bus) telling asked text files files' out out' note note' came tells told ready quiet_files quiet_out quiet_note = absurd came
+whole_report_of (RanPlain run) telling asked text files files' out out' note note' came tells told ready quiet_files quiet_out quiet_note = absurd came
+whole_report_of (Written written) telling asked text files files' out out' note note' came tells told ready quiet_files quiet_out quiet_note =
+    written_report_whole written telling asked text files files' out out' note note' came tells told ready quiet_out
+whole_report_of OtherTag (Ok _) asked text files files' out out' note note' came tells told ready quiet_files quiet_out quiet_note =
+    let found = came.0 in
+    (0, omega arith, ap (λ v. code_of (verdict_status v)) (with_verdict asked files text found.0 (Some Tag) told ready found.1.accepted found.2))
+whole_report_of OtherTag (Err Failed) asked text files files' out out' note note' came tells told ready quiet_files quiet_out quiet_note = absurd (quiet_note tells.1)
+whole_report_of OtherTag (Err no_memory) asked text files files' out out' note note' came tells told ready quiet_files quiet_out quiet_note = lacking asked text
+
+pub whole_report : {request : Result Asked WordsFault} {old new : World} {done : Done} → Outcome request old new done → (asked : ReportAsked) (text : List ℕ) → request ≡ Ok (to_verify asked) → Tell old.files →
+    IsAccepted old.files (report_need asked) text → Faultless (to_verify asked) old new done → IsOneOf (checked_statuses asked text) done.status
+whole_report {request} {old} {new} {done} o asked text asks tells ready sound =
+    subst (λ (n : ℕ). IsOneOf (checked_statuses asked text) n) (sym o.status)
+    (whole_report_of o.course o.told asked text old.files new.files old.out new.out old.note new.note
+    (came_as o (Ok (to_verify asked)) asks) o.tells tells ready sound.files sound.out sound.note)

@@ -1,27 +1,29 @@
 -- What an answer says of what was done and told.
-use Rattle.std.specs.Prelude.{◌≡◌, ◌≢◌, ◌⊎◌, List, [], ◌∷◌, ℕ, Option, Some, None, Ok}
+use Rattle.std.specs.Prelude.{◌≡◌, ◌≢◌, ◌⊎◌, List, [], ◌∷◌, ℕ, None, Result, Ok, Err, IsTrue}
 use Rattle.sec_base.specs.Count.{Rose}
 use Rattle.sec_base.specs.Files.{FilesState}
 use Rattle.sec_base.specs.Sink.{SinkState, Gains, GainsFront, IsSilent}
 use Rattle.sec_base.specs.declared.ending.Ending.{Ending}
-use Rattle.sec_base.specs.declared.ending.Ending.TheVariants.{NoMemory}
+use Rattle.sec_base.specs.declared.ending.Ending.TheVariants.{Tampered, NoMemory}
 use Rattle.sec_base.specs.declared.image.Image.{Image}
-use Rattle.bus_model.specs.BusHistory.{BusHistory}
+use Rattle.sec_base.specs.declared.place.Place.{Place}
+use Rattle.bus_adversary.specs.ChangedPlaces.{script_may_change}
 use Rattle.plain_machine.specs.declared.PlainRecord.{PlainRecord}
 use Rattle.chip_run.specs.declared.RunRecord.{RunRecord}
-use Rattle.chip_words.specs.Request.{Asked, ExecutionAsked, FileAsked, RunAsked, asked_file, to_run, to_run_plain}
+use Rattle.chip_words.specs.Request.{Asked, ExecutionAsked, FileAsked, ReportAsked, RunAsked, WordsFault, to_run, to_run_plain, to_verify}
 use Rattle.chip_main.specs.declared.refusal.Refusal.{Refusal}
+use Rattle.chip_main.specs.declared.run_bus.RunBus.{RunBus}
 use Rattle.chip_main.specs.declared.Done.{Done}
 use Rattle.chip_main.specs.World.{World}
 use Rattle.chip_main.specs.Needs.{needs_of}
 use Rattle.chip_main.specs.Causes.{IsRefused, RunsOut, Stops}
-use Rattle.chip_main.specs.Buses.{IsRunAnd}
+use Rattle.chip_main.specs.Buses.{IsRunAnd, bus_script}
 use Rattle.chip_main.specs.Endings.{EndedWithoutEvidence, IsHalted}
-use Rattle.chip_main.specs.Requests.{ByCommand, PlainlyRuns, RunsExecution, Writes, WritesRequest}
+use Rattle.chip_main.specs.Requests.{ByCommand, FindsOtherTag, PlainlyRuns, RunsRequested, Writes, WritesReport, WritesRequest}
 use Rattle.chip_main.specs.Status.{IsOneOf, Telling, code_of, ending_status, refusal_status, run_status, text_status}
 use Rattle.chip_main.specs.declared.status.Status.{Status}
 use Rattle.chip_main.specs.declared.status.Status.TheVariants as status
-use Rattle.chip_main.specs.Texts.{plain_text, record_text, refusal_text}
+use Rattle.chip_main.specs.Texts.{plain_text, record_text, refusal_text, tag_differs_line}
 
 -- ---- why each status comes
 
@@ -31,21 +33,21 @@ PlainlyEnded P execution old new =
     (run : PlainRecord) × PlainlyRuns execution old.files new.files old.out new.out run × P run.ending
 
 -- as the request says, a run on protected memory ended so without evidence, or one on the plain machine ended so
-abbrev pub Ended : (Ending → Type 0) → Option Asked → World → World → Done → Type 0
+abbrev pub Ended : (Ending → Type 0) → Result Asked WordsFault → World → World → Done → Type 0
 Ended P request old new done = ByCommand request (λ _. IsRunAnd done (EndedWithoutEvidence P))
-    (λ execution. PlainlyEnded P execution old new) (λ _ _. ⊥)
+    (λ execution. PlainlyEnded P execution old new) (λ _ _. ⊥) (λ _. ⊥)
 
 -- a run halted, or the request's text was written whole
-abbrev pub IsDone : Option Asked → World → World → Done → Type 0
+abbrev pub IsDone : Result Asked WordsFault → World → World → Done → Type 0
 IsDone request old new done = Ended IsHalted request old new done
     ⊎ WritesRequest request old.files new.files old.out new.out (Ok tt)
 
--- the request is for a run on protected memory, and this holds of what it asks, of that run and of what its bus was told
-abbrev pub RanAnd : (RunAsked → RunRecord → BusHistory → Type 0) → Option Asked → Done → Type 0
-RanAnd P request done = ByCommand request (λ asked. IsRunAnd done (P asked)) (λ _. ⊥) (λ _ _. ⊥)
+-- the request is for a run on protected memory, and this holds of what it asks, of that run and of its bus
+abbrev pub RanAnd : (RunAsked → RunRecord → RunBus → Type 0) → Result Asked WordsFault → Done → Type 0
+RanAnd P request done = ByCommand request (λ asked. IsRunAnd done (P asked)) (λ _. ⊥) (λ _ _. ⊥) (λ _. ⊥)
 
 -- one of the files was refused, for its length or its form
-abbrev pub FileRefused : Option Asked → FilesState → FilesState → Type 0
+abbrev pub FileRefused : Result Asked WordsFault → FilesState → FilesState → Type 0
 FileRefused request old new =
     (refusal : Refusal) × (refusal_status refusal ≡ status.Refused) × Stops refusal (needs_of request) old new
 
@@ -64,6 +66,12 @@ TellsEnding text whole ending number old new = (Gains old text new × (number �
     × (((number ≡ code_of status.WriteFault) × (ending ≢ NoMemory) × Rose old.faults new.faults)
     ⊎ (number ≡ code_of status.NoMemory)))
 
+-- A result was told by a text, with its status; or by a front part of it, where a write failed or there was no memory.
+abbrev pub TellsResult : List ℕ → Status → ℕ → SinkState → SinkState → Type 0
+TellsResult text whole number old new = (Gains old text new × (number ≡ code_of whole))
+    ⊎ (GainsFront old text new
+    × (((number ≡ code_of status.WriteFault) × Rose old.faults new.faults) ⊎ (number ≡ code_of status.NoMemory)))
+
 -- a run's record was told, with so many lies
 abbrev pub TellsRun : ℕ → RunRecord → ℕ → SinkState → SinkState → Type 0
 TellsRun number run lies old new = TellsEnding (record_text run lies) (run_status run) run.ending number old new
@@ -74,33 +82,39 @@ TellsPlain number run old new = TellsEnding (plain_text run) (ending_status run.
 -- ---- what each command gives
 
 -- a refusal with its cause, its text and its status, or that of no memory
-pub record TellsRefusal (request : Option Asked) (old new : World) (number : ℕ) : Type 0 where
+pub record TellsRefusal (request : Result Asked WordsFault) (old new : World) (number : ℕ) : Type 0 where
   pub refusal : Refusal
   pub cause : IsRefused refusal request old.files new.files
   pub text : GainsText old.note (refusal_text refusal) new.note number
   pub status_is : (number ≡ code_of (refusal_status refusal)) ⊎ (number ≡ code_of status.NoMemory)
 
 -- there was no memory, and nothing was told
-pub record LacksMemory (request : Option Asked) (old new : World) (number : ℕ) : Type 0 where
+pub record LacksMemory (request : Result Asked WordsFault) (old new : World) (number : ℕ) : Type 0 where
   pub runs_out : RunsOut (needs_of request) old.files new.files
   pub silent : IsSilent old.note new.note
   pub status_is : number ≡ code_of status.NoMemory
 
 -- the statuses where nothing was done
-abbrev pub undone_statuses : Option Asked → List Status
-undone_statuses None = status.Usage ∷ status.NoMemory ∷ []
-undone_statuses (Some asked) = status.Refused ∷ status.ReadFault ∷ status.NoMemory ∷ []
+abbrev pub undone_statuses : Result Asked WordsFault → List Status
+undone_statuses (Err fault) = status.Usage ∷ status.NoMemory ∷ []
+undone_statuses (Ok asked) = status.Refused ∷ status.ReadFault ∷ status.NoMemory ∷ []
 
 -- nothing was done: there was a refusal, or no memory; and nothing was printed
-pub record Undone (request : Option Asked) (old new : World) (done : Done) : Type 0 where
+pub record Undone (request : Result Asked WordsFault) (old new : World) (done : Done) : Type 0 where
   pub told : TellsRefusal request old new done.status ⊎ LacksMemory request old new done.status
   pub status_is : IsOneOf (undone_statuses request) done.status
   pub no_run : done.run ≡ None
   pub silent : IsSilent old.out new.out
 
+-- without evidence, tampering is of a place that the action of some line of the bus's script may change
+abbrev pub TampersByScript : RunRecord → RunBus → Type 0
+TampersByScript run bus = (place : Place) → run.evidence ≡ None → run.ending ≡ Tampered place →
+    IsTrue (script_may_change (bus_script bus) place)
+
 -- the request's program ran on protected memory, and that was told
-pub record RanAndTold (asked : RunAsked) (old new : World) (done : Done) (run : RunRecord) (told : BusHistory) : Type 0 where
-  pub runs : RunsExecution asked old.files new.files old.out new.out run told
+pub record RanAndTold (asked : RunAsked) (old new : World) (done : Done) (run : RunRecord) (bus : RunBus) : Type 0 where
+  pub runs : RunsRequested asked old.files new.files old.out new.out run bus
+  pub by_script : TampersByScript run bus
   pub tells : TellsRun done.status run done.lies old.note new.note
 
 -- the request's program ran on the plain machine, and that was told
@@ -118,14 +132,33 @@ pub record Delivers (file : FileAsked) (text : Image → List ℕ) (old new : Wo
   pub no_run : done.run ≡ None
   pub silent : IsSilent old.note new.note
 
+-- what the report says was written as far as the status says, and nothing is told of that
+pub record DeliversReport (asked : ReportAsked) (old new : World) (done : Done) : Type 0 where
+  pub telling : Telling
+  pub writes : WritesReport asked old.files new.files old.out new.out telling
+  pub status_is : done.status ≡ code_of (text_status telling)
+  pub no_run : done.run ≡ None
+  pub silent : IsSilent old.note new.note
+
+-- the report has another tag, and that was told; or a front part of it, where a write failed or there was no memory
+pub record TellsOtherTag (asked : ReportAsked) (old new : World) (done : Done) : Type 0 where
+  pub finds : FindsOtherTag asked old.files new.files
+  pub tells : TellsResult tag_differs_line status.TagDiffers done.status old.note new.note
+  pub no_run : done.run ≡ None
+  pub silent : IsSilent old.out new.out
+
 -- what each command gives, or nothing was done
 abbrev pub GivesRun : RunAsked → World → World → Done → Type 0
 GivesRun asked old new done =
-    IsRunAnd done (RanAndTold asked old new done) ⊎ Undone (Some (to_run asked)) old new done
+    IsRunAnd done (RanAndTold asked old new done) ⊎ Undone (Ok (to_run asked)) old new done
 
 abbrev pub GivesPlainRun : ExecutionAsked → World → World → Done → Type 0
 GivesPlainRun execution old new done =
-    PlainlyRan execution old new done ⊎ Undone (Some (to_run_plain execution)) old new done
+    PlainlyRan execution old new done ⊎ Undone (Ok (to_run_plain execution)) old new done
 
-abbrev pub GivesText : Asked → (Image → List ℕ) → World → World → Done → Type 0
-GivesText asked text old new done = Delivers (asked_file asked) text old new done ⊎ Undone (Some asked) old new done
+abbrev pub GivesText : Asked → FileAsked → (Image → List ℕ) → World → World → Done → Type 0
+GivesText asked file text old new done = Delivers file text old new done ⊎ Undone (Ok asked) old new done
+
+abbrev pub GivesReport : ReportAsked → World → World → Done → Type 0
+GivesReport asked old new done = DeliversReport asked old new done ⊎ TellsOtherTag asked old new done
+    ⊎ Undone (Ok (to_verify asked)) old new done

@@ -1,37 +1,75 @@
 -- The bus of a run, and facts of a run and its bus together.
-use Rattle.std.specs.Prelude.{ℕ, Option, Some, None}
+use Rattle.std.proofs.Common.{◌∙◌, refl}
+use Rattle.std.specs.Prelude.{◌≡◌, ℕ, List, [], Option, Some, None, IfSome, IsTrue}
+use Rattle.adversary_script.specs.declared.script.ScriptLine.{ScriptLine}
+use Rattle.bus_adversary.specs.ChangedPlaces.{script_may_change}
+use Rattle.bus_adversary.specs.ScriptBus.{KeepsScript, script_history}
 use Rattle.bus_model.specs.BusHistory.{BusHistory}
 use Rattle.bus_model.specs.HonestBus.{honest_history}
 use Rattle.chip_run.specs.declared.RunRecord.{RunRecord}
 use Rattle.chip_main.specs.declared.run_bus.RunBus.{RunBus}
-use Rattle.chip_main.specs.declared.run_bus.RunBus.TheVariants.{Honest}
+use Rattle.chip_main.specs.declared.run_bus.RunBus.TheVariants.{Honest, Script}
 use Rattle.chip_main.specs.declared.Done.{Done}
 
--- calls make of a bus another of the same kind
+-- calls leave the kind of a bus, and the script of one that follows a script
 abbrev pub IsSameKind : RunBus → RunBus → Type 0
 IsSameKind (Honest old) (Honest new) = Unit {0}
+IsSameKind (Script old) (Script new) = KeepsScript old new
+IsSameKind (Honest old) (Script new) = ⊥
+IsSameKind (Script old) (Honest new) = ⊥
 
 pub same_kind : (bus : RunBus) → IsSameKind bus bus
 same_kind (Honest bus) = tt
+same_kind (Script bus) = (refl, refl)
 
-pub same_kinds : (first second third : RunBus) → IsSameKind first second → IsSameKind second third → IsSameKind first third
+pub same_kinds : (first second third : RunBus) →
+    IsSameKind first second → IsSameKind second third → IsSameKind first third
 same_kinds (Honest first) (Honest second) (Honest third) once then = tt
+same_kinds (Script first) (Script second) (Script third) once then = (then.0 ∙ once.0, then.1 ∙ once.1)
+same_kinds (Honest first) (Honest second) (Script third) once then = absurd then
+same_kinds (Script first) (Script second) (Honest third) once then = absurd then
+same_kinds (Honest first) (Script second) third once then = absurd once
+same_kinds (Script first) (Honest second) third once then = absurd once
 
 -- what it was asked and what it answered
 abbrev pub run_history : RunBus → BusHistory
 run_history (Honest bus) = honest_history bus
+run_history (Script bus) = script_history bus
+
+-- the lines of the script that it follows: an honest bus follows none
+abbrev pub bus_script : RunBus → List ScriptLine
+bus_script (Honest bus) = []
+bus_script (Script bus) = bus.script
+
+-- it follows just this script, and is honest where there is none
+abbrev pub IsBusOf : Option (List ScriptLine) → RunBus → Type 0
+IsBusOf None (Honest bus) = Unit {0}
+IsBusOf (Some script) (Script bus) = bus.script ≡ script
+IsBusOf None (Script bus) = ⊥
+IsBusOf (Some script) (Honest bus) = ⊥
+
+-- False answers come of the script: there is none where it has no line, and the first is about a place that the action
+-- of some line may change.
+pub record LiesByScript (bus : RunBus) : Type 0 where
+  pub without_lines : bus_script bus ≡ [] → (run_history bus).lies ≡ 0
+  pub first : IfSome (run_history bus).lie (λ lie. IsTrue (script_may_change (bus_script bus) lie.place))
 
 -- how many answers were false: none where there is no bus
 abbrev pub lies_of : Option RunBus → ℕ
 lies_of None = 0
 lies_of (Some bus) = (run_history bus).lies
 
--- a run and its bus are there, and this holds of the run and of what the bus was told
-abbrev pub AreBothAnd : Option RunRecord → Option RunBus → (RunRecord → BusHistory → Type 0) → Type 0
+-- the lines of the script that a run's bus follows, where there is a bus
+abbrev pub script_followed : Option RunBus → List ScriptLine
+script_followed None = []
+script_followed (Some bus) = bus_script bus
+
+-- a run and its bus are there, and this holds of both
+abbrev pub AreBothAnd : Option RunRecord → Option RunBus → (RunRecord → RunBus → Type 0) → Type 0
 AreBothAnd None bus P = ⊥
 AreBothAnd (Some run) None P = ⊥
-AreBothAnd (Some run) (Some bus) P = P run (run_history bus)
+AreBothAnd (Some run) (Some bus) P = P run bus
 
 -- the same of a call's run and bus
-abbrev pub IsRunAnd : Done → (RunRecord → BusHistory → Type 0) → Type 0
+abbrev pub IsRunAnd : Done → (RunRecord → RunBus → Type 0) → Type 0
 IsRunAnd done P = AreBothAnd done.run done.bus P

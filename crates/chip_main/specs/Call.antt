@@ -1,60 +1,76 @@
 -- What a call owes, whatever it came to.
-use Rattle.std.specs.Prelude.{◌≡◌, ◌⊎◌, ◌∷◌, ◌++◌, [], List, ℕ, Option, Some, None}
+use Rattle.std.specs.Prelude.{◌≡◌, ◌⊎◌, ◌∷◌, ◌++◌, [], List, ℕ, Option, Result, Ok, Err, IsErr}
 use Rattle.sec_base.specs.Count.{Rose}
+use Rattle.adversary_script.specs.declared.script.ScriptLine.{ScriptLine}
 use Rattle.sec_base.specs.Program.{Program}
-use Rattle.chip_words.specs.Request.{Asked, ExecutionAsked, FileAsked, RunAsked, to_assemble, to_disassemble, to_measure, to_run, to_run_plain}
+use Rattle.chip_words.specs.Request.{Asked, ExecutionAsked, FileAsked, ReportAsked, RunAsked, WordsFault, to_assemble, to_disassemble, to_measure, to_run, to_run_plain, to_verify}
 use Rattle.chip_main.specs.World.{World}
-use Rattle.chip_main.specs.Needs.{Need, HasTold, IsUnfit, needs_of}
+use Rattle.chip_main.specs.Needs.{Need, HasTold, IsAccepted, IsUnfit, needs_of, report_need}
 use Rattle.chip_main.specs.Causes.{AsksNothing, Stops}
+use Rattle.chip_main.specs.Requests.{OtherTagRequest}
+use Rattle.chip_main.specs.Taken.{Tell}
+use Rattle.chip_main.specs.Verdict.{verdict_of}
 use Rattle.chip_main.specs.Endings.{IsTrapped, IsOutOfSteps, EndedTampered, EndedSpent, EndedWithEvidence}
 use Rattle.chip_main.specs.Texts.{elf_file, listing, measurement_line}
 use Rattle.chip_main.specs.Status.{IsOneOf, IsStatus, code_of}
-use Rattle.chip_main.specs.Answer.{Ended, FileRefused, GivesPlainRun, GivesRun, GivesText, IsDone, RanAnd, Undone}
-use Rattle.chip_main.specs.Whole.{Faultless, RanWhole, Ready, whole_statuses}
+use Rattle.chip_main.specs.Answer.{Ended, FileRefused, GivesPlainRun, GivesReport, GivesRun, GivesText, IsDone, RanAnd, Undone}
+use Rattle.chip_main.specs.Whole.{Faultless, RanWhole, Ready, verdict_status, whole_statuses}
 use Rattle.chip_main.specs.declared.Done.{Done}
 use Rattle.chip_main.specs.declared.refusal.Refusal.TheVariants.{Unread}
 use Rattle.chip_main.specs.declared.status.Status.TheVariants as status
 
--- What each status says. Refused, ReadFault, WriteFault and NoMemory come of all five commands.
-pub record SaysStatus (request : Option Asked) (old new : World) (answer : Done) : Type 0 where
+-- What each status says. Refused, ReadFault, WriteFault and NoMemory come of all six commands.
+pub record SaysStatus (request : Result Asked WordsFault) (old new : World) (answer : Done) : Type 0 where
   pub statuses : IsStatus answer.status
   pub done : answer.status ≡ code_of status.Done → IsDone request old new answer
   pub trapped : answer.status ≡ code_of status.Trapped → Ended IsTrapped request old new answer
-  pub usage : answer.status ≡ code_of status.Usage → request ≡ None
+  pub usage : answer.status ≡ code_of status.Usage → IsErr request
   pub refused : answer.status ≡ code_of status.Refused → FileRefused request old.files new.files
   pub out_of_steps : answer.status ≡ code_of status.OutOfSteps → Ended IsOutOfSteps request old new answer
   pub tampered : answer.status ≡ code_of status.Tampered → RanAnd EndedTampered request answer × (answer.lies ≡ 1)
   pub spent : answer.status ≡ code_of status.Spent → RanAnd EndedSpent request answer
   pub evidence : answer.status ≡ code_of status.Evidence → RanAnd EndedWithEvidence request answer
+  pub tag_differs : answer.status ≡ code_of status.TagDiffers → OtherTagRequest request old.files new.files
   pub read_fault : answer.status ≡ code_of status.ReadFault → Stops Unread (needs_of request) old.files new.files
   pub write_fault : answer.status ≡ code_of status.WriteFault →
       Rose old.out.faults new.out.faults ⊎ Rose old.note.faults new.note.faults
 
--- What each command gives. A run on protected memory is of the request's program and input. Without evidence it
--- follows the plain machine, and ended as tampering at the first false answer of its bus, if there was one; evidence is
--- of the first false answer. A run on the plain machine follows it; or the request's ELF file, listing or measurement is
--- written. Or nothing was done, since there was a refusal or no memory. Words that are no request are refused, and
--- nothing is asked of the files.
-pub record GivesAsked (request : Option Asked) (old new : World) (answer : Done) : Type 0 where
-  pub none : request ≡ None → AsksNothing old.files new.files × Undone None old new answer
-  pub run : (asked : RunAsked) → request ≡ Some (to_run asked) → GivesRun asked old new answer
-  pub plain : (execution : ExecutionAsked) → request ≡ Some (to_run_plain execution) → GivesPlainRun execution old new answer
-  pub asm : (file : FileAsked) → request ≡ Some (to_assemble file) → GivesText (to_assemble file) elf_file old new answer
-  pub dis : (file : FileAsked) → request ≡ Some (to_disassemble file) → GivesText (to_disassemble file) listing old new answer
-  pub measure : (file : FileAsked) → request ≡ Some (to_measure file) →
-      GivesText (to_measure file) measurement_line old new answer
+-- What each command gives. A run on protected memory is of the request's program and input, over a bus that follows the
+-- request's script, or is honest where there is none. Without evidence it follows the plain machine, and ended as
+-- tampering at the first false answer of its bus, if there was one, which is about a place that the script may change;
+-- evidence is of the first false answer. A run on the plain machine follows it; or the request's ELF file, listing or
+-- measurement is written. What a report says is written where the device of the request's key made it, and else it is
+-- told that its tag differs. Or nothing was done, since there was a refusal or no memory. Words that are no request, or
+-- have a value that doesn't have its form, are refused, and nothing is asked of the files.
+pub record GivesAsked (request : Result Asked WordsFault) (old new : World) (answer : Done) : Type 0 where
+  pub none : (fault : WordsFault) → request ≡ Err fault →
+      AsksNothing old.files new.files × Undone (Err fault) old new answer
+  pub run : (asked : RunAsked) → request ≡ Ok (to_run asked) → GivesRun asked old new answer
+  pub plain : (execution : ExecutionAsked) → request ≡ Ok (to_run_plain execution) →
+      GivesPlainRun execution old new answer
+  pub asm : (file : FileAsked) → request ≡ Ok (to_assemble file) →
+      GivesText (to_assemble file) file elf_file old new answer
+  pub dis : (file : FileAsked) → request ≡ Ok (to_disassemble file) →
+      GivesText (to_disassemble file) file listing old new answer
+  pub measure : (file : FileAsked) → request ≡ Ok (to_measure file) →
+      GivesText (to_measure file) file measurement_line old new answer
+  pub verify : (asked : ReportAsked) → request ≡ Ok (to_verify asked) → GivesReport asked old new answer
 
 -- What is due by what the files tell.
-pub record GivesDue (request : Option Asked) (old new : World) (answer : Done) : Type 0 where
+pub record GivesDue (request : Result Asked WordsFault) (old new : World) (answer : Done) : Type 0 where
   -- where one of them is over its limit or doesn't have its form, the request is refused
   pub unfit : (before after : List Need) (need : Need) (bytes : List ℕ) → needs_of request ≡ before ++ need ∷ after →
       HasTold old.files.held need.name bytes → IsUnfit need bytes →
       IsOneOf (status.Refused ∷ status.ReadFault ∷ status.NoMemory ∷ []) answer.status
   -- where all have their form, and nothing fails, what was asked for is done whole; or there was no memory, or a page
   -- of the run was used up
-  pub whole : (asked : Asked) (program : Program) (input : List ℕ) → request ≡ Some asked →
-      Ready asked old.files program input → Faultless asked old new answer →
+  pub whole : (asked : Asked) (program : Program) (script : Option (List ScriptLine)) (input : List ℕ) →
+      request ≡ Ok asked → Ready asked old.files program script input → Faultless asked old new answer →
       IsOneOf (whole_statuses asked program input) answer.status
-  pub whole_run : (asked : RunAsked) (program : Program) (input : List ℕ) → request ≡ Some (to_run asked) →
-      Ready (to_run asked) old.files program input → Faultless (to_run asked) old new answer →
+  pub whole_run : (asked : RunAsked) (program : Program) (script : Option (List ScriptLine)) (input : List ℕ) →
+      request ≡ Ok (to_run asked) → Ready (to_run asked) old.files program script input → Faultless (to_run asked) old new answer →
       IsOneOf (status.Spent ∷ status.NoMemory ∷ []) answer.status ⊎ RanWhole asked.execution program input answer
+  -- a report that has its form is one that the device made, or its tag differs
+  pub whole_report : (asked : ReportAsked) (text : List ℕ) → request ≡ Ok (to_verify asked) → Tell old.files →
+      IsAccepted old.files (report_need asked) text → Faultless (to_verify asked) old new answer →
+      IsOneOf (verdict_status (verdict_of asked.device_key text) ∷ status.NoMemory ∷ []) answer.status

@@ -1,11 +1,11 @@
 -- What is asked of the files, and why a request is refused.
-use Rattle.std.specs.Prelude.{◌≡◌, ◌≤◌, ◌+◌, List, [], ◌∷◌, ◌++◌, ℕ, length, Option, Some, None}
+use Rattle.std.specs.Prelude.{◌≡◌, ◌≤◌, ◌+◌, List, [], ◌∷◌, ◌++◌, ℕ, length, Some, Result, Err}
 use Rattle.sec_base.specs.Count.{Rose, RoseBy}
 use Rattle.sec_base.specs.Prefix.{IsPrefix}
 use Rattle.sec_base.specs.Files.{FilesState, HasBytes, HasOver}
-use Rattle.chip_words.specs.Request.{Asked}
+use Rattle.chip_words.specs.Request.{Asked, WordsFault, not_taken, wrong_value}
 use Rattle.chip_main.specs.declared.refusal.Refusal.{Refusal}
-use Rattle.chip_main.specs.declared.refusal.Refusal.TheVariants.{Usage, Unread, TooLong, Elf, Asm}
+use Rattle.chip_main.specs.declared.refusal.Refusal.TheVariants.{Usage, WrongValue, Unread, TooLong, Elf, Asm, Script, Report}
 use Rattle.chip_main.specs.Needs.{Need, AreAccepted, names, needs_of}
 
 -- ---- what is asked for
@@ -35,10 +35,13 @@ pub record IsMisformed (refusal : Refusal) (need : Need) (files : FilesState) : 
 -- and more was taken than that; or its bytes don't have their form.
 abbrev pub IsCause : Refusal → Need → FilesState → FilesState → Type 0
 IsCause (Usage text) need old new = ⊥
+IsCause (WrongValue fault) need old new = ⊥
 IsCause Unread need old new = Rose old.faults new.faults
 IsCause TooLong need old new = HasOver old.held need.name need.limit × RoseBy (need.limit + 1) old.taken new.taken
 IsCause (Elf fault) need old new = IsMisformed (Elf fault) need old
 IsCause (Asm line fault) need old new = IsMisformed (Asm line fault) need old
+IsCause (Script line fault) need old new = IsMisformed (Script line fault) need old
+IsCause (Report fault) need old new = IsMisformed (Report fault) need old
 
 -- other files were read since, each whole and without a fault
 pub record IsLater (old new : FilesState) : Type 0 where
@@ -71,9 +74,12 @@ pub record RunsOut (needs : List Need) (old new : FilesState) : Type 0 where
   pub asked : Asks (before ++ tried) old new
 
 -- why each refusal comes
-abbrev pub IsRefused : Refusal → Option Asked → FilesState → FilesState → Type 0
-IsRefused (Usage text) request old new = (request ≡ None) × AsksNothing old new
+abbrev pub IsRefused : Refusal → Result Asked WordsFault → FilesState → FilesState → Type 0
+IsRefused (Usage text) request old new = (request ≡ Err not_taken) × AsksNothing old new
+IsRefused (WrongValue fault) request old new = (request ≡ Err (wrong_value fault)) × AsksNothing old new
 IsRefused Unread request old new = Stops Unread (needs_of request) old new
 IsRefused TooLong request old new = Stops TooLong (needs_of request) old new
 IsRefused (Elf fault) request old new = Stops (Elf fault) (needs_of request) old new
 IsRefused (Asm line fault) request old new = Stops (Asm line fault) (needs_of request) old new
+IsRefused (Script line fault) request old new = Stops (Script line fault) (needs_of request) old new
+IsRefused (Report fault) request old new = Stops (Report fault) (needs_of request) old new

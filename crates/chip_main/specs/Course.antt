@@ -1,31 +1,32 @@
 -- What a call came to, how that came about, and what is made of it.
-use Rattle.std.specs.Prelude.{◌≡◌, Option, Some, None, Ok, Err}
+use Rattle.std.specs.Prelude.{◌≡◌, Option, Some, None, IfSome, Result, Ok, Err}
 use Rattle.sec_base.specs.Files.{FilesState}
 use Rattle.sec_base.specs.Sink.{SinkState, IsSilent, IsWritten}
 use Rattle.sec_base.specs.declared.sink.SinkStop.TheVariants.{Failed, NoMemory as no_memory}
 use Rattle.chip_run.specs.declared.RunRecord.{RunRecord}
-use Rattle.chip_words.specs.Request.{Asked}
+use Rattle.chip_words.specs.Request.{Asked, WordsFault}
 use Rattle.chip_main.specs.declared.Done.{Done}
 use Rattle.chip_main.specs.declared.run_bus.RunBus.{RunBus}
 use Rattle.chip_main.specs.declared.course.Course.{Course}
-use Rattle.chip_main.specs.declared.course.Course.TheVariants.{Refused, NoMemory, Ran, RanPlain, Written}
+use Rattle.chip_main.specs.declared.course.Course.TheVariants.{Refused, NoMemory, Ran, RanPlain, Written, OtherTag}
 use Rattle.chip_main.specs.World.{World}
 use Rattle.chip_main.specs.Needs.{needs_of}
 use Rattle.chip_main.specs.Causes.{IsRefused, RunsOut}
-use Rattle.chip_main.specs.Requests.{RunsRequest, PlainlyRunsRequest, WritesRequest}
-use Rattle.chip_main.specs.Texts.{plain_text, record_text, refusal_text}
+use Rattle.chip_main.specs.Requests.{OtherTagRequest, PlainlyRunsRequest, RunsRequest, WritesRequest}
+use Rattle.chip_main.specs.Texts.{plain_text, record_text, refusal_text, tag_differs_line}
 use Rattle.chip_main.specs.Status.{Telling, code_of, ending_status, refusal_status, run_status, text_status, untold_ending_status}
 use Rattle.chip_main.specs.declared.status.Status.{Status}
-use Rattle.chip_main.specs.declared.status.Status.TheVariants.{NoMemory as out_of_memory}
-use Rattle.chip_main.specs.Buses.{run_history, lies_of}
+use Rattle.chip_main.specs.declared.status.Status.TheVariants.{NoMemory as out_of_memory, TagDiffers, WriteFault}
+use Rattle.chip_main.specs.Buses.{LiesByScript, run_history, lies_of}
 
 -- how each course came about, from the request, the files and the sink for what is printed
-abbrev pub CameAbout : Course → Option Asked → FilesState → FilesState → SinkState → SinkState → Type 0
+abbrev pub CameAbout : Course → Result Asked WordsFault → FilesState → FilesState → SinkState → SinkState → Type 0
 CameAbout (Refused refusal) request files files' out out' = IsRefused refusal request files files' × IsSilent out out'
 CameAbout NoMemory request files files' out out' = RunsOut (needs_of request) files files' × IsSilent out out'
-CameAbout (Ran run bus) request files files' out out' = RunsRequest request files files' out out' run (run_history bus)
+CameAbout (Ran run bus) request files files' out out' = RunsRequest request files files' out out' run bus
 CameAbout (RanPlain run) request files files' out out' = PlainlyRunsRequest request files files' out out' run
 CameAbout (Written telling) request files files' out out' = WritesRequest request files files' out out' telling
+CameAbout OtherTag request files files' out out' = OtherTagRequest request files files' × IsSilent out out'
 
 -- there is nothing to tell
 abbrev pub TellsNothing : SinkState → SinkState → Telling → Type 0
@@ -38,6 +39,7 @@ TellsCourse NoMemory old new telling = TellsNothing old new telling
 TellsCourse (Ran run bus) old new telling = IsWritten (record_text run (run_history bus).lies) old new telling
 TellsCourse (RanPlain run) old new telling = IsWritten (plain_text run) old new telling
 TellsCourse (Written written) old new telling = TellsNothing old new telling
+TellsCourse OtherTag old new telling = IsWritten tag_differs_line old new telling
 
 -- the record of a run on protected memory and its bus, where there was one
 abbrev pub course_run : Course → Option RunRecord
@@ -46,6 +48,7 @@ course_run NoMemory = None
 course_run (Ran run bus) = Some run
 course_run (RanPlain run) = None
 course_run (Written telling) = None
+course_run OtherTag = None
 
 abbrev pub course_bus : Course → Option RunBus
 course_bus (Refused refusal) = None
@@ -53,6 +56,7 @@ course_bus NoMemory = None
 course_bus (Ran run bus) = Some bus
 course_bus (RanPlain run) = None
 course_bus (Written telling) = None
+course_bus OtherTag = None
 
 -- the status, where it was told whole
 abbrev pub course_status : Course → Status
@@ -61,6 +65,7 @@ course_status NoMemory = out_of_memory
 course_status (Ran run bus) = run_status run
 course_status (RanPlain run) = ending_status run.ending
 course_status (Written telling) = text_status telling
+course_status OtherTag = TagDiffers
 
 -- a refusal that could not be told keeps its status
 abbrev pub untold_status : Course → Status
@@ -69,6 +74,7 @@ untold_status NoMemory = out_of_memory
 untold_status (Ran run bus) = untold_ending_status run.ending
 untold_status (RanPlain run) = untold_ending_status run.ending
 untold_status (Written telling) = text_status telling
+untold_status OtherTag = WriteFault
 
 -- the status of the process
 abbrev pub status_of : Course → Telling → Status
@@ -77,7 +83,7 @@ status_of course (Err Failed) = untold_status course
 status_of course (Err no_memory) = out_of_memory
 
 -- the whole of a call, with its answer
-pub record Outcome (request : Option Asked) (old new : World) (done : Done) : Type 0 where
+pub record Outcome (request : Result Asked WordsFault) (old new : World) (done : Done) : Type 0 where
   pub course : Course
   pub told : Telling
   pub came : CameAbout course request old.files new.files old.out new.out
@@ -86,3 +92,4 @@ pub record Outcome (request : Option Asked) (old new : World) (done : Done) : Ty
   pub run : done.run ≡ course_run course
   pub bus : done.bus ≡ course_bus course
   pub lies : done.lies ≡ lies_of (course_bus course)
+  pub by_script : IfSome (course_bus course) LiesByScript

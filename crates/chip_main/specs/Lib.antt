@@ -1,10 +1,11 @@
 pub mod World
 pub mod Program
+pub mod Device
+pub mod Verdict
 pub mod Needs
 pub mod Causes
 pub mod Taken
 pub mod Stop
-pub mod Device
 pub mod PlainRun
 pub mod Buses
 pub mod Endings

@@ -1,9 +1,11 @@
 -- The files that a request needs, in order.
-use Rattle.std.specs.Prelude.{◌≡◌, ◌<◌, ◌≤◌, ◌≢◌, ◌⊎◌, List, [], ◌∷◌, ℕ, length, map, Option, Some, None}
+use Rattle.std.specs.Prelude.{◌≡◌, ◌<◌, ◌≤◌, ◌≢◌, ◌⊎◌, List, [], ◌∷◌, ◌++◌, ℕ, length, map, Option, Some, None, Result, Ok, Err}
+use Rattle.std.specs.Result.{result_err}
 use Rattle.sec_base.specs.Files.{FilesState, HasBytes}
-use Rattle.chip_words.specs.Request.{Asked, ExecutionAsked, FileAsked, to_assemble, to_disassemble, to_measure, to_run, to_run_plain}
+use Rattle.chip_words.specs.Request.{Asked, ExecutionAsked, FileAsked, ReportAsked, RunAsked, WordsFault, to_assemble, to_disassemble, to_measure, to_run, to_run_plain, to_verify}
 use Rattle.chip_main.specs.declared.refusal.Refusal.{Refusal}
-use Rattle.chip_main.specs.Program.{fault_in, limit_of}
+use Rattle.chip_main.specs.Program.{fault_in, limit_of, script_in, script_limit}
+use Rattle.chip_main.specs.Verdict.{form_fault, report_limit, verdict_of}
 
 -- a file's name, how many bytes of it are read at most, and what is wrong with bytes that don't have its form
 pub record Need : Type 0 where
@@ -14,6 +16,15 @@ pub record Need : Type 0 where
 -- a program has its form, and fits the memory
 abbrev pub program_need : FileAsked → Need
 program_need file = record { name = file.name; limit = limit_of file.form; fault = fault_in file }
+
+-- a script has its form, and fits the memory below a tree of so many levels
+abbrev pub script_need : ℕ → List ℕ → Need
+script_need levels name =
+    record { name = name; limit = script_limit; fault = λ bytes. result_err (script_in levels bytes) }
+
+abbrev pub script_needs : ℕ → Option (List ℕ) → List Need
+script_needs levels None = []
+script_needs levels (Some name) = script_need levels name ∷ []
 
 -- no longer input is read
 abbrev pub input_limit : ℕ
@@ -27,21 +38,32 @@ abbrev pub input_needs : Option (List ℕ) → List Need
 input_needs None = []
 input_needs (Some name) = input_need name ∷ []
 
+-- a report has its form
+abbrev pub report_need : ReportAsked → Need
+report_need asked =
+    record { name = asked.name; limit = report_limit; fault = λ bytes. form_fault (verdict_of asked.device_key bytes) }
+
 -- a program, and then its input, where one is named
 abbrev pub execution_needs : ExecutionAsked → List Need
 execution_needs execution = program_need execution.file ∷ input_needs execution.input
 
+-- a program, then the script of the adversary, where one is named, and then the program's input
+abbrev pub run_needs : RunAsked → List Need
+run_needs asked = program_need asked.execution.file
+    ∷ (script_needs asked.execution.file.levels asked.script ++ input_needs asked.execution.input)
+
 abbrev pub asked_needs : Asked → List Need
-asked_needs (to_run asked) = execution_needs asked.execution
+asked_needs (to_run asked) = run_needs asked
 asked_needs (to_run_plain execution) = execution_needs execution
 asked_needs (to_assemble file) = program_need file ∷ []
 asked_needs (to_disassemble file) = program_need file ∷ []
 asked_needs (to_measure file) = program_need file ∷ []
+asked_needs (to_verify report) = report_need report ∷ []
 
 -- words that are no request need nothing
-abbrev pub needs_of : Option Asked → List Need
-needs_of None = []
-needs_of (Some asked) = asked_needs asked
+abbrev pub needs_of : Result Asked WordsFault → List Need
+needs_of (Err fault) = []
+needs_of (Ok asked) = asked_needs asked
 
 abbrev pub names : List Need → List (List ℕ)
 names needs = map (λ need. need.name) needs

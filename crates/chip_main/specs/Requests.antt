@@ -1,36 +1,48 @@
 -- What was done for a request.
-use Rattle.std.specs.Prelude.{List, ℕ, Option, Some, None}
+use Rattle.std.specs.Prelude.{List, ℕ, Option, Result, Ok, Err}
+use Rattle.adversary_script.specs.declared.script.ScriptLine.{ScriptLine}
 use Rattle.sec_base.specs.Files.{FilesState}
 use Rattle.sec_base.specs.Geometry.{memory_size}
 use Rattle.sec_base.specs.Program.{IsImageOf, Program}
 use Rattle.sec_base.specs.Sink.{SinkState, IsWritten}
 use Rattle.sec_base.specs.declared.image.Image.{Image}
-use Rattle.bus_model.specs.BusHistory.{BusHistory, new_history}
+use Rattle.attest_report.specs.declared.report.Report.{Report}
+use Rattle.bus_model.specs.BusHistory.{new_history}
 use Rattle.plain_machine.specs.declared.PlainRecord.{PlainRecord}
 use Rattle.chip_run.specs.Run.{RunsProtected}
 use Rattle.chip_run.specs.declared.RunRecord.{RunRecord}
-use Rattle.chip_words.specs.Request.{Asked, ExecutionAsked, FileAsked, RunAsked, to_assemble, to_disassemble, to_measure, to_run, to_run_plain}
+use Rattle.chip_words.specs.Request.{Asked, ExecutionAsked, FileAsked, ReportAsked, RunAsked, WordsFault, to_assemble, to_disassemble, to_measure, to_run, to_run_plain, to_verify}
+use Rattle.chip_main.specs.declared.run_bus.RunBus.{RunBus}
+use Rattle.chip_main.specs.Buses.{IsBusOf, run_history}
 use Rattle.chip_main.specs.Device.{terms_of}
 use Rattle.chip_main.specs.PlainRun.{RunsPlain}
 use Rattle.chip_main.specs.Status.{Telling}
-use Rattle.chip_main.specs.Taken.{ReadsExecution, ReadsProgram}
-use Rattle.chip_main.specs.Texts.{elf_file, listing, measurement_line}
+use Rattle.chip_main.specs.Taken.{ReadsExecution, ReadsProgram, ReadsReport, ReadsRun}
+use Rattle.chip_main.specs.Texts.{elf_file, listing, measurement_line, report_text}
+use Rattle.chip_main.specs.Verdict.{HasOtherTag, IsMadeBy}
 
--- One statement for each kind of request: for a run on protected memory, for one on the plain machine, and for a text
--- of a file's program. No statement holds where the words are no request.
-abbrev pub ByCommand : Option Asked → (RunAsked → Type 0) → (ExecutionAsked → Type 0) → (FileAsked → (Image → List ℕ) → Type 0) → Type 0
-ByCommand None run plain writes = ⊥
-ByCommand (Some (to_run asked)) run plain writes = run asked
-ByCommand (Some (to_run_plain execution)) run plain writes = plain execution
-ByCommand (Some (to_assemble file)) run plain writes = writes file elf_file
-ByCommand (Some (to_disassemble file)) run plain writes = writes file listing
-ByCommand (Some (to_measure file)) run plain writes = writes file measurement_line
+-- One statement for each kind of request: for a run on protected memory, for one on the plain machine, for a text of a
+-- file's program, and for the check of a report. No statement holds where the words are no request.
+abbrev pub ByCommand : Result Asked WordsFault → (RunAsked → Type 0) → (ExecutionAsked → Type 0)
+    → (FileAsked → (Image → List ℕ) → Type 0) → (ReportAsked → Type 0) → Type 0
+ByCommand (Err fault) run plain writes verify = ⊥
+ByCommand (Ok (to_run asked)) run plain writes verify = run asked
+ByCommand (Ok (to_run_plain execution)) run plain writes verify = plain execution
+ByCommand (Ok (to_assemble file)) run plain writes verify = writes file elf_file
+ByCommand (Ok (to_disassemble file)) run plain writes verify = writes file listing
+ByCommand (Ok (to_measure file)) run plain writes verify = writes file measurement_line
+ByCommand (Ok (to_verify report)) run plain writes verify = verify report
 
--- the run's program and input are those that the request names, its terms are the request's, and its bus was new
-abbrev pub RunsExecution : RunAsked → FilesState → FilesState → SinkState → SinkState → RunRecord → BusHistory → Type 0
-RunsExecution asked files files' out out' run told =
-    (program : Program) × (input : List ℕ) × ReadsExecution asked.execution files files' program input
-    × RunsProtected (terms_of asked program input) out out' (new_history asked.execution.file.levels) told run
+-- the run's program and input are those that the request names, and its terms are the request's; its bus was new, and
+-- is that of just the script that the request names, or honest where it names none
+pub record RunsRequested (asked : RunAsked) (files files' : FilesState) (out out' : SinkState) (run : RunRecord) (bus : RunBus) : Type 0 where
+  pub program : Program
+  pub script : Option (List ScriptLine)
+  pub input : List ℕ
+  pub reads : ReadsRun asked files files' program script input
+  pub bus_is : IsBusOf script bus
+  pub runs : RunsProtected (terms_of asked program input) out out'
+      (new_history asked.execution.file.levels) (run_history bus) run
 
 abbrev pub PlainlyRuns : ExecutionAsked → FilesState → FilesState → SinkState → SinkState → PlainRecord → Type 0
 PlainlyRuns execution files files' out out' run =
@@ -45,15 +57,36 @@ pub record Writes (file : FileAsked) (text : Image → List ℕ) (files files' :
   pub is_image : IsImageOf (memory_size file.levels) program image
   pub written : IsWritten (text image) out out' telling
 
--- the request is for a run on protected memory, for one on the plain machine, or for a text; and that was done
-abbrev pub RunsRequest : Option Asked → FilesState → FilesState → SinkState → SinkState → RunRecord → BusHistory → Type 0
-RunsRequest request files files' out out' run told =
-    ByCommand request (λ asked. RunsExecution asked files files' out out' run told) (λ _. ⊥) (λ _ _. ⊥)
+-- the file is a report that the device of the request's key made, and what it says was written, as far as the answer
+-- says
+pub record WritesReport (asked : ReportAsked) (files files' : FilesState) (out out' : SinkState) (telling : Telling)
+    : Type 0 where
+  pub text : List ℕ
+  pub reads : ReadsReport asked files files' text
+  pub report : Report
+  pub made : IsMadeBy asked.device_key text report
+  pub written : IsWritten (report_text report) out out' telling
 
-abbrev pub PlainlyRunsRequest : Option Asked → FilesState → FilesState → SinkState → SinkState → PlainRecord → Type 0
+-- the file is a report that the device of the request's key did not make
+abbrev pub FindsOtherTag : ReportAsked → FilesState → FilesState → Type 0
+FindsOtherTag asked files files' =
+    (text : List ℕ) × ReadsReport asked files files' text × HasOtherTag asked.device_key text
+
+-- the request is for a run on protected memory, for one on the plain machine, for a text or for the check of a report;
+-- and that was done
+abbrev pub RunsRequest : Result Asked WordsFault → FilesState → FilesState → SinkState → SinkState → RunRecord → RunBus → Type 0
+RunsRequest request files files' out out' run bus =
+    ByCommand request (λ asked. RunsRequested asked files files' out out' run bus) (λ _. ⊥) (λ _ _. ⊥) (λ _. ⊥)
+
+abbrev pub PlainlyRunsRequest : Result Asked WordsFault → FilesState → FilesState → SinkState → SinkState → PlainRecord → Type 0
 PlainlyRunsRequest request files files' out out' run =
-    ByCommand request (λ _. ⊥) (λ execution. PlainlyRuns execution files files' out out' run) (λ _ _. ⊥)
+    ByCommand request (λ _. ⊥) (λ execution. PlainlyRuns execution files files' out out' run) (λ _ _. ⊥) (λ _. ⊥)
 
-abbrev pub WritesRequest : Option Asked → FilesState → FilesState → SinkState → SinkState → Telling → Type 0
-WritesRequest request files files' out out' telling =
-    ByCommand request (λ _. ⊥) (λ _. ⊥) (λ file text. Writes file text files files' out out' telling)
+abbrev pub WritesRequest : Result Asked WordsFault → FilesState → FilesState → SinkState → SinkState → Telling → Type 0
+WritesRequest request files files' out out' telling = ByCommand request (λ _. ⊥) (λ _. ⊥)
+    (λ file text. Writes file text files files' out out' telling)
+    (λ asked. WritesReport asked files files' out out' telling)
+
+abbrev pub OtherTagRequest : Result Asked WordsFault → FilesState → FilesState → Type 0
+OtherTagRequest request files files' =
+    ByCommand request (λ _. ⊥) (λ _. ⊥) (λ _ _. ⊥) (λ asked. FindsOtherTag asked files files')

@@ -9,7 +9,7 @@ use Rattle.chip_run.specs.declared.RunRecord.{RunRecord}
 use Rattle.chip_main.specs.declared.refusal.Refusal.{Refusal}
 use Rattle.chip_main.specs.declared.refusal.Refusal.TheVariants as refusal
 use Rattle.chip_main.specs.declared.status.Status.{Status}
-use Rattle.chip_main.specs.declared.status.Status.TheVariants.{Done, Trapped, Usage, Refused, OutOfSteps, Tampered, Spent, Evidence as evidence, ReadFault, WriteFault, NoMemory}
+use Rattle.chip_main.specs.declared.status.Status.TheVariants.{Done, Trapped, Usage, Refused, OutOfSteps, Tampered, Spent, Evidence as evidence, ReadFault, WriteFault, NoMemory, TagDiffers}
 
 -- its number
 abbrev pub code_of : Status → ℕ
@@ -24,6 +24,7 @@ code_of evidence = 7
 code_of ReadFault = 8
 code_of WriteFault = 9
 code_of NoMemory = 10
+code_of TagDiffers = 11
 
 -- the number is one of a status
 abbrev pub IsStatus : ℕ → Type 0
@@ -66,10 +67,13 @@ untold_ending_status _ = WriteFault
 
 abbrev pub refusal_status : Refusal → Status
 refusal_status (refusal.Usage text) = Usage
+refusal_status (refusal.WrongValue fault) = Usage
 refusal_status refusal.Unread = ReadFault
 refusal_status refusal.TooLong = Refused
 refusal_status (refusal.Elf fault) = Refused
 refusal_status (refusal.Asm line fault) = Refused
+refusal_status (refusal.Script line fault) = Refused
+refusal_status (refusal.Report fault) = Refused
 
 -- the answer of a call that writes a text
 abbrev pub Telling : Type 0

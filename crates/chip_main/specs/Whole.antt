@@ -1,20 +1,28 @@
 -- What is due where nothing fails.
-use Rattle.std.specs.Prelude.{◌≡◌, List, [], ◌∷◌, ℕ, Option, None}
+use Rattle.std.specs.Prelude.{◌≡◌, List, [], ◌∷◌, ℕ, Option, Some, None}
+use Rattle.adversary_script.specs.declared.script.ScriptLine.{ScriptLine}
+use Rattle.attest_report.specs.declared.refusal.ReportError.{ReportError}
+use Rattle.attest_report.specs.declared.refusal.ReportError.TheVariants.{Length, Digit, Version, Tag}
 use Rattle.sec_base.specs.Count.{Rose}
 use Rattle.sec_base.specs.Files.{FilesState}
 use Rattle.sec_base.specs.Sink.{SinkState}
 use Rattle.rv32_core.specs.Machine.{plain}
 use Rattle.rv32_core.specs.Follows.{IsWhole, ending_at}
-use Rattle.chip_words.specs.Request.{Asked, ExecutionAsked, asked_file, to_assemble, to_disassemble, to_measure, to_run, to_run_plain}
+use Rattle.chip_words.specs.Request.{Asked, ExecutionAsked, FileAsked, asked_program, to_assemble, to_disassemble, to_measure, to_run, to_run_plain, to_verify}
 use Rattle.chip_main.specs.declared.Done.{Done}
 use Rattle.chip_main.specs.World.{World}
 use Rattle.sec_base.specs.Program.{Program}
 use Rattle.chip_main.specs.Program.{opening}
-use Rattle.chip_main.specs.Taken.{IsInput, IsProgram, Tell}
+use Rattle.chip_main.specs.Taken.{IsInput, IsProgram, IsScript, Tell}
 use Rattle.chip_main.specs.Buses.{IsRunAnd}
 use Rattle.chip_main.specs.Status.{code_of, ending_status}
 use Rattle.chip_main.specs.declared.status.Status.{Status}
-use Rattle.chip_main.specs.declared.status.Status.TheVariants.{Done as done_status, Spent, NoMemory}
+use Rattle.chip_main.specs.declared.status.Status.TheVariants.{Done as done_status, Refused, Spent, NoMemory, TagDiffers}
+
+-- the program is that of this file, and there is none where no file is of a program
+abbrev pub IsProgramOf : FilesState → Option FileAsked → Program → Type 0
+IsProgramOf files None program = ⊥
+IsProgramOf files (Some file) program = IsProgram files file program
 
 -- the name of a request's input, where it has one
 abbrev pub asked_input : Asked → Option (List ℕ)
@@ -23,11 +31,22 @@ asked_input (to_run_plain execution) = execution.input
 asked_input (to_assemble file) = None
 asked_input (to_disassemble file) = None
 asked_input (to_measure file) = None
+asked_input (to_verify report) = None
 
--- the files tell all that the request needs, in its form: this program and this input
-pub record Ready (asked : Asked) (files : FilesState) (program : Program) (input : List ℕ) : Type 0 where
+-- the script is that of the file that a run names, and there is none where none is named
+abbrev pub IsAskedScript : FilesState → Asked → Option (List ScriptLine) → Type 0
+IsAskedScript files (to_run asked) script = IsScript files asked.execution.file.levels asked.script script
+IsAskedScript files (to_run_plain execution) script = script ≡ None
+IsAskedScript files (to_assemble file) script = script ≡ None
+IsAskedScript files (to_disassemble file) script = script ≡ None
+IsAskedScript files (to_measure file) script = script ≡ None
+IsAskedScript files (to_verify report) script = script ≡ None
+
+-- the files tell all that a request for a program needs, in its form: this program, this script and this input
+pub record Ready (asked : Asked) (files : FilesState) (program : Program) (script : Option (List ScriptLine)) (input : List ℕ) : Type 0 where
   pub tells : Tell files
-  pub program_is : IsProgram files (asked_file asked) program
+  pub program_is : IsProgramOf files (asked_program asked) program
+  pub script_is : IsAskedScript files asked script
   pub input_is : IsInput files (asked_input asked) input
 
 -- no write of what a request tells of itself failed; of a text nothing is told
@@ -37,6 +56,7 @@ NoteFaultless (to_run_plain execution) old new = ¬ (Rose old.faults new.faults)
 NoteFaultless (to_assemble file) old new = Unit {0}
 NoteFaultless (to_disassemble file) old new = Unit {0}
 NoteFaultless (to_measure file) old new = Unit {0}
+NoteFaultless (to_verify report) old new = ¬ (Rose old.faults new.faults)
 
 -- no read failed, no write did whose failure the status tells, and no answer of a bus was false
 pub record Faultless (asked : Asked) (old new : World) (done : Done) : Type 0 where
@@ -57,9 +77,18 @@ whole_statuses (to_run_plain execution) program input = plain_status execution p
 whole_statuses (to_assemble file) program input = done_status ∷ NoMemory ∷ []
 whole_statuses (to_disassemble file) program input = done_status ∷ NoMemory ∷ []
 whole_statuses (to_measure file) program input = done_status ∷ NoMemory ∷ []
+whole_statuses (to_verify report) program input = []
+
+-- the status that is due of a report with this verdict
+abbrev pub verdict_status : Option ReportError → Status
+verdict_status None = done_status
+verdict_status (Some Tag) = TagDiffers
+verdict_status (Some Length) = Refused
+verdict_status (Some Digit) = Refused
+verdict_status (Some Version) = Refused
 
 -- the run is the plain machine's over the whole budget, and has its status
 abbrev pub RanWhole : ExecutionAsked → Program → List ℕ → Done → Type 0
-RanWhole execution program input done = IsRunAnd done (λ run told.
+RanWhole execution program input done = IsRunAnd done (λ run bus.
     IsWhole (opening execution.file.levels program input) execution.steps run.retired run.ending
     × (done.status ≡ code_of (ending_status run.ending)))

@@ -21,8 +21,10 @@ pub enum Course {
     Ran(RunRecord, RunBus),
     /// A program ran on the plain machine.
     RanPlain(PlainRecord),
-    /// A text of a program was written, as far as this says.
+    /// A text of a program, or what a report says, was written, as far as this says.
     Written(Result<(), SinkStop>),
+    /// A report has another tag than the device gives.
+    OtherTag,
 }
 
 impl Course {
@@ -38,6 +40,7 @@ impl Course {
             Course::Ran(run, _) => run_status(run),
             Course::RanPlain(run) => ending_status(run.ending),
             Course::Written(written) => text_status(*written),
+            Course::OtherTag => Status::TagDiffers,
         }
     }
 
@@ -51,6 +54,7 @@ impl Course {
             Course::Ran(run, _) => untold_ending_status(run.ending),
             Course::RanPlain(run) => untold_ending_status(run.ending),
             Course::Written(written) => text_status(*written),
+            Course::OtherTag => Status::WriteFault,
         }
     }
 
@@ -61,8 +65,11 @@ impl Course {
     {
         match self {
             Course::Ran(run, bus) => Some((run, bus)),
-            Course::Refused(_) | Course::NoMemory | Course::RanPlain(_) | Course::Written(_) =>
-                None,
+            Course::Refused(_)
+            | Course::NoMemory
+            | Course::RanPlain(_)
+            | Course::Written(_)
+            | Course::OtherTag => None,
         }
     }
 }

@@ -1,10 +1,10 @@
 //! The top call: what the program does with its words, over any files and any sinks.
 #![tactic(auto)]
 
-ghost use Rattle.std.specs.Prelude.{◌≡◌, ◌≤◌, ◌↔◌, IsSome};
+ghost use Rattle.std.specs.Prelude.{◌≡◌, ◌≤◌, ◌↔◌, [], IfSome, IsSome};
 ghost use Rattle.chip_words.specs.Request.{request_of};
 ghost use Rattle.chip_words.specs.Words.{texts};
-ghost use Rattle.chip_main.specs.Buses.{lies_of};
+ghost use Rattle.chip_main.specs.Buses.{LiesByScript, lies_of, script_followed};
 ghost use Rattle.chip_main.specs.Call.{GivesAsked, GivesDue, SaysStatus};
 ghost use Rattle.chip_main.specs.Causes.{AsksFront};
 ghost use Rattle.chip_main.specs.Course.{course_bus, course_run, status_of};
@@ -14,9 +14,11 @@ ghost use Rattle.chip_main.specs.World.{world};
 
 mod course;
 mod device;
+mod evidence_lines;
 mod perform;
 mod program;
 mod refusal;
+mod report_fields;
 mod run_bus;
 mod status;
 mod stop;
@@ -49,13 +51,21 @@ pub struct Done {
     pub bus: Option<RunBus>,
 }
 
-/// Does what the words of the process ask for, the program's name first, as `clap` reads them. `run FILE` runs a
-/// program on protected memory and `plain FILE` on the plain machine, `asm FILE` makes the ELF file of an assembly
-/// text, `dis FILE` lists a program's instructions, and `measure FILE` tells its measurement. But for `asm`, FILE is
-/// an ELF file, or with `--flat` has the program's bytes and nothing else. `--levels L` says how large the memory is;
-/// of `run` and `plain`, `--input FILE` names the program's input and `--steps N` how many instructions may be
-/// retired; of `run` alone, `--page-limit N` says how high a page counter may rise. What is printed or made goes to
-/// `out`, the rest to `note`.
+/// Does what the words of the process ask for, the program's name first, as `clap` reads them.
+///
+/// - `run FILE` runs a program on protected memory. `--script FILE` names what an adversary does to the memory outside
+///   the chip, `--tags T` says how memory is tagged, `hmac` or `xor`, `--page-limit N` how high a page counter may
+///   rise, and `--nonce HEX` what the run's report is to answer.
+/// - `plain FILE` runs a program on the plain machine.
+/// - `asm FILE` makes the ELF file of an assembly text.
+/// - `dis FILE` lists a program's instructions.
+/// - `measure FILE` tells a program's measurement.
+/// - `verify FILE` checks a report, and tells what it says.
+///
+/// But for `asm`, a program is an ELF file, or with `--flat` has the program's bytes and nothing else. `--levels L`
+/// says how large the memory is. Of `run` and `plain`, `--input FILE` names the program's input and `--steps N` how many
+/// instructions may be retired. Of `run` and `verify`, `--key HEX` is the key of the device. What is printed or made
+/// goes to `out`, the rest to `note`.
 pub fn run_words<F: Files, O: Sink, N: Sink>(
     alloc: Global,
     words: &[&str],
@@ -74,10 +84,12 @@ pub fn run_words<F: Files, O: Sink, N: Sink>(
         (world (F.state files.old) (O.state out.old) (N.state note.old))
         (world (F.state files.new) (O.state out.new) (N.state note.new)) result }
 
-    // The bus of a run comes with it, and is honest.
+    // The bus of a run comes with it. Its false answers come of the script that it follows: there is none where the
+    // script has no line, and the first is about a place that a line may change.
     ensures bus { IsSome result.run ↔ IsSome result.bus }
     ensures lies { result.lies ≡ lies_of result.bus }
-    ensures honest { result.lies ≡ 0 }
+    ensures by_script { IfSome result.bus LiesByScript }
+    ensures honest { script_followed result.bus ≡ [] → result.lies ≡ 0 }
 
     // The first of the request's files were asked for, in order, each once. None changes, and no fault is taken back.
     ensures asked { AsksFront (needs_of (request_of (texts words.now))) (F.state files.old) (F.state files.new) }
@@ -97,6 +109,7 @@ fn conclude(course: Course, told: Result<(), SinkStop>) -> Done
     ensures run { result.run ≡ course_run course }
     ensures bus { result.bus ≡ course_bus course }
     ensures lies { result.lies ≡ lies_of (course_bus course) }
+    ensures by_script { IfSome (course_bus course) LiesByScript }
 {
     let status = match told {
         Ok(()) => course.status(),

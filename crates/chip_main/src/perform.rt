@@ -7,8 +7,9 @@ ghost use Rattle.chip_main.specs.Stop.{stopped_course};
 
 use crate::course::Course;
 use crate::device::run_on_device;
+use crate::report_fields::write_fields;
 use crate::stop::Stop;
-use crate::taking::{take_execution, take_program};
+use crate::taking::{take_execution, take_program, take_report, take_run};
 use crate::writing::{write_elf_file, write_measurement};
 use chip_words::{Request, read_words};
 use rv32_listing::write_listing;
@@ -49,8 +50,8 @@ fn course_of<F: Files, O: Sink>(
 {
     match read_words(alloc, words)? {
         Request::Run(asked) => {
-            let (image, input) = take_execution(alloc, &asked.execution, files)?;
-            let (run, bus) = run_on_device(alloc, &image, input.as_slice(), &asked, out)?;
+            let (image, script, input) = take_run(alloc, &asked, files)?;
+            let (run, bus) = run_on_device(alloc, &image, script, input.as_slice(), &asked, out)?;
             Ok(Course::Ran(run, bus))
         }
         Request::Plain(execution) => {
@@ -70,5 +71,9 @@ fn course_of<F: Files, O: Sink>(
             let image = take_program(alloc, &file, files)?;
             Ok(Course::Written(write_measurement(alloc, &image, out)))
         }
+        Request::Verify(asked) => match take_report(alloc, &asked, files)? {
+            Some(report) => Ok(Course::Written(write_fields(alloc, &report, out))),
+            None => Ok(Course::OtherTag),
+        },
     }
 }

@@ -3,14 +3,19 @@ ghost use Rattle.std.specs.Prelude.{◌≡◌};
 ghost use Rattle.chip_main.specs.Status.{refusal_status};
 
 use crate::status::Status;
+use adversary_script::ScriptFault;
+use attest_report::ReportError;
+use chip_words::ValueFault;
 use elf_load::ElfFault;
 use rv32_asm::AsmFault;
 
 /// Why nothing was done.
 #[derive(Debug, Drop)]
 pub enum Refusal {
-    /// The words are no request, as this text says.
+    /// `clap` doesn't take the words, as this text says.
     Usage(String),
+    /// A value of the words doesn't have its form.
+    WrongValue(ValueFault),
     /// A file could not be read.
     Unread,
     /// A file is longer than any of its form that is read.
@@ -24,6 +29,15 @@ pub enum Refusal {
         /// What is wrong with it.
         fault: AsmFault,
     },
+    /// A line of a script is at fault, lines counted from 1.
+    Script {
+        /// The line.
+        line: u32,
+        /// What is wrong with it.
+        fault: ScriptFault,
+    },
+    /// A text doesn't have the form of a report.
+    Report(ReportError),
 }
 
 impl Refusal {
@@ -32,9 +46,13 @@ impl Refusal {
         ensures { result ≡ refusal_status self.now }
     {
         match self {
-            Refusal::Usage(_) => Status::Usage,
+            Refusal::Usage(_) | Refusal::WrongValue(_) => Status::Usage,
             Refusal::Unread => Status::ReadFault,
-            Refusal::TooLong | Refusal::Elf(_) | Refusal::Asm { .. } => Status::Refused,
+            Refusal::TooLong
+            | Refusal::Elf(_)
+            | Refusal::Asm { .. }
+            | Refusal::Script { .. }
+            | Refusal::Report(_) => Status::Refused,
         }
     }
 }

@@ -27,10 +27,12 @@ pub enum Status {
     WriteFault = 9,
     /// Out of memory.
     NoMemory = 10,
+    /// A report was not made by this device.
+    TagDiffers = 11,
 }
 
 impl Status {
-    /// The number, from 0 to 10.
+    /// The number, from 0 to 11.
     pub fn code(self) -> u8
         ensures { result ≡ code_of self }
     {

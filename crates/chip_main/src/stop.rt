@@ -1,10 +1,11 @@
 // Why nothing was done.
 ghost use Rattle.std.specs.Prelude.{◌≡◌};
-ghost use Rattle.chip_main.specs.Stop.{assembly_stop_of, elf_stop_of, read_stop_of, stopped_course, words_stop_of};
+ghost use Rattle.chip_main.specs.Stop.{assembly_stop_of, elf_stop_of, read_stop_of, script_stop_of, stopped_course, words_stop_of};
 ghost use Rattle.chip_main.specs.declared.stop.Stop.TheVariants.{NoMemory as no_memory};
 
 use crate::course::Course;
 use crate::refusal::Refusal;
+use adversary_script::ScriptError;
 use chip_words::WordsError;
 use elf_load::ElfError;
 use rv32_asm::AsmError;
@@ -45,6 +46,7 @@ impl From<WordsError> for Stop {
     fn from(error: WordsError) -> Self {
         match error {
             WordsError::Usage(text) => Stop::Refused(Refusal::Usage(text)),
+            WordsError::WrongValue(fault) => Stop::Refused(Refusal::WrongValue(fault)),
             WordsError::NoMemory => Stop::NoMemory,
         }
     }
@@ -80,6 +82,20 @@ impl From<AsmError> for Stop {
         match error {
             AsmError::Fault { line, code } => Stop::Refused(Refusal::Asm { line, fault: code }),
             AsmError::NoMemory => Stop::NoMemory,
+        }
+    }
+}
+
+impl From<ScriptError> for Stop {
+    ghost from_gives = { λ error stop. stop ≡ script_stop_of error };
+
+    fn from(error: ScriptError) -> Self {
+        match error {
+            ScriptError::Fault { line, code } => Stop::Refused(Refusal::Script {
+                line,
+                fault: code,
+            }),
+            ScriptError::NoMemory => Stop::NoMemory,
         }
     }
 }

@@ -2,7 +2,10 @@
 ghost use Rattle.std.specs.Prelude.{None};
 
 mod assembly;
+mod attacks;
 mod files;
+mod gallery;
+mod reports;
 
 use super::{Done, RunBus, run_words};
 use bus_model::{Bus, HonestBus};
@@ -181,10 +184,23 @@ fn ending(done: &Done) -> Option<Ending> {
     }
 }
 
-// What a call printed, told and answered.
+// A text without the line of a report at its end, which begins with `report ` and has 316 digits.
+fn without_report(text: &[u8]) -> &[u8] {
+    if text.len() < 324 {
+        return text;
+    }
+    let (before, line) = text.split_at(text.len() - 324);
+    if line.starts_with(b"report ") {
+        before
+    } else {
+        text
+    }
+}
+
+// What a call printed, told but for a report, and answered.
 fn check(rt: &impl Abort, call: &Call, printed: &[u8], told: &[u8], status: u8) {
     assert_eq!(rt; call.out.bytes(), printed);
-    assert_eq!(rt; call.note.bytes(), told);
+    assert_eq!(rt; without_report(call.note.bytes()), told);
     assert_eq!(rt; call.done.status, status);
 }
 
@@ -614,7 +630,7 @@ fn a_slow_sink_gets_the_same_bytes(rt: HostRuntime) -> Result<(), Fail> {
     };
     let done = run_words(rt.alloc(), &RUN_SMALL, &mut files, &mut out, &mut note);
     assert_eq!(rt;
-        note.bytes.as_slice(),
+        without_report(note.bytes.as_slice()),
         b"halted 1\nretired 10\nlies 0\n".as_slice()
     );
     assert_eq!(rt; out.bytes.as_slice(), b"A".as_slice());

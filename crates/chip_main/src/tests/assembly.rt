@@ -10,7 +10,7 @@ const ASM: [&str; 3] = ["chip", "asm", "f"];
 const ASM_SMALL: [&str; 5] = ["chip", "asm", "f", "--levels", "1"];
 
 // A byte is stored in lines of memory that a small cache would hold in one place, and then printed.
-const STORE_AND_PRINT: &[u8] = b"_start: li   t0, 0x140
+pub(super) const STORE_AND_PRINT: &[u8] = b"_start: li   t0, 0x140
         lui  t1, 0x1
         add  t1, t1, t0
         lui  t2, 0x2
@@ -47,7 +47,7 @@ text:   .ascii \"AB\"
 ";
 
 // Three of those lines are stored again: what is read is the later byte.
-const STORE_TWICE: &[u8] = b"_start: li   t0, 0x140
+pub(super) const STORE_TWICE: &[u8] = b"_start: li   t0, 0x140
         lui  t1, 0x1
         add  t1, t1, t0
         lui  t2, 0x2

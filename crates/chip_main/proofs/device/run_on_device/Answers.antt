@@ -1,14 +1,25 @@
-use Rattle.chip_main.proofs.DeviceRuns.{device_tag_is, enc_key_is, hmac_only, nothing_written, opening_is}
+use Rattle.chip_main.proofs.DeviceRuns.{enc_key_is, hmac_tag_is, measurement_is, opening_is, xor_tag_is}
+use Rattle.chip_main.proofs.Verdicts.{report_key_is}
 use Rattle.chip_main.proofs.device.run_on_device.Goals as goal
 
-pub run-requires-clause-nothing_written : goal.run-requires-clause-nothing_written
-run-requires-clause-nothing_written g c = nothing_written _ _ c.in_ok-new.ensures
-
-pub returns-clause-ran : goal.returns-clause-ran
-returns-clause-ran g c = λ program flat.
+pub returns-in-Hmac-clause-ran : goal.returns-in-Hmac-clause-ran
+returns-in-Hmac-clause-ran g c = λ program flat.
     let terms = c.args.asked.now.terms in
     let levels = c.args.asked.now.execution.file.geometry in
-    let tags = device_tag_is terms c.new-tagger.result c.derive-keys.result levels (hmac_only terms.tags) c.new-tagger.ensures c.derive-keys.ensures in
+    let tags = hmac_tag_is terms c.new-tagger.result c.derive-keys.result levels c.in-Hmac.is c.new-tagger.ensures c.derive-keys.ensures in
     let key = enc_key_is terms c.derive-keys.result c.derive-keys.ensures in
     let opens = opening_is levels program c.args.input.now c.args.image.now flat in
-    rw (opens, tags, key, c.in_ok-new.ensures) at c.run.ensures.run
+    let measured = measurement_is levels program c.args.image.now flat in
+    let signed = report_key_is terms.device_key c.derive-keys.result c.derive-keys.ensures in
+    rw (opens, tags, key, measured, signed, c.in_ok-bus.ensures.history) at c.run.ensures.run
+
+pub returns-in-Xor-clause-ran : goal.returns-in-Xor-clause-ran
+returns-in-Xor-clause-ran g c = λ program flat.
+    let terms = c.args.asked.now.terms in
+    let levels = c.args.asked.now.execution.file.geometry in
+    let tags = xor_tag_is terms c.new-tagger-in-Xor.result c.derive-keys.result levels c.in-Xor.is c.new-tagger-in-Xor.ensures c.derive-keys.ensures in
+    let key = enc_key_is terms c.derive-keys.result c.derive-keys.ensures in
+    let opens = opening_is levels program c.args.input.now c.args.image.now flat in
+    let measured = measurement_is levels program c.args.image.now flat in
+    let signed = report_key_is terms.device_key c.derive-keys.result c.derive-keys.ensures in
+    rw (opens, tags, key, measured, signed, c.in_ok-bus.ensures.history) at c.run-in-Xor.ensures.run

@@ -15,13 +15,19 @@ returns-in_err-run-in-Run-clause-stopped g c =
     let p = err_from_is_err_and c.from_residual-in_err-run-in-Run.result c.from_residual-in_err-run-in-Run.ensures.1 in
     let taken = c.in_ok-image-in-Run.ensures.taken in
     rw (p.1, p.2, c.in_ok-asked.ensures.taken, c.in-Run.is)
-    (came_without_memory (run_asked c.in-Run.asked) _ _ taken.0 c.in_ok-image-in-Run.input taken.2, c.in_err-run-in-Run.ensures.silent)
+    (came_without_memory (run_asked c.in-Run.asked) _ _ taken.0 c.in_ok-image-in-Run.script c.in_ok-image-in-Run.input taken.2, c.in_err-run-in-Run.ensures.silent)
 
 pub returns-in_ok-run-in-Run-clause-came : goal.returns-in_ok-run-in-Run-clause-came
 returns-in_ok-run-in-Run-clause-came g c =
     let taken = c.in_ok-image-in-Run.ensures.taken in
-    rw (c.in_ok-asked.ensures.taken, c.in-Run.is)
-    (taken.0, c.in_ok-image-in-Run.input, taken.2, rw c.as_slice.ensures at (c.in_ok-run-in-Run.ensures.ran taken.0 taken.1))
+    rw (c.in_ok-asked.ensures.taken, c.in-Run.is) (record {
+      program = taken.0;
+      script = c.in_ok-image-in-Run.script;
+      input = c.in_ok-image-in-Run.input;
+      reads = taken.2;
+      bus_is = c.in_ok-run-in-Run.ensures.bus;
+      runs = rw c.as_slice.ensures at (c.in_ok-run-in-Run.ensures.ran taken.0 taken.1);
+    })
 
 pub returns-in_ok-image-in-Plain-clause-came : goal.returns-in_ok-image-in-Plain-clause-came
 returns-in_ok-image-in-Plain-clause-came g c =

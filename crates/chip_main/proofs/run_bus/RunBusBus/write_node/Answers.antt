@@ -1,5 +1,10 @@
-use Rattle.chip_main.proofs.HonestBuses.{honest_only}
 use Rattle.chip_main.proofs.run_bus.RunBusBus.write_node.Goals as goal
 
-pub returns-clause-err : goal.returns-clause-err
-returns-clause-err c = let e = honest_only c.args.self.now in rw e (rw e at c.write_node.ensures.err)
+pub returns-in-Honest-clause-err : goal.returns-in-Honest-clause-err
+returns-in-Honest-clause-err c = rw c.in-Honest.is c.write_node.ensures.err
+
+pub returns-in-Script-clause-ok : goal.returns-in-Script-clause-ok
+returns-in-Script-clause-ok c = rw c.in-Script.is c.write_node-in-Script.ensures.ok
+
+pub returns-in-Script-clause-err : goal.returns-in-Script-clause-err
+returns-in-Script-clause-err c = rw c.in-Script.is c.write_node-in-Script.ensures.err

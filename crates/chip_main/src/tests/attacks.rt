@@ -1,0 +1,369 @@
+// Runs over a memory that an adversary changes by a script. Each expected text and status is that of an independent model
+// in Python (hashlib, hmac, cryptography).
+use super::assembly::{STORE_AND_PRINT, STORE_TWICE};
+use super::{EXIT_7, RunBus, call_program, check, file, make_call, program};
+use sec_base::{MemoryFiles, NoMemory};
+use std::alloc::Global;
+use std::process::Abort;
+use std::test::Fail;
+
+// An assembly text, how memory is tagged, a script, and what is printed, what is told and the status.
+#[derive(Clone, Copy)]
+pub(super) struct Attack<'a> {
+    pub(super) text: &'a [u8],
+    pub(super) tags: &'a str,
+    pub(super) script: &'a [u8],
+    pub(super) printed: &'a [u8],
+    pub(super) told: &'a [u8],
+    pub(super) status: u8,
+}
+
+const FLIP: &[u8] = b"read data 5 1: flip data 5 0 01\n";
+
+const FLIP_TWICE: &[u8] = b"read data 5 1: flip data 5 0 01
+read data 5 1: flip data 5 0 01
+";
+
+const FLIP_TWO_PIECES: &[u8] = b"read data 5 1: flip data 5 0 01
+read data 5 1: flip data 5 16 01
+";
+
+const ATTACKS: [Attack<'static>; 10] = [
+    Attack {
+        text: STORE_AND_PRINT,
+        tags: "hmac",
+        script: b"",
+        printed: b"A",
+        told: b"halted 65\nretired 20\nlies 0\n",
+        status: 0,
+    },
+    Attack {
+        text: STORE_AND_PRINT,
+        tags: "hmac",
+        script: FLIP,
+        printed: b"A",
+        told: b"tampered data 5\nretired 17\nlies 1\n",
+        status: 5,
+    },
+    Attack {
+        text: STORE_AND_PRINT,
+        tags: "hmac",
+        script: b"read data 5 1: swap data 5 data 6",
+        printed: b"A",
+        told: b"tampered data 5\nretired 17\nlies 1\n",
+        status: 5,
+    },
+    Attack {
+        text: STORE_TWICE,
+        tags: "hmac",
+        script: b"write data 5 2: saveall 0\nread data 5 2: restoreall 0\n",
+        printed: b"",
+        told: b"tampered data 5\nretired 19\nlies 1\n",
+        status: 5,
+    },
+    Attack {
+        text: STORE_TWICE,
+        tags: "hmac",
+        script: b"# nothing\r\n\n",
+        printed: b"",
+        told: b"halted 66\nretired 22\nlies 0\n",
+        status: 0,
+    },
+    // The line is read once.
+    Attack {
+        text: STORE_AND_PRINT,
+        tags: "hmac",
+        script: b"read data 5 2: flip data 5 0 01",
+        printed: b"A",
+        told: b"halted 65\nretired 20\nlies 0\n",
+        status: 0,
+    },
+    // The bytes are as before.
+    Attack {
+        text: STORE_AND_PRINT,
+        tags: "hmac",
+        script: FLIP_TWICE,
+        printed: b"A",
+        told: b"halted 65\nretired 20\nlies 0\n",
+        status: 0,
+    },
+    Attack {
+        text: STORE_AND_PRINT,
+        tags: "hmac",
+        script: FLIP_TWO_PIECES,
+        printed: b"A",
+        told: b"tampered data 5\nretired 17\nlies 1\n",
+        status: 5,
+    },
+    Attack {
+        text: STORE_AND_PRINT,
+        tags: "xor",
+        script: FLIP_TWO_PIECES,
+        printed: b"A",
+        told: b"halted 64
+retired 20
+lies 1
+evidence forgery data 5
+counter 0 1
+cipher 00d692a43d31e6987ed5a46dbf5bca39020d8b881a9df52273bffd777d2666fef434205fde381197f9093d6e5d7d963bf46e671de7eff1e8f46c06f551a33e3d
+tag 87bc91d898e3c33de19e7c2399ceb9c2
+",
+        status: 7,
+    },
+    // The page counter is read as 1, so that line 0 counts as written.
+    Attack {
+        text: STORE_AND_PRINT,
+        tags: "xor",
+        script: b"read node 0 0 1: flip node 0 0 0 01\nread node 0 0 1: flip node 0 0 16 01\n",
+        printed: b"",
+        told: b"tampered data 0
+retired 0
+lies 1
+evidence collision node 0 0
+made 00000000000000000000000000000000000000000000000000000000000000000000000000000000000000000000000000000000000000000000000000000000
+accepted 01000000000000000000000000000000010000000000000000000000000000000000000000000000000000000000000000000000000000000000000000000000
+tag cdd9bd2ef93fe00084eb9f1953edd103
+",
+        status: 7,
+    },
+];
+
+// The files `p`, which is the program of an assembly text, and `s`, a script.
+fn attack_files(alloc: Global, text: &[u8], script: &[u8]) -> Result<MemoryFiles, NoMemory> {
+    let mut files = file(alloc, text, &[])?;
+    let program = make_call(alloc, &["chip", "asm", "f"], &mut files, &[], &[])?;
+    files.add("p", program.out.bytes())?;
+    files.add("s", script)?;
+    Ok(files)
+}
+
+pub(super) fn check_attack(rt: &impl Abort, alloc: Global, attack: Attack<'_>) -> Result<(), Fail> {
+    let mut files = attack_files(alloc, attack.text, attack.script)?;
+    let words = ["chip", "run", "p", "--script", "s", "--tags", attack.tags];
+    let call = make_call(alloc, &words, &mut files, &[], &[])?;
+    check(rt, &call, attack.printed, attack.told, attack.status);
+    assert!(rt; matches!(call.done.bus, Some(RunBus::Script(_))));
+    Ok(())
+}
+
+#[test]
+fn attacks_come_to_what_they_do(rt: HostRuntime) -> Result<(), Fail> {
+    for attack in ATTACKS {
+        check_attack(&rt, rt.alloc(), attack)?;
+    }
+    Ok(())
+}
+
+// Boot makes five accesses, the last of them the write of the top node; the sixth reads it. What is done before a write of
+// a place is written over.
+const BOOTS: [(&[u8], &[u8], u8); 4] = [
+    (
+        b"access 6: flip node 1 0 0 01",
+        b"tampered node 1 0\nretired 0\nlies 1\n",
+        5,
+    ),
+    (
+        b"access 5: flip node 1 0 0 01",
+        b"halted 7\nretired 3\nlies 0\n",
+        0,
+    ),
+    (
+        b"access 1: set node 1 0 0 01",
+        b"halted 7\nretired 3\nlies 0\n",
+        0,
+    ),
+    (
+        b"write node 1 0 1: set node 1 0 0 01",
+        b"halted 7\nretired 3\nlies 0\n",
+        0,
+    ),
+];
+
+const SMALL_RUN_BY_SCRIPT: [&str; 8] = [
+    "chip", "run", "f", "--flat", "--levels", "1", "--script", "s",
+];
+
+// What the run of a script in the smallest memory tells.
+fn check_boot(
+    rt: &impl Abort,
+    alloc: Global,
+    script: &[u8],
+    told: &[u8],
+    status: u8,
+) -> Result<(), Fail> {
+    let code = program(alloc, &EXIT_7)?;
+    let mut files = file(alloc, code.as_slice(), &[])?;
+    files.add("s", script)?;
+    let call = make_call(alloc, &SMALL_RUN_BY_SCRIPT, &mut files, &[], &[])?;
+    check(rt, &call, b"", told, status);
+    assert_eq!(rt; call.done.lies, u64::from(status == 5));
+    Ok(())
+}
+
+#[test]
+fn accesses_are_counted_from_boot_on(rt: HostRuntime) -> Result<(), Fail> {
+    for (script, told, status) in BOOTS {
+        check_boot(&rt, rt.alloc(), script, told, status)?;
+    }
+    Ok(())
+}
+
+const RUN_BY_SCRIPT: [&str; 6] = ["chip", "run", "f", "--flat", "--script", "s"];
+
+// What is told of a script that is refused, and of one of so many bytes.
+fn check_script(
+    rt: &impl Abort,
+    alloc: Global,
+    script: &[u8],
+    told: &[u8],
+    status: u8,
+) -> Result<(), Fail> {
+    let code = program(alloc, &EXIT_7)?;
+    let mut files = file(alloc, code.as_slice(), &[])?;
+    files.add("s", script)?;
+    let call = make_call(alloc, &RUN_BY_SCRIPT, &mut files, &[], &[])?;
+    check(rt, &call, b"", told, status);
+    assert_eq!(rt; call.done.run.is_some(), status == 0);
+    Ok(())
+}
+
+const REFUSED: [(&[u8], &[u8]); 8] = [
+    (b"access 0: saveall 0", b"refused script 1 2 Number\n"),
+    (
+        b"read data 16384 1: saveall 0",
+        b"refused script 1 3 Place\n",
+    ),
+    (b"access 1: flip data 5 80 01", b"refused script 1 4 Span\n"),
+    (b"access 1: saveall 16", b"refused script 1 5 Register\n"),
+    (b"access 1 saveall 0", b"refused script 1 1 Word\n"),
+    // The first fault is told: of a line the first word from the left, and of the text the first line.
+    (
+        b"read data 16384 0: saveall 0",
+        b"refused script 1 3 Place\n",
+    ),
+    (
+        b"# one\n\naccess 1: saveall 16\naccess 0: saveall 0\n",
+        b"refused script 3 5 Register\n",
+    ),
+    (
+        b"access 1: swap data 5 node 0 0\n",
+        b"refused script 1 4 Span\n",
+    ),
+];
+
+#[test]
+fn scripts_are_refused(rt: HostRuntime) -> Result<(), Fail> {
+    for (script, told) in REFUSED {
+        check_script(&rt, rt.alloc(), script, told, 3)?;
+    }
+    Ok(())
+}
+
+#[test]
+fn a_script_has_a_limit(rt: HostRuntime) -> Result<(), Fail> {
+    let alloc = rt.alloc();
+    let comment = vec![in alloc; b'#'; 1_048_576]?;
+    check_script(
+        &rt,
+        alloc,
+        comment.as_slice(),
+        b"halted 7\nretired 3\nlies 0\n",
+        0,
+    )?;
+    let longer = vec![in alloc; b'#'; 1_048_577]?;
+    check_script(&rt, alloc, longer.as_slice(), b"refused long\n", 3)?;
+    Ok(())
+}
+
+// A program, a script and an input, where a read may fail: what is told, and the files that were asked for.
+#[derive(Clone, Copy)]
+struct Order<'a> {
+    code: &'a [u8],
+    script: &'a [u8],
+    fails: &'a [u64],
+    told: &'a [u8],
+    status: u8,
+}
+
+// Each file has its form before the next one is read. The third read is that of the input.
+const ORDERS: [Order<'static>; 5] = [
+    Order {
+        code: b"",
+        script: b"access",
+        fails: &[3],
+        told: b"refused script 1 1 Word\n",
+        status: 3,
+    },
+    Order {
+        code: b"",
+        script: b"",
+        fails: &[3],
+        told: b"read fault\n",
+        status: 8,
+    },
+    Order {
+        code: b"",
+        script: b"access",
+        fails: &[2],
+        told: b"read fault\n",
+        status: 8,
+    },
+    Order {
+        code: b"",
+        script: b"access",
+        fails: &[1],
+        told: b"read fault\n",
+        status: 8,
+    },
+    Order {
+        code: b"",
+        script: b"",
+        fails: &[4],
+        told: b"trapped illegal pc 00000000\nretired 0\nlies 0\n",
+        status: 1,
+    },
+];
+
+const RUN_BY_ALL: [&str; 8] = [
+    "chip", "run", "f", "--flat", "--input", "i", "--script", "s",
+];
+
+fn check_order(rt: &impl Abort, alloc: Global, order: Order<'_>) -> Result<(), Fail> {
+    let mut files = file(alloc, order.code, order.fails)?;
+    files.add("s", order.script)?;
+    files.add("i", b"")?;
+    let call = make_call(alloc, &RUN_BY_ALL, &mut files, &[], &[])?;
+    check(rt, &call, b"", order.told, order.status);
+    Ok(())
+}
+
+#[test]
+fn the_script_is_read_between_program_and_input(rt: HostRuntime) -> Result<(), Fail> {
+    for order in ORDERS {
+        check_order(&rt, rt.alloc(), order)?;
+    }
+    Ok(())
+}
+
+// Tags are tested before any file is read.
+#[test]
+fn other_tags_are_usage(rt: HostRuntime) -> Result<(), Fail> {
+    let words = ["chip", "run", "absent", "--tags", "md5"];
+    let call = call_program(rt.alloc(), &words, &EXIT_7, &[], &[])?;
+    check(&rt, &call, b"", b"usage tags\n", 2);
+    let call = call_program(rt.alloc(), &words, &EXIT_7, &[], &[1])?;
+    check(&rt, &call, b"", b"", 2);
+    Ok(())
+}
+
+// A line of evidence is one piece.
+#[test]
+fn a_fault_of_note_cuts_evidence(rt: HostRuntime) -> Result<(), Fail> {
+    let alloc = rt.alloc();
+    let mut files = attack_files(alloc, STORE_AND_PRINT, FLIP_TWO_PIECES)?;
+    let words = ["chip", "run", "p", "--script", "s", "--tags", "xor"];
+    let call = make_call(alloc, &words, &mut files, &[], &[6])?;
+    let told = b"halted 64\nretired 20\nlies 1\nevidence forgery data 5\ncounter 0 1\n";
+    check(&rt, &call, b"A", told, 9);
+    Ok(())
+}

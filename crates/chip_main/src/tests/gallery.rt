@@ -1,0 +1,345 @@
+// The gallery of attacks: each script of examples/attacks by its own text, on the program and with the tags that the page
+// there tries it with. What is told is that of an independent model in Python (hashlib, hmac, cryptography).
+use super::assembly::{STORE_AND_PRINT, STORE_TWICE};
+use super::attacks::{Attack, check_attack};
+use std::test::Fail;
+
+// It exits with 7.
+const EXIT_7_TEXT: &[u8] = b"li a0, 7
+li a7, 93
+ecall
+";
+
+const PATCH_CODE: &[u8] = b"# Changes an instruction of exit7 as it is fetched.
+#
+# The first word is `li a0, 7`, bytes 13 05 70 00. In counter mode a bit that is
+# flipped in the ciphertext is flipped in the line, so 70 becomes 60: `li a0, 6`.
+# Byte 18 stands behind the program; flipping it there is for the tags `xor`,
+# whose sum of pieces of 16 bytes then stays the same.
+#
+# Line 0 is read twice while the program is stored, then at each fetch.
+read data 0 3: flip data 0 2 10
+read data 0 3: flip data 0 18 10
+";
+
+const FLIP: &[u8] = b"# Flips one bit of line 5 as store_and_print reads it back.
+read data 5 1: flip data 5 0 01
+";
+
+const SPLICE_LINES: &[u8] =
+    b"# Answers line 5 with line 6, with the tag of line 6: both hold the letter A and
+# zeros, and both were written once.
+read data 5 1: swap data 5 data 6
+";
+
+const SPLICE_NODES: &[u8] =
+    b"# Swaps two neighbours in the tree: the node with the tags of counter blocks 0 to
+# 3 and the one with those of blocks 4 to 7.
+write data 5 1: swap node 1 0 node 1 1
+";
+
+const FORGET_PAGE: &[u8] =
+    b"# Clears the counters of page 1 in store_twice, so that its line 69 would count as
+# never written and be read as zeros. Each store reads the block three times; this
+# is the first read of the second store.
+read node 0 1 4: put node 0 1 00000000000000000000000000000000000000000000000000000000000000000000000000000000000000000000000000000000000000000000000000000000
+";
+
+const TRUE_THEN_FALSE: &[u8] =
+    b"# Answers truly when store_twice asks for the counters of page 1 to read line 69,
+# and falsely when it asks again, to write it (time of check, time of use).
+read node 0 1 5: flip node 0 1 12 18
+";
+
+const REPLAY_LINE: &[u8] =
+    b"# Gives store_twice line 5 as it was before its second store: the letter A, with
+# the tag that the chip made for it.
+write data 5 2: save 0 data 5
+read data 5 2: restore 0 data 5
+";
+
+const REPLAY_LINE_AND_COUNTER: &[u8] =
+    b"# The same with the counter block of page 0, as it was before the second store.
+# They are put back while the store to line 69 is made, before its last write.
+read data 5 1: save 0 data 5
+read data 5 1: save 1 node 0 0
+write data 69 2: restore 0 data 5
+write data 69 2: restore 1 node 0 0
+";
+
+const REPLAY_BRANCH: &[u8] =
+    b"# The same with the whole branch of page 0, up to the child of the top node.
+read data 5 1: save 0 data 5
+read data 5 1: save 1 node 0 0
+read data 5 1: save 2 node 1 0
+read data 5 1: save 3 node 2 0
+read data 5 1: save 4 node 3 0
+write data 69 2: restore 0 data 5
+write data 69 2: restore 1 node 0 0
+write data 69 2: restore 2 node 1 0
+write data 69 2: restore 3 node 2 0
+write data 69 2: restore 4 node 3 0
+";
+
+const REPLAY_EVERYTHING: &[u8] =
+    b"# The same with all of the memory: lines, tags, counter blocks and tree.
+read data 5 1: saveall 0
+write data 69 2: restoreall 0
+";
+
+const JUNK_AT_POWER_ON: &[u8] = b"# Fills places with junk before the chip's first access.
+access 1: set data 5 0 deadbeef
+access 1: set data 100 0 deadbeef
+access 1: set node 0 0 0 deadbeef
+access 1: set node 4 0 0 deadbeef
+";
+
+const REPAIRED_BY_A_WRITE: &[u8] =
+    b"# Flips a bit of line 5 between the read and the write of its second store.
+write data 5 2: flip data 5 0 01
+";
+
+const NEVER_READ_AGAIN: &[u8] = b"# Flips a bit of line 6 of store_and_print after its only store.
+write data 133 1: flip data 6 0 01
+";
+
+const SWAP_OF_EQUALS: &[u8] =
+    b"# Swaps the counter blocks of pages 1 and 2 in store_twice, after one store into
+# line 5 of each of these pages.
+read node 0 1 4: swap node 0 1 node 0 2
+";
+
+const COLLISION: &[u8] =
+    b"# Flips the lowest bit of the page counter of page 0, so that all its lines count
+# as written, and the same bit 16 bytes on: for the tags `xor`, whose sum of
+# pieces of 16 bytes then stays the same.
+read node 0 0 1: flip node 0 0 0 01
+read node 0 0 1: flip node 0 0 16 01
+";
+
+const REPEAT_A_PAD: &[u8] =
+    b"# Sets the counter of line 69 in store_twice from 1 back to 0, just before its
+# second store, which would count up to 1 again and encrypt under a pad that was
+# used. The counter is bits 35 to 41 behind the page counter: bit 3 of byte 12 is
+# its lowest. Byte 28 is for the tags `xor`, as 16 bytes on; it makes the counter
+# of line 87 a 4, which is never asked for.
+read node 0 1 4: flip node 0 1 12 08
+read node 0 1 4: flip node 0 1 28 08
+";
+
+const CAUGHT: [Attack<'static>; 8] = [
+    Attack {
+        text: EXIT_7_TEXT,
+        tags: "hmac",
+        script: PATCH_CODE,
+        printed: b"",
+        told: b"tampered data 0\nretired 0\nlies 1\n",
+        status: 5,
+    },
+    Attack {
+        text: STORE_AND_PRINT,
+        tags: "hmac",
+        script: FLIP,
+        printed: b"A",
+        told: b"tampered data 5\nretired 17\nlies 1\n",
+        status: 5,
+    },
+    Attack {
+        text: STORE_AND_PRINT,
+        tags: "hmac",
+        script: SPLICE_LINES,
+        printed: b"A",
+        told: b"tampered data 5\nretired 17\nlies 1\n",
+        status: 5,
+    },
+    Attack {
+        text: STORE_AND_PRINT,
+        tags: "hmac",
+        script: SPLICE_NODES,
+        printed: b"",
+        told: b"tampered node 1 0\nretired 7\nlies 1\n",
+        status: 5,
+    },
+    Attack {
+        text: STORE_TWICE,
+        tags: "hmac",
+        script: FORGET_PAGE,
+        printed: b"",
+        told: b"tampered node 0 1\nretired 14\nlies 1\n",
+        status: 5,
+    },
+    Attack {
+        text: STORE_TWICE,
+        tags: "hmac",
+        script: TRUE_THEN_FALSE,
+        printed: b"",
+        told: b"tampered node 0 1\nretired 14\nlies 1\n",
+        status: 5,
+    },
+    Attack {
+        text: STORE_AND_PRINT,
+        tags: "hmac",
+        script: COLLISION,
+        printed: b"",
+        told: b"tampered node 0 0\nretired 0\nlies 1\n",
+        status: 5,
+    },
+    Attack {
+        text: STORE_TWICE,
+        tags: "hmac",
+        script: REPEAT_A_PAD,
+        printed: b"",
+        told: b"tampered node 0 1\nretired 14\nlies 1\n",
+        status: 5,
+    },
+];
+
+const REPLAYS: [Attack<'static>; 4] = [
+    Attack {
+        text: STORE_TWICE,
+        tags: "hmac",
+        script: REPLAY_LINE,
+        printed: b"",
+        told: b"tampered data 5\nretired 19\nlies 1\n",
+        status: 5,
+    },
+    Attack {
+        text: STORE_TWICE,
+        tags: "hmac",
+        script: REPLAY_LINE_AND_COUNTER,
+        printed: b"",
+        told: b"tampered node 0 0\nretired 15\nlies 1\n",
+        status: 5,
+    },
+    Attack {
+        text: STORE_TWICE,
+        tags: "hmac",
+        script: REPLAY_BRANCH,
+        printed: b"",
+        told: b"tampered node 3 0\nretired 15\nlies 1\n",
+        status: 5,
+    },
+    Attack {
+        text: STORE_TWICE,
+        tags: "hmac",
+        script: REPLAY_EVERYTHING,
+        printed: b"",
+        told: b"tampered node 4 0\nretired 15\nlies 1\n",
+        status: 5,
+    },
+];
+
+const UNSEEN: [Attack<'static>; 4] = [
+    Attack {
+        text: STORE_AND_PRINT,
+        tags: "hmac",
+        script: JUNK_AT_POWER_ON,
+        printed: b"A",
+        told: b"halted 65\nretired 20\nlies 0\n",
+        status: 0,
+    },
+    Attack {
+        text: STORE_TWICE,
+        tags: "hmac",
+        script: REPAIRED_BY_A_WRITE,
+        printed: b"",
+        told: b"halted 66\nretired 22\nlies 0\n",
+        status: 0,
+    },
+    Attack {
+        text: STORE_AND_PRINT,
+        tags: "hmac",
+        script: NEVER_READ_AGAIN,
+        printed: b"A",
+        told: b"halted 65\nretired 20\nlies 0\n",
+        status: 0,
+    },
+    Attack {
+        text: STORE_TWICE,
+        tags: "hmac",
+        script: SWAP_OF_EQUALS,
+        printed: b"",
+        told: b"halted 66\nretired 22\nlies 0\n",
+        status: 0,
+    },
+];
+
+const WEAK_TAGS: [Attack<'static>; 3] = [
+    Attack {
+        text: EXIT_7_TEXT,
+        tags: "xor",
+        script: PATCH_CODE,
+        printed: b"",
+        told: b"halted 6
+retired 3
+lies 3
+evidence forgery data 0
+counter 0 3
+cipher ea5311ff4d49f9536a00efe9a71f109bd42972e3f93d90593aa8677fdb2a6e77c83e1e33af021ab1dda86db890079e7b68302ea09a8aff42ac446a90aaeb17a2
+tag 8a580e5fe7dfe2760ca1f4596a382537
+",
+        status: 7,
+    },
+    Attack {
+        text: STORE_AND_PRINT,
+        tags: "xor",
+        script: COLLISION,
+        printed: b"",
+        told: b"tampered data 0
+retired 0
+lies 1
+evidence collision node 0 0
+made 00000000000000000000000000000000000000000000000000000000000000000000000000000000000000000000000000000000000000000000000000000000
+accepted 01000000000000000000000000000000010000000000000000000000000000000000000000000000000000000000000000000000000000000000000000000000
+tag cdd9bd2ef93fe00084eb9f1953edd103
+",
+        status: 7,
+    },
+    Attack {
+        text: STORE_TWICE,
+        tags: "xor",
+        script: REPEAT_A_PAD,
+        printed: b"",
+        told: b"halted 66
+retired 22
+lies 3
+evidence collision node 0 1
+made 00000000000000000000000008000000000000000000000000000000000000000000000000000000000000000000000000000000000000000000000000000000
+accepted 00000000000000000000000000000000000000000000000000000000080000000000000000000000000000000000000000000000000000000000000000000000
+tag cdd9b42ef93fe00084eb9f1953edd103
+",
+        status: 7,
+    },
+];
+
+#[test]
+fn what_is_changed_or_spliced_is_caught(rt: HostRuntime) -> Result<(), Fail> {
+    for attack in CAUGHT {
+        check_attack(&rt, rt.alloc(), attack)?;
+    }
+    Ok(())
+}
+
+#[test]
+fn replays_are_caught_where_the_parent_is_newer(rt: HostRuntime) -> Result<(), Fail> {
+    for attack in REPLAYS {
+        check_attack(&rt, rt.alloc(), attack)?;
+    }
+    Ok(())
+}
+
+#[test]
+fn what_the_chip_never_reads_does_nothing(rt: HostRuntime) -> Result<(), Fail> {
+    for attack in UNSEEN {
+        check_attack(&rt, rt.alloc(), attack)?;
+    }
+    Ok(())
+}
+
+#[test]
+fn what_passes_under_weak_tags_is_handed_out(rt: HostRuntime) -> Result<(), Fail> {
+    for attack in WEAK_TAGS {
+        check_attack(&rt, rt.alloc(), attack)?;
+    }
+    Ok(())
+}

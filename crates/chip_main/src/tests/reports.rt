@@ -1,0 +1,416 @@
+// Reports of runs, and their checks. The reports are from an independent model in Python (hashlib, hmac, cryptography).
+use super::{
+    EXIT_7, PLAIN, PRINT_A, RUN, RUN_SMALL, call_program, check, file, make_call, program,
+};
+use sec_base::{MemoryFiles, NoMemory};
+use std::alloc::{AllocError, Global};
+use std::process::Abort;
+use std::test::Fail;
+
+// Of the program that exits with 7, under the default key and nonce.
+const REPORT: &[u8; 316] = b"\
+    0116f50c65e5d32ef308c297c15f9cdae14c3f482dd9e03853348a497b7abe0a1a\
+    e3b0c44298fc1c149afbf4c8996fb92427ae41e4649b934ca495991b7852b855\
+    e3b0c44298fc1c149afbf4c8996fb92427ae41e4649b934ca495991b7852b855\
+    0300000000000000000700000000000000000000000000000000000000\
+    a479401f853b37d1c441ce4553c6f3583bba91d772f3dcafbc7b506825d4dd77";
+
+// Of the same under another key, with a nonce.
+const REPORT_OF_KEY: &[u8; 316] = b"\
+    0116f50c65e5d32ef308c297c15f9cdae14c3f482dd9e03853348a497b7abe0a1a\
+    e3b0c44298fc1c149afbf4c8996fb92427ae41e4649b934ca495991b7852b855\
+    e3b0c44298fc1c149afbf4c8996fb92427ae41e4649b934ca495991b7852b855\
+    03000000000000000007000000101112131415161718191a1b1c1d1e1f\
+    b88bee1ff9e9fd4b34f49af8d622d677121b35bbe7fa6a23b986cc35df30cc67";
+
+// Of the same in 16 KiB; of an empty program; of one that prints the front of its input.
+const REPORT_SMALL: &[u8; 316] = b"\
+    0116f7bfdd45a5acd592864f31537f995066d1d163ad715d1d9d9d83c121daa865\
+    e3b0c44298fc1c149afbf4c8996fb92427ae41e4649b934ca495991b7852b855\
+    e3b0c44298fc1c149afbf4c8996fb92427ae41e4649b934ca495991b7852b855\
+    0300000000000000000700000000000000000000000000000000000000\
+    501e58bc43e5f84a35573da9604294a829da186a54c7877171303106882a6f34";
+
+const REPORT_EMPTY: &[u8; 316] = b"\
+    01a1deabe0422101391ed98c8ceacd6eae5782cd909615ce05a75886f1ee8c9475\
+    e3b0c44298fc1c149afbf4c8996fb92427ae41e4649b934ca495991b7852b855\
+    e3b0c44298fc1c149afbf4c8996fb92427ae41e4649b934ca495991b7852b855\
+    0000000000000000010100000000000000000000000000000000000000\
+    3311c8f8e9d6fd369df950e9c487088d3f38cb0aa2ea424f441910e004c837d8";
+
+const REPORT_INPUT: &[u8; 316] = b"\
+    01edcc053922037030c8b33979f1e0c75d28be107672d0167931650e51872c53f6\
+    09ca7e4eaa6e8ae9c7d261167129184883644d07dfba7cbfbc4c8a2e08360d5b\
+    d6a81f224bbf2f7c22baddbd5d40730eb20cfb0b3d74e10cab61788214caceb1\
+    0d00000000000000007856341200112233445566778899aabbccddeeff\
+    b03eea9af2d1c28e250b0add4163e496c6ee90d046fc9eb3c58ef6dfec5914ae";
+
+// Of a trap, of runs whose budget or whose page is used up, and of one that was tampered with.
+const REPORT_TARGET: &[u8; 316] = b"\
+    0162d39fefb0b76f925ef988ba3f0e3bb96ab2a99b5d9d8f68670621fb0a7e2333\
+    e3b0c44298fc1c149afbf4c8996fb92427ae41e4649b934ca495991b7852b855\
+    e3b0c44298fc1c149afbf4c8996fb92427ae41e4649b934ca495991b7852b855\
+    0100000000000000010200000000000000000000000000000000000000\
+    1166fed54d5c1bc9381ba4b57ee40a189d1073da61e75df2759ef96c34f3757c";
+
+const REPORT_OUT_OF_STEPS: &[u8; 316] = b"\
+    0116f7bfdd45a5acd592864f31537f995066d1d163ad715d1d9d9d83c121daa865\
+    e3b0c44298fc1c149afbf4c8996fb92427ae41e4649b934ca495991b7852b855\
+    e3b0c44298fc1c149afbf4c8996fb92427ae41e4649b934ca495991b7852b855\
+    0200000000000000040000000000000000000000000000000000000000\
+    9eb279eb706f939cc3b2da1675014f85973d6549862573a2d935d01ca2d10eb8";
+
+const REPORT_SPENT: &[u8; 316] = b"\
+    016b4093e711b53e6df3fd6aa6c38880834ab3a641546997d410023665f7ed2d07\
+    e3b0c44298fc1c149afbf4c8996fb92427ae41e4649b934ca495991b7852b855\
+    e3b0c44298fc1c149afbf4c8996fb92427ae41e4649b934ca495991b7852b855\
+    8001000000000000060000000000000000000000000000000000000000\
+    e8f72c8d806dd27c17a18ab1d1c2088831371e6a007ceb9cc39834877be0776d";
+
+const REPORT_TAMPERED: &[u8; 316] = b"\
+    0116f7bfdd45a5acd592864f31537f995066d1d163ad715d1d9d9d83c121daa865\
+    e3b0c44298fc1c149afbf4c8996fb92427ae41e4649b934ca495991b7852b855\
+    e3b0c44298fc1c149afbf4c8996fb92427ae41e4649b934ca495991b7852b855\
+    0000000000000000050000000000000000000000000000000000000000\
+    4c0b431200aa93bf70fd46fa41e3eb454e1a8acc925fe41ac41b4df76f133ed4";
+
+// It reads five bytes of its input, prints three of them, and exits with 0x12345678.
+const PRINT_3: [u32; 13] = [
+    0x0000_15b7, // lui a1, 0x1
+    0x0000_0513, // addi a0, zero, 0
+    0x0050_0613, // addi a2, zero, 5
+    0x03f0_0893, // addi a7, zero, 63
+    0x0000_0073, // ecall
+    0x0010_0513, // addi a0, zero, 1
+    0x0030_0613, // addi a2, zero, 3
+    0x0400_0893, // addi a7, zero, 64
+    0x0000_0073, // ecall
+    0x1234_5537, // lui a0, 0x12345
+    0x6785_0513, // addi a0, a0, 0x678
+    0x05d0_0893, // addi a7, zero, 93
+    0x0000_0073, // ecall
+];
+
+// It stores to one line 200 times.
+const STORE_200_TIMES: [u32; 8] = [
+    0x0000_12b7, // lui t0, 0x1
+    0x0002_8293, // addi t0, t0, 0
+    0x0c80_0313, // addi t1, zero, 200
+    0x0062_a023, // sw t1, 0(t0)
+    0xfff3_0313, // addi t1, t1, -1
+    0xfe03_1ce3, // bne t1, zero, -8
+    0x05d0_0893, // addi a7, zero, 93
+    0x0000_0073, // ecall
+];
+
+// The options of a run, its program, what that prints, what is told before its report, the report's digits, and the
+// status.
+#[derive(Clone, Copy)]
+struct Reported<'a> {
+    options: &'a [&'a str],
+    code: &'a [u32],
+    printed: &'a [u8],
+    told: &'a [u8],
+    report: &'a [u8; 316],
+    status: u8,
+}
+
+const REPORTED: [Reported<'static>; 9] = [
+    Reported {
+        options: &[],
+        code: &EXIT_7,
+        printed: b"",
+        told: b"halted 7\nretired 3\nlies 0\n",
+        report: REPORT,
+        status: 0,
+    },
+    Reported {
+        options: &[
+            "--key",
+            "FFFEFDFCFBFAF9F8F7F6F5F4F3F2F1F0EFEEEDECEBEAE9E8e7e6e5e4e3e2e1e0",
+            "--nonce=101112131415161718191a1b1c1d1e1f",
+        ],
+        code: &EXIT_7,
+        printed: b"",
+        told: b"halted 7\nretired 3\nlies 0\n",
+        report: REPORT_OF_KEY,
+        status: 0,
+    },
+    Reported {
+        options: &["--levels", "1"],
+        code: &EXIT_7,
+        printed: b"",
+        told: b"halted 7\nretired 3\nlies 0\n",
+        report: REPORT_SMALL,
+        status: 0,
+    },
+    Reported {
+        options: &[],
+        code: &[],
+        printed: b"",
+        told: b"trapped illegal pc 00000000\nretired 0\nlies 0\n",
+        report: REPORT_EMPTY,
+        status: 1,
+    },
+    Reported {
+        options: &[
+            "--levels",
+            "1",
+            "--input",
+            "i",
+            "--nonce",
+            "00112233445566778899aabbccddeeff",
+        ],
+        code: &PRINT_3,
+        printed: b"hel",
+        told: b"halted 305419896\nretired 13\nlies 0\n",
+        report: REPORT_INPUT,
+        status: 0,
+    },
+    Reported {
+        options: &["--levels", "1"],
+        code: &[
+            0x0020_0093, // addi ra, zero, 2
+            0x0000_8167, // jalr sp, 0(ra)
+        ],
+        printed: b"",
+        told: b"trapped misaligned target pc 00000004\nretired 1\nlies 0\n",
+        report: REPORT_TARGET,
+        status: 1,
+    },
+    Reported {
+        options: &["--levels", "1", "--steps", "2"],
+        code: &EXIT_7,
+        printed: b"",
+        told: b"out of steps\nretired 2\nlies 0\n",
+        report: REPORT_OUT_OF_STEPS,
+        status: 4,
+    },
+    Reported {
+        options: &["--levels", "1", "--page-limit", "0"],
+        code: &STORE_200_TIMES,
+        printed: b"",
+        told: b"spent page 1\nretired 384\nlies 0\n",
+        report: REPORT_SPENT,
+        status: 6,
+    },
+    Reported {
+        options: &["--levels", "1", "--script", "s"],
+        code: &EXIT_7,
+        printed: b"",
+        told: b"tampered node 1 0\nretired 0\nlies 1\n",
+        report: REPORT_TAMPERED,
+        status: 5,
+    },
+];
+
+// The program `f`, the input `i` and the script `s`.
+fn run_files(alloc: Global, code: &[u32]) -> Result<MemoryFiles, NoMemory> {
+    let bytes = program(alloc, code)?;
+    let mut files = file(alloc, bytes.as_slice(), &[])?;
+    files.add("i", b"hello, world")?;
+    files.add("s", b"access 6: flip node 1 0 0 01")?;
+    Ok(files)
+}
+
+// A text with the line of a report at its end.
+fn with_report(alloc: Global, told: &[u8], report: &[u8; 316]) -> Result<Vec<u8>, AllocError> {
+    let mut text = told.to_vec(alloc)?;
+    text.extend_from_slice(b"report ")?;
+    text.extend_from_slice(report)?;
+    text.push(b'\n')?;
+    Ok(text)
+}
+
+#[test]
+fn runs_are_reported(rt: HostRuntime) -> Result<(), Fail> {
+    for run in REPORTED {
+        let mut words = Vec::from_slice(rt.alloc(), &RUN)?;
+        words.extend_from_slice(run.options)?;
+        let mut files = run_files(rt.alloc(), run.code)?;
+        let call = make_call(rt.alloc(), words.as_slice(), &mut files, &[], &[])?;
+        let told = with_report(rt.alloc(), run.told, run.report)?;
+        assert_eq!(rt; call.out.bytes(), run.printed);
+        assert_eq!(rt; call.note.bytes(), told.as_slice());
+        assert_eq!(rt; call.done.status, run.status);
+    }
+    Ok(())
+}
+
+// A run on the plain machine, one whose output fails, and one whose record is told in part.
+#[test]
+fn no_report_is_told(rt: HostRuntime) -> Result<(), Fail> {
+    let call = call_program(rt.alloc(), &PLAIN, &EXIT_7, &[], &[])?;
+    assert_eq!(rt; call.note.bytes(), b"halted 7\nretired 3\n".as_slice());
+    let call = call_program(rt.alloc(), &RUN_SMALL, &PRINT_A, &[1], &[])?;
+    assert_eq!(rt;
+        call.note.bytes(),
+        b"write fault\nretired 7\nlies 0\n".as_slice()
+    );
+    let call = call_program(rt.alloc(), &RUN, &EXIT_7, &[], &[4])?;
+    assert_eq!(rt;
+        call.note.bytes(),
+        b"halted 7\nretired 3\nlies 0\n".as_slice()
+    );
+    assert_eq!(rt; call.done.status, 9);
+    Ok(())
+}
+
+// The 64 digits of a measurement are those that a report has behind its version.
+#[test]
+fn a_measurement_is_that_of_the_report(rt: HostRuntime) -> Result<(), Fail> {
+    let words = ["chip", "measure", "f", "--flat"];
+    let call = call_program(rt.alloc(), &words, &EXIT_7, &[], &[])?;
+    let report = REPORT.as_slice();
+    assert!(rt; call.out.bytes().starts_with(&report[2..66]));
+    Ok(())
+}
+
+const MEASUREMENT_LINE: &[u8] =
+    b"measurement 16f50c65e5d32ef308c297c15f9cdae14c3f482dd9e03853348a497b7abe0a1a\n";
+
+const FIELDS: &[u8] = b"\
+measurement 16f50c65e5d32ef308c297c15f9cdae14c3f482dd9e03853348a497b7abe0a1a
+input e3b0c44298fc1c149afbf4c8996fb92427ae41e4649b934ca495991b7852b855
+output e3b0c44298fc1c149afbf4c8996fb92427ae41e4649b934ca495991b7852b855
+retired 3
+ending 0 code 7
+nonce 00000000000000000000000000000000
+";
+
+const FIELDS_OF_TRAP: &[u8] = b"\
+measurement 62d39fefb0b76f925ef988ba3f0e3bb96ab2a99b5d9d8f68670621fb0a7e2333
+input e3b0c44298fc1c149afbf4c8996fb92427ae41e4649b934ca495991b7852b855
+output e3b0c44298fc1c149afbf4c8996fb92427ae41e4649b934ca495991b7852b855
+retired 1
+ending 1 code 2
+nonce 00000000000000000000000000000000
+";
+
+const VERIFY: [&str; 3] = ["chip", "verify", "f"];
+
+// What a check of a text writes, tells and answers.
+fn check_report(
+    rt: &impl Abort,
+    alloc: Global,
+    text: &[u8],
+    out: &[u8],
+    told: &[u8],
+    status: u8,
+) -> Result<(), Fail> {
+    let mut files = file(alloc, text, &[])?;
+    let call = make_call(alloc, &VERIFY, &mut files, &[], &[])?;
+    assert_eq!(rt; call.out.bytes(), out);
+    assert_eq!(rt; call.note.bytes(), told);
+    assert_eq!(rt; call.done.status, status);
+    assert!(rt; call.done.run.is_none());
+    Ok(())
+}
+
+// The text of the first report with another digit at a place.
+fn with_digit(at: usize, digit: u8) -> [u8; 316] {
+    let mut text = *REPORT;
+    if at < 316 {
+        text[at] = digit;
+    }
+    text
+}
+
+#[test]
+fn reports_are_checked(rt: HostRuntime) -> Result<(), Fail> {
+    let alloc = rt.alloc();
+    check_report(&rt, alloc, REPORT, FIELDS, b"", 0)?;
+    check_report(&rt, alloc, REPORT_TARGET, FIELDS_OF_TRAP, b"", 0)?;
+    let report = REPORT.as_slice();
+    let mut text = report.to_ascii_uppercase(alloc)?;
+    text.push(b'\n')?;
+    check_report(&rt, alloc, text.as_slice(), FIELDS, b"", 0)?;
+    let rows: [(&[u8], &[u8], u8); 7] = [
+        (&report[..315], b"refused report 1 Length\n", 3),
+        (b"", b"refused report 1 Length\n", 3),
+        (&with_digit(315, b'g'), b"refused report 2 Digit\n", 3),
+        (&with_digit(1, b'2'), b"refused report 3 Version\n", 3),
+        (&with_digit(315, b'8'), b"report tag differs\n", 11),
+        (&with_digit(2, b'2'), b"report tag differs\n", 11),
+        (REPORT_OF_KEY, b"report tag differs\n", 11),
+    ];
+    for (text, told, status) in rows {
+        check_report(&rt, alloc, text, b"", told, status)?;
+    }
+    Ok(())
+}
+
+#[test]
+fn a_report_is_checked_under_a_key(rt: HostRuntime) -> Result<(), Fail> {
+    let key = "fffefdfcfbfaf9f8f7f6f5f4f3f2f1f0efeeedecebeae9e8e7e6e5e4e3e2e1e0";
+    let words = ["chip", "verify", "f", "--key", key];
+    let mut files = file(rt.alloc(), REPORT_OF_KEY, &[])?;
+    let call = make_call(rt.alloc(), &words, &mut files, &[], &[])?;
+    assert!(rt;
+        call.out
+            .bytes()
+            .ends_with(b"nonce 101112131415161718191a1b1c1d1e1f\n")
+    );
+    assert_eq!(rt; call.done.status, 0);
+    let mut files = file(rt.alloc(), REPORT, &[])?;
+    let call = make_call(rt.alloc(), &words, &mut files, &[], &[])?;
+    check(&rt, &call, b"", b"report tag differs\n", 11);
+    Ok(())
+}
+
+#[test]
+fn a_report_is_read(rt: HostRuntime) -> Result<(), Fail> {
+    let mut files = MemoryFiles::new(rt.alloc(), &[])?;
+    let call = make_call(rt.alloc(), &VERIFY, &mut files, &[], &[])?;
+    check(&rt, &call, b"", b"read fault\n", 8);
+    let rows: [(usize, &[u8]); 2] = [
+        (1_048_576, b"refused report 1 Length\n"),
+        (1_048_577, b"refused long\n"),
+    ];
+    for (length, told) in rows {
+        let text = vec![in rt.alloc(); b'0'; length]?;
+        check_report(&rt, rt.alloc(), text.as_slice(), b"", told, 3)?;
+    }
+    Ok(())
+}
+
+// Each line is a piece. A report that differs is a result, and a report without its form a refusal.
+#[test]
+fn faults_of_the_sinks_of_a_check(rt: HostRuntime) -> Result<(), Fail> {
+    let mut files = file(rt.alloc(), REPORT, &[])?;
+    let call = make_call(rt.alloc(), &VERIFY, &mut files, &[2], &[])?;
+    check(&rt, &call, MEASUREMENT_LINE, b"", 9);
+    let mut files = file(rt.alloc(), REPORT_OF_KEY, &[])?;
+    let call = make_call(rt.alloc(), &VERIFY, &mut files, &[], &[1])?;
+    check(&rt, &call, b"", b"", 9);
+    let mut files = file(rt.alloc(), b"", &[])?;
+    let call = make_call(rt.alloc(), &VERIFY, &mut files, &[], &[1])?;
+    check(&rt, &call, b"", b"", 3);
+    Ok(())
+}
+
+// The first of tags, key and nonce is told, before any file is read.
+#[test]
+fn keys_and_nonces_are_checked(rt: HostRuntime) -> Result<(), Fail> {
+    let zeros = "000000000000000000000000000000000000000000000000000000000000000";
+    let rows: [(&[&str], &[u8]); 6] = [
+        (&["chip", "run", "p", "--key", "00"], b"usage key\n"),
+        (&["chip", "run", "p", "--key", zeros], b"usage key\n"),
+        (&["chip", "run", "p", "--nonce", zeros], b"usage nonce\n"),
+        (&["chip", "verify", "p", "--key", zeros], b"usage key\n"),
+        (
+            &["chip", "run", "p", "--nonce", "0", "--key", "0"],
+            b"usage key\n",
+        ),
+        (
+            &["chip", "run", "p", "--key", "0", "--tags", "md5"],
+            b"usage tags\n",
+        ),
+    ];
+    for (words, told) in rows {
+        let mut files = MemoryFiles::new(rt.alloc(), &[])?;
+        let call = make_call(rt.alloc(), words, &mut files, &[], &[])?;
+        check(&rt, &call, b"", told, 2);
+    }
+    Ok(())
+}
