@@ -1,5 +1,5 @@
 -- A command without a fault has the values that it can't do without.
-use Rattle.std.proofs.Common.{◌≡◌, ◌⊎◌, ◌<◌, ◌≤◌, ◌^◌, ◌&&◌, ap, subst, ℕ, Bool, List, [], ◌∷◌, Option, Some, None, true, false, not, refl, sym, inl, inr, is_some, unwrap_or}
+use Rattle.std.proofs.Common.{◌≡◌, ◌⊎◌, ◌<◌, ◌≤◌, ◌^◌, ◌&&◌, ap, arith, subst, ℕ, Bool, List, [], ◌∷◌, Option, Some, None, true, false, not, refl, sym, inl, inr, is_some, unwrap_or}
 use Rattle.std.specs.Prelude.{codes, find, ◌-◌}
 use Rattle.std.specs.List.{list_any, slice_index_or}
 use Rattle.std.specs.Option.{option_map_or}
@@ -15,9 +15,9 @@ use Rattle.clap.specs.Faults.{check_fault, defaults_fault, entered_fault, level_
 use Rattle.clap.specs.declared.builder.value_parser.ValueParser.TheVariants.{Unsigned}
 use Rattle.clap.proofs.ValueTestLemmas.{accepts-Accepts}
 use Rattle.std.proofs.lemmas.Slice.Eq.{bytes_eq-Decides}
-use Rattle.chip_words.specs.App.{chip_app, file_rule, key_rule, levels_rule, nonce_rule, page_limit_rule, steps_rule, tags_rule}
-use Rattle.chip_words.specs.Request.{numeral_value, value_of}
-use Rattle.chip_words.specs.Commands.{HasExecution, HasItsValues, HasNumber, HasProgram, HasProtectedRun, HasReport, HasValue, IfCommand}
+use Rattle.chip_words.specs.App.{chip_app, file_rule, key_rule, levels_rule, nonce_rule, number_rule, page_limit_rule, steps_rule, tags_rule}
+use Rattle.chip_words.specs.Request.{number_of, numeral_value, value_of}
+use Rattle.chip_words.specs.Commands.{HasExecution, HasItsValues, HasNumber, HasProgram, HasProtectedRun, HasReport, HasValue, HasWorkload, IfCommand}
 use Rattle.chip_words.proofs.Walks.{IsNoHelp, both_empty}
 use Rattle.chip_words.proofs.Fits.{AllFit, HasSome, IsIn, Owns, defaults_have, finished_fits, first_passes, row_found, walk_fits}
 
@@ -123,6 +123,9 @@ tags_built = filled tags_rule
 abbrev page_limit_built : Rule
 page_limit_built = filled page_limit_rule
 
+abbrev number_built : Rule
+number_built = with_index 1 (filled number_rule)
+
 -- a command that takes a file and levels, whatever else it takes
 program_there : (s : Shape) (words : List Text) → IsFaultless s words → s.subcommand_negates_reqs ≡ false
     → IsIn file_built s.rules → arg_by_id s.rules (codes "file") ≡ Some file_built
@@ -164,6 +167,9 @@ inspection_built name = record (slice_index_or (built chip_app).subs 3 help_shap
 abbrev pub verify_built : Shape
 verify_built = slice_index_or (built chip_app).subs 5 help_shape
 
+abbrev bench_built : Shape
+bench_built = slice_index_or (built chip_app).subs 6 help_shape
+
 run_owns : Owns run_built.rules run_built.rules
 run_owns = (
   (refl, λ takes. refl),
@@ -187,6 +193,9 @@ asm_owns = ((refl, λ takes. refl), ((refl, λ takes. refl), ((refl, λ takes. a
 
 verify_owns : Owns verify_built.rules verify_built.rules
 verify_owns = ((refl, λ takes. refl), ((refl, λ takes. refl), ((refl, λ takes. absurd cc), tt)))
+
+bench_owns : Owns bench_built.rules bench_built.rules
+bench_owns = ((refl, λ takes. refl), ((refl, λ takes. absurd cc), tt))
 
 inspection_owns : (name : Text) → Owns (inspection_built name).rules (inspection_built name).rules
 inspection_owns name = ((refl, λ takes. refl), ((refl, λ takes. absurd cc), ((refl, λ takes. refl), ((refl, λ takes. absurd cc), tt))))
@@ -236,6 +245,17 @@ verify_has words e =
       key = value_there (codes "key") key.0 (rows_after s.rules [] words) key.1;
     }
 
+bench_has : (words : List Text) → level_fault bench_built [] nothing_held words false [] ≡ [] → HasWorkload (rows_after bench_built.rules [] words)
+bench_has words e =
+    let s = bench_built in
+    let clean = faultless s words bench_owns e in
+    let number = required_passed s words number_built clean refl (inl refl) refl refl refl in
+    let within = number_there 0 (2 ^ 32 - 1) (codes "number") number.0 (rows_after s.rules [] words) number.1 number.2 in
+    record { number = within.0; bound = below (number_of (rows_after s.rules [] words)) within.1.1 }
+  where
+    below : (n : ℕ) → n ≤ 2 ^ 32 - 1 → n < 2 ^ 32
+    below n most = omega arith
+
 as_run : (words : List Text) → level_fault run_built [] nothing_held words false [] ≡ []
     → HasItsValues (codes "run") (rows_after run_built.rules [] words)
 as_run words e = let h = run_has words e in record {
@@ -245,6 +265,7 @@ as_run words e = let h = run_has words e in record {
   dis = λ is. absurd cc;
   measure = λ is. absurd cc;
   verify = λ is. absurd cc;
+  bench = λ is. absurd cc;
 }
 
 as_plain : (words : List Text) → level_fault plain_built [] nothing_held words false [] ≡ []
@@ -256,6 +277,7 @@ as_plain words e = let h = plain_has words e in record {
   dis = λ is. absurd cc;
   measure = λ is. absurd cc;
   verify = λ is. absurd cc;
+  bench = λ is. absurd cc;
 }
 
 as_assembly : (words : List Text) → level_fault asm_built [] nothing_held words false [] ≡ []
@@ -267,6 +289,7 @@ as_assembly words e = let h = asm_has words e in record {
   dis = λ is. absurd cc;
   measure = λ is. absurd cc;
   verify = λ is. absurd cc;
+  bench = λ is. absurd cc;
 }
 
 as_dis : (words : List Text) → level_fault (inspection_built (codes "dis")) [] nothing_held words false [] ≡ []
@@ -278,6 +301,7 @@ as_dis words e = let h = inspection_has (codes "dis") words e in record {
   dis = λ is. h;
   measure = λ is. absurd cc;
   verify = λ is. absurd cc;
+  bench = λ is. absurd cc;
 }
 
 as_measure : (words : List Text) → level_fault (inspection_built (codes "measure")) [] nothing_held words false [] ≡ []
@@ -289,6 +313,7 @@ as_measure words e = let h = inspection_has (codes "measure") words e in record 
   dis = λ is. absurd cc;
   measure = λ is. h;
   verify = λ is. absurd cc;
+  bench = λ is. absurd cc;
 }
 
 as_verification : (words : List Text) → level_fault verify_built [] nothing_held words false [] ≡ []
@@ -300,14 +325,28 @@ as_verification words e = let h = verify_has words e in record {
   dis = λ is. absurd cc;
   measure = λ is. absurd cc;
   verify = λ is. h;
+  bench = λ is. absurd cc;
 }
 
--- the command that was met is one of the six, and has its values
+as_bench : (words : List Text) → level_fault bench_built [] nothing_held words false [] ≡ []
+    → HasItsValues (codes "bench") (rows_after bench_built.rules [] words)
+as_bench words e = let h = bench_has words e in record {
+  run = λ is. absurd cc;
+  plain = λ is. absurd cc;
+  asm = λ is. absurd cc;
+  dis = λ is. absurd cc;
+  measure = λ is. absurd cc;
+  verify = λ is. absurd cc;
+  bench = λ is. h;
+}
+
+-- the command that was met is one of the seven, and has its values
 pub command_has : (stop : Option (Text × List Text)) → IsNoHelp stop → entered_fault (built chip_app) stop ≡ [] → IfCommand (entered (built chip_app) stop)
 command_has None free e = tt
 command_has (Some p) free e =
     go (bytes_eq (codes "run") p.0) refl (bytes_eq (codes "plain") p.0) refl (bytes_eq (codes "asm") p.0) refl (bytes_eq (codes "dis") p.0) refl
-    (bytes_eq (codes "measure") p.0) refl (bytes_eq (codes "verify") p.0) refl (bytes_eq (codes "help") p.0) refl
+    (bytes_eq (codes "measure") p.0) refl (bytes_eq (codes "verify") p.0) refl (bytes_eq (codes "bench") p.0) refl
+    (bytes_eq (codes "help") p.0) refl
   where
     help_is : bytes_eq (codes "help") p.0 ≡ true → bytes_eq p.0 (codes "help") ≡ true
     help_is is = (bytes_eq-Decides p.0 (codes "help")).1 (sym ((bytes_eq-Decides (codes "help") p.0).0 is))
@@ -315,13 +354,14 @@ command_has (Some p) free e =
     go : (a : Bool) → bytes_eq (codes "run") p.0 ≡ a → (b : Bool) → bytes_eq (codes "plain") p.0 ≡ b
         → (c : Bool) → bytes_eq (codes "asm") p.0 ≡ c → (d : Bool) → bytes_eq (codes "dis") p.0 ≡ d
         → (m : Bool) → bytes_eq (codes "measure") p.0 ≡ m → (k : Bool) → bytes_eq (codes "verify") p.0 ≡ k
-        → (h : Bool) → bytes_eq (codes "help") p.0 ≡ h
+        → (n : Bool) → bytes_eq (codes "bench") p.0 ≡ n → (h : Bool) → bytes_eq (codes "help") p.0 ≡ h
         → IfCommand (entered (built chip_app) (Some p))
-    go true x b y c z d u m v k q h w = rw x (as_run p.1 (rw x at e))
-    go false x true y c z d u m v k q h w = rw (x, y) (as_plain p.1 (rw (x, y) at e))
-    go false x false y true z d u m v k q h w = rw (x, y, z) (as_assembly p.1 (rw (x, y, z) at e))
-    go false x false y false z true u m v k q h w = rw (x, y, z, u) (as_dis p.1 (rw (x, y, z, u) at e))
-    go false x false y false z false u true v k q h w = rw (x, y, z, u, v) (as_measure p.1 (rw (x, y, z, u, v) at e))
-    go false x false y false z false u false v true q h w = rw (x, y, z, u, v, q) (as_verification p.1 (rw (x, y, z, u, v, q) at e))
-    go false x false y false z false u false v false q true w = absurd (let bad = rw (help_is w) at free in cc)
-    go false x false y false z false u false v false q false w = rw (x, y, z, u, v, q, w) tt
+    go true x b y c z d u m v k q n t h w = rw x (as_run p.1 (rw x at e))
+    go false x true y c z d u m v k q n t h w = rw (x, y) (as_plain p.1 (rw (x, y) at e))
+    go false x false y true z d u m v k q n t h w = rw (x, y, z) (as_assembly p.1 (rw (x, y, z) at e))
+    go false x false y false z true u m v k q n t h w = rw (x, y, z, u) (as_dis p.1 (rw (x, y, z, u) at e))
+    go false x false y false z false u true v k q n t h w = rw (x, y, z, u, v) (as_measure p.1 (rw (x, y, z, u, v) at e))
+    go false x false y false z false u false v true q n t h w = rw (x, y, z, u, v, q) (as_verification p.1 (rw (x, y, z, u, v, q) at e))
+    go false x false y false z false u false v false q true t h w = rw (x, y, z, u, v, q, t) (as_bench p.1 (rw (x, y, z, u, v, q, t) at e))
+    go false x false y false z false u false v false q false t true w = absurd (let bad = rw (help_is w) at free in cc)
+    go false x false y false z false u false v false q false t false w = rw (x, y, z, u, v, q, t, w) tt

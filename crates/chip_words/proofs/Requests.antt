@@ -1,7 +1,6 @@
 -- What follows from a request.
-use Rattle.std.proofs.Common.{◌≡◌, ◌≤◌, ◌∙◌, ap, subst, ℕ, Bool, List, [], Option, Some, None, Result, Ok, Err, true, false, refl, sym, inl, inr, is_some, if◌then◌else◌, unwrap_or}
-use Rattle.std.specs.Prelude.{◌↔◌, codes, IfSome, IsTrue}
-use Rattle.std.specs.Result.{result_unwrap_or}
+use Rattle.std.proofs.Common.{◌≡◌, ◌∙◌, ap, subst, ℕ, Bool, List, [], Option, Some, None, Result, Ok, Err, true, false, refl, sym, inl, inr, is_some, if◌then◌else◌}
+use Rattle.std.specs.Prelude.{◌↔◌, codes, IsTrue}
 use Rattle.std.specs.Str.{bytes_eq}
 use Rattle.std.proofs.lemmas.Slice.Eq.{bytes_eq-Decides}
 use Rattle.clap.specs.Values.{kind_of}
@@ -15,13 +14,13 @@ use Rattle.clap.specs.declared.parser.matches.ArgMatches.{ArgMatches}
 use Rattle.clap.proofs.OnLiterals.{clap_on_literals}
 use Rattle.clap.proofs.SimpleLemmas.{is_nil}
 use Rattle.chip_words.specs.App.{chip_app}
-use Rattle.chip_words.specs.Request.{Asked, WordsFault, asked_in, asked_program, device_key_of, execution_of, is_taken, program_of, report_of, request_of, run_of, run_on, terms_of, text_of, to_assemble, to_disassemble, to_measure, to_run, to_run_plain, to_verify, not_taken, verify_under}
+use Rattle.chip_words.specs.Request.{Asked, WordsFault, asked_in, device_key_of, is_taken, request_of, run_on, terms_of, not_taken, verify_under}
 use Rattle.chip_words.specs.Words.{Explains, IfUsage}
 use Rattle.chip_words.specs.declared.fault.ValueFault.{ValueFault}
 use Rattle.chip_words.specs.declared.fault.WordsError.{WordsError}
 use Rattle.chip_words.specs.declared.fault.WordsError.TheVariants.{Usage, WrongValue, NoMemory}
 use Rattle.chip_words.specs.declared.request.Terms.{Terms}
-use Rattle.chip_words.specs.Commands.{HasExecution, HasProgram, HasProtectedRun, IfCommand}
+use Rattle.chip_words.specs.Commands.{IfCommand}
 use Rattle.chip_words.proofs.Commands.{command_has, run_built, verify_built}
 use Rattle.chip_words.proofs.Walks.{IsNoHelp, both_empty, walk_keeps}
 
@@ -64,13 +63,14 @@ verification_taken : (values : List Row) (key : Result (List ℕ) ValueFault) �
 verification_taken values (Ok key) = refl
 verification_taken values (Err fault) = refl
 
--- one of the six
+-- one of the seven
 named : (stop : Option (Text × List Text)) → IsNoHelp stop → is_some (entered (built chip_app) stop) ≡ true
     → is_taken (asked_in (entered (built chip_app) stop)) ≡ true
 named None free some = absurd cc
 named (Some p) free some =
     go (bytes_eq (codes "run") p.0) refl (bytes_eq (codes "plain") p.0) refl (bytes_eq (codes "asm") p.0) refl (bytes_eq (codes "dis") p.0) refl
-    (bytes_eq (codes "measure") p.0) refl (bytes_eq (codes "verify") p.0) refl (bytes_eq (codes "help") p.0) refl
+    (bytes_eq (codes "measure") p.0) refl (bytes_eq (codes "verify") p.0) refl (bytes_eq (codes "bench") p.0) refl
+    (bytes_eq (codes "help") p.0) refl
   where
     help_is : bytes_eq (codes "help") p.0 ≡ true → bytes_eq p.0 (codes "help") ≡ true
     help_is e = (bytes_eq-Decides p.0 (codes "help")).1 (sym ((bytes_eq-Decides (codes "help") p.0).0 e))
@@ -78,17 +78,18 @@ named (Some p) free some =
     go : (a : Bool) → bytes_eq (codes "run") p.0 ≡ a → (b : Bool) → bytes_eq (codes "plain") p.0 ≡ b
         → (c : Bool) → bytes_eq (codes "asm") p.0 ≡ c → (d : Bool) → bytes_eq (codes "dis") p.0 ≡ d
         → (m : Bool) → bytes_eq (codes "measure") p.0 ≡ m → (k : Bool) → bytes_eq (codes "verify") p.0 ≡ k
-        → (h : Bool) → bytes_eq (codes "help") p.0 ≡ h
+        → (n : Bool) → bytes_eq (codes "bench") p.0 ≡ n → (h : Bool) → bytes_eq (codes "help") p.0 ≡ h
         → is_taken (asked_in (entered (built chip_app) (Some p))) ≡ true
-    go true x b y c z d u m v k q h w = rw x (run_taken (rows_after run_built.rules [] p.1) (terms_of (rows_after run_built.rules [] p.1)))
-    go false x true y c z d u m v k q h w = rw (x, y) refl
-    go false x false y true z d u m v k q h w = rw (x, y, z) refl
-    go false x false y false z true u m v k q h w = rw (x, y, z, u) refl
-    go false x false y false z false u true v k q h w = rw (x, y, z, u, v) refl
-    go false x false y false z false u false v true q h w =
+    go true x b y c z d u m v k q n t h w = rw x (run_taken (rows_after run_built.rules [] p.1) (terms_of (rows_after run_built.rules [] p.1)))
+    go false x true y c z d u m v k q n t h w = rw (x, y) refl
+    go false x false y true z d u m v k q n t h w = rw (x, y, z) refl
+    go false x false y false z true u m v k q n t h w = rw (x, y, z, u) refl
+    go false x false y false z false u true v k q n t h w = rw (x, y, z, u, v) refl
+    go false x false y false z false u false v true q n t h w =
         rw (x, y, z, u, v, q) (verification_taken (rows_after verify_built.rules [] p.1) (device_key_of (rows_after verify_built.rules [] p.1)))
-    go false x false y false z false u false v false q true w = absurd (let bad = rw (help_is w) at free in cc)
-    go false x false y false z false u false v false q false w = absurd (let bad = rw (x, y, z, u, v, q, w) at some in cc)
+    go false x false y false z false u false v false q true t h w = rw (x, y, z, u, v, q, t) refl
+    go false x false y false z false u false v false q false t true w = absurd (let bad = rw (help_is w) at free in cc)
+    go false x false y false z false u false v false q false t false w = absurd (let bad = rw (x, y, z, u, v, q, t, w) at some in cc)
 
 -- words without a fault ask for something, and their command has its values
 asks : (words : List Text) → fault_of chip_app words ≡ []
@@ -147,65 +148,6 @@ refusal_asks a words e is fails kept =
     let kind : HasKind (fault_of chip_app words) e = subst (λ (x : App). is_simple_and_free x ≡ true → HasKind (fault_of x words) e) is fails chip_is_free in
     none_chosen (fault_of chip_app words) (asked_in (subcommand_of chip_app words)) (λ none.
     elim (subst (λ (kinds : Kinds). HasKind kinds e) none kind) [ inl memory ↦ kept memory | inr among ↦ among ])
-
--- ---- the numbers of a request
-
--- what holds of each command's values holds of what it asks for
-record Keeps (P : Asked → Type 0) : Type 0 where
-  run : (values : List Row) (terms : Terms) → HasProtectedRun values → P (to_run (run_of values terms))
-  plain : (values : List Row) → HasExecution values → P (to_run_plain (execution_of values))
-  asm : (values : List Row) → HasProgram values → P (to_assemble (text_of values))
-  dis : (values : List Row) → HasProgram values → P (to_disassemble (program_of values))
-  measure : (values : List Row) → HasProgram values → P (to_measure (program_of values))
-  verify : (values : List Row) (key : List ℕ) → P (to_verify (report_of values key))
-
-asked_keeps : (P : Asked → Type 0) (o : Option (Text × List Row)) (r : Asked) → Keeps P → IfCommand o → asked_in o ≡ Ok r → P r
-asked_keeps P None r keeps has e = absurd cc
-asked_keeps P (Some p) r keeps has e =
-    go (bytes_eq p.0 (codes "run")) refl (bytes_eq p.0 (codes "plain")) refl (bytes_eq p.0 (codes "asm")) refl
-    (bytes_eq p.0 (codes "dis")) refl (bytes_eq p.0 (codes "measure")) refl (bytes_eq p.0 (codes "verify")) refl
-  where
-    at : (x : Asked) → P x → ◌≡◌ {A = Result Asked WordsFault} (Ok x) (Ok r) → P r
-    at x h is = subst (λ (o : Result Asked WordsFault). P (result_unwrap_or o x)) is h
-
-    on_terms : (terms : Result Terms ValueFault) → ((t : Terms) → P (to_run (run_of p.1 t))) → run_on p.1 terms ≡ Ok r → P r
-    on_terms (Ok terms) holds is = at (to_run (run_of p.1 terms)) (holds terms) is
-    on_terms (Err fault) holds is = absurd cc
-
-    under_key : (key : Result (List ℕ) ValueFault) → verify_under p.1 key ≡ Ok r → P r
-    under_key (Ok key) is = at (to_verify (report_of p.1 key)) (keeps.verify p.1 key) is
-    under_key (Err fault) is = absurd cc
-
-    go : (a : Bool) → bytes_eq p.0 (codes "run") ≡ a → (b : Bool) → bytes_eq p.0 (codes "plain") ≡ b
-        → (c : Bool) → bytes_eq p.0 (codes "asm") ≡ c → (d : Bool) → bytes_eq p.0 (codes "dis") ≡ d
-        → (m : Bool) → bytes_eq p.0 (codes "measure") ≡ m → (k : Bool) → bytes_eq p.0 (codes "verify") ≡ k → P r
-    go true x b y c z d u m v k q = on_terms (terms_of p.1) (λ terms. keeps.run p.1 terms (has.run x)) (rw x at e)
-    go false x true y c z d u m v k q = at (to_run_plain (execution_of p.1)) (keeps.plain p.1 (has.plain y)) (rw (x, y) at e)
-    go false x false y true z d u m v k q = at (to_assemble (text_of p.1)) (keeps.asm p.1 (has.asm z)) (rw (x, y, z) at e)
-    go false x false y false z true u m v k q = at (to_disassemble (program_of p.1)) (keeps.dis p.1 (has.dis u)) (rw (x, y, z, u) at e)
-    go false x false y false z false u true v k q = at (to_measure (program_of p.1)) (keeps.measure p.1 (has.measure v)) (rw (x, y, z, u, v) at e)
-    go false x false y false z false u false v true q = under_key (device_key_of p.1) (rw (x, y, z, u, v, q) at e)
-    go false x false y false z false u false v false q =
-        absurd (let bad : ◌≡◌ {A = Result Asked WordsFault} (Err not_taken) (Ok r) = rw (x, y, z, u, v, q) at e in cc)
-
-request_keeps : (P : Asked → Type 0) (words : List Text) (r : Asked) → Keeps P → request_of words ≡ Ok r → P r
-request_keeps P words r keeps e =
-    let none = (request_is_taken words).0 (ap is_taken e) in
-    asked_keeps P (subcommand_of chip_app words) r keeps (asks words none).1 (sym (request_of-taken words none) ∙ e)
-
--- a request that names a program names levels from 1 to 6
-abbrev pub HasLevels : Asked → Type 0
-HasLevels asked = IfSome (asked_program asked) (λ file. (1 ≤ file.levels) × (file.levels ≤ 6))
-
-pub request_of-levels : (words : List Text) (r : Asked) → request_of words ≡ Ok r → HasLevels r
-request_of-levels words r e = request_keeps HasLevels words r (record {
-  run = λ values terms has. has.execution.program.bounds;
-  plain = λ values has. has.program.bounds;
-  asm = λ values has. has.bounds;
-  dis = λ values has. has.bounds;
-  measure = λ values has. has.bounds;
-  verify = λ values key. tt;
-}) e
 
 -- ---- errors
 

@@ -72,6 +72,14 @@ page_limit_rule = record (new_rule (codes "page-limit")) {
   defaults = codes "18446744073709551615" ∷ [];
 }
 
+-- `NUMBER`, of 32 bits, which a command can't do without
+abbrev pub number_rule : Rule
+number_rule = record (new_rule (codes "number")) {
+  value_names = 1;
+  parser = Some (Unsigned 0 (2 ^ 32 - 1));
+  required = true;
+}
+
 -- what `asm` takes
 abbrev pub assembly_rules : List Rule
 assembly_rules = file_rule ∷ levels_rule ∷ []
@@ -93,6 +101,10 @@ protected_run_rules =
 abbrev pub verification_rules : List Rule
 verification_rules = file_rule ∷ key_rule ∷ []
 
+-- what `bench` takes
+abbrev pub bench_rules : List Rule
+bench_rules = number_rule ∷ []
+
 -- a command with these arguments
 abbrev pub command : Text → List Rule → Shape
 command name rules = record (new_shape name) { rules = rules }
@@ -111,5 +123,6 @@ chip_app = record {
       ∷ command (codes "dis") inspection_rules
       ∷ command (codes "measure") inspection_rules
       ∷ command (codes "verify") verification_rules
+      ∷ command (codes "bench") bench_rules
       ∷ [];
 }

@@ -3,7 +3,7 @@ use Rattle.std.specs.Prelude.{◌≡◌, ◌<◌, ◌≤◌, ◌^◌, List, Opti
 use Rattle.std.specs.Str.{bytes_eq}
 use Rattle.std.specs.Str.Parse.{IsNumeral, without_leading_plus}
 use Rattle.clap.specs.Walk.{Row, Text, first_of}
-use Rattle.chip_words.specs.Request.{levels_of, numeral_value, value_of}
+use Rattle.chip_words.specs.Request.{levels_of, number_of, numeral_value, value_of}
 
 abbrev pub HasValue : Text → List Row → Type 0
 HasValue id values = IsSome (first_of id values)
@@ -35,6 +35,11 @@ pub record HasReport (values : List Row) : Type 0 where
   pub file : HasValue (codes "file") values
   pub key : HasValue (codes "key") values
 
+-- which generated program
+pub record HasWorkload (values : List Row) : Type 0 where
+  pub number : HasNumber (codes "number") values
+  pub bound : number_of values < 2 ^ 32
+
 -- a command has the values that it can't do without
 pub record HasItsValues (name : Text) (values : List Row) : Type 0 where
   pub run : bytes_eq name (codes "run") ≡ true → HasProtectedRun values
@@ -43,6 +48,7 @@ pub record HasItsValues (name : Text) (values : List Row) : Type 0 where
   pub dis : bytes_eq name (codes "dis") ≡ true → HasProgram values
   pub measure : bytes_eq name (codes "measure") ≡ true → HasProgram values
   pub verify : bytes_eq name (codes "verify") ≡ true → HasReport values
+  pub bench : bytes_eq name (codes "bench") ≡ true → HasWorkload values
 
 abbrev pub IfCommand : Option (Text × List Row) → Type 0
 IfCommand None = ⊤

@@ -40,7 +40,7 @@ pub record ReportAsked : Type 0 where
   pub name : Text
   pub device_key : List ℕ
 
--- what is to be done, and with which file
+-- what is to be done, and with which file or generated program
 pub data Asked : Type 0 where
   to_run : RunAsked → Asked
   to_run_plain : ExecutionAsked → Asked
@@ -48,6 +48,7 @@ pub data Asked : Type 0 where
   to_disassemble : FileAsked → Asked
   to_measure : FileAsked → Asked
   to_verify : ReportAsked → Asked
+  to_bench : ℕ → Asked
 
 -- why words ask for nothing: `clap` doesn't take them; or it does, and a value of theirs doesn't have its form
 pub data WordsFault : Type 0 where
@@ -62,6 +63,12 @@ asked_program (to_assemble file) = Some file
 asked_program (to_disassemble file) = Some file
 asked_program (to_measure file) = Some file
 asked_program (to_verify report) = None
+asked_program (to_bench number) = None
+
+-- the number of a request's generated program, where it asks for one
+abbrev pub asked_number : Asked → Option ℕ
+asked_number (to_bench number) = Some number
+asked_number _ = None
 
 -- ---- the values of a command
 
@@ -107,6 +114,9 @@ execution_of values =
 
 abbrev pub page_limit_of : List Row → ℕ
 page_limit_of values = numeral_value (value_of (codes "page-limit") values)
+
+abbrev pub number_of : List Row → ℕ
+number_of values = numeral_value (value_of (codes "number") values)
 
 abbrev pub script_name_of : List Row → Option Text
 script_name_of values = first_of (codes "script") values
@@ -170,7 +180,8 @@ asked_by name values = if bytes_eq name (codes "run") then run_on values (terms_
     else (if bytes_eq name (codes "asm") then Ok (to_assemble (text_of values))
     else (if bytes_eq name (codes "dis") then Ok (to_disassemble (program_of values))
     else (if bytes_eq name (codes "measure") then Ok (to_measure (program_of values))
-    else (if bytes_eq name (codes "verify") then verify_under values (device_key_of values) else Err not_taken)))))
+    else (if bytes_eq name (codes "verify") then verify_under values (device_key_of values)
+    else (if bytes_eq name (codes "bench") then Ok (to_bench (number_of values)) else Err not_taken))))))
 
 -- what a command asks for, where there is one
 abbrev pub asked_in : Option (Text × List Row) → Result Asked WordsFault
@@ -178,7 +189,7 @@ asked_in None = Err not_taken
 asked_in (Some command) = asked_by command.0 command.1
 
 -- The words ask for something where `clap` has no fault to find in them: then their command says what, and its values,
--- which have to have their form, say of which file and how.
+-- which have to have their form, say of which file or generated program and how.
 abbrev pub request_of : List Text → Result Asked WordsFault
 request_of words =
     if is_empty (fault_of chip_app words) then asked_in (subcommand_of chip_app words) else Err not_taken

@@ -2,7 +2,7 @@
 use Rattle.std.specs.Prelude.{◌≡◌, List, map, option_map, Result, Ok, Err, ⊤}
 use Rattle.std.specs.Borrow.{Bor}
 use Rattle.clap.specs.Walk.{Text}
-use Rattle.chip_words.specs.Request.{Asked, ExecutionAsked, FileAsked, ReportAsked, RunAsked, WordsFault, to_assemble, to_disassemble, to_measure, to_run, to_run_plain, to_verify, wrong_value, not_taken}
+use Rattle.chip_words.specs.Request.{Asked, ExecutionAsked, FileAsked, ReportAsked, RunAsked, WordsFault, to_assemble, to_bench, to_disassemble, to_measure, to_run, to_run_plain, to_verify, wrong_value, not_taken}
 use Rattle.chip_words.specs.declared.fault.ValueFault.{ValueFault}
 use Rattle.chip_words.specs.declared.fault.WordsError.{WordsError}
 use Rattle.chip_words.specs.declared.fault.WordsError.TheVariants.{Usage, WrongValue, NoMemory}
@@ -11,7 +11,7 @@ use Rattle.chip_words.specs.declared.request.ProgramFile.{ProgramFile}
 use Rattle.chip_words.specs.declared.request.ProtectedRun.{ProtectedRun}
 use Rattle.chip_words.specs.declared.request.ReportFile.{ReportFile}
 use Rattle.chip_words.specs.declared.request.Request.{Request}
-use Rattle.chip_words.specs.declared.request.Request.TheVariants.{Run, Plain, Asm, Dis, Measure, Verify}
+use Rattle.chip_words.specs.declared.request.Request.TheVariants.{Run, Plain, Asm, Dis, Measure, Verify, Bench}
 
 -- what the words point to
 abbrev pub texts : List (Bor Text) → List Text
@@ -45,6 +45,7 @@ asked (Asm file) = to_assemble (file_asked file)
 asked (Dis file) = to_disassemble (file_asked file)
 asked (Measure file) = to_measure (file_asked file)
 asked (Verify report) = to_verify (report_asked report)
+asked (Bench number) = to_bench number
 
 -- what the values of a command come to
 abbrev pub answer_asked : Result Request ValueFault → Result Asked WordsFault

@@ -3,8 +3,8 @@ ghost use Rattle.std.specs.Prelude.{◌≡◌, [], IfOk, false};
 ghost use Rattle.clap.specs.Walk.{rule_of};
 ghost use Rattle.clap.specs.Simple.{app_of, shape_of};
 ghost use Rattle.clap.specs.declared.builder.command.Command.TheViews.{out-Command as fields_of};
-ghost use Rattle.chip_words.specs.App.{assembly_rules, chip_app, command, execution_rules, inspection_rules, protected_run_rules, verification_rules};
-ghost use Rattle.chip_words.specs.App.{file_rule, flat_rule, input_rule, key_rule, levels_rule, nonce_rule, page_limit_rule, script_rule, steps_rule, tags_rule};
+ghost use Rattle.chip_words.specs.App.{assembly_rules, bench_rules, chip_app, command, execution_rules, inspection_rules, protected_run_rules, verification_rules};
+ghost use Rattle.chip_words.specs.App.{file_rule, flat_rule, input_rule, key_rule, levels_rule, nonce_rule, number_rule, page_limit_rule, script_rule, steps_rule, tags_rule};
 
 use clap::{Arg, ArgAction, Command, value_parser};
 use std::alloc::{AllocError, Global};
@@ -18,6 +18,11 @@ pub(crate) fn app<'a>(alloc: Global) -> Result<Command<'a>, AllocError>
     let dis = inspection(alloc, "dis", "Lists the instructions of a program")?;
     let measure = inspection(alloc, "measure", "Tells the measurement of a program")?;
     let verify = verification(alloc, "verify", "Checks a report and tells what it says")?;
+    let bench = workload(
+        alloc,
+        "bench",
+        "Runs a generated program on protected memory",
+    )?;
     let app = Command::new(alloc, "chip")
         .subcommand_required(true)
         .arg_required_else_help(true)
@@ -26,7 +31,8 @@ pub(crate) fn app<'a>(alloc: Global) -> Result<Command<'a>, AllocError>
         .subcommand(asm)?
         .subcommand(dis)?
         .subcommand(measure)?
-        .subcommand(verify)?;
+        .subcommand(verify)?
+        .subcommand(bench)?;
     Ok(app)
 }
 
@@ -96,6 +102,15 @@ fn verification<'a>(alloc: Global, name: &'a str, about: &'a str) -> Result<Comm
     Ok(command)
 }
 
+// A command that runs a generated program.
+fn workload<'a>(alloc: Global, name: &'a str, about: &'a str) -> Result<Command<'a>, AllocError>
+    ensures shape { IfOk result (λ c. shape_of c ≡ command name.entry.now bench_rules) }
+    ensures local { IfOk result (λ c. (fields_of c).has_globals ≡ false) }
+{
+    let command = Command::new(alloc, name).about(about).arg(number(alloc))?;
+    Ok(command)
+}
+
 fn file<'a>(alloc: Global, help: &'a str) -> Arg<'a>
     ensures rule { rule_of result ≡ file_rule }
     ensures local { result.global ≡ false }
@@ -104,6 +119,17 @@ fn file<'a>(alloc: Global, help: &'a str) -> Arg<'a>
         .value_name("FILE")
         .required(true)
         .help(help)
+}
+
+fn number<'a>(alloc: Global) -> Arg<'a>
+    ensures rule { rule_of result ≡ number_rule }
+    ensures local { result.global ≡ false }
+{
+    Arg::new(alloc, "number")
+        .value_name("NUMBER")
+        .value_parser(value_parser!(u64).range(0..=4294967295))
+        .required(true)
+        .help("Which program, from 0 to 4294967295")
 }
 
 fn flat<'a>(alloc: Global) -> Arg<'a>

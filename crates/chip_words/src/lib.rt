@@ -1,12 +1,12 @@
 //! The words of the command line: what they ask for.
 #![tactic(auto)]
 
-ghost use Rattle.std.specs.Prelude.{◌≡◌, ◌≢◌, ◌≤◌, ◌↔◌, [], Ok, IfOk, IfErr, IfSome, IsTrue};
+ghost use Rattle.std.specs.Prelude.{◌≡◌, ◌≢◌, ◌<◌, ◌≤◌, ◌^◌, ◌↔◌, [], Ok, IfOk, IfErr, IfSome, IsTrue};
 ghost use Rattle.clap.specs.Values.{kind_of};
 ghost use Rattle.clap.specs.declared.error.kind.ErrorKind.TheVariants.{OutOfMemory};
 ghost use Rattle.clap.specs.Faults.{fault_of};
 ghost use Rattle.chip_words.specs.App.{chip_app};
-ghost use Rattle.chip_words.specs.Request.{asked_program, is_taken, request_of};
+ghost use Rattle.chip_words.specs.Request.{asked_number, asked_program, is_taken, request_of};
 ghost use Rattle.chip_words.specs.Words.{asked, texts, Explains, IfUsage};
 
 mod app;
@@ -32,6 +32,7 @@ pub fn read_words<'a>(alloc: Global, words: &'a [&'a str]) -> Result<Request<'a>
     ensures refused { IfErr result (λ error. Explains error (request_of (texts words.now))) }
     ensures levels { IfOk result (λ request.
         IfSome (asked_program (asked request)) (λ file. (1 ≤ file.levels) × (file.levels ≤ 6))) }
+    ensures numbers { IfOk result (λ request. IfSome (asked_number (asked request)) (λ number. number < 2 ^ 32)) }
 
     // Words are taken just where clap has no fault to find in them. Then their values are tested.
     ensures faultless { IsTrue (is_taken (request_of (texts words.now))) ↔ (fault_of chip_app (texts words.now) ≡ []) }

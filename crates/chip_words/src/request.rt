@@ -16,6 +16,8 @@ pub enum Request<'a> {
     Measure(ProgramFile<'a>),
     /// To check a report, and to tell what it says.
     Verify(ReportFile<'a>),
+    /// To run the generated program of this number on protected memory.
+    Bench(u32),
 }
 
 /// What is to be run on protected memory, and on what terms.

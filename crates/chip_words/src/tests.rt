@@ -19,7 +19,7 @@ fn parts<'a>(request: &Request<'a>) -> Option<Parts<'a>> {
         Request::Asm(file) => Some(file_parts("asm", file)),
         Request::Dis(file) => Some(file_parts("dis", file)),
         Request::Measure(file) => Some(file_parts("measure", file)),
-        Request::Verify(_) => None,
+        Request::Verify(_) | Request::Bench(_) => None,
     }
 }
 
@@ -327,6 +327,30 @@ fn reports_to_check(rt: HostRuntime) -> Result<(), Fail> {
     Ok(())
 }
 
+// The number of the generated program that a line of words asks for.
+fn workload(alloc: Global, line: &str) -> Result<Option<u32>, AllocError> {
+    let words: Vec<&str> = line.split_whitespace().collect(alloc)?;
+    let Ok(Request::Bench(number)) = read_words(alloc, words.as_slice()) else {
+        return Ok(None);
+    };
+    Ok(Some(number))
+}
+
+#[test]
+fn numbers_of_generated_programs(rt: HostRuntime) -> Result<(), Fail> {
+    let rows = [
+        ("chip bench 0", 0),
+        ("chip bench 4294967295", u32::MAX),
+        ("chip bench +5", 5),
+        ("chip bench 007", 7),
+        ("chip bench -- 12", 12),
+    ];
+    for (line, expected) in rows {
+        assert_eq!(rt; workload(rt.alloc(), line)?, Some(expected), "{line}");
+    }
+    Ok(())
+}
+
 // The device's key is the bytes 00 to 1f, tags are HMACs, a page counter may be any number of 64 bits, and the nonce is
 // zeros.
 #[test]
@@ -403,6 +427,17 @@ fn refusals(rt: HostRuntime) -> Result<(), Fail> {
         "chip verify r --flat",
         "chip verify r --nonce 00",
         "chip verify r --key",
+        "chip bench",
+        "chip bench 4294967296",
+        "chip bench 18446744073709551616",
+        "chip bench -1",
+        "chip bench -- -1",
+        "chip bench -- -0",
+        "chip bench x",
+        "chip bench 0x10",
+        "chip bench 1 2",
+        "chip bench 1 --levels 4",
+        "chip bench 1 --flat",
         "chip assemble p",
         "chip --flat run p",
         "chip frob",

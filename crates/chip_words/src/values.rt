@@ -2,8 +2,8 @@
 ghost use Rattle.std.specs.Prelude.{◌≡◌, IsTrue, codes, option_map};
 ghost use Rattle.clap.specs.Walk.{first_of, rows_of};
 ghost use Rattle.clap.specs.Words.{found_of, subcommand_rows_of};
-ghost use Rattle.chip_words.specs.Commands.{HasExecution, HasNumber, HasProgram, HasProtectedRun, HasReport, HasValue, IfCommand};
-ghost use Rattle.chip_words.specs.Request.{asked_in, device_key_of, execution_of, file_of, form_of, is_flat as is_flat_in, is_taken, levels_of, nonce_of, numeral_value, program_of, report_of, run_of, tags_of, terms_of, value_of};
+ghost use Rattle.chip_words.specs.Commands.{HasExecution, HasNumber, HasProgram, HasProtectedRun, HasReport, HasValue, HasWorkload, IfCommand};
+ghost use Rattle.chip_words.specs.Request.{asked_in, device_key_of, execution_of, file_of, form_of, is_flat as is_flat_in, is_taken, levels_of, nonce_of, number_of, numeral_value, program_of, report_of, run_of, tags_of, terms_of, value_of};
 ghost use Rattle.chip_words.specs.Words.{answer_asked, execution_asked, file_asked, report_asked, run_asked};
 
 use crate::fault::ValueFault;
@@ -28,6 +28,7 @@ pub(crate) fn requested<'a>(matches: &ArgMatches<'a>) -> Result<Request<'a>, Val
         "dis" => Ok(Request::Dis(program(values))),
         "measure" => Ok(Request::Measure(program(values))),
         "verify" => Ok(Request::Verify(report_file(values, device_key(values)?))),
+        "bench" => Ok(Request::Bench(workload_number(values))),
         _ => unreachable!(),
     }
 }
@@ -103,6 +104,14 @@ fn execution<'a>(values: &ArgMatches<'a>) -> Execution<'a>
         input: text(values, "input"),
         steps: number(values, "steps"),
     }
+}
+
+// Which generated program.
+fn workload_number(values: &ArgMatches<'_>) -> u32
+    requires { HasWorkload (rows_of (found_of values.now)) }
+    ensures { result ≡ number_of (rows_of (found_of values.now)) }
+{
+    number(values, "number") as u32
 }
 
 // A program that isn't assembled.

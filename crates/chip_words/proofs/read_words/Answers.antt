@@ -1,7 +1,7 @@
 use Rattle.std.proofs.Common.{◌∙◌, ap}
 use Rattle.clap.specs.Simple.{app_of}
 use Rattle.chip_words.specs.Words.{answer_asked, texts}
-use Rattle.chip_words.proofs.Requests.{parse_asks, refusal_asks, request_of-levels, usage_explains}
+use Rattle.chip_words.proofs.Requests.{parse_asks, refusal_asks, usage_explains}
 use Rattle.chip_words.proofs.read_words.Goals as goal
 
 pub requested-requires-clause-taken : goal.requested-requires-clause-taken

@@ -19,4 +19,6 @@ returns c =
     ∙ ap₂ with_subcommand asm c.in_ok-dis.ensures.shape in
     let measure = c.in_ok-subcommand-5.ensures.shape c.in_ok-measure.ensures.local
     ∙ ap₂ with_subcommand dis c.in_ok-measure.ensures.shape in
-    c.in_ok-app.ensures.shape c.in_ok-verify.ensures.local ∙ ap₂ with_subcommand measure c.in_ok-verify.ensures.shape
+    let verify = c.in_ok-subcommand-6.ensures.shape c.in_ok-verify.ensures.local
+    ∙ ap₂ with_subcommand measure c.in_ok-verify.ensures.shape in
+    c.in_ok-app.ensures.shape c.in_ok-bench.ensures.local ∙ ap₂ with_subcommand verify c.in_ok-bench.ensures.shape
