@@ -35,7 +35,8 @@ gives_asked o = record {
   dis = requested.dis o;
   measure = requested.measure o;
   verify = requested.verify o;
+  bench = requested.bench o;
 }
 
 pub gives_due : {request : Result Asked WordsFault} {old new : World} {answer : Done} → Outcome request old new answer → GivesDue request old new answer
-gives_due o = record { unfit = requested.unfit o; whole = wholes.whole o; whole_run = wholes.whole_run o; whole_report = wholes.whole_report o }
+gives_due o = record { unfit = requested.unfit o; whole = wholes.whole o; whole_run = wholes.whole_run o; whole_report = wholes.whole_report o; whole_bench = wholes.whole_bench o }

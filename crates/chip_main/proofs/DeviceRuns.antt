@@ -1,5 +1,6 @@
 -- A run on the device, as its pieces were made.
-use Rattle.std.proofs.Common.{◌≡◌, ℕ, List, refl, ap}
+use Rattle.std.proofs.Common.{◌≡◌, ℕ, List, Result, Ok, Err, refl, ap}
+use Rattle.std.specs.Result.{IsOkAnd}
 use Rattle.sec_base.specs.Geometry.{memory_size}
 use Rattle.sec_base.specs.declared.image.Image.{Image}
 use Rattle.bus_model.specs.BusHistory.{BusHistory, NothingWritten, new_history}
@@ -44,3 +45,8 @@ opening_is levels program input image is = rw (is.entry, is.memory, is.segments)
 pub measurement_is : (levels : ℕ) (program : Program) (image : Image) → IsImageOf (memory_size levels) program image →
     measurement_of image ≡ measurement_by program.entry (memory_size levels) program.segments
 measurement_is levels program image is = rw (is.entry, is.memory, is.segments) refl
+
+-- the program that there is
+pub program_of : {E : Type 0} (made : Result Program E) (P : Program → Type 0) → IsOkAnd made P → (program : Program) × (made ≡ Ok program) × P program
+program_of (Ok program) P holds = (program, refl, holds)
+program_of (Err fault) P holds = absurd holds

@@ -10,21 +10,23 @@ use Rattle.sec_base.specs.declared.ending.Ending.TheVariants.{Halted, Trapped, O
 use Rattle.sec_base.specs.declared.sink.SinkStop.TheVariants.{Failed, NoMemory as no_memory}
 use Rattle.sec_base.specs.Sink.{GainsFront}
 use Rattle.plain_machine.specs.declared.PlainRecord.{PlainRecord}
-use Rattle.chip_words.specs.Request.{Asked, WordsFault}
+use Rattle.chip_run.specs.declared.RunRecord.{RunRecord}
+use Rattle.chip_main.specs.declared.run_bus.RunBus.{RunBus}
+use Rattle.chip_words.specs.Request.{Asked, WordsFault, to_assemble, to_bench, to_disassemble, to_measure, to_run, to_run_plain, to_verify}
 use Rattle.chip_main.specs.declared.refusal.Refusal.{Refusal}
 use Rattle.chip_main.specs.declared.refusal.Refusal.TheVariants.{Usage, WrongValue, Unread, TooLong, Elf, Asm, Script, Report}
 use Rattle.chip_main.specs.declared.course.Course.{Course}
-use Rattle.chip_main.specs.declared.course.Course.TheVariants.{Refused, NoMemory, Ran, RanPlain, Written, OtherTag}
+use Rattle.chip_main.specs.declared.course.Course.TheVariants.{Refused, NoMemory, Ran, RanPlain, Written, OtherTag, RanGenerated}
 use Rattle.chip_main.specs.declared.Done.{Done}
 use Rattle.chip_main.specs.World.{World}
 use Rattle.chip_main.specs.Needs.{needs_of}
 use Rattle.chip_main.specs.Causes.{IsRefused, Stops}
-use Rattle.chip_main.specs.Status.{IsStatus, Telling, code_of, ending_status, evidence_status, refusal_status, run_status, status_with, text_status, untold_ending_status}
+use Rattle.chip_main.specs.Status.{IsStatus, Telling, code_of, ending_status, evidence_status, refusal_status, run_status, status_with, text_status, told_status, untold_ending_status}
 use Rattle.chip_main.specs.declared.status.Status.{Status}
 use Rattle.chip_main.specs.declared.status.Status.TheVariants as status
 use Rattle.chip_main.specs.Buses.{LiesByScript, lies_of, run_history}
 use Rattle.chip_main.specs.Answer.{FileRefused, TellsEnding, TellsPlain, TellsResult, TellsRun}
-use Rattle.chip_main.specs.Requests.{OtherTagRequest}
+use Rattle.chip_main.specs.Requests.{OtherTagRequest, Summarizes, SummarizesRequest}
 use Rattle.chip_main.specs.Texts.{plain_text, record_text, tag_differs_line}
 use Rattle.chip_main.specs.Course.{CameAbout, Outcome, TellsCourse, course_bus, course_run, course_status, status_of}
 
@@ -42,7 +44,7 @@ statuses o = (status_of o.course o.told, o.status)
 
 -- ---- which course a status is of
 
-untold_high : (ending : Ending) → 9 ≤ code_of (untold_ending_status ending)
+pub untold_high : (ending : Ending) → 9 ≤ code_of (untold_ending_status ending)
 untold_high (Halted exit) = omega arith
 untold_high (Trapped cause pc) = omega arith
 untold_high OutOfSteps = omega arith
@@ -61,6 +63,7 @@ course_is (Ran run bus) (Err Failed) status low is = absurd (omega (arith, untol
 course_is (RanPlain run) (Err Failed) status low is = absurd (omega (arith, untold_high run.ending))
 course_is (Written telling) (Err Failed) status low is = is
 course_is OtherTag (Err Failed) status low is = absurd (omega arith)
+course_is (RanGenerated run bus written) (Err Failed) status low is = is
 
 pub own_status : {request : Result Asked WordsFault} {old new : World} {done : Done} → (o : Outcome request old new done) → (status : ℕ) → status < 9 → done.status ≡ status →
     code_of (course_status o.course) ≡ status
@@ -108,6 +111,11 @@ text_result (Ok _) = inl (omega arith)
 text_result (Err Failed) = inr (inr (omega arith))
 text_result (Err no_memory) = inr (inr (omega arith))
 
+told_result : (run : RunRecord) (telling : Telling) → IsOfResult (code_of (told_status run telling))
+told_result run (Ok _) = run_result run.evidence run.ending
+told_result run (Err Failed) = inr (inr (omega (arith, untold_high run.ending)))
+told_result run (Err no_memory) = inr (inr (omega arith))
+
 -- there was a refusal with this status
 refusal_is : (course : Course) (status : ℕ) → IsOfRefusal status → code_of (course_status course) ≡ status → (refusal : Refusal) × (course ≡ Refused refusal) × (code_of (refusal_status refusal) ≡ status)
 refusal_is (Refused refusal) status refusing is = (refusal, refl, is)
@@ -116,6 +124,7 @@ refusal_is (Ran run bus) status refusing is = absurd (apart (code_of (run_status
 refusal_is (RanPlain run) status refusing is = absurd (apart (code_of (ending_status run.ending)) status (ending_result run.ending) refusing is)
 refusal_is (Written telling) status refusing is = absurd (apart (code_of (text_status telling)) status (text_result telling) refusing is)
 refusal_is OtherTag status refusing is = absurd (apart 11 status (inr (inr (omega arith))) refusing is)
+refusal_is (RanGenerated run bus telling) status refusing is = absurd (apart (code_of (told_status run telling)) status (told_result run telling) refusing is)
 
 -- so it has its cause
 refused_as : {request : Result Asked WordsFault} {old new : World} {done : Done} → Outcome request old new done → (status : ℕ) → IsOfRefusal status → done.status ≡ status →
@@ -193,17 +202,12 @@ untold_ending : (text : List ℕ) (whole : Status) (ending : Ending) (old new : 
 untold_ending text whole ending old new front risen =
     inr (front, elim (untold_cases ending) [ inl untold ↦ inl (untold.0, untold.1, risen) | inr none ↦ inr none ])
 
-pub told_run : (course : Course) (telling : Telling) (note note' : SinkState) → TellsCourse course note note' telling →
-    IfSome (course_run course) (λ run. TellsRun (code_of (status_of course telling)) run (lies_of (course_bus course)) note note')
-told_run (Refused refusal) telling note note' tells = tt
-told_run NoMemory telling note note' tells = tt
-told_run (RanPlain run) telling note note' tells = tt
-told_run (Written written) telling note note' tells = tt
-told_run OtherTag telling note note' tells = tt
-told_run (Ran run bus) (Ok _) note note' tells = inl (tells, refl)
-told_run (Ran run bus) (Err Failed) note note' tells =
+pub told_run : (run : RunRecord) (bus : RunBus) (telling : Telling) (note note' : SinkState) → TellsCourse (Ran run bus) note note' telling →
+    TellsRun (code_of (status_of (Ran run bus) telling)) run (run_history bus).lies note note'
+told_run run bus (Ok _) note note' tells = inl (tells, refl)
+told_run run bus (Err Failed) note note' tells =
     untold_ending (record_text run (run_history bus).lies) (run_status run) run.ending note note' tells.0 tells.1
-told_run (Ran run bus) (Err no_memory) note note' tells = inr (tells, inr refl)
+told_run run bus (Err no_memory) note note' tells = inr (tells, inr refl)
 
 pub told_plain : (run : PlainRecord) (telling : Telling) (note note' : SinkState) → TellsCourse (RanPlain run) note note' telling → TellsPlain (code_of (status_of (RanPlain run) telling)) run note note'
 told_plain run (Ok _) note note' tells = inl (tells, refl)
@@ -264,6 +268,11 @@ text_low (Ok _) = omega arith
 text_low (Err Failed) = omega arith
 text_low (Err no_memory) = omega arith
 
+told_low : (run : RunRecord) (telling : Telling) → code_of (told_status run telling) < 11
+told_low run (Ok _) = run_low run.evidence run.ending
+told_low run (Err Failed) = untold_low run.ending
+told_low run (Err no_memory) = omega arith
+
 -- no other course has this status
 other_tag_is : (course : Course) (telling : Telling) → code_of (status_of course telling) ≡ 11 → course ≡ OtherTag
 other_tag_is OtherTag telling is = refl
@@ -282,7 +291,30 @@ other_tag_is (RanPlain run) (Err no_memory) is = absurd (omega arith)
 other_tag_is (Written written) (Ok _) is = absurd (let low = text_low written in omega arith)
 other_tag_is (Written written) (Err Failed) is = absurd (let low = text_low written in omega arith)
 other_tag_is (Written written) (Err no_memory) is = absurd (omega arith)
+other_tag_is (RanGenerated run bus written) (Ok _) is = absurd (let low = told_low run written in omega arith)
+other_tag_is (RanGenerated run bus written) (Err Failed) is = absurd (let low = told_low run written in omega arith)
+other_tag_is (RanGenerated run bus written) (Err no_memory) is = absurd (omega arith)
 
 pub tag_differs : {request : Result Asked WordsFault} {old new : World} {done : Done} → Outcome request old new done → done.status ≡ 11 → OtherTagRequest request old.files new.files
 tag_differs {request} {old} {new} o is =
     (subst (λ (course : Course). CameAbout course request old.files new.files old.out new.out) (other_tag_is o.course o.told (sym o.status ∙ is)) o.came).0
+
+-- ---- a generated program
+
+-- its request
+pub benched : (request : Result Asked WordsFault) (files files' : FilesState) (out out' : SinkState) (run : RunRecord) (bus : RunBus) (telling : Telling) → SummarizesRequest request files files' out out' run bus telling →
+    (number : ℕ) × (request ≡ Ok (to_bench number)) × Summarizes number files files' out out' run bus telling
+benched (Err fault) files files' out out' run bus telling came = absurd came
+benched (Ok (to_run asked)) files files' out out' run bus telling came = absurd came
+benched (Ok (to_run_plain execution)) files files' out out' run bus telling came = absurd came
+benched (Ok (to_assemble file)) files files' out out' run bus telling came = absurd came
+benched (Ok (to_disassemble file)) files files' out out' run bus telling came = absurd came
+benched (Ok (to_measure file)) files files' out out' run bus telling came = absurd came
+benched (Ok (to_verify report)) files files' out out' run bus telling came = absurd came
+benched (Ok (to_bench number)) files files' out out' run bus telling came = (number, refl, came)
+
+-- a status below 9 is the run's own
+pub told_own : (run : RunRecord) (telling : Telling) (status : ℕ) → status < 9 → code_of (told_status run telling) ≡ status → code_of (run_status run) ≡ status
+told_own run (Ok _) status low is = is
+told_own run (Err Failed) status low is = absurd (omega (arith, untold_high run.ending))
+told_own run (Err no_memory) status low is = absurd (omega arith)

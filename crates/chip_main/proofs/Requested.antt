@@ -7,12 +7,12 @@ use Rattle.sec_base.specs.declared.sink.SinkStop.TheVariants.{Failed, NoMemory a
 use Rattle.plain_machine.specs.declared.PlainRecord.{PlainRecord}
 use Rattle.chip_run.specs.declared.RunRecord.{RunRecord}
 use Rattle.chip_words.specs.declared.fault.ValueFault.{ValueFault}
-use Rattle.chip_words.specs.Request.{Asked, FileAsked, ExecutionAsked, ReportAsked, RunAsked, WordsFault, to_assemble, to_disassemble, to_measure, to_run, to_run_plain, to_verify}
+use Rattle.chip_words.specs.Request.{Asked, FileAsked, ExecutionAsked, ReportAsked, RunAsked, WordsFault, to_assemble, to_disassemble, to_measure, to_run, to_run_plain, to_verify, to_bench}
 use Rattle.chip_main.specs.declared.refusal.Refusal.{Refusal}
 use Rattle.chip_main.specs.declared.refusal.Refusal.TheVariants.{Usage, WrongValue, Unread, TooLong, Elf, Asm, Script, Report}
 use Rattle.chip_main.specs.declared.run_bus.RunBus.{RunBus}
 use Rattle.chip_main.specs.declared.course.Course.{Course}
-use Rattle.chip_main.specs.declared.course.Course.TheVariants.{Refused, NoMemory, Ran, RanPlain, Written, OtherTag}
+use Rattle.chip_main.specs.declared.course.Course.TheVariants.{Refused, NoMemory, Ran, RanPlain, Written, OtherTag, RanGenerated}
 use Rattle.chip_main.specs.declared.Done.{Done}
 use Rattle.chip_main.specs.World.{World}
 use Rattle.chip_main.specs.Taken.{ReadsReport}
@@ -23,31 +23,22 @@ use Rattle.chip_main.specs.Requests.{OtherTagRequest, PlainlyRunsRequest, RunsRe
 use Rattle.chip_main.specs.Status.{IsOneOf, code_of, Telling}
 use Rattle.chip_main.specs.declared.status.Status.{Status}
 use Rattle.chip_main.specs.declared.status.Status.TheVariants as status
-use Rattle.chip_main.specs.Buses.{AreBothAnd, LiesByScript}
-use Rattle.chip_main.specs.Answer.{Delivers, DeliversReport, GivesPlainRun, GivesReport, GivesRun, GivesText, LacksMemory, PlainlyRan, RanAndTold, TellsOtherTag, TellsPlain, TellsRefusal, TellsResult, TellsRun, Undone, undone_statuses}
+use Rattle.chip_main.specs.Buses.{AreBothAnd, LiesByScript, lies_of}
+use Rattle.chip_main.specs.Answer.{Delivers, DeliversReport, DeliversSummary, GivesPlainRun, GivesReport, GivesRun, GivesSummary, GivesText, LacksMemory, PlainlyRan, RanAndTold, TellsOtherTag, TellsPlain, TellsRefusal, TellsResult, Undone, undone_statuses}
 use Rattle.chip_main.specs.Course.{CameAbout, Outcome, TellsCourse, course_bus, course_run, status_of}
 use Rattle.chip_main.proofs.Courses.{execution_accepted, program_accepted, run_accepted}
 use Rattle.chip_main.proofs.Takings.{asks_more}
-use Rattle.chip_main.proofs.Outcomes.{told_other_tag, told_plain, told_run}
+use Rattle.chip_main.proofs.Outcomes.{benched, told_other_tag, told_plain, told_run}
 use Rattle.chip_main.proofs.RunStatuses.{tampers_by_script}
 
 -- ---- where something was done, all files were taken
 
 pub record AllTaken (request : Result Asked WordsFault) (files files' : FilesState) : Type 0 where
-  pub some : needs_of request ≢ []
   pub asked : Asks (needs_of request) files files'
   pub accepted : AreAccepted files (needs_of request)
 
-some_needs : (asked : Asked) → asked_needs asked ≢ []
-some_needs (to_run asked) none = cc
-some_needs (to_run_plain execution) none = cc
-some_needs (to_assemble file) none = cc
-some_needs (to_disassemble file) none = cc
-some_needs (to_measure file) none = cc
-some_needs (to_verify report) none = cc
-
 all_taken : (asked : Asked) (files files' : FilesState) → Asks (asked_needs asked) files files' → AreAccepted files (asked_needs asked) → AllTaken (Ok asked) files files'
-all_taken asked files files' asks accepted = record { some = some_needs asked; asked = asks; accepted = accepted }
+all_taken asked files files' asks accepted = record { asked = asks; accepted = accepted }
 
 ran_taken : (request : Result Asked WordsFault) (files files' : FilesState) (out out' : SinkState) (run : RunRecord) (bus : RunBus) → RunsRequest request files files' out out' run bus → AllTaken request files files'
 ran_taken (Err fault) files files' out out' run bus came = absurd came
@@ -58,6 +49,7 @@ ran_taken (Ok (to_assemble file)) files files' out out' run bus came = absurd ca
 ran_taken (Ok (to_disassemble file)) files files' out out' run bus came = absurd came
 ran_taken (Ok (to_measure file)) files files' out out' run bus came = absurd came
 ran_taken (Ok (to_verify report)) files files' out out' run bus came = absurd came
+ran_taken (Ok (to_bench number)) files files' out out' run bus came = absurd came
 
 plainly_ran_taken : (request : Result Asked WordsFault) (files files' : FilesState) (out out' : SinkState) (run : PlainRecord) → PlainlyRunsRequest request files files' out out' run → AllTaken request files files'
 plainly_ran_taken (Err fault) files files' out out' run came = absurd came
@@ -68,6 +60,7 @@ plainly_ran_taken (Ok (to_assemble file)) files files' out out' run came = absur
 plainly_ran_taken (Ok (to_disassemble file)) files files' out out' run came = absurd came
 plainly_ran_taken (Ok (to_measure file)) files files' out out' run came = absurd came
 plainly_ran_taken (Ok (to_verify report)) files files' out out' run came = absurd came
+plainly_ran_taken (Ok (to_bench number)) files files' out out' run came = absurd came
 
 -- the one file of a request for a text
 text_taken : (asked : Asked) (file : FileAsked) (text : Image → List ℕ) (files files' : FilesState) (out out' : SinkState) (telling : Telling) → asked_needs asked ≡ program_need file ∷ [] → Writes file text files files' out out' telling →
@@ -88,6 +81,7 @@ written_taken (Ok (to_assemble file)) files files' out out' telling came = text_
 written_taken (Ok (to_disassemble file)) files files' out out' telling came = text_taken (to_disassemble file) file listing files files' out out' telling refl came
 written_taken (Ok (to_measure file)) files files' out out' telling came = text_taken (to_measure file) file measurement_line files files' out out' telling refl came
 written_taken (Ok (to_verify report)) files files' out out' telling came = report_taken report files files' came.text came.reads
+written_taken (Ok (to_bench number)) files files' out out' telling came = absurd came
 
 other_tag_taken : (request : Result Asked WordsFault) (files files' : FilesState) → OtherTagRequest request files files' → AllTaken request files files'
 other_tag_taken (Err fault) files files' came = absurd came
@@ -97,6 +91,7 @@ other_tag_taken (Ok (to_assemble file)) files files' came = absurd came
 other_tag_taken (Ok (to_disassemble file)) files files' came = absurd came
 other_tag_taken (Ok (to_measure file)) files files' came = absurd came
 other_tag_taken (Ok (to_verify report)) files files' came = report_taken report files files' came.0 came.1
+other_tag_taken (Ok (to_bench number)) files files' came = absurd came
 
 -- ---- what was asked for
 
@@ -128,6 +123,8 @@ front (Ran run bus) request files files' out out' came = front_all (needs_of req
 front (RanPlain run) request files files' out out' came = front_all (needs_of request) files files' (plainly_ran_taken request files files' out out' run came).asked
 front (Written telling) request files files' out out' came = front_all (needs_of request) files files' (written_taken request files files' out out' telling came).asked
 front OtherTag request files files' out out' came = front_all (needs_of request) files files' (other_tag_taken request files files' came.0).asked
+front (RanGenerated run bus telling) request files files' out out' came =
+    front_none (needs_of request) files files' (benched request files files' out out' run bus telling came).2.asked
 
 pub asks_front : {request : Result Asked WordsFault} {old new : World} {done : Done} → Outcome request old new done → AsksFront (needs_of request) old.files new.files
 asks_front {request} {old} {new} o = front o.course request old.files new.files old.out new.out o.came
@@ -236,6 +233,7 @@ IfUndone (Ran run bus) P = Unit {0}
 IfUndone (RanPlain run) P = Unit {0}
 IfUndone (Written telling) P = Unit {0}
 IfUndone OtherTag P = Unit {0}
+IfUndone (RanGenerated run bus telling) P = Unit {0}
 
 undone_of : (course : Course) (telling : Telling) (request : Result Asked WordsFault) (old new : World) (done : Done) → CameAbout course request old.files new.files old.out new.out → TellsCourse course old.note new.note telling →
     done.status ≡ code_of (status_of course telling) → done.run ≡ course_run course → IfUndone course (Undone request old new done)
@@ -255,6 +253,7 @@ undone_of (Ran run bus) telling request old new done came tells status_is run_is
 undone_of (RanPlain run) telling request old new done came tells status_is run_is = tt
 undone_of (Written written) telling request old new done came tells status_is run_is = tt
 undone_of OtherTag telling request old new done came tells status_is run_is = tt
+undone_of (RanGenerated run bus written) telling request old new done came tells status_is run_is = tt
 
 -- the same for a request that is known
 undone : {request : Result Asked WordsFault} {old new : World} {done : Done} → (o : Outcome request old new done) → (is : Result Asked WordsFault) → request ≡ is → IfUndone o.course (Undone is old new done)
@@ -274,29 +273,39 @@ undone_without (Ran run bus) why P files files' out out' came holds = absurd cam
 undone_without (RanPlain run) why P files files' out out' came holds = absurd came
 undone_without (Written telling) why P files files' out out' came holds = absurd came
 undone_without OtherTag why P files files' out out' came holds = absurd came.0
+undone_without (RanGenerated run bus telling) why P files files' out out' came holds = absurd came
 
 pub none : {request : Result Asked WordsFault} {old new : World} {done : Done} → Outcome request old new done → (why : WordsFault) → request ≡ Err why → AsksNothing old.files new.files × Undone (Err why) old new done
 none {request} {old} {new} {done} o why is =
     (unasked o why is, undone_without o.course why (Undone (Err why) old new done) old.files new.files old.out new.out (came_as o (Err why) is) (undone o (Err why) is))
 
-ran : (course : Course) (asked : RunAsked) (P : Type 0) (old new : World) (done : Done) → CameAbout course (Ok (to_run asked)) old.files new.files old.out new.out → IfSome (course_bus course) LiesByScript →
-    IfSome (course_run course) (λ run. TellsRun done.status run done.lies old.note new.note) → IfUndone course P →
+ran : (course : Course) (telling : Telling) (asked : RunAsked) (P : Type 0) (old new : World) (done : Done) → CameAbout course (Ok (to_run asked)) old.files new.files old.out new.out → TellsCourse course old.note new.note telling →
+    done.status ≡ code_of (status_of course telling) → done.lies ≡ lies_of (course_bus course) → IfSome (course_bus course) LiesByScript → IfUndone course P →
     AreBothAnd (course_run course) (course_bus course) (RanAndTold asked old new done) ⊎ P
-ran (Refused refusal) asked P old new done came by_script tells holds = inr holds
-ran NoMemory asked P old new done came by_script tells holds = inr holds
-ran (Ran run bus) asked P old new done came by_script tells holds =
-    inl (record { runs = came; by_script = tampers_by_script bus by_script came.runs; tells = tells })
-ran (RanPlain run) asked P old new done came by_script tells holds = absurd came
-ran (Written written) asked P old new done came by_script tells holds = absurd came
-ran OtherTag asked P old new done came by_script tells holds = absurd came.0
+ran (Refused refusal) telling asked P old new done came tells status_is lies_is by_script holds = inr holds
+ran NoMemory telling asked P old new done came tells status_is lies_is by_script holds = inr holds
+ran (Ran run bus) telling asked P old new done came tells status_is lies_is by_script holds = inl (record {
+  runs = came;
+  by_script = tampers_by_script bus by_script came.runs;
+  tells = rw (status_is, lies_is) (told_run run bus telling old.note new.note tells);
+})
+ran (RanPlain run) telling asked P old new done came tells status_is lies_is by_script holds = absurd came
+ran (Written written) telling asked P old new done came tells status_is lies_is by_script holds = absurd came
+ran OtherTag telling asked P old new done came tells status_is lies_is by_script holds = absurd came.0
+ran (RanGenerated run bus written) telling asked P old new done came tells status_is lies_is by_script holds = absurd came
+
+-- the run and the bus of the course are the answer's
+of_answer : {request : Result Asked WordsFault} {old new : World} {done : Done} → (o : Outcome request old new done) → (P : RunRecord → RunBus → Type 0) (Q : Type 0) → AreBothAnd (course_run o.course) (course_bus o.course) P ⊎ Q →
+    AreBothAnd done.run done.bus P ⊎ Q
+of_answer {done = done} o P Q at =
+    subst (λ (b : Option RunBus). AreBothAnd done.run b P ⊎ Q) (sym o.bus)
+    (subst (λ (r : Option RunRecord). AreBothAnd r (course_bus o.course) P ⊎ Q) (sym o.run) at)
 
 pub run : {request : Result Asked WordsFault} {old new : World} {done : Done} → Outcome request old new done → (asked : RunAsked) → request ≡ Ok (to_run asked) → GivesRun asked old new done
 run {request} {old} {new} {done} o asked asks =
-    let tells : IfSome (course_run o.course) (λ run. TellsRun done.status run done.lies old.note new.note) = rw (o.status, o.lies) (told_run o.course o.told old.note new.note o.tells) in
-    let at = ran o.course asked (Undone (Ok (to_run asked)) old new done) old new done
-    (came_as o (Ok (to_run asked)) asks) o.by_script tells (undone o (Ok (to_run asked)) asks) in
-    let with_run = subst (λ (r : Option RunRecord). AreBothAnd r (course_bus o.course) (RanAndTold asked old new done) ⊎ Undone (Ok (to_run asked)) old new done) (sym o.run) at in
-    subst (λ (b : Option RunBus). AreBothAnd done.run b (RanAndTold asked old new done) ⊎ Undone (Ok (to_run asked)) old new done) (sym o.bus) with_run
+    of_answer o (RanAndTold asked old new done) (Undone (Ok (to_run asked)) old new done)
+    (ran o.course o.told asked (Undone (Ok (to_run asked)) old new done) old new done
+    (came_as o (Ok (to_run asked)) asks) o.tells o.status o.lies o.by_script (undone o (Ok (to_run asked)) asks))
 
 plainly_ran : (course : Course) (telling : Telling) (execution : ExecutionAsked) (P : Type 0) (old new : World) (done : Done) → CameAbout course (Ok (to_run_plain execution)) old.files new.files old.out new.out →
     TellsCourse course old.note new.note telling → done.status ≡ code_of (status_of course telling) → done.run ≡ course_run course → IfUndone course P → PlainlyRan execution old new done ⊎ P
@@ -311,6 +320,7 @@ plainly_ran (RanPlain run) telling execution P old new done came tells status_is
 })
 plainly_ran (Written written) telling execution P old new done came tells status_is run_is holds = absurd came
 plainly_ran OtherTag telling execution P old new done came tells status_is run_is holds = absurd came.0
+plainly_ran (RanGenerated run bus written) telling execution P old new done came tells status_is run_is holds = absurd came
 
 pub plain : {request : Result Asked WordsFault} {old new : World} {done : Done} → Outcome request old new done → (execution : ExecutionAsked) → request ≡ Ok (to_run_plain execution) → GivesPlainRun execution old new done
 plain {request} {old} {new} {done} o execution asks =
@@ -330,6 +340,7 @@ WritesOr (Ran run bus) file text files files' out out' = ⊥
 WritesOr (RanPlain run) file text files files' out out' = ⊥
 WritesOr (Written telling) file text files files' out out' = Writes file text files files' out out' telling
 WritesOr OtherTag file text files files' out out' = ⊥
+WritesOr (RanGenerated run bus telling) file text files files' out out' = ⊥
 
 delivered_or : (course : Course) (telling : Telling) (file : FileAsked) (text : Image → List ℕ) (P : Type 0) (old new : World) (done : Done) → WritesOr course file text old.files new.files old.out new.out →
     TellsCourse course old.note new.note telling → done.status ≡ code_of (status_of course telling) → done.run ≡ course_run course → IfUndone course P → Delivers file text old new done ⊎ P
@@ -340,6 +351,7 @@ delivered_or (RanPlain run) telling file text P old new done writes tells status
 delivered_or (Written written) telling file text P old new done writes tells status_is run_is holds =
     inl (delivered file text written telling old new done writes tells status_is run_is)
 delivered_or OtherTag telling file text P old new done writes tells status_is run_is holds = absurd writes
+delivered_or (RanGenerated run bus written) telling file text P old new done writes tells status_is run_is holds = absurd writes
 
 gives_text : {request : Result Asked WordsFault} {old new : World} {done : Done} → (o : Outcome request old new done) → (asked : Asked) (file : FileAsked) (text : Image → List ℕ) → request ≡ Ok asked →
     WritesOr o.course file text old.files new.files old.out new.out → GivesText asked file text old new done
@@ -354,6 +366,7 @@ asm_came (Ran run bus) file files files' out out' came = came
 asm_came (RanPlain run) file files files' out out' came = came
 asm_came (Written telling) file files files' out out' came = came
 asm_came OtherTag file files files' out out' came = came.0
+asm_came (RanGenerated run bus telling) file files files' out out' came = came
 
 pub dis_came : (course : Course) (file : FileAsked) (files files' : FilesState) (out out' : SinkState) → CameAbout course (Ok (to_disassemble file)) files files' out out' → WritesOr course file listing files files' out out'
 dis_came (Refused refusal) file files files' out out' came = tt
@@ -362,6 +375,7 @@ dis_came (Ran run bus) file files files' out out' came = came
 dis_came (RanPlain run) file files files' out out' came = came
 dis_came (Written telling) file files files' out out' came = came
 dis_came OtherTag file files files' out out' came = came.0
+dis_came (RanGenerated run bus telling) file files files' out out' came = came
 
 pub measure_came : (course : Course) (file : FileAsked) (files files' : FilesState) (out out' : SinkState) → CameAbout course (Ok (to_measure file)) files files' out out' → WritesOr course file measurement_line files files' out out'
 measure_came (Refused refusal) file files files' out out' came = tt
@@ -370,6 +384,7 @@ measure_came (Ran run bus) file files files' out out' came = came
 measure_came (RanPlain run) file files files' out out' came = came
 measure_came (Written telling) file files files' out out' came = came
 measure_came OtherTag file files files' out out' came = came.0
+measure_came (RanGenerated run bus telling) file files files' out out' came = came
 
 pub asm : {request : Result Asked WordsFault} {old new : World} {done : Done} → Outcome request old new done → (file : FileAsked) → request ≡ Ok (to_assemble file) → GivesText (to_assemble file) file elf_file old new done
 asm {old = old} {new = new} o file asks =
@@ -404,11 +419,45 @@ verified OtherTag telling asked P old new done came tells status_is run_is holds
   no_run = run_is;
   silent = came.1;
 }))
+verified (RanGenerated run bus written) telling asked P old new done came tells status_is run_is holds = absurd came
 
 pub verify : {request : Result Asked WordsFault} {old new : World} {done : Done} → Outcome request old new done → (asked : ReportAsked) → request ≡ Ok (to_verify asked) → GivesReport asked old new done
 verify {request} {old} {new} {done} o asked asks =
     verified o.course o.told asked (Undone (Ok (to_verify asked)) old new done) old new done
     (came_as o (Ok (to_verify asked)) asks) o.tells o.status o.run (undone o (Ok (to_verify asked)) asks)
+
+-- a generated program ran
+summarized : (course : Course) (telling : Telling) (number : ℕ) (P : Type 0) (old new : World) (done : Done) → CameAbout course (Ok (to_bench number)) old.files new.files old.out new.out → TellsCourse course old.note new.note telling →
+    done.status ≡ code_of (status_of course telling) → IfUndone course P → AreBothAnd (course_run course) (course_bus course) (DeliversSummary number old new done) ⊎ P
+summarized (Refused refusal) telling number P old new done came tells status_is holds = inr holds
+summarized NoMemory telling number P old new done came tells status_is holds = inr holds
+summarized (Ran run bus) telling number P old new done came tells status_is holds = absurd came
+summarized (RanPlain run) telling number P old new done came tells status_is holds = absurd came
+summarized (Written written) telling number P old new done came tells status_is holds = absurd came
+summarized OtherTag telling number P old new done came tells status_is holds = absurd came.0
+summarized (RanGenerated run bus written) telling number P old new done came tells status_is holds = inl (record {
+  telling = written;
+  summarizes = came;
+  status_is = status_is ∙ ap (λ t. code_of (status_of (RanGenerated run bus written) t)) tells.1;
+  silent = tells.0;
+})
+
+pub bench : {request : Result Asked WordsFault} {old new : World} {done : Done} → Outcome request old new done → (number : ℕ) → request ≡ Ok (to_bench number) → GivesSummary number old new done
+bench {request} {old} {new} {done} o number asks =
+    of_answer o (DeliversSummary number old new done) (Undone (Ok (to_bench number)) old new done)
+    (summarized o.course o.told number (Undone (Ok (to_bench number)) old new done) old new done
+    (came_as o (Ok (to_bench number)) asks) o.tells o.status (undone o (Ok (to_bench number)) asks))
+
+-- it needs no file, so nothing is refused
+pub unrefused_bench : (refusal : Refusal) (number : ℕ) (files files' : FilesState) → ¬ IsRefused refusal (Ok (to_bench number)) files files'
+unrefused_bench (Usage text) number files files' cause = not_both (to_bench number) _ cause.0
+unrefused_bench (WrongValue fault) number files files' cause = not_both (to_bench number) _ cause.0
+unrefused_bench Unread number files files' cause = nothing_stops Unread [] files files' refl cause
+unrefused_bench TooLong number files files' cause = nothing_stops TooLong [] files files' refl cause
+unrefused_bench (Elf fault) number files files' cause = nothing_stops (Elf fault) [] files files' refl cause
+unrefused_bench (Asm line fault) number files files' cause = nothing_stops (Asm line fault) [] files files' refl cause
+unrefused_bench (Script line fault) number files files' cause = nothing_stops (Script line fault) [] files files' refl cause
+unrefused_bench (Report fault) number files files' cause = nothing_stops (Report fault) [] files files' refl cause
 
 -- ---- files that are to be refused
 
@@ -472,6 +521,8 @@ unfit_listed (Written written) telling before need after bytes request files fil
     absurd (untaken before need after bytes request files files' order content unfit (written_taken request files files' out out' written came))
 unfit_listed OtherTag telling before need after bytes request files files' out out' order content unfit came =
     absurd (untaken before need after bytes request files files' order content unfit (other_tag_taken request files files' came.0))
+unfit_listed (RanGenerated run bus written) telling before need after bytes request files files' out out' order content unfit came =
+    absurd (no_place before need after (sym (ap needs_of (benched request files files' out out' run bus written came).1) ∙ order))
 
 pub unfit : {request : Result Asked WordsFault} {old new : World} {done : Done} → Outcome request old new done → (before after : List Need) (need : Need) (bytes : List ℕ) →
     needs_of request ≡ before ++ need ∷ after → HasTold old.files.held need.name bytes → IsUnfit need bytes → IsOneOf unrun_statuses done.status

@@ -1,5 +1,5 @@
 -- What the course of a call says of what was done.
-use Rattle.std.proofs.Common.{◌≡◌, ◌≢◌, ◌<◌, ◌↔◌, ◌⊎◌, inl, inr, List, ℕ, Option, Some, None, IfSome, Result, Ok, Err, IsSome, [], refl, sym, ap, ◌∙◌, subst, arith}
+use Rattle.std.proofs.Common.{◌≡◌, ◌≢◌, ◌<◌, ◌≤◌, ◌↔◌, ◌⊎◌, inl, inr, List, ℕ, Option, Some, None, IfSome, Result, Ok, Err, IsSome, [], refl, sym, ap, ◌∙◌, subst, arith}
 use Rattle.sec_base.specs.Count.{Rose}
 use Rattle.sec_base.specs.Files.{FilesState}
 use Rattle.sec_base.specs.Sink.{SinkState}
@@ -11,22 +11,27 @@ use Rattle.sec_base.specs.declared.sink.SinkStop.TheVariants.{Failed, NoMemory a
 use Rattle.plain_machine.specs.declared.PlainRecord.{PlainRecord}
 use Rattle.sec_base.specs.Sink.{IsWritten}
 use Rattle.chip_run.specs.declared.RunRecord.{RunRecord}
-use Rattle.chip_words.specs.Request.{Asked, ExecutionAsked, FileAsked, ReportAsked, RunAsked, WordsFault, to_assemble, to_disassemble, to_measure, to_run, to_run_plain, to_verify}
+use Rattle.chip_words.specs.Request.{Asked, ExecutionAsked, FileAsked, ReportAsked, RunAsked, WordsFault, to_assemble, to_disassemble, to_measure, to_run, to_run_plain, to_verify, to_bench}
 use Rattle.chip_main.specs.declared.refusal.Refusal.{Refusal}
 use Rattle.chip_main.specs.declared.refusal.Refusal.TheVariants.{Usage, WrongValue, Unread, TooLong, Elf, Asm, Script, Report}
 use Rattle.chip_main.specs.declared.run_bus.RunBus.{RunBus}
 use Rattle.chip_main.specs.declared.course.Course.{Course}
-use Rattle.chip_main.specs.declared.course.Course.TheVariants.{Refused, NoMemory, Ran, RanPlain, Written, OtherTag}
+use Rattle.chip_main.specs.declared.course.Course.TheVariants.{Refused, NoMemory, Ran, RanPlain, Written, OtherTag, RanGenerated}
 use Rattle.chip_main.specs.declared.Done.{Done}
 use Rattle.chip_main.specs.World.{World}
 use Rattle.chip_main.specs.Texts.{elf_file, listing, measurement_line, report_text}
-use Rattle.chip_main.specs.Status.{code_of, Telling, ending_status, evidence_status, refusal_status, run_status, status_with, text_status}
-use Rattle.chip_main.specs.Buses.{AreBothAnd, IsRunAnd, LiesByScript, lies_of, script_followed}
+use Rattle.chip_main.specs.Status.{code_of, Telling, ending_status, evidence_status, refusal_status, run_status, status_with, text_status, told_status}
+use Rattle.bus_model.specs.BusHistory.{BusHistory}
+use Rattle.chip_run.specs.Run.{RunsProtected}
+use Rattle.sec_base.specs.Program.{Program}
+use Rattle.chip_main.specs.Buses.{AreBothAnd, IsRunAnd, LiesByScript, lies_of, run_history, script_followed}
+use Rattle.chip_main.specs.Device.{terms_of}
+use Rattle.chip_main.specs.Generated.{generated_run}
 use Rattle.chip_main.specs.Endings.{EndedWithoutEvidence, IsHalted, IsTrapped, IsOutOfSteps, EndedTampered, EndedSpent, EndedWithEvidence}
-use Rattle.chip_main.specs.Requests.{ByCommand, PlainlyRuns, PlainlyRunsRequest, RunsRequested, RunsRequest, Writes, WritesReport, WritesRequest}
+use Rattle.chip_main.specs.Requests.{ByCommand, PlainlyRuns, PlainlyRunsRequest, RunsRequest, Summarizes, SummarizesRequest, Writes, WritesReport, WritesRequest}
 use Rattle.chip_main.specs.Answer.{Ended, IsDone, PlainlyEnded, RanAnd}
 use Rattle.chip_main.specs.Course.{CameAbout, Outcome, TellsCourse, course_bus, course_run, course_status, status_of}
-use Rattle.chip_main.proofs.Outcomes.{own_status}
+use Rattle.chip_main.proofs.Outcomes.{benched, own_status, told_own}
 use Rattle.chip_main.proofs.RunStatuses.{evidence_cause, halted_cause, halted_of, no_seven, out_of_steps_cause, out_of_steps_of, spent_cause, spent_of, tampered_cause, tampered_of, trapped_cause, trapped_of}
 
 -- a run and its bus come together
@@ -37,6 +42,7 @@ together (Ran run bus) = (λ is. is, λ is. is)
 together (RanPlain run) = (λ is. is, λ is. is)
 together (Written telling) = (λ is. is, λ is. is)
 together OtherTag = (λ is. is, λ is. is)
+together (RanGenerated run bus telling) = (λ is. is, λ is. is)
 
 pub bus_together : {request : Result Asked WordsFault} {old new : World} {done : Done} → Outcome request old new done → IsSome done.run ↔ IsSome done.bus
 bus_together o = rw (o.run, o.bus) (together o.course)
@@ -58,23 +64,26 @@ honest o none = o.lies ∙ none_false (course_bus o.course) o.by_script (ap scri
 pub record Says (status : ℕ) (Run : RunAsked → RunRecord → RunBus → Type 0) (Plain : ExecutionAsked → Type 0) (Text : FileAsked → (Image → List ℕ) → Type 0) (Check : ReportAsked → Type 0) (files files' : FilesState) (out out' : SinkState) : Type 0 where
   pub refuses : (refusal : Refusal) → code_of (refusal_status refusal) ≢ status
   pub low : status < 9
-  pub of_run : (asked : RunAsked) (run : RunRecord) (bus : RunBus) → RunsRequested asked files files' out out' run bus → code_of (run_status run) ≡ status → Run asked run bus
+  pub of_run : (asked : RunAsked) (program : Program) (input : List ℕ) (old new : SinkState) (before : BusHistory) (run : RunRecord) (bus : RunBus) →
+      RunsProtected (terms_of asked program input) old new before (run_history bus) run → code_of (run_status run) ≡ status → Run asked run bus
   pub of_plain : (execution : ExecutionAsked) (run : PlainRecord) → PlainlyRuns execution files files' out out' run → code_of (ending_status run.ending) ≡ status → Plain execution
   pub of_text : (file : FileAsked) (text : Image → List ℕ) (telling : Telling) → Writes file text files files' out out' telling → code_of (text_status telling) ≡ status → Text file text
   pub of_report : (asked : ReportAsked) (telling : Telling) → WritesReport asked files files' out out' telling → code_of (text_status telling) ≡ status → Check asked
 
 said_of_run : (request : Result Asked WordsFault) (run : RunRecord) (bus : RunBus) (status : ℕ) (Run : RunAsked → RunRecord → RunBus → Type 0) (Plain : ExecutionAsked → Type 0) (Text : FileAsked → (Image → List ℕ) → Type 0) (Check : ReportAsked → Type 0) (files files' : FilesState) (out out' : SinkState) →
-    Says status Run Plain Text Check files files' out out' → RunsRequest request files files' out out' run bus → code_of (run_status run) ≡ status → ByCommand request (λ asked. Run asked run bus) Plain Text Check
+    Says status Run Plain Text Check files files' out out' → RunsRequest request files files' out out' run bus → code_of (run_status run) ≡ status → ByCommand request (λ asked. Run asked run bus) Plain Text Check (λ _. Run generated_run run bus)
 said_of_run (Err fault) run bus status Run Plain Text Check files files' out out' says came is = absurd came
-said_of_run (Ok (to_run asked)) run bus status Run Plain Text Check files files' out out' says came is = says.of_run asked run bus came is
+said_of_run (Ok (to_run asked)) run bus status Run Plain Text Check files files' out out' says came is =
+    says.of_run asked came.program came.input out out' _ run bus came.runs is
 said_of_run (Ok (to_run_plain execution)) run bus status Run Plain Text Check files files' out out' says came is = absurd came
 said_of_run (Ok (to_assemble file)) run bus status Run Plain Text Check files files' out out' says came is = absurd came
 said_of_run (Ok (to_disassemble file)) run bus status Run Plain Text Check files files' out out' says came is = absurd came
 said_of_run (Ok (to_measure file)) run bus status Run Plain Text Check files files' out out' says came is = absurd came
 said_of_run (Ok (to_verify report)) run bus status Run Plain Text Check files files' out out' says came is = absurd came
+said_of_run (Ok (to_bench number)) run bus status Run Plain Text Check files files' out out' says came is = absurd came
 
 said_of_plain : (request : Result Asked WordsFault) (run : PlainRecord) (status : ℕ) (Run : RunAsked → RunRecord → RunBus → Type 0) (Plain : ExecutionAsked → Type 0) (Text : FileAsked → (Image → List ℕ) → Type 0) (Check : ReportAsked → Type 0) (files files' : FilesState) (out out' : SinkState) →
-    Says status Run Plain Text Check files files' out out' → PlainlyRunsRequest request files files' out out' run → code_of (ending_status run.ending) ≡ status → ByCommand request (λ _. ⊥) Plain Text Check
+    Says status Run Plain Text Check files files' out out' → PlainlyRunsRequest request files files' out out' run → code_of (ending_status run.ending) ≡ status → ByCommand request (λ _. ⊥) Plain Text Check (λ _. ⊥)
 said_of_plain (Err fault) run status Run Plain Text Check files files' out out' says came is = absurd came
 said_of_plain (Ok (to_run asked)) run status Run Plain Text Check files files' out out' says came is = absurd came
 said_of_plain (Ok (to_run_plain execution)) run status Run Plain Text Check files files' out out' says came is = says.of_plain execution run came is
@@ -82,9 +91,10 @@ said_of_plain (Ok (to_assemble file)) run status Run Plain Text Check files file
 said_of_plain (Ok (to_disassemble file)) run status Run Plain Text Check files files' out out' says came is = absurd came
 said_of_plain (Ok (to_measure file)) run status Run Plain Text Check files files' out out' says came is = absurd came
 said_of_plain (Ok (to_verify report)) run status Run Plain Text Check files files' out out' says came is = absurd came
+said_of_plain (Ok (to_bench number)) run status Run Plain Text Check files files' out out' says came is = absurd came
 
 said_of_text : (request : Result Asked WordsFault) (telling : Telling) (status : ℕ) (Run : RunAsked → RunRecord → RunBus → Type 0) (Plain : ExecutionAsked → Type 0) (Text : FileAsked → (Image → List ℕ) → Type 0) (Check : ReportAsked → Type 0) (files files' : FilesState) (out out' : SinkState) →
-    Says status Run Plain Text Check files files' out out' → WritesRequest request files files' out out' telling → code_of (text_status telling) ≡ status → ByCommand request (λ _. ⊥) Plain Text Check
+    Says status Run Plain Text Check files files' out out' → WritesRequest request files files' out out' telling → code_of (text_status telling) ≡ status → ByCommand request (λ _. ⊥) Plain Text Check (λ _. ⊥)
 said_of_text (Err fault) telling status Run Plain Text Check files files' out out' says came is = absurd came
 said_of_text (Ok (to_run asked)) telling status Run Plain Text Check files files' out out' says came is = absurd came
 said_of_text (Ok (to_run_plain execution)) telling status Run Plain Text Check files files' out out' says came is = absurd came
@@ -92,10 +102,19 @@ said_of_text (Ok (to_assemble file)) telling status Run Plain Text Check files f
 said_of_text (Ok (to_disassemble file)) telling status Run Plain Text Check files files' out out' says came is = says.of_text file listing telling came is
 said_of_text (Ok (to_measure file)) telling status Run Plain Text Check files files' out out' says came is = says.of_text file measurement_line telling came is
 said_of_text (Ok (to_verify report)) telling status Run Plain Text Check files files' out out' says came is = says.of_report report telling came is
+said_of_text (Ok (to_bench number)) telling status Run Plain Text Check files files' out out' says came is = absurd came
+
+said_of_generated : (request : Result Asked WordsFault) (run : RunRecord) (bus : RunBus) (telling : Telling) (status : ℕ) (Run : RunAsked → RunRecord → RunBus → Type 0) (Plain : ExecutionAsked → Type 0) (Text : FileAsked → (Image → List ℕ) → Type 0) (Check : ReportAsked → Type 0) (files files' : FilesState) (out out' : SinkState) →
+    Says status Run Plain Text Check files files' out out' → SummarizesRequest request files files' out out' run bus telling → code_of (told_status run telling) ≡ status → ByCommand request (λ asked. Run asked run bus) Plain Text Check (λ _. Run generated_run run bus)
+said_of_generated request run bus telling status Run Plain Text Check files files' out out' says came is =
+    let found = benched request files files' out out' run bus telling came in
+    let own = says.of_run generated_run found.2.runs.program [] _ _ _ run bus found.2.runs.runs (told_own run telling status says.low is) in
+    subst (λ (r : Result Asked WordsFault). ByCommand r (λ asked. Run asked run bus) Plain Text Check (λ _. Run generated_run run bus)) (sym found.1) own
 
 said : (course : Course) (request : Result Asked WordsFault) (status : ℕ) (Run : RunAsked → RunRecord → RunBus → Type 0) (Plain : ExecutionAsked → Type 0) (Text : FileAsked → (Image → List ℕ) → Type 0) (Check : ReportAsked → Type 0) (files files' : FilesState) (out out' : SinkState) →
     Says status Run Plain Text Check files files' out out' → CameAbout course request files files' out out' → code_of (course_status course) ≡ status →
     ByCommand request (λ asked. AreBothAnd (course_run course) (course_bus course) (Run asked)) Plain Text Check
+    (λ _. AreBothAnd (course_run course) (course_bus course) (Run generated_run))
 said (Refused refusal) request status Run Plain Text Check files files' out out' says came is = absurd (says.refuses refusal is)
 said NoMemory request status Run Plain Text Check files files' out out' says came is = absurd (omega (arith, says.low))
 said (Ran run bus) request status Run Plain Text Check files files' out out' says came is =
@@ -105,9 +124,11 @@ said (RanPlain run) request status Run Plain Text Check files files' out out' sa
 said (Written telling) request status Run Plain Text Check files files' out out' says came is =
     said_of_text request telling status Run Plain Text Check files files' out out' says came is
 said OtherTag request status Run Plain Text Check files files' out out' says came is = absurd (omega (arith, says.low))
+said (RanGenerated run bus telling) request status Run Plain Text Check files files' out out' says came is =
+    said_of_generated request run bus telling status Run Plain Text Check files files' out out' says came is
 
 by_command : (status : ℕ) (Run : RunAsked → RunRecord → RunBus → Type 0) (Plain : ExecutionAsked → Type 0) (Text : FileAsked → (Image → List ℕ) → Type 0) (Check : ReportAsked → Type 0) {request : Result Asked WordsFault} {old new : World} {done : Done} →
-    Says status Run Plain Text Check old.files new.files old.out new.out → Outcome request old new done → done.status ≡ status → ByCommand request (λ asked. IsRunAnd done (Run asked)) Plain Text Check
+    Says status Run Plain Text Check old.files new.files old.out new.out → Outcome request old new done → done.status ≡ status → ByCommand request (λ asked. IsRunAnd done (Run asked)) Plain Text Check (λ _. IsRunAnd done (Run generated_run))
 by_command status Run Plain Text Check {request} {old} {new} says o is =
     rw (o.run, o.bus) (said o.course request status Run Plain Text Check old.files new.files old.out new.out says o.came (own_status o status says.low is))
 
@@ -141,8 +162,8 @@ report_whole asked (Err Failed) files files' out out' writes is = absurd (omega 
 report_whole asked (Err no_memory) files files' out out' writes is = absurd (omega arith)
 
 -- either a program ran, or a text was written
-ran_or_written : (request : Result Asked WordsFault) (Run : Type 0) (Plain : ExecutionAsked → Type 0) (Text : FileAsked → (Image → List ℕ) → Type 0) (Check : ReportAsked → Type 0) → ByCommand request (λ _. Run) Plain Text Check →
-    ByCommand request (λ _. Run) Plain (λ _ _. ⊥) (λ _. ⊥) ⊎ ByCommand request (λ _. ⊥) (λ _. ⊥) Text Check
+ran_or_written : (request : Result Asked WordsFault) (Run : Type 0) (Plain : ExecutionAsked → Type 0) (Text : FileAsked → (Image → List ℕ) → Type 0) (Check : ReportAsked → Type 0) → ByCommand request (λ _. Run) Plain Text Check (λ _. Run) →
+    ByCommand request (λ _. Run) Plain (λ _ _. ⊥) (λ _. ⊥) (λ _. Run) ⊎ ByCommand request (λ _. ⊥) (λ _. ⊥) Text Check (λ _. ⊥)
 ran_or_written (Err fault) Run Plain Text Check holds = absurd holds
 ran_or_written (Ok (to_run asked)) Run Plain Text Check holds = inl holds
 ran_or_written (Ok (to_run_plain execution)) Run Plain Text Check holds = inl holds
@@ -150,6 +171,7 @@ ran_or_written (Ok (to_assemble file)) Run Plain Text Check holds = inr holds
 ran_or_written (Ok (to_disassemble file)) Run Plain Text Check holds = inr holds
 ran_or_written (Ok (to_measure file)) Run Plain Text Check holds = inr holds
 ran_or_written (Ok (to_verify report)) Run Plain Text Check holds = inr holds
+ran_or_written (Ok (to_bench number)) Run Plain Text Check holds = inl holds
 
 pub is_done : {request : Result Asked WordsFault} {old new : World} {done : Done} → Outcome request old new done → done.status ≡ 0 → IsDone request old new done
 is_done {request = request} {old = old} {new = new} {done = done} o is =
@@ -159,7 +181,7 @@ is_done {request = request} {old = old} {new = new} {done = done} o is =
     (by_command 0 (λ _. EndedWithoutEvidence IsHalted) (λ execution. PlainlyEnded IsHalted execution old new) text check (record {
       refuses = unrefused 0 (omega arith) (omega arith) (omega arith);
       low = omega arith;
-      of_run = λ asked run bus runs is. halted_cause bus runs.runs is;
+      of_run = λ asked program input from to before run bus runs is. halted_cause bus runs is;
       of_plain = λ execution run runs is. (run, runs, halted_of run.ending is);
       of_text = λ file text telling writes is. written_whole file text telling old.files new.files old.out new.out writes is;
       of_report = λ asked telling writes is. report_whole asked telling old.files new.files old.out new.out writes is;
@@ -170,7 +192,7 @@ trapped {old = old} {new = new} o is =
     by_command 1 (λ _. EndedWithoutEvidence IsTrapped) (λ execution. PlainlyEnded IsTrapped execution old new) (λ _ _. ⊥) (λ _. ⊥) (record {
       refuses = unrefused 1 (omega arith) (omega arith) (omega arith);
       low = omega arith;
-      of_run = λ asked run bus runs is. trapped_cause bus runs.runs is;
+      of_run = λ asked program input from to before run bus runs is. trapped_cause bus runs is;
       of_plain = λ execution run runs is. (run, runs, trapped_of run.ending is);
       of_text = λ file text telling writes is. unwritten 1 (omega arith) (omega arith) telling is;
       of_report = λ asked telling writes is. unwritten 1 (omega arith) (omega arith) telling is;
@@ -181,7 +203,7 @@ out_of_steps {old = old} {new = new} o is =
     by_command 4 (λ _. EndedWithoutEvidence IsOutOfSteps) (λ execution. PlainlyEnded IsOutOfSteps execution old new) (λ _ _. ⊥) (λ _. ⊥) (record {
       refuses = unrefused 4 (omega arith) (omega arith) (omega arith);
       low = omega arith;
-      of_run = λ asked run bus runs is. out_of_steps_cause bus runs.runs is;
+      of_run = λ asked program input from to before run bus runs is. out_of_steps_cause bus runs is;
       of_plain = λ execution run runs is. (run, runs, out_of_steps_of run.ending is);
       of_text = λ file text telling writes is. unwritten 4 (omega arith) (omega arith) telling is;
       of_report = λ asked telling writes is. unwritten 4 (omega arith) (omega arith) telling is;
@@ -192,7 +214,7 @@ tampered_ending : {request : Result Asked WordsFault} {old new : World} {done : 
 tampered_ending o is = by_command 5 EndedTampered (λ _. ⊥) (λ _ _. ⊥) (λ _. ⊥) (record {
   refuses = unrefused 5 (omega arith) (omega arith) (omega arith);
   low = omega arith;
-  of_run = λ asked run bus runs is. tampered_cause asked runs.program runs.input bus runs.runs is;
+  of_run = λ asked program input from to before run bus runs is. tampered_cause asked program input bus runs is;
   of_plain = λ execution run runs is. let place = tampered_of run.ending is in runs.3.untampered place.0 place.1;
   of_text = λ file text telling writes is. unwritten 5 (omega arith) (omega arith) telling is;
   of_report = λ asked telling writes is. unwritten 5 (omega arith) (omega arith) telling is;
@@ -203,7 +225,7 @@ pub spent : {request : Result Asked WordsFault} {old new : World} {done : Done} 
 spent o is = by_command 6 EndedSpent (λ _. ⊥) (λ _ _. ⊥) (λ _. ⊥) (record {
   refuses = unrefused 6 (omega arith) (omega arith) (omega arith);
   low = omega arith;
-  of_run = λ asked run bus runs is. spent_cause asked runs.program runs.input bus runs.runs is;
+  of_run = λ asked program input from to before run bus runs is. spent_cause asked program input bus runs is;
   of_plain = λ execution run runs is. let page = spent_of run.ending is in runs.3.unspent page.0 page.1;
   of_text = λ file text telling writes is. unwritten 6 (omega arith) (omega arith) telling is;
   of_report = λ asked telling writes is. unwritten 6 (omega arith) (omega arith) telling is;
@@ -214,7 +236,7 @@ pub with_evidence : {request : Result Asked WordsFault} {old new : World} {done 
 with_evidence o is = by_command 7 EndedWithEvidence (λ _. ⊥) (λ _ _. ⊥) (λ _. ⊥) (record {
   refuses = unrefused 7 (omega arith) (omega arith) (omega arith);
   low = omega arith;
-  of_run = λ asked run bus runs is. evidence_cause asked runs.program runs.input bus runs.runs is;
+  of_run = λ asked program input from to before run bus runs is. evidence_cause asked program input bus runs is;
   of_plain = λ execution run runs is. no_seven run.ending is;
   of_text = λ file text telling writes is. unwritten 7 (omega arith) (omega arith) telling is;
   of_report = λ asked telling writes is. unwritten 7 (omega arith) (omega arith) telling is;
@@ -234,6 +256,7 @@ tampered_once (Ok (to_assemble file)) done ended = absurd ended
 tampered_once (Ok (to_disassemble file)) done ended = absurd ended
 tampered_once (Ok (to_measure file)) done ended = absurd ended
 tampered_once (Ok (to_verify report)) done ended = absurd ended
+tampered_once (Ok (to_bench number)) done ended = caught_once generated_run done.run done.bus ended
 
 pub tampered : {request : Result Asked WordsFault} {old new : World} {done : Done} → Outcome request old new done → done.status ≡ 5 → RanAnd EndedTampered request done × (done.lies ≡ 1)
 tampered {request = request} {done = done} o is =
@@ -284,11 +307,20 @@ text_written (Ok (to_assemble file)) files files' out out' telling came = (elf_f
 text_written (Ok (to_disassemble file)) files files' out out' telling came = (listing came.image, came.written)
 text_written (Ok (to_measure file)) files files' out out' telling came = (measurement_line came.image, came.written)
 text_written (Ok (to_verify report)) files files' out out' telling came = (report_text came.report, came.written)
+text_written (Ok (to_bench number)) files files' out out' telling came = absurd came
 
 text_failed : (text : List ℕ) (old new : SinkState) (telling : Telling) → IsWritten text old new telling → code_of (text_status telling) ≡ 9 → Rose old.faults new.faults
 text_failed text old new (Ok _) told is = absurd (omega arith)
 text_failed text old new (Err Failed) told is = told.1
 text_failed text old new (Err no_memory) told is = absurd (omega arith)
+
+-- what a generated program prints is gathered without a fault, so it is the summary that could not be written
+summary_failed : (number : ℕ) (run : RunRecord) (bus : RunBus) (telling : Telling) (files files' : FilesState) (out out' : SinkState) → Summarizes number files files' out out' run bus telling → code_of (told_status run telling) ≡ 9 →
+    Rose out.faults out'.faults
+summary_failed number run bus (Ok _) files files' out out' summarizes is =
+    let risen : 1 ≤ 0 = summarizes.runs.runs.always.write_fault (run_fault_of run.evidence run.ending is) in absurd (omega arith)
+summary_failed number run bus (Err Failed) files files' out out' summarizes is = summarizes.written.1
+summary_failed number run bus (Err no_memory) files files' out out' summarizes is = absurd (omega arith)
 
 -- a failed write of the sink for what is printed
 out_failed : (course : Course) (request : Result Asked WordsFault) (files files' : FilesState) (out out' : SinkState) → CameAbout course request files files' out out' → code_of (course_status course) ≡ 9 → Rose out.faults out'.faults
@@ -301,6 +333,7 @@ out_failed (Ran run bus) (Ok (to_assemble file)) files files' out out' came is =
 out_failed (Ran run bus) (Ok (to_disassemble file)) files files' out out' came is = absurd came
 out_failed (Ran run bus) (Ok (to_measure file)) files files' out out' came is = absurd came
 out_failed (Ran run bus) (Ok (to_verify report)) files files' out out' came is = absurd came
+out_failed (Ran run bus) (Ok (to_bench number)) files files' out out' came is = absurd came
 out_failed (RanPlain run) (Err fault) files files' out out' came is = absurd came
 out_failed (RanPlain run) (Ok (to_run asked)) files files' out out' came is = absurd came
 out_failed (RanPlain run) (Ok (to_run_plain execution)) files files' out out' came is = came.3.write_fault (fault_of run.ending is)
@@ -308,10 +341,14 @@ out_failed (RanPlain run) (Ok (to_assemble file)) files files' out out' came is 
 out_failed (RanPlain run) (Ok (to_disassemble file)) files files' out out' came is = absurd came
 out_failed (RanPlain run) (Ok (to_measure file)) files files' out out' came is = absurd came
 out_failed (RanPlain run) (Ok (to_verify report)) files files' out out' came is = absurd came
+out_failed (RanPlain run) (Ok (to_bench number)) files files' out out' came is = absurd came
 out_failed (Written telling) request files files' out out' came is =
     let written = text_written request files files' out out' telling came in
     text_failed written.0 out out' telling written.1 is
 out_failed OtherTag request files files' out out' came is = absurd (omega arith)
+out_failed (RanGenerated run bus telling) request files files' out out' came is =
+    let found = benched request files files' out out' run bus telling came in
+    summary_failed found.0 run bus telling files files' out out' found.2 is
 
 failed : (course : Course) (telling : Telling) (request : Result Asked WordsFault) (files files' : FilesState) (out out' note note' : SinkState) → CameAbout course request files files' out out' → TellsCourse course note note' telling → code_of (status_of course telling) ≡ 9 →
     Rose out.faults out'.faults ⊎ Rose note.faults note'.faults
@@ -323,6 +360,8 @@ failed (Ran run bus) (Err Failed) request files files' out out' note note' came 
 failed (RanPlain run) (Err Failed) request files files' out out' note note' came tells is = inr tells.1
 failed (Written written) (Err Failed) request files files' out out' note note' came tells is = inl (out_failed (Written written) request files files' out out' came is)
 failed OtherTag (Err Failed) request files files' out out' note note' came tells is = inr tells.1
+failed (RanGenerated run bus written) (Err Failed) request files files' out out' note note' came tells is =
+    inl (out_failed (RanGenerated run bus written) request files files' out out' came is)
 
 pub write_fault : {request : Result Asked WordsFault} {old new : World} {done : Done} → Outcome request old new done → done.status ≡ 9 →
     Rose old.out.faults new.out.faults ⊎ Rose old.note.faults new.note.faults

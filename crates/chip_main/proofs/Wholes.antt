@@ -13,14 +13,15 @@ use Rattle.rv32_core.specs.Follows.{IsWhole}
 use Rattle.plain_machine.specs.declared.PlainRecord.{PlainRecord}
 use Rattle.chip_run.specs.Run.{RunsProtected}
 use Rattle.chip_run.specs.declared.RunRecord.{RunRecord}
-use Rattle.chip_words.specs.Request.{Asked, ExecutionAsked, FileAsked, ReportAsked, RunAsked, WordsFault, to_assemble, to_disassemble, to_measure, to_run, to_run_plain, to_verify}
+use Rattle.chip_words.specs.Request.{Asked, ExecutionAsked, FileAsked, ReportAsked, RunAsked, WordsFault, to_assemble, to_disassemble, to_measure, to_run, to_run_plain, to_verify, to_bench}
 use Rattle.sec_base.specs.Program.{Program}
 use Rattle.chip_main.specs.declared.refusal.Refusal.{Refusal}
 use Rattle.chip_main.specs.declared.refusal.Refusal.TheVariants.{Usage, WrongValue, Unread, TooLong, Elf, Asm, Script, Report}
 use Rattle.chip_main.specs.declared.run_bus.RunBus.{RunBus}
 use Rattle.chip_main.specs.declared.course.Course.{Course}
-use Rattle.chip_main.specs.declared.course.Course.TheVariants.{Refused, NoMemory, Ran, RanPlain, Written, OtherTag}
+use Rattle.chip_main.specs.declared.course.Course.TheVariants.{Refused, NoMemory, Ran, RanPlain, Written, OtherTag, RanGenerated}
 use Rattle.chip_main.specs.declared.Done.{Done}
+use Rattle.workload_gen.specs.Workload.{workload_of}
 use Rattle.chip_main.specs.World.{World}
 use Rattle.chip_main.specs.Device.{terms_of}
 use Rattle.chip_main.specs.Program.{opening, program_of_file}
@@ -31,17 +32,18 @@ use Rattle.chip_main.specs.Verdict.{verdict_of}
 use Rattle.chip_main.specs.Needs.{Need, AreAccepted, HasTold, IsAccepted, asked_needs, report_need}
 use Rattle.chip_main.specs.Causes.{IsCause, IsMisformed, IsRefused, Stops}
 use Rattle.chip_main.specs.Taken.{IsInput, IsProgram, Tell}
-use Rattle.chip_main.specs.Status.{IsOneOf, code_of, Telling, ending_status, run_status}
+use Rattle.chip_main.specs.Status.{IsOneOf, code_of, Telling, ending_status, run_status, told_status}
 use Rattle.chip_main.specs.declared.status.Status.{Status}
 use Rattle.chip_main.specs.declared.status.Status.TheVariants as status
 use Rattle.chip_main.specs.Buses.{AreBothAnd, lies_of, run_history}
 use Rattle.chip_main.specs.Whole.{Faultless, RanWhole, Ready, plain_status, verdict_status, whole_statuses}
-use Rattle.chip_main.specs.Requests.{PlainlyRuns, RunsRequested, Writes, WritesReport}
+use Rattle.chip_main.specs.Generated.{gathered, generated_execution, generated_run}
+use Rattle.chip_main.specs.Requests.{PlainlyRuns, RunsRequested, Summarizes, Writes, WritesReport}
 use Rattle.chip_main.specs.Course.{CameAbout, Outcome, TellsCourse, course_bus, course_run, status_of}
 use Rattle.chip_main.specs.Texts.{elf_file, listing, measurement_line}
 use Rattle.chip_main.proofs.Courses.{all_accepted, input_accepted, program_accepted}
 use Rattle.chip_main.proofs.Takings.{whole_cause}
-use Rattle.chip_main.proofs.Requested.{WritesOr, accepted_at, asm_came, came_as, dis_came, measure_came, same_bytes}
+use Rattle.chip_main.proofs.Requested.{WritesOr, accepted_at, asm_came, came_as, dis_came, measure_came, same_bytes, unrefused_bench}
 use Rattle.chip_main.proofs.Verdicts.{made_verdict}
 use Rattle.chip_main.proofs.RunStatuses.{honest_without_evidence, run_status_without_evidence}
 
@@ -101,6 +103,7 @@ ready_accepted (to_assemble file) files program script input ready = (program_ac
 ready_accepted (to_disassemble file) files program script input ready = (program_accepted file program files ready.program_is, tt)
 ready_accepted (to_measure file) files program script input ready = (program_accepted file program files ready.program_is, tt)
 ready_accepted (to_verify report) files program script input ready = absurd ready.program_is
+ready_accepted (to_bench number) files program script input ready = absurd ready.program_is
 
 -- ---- what was taken is what is ready
 
@@ -177,6 +180,8 @@ whole_of (Written written) (Ok _) asked program script input files files' out ou
 whole_of (Written written) (Err Failed) asked program script input files files' out out' note note' came tells ready none quiet_files quiet_out quiet_note = absurd came
 whole_of OtherTag (Ok _) asked program script input files files' out out' note note' came tells ready none quiet_files quiet_out quiet_note = absurd came.0
 whole_of OtherTag (Err Failed) asked program script input files files' out out' note note' came tells ready none quiet_files quiet_out quiet_note = absurd came.0
+whole_of (RanGenerated run bus written) (Ok _) asked program script input files files' out out' note note' came tells ready none quiet_files quiet_out quiet_note = absurd came
+whole_of (RanGenerated run bus written) (Err Failed) asked program script input files files' out out' note note' came tells ready none quiet_files quiet_out quiet_note = absurd came
 
 pub whole_run : {request : Result Asked WordsFault} {old new : World} {done : Done} → Outcome request old new done → (asked : RunAsked) (program : Program) (script : Option (List ScriptLine)) (input : List ℕ) →
     request ≡ Ok (to_run asked) → Ready (to_run asked) old.files program script input → Faultless (to_run asked) old new done → IsOneOf other_statuses done.status ⊎ RanWhole asked.execution program input done
@@ -237,6 +242,8 @@ whole_plain_of (Written written) (Ok _) execution program script input files fil
 whole_plain_of (Written written) (Err Failed) execution program script input files files' out out' note note' came tells ready quiet_files quiet_out quiet_note = absurd came
 whole_plain_of OtherTag (Ok _) execution program script input files files' out out' note note' came tells ready quiet_files quiet_out quiet_note = absurd came.0
 whole_plain_of OtherTag (Err Failed) execution program script input files files' out out' note note' came tells ready quiet_files quiet_out quiet_note = absurd came.0
+whole_plain_of (RanGenerated run bus written) (Ok _) execution program script input files files' out out' note note' came tells ready quiet_files quiet_out quiet_note = absurd came
+whole_plain_of (RanGenerated run bus written) (Err Failed) execution program script input files files' out out' note note' came tells ready quiet_files quiet_out quiet_note = absurd came
 
 plain_whole : {request : Result Asked WordsFault} {old new : World} {done : Done} → Outcome request old new done → (execution : ExecutionAsked) (program : Program) (script : Option (List ScriptLine)) (input : List ℕ) →
     request ≡ Ok (to_run_plain execution) → Ready (to_run_plain execution) old.files program script input → Faultless (to_run_plain execution) old new done → IsOneOf (plain_statuses execution program input) done.status
@@ -267,6 +274,7 @@ whole_text_of (RanPlain run) telling asked file text program script input files 
 whole_text_of (Written written) telling asked file text program script input files files' out out' note note' came writes tells ready quiet_files quiet_out =
     written_whole written telling file text files files' out out' note note' writes tells quiet_out
 whole_text_of OtherTag telling asked file text program script input files files' out out' note note' came writes tells ready quiet_files quiet_out = absurd writes
+whole_text_of (RanGenerated run bus written) telling asked file text program script input files files' out out' note note' came writes tells ready quiet_files quiet_out = absurd writes
 
 text_whole : {request : Result Asked WordsFault} {old new : World} {done : Done} → (o : Outcome request old new done) → (asked : Asked) (file : FileAsked) (text : Image → List ℕ) (program : Program) (script : Option (List ScriptLine)) (input : List ℕ) → request ≡ Ok asked →
     WritesOr o.course file text old.files new.files old.out new.out → Ready asked old.files program script input → Faultless asked old new done → IsOneOf text_statuses done.status
@@ -292,6 +300,7 @@ whole {old = old} {new = new} o (to_measure file) program script input asks read
     let writes = measure_came o.course file old.files new.files old.out new.out (came_as o (Ok (to_measure file)) asks) in
     text_whole o (to_measure file) file measurement_line program script input asks writes ready sound
 whole o (to_verify report) program script input asks ready sound = absurd ready.program_is
+whole o (to_bench number) program script input asks ready sound = absurd ready.program_is
 
 -- ---- a report
 
@@ -331,6 +340,7 @@ whole_report_of OtherTag (Ok _) asked text files files' out out' note note' came
     (0, omega arith, ap (λ v. code_of (verdict_status v)) (with_verdict asked files text found.0 (Some Tag) told ready found.1.accepted found.2))
 whole_report_of OtherTag (Err Failed) asked text files files' out out' note note' came tells told ready quiet_files quiet_out quiet_note = absurd (quiet_note tells.1)
 whole_report_of OtherTag (Err no_memory) asked text files files' out out' note note' came tells told ready quiet_files quiet_out quiet_note = lacking asked text
+whole_report_of (RanGenerated run bus written) telling asked text files files' out out' note note' came tells told ready quiet_files quiet_out quiet_note = absurd came
 
 pub whole_report : {request : Result Asked WordsFault} {old new : World} {done : Done} → Outcome request old new done → (asked : ReportAsked) (text : List ℕ) → request ≡ Ok (to_verify asked) → Tell old.files →
     IsAccepted old.files (report_need asked) text → Faultless (to_verify asked) old new done → IsOneOf (checked_statuses asked text) done.status
@@ -338,3 +348,49 @@ whole_report {request} {old} {new} {done} o asked text asks tells ready sound =
     subst (λ (n : ℕ). IsOneOf (checked_statuses asked text) n) (sym o.status)
     (whole_report_of o.course o.told asked text old.files new.files old.out new.out old.note new.note
     (came_as o (Ok (to_verify asked)) asks) o.tells tells ready sound.files sound.out sound.note)
+
+-- ---- a generated program
+
+-- it is the run over the whole budget, since no page is spent under the default limit
+generated_whole : (program : Program) (old new : SinkState) (before : BusHistory) (bus : RunBus) (run : RunRecord) → RunsProtected (terms_of generated_run program []) old new before (run_history bus) run → (run_history bus).lies ≡ 0 → ¬ Rose old.faults new.faults →
+    (code_of (run_status run) ≡ 10) ⊎ IsRunWhole generated_execution program [] (code_of (run_status run)) run bus
+generated_whole program old new before bus run runs none quiet =
+    let without = honest_without_evidence runs none in
+    let ending_is = run_status_without_evidence run without in
+    elim (memory_cases run.ending) [
+      | inl gone ↦ inl (ending_is ∙ ap (λ e. code_of (ending_status e)) gone)
+      | inr had ↦ elim (runs.always.whole quiet none had) [
+        | inl whole ↦ inr (whole, ending_is)
+        | inr spent ↦ absurd ((runs.without_evidence without).unspent refl spent.0 spent.1)
+      ]
+    ]
+
+summary_whole : (number : ℕ) (program : Program) (run : RunRecord) (bus : RunBus) (telling : Telling) (files files' : FilesState) (out out' : SinkState) → Summarizes number files files' out out' run bus telling → workload_of number ≡ Ok program →
+    (run_history bus).lies ≡ 0 → ¬ Rose out.faults out'.faults → (code_of (told_status run telling) ≡ 10) ⊎ IsRunWhole generated_execution program [] (code_of (told_status run telling)) run bus
+summary_whole number program run bus (Ok _) files files' out out' summarizes is none quiet =
+    let e : Ok summarizes.runs.program ≡ Ok program = sym summarizes.runs.program_is ∙ is in
+    let same : summarizes.runs.program ≡ program = cc in
+    let still : ¬ Rose 0 0 = λ risen. let r : 1 ≤ 0 = risen in omega arith in
+    generated_whole program (gathered []) (gathered summarizes.printed) (new_history generated_execution.file.levels) bus run
+    (subst (λ (p : Program). RunsProtected (terms_of generated_run p []) (gathered []) (gathered summarizes.printed) (new_history generated_execution.file.levels) (run_history bus) run) same summarizes.runs.runs)
+    none still
+summary_whole number program run bus (Err Failed) files files' out out' summarizes is none quiet = absurd (quiet summarizes.written.1)
+summary_whole number program run bus (Err no_memory) files files' out out' summarizes is none quiet = inl refl
+
+whole_bench_of : (course : Course) (telling : Telling) (number : ℕ) (program : Program) (files files' : FilesState) (out out' note note' : SinkState) → CameAbout course (Ok (to_bench number)) files files' out out' → TellsCourse course note note' telling →
+    workload_of number ≡ Ok program → lies_of (course_bus course) ≡ 0 → ¬ Rose out.faults out'.faults →
+    (code_of (status_of course telling) ≡ 10) ⊎ AreBothAnd (course_run course) (course_bus course) (IsRunWhole generated_execution program [] (code_of (status_of course telling)))
+whole_bench_of (Refused refusal) telling number program files files' out out' note note' came tells is none quiet = absurd (unrefused_bench refusal number files files' came.0)
+whole_bench_of NoMemory telling number program files files' out out' note note' came tells is none quiet = rw tells.1 (inl refl)
+whole_bench_of (Ran run bus) telling number program files files' out out' note note' came tells is none quiet = absurd came
+whole_bench_of (RanPlain run) telling number program files files' out out' note note' came tells is none quiet = absurd came
+whole_bench_of (Written written) telling number program files files' out out' note note' came tells is none quiet = absurd came
+whole_bench_of OtherTag telling number program files files' out out' note note' came tells is none quiet = absurd came.0
+whole_bench_of (RanGenerated run bus written) telling number program files files' out out' note note' came tells is none quiet =
+    rw tells.1 (summary_whole number program run bus written files files' out out' came is none quiet)
+
+pub whole_bench : {request : Result Asked WordsFault} {old new : World} {done : Done} → Outcome request old new done → (number : ℕ) (program : Program) → request ≡ Ok (to_bench number) → workload_of number ≡ Ok program →
+    Faultless (to_bench number) old new done → (done.status ≡ 10) ⊎ RanWhole generated_execution program [] done
+whole_bench {request} {old} {new} {done} o number program asks is sound =
+    rw (o.run, o.bus, o.status) (whole_bench_of o.course o.told number program old.files new.files old.out new.out old.note new.note
+    (came_as o (Ok (to_bench number)) asks) o.tells is (sym o.lies ∙ sound.bus) sound.out)

@@ -10,7 +10,7 @@ use Rattle.sec_base.specs.declared.place.Place.{Place}
 use Rattle.bus_adversary.specs.ChangedPlaces.{script_may_change}
 use Rattle.plain_machine.specs.declared.PlainRecord.{PlainRecord}
 use Rattle.chip_run.specs.declared.RunRecord.{RunRecord}
-use Rattle.chip_words.specs.Request.{Asked, ExecutionAsked, FileAsked, ReportAsked, RunAsked, WordsFault, to_run, to_run_plain, to_verify}
+use Rattle.chip_words.specs.Request.{Asked, ExecutionAsked, FileAsked, ReportAsked, RunAsked, WordsFault, to_run, to_run_plain, to_verify, to_bench}
 use Rattle.chip_main.specs.declared.refusal.Refusal.{Refusal}
 use Rattle.chip_main.specs.declared.run_bus.RunBus.{RunBus}
 use Rattle.chip_main.specs.declared.Done.{Done}
@@ -19,8 +19,9 @@ use Rattle.chip_main.specs.Needs.{needs_of}
 use Rattle.chip_main.specs.Causes.{IsRefused, RunsOut, Stops}
 use Rattle.chip_main.specs.Buses.{IsRunAnd, bus_script}
 use Rattle.chip_main.specs.Endings.{EndedWithoutEvidence, IsHalted}
-use Rattle.chip_main.specs.Requests.{ByCommand, FindsOtherTag, PlainlyRuns, RunsRequested, Writes, WritesReport, WritesRequest}
-use Rattle.chip_main.specs.Status.{IsOneOf, Telling, code_of, ending_status, refusal_status, run_status, text_status}
+use Rattle.chip_main.specs.Generated.{generated_run}
+use Rattle.chip_main.specs.Requests.{ByCommand, FindsOtherTag, PlainlyRuns, RunsRequested, Summarizes, Writes, WritesReport, WritesRequest}
+use Rattle.chip_main.specs.Status.{IsOneOf, Telling, code_of, ending_status, refusal_status, run_status, text_status, told_status}
 use Rattle.chip_main.specs.declared.status.Status.{Status}
 use Rattle.chip_main.specs.declared.status.Status.TheVariants as status
 use Rattle.chip_main.specs.Texts.{plain_text, record_text, refusal_text, tag_differs_line}
@@ -35,16 +36,18 @@ PlainlyEnded P execution old new =
 -- as the request says, a run on protected memory ended so without evidence, or one on the plain machine ended so
 abbrev pub Ended : (Ending → Type 0) → Result Asked WordsFault → World → World → Done → Type 0
 Ended P request old new done = ByCommand request (λ _. IsRunAnd done (EndedWithoutEvidence P))
-    (λ execution. PlainlyEnded P execution old new) (λ _ _. ⊥) (λ _. ⊥)
+    (λ execution. PlainlyEnded P execution old new) (λ _ _. ⊥) (λ _. ⊥) (λ _. IsRunAnd done (EndedWithoutEvidence P))
 
 -- a run halted, or the request's text was written whole
 abbrev pub IsDone : Result Asked WordsFault → World → World → Done → Type 0
 IsDone request old new done = Ended IsHalted request old new done
     ⊎ WritesRequest request old.files new.files old.out new.out (Ok tt)
 
--- the request is for a run on protected memory, and this holds of what it asks, of that run and of its bus
+-- the request is for a run on protected memory, of a generated program too, and this holds of what it asks, of that run
+-- and of its bus
 abbrev pub RanAnd : (RunAsked → RunRecord → RunBus → Type 0) → Result Asked WordsFault → Done → Type 0
 RanAnd P request done = ByCommand request (λ asked. IsRunAnd done (P asked)) (λ _. ⊥) (λ _ _. ⊥) (λ _. ⊥)
+    (λ _. IsRunAnd done (P generated_run))
 
 -- one of the files was refused, for its length or its form
 abbrev pub FileRefused : Result Asked WordsFault → FilesState → FilesState → Type 0
@@ -147,6 +150,13 @@ pub record TellsOtherTag (asked : ReportAsked) (old new : World) (done : Done) :
   pub no_run : done.run ≡ None
   pub silent : IsSilent old.out new.out
 
+-- the generated program of the number ran, its summary was written as far as the status says, and nothing is told of that
+pub record DeliversSummary (number : ℕ) (old new : World) (done : Done) (run : RunRecord) (bus : RunBus) : Type 0 where
+  pub telling : Telling
+  pub summarizes : Summarizes number old.files new.files old.out new.out run bus telling
+  pub status_is : done.status ≡ code_of (told_status run telling)
+  pub silent : IsSilent old.note new.note
+
 -- what each command gives, or nothing was done
 abbrev pub GivesRun : RunAsked → World → World → Done → Type 0
 GivesRun asked old new done =
@@ -162,3 +172,7 @@ GivesText asked file text old new done = Delivers file text old new done ⊎ Und
 abbrev pub GivesReport : ReportAsked → World → World → Done → Type 0
 GivesReport asked old new done = DeliversReport asked old new done ⊎ TellsOtherTag asked old new done
     ⊎ Undone (Ok (to_verify asked)) old new done
+
+abbrev pub GivesSummary : ℕ → World → World → Done → Type 0
+GivesSummary number old new done =
+    IsRunAnd done (DeliversSummary number old new done) ⊎ Undone (Ok (to_bench number)) old new done

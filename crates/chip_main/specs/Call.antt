@@ -3,23 +3,26 @@ use Rattle.std.specs.Prelude.{◌≡◌, ◌⊎◌, ◌∷◌, ◌++◌, [], Lis
 use Rattle.sec_base.specs.Count.{Rose}
 use Rattle.adversary_script.specs.declared.script.ScriptLine.{ScriptLine}
 use Rattle.sec_base.specs.Program.{Program}
-use Rattle.chip_words.specs.Request.{Asked, ExecutionAsked, FileAsked, ReportAsked, RunAsked, WordsFault, to_assemble, to_disassemble, to_measure, to_run, to_run_plain, to_verify}
+use Rattle.chip_words.specs.Request.{Asked, ExecutionAsked, FileAsked, ReportAsked, RunAsked, WordsFault, to_assemble, to_disassemble, to_measure, to_run, to_run_plain, to_verify, to_bench}
+use Rattle.workload_gen.specs.Workload.{workload_of}
 use Rattle.chip_main.specs.World.{World}
 use Rattle.chip_main.specs.Needs.{Need, HasTold, IsAccepted, IsUnfit, needs_of, report_need}
 use Rattle.chip_main.specs.Causes.{AsksNothing, Stops}
 use Rattle.chip_main.specs.Requests.{OtherTagRequest}
+use Rattle.chip_main.specs.Generated.{generated_execution}
 use Rattle.chip_main.specs.Taken.{Tell}
 use Rattle.chip_main.specs.Verdict.{verdict_of}
 use Rattle.chip_main.specs.Endings.{IsTrapped, IsOutOfSteps, EndedTampered, EndedSpent, EndedWithEvidence}
 use Rattle.chip_main.specs.Texts.{elf_file, listing, measurement_line}
 use Rattle.chip_main.specs.Status.{IsOneOf, IsStatus, code_of}
-use Rattle.chip_main.specs.Answer.{Ended, FileRefused, GivesPlainRun, GivesReport, GivesRun, GivesText, IsDone, RanAnd, Undone}
+use Rattle.chip_main.specs.Answer.{Ended, FileRefused, GivesPlainRun, GivesReport, GivesRun, GivesSummary, GivesText, IsDone, RanAnd, Undone}
 use Rattle.chip_main.specs.Whole.{Faultless, RanWhole, Ready, verdict_status, whole_statuses}
 use Rattle.chip_main.specs.declared.Done.{Done}
 use Rattle.chip_main.specs.declared.refusal.Refusal.TheVariants.{Unread}
 use Rattle.chip_main.specs.declared.status.Status.TheVariants as status
 
--- What each status says. Refused, ReadFault, WriteFault and NoMemory come of all six commands.
+-- What each status says. WriteFault and NoMemory come of all seven commands, Refused and ReadFault of the six that read
+-- files.
 pub record SaysStatus (request : Result Asked WordsFault) (old new : World) (answer : Done) : Type 0 where
   pub statuses : IsStatus answer.status
   pub done : answer.status ≡ code_of status.Done → IsDone request old new answer
@@ -40,8 +43,9 @@ pub record SaysStatus (request : Result Asked WordsFault) (old new : World) (ans
 -- tampering at the first false answer of its bus, if there was one, which is about a place that the script may change;
 -- evidence is of the first false answer. A run on the plain machine follows it; or the request's ELF file, listing or
 -- measurement is written. What a report says is written where the device of the request's key made it, and else it is
--- told that its tag differs. Or nothing was done, since there was a refusal or no memory. Words that are no request, or
--- have a value that doesn't have its form, are refused, and nothing is asked of the files.
+-- told that its tag differs. A generated program runs as a requested one does, over an honest bus, and its summary is
+-- written. Or nothing was done, since there was a refusal or no memory. Words that are no request, or have a value that
+-- doesn't have its form, are refused, and nothing is asked of the files.
 pub record GivesAsked (request : Result Asked WordsFault) (old new : World) (answer : Done) : Type 0 where
   pub none : (fault : WordsFault) → request ≡ Err fault →
       AsksNothing old.files new.files × Undone (Err fault) old new answer
@@ -55,6 +59,7 @@ pub record GivesAsked (request : Result Asked WordsFault) (old new : World) (ans
   pub measure : (file : FileAsked) → request ≡ Ok (to_measure file) →
       GivesText (to_measure file) file measurement_line old new answer
   pub verify : (asked : ReportAsked) → request ≡ Ok (to_verify asked) → GivesReport asked old new answer
+  pub bench : (number : ℕ) → request ≡ Ok (to_bench number) → GivesSummary number old new answer
 
 -- What is due by what the files tell.
 pub record GivesDue (request : Result Asked WordsFault) (old new : World) (answer : Done) : Type 0 where
@@ -74,3 +79,7 @@ pub record GivesDue (request : Result Asked WordsFault) (old new : World) (answe
   pub whole_report : (asked : ReportAsked) (text : List ℕ) → request ≡ Ok (to_verify asked) → Tell old.files →
       IsAccepted old.files (report_need asked) text → Faultless (to_verify asked) old new answer →
       IsOneOf (verdict_status (verdict_of asked.device_key text) ∷ status.NoMemory ∷ []) answer.status
+  -- a generated program runs as it does on the plain machine, or there was no memory
+  pub whole_bench : (number : ℕ) (program : Program) → request ≡ Ok (to_bench number) →
+      workload_of number ≡ Ok program → Faultless (to_bench number) old new answer →
+      (answer.status ≡ code_of status.NoMemory) ⊎ RanWhole generated_execution program [] answer

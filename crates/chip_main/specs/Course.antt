@@ -8,13 +8,13 @@ use Rattle.chip_words.specs.Request.{Asked, WordsFault}
 use Rattle.chip_main.specs.declared.Done.{Done}
 use Rattle.chip_main.specs.declared.run_bus.RunBus.{RunBus}
 use Rattle.chip_main.specs.declared.course.Course.{Course}
-use Rattle.chip_main.specs.declared.course.Course.TheVariants.{Refused, NoMemory, Ran, RanPlain, Written, OtherTag}
+use Rattle.chip_main.specs.declared.course.Course.TheVariants.{Refused, NoMemory, Ran, RanPlain, Written, OtherTag, RanGenerated}
 use Rattle.chip_main.specs.World.{World}
 use Rattle.chip_main.specs.Needs.{needs_of}
 use Rattle.chip_main.specs.Causes.{IsRefused, RunsOut}
-use Rattle.chip_main.specs.Requests.{OtherTagRequest, PlainlyRunsRequest, RunsRequest, WritesRequest}
+use Rattle.chip_main.specs.Requests.{OtherTagRequest, PlainlyRunsRequest, RunsRequest, SummarizesRequest, WritesRequest}
 use Rattle.chip_main.specs.Texts.{plain_text, record_text, refusal_text, tag_differs_line}
-use Rattle.chip_main.specs.Status.{Telling, code_of, ending_status, refusal_status, run_status, text_status, untold_ending_status}
+use Rattle.chip_main.specs.Status.{Telling, code_of, ending_status, refusal_status, run_status, text_status, told_status, untold_ending_status}
 use Rattle.chip_main.specs.declared.status.Status.{Status}
 use Rattle.chip_main.specs.declared.status.Status.TheVariants.{NoMemory as out_of_memory, TagDiffers, WriteFault}
 use Rattle.chip_main.specs.Buses.{LiesByScript, run_history, lies_of}
@@ -27,6 +27,8 @@ CameAbout (Ran run bus) request files files' out out' = RunsRequest request file
 CameAbout (RanPlain run) request files files' out out' = PlainlyRunsRequest request files files' out out' run
 CameAbout (Written telling) request files files' out out' = WritesRequest request files files' out out' telling
 CameAbout OtherTag request files files' out out' = OtherTagRequest request files files' × IsSilent out out'
+CameAbout (RanGenerated run bus telling) request files files' out out' =
+    SummarizesRequest request files files' out out' run bus telling
 
 -- there is nothing to tell
 abbrev pub TellsNothing : SinkState → SinkState → Telling → Type 0
@@ -40,6 +42,7 @@ TellsCourse (Ran run bus) old new telling = IsWritten (record_text run (run_hist
 TellsCourse (RanPlain run) old new telling = IsWritten (plain_text run) old new telling
 TellsCourse (Written written) old new telling = TellsNothing old new telling
 TellsCourse OtherTag old new telling = IsWritten tag_differs_line old new telling
+TellsCourse (RanGenerated run bus written) old new telling = TellsNothing old new telling
 
 -- the record of a run on protected memory and its bus, where there was one
 abbrev pub course_run : Course → Option RunRecord
@@ -49,6 +52,7 @@ course_run (Ran run bus) = Some run
 course_run (RanPlain run) = None
 course_run (Written telling) = None
 course_run OtherTag = None
+course_run (RanGenerated run bus telling) = Some run
 
 abbrev pub course_bus : Course → Option RunBus
 course_bus (Refused refusal) = None
@@ -57,6 +61,7 @@ course_bus (Ran run bus) = Some bus
 course_bus (RanPlain run) = None
 course_bus (Written telling) = None
 course_bus OtherTag = None
+course_bus (RanGenerated run bus telling) = Some bus
 
 -- the status, where it was told whole
 abbrev pub course_status : Course → Status
@@ -66,6 +71,7 @@ course_status (Ran run bus) = run_status run
 course_status (RanPlain run) = ending_status run.ending
 course_status (Written telling) = text_status telling
 course_status OtherTag = TagDiffers
+course_status (RanGenerated run bus telling) = told_status run telling
 
 -- a refusal that could not be told keeps its status
 abbrev pub untold_status : Course → Status
@@ -75,6 +81,7 @@ untold_status (Ran run bus) = untold_ending_status run.ending
 untold_status (RanPlain run) = untold_ending_status run.ending
 untold_status (Written telling) = text_status telling
 untold_status OtherTag = WriteFault
+untold_status (RanGenerated run bus telling) = told_status run telling
 
 -- the status of the process
 abbrev pub status_of : Course → Telling → Status

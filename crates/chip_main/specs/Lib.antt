@@ -8,6 +8,7 @@ pub mod Taken
 pub mod Stop
 pub mod PlainRun
 pub mod Buses
+pub mod Generated
 pub mod Endings
 pub mod Texts
 pub mod Status

@@ -2,7 +2,7 @@
 use Rattle.std.specs.Prelude.{◌≡◌, ◌<◌, ◌≤◌, ◌≢◌, ◌⊎◌, List, [], ◌∷◌, ◌++◌, ℕ, length, map, Option, Some, None, Result, Ok, Err}
 use Rattle.std.specs.Result.{result_err}
 use Rattle.sec_base.specs.Files.{FilesState, HasBytes}
-use Rattle.chip_words.specs.Request.{Asked, ExecutionAsked, FileAsked, ReportAsked, RunAsked, WordsFault, to_assemble, to_disassemble, to_measure, to_run, to_run_plain, to_verify}
+use Rattle.chip_words.specs.Request.{Asked, ExecutionAsked, FileAsked, ReportAsked, RunAsked, WordsFault, to_assemble, to_disassemble, to_measure, to_run, to_run_plain, to_verify, to_bench}
 use Rattle.chip_main.specs.declared.refusal.Refusal.{Refusal}
 use Rattle.chip_main.specs.Program.{fault_in, limit_of, script_in, script_limit}
 use Rattle.chip_main.specs.Verdict.{form_fault, report_limit, verdict_of}
@@ -59,6 +59,7 @@ asked_needs (to_assemble file) = program_need file ∷ []
 asked_needs (to_disassemble file) = program_need file ∷ []
 asked_needs (to_measure file) = program_need file ∷ []
 asked_needs (to_verify report) = report_need report ∷ []
+asked_needs (to_bench number) = []
 
 -- words that are no request need nothing
 abbrev pub needs_of : Result Asked WordsFault → List Need

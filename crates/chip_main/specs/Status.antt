@@ -79,6 +79,12 @@ refusal_status (refusal.Report fault) = Refused
 abbrev pub Telling : Type 0
 Telling = Result (Unit {0}) SinkStop
 
+-- of a run that is told by a text, as far as it was written
+abbrev pub told_status : RunRecord → Telling → Status
+told_status run (Ok _) = run_status run
+told_status run (Err sink.Failed) = untold_ending_status run.ending
+told_status run (Err sink.NoMemory) = NoMemory
+
 -- of a command that is only for a text on `out`
 abbrev pub text_status : Telling → Status
 text_status (Ok _) = Done

@@ -94,6 +94,17 @@ record_text run lies = concat (record_lines run lies)
 abbrev pub plain_text : PlainRecord → List ℕ
 plain_text run = concat (ending_line run.ending ∷ retired_line run.retired ∷ [])
 
+-- what is written of the run of a generated program: its number, how it ended, and the bytes that it printed
+abbrev pub number_line : ℕ → List ℕ
+number_line number = codes "number " ++ decimal number ++ codes "\n"
+
+abbrev pub summary_lines : ℕ → RunRecord → List ℕ → List (List ℕ)
+summary_lines number run printed = number_line number ∷ ending_line run.ending ∷ retired_line run.retired
+    ∷ hex_line (codes "output") printed ∷ []
+
+abbrev pub summary_text : ℕ → RunRecord → List ℕ → List ℕ
+summary_text number run printed = concat (summary_lines number run printed)
+
 -- the line of a file that doesn't have its form: the number and the name of the first rule that it breaks, and of an
 -- assembly text or a script the line where it does
 abbrev pub elf_fault_line : ElfFault → List ℕ

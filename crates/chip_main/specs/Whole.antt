@@ -8,7 +8,7 @@ use Rattle.sec_base.specs.Files.{FilesState}
 use Rattle.sec_base.specs.Sink.{SinkState}
 use Rattle.rv32_core.specs.Machine.{plain}
 use Rattle.rv32_core.specs.Follows.{IsWhole, ending_at}
-use Rattle.chip_words.specs.Request.{Asked, ExecutionAsked, FileAsked, asked_program, to_assemble, to_disassemble, to_measure, to_run, to_run_plain, to_verify}
+use Rattle.chip_words.specs.Request.{Asked, ExecutionAsked, FileAsked, asked_program, to_assemble, to_disassemble, to_measure, to_run, to_run_plain, to_verify, to_bench}
 use Rattle.chip_main.specs.declared.Done.{Done}
 use Rattle.chip_main.specs.World.{World}
 use Rattle.sec_base.specs.Program.{Program}
@@ -32,6 +32,7 @@ asked_input (to_assemble file) = None
 asked_input (to_disassemble file) = None
 asked_input (to_measure file) = None
 asked_input (to_verify report) = None
+asked_input (to_bench number) = None
 
 -- the script is that of the file that a run names, and there is none where none is named
 abbrev pub IsAskedScript : FilesState → Asked → Option (List ScriptLine) → Type 0
@@ -41,6 +42,7 @@ IsAskedScript files (to_assemble file) script = script ≡ None
 IsAskedScript files (to_disassemble file) script = script ≡ None
 IsAskedScript files (to_measure file) script = script ≡ None
 IsAskedScript files (to_verify report) script = script ≡ None
+IsAskedScript files (to_bench number) script = script ≡ None
 
 -- the files tell all that a request for a program needs, in its form: this program, this script and this input
 pub record Ready (asked : Asked) (files : FilesState) (program : Program) (script : Option (List ScriptLine)) (input : List ℕ) : Type 0 where
@@ -49,7 +51,7 @@ pub record Ready (asked : Asked) (files : FilesState) (program : Program) (scrip
   pub script_is : IsAskedScript files asked script
   pub input_is : IsInput files (asked_input asked) input
 
--- no write of what a request tells of itself failed; of a text nothing is told
+-- no write of what a request tells of itself failed; of a text, or of a generated program, nothing is told
 abbrev pub NoteFaultless : Asked → SinkState → SinkState → Type 0
 NoteFaultless (to_run asked) old new = ¬ (Rose old.faults new.faults)
 NoteFaultless (to_run_plain execution) old new = ¬ (Rose old.faults new.faults)
@@ -57,6 +59,7 @@ NoteFaultless (to_assemble file) old new = Unit {0}
 NoteFaultless (to_disassemble file) old new = Unit {0}
 NoteFaultless (to_measure file) old new = Unit {0}
 NoteFaultless (to_verify report) old new = ¬ (Rose old.faults new.faults)
+NoteFaultless (to_bench number) old new = Unit {0}
 
 -- no read failed, no write did whose failure the status tells, and no answer of a bus was false
 pub record Faultless (asked : Asked) (old new : World) (done : Done) : Type 0 where
@@ -78,6 +81,7 @@ whole_statuses (to_assemble file) program input = done_status ∷ NoMemory ∷ [
 whole_statuses (to_disassemble file) program input = done_status ∷ NoMemory ∷ []
 whole_statuses (to_measure file) program input = done_status ∷ NoMemory ∷ []
 whole_statuses (to_verify report) program input = []
+whole_statuses (to_bench number) program input = []
 
 -- the status that is due of a report with this verdict
 abbrev pub verdict_status : Option ReportError → Status

@@ -25,6 +25,8 @@ pub enum Course {
     Written(Result<(), SinkStop>),
     /// A report has another tag than the device gives.
     OtherTag,
+    /// A generated program ran on protected memory, over this bus, and its summary was written, as far as this says.
+    RanGenerated(RunRecord, RunBus, Result<(), SinkStop>),
 }
 
 impl Course {
@@ -41,6 +43,7 @@ impl Course {
             Course::RanPlain(run) => ending_status(run.ending),
             Course::Written(written) => text_status(*written),
             Course::OtherTag => Status::TagDiffers,
+            Course::RanGenerated(run, _, written) => told_status(run, *written),
         }
     }
 
@@ -55,6 +58,7 @@ impl Course {
             Course::RanPlain(run) => untold_ending_status(run.ending),
             Course::Written(written) => text_status(*written),
             Course::OtherTag => Status::WriteFault,
+            Course::RanGenerated(run, _, written) => told_status(run, *written),
         }
     }
 
@@ -64,7 +68,7 @@ impl Course {
         ensures bus { option_map (λ ran. ran.1) result ≡ course_bus self }
     {
         match self {
-            Course::Ran(run, bus) => Some((run, bus)),
+            Course::Ran(run, bus) | Course::RanGenerated(run, bus, _) => Some((run, bus)),
             Course::Refused(_)
             | Course::NoMemory
             | Course::RanPlain(_)
@@ -80,6 +84,17 @@ fn run_status(run: &RunRecord) -> Status
     match run.evidence {
         Some(_) => evidence_status(run.ending),
         None => ending_status(run.ending),
+    }
+}
+
+// The status of a run that is told by a text, as far as it was written.
+fn told_status(run: &RunRecord, written: Result<(), SinkStop>) -> Status
+    ensures { result ≡ spec.told_status run.now written }
+{
+    match written {
+        Ok(()) => run_status(run),
+        Err(SinkStop::Failed) => untold_ending_status(run.ending),
+        Err(SinkStop::NoMemory) => Status::NoMemory,
     }
 }
 

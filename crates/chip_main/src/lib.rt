@@ -15,6 +15,7 @@ ghost use Rattle.chip_main.specs.World.{world};
 mod course;
 mod device;
 mod evidence_lines;
+mod generated;
 mod perform;
 mod program;
 mod refusal;
@@ -22,6 +23,7 @@ mod report_fields;
 mod run_bus;
 mod status;
 mod stop;
+mod summary;
 mod taking;
 mod telling;
 #[cfg(test)]
@@ -61,6 +63,8 @@ pub struct Done {
 /// - `dis FILE` lists a program's instructions.
 /// - `measure FILE` tells a program's measurement.
 /// - `verify FILE` checks a report, and tells what it says.
+/// - `bench NUMBER` runs a generated program on protected memory, on the terms that `run` has by default, and sums up
+///   what it printed.
 ///
 /// But for `asm`, a program is an ELF file, or with `--flat` has the program's bytes and nothing else. `--levels L`
 /// says how large the memory is. Of `run` and `plain`, `--input FILE` names the program's input and `--steps N` how many

@@ -25,7 +25,7 @@ pub fn tell<N: Sink>(alloc: Global, course: &Course, note: &mut N) -> Result<(),
 {
     match course {
         Course::Refused(refusal) => tell_refusal(alloc, refusal, note),
-        Course::NoMemory | Course::Written(_) => Ok(()),
+        Course::NoMemory | Course::Written(_) | Course::RanGenerated(..) => Ok(()),
         Course::Ran(run, bus) => tell_run(alloc, run, bus.lies(), note),
         Course::RanPlain(run) => tell_plain(alloc, run, note),
         Course::OtherTag => write_line(note, "report tag differs\n"),
@@ -150,7 +150,8 @@ fn write_line<N: Sink>(note: &mut N, line: &str) -> Result<(), SinkStop>
     write_all(note, line.as_bytes())
 }
 
-fn ending_line(alloc: Global, ending: Ending) -> Result<String, AllocError>
+/// How a run ended.
+pub fn ending_line(alloc: Global, ending: Ending) -> Result<String, AllocError>
     ensures { IfOk result (λ line. string_bytes line ≡ spec.ending_line ending) }
 {
     format!(in alloc; "{ending}\n")

@@ -5,6 +5,7 @@ mod assembly;
 mod attacks;
 mod files;
 mod gallery;
+mod generated;
 mod reports;
 
 use super::{Done, RunBus, run_words};

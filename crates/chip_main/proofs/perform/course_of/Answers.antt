@@ -1,7 +1,9 @@
 use Rattle.std.proofs.lemmas.Result.{err_from_is_err_and}
+use Rattle.chip_words.specs.Request.{to_bench}
 use Rattle.chip_words.specs.Words.{file_asked, run_asked}
 use Rattle.chip_main.specs.Texts.{elf_file, listing, measurement_line}
-use Rattle.chip_main.proofs.Courses.{came_refused, came_without_memory, writes_of}
+use Rattle.std.proofs.Common.{Ok, refl}
+use Rattle.chip_main.proofs.Courses.{came_refused, came_unread, came_without_memory, writes_of}
 use Rattle.chip_main.proofs.DeviceRuns.{opening_is}
 use Rattle.chip_main.proofs.perform.course_of.Goals as goal
 
@@ -71,3 +73,17 @@ returns-in_ok-image-in-Measure-clause-came g c =
     let read = c.in_ok-image-in-Measure.ensures in
     rw (c.in_ok-asked.ensures.taken, c.in-Measure.is)
     (writes_of (file_asked c.in-Measure.file) measurement_line read.taken.0 c.in_ok-image-in-Measure.image _ _ _ _ _ read.taken.1 read.taken.2 read.asked c.write_measurement.ensures.told)
+
+pub returns-in_err-run-in-Bench-clause-stopped : goal.returns-in_err-run-in-Bench-clause-stopped
+returns-in_err-run-in-Bench-clause-stopped g c =
+    let p = err_from_is_err_and c.from_residual-in_err-run-in-Bench.result c.from_residual-in_err-run-in-Bench.ensures.1 in
+    rw (p.1, p.2, c.in_ok-asked.ensures.taken, c.in-Bench.is) (came_unread (Ok (to_bench c.in-Bench.number)) _, refl)
+
+pub returns-in_ok-run-in-Bench-clause-came : goal.returns-in_ok-run-in-Bench-clause-came
+returns-in_ok-run-in-Bench-clause-came g c =
+    rw (c.in_ok-asked.ensures.taken, c.in-Bench.is) (record {
+      asked = refl;
+      printed = c.in_ok-run-in-Bench.printed;
+      runs = c.in_ok-run-in-Bench.ensures.ran;
+      written = rw c.as_slice-in-Bench.ensures at c.write_summary-written.ensures.told;
+    })

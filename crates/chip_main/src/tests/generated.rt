@@ -1,0 +1,84 @@
+// Generated programs. What each prints is from an independent model in Python.
+use super::{RUN, check, check_usage, ending, file, make_call};
+use crate::Done;
+use sec_base::{Ending, MemoryFiles};
+use std::process::Abort;
+use std::test::Fail;
+use workload_gen::make;
+
+// The number of a program, what is written of its run, and its exit code.
+const PROGRAMS: [(&str, &[u8], u32); 3] = [
+    (
+        "0",
+        b"number 0\nhalted 3\nretired 561533\noutput 03000000\n",
+        3,
+    ),
+    (
+        "1",
+        b"number 1\nhalted 51\nretired 561533\noutput 333a2b37\n",
+        51,
+    ),
+    (
+        "4294967295",
+        b"number 4294967295\nhalted 214\nretired 561533\noutput d6518576\n",
+        214,
+    ),
+];
+
+#[test]
+fn generated_programs_are_summed_up(rt: HostRuntime) -> Result<(), Fail> {
+    for (number, text, code) in PROGRAMS {
+        let mut files = MemoryFiles::new(rt.alloc(), &[])?;
+        let call = make_call(rt.alloc(), &["chip", "bench", number], &mut files, &[], &[])?;
+        check(&rt, &call, text, b"", 0);
+        assert_eq!(rt; ending(&call.done), Some(Ending::Halted(code)));
+        assert!(rt; call.done.bus.is_some());
+        assert_eq!(rt; call.done.lies, 0);
+    }
+    Ok(())
+}
+
+fn report(done: &Done) -> Option<[u8; 158]> {
+    match &done.run {
+        Some(run) => run.report,
+        None => None,
+    }
+}
+
+// A run of the same bytes that names no option has the same report: the defaults of the two are the same.
+#[test]
+fn generated_programs_run_on_the_defaults(rt: HostRuntime) -> Result<(), Fail> {
+    let image = make(rt.alloc(), 1)?;
+    let segment = image.segments.get(0).ok_or("no segment")?;
+    let mut files = file(rt.alloc(), segment.bytes.as_slice(), &[])?;
+    let benched = make_call(rt.alloc(), &["chip", "bench", "1"], &mut files, &[], &[])?;
+    let run = make_call(rt.alloc(), &RUN, &mut files, &[], &[])?;
+    assert!(rt; report(&run.done).is_some());
+    assert_eq!(rt; report(&benched.done), report(&run.done));
+    Ok(())
+}
+
+// Its second line can't be written; nothing is told of it.
+#[test]
+fn a_fault_of_out_cuts_the_summary(rt: HostRuntime) -> Result<(), Fail> {
+    let mut files = MemoryFiles::new(rt.alloc(), &[])?;
+    let call = make_call(rt.alloc(), &["chip", "bench", "0"], &mut files, &[2], &[1])?;
+    check(&rt, &call, b"number 0\n", b"", 9);
+    assert_eq!(rt; ending(&call.done), Some(Ending::Halted(3)));
+    Ok(())
+}
+
+const OTHER_NUMBERS: [&[&str]; 4] = [
+    &["chip", "bench"],
+    &["chip", "bench", "4294967296"],
+    &["chip", "bench", "-1"],
+    &["chip", "bench", "0", "--flat"],
+];
+
+#[test]
+fn other_numbers_are_usage(rt: HostRuntime) -> Result<(), Fail> {
+    for words in OTHER_NUMBERS {
+        check_usage(&rt, rt.alloc(), words)?;
+    }
+    Ok(())
+}
