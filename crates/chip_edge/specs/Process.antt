@@ -1,5 +1,5 @@
 -- What a process does with its words.
-use Rattle.std.specs.Prelude.{◌≡◌, ◌≤◌, ◌⊎◌, [], List, ℕ, None, codes}
+use Rattle.std.specs.Prelude.{◌≡◌, ◌≤◌, ◌⊎◌, [], List, ℕ, None, IfSome, codes}
 use Rattle.sec_base.specs.Files.{FilesState}
 use Rattle.sec_base.specs.Sink.{GainsFront, IsSilent, SinkState}
 use Rattle.chip_words.specs.Request.{request_of}
@@ -7,7 +7,8 @@ use Rattle.chip_main.specs.declared.Done.{Done}
 use Rattle.chip_main.specs.declared.status.Status.TheVariants.{NoMemory, Usage}
 use Rattle.chip_main.specs.Status.{code_of}
 use Rattle.chip_main.specs.World.{world}
-use Rattle.chip_main.specs.Call.{GivesAsked, SaysStatus}
+use Rattle.chip_main.specs.Buses.{LiesByScript, lies_of, script_followed}
+use Rattle.chip_main.specs.Call.{GivesAsked, GivesDue, SaysStatus}
 use Rattle.chip_main.specs.Causes.{AsksFront}
 use Rattle.chip_main.specs.Needs.{needs_of}
 
@@ -15,13 +16,18 @@ use Rattle.chip_main.specs.Needs.{needs_of}
 abbrev pub fresh_files : FilesState
 fresh_files = record { held = None; faults = 0; taken = 0; asked = [] }
 
--- what these words ask for was done: results went to `out` and all else to `note`, and the status is the call's
+-- what these words ask for was done: results went to `out` and all else to `note`, and the status is the call's. False
+-- answers of its bus come of the script that the bus follows.
 pub record IsCall (words : List (List ℕ)) (out out' note note' : SinkState) (status : ℕ) : Type 0 where
   pub files : FilesState
   pub done : Done
   pub status_is : status ≡ done.status
   pub says : SaysStatus (request_of words) (world fresh_files out note) (world files out' note') done
   pub gives : GivesAsked (request_of words) (world fresh_files out note) (world files out' note') done
+  pub due : GivesDue (request_of words) (world fresh_files out note) (world files out' note') done
+  pub lies : done.lies ≡ lies_of done.bus
+  pub by_script : IfSome done.bus LiesByScript
+  pub honest : script_followed done.bus ≡ [] → done.lies ≡ 0
   pub asks : AsksFront (needs_of (request_of words)) fresh_files files
   pub out_faults : out.faults ≤ out'.faults
   pub note_faults : note.faults ≤ note'.faults
