@@ -1,10 +1,11 @@
 #!/usr/bin/env python3
-"""Runs programs by `plain` and by `run` in memories of each size, and prints a table of time, accesses and tags.
+"""Runs programs with and without protection, in memories of each size, and prints a table of time, accesses and tags.
 
-One goes round a loop that loads a word, adds to it and stores it, in 128 lines in turn, 127 times each, in memories of
-1 to 6 levels. One is the generated program of the crate workload_gen for the number 0, at 4 levels. How many accesses
-`run` makes is counted here, apart from the chip, from what the programs load and store (bench/README.md, "Accesses and
-tags"). Each access computes one tag, an HMAC-SHA-256. Of several tries the one with the least processor time counts.
+One goes round a loop that loads a word, adds to it and stores it, in 128 lines in turn, 127 times each. It is run by
+`plain` and by `run`, in memories of 1 to 6 levels. One is the generated program of the number 0, at 4 levels. It is run
+by `bench 0`, and as an assembly text by `plain`. How many accesses a run on protected memory makes is counted here,
+apart from the chip, from what the programs load and store (bench/README.md, "Accesses and tags"). Each access computes
+one tag, an HMAC-SHA-256. Of several tries the one with the least processor time counts.
 
 With --plot it runs the loop with budgets from a tenth of its instructions to all of them, too, and draws
 bench/sizes.svg: seconds over instructions, a line for each size.
@@ -122,16 +123,16 @@ def usage():
     return used.ru_utime + used.ru_stime
 
 
-def seconds(words, told):
-    """The processor's seconds of a run that is told so."""
+def seconds(words, told, printed=None):
+    """The processor's seconds of a run that is told so, and that prints this text, where one is given."""
     times = []
     for _ in range(TRIES):
         begun = usage()
-        done = subprocess.run([CHIP] + words, capture_output=True, text=True)
+        done = subprocess.run([CHIP] + words, stdout=subprocess.PIPE, stderr=subprocess.PIPE)
         times.append(usage() - begun)
-        lines = [line for line in done.stderr.splitlines() if not line.startswith("chip: ")]
-        if lines[: len(told)] != told:
-            sys.exit(f"{words}: status {done.returncode}, {lines}")
+        lines = [line for line in done.stderr.decode().splitlines() if not line.startswith("chip: ")]
+        if lines[: len(told)] != told or printed not in (None, done.stdout.decode()):
+            sys.exit(f"{words}: status {done.returncode}, {done.stdout}, {lines}")
     return min(times)
 
 
@@ -147,7 +148,8 @@ def table(loop, generated):
         row("`run`", levels, RETIRED, taken, loop_accesses(levels))
     told = ["halted 3", f"retired {GENERATED_RETIRED}"]
     row("`plain`, generated", 4, GENERATED_RETIRED, seconds(["plain", generated], told), None)
-    row("`run`, generated", 4, GENERATED_RETIRED, seconds(["run", generated], told), generated_accesses(0))
+    summary = "\n".join(["number 0", *told, "output 03000000", ""])
+    row("`bench 0`", 4, GENERATED_RETIRED, seconds(["bench", "0"], [], summary), generated_accesses(0))
 
 
 def row(command, levels, retired, taken, accesses):
