@@ -1,6 +1,6 @@
 use Rattle.bus_model.specs.HonestBus.{honest_history}
 use Rattle.page_reencrypt.proofs.Replays.{new_and_lied_out}
-use Rattle.page_reencrypt.proofs.tests.replayed.Goals as goal
+use Rattle.page_reencrypt.proofs.tests.replays.replaying.Goals as goal
 
 pub boot-lines-requires-clause-nothing_written : goal.boot-lines-requires-clause-nothing_written
-boot-lines-requires-clause-nothing_written c = new_and_lied_out _ (honest_history c.in_ok-new.field-0) c.in_ok-new.ensures
+boot-lines-requires-clause-nothing_written c = new_and_lied_out _ (honest_history c.in_ok-bus.bus.bus) c.in_ok-bus.ensures

@@ -4,7 +4,7 @@ use Rattle.sec_base.specs.declared.place.Place.TheVariants.{Line}
 use Rattle.bus_model.specs.HonestBus.{honest_history}
 use Rattle.bus_model.proofs.LieSteps.{if_err}
 use Rattle.page_reencrypt.proofs.Replays.{any_write, lied_out}
-use Rattle.page_reencrypt.proofs.tests.ReplayBusBus.write_data.Goals as goal
+use Rattle.page_reencrypt.proofs.tests.replay_bus.ReplayBusBus.write_data.Goals as goal
 
 pub returns-in_err-write_data-clause-err : goal.returns-in_err-write_data-clause-err
 returns-in_err-write_data-clause-err c = if_err c.from_residual.result (ap lied_out c.in_err-write_data.ensures.err)

@@ -1,0 +1,72 @@
+// How many accesses calls make.
+use super::taggers::SomeBytes;
+use super::{Memory, booted};
+use sec_base::Place;
+use std::alloc::Global;
+use std::process::Abort;
+use std::test::Fail;
+
+// How many messages were made and how many accesses there were, from boot on to so many writes and then reads of line 5.
+fn made_and_accesses(
+    rt: &impl Abort,
+    alloc: Global,
+    levels: u8,
+    writes: u32,
+    reads: u32,
+) -> Result<(u64, u64), Fail> {
+    let mut memory = booted(alloc, SomeBytes, levels, u64::MAX, Place::Line(0), 0, 0)?;
+    assert_eq!(rt; memory.wear(rt, 5, writes, 1), Ok(()));
+    for _ in 0..reads {
+        assert!(rt; memory.read(rt, 5).is_ok());
+    }
+    let (account, bus) = memory.finish();
+    Ok((account.made.len(), bus.asked()))
+}
+
+// A tree of L levels has a node for the top and four below each: boot writes 5, 21 or 341. A read of a line that was never
+// written reads the path of L + 1 nodes. A write reads that path twice and, but for the counter block, again, and it writes
+// the path and the line: 4 L + 4 accesses and L + 2 messages.
+#[test]
+fn accesses_are_those_of_paths_and_lines(rt: HostRuntime) -> Result<(), Fail> {
+    let rows = [
+        (1, 0, 0, 5, 5),
+        (1, 0, 1, 5, 5 + 2),
+        (1, 1, 0, 5 + 3, 5 + 8),
+        (1, 1, 1, 5 + 3, 5 + 8 + 3),
+        (1, 2, 2, 5 + 6, 5 + 16 + 6),
+        (2, 0, 0, 21, 21),
+        (2, 0, 1, 21, 21 + 3),
+        (2, 1, 0, 21 + 4, 21 + 12),
+        (2, 1, 1, 21 + 4, 21 + 12 + 4),
+        (4, 0, 0, 341, 341),
+        (4, 0, 1, 341, 341 + 5),
+        (4, 1, 0, 341 + 6, 341 + 20),
+        (4, 1, 1, 341 + 6, 341 + 20 + 6),
+    ];
+    for (levels, writes, reads, made, accesses) in rows {
+        assert_eq!(rt;
+            made_and_accesses(&rt, rt.alloc(), levels, writes, reads)?,
+            (made, accesses),
+            "levels {levels}, writes {writes}, reads {reads}"
+        );
+    }
+    Ok(())
+}
+
+// The first overflow of a page where no other line was written writes 64 lines. The second reads the 63 others too.
+#[test]
+fn an_overflow_reads_a_line_once_at_most(rt: HostRuntime) -> Result<(), Fail> {
+    let rows = [
+        (127, 5 + 127 * 3, 5 + 127 * 8),
+        (128, 5 + 127 * 3 + 66, 5 + 127 * 8 + 7 + 64),
+        (256, 5 + 254 * 3 + 2 * 66, 5 + 254 * 8 + 7 + 64 + 7 + 127),
+    ];
+    for (writes, made, accesses) in rows {
+        assert_eq!(rt;
+            made_and_accesses(&rt, rt.alloc(), 1, writes, 0)?,
+            (made, accesses),
+            "writes {writes}"
+        );
+    }
+    Ok(())
+}
