@@ -1,0 +1,4 @@
+pub mod Ways
+pub mod Sets
+pub mod Listed
+pub mod Calls

@@ -1,0 +1,2 @@
+pub mod CacheSet
+pub mod Cache
