@@ -1,0 +1,180 @@
+-- What calls make of a cache of lines.
+use Rattle.std.proofs.Common.{◌≡◌, ◌≢◌, ◌⊎◌, inl, inr, ℕ, ◌*◌, List, length, Bool, true, false, Option, Some, None, IsSome, is_some, Contains, Result, Ok, Err, OnOk, OnErr, refl, sym, ◌∙◌, ap, subst, arith}
+use Rattle.std.specs.Option.{option_map, option_or}
+use Rattle.std.proofs.lemmas.Bool.{true≢false}
+use Rattle.std.proofs.lemmas.Option.{none-some, same_Some}
+use Rattle.sec_base.specs.Lines.{line_at, with_line}
+use Rattle.sec_base.specs.declared.stop.MemStop.{MemStop}
+use Rattle.cache_set.specs.declared.way.Way.{Way}
+use Rattle.cache_set.specs.CacheSet.{touched}
+use Rattle.cache_set.specs.Cache.{IsCache, places, set_at, victim_for, way_at, with_set}
+use Rattle.cache_set.proofs.Listed.{found_at, listed_at}
+use Rattle.line_cache.specs.LineCache.{AreClean, AreCopies, IsLeft, IsMiss, IsStep, LineCacheView, brought, brought_if, contents_over, line_sets, with_new, with_room}
+use Rattle.line_cache.specs.WriteBack.{IsGone, IsGoneIf, IsWritten, written, written_if}
+use Rattle.line_cache.proofs.Lines.{clean_part, clean_written, line_written, over_gone, over_written, part_gone, same_or_not}
+
+-- neither stopped
+pub none_of_both : (first later : Option MemStop) → option_or first later ≡ None → (first ≡ None) × (later ≡ None)
+none_of_both None later h = (refl, h)
+none_of_both (Some stop) later h = grind arith
+
+some_not : (found : Option Way) → IsSome found → found ≡ None → ⊥
+some_not None s none = true≢false (sym s)
+some_not (Some way) s none = true≢false (ap (λ (f : Option Way). is_some f) none)
+
+module _ (lines : List (List Way)) (is : IsCache line_sets lines) (line : ℕ) where
+  -- a line that is held has a way
+  pub way_held : Contains (places lines) line → IsSome (way_at lines line)
+  way_held c = found_at line_sets lines line is c
+
+  -- and where it has none, it is not held
+  pub not_held : way_at lines line ≡ None → ¬ (Contains (places lines) line)
+  not_held none c = some_not (way_at lines line) (way_held c) none
+
+  -- a held line may be one of those before
+  pub held_before : (before : List (List Way)) → (way_at lines line ≡ way_at before line) ⊎ (way_at lines line ≡ None) → Contains (places lines) line → Contains (places before) line
+  held_before before (inl same) c = listed_at before line (subst IsSome same (way_held c))
+  held_before before (inr none) c = absurd (not_held none c)
+
+-- a touch is all that a held line makes of the ways
+brought_held_if : (found : Option Way) (lines : List (List Way)) (line : ℕ) (copy : List ℕ) → IsSome found → with_set lines line (touched line (set_at lines line)) ≡ brought_if found lines line copy
+brought_held_if None lines line copy s = absurd (true≢false (sym s))
+brought_held_if (Some way) lines line copy s = refl
+
+pub brought_held : (lines : List (List Way)) (line : ℕ) (copy : List ℕ) → IsSome (way_at lines line) → with_set lines line (touched line (set_at lines line)) ≡ brought lines line copy
+brought_held lines line copy s = brought_held_if (way_at lines line) lines line copy s
+
+-- the way that goes out, and what the store has then
+module _ (count : ℕ) (stored stored' : List ℕ) (lines lines' : List (List Way)) (way : Way) (long : length stored ≡ 64 * count) (copies : AreCopies count lines) (is : way_at lines way.place ≡ Some way) (put : stored' ≡ written way stored) where
+  -- where its write stops, it stays
+  pub contents_written : contents_over stored' count lines ≡ contents_over stored count lines
+  contents_written = ap (λ (bytes : List ℕ). contents_over bytes count lines) put
+      ∙ over_written stored count lines way long (copies.inside way.place way is) (copies.whole way.place way is) is
+
+  module _ (clean : AreClean stored lines) (none : way_at lines' way.place ≡ None) (others : (other : ℕ) → other ≢ way.place → way_at lines' other ≡ way_at lines other) where
+    pub contents_gone : contents_over stored' count lines' ≡ contents_over stored count lines
+    contents_gone =
+        over_gone stored' count lines lines' way.place way is none
+        (ap (λ (bytes : List ℕ). line_at bytes way.place) put
+        ∙ line_written stored count way long (copies.inside way.place way is) (copies.whole way.place way is) (λ unmarked. clean way.place way is unmarked)) others
+        ∙ contents_written
+
+    pub clean_gone : AreClean stored' lines'
+    clean_gone = clean_part stored' lines lines' (part_gone lines lines' way.place none others)
+        (subst (λ (bytes : List ℕ). AreClean bytes lines) (sym put) (clean_written stored count lines way long copies is clean))
+
+-- a miss, from its two parts
+module _ {S : Type 0} (stopped_of : S → Option MemStop) (read_moved write_moved : S → ℕ → S → Type 0) where
+  gone_then_read : (changed : Bool) (before middle after : S) (place line : ℕ) → stopped_of middle ≡ stopped_of before →
+      IsGoneIf write_moved changed place before middle → read_moved middle line after →
+      IsLeft stopped_of read_moved write_moved changed before place line after
+  gone_then_read false before middle after place line goes gone read = subst (λ (s : S). read_moved s line after) gone read
+  gone_then_read true before middle after place line goes gone read = inr (middle, gone, goes, read)
+
+  pub missed : (victim : Option Way) (before middle after : S) (line : ℕ) → stopped_of middle ≡ stopped_of before →
+      IsGone write_moved victim before middle → read_moved middle line after → IsMiss stopped_of read_moved write_moved victim before line after
+  missed None before middle after line goes gone read = subst (λ (s : S). read_moved s line after) gone read
+  missed (Some way) before middle after line goes gone read = gone_then_read way.changed before middle after way.place line goes gone read
+
+  stopped_if : (changed : Bool) (before after : S) (place line : ℕ) → changed ≡ true → write_moved before place after → (stopped_of before ≡ None → stopped_of after ≢ None) →
+      IsLeft stopped_of read_moved write_moved changed before place line after
+  stopped_if false before after place line marked moved stops = absurd (true≢false (sym marked))
+  stopped_if true before after place line marked moved stops = inl (moved, stops)
+
+  pub missed_in_part : (victim : Option Way) (before after : S) (line : ℕ) → IsWritten write_moved victim before after → (stopped_of before ≡ None → stopped_of after ≢ None) →
+      IsMiss stopped_of read_moved write_moved victim before line after
+  missed_in_part None before after line gone stops = absurd gone
+  missed_in_part (Some way) before after line gone stops = stopped_if way.changed before after way.place line gone.0 gone.1 stops
+
+-- what is always so is so of an answer
+pub on_ok : {A E : Type 0} (answer : Result A E) (P : Type 0) → P → OnOk answer P
+on_ok (Ok x) P p = p
+on_ok (Err e) P p = tt
+
+pub on_err : {A E : Type 0} (answer : Result A E) (P : Type 0) → P → OnErr answer P
+on_err (Ok x) P p = tt
+on_err (Err e) P p = p
+
+pub over_equal : (stored stored' : List ℕ) (count count' : ℕ) (lines lines' : List (List Way)) → stored' ≡ stored → count' ≡ count → lines' ≡ lines →
+    contents_over stored' count' lines' ≡ contents_over stored count lines
+over_equal stored stored' count count' lines lines' e f h =
+    ap (λ (bytes : List ℕ). contents_over bytes count' lines') e
+    ∙ (ap (λ (n : ℕ). contents_over stored n lines') f ∙ ap (contents_over stored count) h)
+
+-- whether a write that stops was done or not, the contents stay
+pub kept_in_part : (count : ℕ) (stored stored' : List ℕ) (lines : List (List Way)) (way : Way) → length stored ≡ 64 * count → AreCopies count lines → way_at lines way.place ≡ Some way →
+    (stored' ≡ stored) ⊎ (stored' ≡ written way stored) → contents_over stored' count lines ≡ contents_over stored count lines
+kept_in_part count stored stored' lines way long copies is (inl same) = ap (λ (bytes : List ℕ). contents_over bytes count lines) same
+kept_in_part count stored stored' lines way long copies is (inr put) = contents_written count stored stored' lines lines way long copies is put
+
+pub written_not : (way : Way) (stored : List ℕ) → way.changed ≡ false → written way stored ≡ stored
+written_not way stored unmarked = ap (λ (b : Bool). written_if b way stored) unmarked
+
+pub written_so : (way : Way) (stored : List ℕ) → way.changed ≡ true → written way stored ≡ with_line stored way.place way.copy
+written_so way stored marked = ap (λ (b : Bool). written_if b way stored) marked
+
+-- each way is as before or gone
+pub less_gone : (lines lines' : List (List Way)) (place : ℕ) → way_at lines' place ≡ None → ((other : ℕ) → other ≢ place → way_at lines' other ≡ way_at lines other) →
+    (other : ℕ) → (way_at lines' other ≡ way_at lines other) ⊎ (way_at lines' other ≡ None)
+less_gone lines lines' place none others other = elim (same_or_not other place) [
+  | inl here ↦ inr (ap (way_at lines') here ∙ none)
+  | inr apart ↦ inl (others other apart)
+]
+
+pub both_none : (first later : Option MemStop) → first ≡ None → later ≡ None → option_or first later ≡ None
+both_none first later e f = ap (λ (s : Option MemStop). option_or s later) e ∙ f
+
+-- a stop is kept
+kept_stop : (first later : Option MemStop) (stop : MemStop) → option_or (option_or first (Some stop)) later ≡ None → ⊥
+kept_stop None later stop h = none-some stop (sym h)
+kept_stop (Some early) later stop h = none-some early (sym h)
+
+pub stop_kept : (first kept later : Option MemStop) (stop : MemStop) → kept ≡ option_or first (Some stop) → option_or kept later ≡ None → ⊥
+stop_kept first kept later stop e h = kept_stop first later stop (ap (λ (s : Option MemStop). option_or s later) (sym e) ∙ h)
+
+pub stop_first : (first kept later : Option MemStop) (stop : MemStop) → kept ≡ option_or first (Some stop) → first ≡ None → option_or kept later ≡ Some stop
+stop_first first kept later stop e none = ap (λ (s : Option MemStop). option_or s later) (e ∙ ap (λ (s : Option MemStop). option_or s (Some stop)) none)
+
+pub brought_missed : (lines : List (List Way)) (line : ℕ) (copy : List ℕ) → way_at lines line ≡ None → with_new (with_room lines line) line copy ≡ brought lines line copy
+brought_missed lines line copy none = ap (λ (found : Option Way). brought_if found lines line copy) (sym none)
+
+module _ {S : Type 0} (stopped_of : S → Option MemStop) (read_moved write_moved : S → ℕ → S → Type 0) (before after : LineCacheView S) (line : ℕ) (was : IsCache line_sets before.lines) (is : IsCache line_sets after.lines) where
+  -- a line that is held
+  pub step_hit : IsSome (way_at before.lines line) → after.store ≡ before.store → ((other : ℕ) → way_at after.lines other ≡ way_at before.lines other) →
+      IsStep stopped_of read_moved write_moved before line after
+  step_hit there stays same = record {
+    hit = λ c. stays;
+    miss = λ out. absurd (out (listed_at before.lines line there));
+    held = λ other c. inl (held_before after.lines is other before.lines (inl (same other)) c);
+  }
+
+  -- a line that is not
+  pub step_miss : way_at before.lines line ≡ None → IsMiss stopped_of read_moved write_moved (victim_for before.lines line) before.store line after.store →
+      ((other : ℕ) → other ≢ line → (way_at after.lines other ≡ way_at before.lines other) ⊎ (way_at after.lines other ≡ None)) →
+      IsStep stopped_of read_moved write_moved before line after
+  step_miss none missed_it less = record {
+    hit = λ c. absurd (not_held before.lines was line none c);
+    miss = λ out. missed_it;
+    held = λ other c. elim (same_or_not other line) [
+      | inl same ↦ inr same
+      | inr apart ↦ inl (held_before after.lines is other before.lines (less other apart) c)
+    ];
+  }
+
+-- the way of a copy
+pub way_of_copy : (found : Option Way) (copy : List ℕ) → option_map (λ (way : Way). way.copy) found ≡ Some copy → (way : Way) × (found ≡ Some way) × (way.copy ≡ copy)
+way_of_copy None copy h = absurd (none-some copy h)
+way_of_copy (Some way) copy h = (way, refl, same_Some way.copy copy h)
+
+-- a call that then changes the line's copy
+pub step_changed : {S : Type 0} (stopped_of : S → Option MemStop) (read_moved write_moved : S → ℕ → S → Type 0) (before after after' : LineCacheView S) (line : ℕ) →
+    IsCache line_sets after'.lines → IsStep stopped_of read_moved write_moved before line after → after'.store ≡ after.store →
+    ((other : ℕ) → other ≢ line → way_at after'.lines other ≡ way_at after.lines other) → IsStep stopped_of read_moved write_moved before line after'
+step_changed {S} stopped_of read_moved write_moved before after after' line is step stays others = record {
+  hit = λ c. stays ∙ step.hit c;
+  miss = λ out. subst (λ (s : S). IsMiss stopped_of read_moved write_moved (victim_for before.lines line) before.store line s) (sym stays) (step.miss out);
+  held = λ other c. elim (same_or_not other line) [
+    | inl same ↦ inr same
+    | inr apart ↦ step.held other (held_before after'.lines is other after.lines (inl (others other apart)) c)
+  ];
+}

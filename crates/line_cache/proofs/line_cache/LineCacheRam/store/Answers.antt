@@ -1,0 +1,113 @@
+use Rattle.std.proofs.Common.{rules, ◌≡◌, ◌∙◌, inl, ℕ, ◌*◌, ◌%◌, ◌/◌, List, Some, length, true, refl, sym, ap, subst}
+use Rattle.std.specs.Option.{option_map}
+use Rattle.std.proofs.lemmas.Bool.{true≢false}
+use Rattle.std.proofs.lemmas.Option.{same_Some}
+use Rattle.sec_base.specs.Lines.{line_at}
+use Rattle.sec_base.specs.Width.{with_number}
+use Rattle.sec_base.proofs.LineNumbers.{number_written}
+use Rattle.cache_set.specs.declared.way.Way.{Way}
+use Rattle.cache_set.specs.Cache.{copy_at, way_at}
+use Rattle.line_cache.specs.LineCache.{IsStep, LineCacheView, contents, contents_over, stopped, with_changed}
+use Rattle.line_cache.proofs.Lines.{clean_with, copies_with, over_changed, over_held}
+use Rattle.line_cache.proofs.Steps.{on_err, step_changed, way_of_copy}
+use Rattle.line_cache.proofs.line_cache.LineCacheRam.store.Goals as goal
+
+-- the line does not come
+
+pub returns-in_err-bring-clause-moved : goal.returns-in_err-bring-clause-moved
+returns-in_err-bring-clause-moved g c = (c.bring.new.self, c.in_err-bring.ensures.moved, refl)
+
+pub returns-in_err-bring-clause-hit : goal.returns-in_err-bring-clause-hit
+returns-in_err-bring-clause-hit g c = λ held. absurd (true≢false (sym (c.in_err-bring.ensures.hit held).0))
+
+pub returns-in_err-bring-clause-ways_left : goal.returns-in_err-bring-clause-ways_left
+returns-in_err-bring-clause-ways_left g c = on_err c.from_residual.result _ c.in_err-bring.ensures.ways_left
+
+pub returns-in_err-bring-clause-refused : goal.returns-in_err-bring-clause-refused
+returns-in_err-bring-clause-refused g c = λ still sound. on_err c.from_residual.result _ (inl (c.in_err-bring.ensures.contents still sound))
+
+pub returns-in_err-bring-clause-unchanged : goal.returns-in_err-bring-clause-unchanged
+returns-in_err-bring-clause-unchanged g c = λ still sound. on_err c.from_residual.result _ (c.in_err-bring.ensures.contents still sound)
+
+-- it came
+
+pub invariant_of-self : goal.invariant_of-self
+invariant_of-self g c =
+    let line = c.args.addr / 64 in
+    let way = way_of_copy (way_at c.self.inside.lines line) c.latest.result.now c.latest.ensures in
+    let copies = c.self.invariant.copies in
+    let changed : Way = record { place = line; changed = true; copy = c.write.new.bytes } in
+    let whole : length c.write.new.bytes ≡ 64 = search rules in
+    record {
+      some_memory = c.self.invariant.some_memory;
+      copies = copies_with (g.S.LineStore.extent c.self.inside.store) c.self.inside.lines c.change.new.self line changed c.change.ensures.cache
+          (copies.inside line way.0 way.1) whole c.change.ensures.changed c.change.ensures.same copies;
+      clean = λ still sound. clean_with (g.S.LineStore.contents c.self.inside.store) c.self.inside.lines c.change.new.self line changed
+          (λ unmarked. absurd (true≢false unmarked)) c.change.ensures.changed c.change.ensures.same (c.self.invariant.clean still sound);
+    }
+
+pub returns-clause-stored : goal.returns-clause-stored
+returns-clause-stored g c = λ still sound.
+    let line = c.args.addr / 64 in
+    let way = way_of_copy (way_at c.self.inside.lines line) c.latest.result.now c.latest.ensures in
+    let copies = c.self.invariant.copies in
+    let changed : Way = record { place = line; changed = true; copy = c.write.new.bytes } in
+    let whole : length c.write.new.bytes ≡ 64 = search rules in
+    let stored = g.S.LineStore.contents c.self.inside.store in
+    let count = g.S.LineStore.extent c.self.inside.store in
+    let over = contents_over stored count c.self.inside.lines in
+    let held : line_at (contents_over stored count c.self.inside.lines) line ≡ way.0.copy =
+    over_held stored count c.self.inside.lines line way.0 (copies.inside line way.0 way.1) way.1 (copies.whole line way.0 way.1) in
+    let sound_is : g.S.LineStore.sound c.bring.new.self.store = subst (λ (m : LineCacheView g.row.S.Denot). g.S.LineStore.sound m.store) c.self.view_is sound in
+    number_written over over (contents_over stored count c.change.new.self) c.latest.result.now c.write.new.bytes c.args.addr c.args.value c.args.width c.requires.aligned
+    (sym (held ∙ way.2)) refl c.write.ensures
+    (over_changed stored count c.self.inside.lines c.change.new.self line changed (copies.inside line way.0 way.1) whole c.change.ensures.changed c.change.ensures.same)
+    ∙ ap (λ (bytes : List ℕ). with_number bytes c.args.addr c.args.width c.args.value)
+    (ap (contents g.S.LineStore.contents g.S.LineStore.extent) c.self.view_is ∙ c.in_ok-bring.ensures.contents still sound_is)
+
+pub returns-clause-goes_on : goal.returns-clause-goes_on
+returns-clause-goes_on g c = ap (stopped g.S.LineStore.stopped) c.self.view_is ∙ c.in_ok-bring.ensures.goes_on
+
+pub returns-clause-extent : goal.returns-clause-extent
+returns-clause-extent g c = ap (λ (n : ℕ). 64 * n) (ap (λ (m : LineCacheView g.row.S.Denot). g.S.LineStore.extent m.store) c.self.view_is ∙ c.in_ok-bring.ensures.extent)
+
+pub returns-clause-lost : goal.returns-clause-lost
+returns-clause-lost g c = λ sound. c.in_ok-bring.ensures.lost (subst (λ (m : LineCacheView g.row.S.Denot). g.S.LineStore.sound m.store) c.self.view_is sound)
+
+pub returns-clause-moved : goal.returns-clause-moved
+returns-clause-moved g c =
+    let before : LineCacheView g.row.S.Denot = c.args.self.now in
+    let after : LineCacheView g.row.S.Denot = record { store = c.self.inside.store; lines = c.self.inside.lines; stop = c.self.inside.stop } in
+    let changed : LineCacheView g.row.S.Denot = record { store = c.self.inside.store; lines = c.change.new.self; stop = c.self.inside.stop } in (
+      changed,
+      step_changed g.S.LineStore.stopped g.S.LineStore.read_moved g.S.LineStore.write_moved before after changed (c.args.addr / 64) c.change.ensures.cache
+          (subst (λ (m : LineCacheView g.row.S.Denot). IsStep g.S.LineStore.stopped g.S.LineStore.read_moved g.S.LineStore.write_moved before (c.args.addr / 64) m) (sym c.self.view_is) c.in_ok-bring.ensures.moved)
+          refl c.change.ensures.same,
+      refl,
+    )
+
+pub returns-clause-hit : goal.returns-clause-hit
+returns-clause-hit g c = λ held.
+    let hit = c.in_ok-bring.ensures.hit held in (
+      refl,
+      ap (λ (m : LineCacheView g.row.S.Denot). m.store) c.self.view_is ∙ hit.1,
+      λ copy was.
+          let now : copy_at c.bring.new.self.lines (c.args.addr / 64) ≡ Some copy = ap (option_map (λ (way : Way). way.copy)) hit.2 ∙ was in
+          let same : c.latest.result.now ≡ copy = same_Some c.latest.result.now copy
+          (sym c.latest.ensures ∙ (ap (λ (m : LineCacheView g.row.S.Denot). copy_at m.lines (c.args.addr / 64)) c.self.view_is ∙ now)) in
+          ap (option_map (λ (way : Way). way.copy)) c.change.ensures.changed
+          ∙ ap Some (c.write.ensures ∙ ap (λ (bytes : List ℕ). with_number bytes (c.args.addr % 64) c.args.width c.args.value) same),
+    )
+
+pub returns-clause-ways : goal.returns-clause-ways
+returns-clause-ways g c =
+    let line = c.args.addr / 64 in
+    let copy : List ℕ = c.latest.result.now in
+    let is : copy_at c.bring.new.self.lines (c.args.addr / 64) ≡ Some c.latest.result.now =
+    ap (λ (m : LineCacheView g.row.S.Denot). copy_at m.lines (c.args.addr / 64)) (sym c.self.view_is) ∙ c.latest.ensures in (
+      copy,
+      c.change.ensures.after
+          ∙ (ap (λ (bytes : List ℕ). with_changed c.self.inside.lines line bytes) c.write.ensures
+          ∙ ap (λ (ways : List (List Way)). with_changed ways line (with_number copy (c.args.addr % 64) c.args.width c.args.value))
+          (ap (λ (m : LineCacheView g.row.S.Denot). m.lines) c.self.view_is ∙ c.in_ok-bring.ensures.ways copy is)),
+    )

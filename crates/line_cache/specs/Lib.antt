@@ -1,0 +1,3 @@
+pub mod LineCache
+pub mod Moving
+pub mod WriteBack

@@ -1,0 +1,121 @@
+-- A cache of lines over a store of lines.
+use Rattle.std.specs.Prelude.{◌≡◌, ◌≢◌, ℕ, ◌<◌, List, [], ◌∷◌, ◌++◌, length, take, replicate, Bool, true, false, Option, Some, None, ◌⊎◌, Contains}
+use Rattle.std.specs.Option.{option_or}
+use Rattle.sec_base.specs.Lines.{IsLineCount, joined_lines, line_at}
+use Rattle.sec_base.specs.declared.geometry.TheConstants.{LINE_LEN}
+use Rattle.sec_base.specs.declared.stop.MemStop.{MemStop}
+use Rattle.cache_set.specs.declared.way.Way.{Way}
+use Rattle.cache_set.specs.CacheSet.{touched, with_latest, without}
+use Rattle.cache_set.specs.Cache.{IsCache, new_cache, places, set_at, victim_for, way_at, with_set}
+
+-- the number of sets
+abbrev pub line_sets : ℕ
+line_sets = 64
+
+-- how many lines are held at most
+abbrev pub most_held : ℕ
+most_held = 128
+
+-- the store, the sets of ways with copies of its lines, and the first stop that a call answered
+pub record LineCacheView (S : Type 0) : Type 0 where
+  pub store : S
+  pub lines : List (List Way)
+  pub stop : Option MemStop
+
+-- over a store, nothing held
+abbrev pub new_lines : {S : Type 0} → S → LineCacheView S
+new_lines store = record { store = store; lines = new_cache line_sets; stop = None }
+
+-- the lines that the cache has a copy of
+abbrev pub held_lines : {S : Type 0} → LineCacheView S → List ℕ
+held_lines cache = places cache.lines
+
+-- as 64 bytes
+unfoldable pub whole_line : List ℕ → List ℕ
+whole_line bytes = take LINE_LEN (bytes ++ replicate LINE_LEN 0)
+
+-- the bytes of a line: its copy, where it is held, and else those of the store
+abbrev pub laid_over : Option Way → List ℕ → List ℕ
+laid_over None stored = whole_line stored
+laid_over (Some way) stored = whole_line way.copy
+
+-- the lines of a store with the held copies laid over
+abbrev pub contents_over : List ℕ → ℕ → List (List Way) → List ℕ
+contents_over stored count lines = joined_lines (λ line. laid_over (way_at lines line) (line_at stored line)) count
+
+-- the cache as a line comes that has no way: the way that goes out for it is gone
+abbrev pub room_if : Option Way → List (List Way) → List (List Way)
+room_if None lines = lines
+room_if (Some victim) lines = with_set lines victim.place (without victim.place (set_at lines victim.place))
+
+abbrev pub with_room : List (List Way) → ℕ → List (List Way)
+with_room lines line = room_if (victim_for lines line) lines
+
+-- a line is put in, with these bytes
+abbrev pub with_new : List (List Way) → ℕ → List ℕ → List (List Way)
+with_new lines line copy = with_set lines line (with_latest (record { place = line; changed = false; copy = copy }) (set_at lines line))
+
+-- the cache after a line was brought in: it is the most recently used one of its set
+abbrev pub brought_if : Option Way → List (List Way) → ℕ → List ℕ → List (List Way)
+brought_if None lines line copy = with_new (with_room lines line) line copy
+brought_if (Some way) lines line copy = with_set lines line (touched line (set_at lines line))
+
+abbrev pub brought : List (List Way) → ℕ → List ℕ → List (List Way)
+brought lines line copy = brought_if (way_at lines line) lines line copy
+
+-- and after it was then changed
+abbrev pub with_changed : List (List Way) → ℕ → List ℕ → List (List Way)
+with_changed lines line copy = with_set lines line (with_latest (record { place = line; changed = true; copy = copy }) (set_at lines line))
+
+-- each copy is of a line of the store, and whole
+pub record AreCopies (count : ℕ) (lines : List (List Way)) : Type 0 where
+  pub cache : IsCache line_sets lines
+  pub inside : (line : ℕ) (way : Way) → way_at lines line ≡ Some way → line < count
+  pub whole : (line : ℕ) (way : Way) → way_at lines line ≡ Some way → length way.copy ≡ 64
+
+-- a copy that was not changed is the store's line
+abbrev pub AreClean : List ℕ → List (List Way) → Type 0
+AreClean stored lines = (line : ℕ) (way : Way) → way_at lines line ≡ Some way → way.changed ≡ false → way.copy ≡ line_at stored line
+
+module _ {S : Type 0} (contents_of : S → List ℕ) (extent_of : S → ℕ) where
+  abbrev pub contents : LineCacheView S → List ℕ
+  contents cache = contents_over (contents_of cache.store) (extent_of cache.store) cache.lines
+
+module _ {S : Type 0} (stopped_of : S → Option MemStop) where
+  -- the first stop that a call answered, or the store's
+  abbrev pub stopped : LineCacheView S → Option MemStop
+  stopped cache = option_or cache.stop (stopped_of cache.store)
+
+-- what always holds: where the store can be relied on, and no call has stopped, the copies that were not changed are its
+-- lines
+pub record IsLineCache {S : Type 0} (contents_of : S → List ℕ) (extent_of : S → ℕ) (sound : S → Type 0) (stopped_of : S → Option MemStop) (cache : LineCacheView S) : Type 0 where
+  pub some_memory : IsLineCount (extent_of cache.store)
+  pub copies : AreCopies (extent_of cache.store) cache.lines
+  pub clean : stopped stopped_of cache ≡ None → sound cache.store → AreClean (contents_of cache.store) cache.lines
+
+module _ {S : Type 0} (stopped_of : S → Option MemStop) (read_moved write_moved : S → ℕ → S → Type 0) where
+  -- a line is written, and then, unless that stopped, another is read
+  abbrev pub IsWrittenThenRead : S → ℕ → ℕ → S → Type 0
+  IsWrittenThenRead before victim line after =
+      (write_moved before victim after × (stopped_of before ≡ None → stopped_of after ≢ None))
+      ⊎ ((middle : S) × write_moved before victim middle × (stopped_of middle ≡ stopped_of before) × read_moved middle line after)
+
+  abbrev pub IsLeft : Bool → S → ℕ → ℕ → S → Type 0
+  IsLeft false before victim line after = read_moved before line after
+  IsLeft true before victim line after = IsWrittenThenRead before victim line after
+
+  -- what a line that is not held makes of the store: the way that goes out for it is written, if it was changed
+  abbrev pub IsMiss : Option Way → S → ℕ → S → Type 0
+  IsMiss None before line after = read_moved before line after
+  IsMiss (Some victim) before line after = IsLeft victim.changed before victim.place line after
+
+  -- what a call by a line makes of a cache
+  pub record IsStep (before : LineCacheView S) (line : ℕ) (after : LineCacheView S) : Type 0 where
+    pub hit : Contains (held_lines before) line → after.store ≡ before.store
+    pub miss : ¬ (Contains (held_lines before) line) → IsMiss (victim_for before.lines line) before.store line after.store
+    pub held : (other : ℕ) → Contains (held_lines after) other → Contains (held_lines before) other ⊎ (other ≡ line)
+
+  -- calls by these lines led from one to the other
+  abbrev pub IsMoved : LineCacheView S → List ℕ → LineCacheView S → Type 0
+  IsMoved before [] after = after ≡ before
+  IsMoved before (line ∷ lines) after = (middle : LineCacheView S) × IsStep before line middle × IsMoved middle lines after

@@ -1,0 +1,33 @@
+-- The laws of a memory, for a cache of lines.
+use Rattle.std.proofs.Common.{◌≡◌, ℕ, ◌*◌, List, [], ◌∷◌, ◌++◌, length, Option, Some, None, subst, arith, length-append}
+use Rattle.std.proofs.lemmas.List.{length-replicate, length-take}
+use Rattle.sec_base.proofs.JoinedLines.{length-joined_lines}
+use Rattle.sec_base.specs.Lines.{line_at}
+use Rattle.sec_base.specs.declared.stop.MemStop.{MemStop}
+use Rattle.cache_set.specs.declared.way.Way.{Way}
+use Rattle.cache_set.specs.Cache.{way_at}
+use Rattle.line_cache.specs.LineCache.{LineCacheView, IsMoved, contents_over, laid_over, whole_line}
+
+pub length-whole_line : (bytes : List ℕ) → length (whole_line bytes) ≡ 64
+unfolding whole_line
+length-whole_line bytes = omega (arith, length-take {A = ℕ}, length-append {A = ℕ}, length-replicate {A = ℕ})
+
+length-laid_over : (found : Option Way) (stored : List ℕ) → length (laid_over found stored) ≡ 64
+length-laid_over None stored = length-whole_line stored
+length-laid_over (Some way) stored = length-whole_line way.copy
+
+pub length-line : (stored : List ℕ) (lines : List (List Way)) (line : ℕ) → length (laid_over (way_at lines line) (line_at stored line)) ≡ 64
+length-line stored lines line = length-laid_over (way_at lines line) (line_at stored line)
+
+pub length-contents_over : (stored : List ℕ) (count : ℕ) (lines : List (List Way)) → length (contents_over stored count lines) ≡ 64 * count
+length-contents_over stored count lines =
+    length-joined_lines (λ line. laid_over (way_at lines line) (line_at stored line)) count (length-line stored lines)
+
+module _ {S : Type 0} (stopped_of : S → Option MemStop) (read_moved write_moved : S → ℕ → S → Type 0) where
+  pub moved_on : (first second third : LineCacheView S) (before after : List ℕ) →
+      IsMoved stopped_of read_moved write_moved first before second → IsMoved stopped_of read_moved write_moved second after third →
+      IsMoved stopped_of read_moved write_moved first (before ++ after) third
+  moved_on first second third [] after same rest =
+      subst (λ (cache : LineCacheView S). IsMoved stopped_of read_moved write_moved cache after third) same rest
+  moved_on first second third (line ∷ before) after (middle, step, more) rest =
+      (middle, step, moved_on middle second third before after more rest)
