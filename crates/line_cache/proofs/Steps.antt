@@ -1,16 +1,17 @@
 -- What calls make of a cache of lines.
-use Rattle.std.proofs.Common.{◌≡◌, ◌≢◌, ◌⊎◌, inl, inr, ℕ, ◌*◌, List, length, Bool, true, false, Option, Some, None, IsSome, is_some, Contains, Result, Ok, Err, OnOk, OnErr, refl, sym, ◌∙◌, ap, subst, arith}
+use Rattle.std.proofs.Common.{◌≡◌, ◌≢◌, ◌⊎◌, inl, inr, ℕ, ◌+◌, ◌*◌, ◌≤◌, List, [], ◌∷◌, length, length-append, map, Bool, true, false, Option, Some, None, IsSome, is_some, Contains, Result, Ok, Err, IfOk, OnOk, OnErr, refl, sym, ◌∙◌, ap, subst, arith}
 use Rattle.std.specs.Option.{option_map, option_or}
+use Rattle.std.specs.Result.{result_err}
 use Rattle.std.proofs.lemmas.Bool.{true≢false}
 use Rattle.std.proofs.lemmas.Option.{none-some, same_Some}
 use Rattle.sec_base.specs.Lines.{line_at, with_line}
 use Rattle.sec_base.specs.declared.stop.MemStop.{MemStop}
 use Rattle.cache_set.specs.declared.way.Way.{Way}
-use Rattle.cache_set.specs.CacheSet.{touched}
-use Rattle.cache_set.specs.Cache.{IsCache, places, set_at, victim_for, way_at, with_set}
+use Rattle.cache_set.specs.CacheSet.{IsSet, touched}
+use Rattle.cache_set.specs.Cache.{AreSets, IsCache, copy_at, place_of, places, set_at, way_at, with_set}
 use Rattle.cache_set.proofs.Listed.{found_at, listed_at}
-use Rattle.line_cache.specs.LineCache.{AreClean, AreCopies, IsLeft, IsMiss, IsStep, LineCacheView, brought, brought_if, contents_over, line_sets, with_new, with_room}
-use Rattle.line_cache.specs.WriteBack.{IsGone, IsGoneIf, IsWritten, written, written_if}
+use Rattle.line_cache.specs.LineCache.{AreClean, AreCopies, IsMiss, IsMissed, IsStep, LineCacheView, brought, brought_if, contents_over, leaving, line_sets, most_held, with_new, with_room}
+use Rattle.line_cache.specs.WriteBack.{IsGone, IsWritten, written, written_if}
 use Rattle.line_cache.proofs.Lines.{clean_part, clean_written, line_written, over_gone, over_written, part_gone, same_or_not}
 
 -- neither stopped
@@ -64,27 +65,36 @@ module _ (count : ℕ) (stored stored' : List ℕ) (lines lines' : List (List Wa
         (subst (λ (bytes : List ℕ). AreClean bytes lines) (sym put) (clean_written stored count lines way long copies is clean))
 
 -- a miss, from its two parts
-module _ {S : Type 0} (stopped_of : S → Option MemStop) (read_moved write_moved : S → ℕ → S → Type 0) where
-  gone_then_read : (changed : Bool) (before middle after : S) (place line : ℕ) → stopped_of middle ≡ stopped_of before →
-      IsGoneIf write_moved changed place before middle → read_moved middle line after →
-      IsLeft stopped_of read_moved write_moved changed before place line after
-  gone_then_read false before middle after place line goes gone read = subst (λ (s : S). read_moved s line after) gone read
-  gone_then_read true before middle after place line goes gone read = inr (middle, gone, goes, read)
+module _ {S : Type 0} (read_moved : S → ℕ → Result (List ℕ) MemStop → S → Type 0) (write_moved : S → ℕ → List ℕ → Result (Unit {0}) MemStop → S → Type 0) where
+  gone_then_read : (found : Option Way) (before middle after : S) (line : ℕ) (answer : Result (List ℕ) MemStop) →
+      IsGone write_moved found before middle → read_moved middle line answer after → IsMiss read_moved write_moved found before line answer after
+  gone_then_read None before middle after line answer gone read = subst (λ (s : S). read_moved s line answer after) gone read
+  gone_then_read (Some way) before middle after line answer gone read = inr (middle, gone, read)
 
-  pub missed : (victim : Option Way) (before middle after : S) (line : ℕ) → stopped_of middle ≡ stopped_of before →
-      IsGone write_moved victim before middle → read_moved middle line after → IsMiss stopped_of read_moved write_moved victim before line after
-  missed None before middle after line goes gone read = subst (λ (s : S). read_moved s line after) gone read
-  missed (Some way) before middle after line goes gone read = gone_then_read way.changed before middle after way.place line goes gone read
+  gone_in_part : (found : Option Way) (before after : S) (line : ℕ) (stop : MemStop) →
+      IsWritten write_moved found stop before after → IsMiss read_moved write_moved found before line (Err stop) after
+  gone_in_part None before after line stop gone = absurd gone
+  gone_in_part (Some way) before after line stop gone = inl (stop, refl, gone)
 
-  stopped_if : (changed : Bool) (before after : S) (place line : ℕ) → changed ≡ true → write_moved before place after → (stopped_of before ≡ None → stopped_of after ≢ None) →
-      IsLeft stopped_of read_moved write_moved changed before place line after
-  stopped_if false before after place line marked moved stops = absurd (true≢false (sym marked))
-  stopped_if true before after place line marked moved stops = inl (moved, stops)
+  module _ (lines lines' : List (List Way)) (before after : S) (line : ℕ) where
+    pub missed : (middle : S) (answer : Result (List ℕ) MemStop) → IsGone write_moved (leaving lines line) before middle →
+        read_moved middle line answer after → IfOk answer (λ bytes. copy_at lines' line ≡ Some bytes) →
+        IsMissed read_moved write_moved lines before line (λ bytes. bytes) (result_err answer) lines' after
+    missed middle answer gone read there = record {
+      answer = answer;
+      miss = gone_then_read (leaving lines line) before middle after line answer gone read;
+      stops = refl;
+      copy = there;
+    }
 
-  pub missed_in_part : (victim : Option Way) (before after : S) (line : ℕ) → IsWritten write_moved victim before after → (stopped_of before ≡ None → stopped_of after ≢ None) →
-      IsMiss stopped_of read_moved write_moved victim before line after
-  missed_in_part None before after line gone stops = absurd gone
-  missed_in_part (Some way) before after line gone stops = stopped_if way.changed before after way.place line gone.0 gone.1 stops
+    pub missed_in_part : (stop : MemStop) → IsWritten write_moved (leaving lines line) stop before after →
+        IsMissed read_moved write_moved lines before line (λ bytes. bytes) (Some stop) lines' after
+    missed_in_part stop gone = record {
+      answer = Err stop;
+      miss = gone_in_part (leaving lines line) before after line stop gone;
+      stops = refl;
+      copy = tt;
+    }
 
 -- what is always so is so of an answer
 pub on_ok : {A E : Type 0} (answer : Result A E) (P : Type 0) → P → OnOk answer P
@@ -138,27 +148,45 @@ stop_first first kept later stop e none = ap (λ (s : Option MemStop). option_or
 pub brought_missed : (lines : List (List Way)) (line : ℕ) (copy : List ℕ) → way_at lines line ≡ None → with_new (with_room lines line) line copy ≡ brought lines line copy
 brought_missed lines line copy none = ap (λ (found : Option Way). brought_if found lines line copy) (sym none)
 
-module _ {S : Type 0} (stopped_of : S → Option MemStop) (read_moved write_moved : S → ℕ → S → Type 0) (before after : LineCacheView S) (line : ℕ) (was : IsCache line_sets before.lines) (is : IsCache line_sets after.lines) where
+-- two ways a set at most
+few_ways : (ways : List Way) → IsSet ways → length (map place_of ways) ≤ 2
+few_ways [] is = omega arith
+few_ways (way ∷ []) is = omega arith
+few_ways (way ∷ next ∷ []) is = omega arith
+few_ways (way ∷ next ∷ more ∷ ways) is = absurd is
+
+few_sets : (count index : ℕ) (sets : List (List Way)) → AreSets count index sets → length (places sets) ≤ 2 * length sets
+few_sets count index [] are = omega arith
+few_sets count index (ways ∷ sets) are =
+    omega (arith, few_ways ways are.0.set, few_sets count (index + 1) sets are.1, length-append (map place_of ways) (places sets))
+
+pub few_held : (lines : List (List Way)) → IsCache line_sets lines → length (places lines) ≤ most_held
+few_held lines is = omega (arith, few_sets line_sets 0 lines is.sets_are, is.counted)
+
+module _ {S : Type 0} (read_moved : S → ℕ → Result (List ℕ) MemStop → S → Type 0) (write_moved : S → ℕ → List ℕ → Result (Unit {0}) MemStop → S → Type 0) (before after : LineCacheView S) (line : ℕ) (was : IsCache line_sets before.lines) (is : IsCache line_sets after.lines) where
   -- a line that is held
   pub step_hit : IsSome (way_at before.lines line) → after.store ≡ before.store → ((other : ℕ) → way_at after.lines other ≡ way_at before.lines other) →
-      IsStep stopped_of read_moved write_moved before line after
+      IsStep read_moved write_moved before line after
   step_hit there stays same = record {
     hit = λ c. stays;
     miss = λ out. absurd (out (listed_at before.lines line there));
     held = λ other c. inl (held_before after.lines is other before.lines (inl (same other)) c);
+    few = few_held after.lines is;
   }
 
   -- a line that is not
-  pub step_miss : way_at before.lines line ≡ None → IsMiss stopped_of read_moved write_moved (victim_for before.lines line) before.store line after.store →
+  pub step_miss : way_at before.lines line ≡ None → (copied : List ℕ → List ℕ) (stop : Option MemStop) →
+      IsMissed read_moved write_moved before.lines before.store line copied stop after.lines after.store →
       ((other : ℕ) → other ≢ line → (way_at after.lines other ≡ way_at before.lines other) ⊎ (way_at after.lines other ≡ None)) →
-      IsStep stopped_of read_moved write_moved before line after
-  step_miss none missed_it less = record {
+      IsStep read_moved write_moved before line after
+  step_miss none copied stop missed_it less = record {
     hit = λ c. absurd (not_held before.lines was line none c);
-    miss = λ out. missed_it;
+    miss = λ out. (missed_it.answer, missed_it.miss);
     held = λ other c. elim (same_or_not other line) [
       | inl same ↦ inr same
       | inr apart ↦ inl (held_before after.lines is other before.lines (less other apart) c)
     ];
+    few = few_held after.lines is;
   }
 
 -- the way of a copy
@@ -167,14 +195,36 @@ way_of_copy None copy h = absurd (none-some copy h)
 way_of_copy (Some way) copy h = (way, refl, same_Some way.copy copy h)
 
 -- a call that then changes the line's copy
-pub step_changed : {S : Type 0} (stopped_of : S → Option MemStop) (read_moved write_moved : S → ℕ → S → Type 0) (before after after' : LineCacheView S) (line : ℕ) →
-    IsCache line_sets after'.lines → IsStep stopped_of read_moved write_moved before line after → after'.store ≡ after.store →
-    ((other : ℕ) → other ≢ line → way_at after'.lines other ≡ way_at after.lines other) → IsStep stopped_of read_moved write_moved before line after'
-step_changed {S} stopped_of read_moved write_moved before after after' line is step stays others = record {
-  hit = λ c. stays ∙ step.hit c;
-  miss = λ out. subst (λ (s : S). IsMiss stopped_of read_moved write_moved (victim_for before.lines line) before.store line s) (sym stays) (step.miss out);
-  held = λ other c. elim (same_or_not other line) [
-    | inl same ↦ inr same
-    | inr apart ↦ step.held other (held_before after'.lines is other after.lines (inl (others other apart)) c)
-  ];
-}
+module _ {S : Type 0} (read_moved : S → ℕ → Result (List ℕ) MemStop → S → Type 0) (write_moved : S → ℕ → List ℕ → Result (Unit {0}) MemStop → S → Type 0) (before after after' : LineCacheView S) (line : ℕ) (stays : after'.store ≡ after.store) where
+  pub step_changed : IsCache line_sets after'.lines → IsStep read_moved write_moved before line after →
+      ((other : ℕ) → other ≢ line → way_at after'.lines other ≡ way_at after.lines other) → IsStep read_moved write_moved before line after'
+  step_changed is step others = record {
+    hit = λ c. stays ∙ step.hit c;
+    miss = λ out. (
+      (step.miss out).0,
+      subst (λ (s : S). IsMiss read_moved write_moved (leaving before.lines line) before.store line (step.miss out).0 s) (sym stays) (step.miss out).1,
+    );
+    held = λ other c. elim (same_or_not other line) [
+      | inl same ↦ inr same
+      | inr apart ↦ step.held other (held_before after'.lines is other after.lines (inl (others other apart)) c)
+    ];
+    few = few_held after'.lines is;
+  }
+
+  missed_changed_if : (answer : Result (List ℕ) MemStop) (copied : List ℕ → List ℕ) →
+      IfOk answer (λ bytes. copy_at after.lines line ≡ Some bytes) →
+      ((bytes : List ℕ) → copy_at after.lines line ≡ Some bytes → copy_at after'.lines line ≡ Some (copied bytes)) →
+      IfOk answer (λ bytes. copy_at after'.lines line ≡ Some (copied bytes))
+  missed_changed_if (Ok bytes) copied there changed = changed bytes there
+  missed_changed_if (Err stop) copied there changed = tt
+
+  pub missed_changed : (copied : List ℕ → List ℕ) (stop : Option MemStop) →
+      IsMissed read_moved write_moved before.lines before.store line (λ bytes. bytes) stop after.lines after.store →
+      ((bytes : List ℕ) → copy_at after.lines line ≡ Some bytes → copy_at after'.lines line ≡ Some (copied bytes)) →
+      IsMissed read_moved write_moved before.lines before.store line copied stop after'.lines after'.store
+  missed_changed copied stop missed_it changed = record {
+    answer = missed_it.answer;
+    miss = subst (λ (s : S). IsMiss read_moved write_moved (leaving before.lines line) before.store line missed_it.answer s) (sym stays) missed_it.miss;
+    stops = missed_it.stops;
+    copy = missed_changed_if missed_it.answer copied missed_it.copy changed;
+  }

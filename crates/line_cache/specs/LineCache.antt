@@ -1,12 +1,13 @@
 -- A cache of lines over a store of lines.
-use Rattle.std.specs.Prelude.{◌≡◌, ◌≢◌, ℕ, ◌<◌, List, [], ◌∷◌, ◌++◌, length, take, replicate, Bool, true, false, Option, Some, None, ◌⊎◌, Contains}
+use Rattle.std.specs.Prelude.{◌≡◌, ℕ, ◌<◌, ◌≤◌, if◌then◌else◌, List, [], ◌∷◌, ◌++◌, length, take, replicate, false, Option, Some, None, Result, Ok, Err, IfOk, ◌⊎◌, Contains}
 use Rattle.std.specs.Option.{option_or}
+use Rattle.std.specs.Result.{result_err}
 use Rattle.sec_base.specs.Lines.{IsLineCount, joined_lines, line_at}
 use Rattle.sec_base.specs.declared.geometry.TheConstants.{LINE_LEN}
 use Rattle.sec_base.specs.declared.stop.MemStop.{MemStop}
 use Rattle.cache_set.specs.declared.way.Way.{Way}
 use Rattle.cache_set.specs.CacheSet.{touched, with_latest, without}
-use Rattle.cache_set.specs.Cache.{IsCache, new_cache, places, set_at, victim_for, way_at, with_set}
+use Rattle.cache_set.specs.Cache.{IsCache, new_cache, copy_at, places, set_at, victim_for, way_at, with_set}
 
 -- the number of sets
 abbrev pub line_sets : ℕ
@@ -93,27 +94,43 @@ pub record IsLineCache {S : Type 0} (contents_of : S → List ℕ) (extent_of : 
   pub copies : AreCopies (extent_of cache.store) cache.lines
   pub clean : stopped stopped_of cache ≡ None → sound cache.store → AreClean (contents_of cache.store) cache.lines
 
-module _ {S : Type 0} (stopped_of : S → Option MemStop) (read_moved write_moved : S → ℕ → S → Type 0) where
-  -- a line is written, and then, unless that stopped, another is read
-  abbrev pub IsWrittenThenRead : S → ℕ → ℕ → S → Type 0
-  IsWrittenThenRead before victim line after =
-      (write_moved before victim after × (stopped_of before ≡ None → stopped_of after ≢ None))
-      ⊎ ((middle : S) × write_moved before victim middle × (stopped_of middle ≡ stopped_of before) × read_moved middle line after)
+-- the way, where it was changed
+abbrev pub if_changed : Option Way → Option Way
+if_changed None = None
+if_changed (Some way) = if way.changed then Some way else None
 
-  abbrev pub IsLeft : Bool → S → ℕ → ℕ → S → Type 0
-  IsLeft false before victim line after = read_moved before line after
-  IsLeft true before victim line after = IsWrittenThenRead before victim line after
+-- the changed way that goes out for a line
+abbrev pub leaving : List (List Way) → ℕ → Option Way
+leaving lines line = if_changed (victim_for lines line)
 
-  -- what a line that is not held makes of the store: the way that goes out for it is written, if it was changed
-  abbrev pub IsMiss : Option Way → S → ℕ → S → Type 0
-  IsMiss None before line after = read_moved before line after
-  IsMiss (Some victim) before line after = IsLeft victim.changed before victim.place line after
+module _ {S : Type 0} (read_moved : S → ℕ → Result (List ℕ) MemStop → S → Type 0) (write_moved : S → ℕ → List ℕ → Result (Unit {0}) MemStop → S → Type 0) where
+  -- a way is written, and then, unless that stopped, a line is read; the answer is the last one
+  abbrev pub IsWrittenThenRead : S → Way → ℕ → Result (List ℕ) MemStop → S → Type 0
+  IsWrittenThenRead before way line answer after =
+      ((stop : MemStop) × (answer ≡ Err stop) × write_moved before way.place way.copy (Err stop) after)
+      ⊎ ((middle : S) × write_moved before way.place way.copy (Ok tt) middle × read_moved middle line answer after)
+
+  -- what a line that is not held makes of the store, by the changed way that goes out for it
+  abbrev pub IsMiss : Option Way → S → ℕ → Result (List ℕ) MemStop → S → Type 0
+  IsMiss None before line answer after = read_moved before line answer after
+  IsMiss (Some way) before line answer after = IsWrittenThenRead before way line answer after
+
+  -- A call by a line that is not held. It stops as the store did; else the line's copy is what the store answered, or what
+  -- the call made of that.
+  pub record IsMissed (lines : List (List Way)) (before : S) (line : ℕ) (copied : List ℕ → List ℕ) (stop : Option MemStop)
+      (lines' : List (List Way)) (after : S) : Type 0 where
+    pub answer : Result (List ℕ) MemStop
+    pub miss : IsMiss (leaving lines line) before line answer after
+    pub stops : result_err answer ≡ stop
+    pub copy : IfOk answer (λ bytes. copy_at lines' line ≡ Some (copied bytes))
 
   -- what a call by a line makes of a cache
   pub record IsStep (before : LineCacheView S) (line : ℕ) (after : LineCacheView S) : Type 0 where
     pub hit : Contains (held_lines before) line → after.store ≡ before.store
-    pub miss : ¬ (Contains (held_lines before) line) → IsMiss (victim_for before.lines line) before.store line after.store
+    pub miss : ¬ (Contains (held_lines before) line) →
+        (answer : Result (List ℕ) MemStop) × IsMiss (leaving before.lines line) before.store line answer after.store
     pub held : (other : ℕ) → Contains (held_lines after) other → Contains (held_lines before) other ⊎ (other ≡ line)
+    pub few : length (held_lines after) ≤ most_held
 
   -- calls by these lines led from one to the other
   abbrev pub IsMoved : LineCacheView S → List ℕ → LineCacheView S → Type 0

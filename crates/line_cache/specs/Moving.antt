@@ -1,5 +1,5 @@
 -- The laws of a memory, for a cache of lines.
-use Rattle.std.proofs.Common.{◌≡◌, ℕ, ◌*◌, List, [], ◌∷◌, ◌++◌, length, Option, Some, None, subst, arith, length-append}
+use Rattle.std.proofs.Common.{◌≡◌, ℕ, ◌*◌, List, [], ◌∷◌, ◌++◌, length, Option, Some, None, Result, subst, arith, length-append}
 use Rattle.std.proofs.lemmas.List.{length-replicate, length-take}
 use Rattle.sec_base.proofs.JoinedLines.{length-joined_lines}
 use Rattle.sec_base.specs.Lines.{line_at}
@@ -23,11 +23,11 @@ pub length-contents_over : (stored : List ℕ) (count : ℕ) (lines : List (List
 length-contents_over stored count lines =
     length-joined_lines (λ line. laid_over (way_at lines line) (line_at stored line)) count (length-line stored lines)
 
-module _ {S : Type 0} (stopped_of : S → Option MemStop) (read_moved write_moved : S → ℕ → S → Type 0) where
+module _ {S : Type 0} (read_moved : S → ℕ → Result (List ℕ) MemStop → S → Type 0) (write_moved : S → ℕ → List ℕ → Result (Unit {0}) MemStop → S → Type 0) where
   pub moved_on : (first second third : LineCacheView S) (before after : List ℕ) →
-      IsMoved stopped_of read_moved write_moved first before second → IsMoved stopped_of read_moved write_moved second after third →
-      IsMoved stopped_of read_moved write_moved first (before ++ after) third
+      IsMoved read_moved write_moved first before second → IsMoved read_moved write_moved second after third →
+      IsMoved read_moved write_moved first (before ++ after) third
   moved_on first second third [] after same rest =
-      subst (λ (cache : LineCacheView S). IsMoved stopped_of read_moved write_moved cache after third) same rest
+      subst (λ (cache : LineCacheView S). IsMoved read_moved write_moved cache after third) same rest
   moved_on first second third (line ∷ before) after (middle, step, more) rest =
       (middle, step, moved_on middle second third before after more rest)

@@ -1,6 +1,7 @@
 -- How a way goes out. This serves private contracts alone.
-use Rattle.std.specs.Prelude.{◌≡◌, ℕ, List, Bool, true, false, Option, Some, None}
+use Rattle.std.specs.Prelude.{◌≡◌, ℕ, List, Bool, true, false, Option, Some, None, Result, Ok, Err}
 use Rattle.sec_base.specs.Lines.{with_line}
+use Rattle.sec_base.specs.declared.stop.MemStop.{MemStop}
 use Rattle.cache_set.specs.declared.way.Way.{Way}
 
 abbrev pub written_if : Bool → Way → List ℕ → List ℕ
@@ -11,17 +12,13 @@ written_if true way stored = with_line stored way.place way.copy
 abbrev pub written : Way → List ℕ → List ℕ
 written way stored = written_if way.changed way stored
 
-module _ {S : Type 0} (write_moved : S → ℕ → S → Type 0) where
-  abbrev pub IsGoneIf : Bool → ℕ → S → S → Type 0
-  IsGoneIf false place before after = after ≡ before
-  IsGoneIf true place before after = write_moved before place after
-
-  -- what it makes of the store that a way goes out
+module _ {S : Type 0} (write_moved : S → ℕ → List ℕ → Result (Unit {0}) MemStop → S → Type 0) where
+  -- what it makes of the store that a way goes out, by whether it was changed
   abbrev pub IsGone : Option Way → S → S → Type 0
   IsGone None before after = after ≡ before
-  IsGone (Some way) before after = IsGoneIf way.changed way.place before after
+  IsGone (Some way) before after = write_moved before way.place way.copy (Ok tt) after
 
-  -- and where it was to be written and that stopped
-  abbrev pub IsWritten : Option Way → S → S → Type 0
-  IsWritten None before after = ⊥
-  IsWritten (Some way) before after = (way.changed ≡ true) × write_moved before way.place after
+  -- and where its write stopped
+  abbrev pub IsWritten : Option Way → MemStop → S → S → Type 0
+  IsWritten None stop before after = ⊥
+  IsWritten (Some way) stop before after = write_moved before way.place way.copy (Err stop) after

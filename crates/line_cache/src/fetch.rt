@@ -1,9 +1,10 @@
 // How a line comes from the store into a cache, and another goes out for it.
 ghost use Rattle.std.specs.Prelude.{true, ◌≡◌, ◌≢◌, ◌<◌, ◌⊎◌, ℕ, List, None, Some, IfErr, OnOk, OnErr};
+ghost use Rattle.std.specs.Result.{result_err};
 ghost use Rattle.sec_base.specs.Lines.{line_at, with_line};
 ghost use Rattle.cache_set.specs.CacheSet.{HasRoom};
 ghost use Rattle.cache_set.specs.Cache.{IsLatest, copy_at, set_at, victim_for, way_at};
-ghost use Rattle.line_cache.specs.LineCache.{AreClean, AreCopies, IsMiss, contents_over, with_new, with_room};
+ghost use Rattle.line_cache.specs.LineCache.{AreClean, AreCopies, IsMissed, contents_over, if_changed, leaving, with_new, with_room};
 ghost use Rattle.line_cache.specs.WriteBack.{IsGone, IsWritten, written};
 
 use cache_set::{Cache, Way};
@@ -34,7 +35,8 @@ pub(crate) fn fetch<S: LineStore>(
 
     ensures extent { S.extent store.new ≡ S.extent store.old }
     ensures lost { S.sound store.new → S.sound store.old }
-    ensures moved { IsMiss S.stopped S.read_moved S.write_moved (victim_for lines.old line) store.old line store.new }
+    ensures missed { IsMissed S.read_moved S.write_moved lines.old store.old line (λ bytes. bytes) (result_err result)
+        lines.new store.new }
 
     ensures ways { OnOk result ((copy : List ℕ) → copy_at lines.new line ≡ Some copy →
         lines.new ≡ with_new (with_room lines.old line) line copy) }
@@ -67,8 +69,8 @@ fn make_room<S: LineStore>(store: &mut S, lines: &mut Cache<64>, line: u32) -> R
 
     ensures extent { S.extent store.new ≡ S.extent store.old }
     ensures lost { S.sound store.new → S.sound store.old }
-    ensures moved { OnOk result (IsGone S.write_moved (victim_for lines.old line) store.old store.new) }
-    ensures moved_in_part { OnErr result (IsWritten S.write_moved (victim_for lines.old line) store.old store.new) }
+    ensures moved { OnOk result (IsGone S.write_moved (leaving lines.old line) store.old store.new) }
+    ensures moved_in_part { IfErr result (λ stop. IsWritten S.write_moved (leaving lines.old line) stop store.old store.new) }
 
     ensures ways { OnOk result (lines.new ≡ with_room lines.old line) }
     ensures ways_left { OnErr result (lines.new ≡ lines.old) }
@@ -95,8 +97,8 @@ fn write_back<S: LineStore>(store: &mut S, way: &Way) -> Result<(), MemStop>
 
     ensures extent { S.extent store.new ≡ S.extent store.old }
     ensures lost { S.sound store.new → S.sound store.old }
-    ensures moved { OnOk result (IsGone S.write_moved (Some way.now) store.old store.new) }
-    ensures moved_in_part { OnErr result (IsWritten S.write_moved (Some way.now) store.old store.new) }
+    ensures moved { OnOk result (IsGone S.write_moved (if_changed (Some way.now)) store.old store.new) }
+    ensures moved_in_part { IfErr result (λ stop. IsWritten S.write_moved (if_changed (Some way.now)) stop store.old store.new) }
 {
     if !way.changed {
         return Ok(());

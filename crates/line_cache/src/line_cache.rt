@@ -1,9 +1,11 @@
 // A write-back cache of lines.
 ghost use Rattle.std.specs.Prelude.{true, ◌≡◌, ◌+◌, ◌*◌, ◌%◌, ◌^◌, ◌<◌, ◌≤◌, ◌↔◌, ◌⊎◌, ℕ, List, [], ◌∷◌, Option, None, Some, refl, length, IfOk, IfErr, OnOk, OnErr, IsOk, IsTrue, IsSome, Contains};
+ghost use Rattle.std.specs.Option.{option_or};
+ghost use Rattle.std.specs.Result.{result_err};
 ghost use Rattle.sec_base.specs.Geometry.{line_of};
 ghost use Rattle.sec_base.specs.Width.{width_bytes, number_at, with_number};
 ghost use Rattle.cache_set.specs.Cache.{AreApart, IsLatest, copy_at, way_at};
-ghost use Rattle.line_cache.specs.LineCache.{IsMoved, IsStep, brought, contents, held_lines, most_held, new_lines, stopped, with_changed, with_room};
+ghost use Rattle.line_cache.specs.LineCache.{AreClean, IsMissed, IsMoved, IsStep, brought, contents, held_lines, most_held, new_lines, stopped, with_changed, with_room};
 
 use crate::fetch::fetch;
 use cache_set::Cache;
@@ -74,7 +76,10 @@ impl<S: LineStore> LineCache<S> {
 
     /// The store. Copies that were changed are not written to it.
     pub fn finish(self) -> S
-        ensures { result ≡ self.store }
+        ensures store { result ≡ self.store }
+
+        // Where no call stopped and the store can be relied on, a copy that was not changed is its line.
+        ensures clean { stopped S.stopped self ≡ None → S.sound self.store → AreClean (S.contents self.store) self.lines }
     {
         let LineCache {
             store,
@@ -98,9 +103,12 @@ impl<S: LineStore> LineCache<S> {
 
         ensures extent { S.extent self.new.store ≡ S.extent self.old.store }
         ensures lost { S.sound self.new.store → S.sound self.old.store }
-        ensures moved { IsStep S.stopped S.read_moved S.write_moved self.old line self.new }
+        ensures kept { self.new.stop ≡ option_or self.old.stop (result_err result) }
+        ensures moved { IsStep S.read_moved S.write_moved self.old line self.new }
         ensures hit { Contains (held_lines self.old) line → IsOk result × (self.new.store ≡ self.old.store)
             × (way_at self.new.lines line ≡ way_at self.old.lines line) }
+        ensures missed { ¬ Contains (held_lines self.old) line → IsMissed S.read_moved S.write_moved self.old.lines self.old.store line
+            (λ bytes. bytes) (result_err result) self.new.lines self.new.store }
 
         ensures ways { OnOk result ((copy : List ℕ) → copy_at self.new.lines line ≡ Some copy →
             self.new.lines ≡ brought self.old.lines line copy) }
@@ -130,7 +138,7 @@ impl<S: LineStore> Ram for LineCache<S> {
 
     ghost stopped = { λ cache. stopped S.stopped cache };
 
-    ghost moved = { λ before lines after. IsMoved S.stopped S.read_moved S.write_moved before lines after };
+    ghost moved = { λ before lines after. IsMoved S.read_moved S.write_moved before lines after };
 
     fn size(&self) -> u32 {
         LINE_LEN * self.store.lines()
@@ -151,12 +159,17 @@ impl<S: LineStore> Ram for LineCache<S> {
 
         ensures extent { 64 * S.extent self.new.store ≡ 64 * S.extent self.old.store }
         ensures lost { S.sound self.new.store → S.sound self.old.store }
-        ensures moved { IsMoved S.stopped S.read_moved S.write_moved self.old (line_of addr ∷ []) self.new }
+        ensures moved { IsMoved S.read_moved S.write_moved self.old (line_of addr ∷ []) self.new }
 
         // A line that is held is not sought in the store. A stop is what the store answered.
         ensures hit { Contains (held_lines self.old) (line_of addr) → IsOk result × (self.new.store ≡ self.old.store)
             × (way_at self.new.lines (line_of addr) ≡ way_at self.old.lines (line_of addr)) }
         ensures answered { S.stopped self.old.store ≡ None → IfErr result (λ stop. S.stopped self.new.store ≡ Some stop) }
+
+        // Any other line is read, once the changed line that goes out for it was written. The first stop is kept.
+        ensures missed { ¬ Contains (held_lines self.old) (line_of addr) → IsMissed S.read_moved S.write_moved
+            self.old.lines self.old.store (line_of addr) (λ bytes. bytes) (result_err result) self.new.lines self.new.store }
+        ensures kept { self.new.stop ≡ option_or self.old.stop (result_err result) }
 
         // Whatever can be relied on, the number is the one in the copy that the line has after the call.
         ensures copy { IfOk result (λ n. (copy : List ℕ) → copy_at self.new.lines (line_of addr) ≡ Some copy →
@@ -188,7 +201,7 @@ impl<S: LineStore> Ram for LineCache<S> {
 
         ensures extent { 64 * S.extent self.new.store ≡ 64 * S.extent self.old.store }
         ensures lost { S.sound self.new.store → S.sound self.old.store }
-        ensures moved { IsMoved S.stopped S.read_moved S.write_moved self.old (line_of addr ∷ []) self.new }
+        ensures moved { IsMoved S.read_moved S.write_moved self.old (line_of addr ∷ []) self.new }
 
         // A store that stops changes no byte.
         ensures unchanged { stopped S.stopped self.old ≡ None → S.sound self.new.store →
@@ -199,6 +212,12 @@ impl<S: LineStore> Ram for LineCache<S> {
             × ((copy : List ℕ) → copy_at self.old.lines (line_of addr) ≡ Some copy →
             copy_at self.new.lines (line_of addr) ≡ Some (with_number copy (addr % 64) width value)) }
         ensures answered { S.stopped self.old.store ≡ None → IfErr result (λ stop. S.stopped self.new.store ≡ Some stop) }
+
+        // Any other line is read, once the changed line that goes out for it was written. The first stop is kept.
+        ensures missed { ¬ Contains (held_lines self.old) (line_of addr) → IsMissed S.read_moved S.write_moved
+            self.old.lines self.old.store (line_of addr) (λ bytes. with_number bytes (addr % 64) width value) (result_err result)
+            self.new.lines self.new.store }
+        ensures kept { self.new.stop ≡ option_or self.old.stop (result_err result) }
 
         // The line is the most recently used one of its set and marked, with the number in its copy. The one that goes out for
         // it is the least recently used.
@@ -219,5 +238,5 @@ impl<S: LineStore> Ram for LineCache<S> {
     ghost unmoved = { λ cache. refl };
 
     ghost moved_on = { λ first second third before after a b.
-        moved_on S.stopped S.read_moved S.write_moved first second third before after a b };
+        moved_on S.read_moved S.write_moved first second third before after a b };
 }

@@ -16,9 +16,8 @@ use Rattle.bonsai_tree.specs.Tree.{IsTree}
 use Rattle.counter_cache.specs.Counters.{CountersView, counters_in}
 use Rattle.page_reencrypt.specs.Consistency.{IsConsistent}
 use Rattle.page_reencrypt.specs.Contents.{HoldsLast, counter_in, never_written}
-use Rattle.page_reencrypt.specs.Outside.{AreConsistent, CountersSay, HasCounter, HaveLast, HaveLastNodes, HaveRisen, MemoryTerms, OutsideView, TreeFits, terms_of}
+use Rattle.page_reencrypt.specs.Outside.{AreConsistent, CountersSay, HasCounter, HaveLast, HaveLastNodes, HaveRisen, MemoryTerms, OutsideView, TreeFits, outside_of, terms_of}
 use Rattle.page_reencrypt.specs.SealedLines.{AreProtected, CountersRise, IsOfPage, IsProtected, IsWrittenThrough, SealedLinesView}
-use Rattle.page_reencrypt.specs.SealedLinesInside.{outside_of}
 use Rattle.page_reencrypt.specs.Stops.{lasting_stop}
 use Rattle.page_reencrypt.proofs.RisingPairs.{counter_fresh, counter_limited, has_counter}
 use Rattle.page_reencrypt.proofs.Stops.{going_not_memory, going_not_tampered, other_stop}

@@ -1,12 +1,12 @@
 -- What a read of a line makes of the lines outside.
-use Rattle.std.proofs.Common.{◌≡◌, ◌≢◌, inl, inr, ℕ, ◌<◌, ◌≤◌, List, [], ◌++◌, Option, Some, None, Result, IfOk, refl, ap, sym, ◌∙◌, subst, arith}
+use Rattle.std.proofs.Common.{◌≡◌, ◌≢◌, inl, inr, ℕ, ◌<◌, ◌≤◌, List, [], ◌++◌, Option, Some, None, Result, Err, IfOk, refl, ap, sym, ◌∙◌, subst, arith}
 use Rattle.std.specs.Option.{option_or}
 use Rattle.std.specs.Result.{result_err}
 use Rattle.std.proofs.lemmas.List.{append-nil}
 use Rattle.sec_base.specs.declared.counter.Counter.{Counter}
 use Rattle.sec_base.specs.declared.message.Message.{Message}
 use Rattle.sec_base.specs.declared.stop.MemStop.{MemStop}
-use Rattle.sec_base.specs.declared.stop.MemStop.TheVariants.{Spent}
+use Rattle.sec_base.specs.declared.stop.MemStop.TheVariants.{NoMemory, Spent, Tampered}
 use Rattle.sec_base.specs.Geometry.{line_count}
 use Rattle.sec_base.specs.LastMessage.{data_pairs, last_data}
 use Rattle.sec_base.specs.Lines.{line_at}
@@ -21,9 +21,9 @@ use Rattle.split_counter.specs.CounterBlock.{counter_of, place_of}
 use Rattle.counter_cache.specs.Counters.{CountersView}
 use Rattle.page_reencrypt.specs.Contents.{ArePaged, AreUnskipped, AreWithin, IsSpent, bytes_of, contents_of, counter_in, line_bytes}
 use Rattle.page_reencrypt.specs.LineLengths.{length-line_bytes}
-use Rattle.page_reencrypt.specs.Outside.{CountersSay, IsLineRead, MemoryTerms, OutsideView, terms_of}
-use Rattle.page_reencrypt.specs.SealedLines.{AreProtected, CountersRise, IsUnsealed, ReadMoved, SealedLinesView, contents}
-use Rattle.page_reencrypt.specs.SealedLinesInside.{outside_of}
+use Rattle.page_reencrypt.specs.LineMoves.{ReadMoved}
+use Rattle.page_reencrypt.specs.Outside.{CountersSay, IsLineRead, MemoryTerms, OutsideView, outside_of, terms_of}
+use Rattle.page_reencrypt.specs.SealedLines.{AreProtected, CountersRise, IsUnsealed, SealedLinesView, contents}
 use Rattle.page_reencrypt.specs.Stops.{lasting_stop}
 use Rattle.page_reencrypt.proofs.Kept.{err_stop, none_before, protected_after, stop_accounted, stop_lasts, stop_memory, stop_spent, stop_unwritten}
 use Rattle.page_reencrypt.proofs.LineReads.{quiet_before}
@@ -33,13 +33,23 @@ use Rattle.page_reencrypt.proofs.NodeSteps.{last_data-nodes}
 use Rattle.page_reencrypt.proofs.RisingPairs.{last_none}
 use Rattle.page_reencrypt.proofs.Unmade.{same_tags}
 
+-- a stop that lasts is the one that was kept
+pub lasts_itself : (stopped : Option MemStop) (stop : MemStop) → lasting_stop stopped ≡ Some stop → stopped ≡ Some stop
+lasts_itself None stop lasting = lasting
+lasts_itself (Some (Spent page)) stop lasting = absurd (cc)
+lasts_itself (Some (Tampered place)) stop lasting = lasting
+lasts_itself (Some NoMemory) stop lasting = lasting
+
 -- after a stop that lasts
 pub lasting_read : {B T : Type 0} (history : B → BusHistory) (bus_moved : B → B → Type 0) (tags : TagEngineView T → Message → List ℕ) →
     ((bus : B) → bus_moved bus bus) → (lines : SealedLinesView B T) (line : ℕ) (stop : MemStop) →
-    lasting_stop lines.stopped ≡ Some stop → ReadMoved history bus_moved tags lines line lines
+    lasting_stop lines.stopped ≡ Some stop → ReadMoved history bus_moved tags lines line (Err stop) lines
 lasting_read history bus_moved tags bus_unmoved lines line stop lasting = record {
   moves = moves_not history bus_moved tags bus_unmoved lines;
   read = record { path = λ going uncached. absurd (cc); read = λ going quiet. absurd (cc) };
+  stopped = lasts_itself lines.stopped stop lasting;
+  through = λ going quiet. absurd (cc);
+  outside = λ going. absurd (cc);
 }
 
 pub unsealed_not : {B T : Type 0} (history : B → BusHistory) (lines : SealedLinesView B T) → IsUnsealed history lines lines
@@ -141,7 +151,7 @@ module _ {B T : Type 0} (d n : T → List ℕ → List ℕ) (history : B → Bus
   }
 
   -- how it moves
-  pub read_moved : ReadMoved history bus_moved (tags_of d n) m line after
+  pub read_moved : ReadMoved history bus_moved (tags_of d n) m line result after
   read_moved = record {
     moves = record {
       bus = r.bus;
@@ -170,4 +180,7 @@ module _ {B T : Type 0} (d n : T → List ℕ → List ℕ) (history : B → Bus
             | inr rose ↦ inr rose
           ];
     };
+    stopped = stops;
+    through = read_kept.through;
+    outside = λ going. r;
   }

@@ -18,7 +18,7 @@ use Rattle.sec_base.specs.LastMessage.{data_pairs}
 use Rattle.sec_base.specs.Lines.{with_line}
 use Rattle.sec_base.proofs.JoinedLines.{joined_lines-same, with_line-joined_lines}
 use Rattle.bus_model.specs.BusHistory.{BusHistory}
-use Rattle.tag_engine.specs.TagEngine.{tags_of}
+use Rattle.tag_engine.specs.TagEngine.{TagEngineView, tags_of}
 use Rattle.checked_bus.specs.Steps.{IsAccounted, stop_of}
 use Rattle.checked_bus.specs.Steps.{unwritten_in}
 use Rattle.split_counter.specs.CounterBlock.{last_counter, next_counter, place_of}
@@ -26,14 +26,15 @@ use Rattle.bonsai_tree.specs.Tree.{fetch_accesses}
 use Rattle.counter_cache.specs.Counters.{CountersView}
 use Rattle.page_reencrypt.specs.Contents.{bytes_of, contents_of, counter_in, entries_of_write, line_bytes, lines_encrypted, page_lines}
 use Rattle.page_reencrypt.specs.LineLengths.{length-line_bytes}
-use Rattle.page_reencrypt.specs.Outside.{IsWrite, OutsideView, terms_of}
+use Rattle.page_reencrypt.specs.LineMoves.{WriteMoved, overflow_accesses, write_accesses}
+use Rattle.page_reencrypt.specs.Outside.{IsWrite, OutsideView, outside_of, terms_of}
 use Rattle.page_reencrypt.specs.SealedLines.{AreProtected, AreReread, AreSealedUnder, CountersRise, HadMemory, IsSealedAnew, IsSealedInPart, IsTamperedInWrite, IsUnsealed, Moves, SameCounters, SealedLinesView, contents, lines_of_write}
-use Rattle.page_reencrypt.specs.SealedLinesInside.{outside_of}
 use Rattle.page_reencrypt.specs.Stops.{lasting_stop}
 use Rattle.page_reencrypt.proofs.Entries.{encrypted_itself, encrypted_page, length-page_lines}
 use Rattle.page_reencrypt.proofs.Kept.{err_stop, none_before, protected_after, stop_accounted, stop_going, stop_lasts, stop_memory, stop_spent, stop_unwritten}
 use Rattle.page_reencrypt.proofs.LineReads.{quiet_before}
-use Rattle.page_reencrypt.proofs.ReadCalls.{contents_same}
+use Rattle.page_reencrypt.proofs.Moves.{moves_not}
+use Rattle.page_reencrypt.proofs.ReadCalls.{contents_same, lasts_itself}
 use Rattle.page_reencrypt.proofs.ReadSteps.{not_node}
 use Rattle.page_reencrypt.proofs.Rises.{rises_after, used_on}
 use Rattle.page_reencrypt.proofs.Sealing.{listed_or_not}
@@ -64,6 +65,19 @@ sealed_none line bytes lines = record {
     pairs = refl;
     own = λ listed. absurd (omega (arith, listed.1));
   };
+}
+
+-- after a stop that lasts
+pub lasting_write : {B T : Type 0} (history : B → BusHistory) (bus_moved : B → B → Type 0) (tags : TagEngineView T → Message → List ℕ) →
+    ((bus : B) → bus_moved bus bus) → (lines : SealedLinesView B T) (line : ℕ) (bytes : List ℕ) (stop : MemStop) →
+    lasting_stop lines.stopped ≡ Some stop → WriteMoved history bus_moved tags lines line bytes (Err stop) lines
+lasting_write history bus_moved tags bus_unmoved lines line bytes stop lasting = record {
+  moves = moves_not history bus_moved tags bus_unmoved lines;
+  stopped = lasts_itself lines.stopped stop lasting;
+  through = λ going quiet. absurd (cc);
+  outside = λ going. absurd (cc);
+  once = λ quiet short. (omega arith, λ other. refl);
+  few = omega arith;
 }
 
 pub on_ok : {A P : Type 0} (result : Result A MemStop) → (stop_of result ≡ None → P) → OnOk result P
@@ -157,7 +171,7 @@ module _ {B T : Type 0} (d n : T → List ℕ → List ℕ) (history : B → Bus
       ])
 
   -- how it moves
-  pub write_moves : Moves history bus_moved (tags_of d n) m after
+  write_moves : Moves history bus_moved (tags_of d n) m after
   write_moves = record {
     bus = w.bus;
     step = w.step;
@@ -177,6 +191,20 @@ module _ {B T : Type 0} (d n : T → List ℕ → List ℕ) (history : B → Bus
         (stop_accounted m.stopped going (tags_of d n m.engine) new.pads.used new.engine.made (history new.bus) new.engine.evidence (stop_of result)
         (w.accounted before)));
   }
+
+  module _ (once : new.engine.evidence ≡ None → (next_counter (counter_in m.pads.used line)).line ≢ 0 →
+      ((history new.bus).accesses ≤ (history m.bus).accesses + write_accesses m.engine.levels)
+      × ((other : ℕ) → (history new.bus).reads (line_place other) ≡ (history m.bus).reads (line_place other)))
+      (few : (history new.bus).accesses ≤ (history m.bus).accesses + overflow_accesses m.engine.levels) where
+    pub write_moved : WriteMoved history bus_moved (tags_of d n) m line bytes result after
+    write_moved = record {
+      moves = write_moves;
+      stopped = stops;
+      through = write_kept.through;
+      outside = λ going. w;
+      once = once;
+      few = few;
+    }
 
   write_under : AreSealedUnder line bytes w.counter part m after
   write_under = record {

@@ -5,3 +5,4 @@ pub mod LineLengths
 pub mod SealedLines
 pub mod SealedLinesInside
 pub mod Outside
+pub mod LineMoves

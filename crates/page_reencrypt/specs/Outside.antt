@@ -27,7 +27,7 @@ use Rattle.bonsai_tree.specs.Tree.{IsOnPath, IsTree, NodesHoldLast, PathWasRead,
 use Rattle.counter_cache.specs.Counters.{CountersView, counters_in}
 use Rattle.page_reencrypt.specs.Consistency.{IsConsistent}
 use Rattle.page_reencrypt.specs.Contents.{HoldsLast, counter_in, line_bytes, lines_encrypted, never_written}
-use Rattle.page_reencrypt.specs.SealedLines.{AreReread, IsBeside, IsOfPage, IsReadBelowPath, IsReadUnder}
+use Rattle.page_reencrypt.specs.SealedLines.{AreReread, IsBeside, IsOfPage, IsReadBelowPath, IsReadUnder, SealedLinesView}
 use Rattle.page_reencrypt.specs.Stops.{lasting_stop}
 
 -- the bus, the tag engine and the pads
@@ -35,6 +35,10 @@ pub record OutsideView (B T : Type 0) : Type 0 where
   pub bus : B
   pub engine : TagEngineView T
   pub pads : PadEngineView
+
+-- the memory outside, of such lines
+abbrev pub outside_of : {B T : Type 0} → SealedLinesView B T → OutsideView B T
+outside_of lines = record { bus = lines.bus; engine = lines.engine; pads = lines.pads }
 
 -- How a memory is seen: by its bus's history, how a bus may move, the tags of its messages, and its levels.
 pub record MemoryTerms (B : Type 0) : Type 1 where

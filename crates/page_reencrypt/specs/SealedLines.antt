@@ -190,12 +190,6 @@ pub record WasRead {B T : Type 0} (history : B → BusHistory) (old : SealedLine
   pub read : lasting_stop new.stopped ≡ None → IsQuiet new →
       (last_data line (made old) ≡ None) ⊎ Rose ((history old.bus).reads (line_place line)) ((history new.bus).reads (line_place line))
 
--- a read of a line, whatever it answered
-pub record ReadMoved {B T : Type 0} (history : B → BusHistory) (bus_moved : B → B → Type 0) (tags : TagEngineView T → Message → List ℕ)
-    (old : SealedLinesView B T) (line : ℕ) (new : SealedLinesView B T) : Type 0 where
-  pub moves : Moves history bus_moved tags old new
-  pub read : WasRead history old line new
-
 -- The bytes are those that a line was read as under a counter: zeros, where that is the counter of a line that was never
 -- written; else what its place answered last, with the tag of its message, as it was decrypted.
 abbrev pub IsReadUnder : (Message → List ℕ) → List ℕ → ℕ → Counter → BusHistory → List ℕ → Type 0

@@ -1,5 +1,4 @@
 -- What contracts see of the lines outside, by what is in them.
-use Rattle.page_reencrypt.specs.Outside.{OutsideView}
 use Rattle.page_reencrypt.specs.SealedLines.{SealedLinesView}
 use Rattle.page_reencrypt.specs.declared.sealed_lines.SealedLines.TheInside.{Inside}
 
@@ -12,7 +11,3 @@ sealed_lines_view lines = record {
   limit = lines.page_limit;
   stopped = lines.stopped;
 }
-
--- the memory outside, of such a view
-abbrev pub outside_of : {B T : Type 0} → SealedLinesView B T → OutsideView B T
-outside_of lines = record { bus = lines.bus; engine = lines.engine; pads = lines.pads }

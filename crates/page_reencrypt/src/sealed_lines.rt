@@ -23,7 +23,8 @@ ghost use Rattle.bonsai_tree.specs.Tree.{IsOnPath, PathWasRead, fetch_accesses};
 ghost use Rattle.counter_cache.specs.Counters.{bump_accesses};
 ghost use Rattle.page_reencrypt.specs.Contents.{counter_in, entries_of_write};
 ghost use Rattle.page_reencrypt.specs.Outside.{AreConsistent, CountersSay, HasCounter, HaveLast, HaveLastNodes, HaveRisen, IsLineRead, IsWrite, TreeFits, terms_of};
-ghost use Rattle.page_reencrypt.specs.SealedLines.{AreNew, AreProtected, AreReread, AreWrittenThrough, HadMemory, IsReadBelowPath, IsReadUnder, IsSealedAnew, IsSealedInPart, IsTamperedInWrite, IsUnbooted, IsQuiet, IsUnsealed, Moves, ReadMoved, SameCounters, contents, enc_key, evidence, levels, lines_of, lines_of_write, made, tag_in, used};
+ghost use Rattle.page_reencrypt.specs.LineMoves.{ReadMoved, WriteMoved, read_accesses, write_accesses, overflow_accesses};
+ghost use Rattle.page_reencrypt.specs.SealedLines.{AreNew, AreProtected, AreReread, AreWrittenThrough, HadMemory, IsReadBelowPath, IsReadUnder, IsSealedAnew, IsSealedInPart, IsTamperedInWrite, IsUnbooted, IsQuiet, IsUnsealed, SameCounters, contents, enc_key, evidence, levels, lines_of, lines_of_write, made, tag_in, used};
 ghost use Rattle.page_reencrypt.specs.Stops.{lasting_stop};
 
 use crate::account::Account;
@@ -152,11 +153,11 @@ impl<B: Bus, T: Tagger> LineStore for SealedLines<B, T> {
 
     ghost stopped = { λ lines. lines.stopped };
 
-    ghost read_moved = { λ before line after.
-        ReadMoved B.history B.moved (tags_of T.data_tag_of T.node_tag_of) before line after };
+    ghost read_moved = { λ before line answer after.
+        ReadMoved B.history B.moved (tags_of T.data_tag_of T.node_tag_of) before line answer after };
 
-    ghost write_moved = { λ before line after.
-        Moves B.history B.moved (tags_of T.data_tag_of T.node_tag_of) before after };
+    ghost write_moved = { λ before line bytes answer after.
+        WriteMoved B.history B.moved (tags_of T.data_tag_of T.node_tag_of) before line bytes answer after };
 
     fn lines(&self) -> u32 {
         self.geometry.lines()
@@ -175,7 +176,7 @@ impl<B: Bus, T: Tagger> LineStore for SealedLines<B, T> {
 
         ensures extent { lines_of self.new ≡ lines_of self.old }
         ensures lost { IsQuiet self.new → IsQuiet self.old }
-        ensures moved { ReadMoved B.history B.moved (tags_of T.data_tag_of T.node_tag_of) self.old line self.new }
+        ensures moved { ReadMoved B.history B.moved (tags_of T.data_tag_of T.node_tag_of) self.old line result self.new }
 
         // A lasting stop is answered again, and nothing is done.
         ensures kept { (stop : MemStop) → lasting_stop self.old.stopped ≡ Some stop →
@@ -183,7 +184,7 @@ impl<B: Bus, T: Tagger> LineStore for SealedLines<B, T> {
 
         // It is one access for each level and one for the line at most, no line is encrypted, tagged or written, and no
         // counter changes.
-        ensures once { (B.history self.new.bus).accesses ≤ (B.history self.old.bus).accesses + (fetch_accesses (levels self.old) + 1) }
+        ensures once { (B.history self.new.bus).accesses ≤ (B.history self.old.bus).accesses + read_accesses (levels self.old) }
         ensures unsealed { IsUnsealed B.history self.old self.new }
         ensures same_counters { lasting_stop self.old.stopped ≡ None → IsQuiet self.new → SameCounters self.old self.new }
         ensures alone { (other : ℕ) → other ≢ line →
@@ -244,7 +245,7 @@ impl<B: Bus, T: Tagger> LineStore for SealedLines<B, T> {
 
         ensures extent { lines_of self.new ≡ lines_of self.old }
         ensures lost { IsQuiet self.new → IsQuiet self.old }
-        ensures moved { Moves B.history B.moved (tags_of T.data_tag_of T.node_tag_of) self.old self.new }
+        ensures moved { WriteMoved B.history B.moved (tags_of T.data_tag_of T.node_tag_of) self.old line bytes.now result self.new }
 
         // A lasting stop is answered again, and nothing is done.
         ensures kept { (stop : MemStop) → lasting_stop self.old.stopped ≡ Some stop →
@@ -274,9 +275,9 @@ impl<B: Bus, T: Tagger> LineStore for SealedLines<B, T> {
         // The path is read twice and written once. A line is written without a read of any line and by one access; with an
         // overflow there are two accesses a line at most, and one of the written line.
         ensures once { IsQuiet self.new → (next_counter (counter_in (used self.old) line)).line ≢ 0 →
-            ((B.history self.new.bus).accesses ≤ (B.history self.old.bus).accesses + (fetch_accesses (levels self.old) + bump_accesses (levels self.old) + 1))
+            ((B.history self.new.bus).accesses ≤ (B.history self.old.bus).accesses + write_accesses (levels self.old))
             × ((other : ℕ) → (B.history self.new.bus).reads (line_place other) ≡ (B.history self.old.bus).reads (line_place other)) }
-        ensures few { (B.history self.new.bus).accesses ≤ (B.history self.old.bus).accesses + (fetch_accesses (levels self.old) + bump_accesses (levels self.old) + 127) }
+        ensures few { (B.history self.new.bus).accesses ≤ (B.history self.old.bus).accesses + overflow_accesses (levels self.old) }
 
         // Only a line with the last counter that the limit allows is spent, and such a line is not written again: its
         // counters are read, and where the answer is another one, they could not be had. Nothing but nodes changes.

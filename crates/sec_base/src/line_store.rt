@@ -1,5 +1,5 @@
 // The memory below the processor's, by whole lines.
-ghost use Rattle.std.specs.Prelude.{◌≡◌, ◌*◌, ◌<◌, ◌⊎◌, ℕ, List, Option, None, Some, length, IfOk, IfErr, OnOk, OnErr};
+ghost use Rattle.std.specs.Prelude.{◌≡◌, ◌*◌, ◌<◌, ◌⊎◌, ℕ, List, Option, None, Some, Result, length, IfOk, IfErr, OnOk, OnErr};
 ghost use Rattle.sec_base.specs.declared.stop.MemStop.{MemStop};
 ghost use Rattle.sec_base.specs.Lines.{IsLineCount, line_at, with_line};
 
@@ -20,11 +20,11 @@ pub trait LineStore {
     /// The stop that it keeps, if it answered one.
     ghost stopped: { Self → Option MemStop };
 
-    /// What a read of a line makes of the store.
-    ghost read_moved: { Self → ℕ → Self → Type 0 };
+    /// What a read of a line, with its answer, makes of the store.
+    ghost read_moved: { Self → ℕ → Result (List ℕ) MemStop → Self → Type 0 };
 
-    /// What a write of a line makes of the store.
-    ghost write_moved: { Self → ℕ → Self → Type 0 };
+    /// What a write of a line, with its bytes and its answer, makes of the store.
+    ghost write_moved: { Self → ℕ → List ℕ → Result (Unit {0}) MemStop → Self → Type 0 };
 
     /// The number of lines, which is that of some tree's memory.
     fn lines(&self) -> u32
@@ -43,7 +43,7 @@ pub trait LineStore {
 
         ensures extent { extent self.new ≡ extent self.old }
         ensures lost { sound self.new → sound self.old }
-        ensures moved { read_moved self.old line self.new };
+        ensures moved { read_moved self.old line result self.new };
 
     /// Puts 64 bytes in a line.
     fn write_line(&mut self, line: u32, bytes: &[u8; 64]) -> Result<(), MemStop>
@@ -59,7 +59,7 @@ pub trait LineStore {
 
         ensures extent { extent self.new ≡ extent self.old }
         ensures lost { sound self.new → sound self.old }
-        ensures moved { write_moved self.old line self.new };
+        ensures moved { write_moved self.old line bytes.now result self.new };
 
     /// There are 64 bytes a line.
     ghost sized: { (store : Self) → length (contents store) ≡ 64 * extent store };

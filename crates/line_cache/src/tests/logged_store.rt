@@ -62,9 +62,9 @@ impl LineStore for LoggedStore {
 
     ghost stopped = { λ store. Some no_memory };
 
-    ghost read_moved = { λ before line after. Unit {0} };
+    ghost read_moved = { λ before line answer after. Unit {0} };
 
-    ghost write_moved = { λ before line after. Unit {0} };
+    ghost write_moved = { λ before line bytes answer after. Unit {0} };
 
     fn lines(&self) -> u32 {
         256

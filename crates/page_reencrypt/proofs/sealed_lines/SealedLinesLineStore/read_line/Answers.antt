@@ -1,10 +1,11 @@
-use Rattle.std.proofs.Common.{◌≡◌, ◌<◌, Option, None, ap, sym, ◌∙◌, subst}
+use Rattle.std.proofs.Common.{◌≡◌, ◌<◌, Option, None, Err, ap, sym, ◌∙◌, subst}
 use Rattle.std.specs.Option.{option_or}
 use Rattle.std.specs.Result.{result_err}
 use Rattle.sec_base.specs.Geometry.{line_count}
 use Rattle.sec_base.specs.declared.stop.MemStop.{MemStop}
 use Rattle.tag_engine.specs.TagEngine.{tags_of}
-use Rattle.page_reencrypt.specs.SealedLines.{ReadMoved, SealedLinesView}
+use Rattle.page_reencrypt.specs.LineMoves.{ReadMoved}
+use Rattle.page_reencrypt.specs.SealedLines.{SealedLinesView}
 use Rattle.page_reencrypt.specs.SealedLinesInside.{sealed_lines_view}
 use Rattle.page_reencrypt.specs.Stops.{lasting_stop}
 use Rattle.page_reencrypt.proofs.LineReads.{quiet_before}
@@ -14,7 +15,7 @@ use Rattle.page_reencrypt.proofs.sealed_lines.SealedLinesLineStore.read_line.Goa
 pub returns-in-Some-clause-moved : goal.returns-in-Some-clause-moved
 returns-in-Some-clause-moved g c =
     let tags = tags_of g.T.Tagger.data_tag_of g.T.Tagger.node_tag_of in
-    subst (λ (seen : SealedLinesView g.row.B.Denot g.row.T.Denot). ReadMoved g.B.Bus.history g.B.Bus.moved tags seen c.args.line seen) c.self.view_is
+    subst (λ (seen : SealedLinesView g.row.B.Denot g.row.T.Denot). ReadMoved g.B.Bus.history g.B.Bus.moved tags seen c.args.line (Err c.in-Some.stop) seen) c.self.view_is
     (lasting_read g.B.Bus.history g.B.Bus.moved tags g.met.B.Bus.unmoved
     (sealed_lines_view c.self.inside) c.args.line c.in-Some.stop (sym c.lasting.ensures ∙ c.in-Some.is))
 

@@ -1,18 +1,24 @@
-use Rattle.std.proofs.Common.{◌≡◌, ◌<◌, Option, None, ap, sym, ◌∙◌}
+use Rattle.std.proofs.Common.{◌≡◌, ◌<◌, Option, None, Err, ap, sym, ◌∙◌, subst}
 use Rattle.std.specs.Option.{option_or}
 use Rattle.std.specs.Result.{result_err}
 use Rattle.sec_base.specs.Geometry.{line_count}
 use Rattle.sec_base.specs.declared.stop.MemStop.{MemStop}
 use Rattle.tag_engine.specs.TagEngine.{tags_of}
+use Rattle.page_reencrypt.specs.LineMoves.{WriteMoved}
+use Rattle.page_reencrypt.specs.SealedLines.{SealedLinesView}
 use Rattle.page_reencrypt.specs.SealedLinesInside.{sealed_lines_view}
 use Rattle.page_reencrypt.specs.Stops.{lasting_stop}
 use Rattle.page_reencrypt.proofs.Kept.{kept_limited}
-use Rattle.page_reencrypt.proofs.Moves.{moves_not}
-use Rattle.page_reencrypt.proofs.WriteCalls.{on_ok, sealed_none, write_failed, write_kept, write_last_untampered, write_moves, write_refused, write_reread, write_reserved, write_sealed, write_sealed_in_part, write_spent, write_spent_last, write_stored, write_tampered, write_untampered, write_used_up}
+use Rattle.page_reencrypt.proofs.WriteCalls.{lasting_write, on_ok, sealed_none, write_failed, write_kept, write_last_untampered, write_moved, write_refused, write_reread, write_reserved, write_sealed, write_sealed_in_part, write_spent, write_spent_last, write_stored, write_tampered, write_untampered, write_used_up}
 use Rattle.page_reencrypt.proofs.sealed_lines.SealedLinesLineStore.write_line.Goals as goal
 
 pub returns-in-Some-clause-moved : goal.returns-in-Some-clause-moved
-returns-in-Some-clause-moved g c = moves_not g.B.Bus.history g.B.Bus.moved (tags_of g.T.Tagger.data_tag_of g.T.Tagger.node_tag_of) g.met.B.Bus.unmoved c.args.self.now
+returns-in-Some-clause-moved g c =
+    let tags = tags_of g.T.Tagger.data_tag_of g.T.Tagger.node_tag_of in
+    subst (λ (seen : SealedLinesView g.row.B.Denot g.row.T.Denot).
+    WriteMoved g.B.Bus.history g.B.Bus.moved tags seen c.args.line c.args.bytes.now (Err c.in-Some.stop) seen) c.self.view_is
+    (lasting_write g.B.Bus.history g.B.Bus.moved tags g.met.B.Bus.unmoved
+    (sealed_lines_view c.self.inside) c.args.line c.args.bytes.now c.in-Some.stop (sym c.lasting.ensures ∙ c.in-Some.is))
 
 pub returns-in-Some-clause-sealed_in_part : goal.returns-in-Some-clause-sealed_in_part
 returns-in-Some-clause-sealed_in_part g c = sealed_none c.args.line c.args.bytes.now c.args.self.now
@@ -89,8 +95,8 @@ returns-clause-moved g c =
     let going : lasting_stop lines.stopped ≡ None = sym c.lasting.ensures ∙ c.in_default.is in
     let stops : c.or-self-inside.result ≡ option_or (result_err c.write_next-written.result) lines.stopped =
     c.or-self-inside.ensures ∙ ap (λ (o : Option MemStop). option_or o lines.stopped) c.err.ensures.value in
-    rw (← c.self.view_is) (write_moves g.T.Tagger.data_tag_of g.T.Tagger.node_tag_of g.B.Bus.history g.B.Bus.moved lines c.args.line c.args.bytes.now c.self.invariant.1 going inside new counters
-    c.write_next-written.result c.write_next-written.ensures.written c.or-self-inside.result stops)
+    rw (← c.self.view_is) (write_moved g.T.Tagger.data_tag_of g.T.Tagger.node_tag_of g.B.Bus.history g.B.Bus.moved lines c.args.line c.args.bytes.now c.self.invariant.1 going inside new counters
+    c.write_next-written.result c.write_next-written.ensures.written c.or-self-inside.result stops c.write_next-written.ensures.once c.write_next-written.ensures.few)
 
 pub returns-clause-sealed : goal.returns-clause-sealed
 returns-clause-sealed g c =
