@@ -1,5 +1,5 @@
 -- What calls make of a cache of lines.
-use Rattle.std.proofs.Common.{◌≡◌, ◌≢◌, ◌⊎◌, inl, inr, ℕ, ◌+◌, ◌*◌, ◌≤◌, List, [], ◌∷◌, length, length-append, map, Bool, true, false, Option, Some, None, IsSome, is_some, Contains, Result, Ok, Err, IfOk, OnOk, OnErr, refl, sym, ◌∙◌, ap, subst, arith}
+use Rattle.std.proofs.Common.{◌≡◌, ◌≢◌, ◌⊎◌, inl, inr, ℕ, ◌+◌, ◌*◌, ◌≤◌, List, [], ◌∷◌, length, length-append, map, Bool, true, false, Option, Some, None, IsSome, is_some, Contains, Result, Ok, Err, IfOk, IfErr, OnOk, OnErr, refl, sym, ◌∙◌, ap, subst, arith}
 use Rattle.std.specs.Option.{option_map, option_or}
 use Rattle.std.specs.Result.{result_err}
 use Rattle.std.proofs.lemmas.Bool.{true≢false}
@@ -95,6 +95,15 @@ module _ {S : Type 0} (read_moved : S → ℕ → Result (List ℕ) MemStop → 
       stops = refl;
       copy = tt;
     }
+
+-- what is so of an answer is so of each case of it
+pub if_ok : {A : Type 0} (answer : Result (Unit {0}) A) (P : Result (Unit {0}) A → Type 0) → P answer → OnOk answer (P (Ok tt))
+if_ok (Ok done) P p = p
+if_ok (Err stop) P p = tt
+
+pub if_err : {A E : Type 0} (answer : Result A E) (P : Result A E → Type 0) → P answer → IfErr answer (λ stop. P (Err stop))
+if_err (Ok done) P p = tt
+if_err (Err stop) P p = p
 
 -- what is always so is so of an answer
 pub on_ok : {A E : Type 0} (answer : Result A E) (P : Type 0) → P → OnOk answer P

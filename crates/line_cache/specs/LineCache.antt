@@ -1,5 +1,5 @@
 -- A cache of lines over a store of lines.
-use Rattle.std.specs.Prelude.{◌≡◌, ℕ, ◌<◌, ◌≤◌, if◌then◌else◌, List, [], ◌∷◌, ◌++◌, length, take, replicate, false, Option, Some, None, Result, Ok, Err, IfOk, ◌⊎◌, Contains}
+use Rattle.std.specs.Prelude.{◌≡◌, ℕ, ◌<◌, ◌≤◌, if◌then◌else◌, List, [], ◌∷◌, ◌++◌, length, take, replicate, true, false, Option, Some, None, Result, Ok, Err, IfOk, ◌⊎◌, Contains}
 use Rattle.std.specs.Option.{option_or}
 use Rattle.std.specs.Result.{result_err}
 use Rattle.sec_base.specs.Lines.{IsLineCount, joined_lines, line_at}

@@ -1,10 +1,13 @@
-use Rattle.std.proofs.Common.{rules, ◌≡◌, ◌∙◌, ◌⊎◌, inl, inr, ℕ, ◌<◌, List, Option, None, length, false, refl, sym, ap, subst}
+use Rattle.std.proofs.Common.{rules, ◌≡◌, ◌∙◌, ◌⊎◌, inl, inr, ℕ, ◌<◌, List, Option, None, Result, Ok, Err, length, false, refl, sym, ap, subst}
 use Rattle.std.specs.Option.{option_map}
-use Rattle.std.proofs.lemmas.Option.{none-some, same_Some}
+use Rattle.std.specs.Result.{result_err}
+use Rattle.std.proofs.lemmas.Option.{same_Some}
+use Rattle.std.proofs.lemmas.Result.{err_from_is_err_and}
 use Rattle.sec_base.specs.Lines.{line_at}
+use Rattle.sec_base.specs.declared.stop.MemStop.{MemStop}
 use Rattle.cache_set.specs.declared.way.Way.{Way}
-use Rattle.cache_set.specs.Cache.{victim_for, way_at}
-use Rattle.line_cache.specs.LineCache.{AreClean, AreCopies, with_new, with_room}
+use Rattle.cache_set.specs.Cache.{way_at}
+use Rattle.line_cache.specs.LineCache.{AreClean, AreCopies, IsMissed, with_new, with_room}
 use Rattle.line_cache.proofs.Lines.{clean_with, copies_with, over_put}
 use Rattle.line_cache.proofs.Steps.{missed, missed_in_part, on_err, over_equal}
 use Rattle.line_cache.proofs.fetch.fetch.Goals as goal
@@ -14,11 +17,14 @@ use Rattle.line_cache.proofs.fetch.fetch.Goals as goal
 pub returns-in_err-make_room-clause-others : goal.returns-in_err-make_room-clause-others
 returns-in_err-make_room-clause-others g c = λ other apart. c.in_err-make_room.ensures.others other
 
-pub returns-in_err-make_room-clause-moved : goal.returns-in_err-make_room-clause-moved
-returns-in_err-make_room-clause-moved g c =
-    missed_in_part g.S.LineStore.stopped g.S.LineStore.read_moved g.S.LineStore.write_moved (victim_for c.args.lines.now c.args.line)
-    c.args.store.now c.make_room.new.store c.args.line c.in_err-make_room.ensures.moved_in_part
-    (λ still none. none-some _ (sym none ∙ c.in_err-make_room.ensures.stops still))
+pub returns-in_err-make_room-clause-missed : goal.returns-in_err-make_room-clause-missed
+returns-in_err-make_room-clause-missed g c =
+    let p = err_from_is_err_and c.from_residual.result c.from_residual.ensures.1 in
+    let stop : MemStop = c.in_err-make_room.field-0.0 in
+    subst (λ (answer : Result (Unit {0}) MemStop). IsMissed g.S.LineStore.read_moved g.S.LineStore.write_moved c.args.lines.now c.args.store.now c.args.line (λ bytes. bytes)
+    (result_err answer) c.make_room.new.lines c.make_room.new.store) (sym (p.1 ∙ ap Err p.2))
+    (missed_in_part g.S.LineStore.read_moved g.S.LineStore.write_moved c.args.lines.now c.make_room.new.lines c.args.store.now c.make_room.new.store c.args.line stop
+    c.in_err-make_room.ensures.moved_in_part)
 
 pub returns-in_err-make_room-clause-ways_left : goal.returns-in_err-make_room-clause-ways_left
 returns-in_err-make_room-clause-ways_left g c = on_err c.from_residual.result _ (inl c.in_err-make_room.ensures.ways_left)
@@ -42,10 +48,14 @@ returns-in_err-copy-clause-contents g c = λ still sound clean.
 pub returns-in_err-copy-clause-others : goal.returns-in_err-copy-clause-others
 returns-in_err-copy-clause-others g c = λ other apart. c.in_ok-make_room.ensures.others other
 
-pub returns-in_err-copy-clause-moved : goal.returns-in_err-copy-clause-moved
-returns-in_err-copy-clause-moved g c =
-    missed g.S.LineStore.stopped g.S.LineStore.read_moved g.S.LineStore.write_moved (victim_for c.args.lines.now c.args.line)
-    c.args.store.now c.make_room.new.store c.read_line.new.self c.args.line c.in_ok-make_room.ensures.goes_on c.in_ok-make_room.ensures.moved c.in_err-copy.ensures.moved
+pub returns-in_err-copy-clause-missed : goal.returns-in_err-copy-clause-missed
+returns-in_err-copy-clause-missed g c =
+    let p = err_from_is_err_and c.from_residual-in_err-copy.result c.from_residual-in_err-copy.ensures.1 in
+    let stop : MemStop = c.in_err-copy.field-0.0 in
+    subst (λ (answer : Result (Unit {0}) MemStop). IsMissed g.S.LineStore.read_moved g.S.LineStore.write_moved c.args.lines.now c.args.store.now c.args.line (λ bytes. bytes)
+    (result_err answer) c.make_room.new.lines c.read_line.new.self) (sym (p.1 ∙ ap Err p.2))
+    (missed g.S.LineStore.read_moved g.S.LineStore.write_moved c.args.lines.now c.make_room.new.lines c.args.store.now c.read_line.new.self c.args.line c.make_room.new.store (Err stop)
+    c.in_ok-make_room.ensures.moved c.in_err-copy.ensures.moved tt)
 
 pub returns-in_err-copy-clause-ways_left : goal.returns-in_err-copy-clause-ways_left
 returns-in_err-copy-clause-ways_left g c = on_err c.from_residual-in_err-copy.result _ (inr c.in_ok-make_room.ensures.ways)
@@ -87,10 +97,10 @@ pub returns-clause-others : goal.returns-clause-others
 returns-clause-others g c = λ other apart.
     subst (λ (found : Option Way). (found ≡ way_at c.args.lines.now other) ⊎ (found ≡ None)) (sym (c.put.ensures.same other apart)) (c.in_ok-make_room.ensures.others other)
 
-pub returns-clause-moved : goal.returns-clause-moved
-returns-clause-moved g c =
-    missed g.S.LineStore.stopped g.S.LineStore.read_moved g.S.LineStore.write_moved (victim_for c.args.lines.now c.args.line)
-    c.args.store.now c.make_room.new.store c.read_line.new.self c.args.line c.in_ok-make_room.ensures.goes_on c.in_ok-make_room.ensures.moved c.in_ok-copy.ensures.moved
+pub returns-clause-missed : goal.returns-clause-missed
+returns-clause-missed g c =
+    missed g.S.LineStore.read_moved g.S.LineStore.write_moved c.args.lines.now c.put.new.self c.args.store.now c.read_line.new.self c.args.line c.make_room.new.store (Ok c.in_ok-copy.copy)
+    c.in_ok-make_room.ensures.moved c.in_ok-copy.ensures.moved (ap (option_map (λ (way : Way). way.copy)) c.put.ensures.put)
 
 pub returns-clause-ways : goal.returns-clause-ways
 returns-clause-ways g c = λ copy is.

@@ -1,9 +1,11 @@
-use Rattle.std.proofs.Common.{rules, ◌≡◌, ◌∙◌, inl, ℕ, Option, None, refl, sym, ap, subst}
+use Rattle.std.proofs.Common.{rules, ◌≡◌, ◌∙◌, inl, ℕ, Option, None, Result, Err, IfErr, refl, sym, ap, subst}
+use Rattle.std.proofs.lemmas.Result.{err_from_is_err_and}
+use Rattle.sec_base.specs.declared.stop.MemStop.{MemStop}
 use Rattle.cache_set.specs.declared.way.Way.{Way}
-use Rattle.line_cache.specs.LineCache.{AreCopies, contents_over, room_if}
+use Rattle.line_cache.specs.LineCache.{AreCopies, contents_over, if_changed, leaving, room_if}
 use Rattle.line_cache.specs.WriteBack.{IsGone, IsWritten}
 use Rattle.line_cache.proofs.Lines.{copies_part, part_gone}
-use Rattle.line_cache.proofs.Steps.{clean_gone, contents_gone, kept_in_part, less_gone, on_err}
+use Rattle.line_cache.proofs.Steps.{clean_gone, contents_gone, kept_in_part, less_gone}
 use Rattle.line_cache.proofs.fetch.make_room.Goals as goal
 
 -- there is room
@@ -20,7 +22,7 @@ returns-in_default-clause-others g c = λ other. inl refl
 pub returns-in_default-clause-moved : goal.returns-in_default-clause-moved
 returns-in_default-clause-moved g c =
     let is : c.victim.result ≡ None = search rules in
-    subst (λ (v : Option Way). IsGone g.S.LineStore.write_moved v c.args.store.now c.args.store.now) (sym is ∙ c.victim.ensures.victim) refl
+    subst (λ (v : Option Way). IsGone g.S.LineStore.write_moved (if_changed v) c.args.store.now c.args.store.now) (sym is ∙ c.victim.ensures.victim) refl
 
 pub returns-in_default-clause-ways : goal.returns-in_default-clause-ways
 returns-in_default-clause-ways g c =
@@ -45,8 +47,12 @@ pub returns-in_err-write_back-clause-others : goal.returns-in_err-write_back-cla
 returns-in_err-write_back-clause-others g c = λ other. inl refl
 
 pub returns-in_err-write_back-clause-moved_in_part : goal.returns-in_err-write_back-clause-moved_in_part
-returns-in_err-write_back-clause-moved_in_part g c = on_err c.from_residual.result _
-    (subst (λ (v : Option Way). IsWritten g.S.LineStore.write_moved v c.args.store.now c.write_back.new.store) (sym c.in-Some.is ∙ c.victim.ensures.victim)
+returns-in_err-write_back-clause-moved_in_part g c =
+    let stop : MemStop = c.in_err-write_back.field-0.0 in
+    let p = err_from_is_err_and c.from_residual.result c.from_residual.ensures.1 in
+    let is : c.from_residual.result ≡ Err stop = p.1 ∙ ap Err p.2 in
+    subst (λ (answer : Result (Unit {0}) MemStop). IfErr answer (λ stop. IsWritten g.S.LineStore.write_moved (leaving c.args.lines.now c.args.line) stop c.args.store.now c.write_back.new.store)) (sym is)
+    (subst (λ (v : Option Way). IsWritten g.S.LineStore.write_moved (if_changed v) stop c.args.store.now c.write_back.new.store) (sym c.in-Some.is ∙ c.victim.ensures.victim)
     c.in_err-write_back.ensures.moved_in_part)
 
 pub returns-clause-copies : goal.returns-clause-copies
@@ -79,7 +85,7 @@ returns-clause-others g c = less_gone c.args.lines.now c.remove.new.self c.in-So
 
 pub returns-clause-moved : goal.returns-clause-moved
 returns-clause-moved g c =
-    subst (λ (v : Option Way). IsGone g.S.LineStore.write_moved v c.args.store.now c.write_back.new.store) (sym c.in-Some.is ∙ c.victim.ensures.victim)
+    subst (λ (v : Option Way). IsGone g.S.LineStore.write_moved (if_changed v) c.args.store.now c.write_back.new.store) (sym c.in-Some.is ∙ c.victim.ensures.victim)
     c.in_ok-write_back.ensures.moved
 
 pub returns-clause-ways : goal.returns-clause-ways

@@ -1,6 +1,8 @@
-use Rattle.std.proofs.Common.{rules, ◌≡◌, ◌⊎◌, List, ℕ, Bool, true, false, OnOk, OnErr, refl, sym, subst}
-use Rattle.line_cache.specs.WriteBack.{IsGoneIf}
-use Rattle.line_cache.proofs.Steps.{on_err, on_ok, written_not, written_so}
+use Rattle.std.proofs.Common.{rules, ◌≡◌, ◌⊎◌, if◌then◌else◌, List, ℕ, Bool, true, false, Some, None, Result, IfErr, OnOk, OnErr, refl, sym, subst}
+use Rattle.sec_base.specs.declared.stop.MemStop.{MemStop}
+use Rattle.cache_set.specs.declared.way.Way.{Way}
+use Rattle.line_cache.specs.WriteBack.{IsGone, IsWritten}
+use Rattle.line_cache.proofs.Steps.{if_err, if_ok, written_not, written_so}
 use Rattle.line_cache.proofs.fetch.write_back.Goals as goal
 
 -- a way that was not changed
@@ -13,7 +15,7 @@ returns-then-not-way-clause-stored g c = λ still sound.
 pub returns-then-not-way-clause-moved : goal.returns-then-not-way-clause-moved
 returns-then-not-way-clause-moved g c =
     let unmarked : c.args.way.now.changed ≡ false = search rules in
-    subst (λ (b : Bool). IsGoneIf g.S.LineStore.write_moved b c.args.way.now.place c.args.store.now c.args.store.now) (sym unmarked) refl
+    subst (λ (b : Bool). IsGone g.S.LineStore.write_moved (if b then Some c.args.way.now else None) c.args.store.now c.args.store.now) (sym unmarked) refl
 
 -- a way that was
 
@@ -33,10 +35,16 @@ returns-clause-refused g c = λ still sound.
 pub returns-clause-moved : goal.returns-clause-moved
 returns-clause-moved g c =
     let marked : c.args.way.now.changed ≡ true = search rules in
-    on_ok c.write_line.result _
-    (subst (λ (b : Bool). IsGoneIf g.S.LineStore.write_moved b c.args.way.now.place c.args.store.now c.write_line.new.self) (sym marked) c.write_line.ensures.moved)
+    let way : Way = c.args.way.now in
+    subst (λ (b : Bool). OnOk c.write_line.result (IsGone g.S.LineStore.write_moved (if b then Some way else None) c.args.store.now c.write_line.new.self)) (sym marked)
+    (if_ok c.write_line.result (λ (answer : Result (Unit {0}) MemStop). g.S.LineStore.write_moved c.args.store.now way.place way.copy answer c.write_line.new.self)
+    c.write_line.ensures.moved)
 
 pub returns-clause-moved_in_part : goal.returns-clause-moved_in_part
 returns-clause-moved_in_part g c =
     let marked : c.args.way.now.changed ≡ true = search rules in
-    on_err c.write_line.result _ (marked, c.write_line.ensures.moved)
+    let way : Way = c.args.way.now in
+    subst (λ (b : Bool). IfErr c.write_line.result (λ stop. IsWritten g.S.LineStore.write_moved (if b then Some way else None) stop c.args.store.now c.write_line.new.self))
+    (sym marked)
+    (if_err c.write_line.result (λ (answer : Result (Unit {0}) MemStop). g.S.LineStore.write_moved c.args.store.now way.place way.copy answer c.write_line.new.self)
+    c.write_line.ensures.moved)

@@ -1,9 +1,10 @@
-use Rattle.std.proofs.Common.{◌≡◌, ◌∙◌, ◌⊎◌, ◌<◌, List, None, Contains, refl, sym, ap, subst}
+use Rattle.std.proofs.Common.{◌≡◌, ◌∙◌, ◌⊎◌, ◌<◌, List, Some, None, Contains, refl, sym, ap, subst}
 use Rattle.std.specs.Option.{option_or}
 use Rattle.sec_base.specs.Lines.{IsLineCount}
 use Rattle.cache_set.specs.declared.way.Way.{Way}
-use Rattle.cache_set.specs.Cache.{victim_for, way_at}
-use Rattle.line_cache.specs.LineCache.{AreClean, AreCopies, IsMiss, IsStep, LineCacheView, brought, contents, contents_over, held_lines, stopped, with_new, with_room}
+use Rattle.cache_set.specs.Cache.{way_at}
+use Rattle.cache_set.proofs.Listed.{listed_at}
+use Rattle.line_cache.specs.LineCache.{AreClean, AreCopies, IsMissed, IsStep, LineCacheView, brought, contents, contents_over, held_lines, stopped, with_new, with_room}
 use Rattle.line_cache.proofs.Lines.{clean_part, copies_part, over_touched, part_same}
 use Rattle.line_cache.proofs.Steps.{both_none, brought_held, brought_missed, none_of_both, not_held, step_hit, step_miss, stop_first, stop_kept}
 use Rattle.line_cache.proofs.line_cache.LineCache.bring.Goals as goal
@@ -35,9 +36,9 @@ returns-then-touch-clause-lost g c = λ sound. subst (λ (m : LineCacheView g.ro
 
 pub returns-then-touch-clause-moved : goal.returns-then-touch-clause-moved
 returns-then-touch-clause-moved g c =
-    subst (λ (m : LineCacheView g.row.S.Denot). IsStep g.S.LineStore.stopped g.S.LineStore.read_moved g.S.LineStore.write_moved m c.args.line
+    subst (λ (m : LineCacheView g.row.S.Denot). IsStep g.S.LineStore.read_moved g.S.LineStore.write_moved m c.args.line
     (record { store = c.self.inside.store; lines = c.touch.new.self; stop = c.self.inside.stop })) c.self.view_is
-    (step_hit g.S.LineStore.stopped g.S.LineStore.read_moved g.S.LineStore.write_moved
+    (step_hit g.S.LineStore.read_moved g.S.LineStore.write_moved
     (record { store = c.self.inside.store; lines = c.self.inside.lines; stop = c.self.inside.stop })
     (record { store = c.self.inside.store; lines = c.touch.new.self; stop = c.self.inside.stop }) c.args.line
     c.self.invariant.copies.cache c.touch.ensures.cache (c.touch.ensures.held.0 c.if-touch.true) refl c.touch.ensures.same)
@@ -110,14 +111,15 @@ pub returns-in-Ok-clause-moved : goal.returns-in-Ok-clause-moved
 returns-in-Ok-clause-moved g c =
     let none : way_at c.self.inside.lines c.args.line ≡ None =
     ap (λ (ways : List (List Way)). way_at ways c.args.line) (sym (c.touch.ensures.unchanged c.if-touch.false)) ∙ c.touch.ensures.absent c.if-touch.false in
-    subst (λ (m : LineCacheView g.row.S.Denot). IsStep g.S.LineStore.stopped g.S.LineStore.read_moved g.S.LineStore.write_moved m c.args.line
+    subst (λ (m : LineCacheView g.row.S.Denot). IsStep g.S.LineStore.read_moved g.S.LineStore.write_moved m c.args.line
     (record { store = c.fetch.new.store; lines = c.fetch.new.lines; stop = c.self.inside.stop })) c.self.view_is
-    (step_miss g.S.LineStore.stopped g.S.LineStore.read_moved g.S.LineStore.write_moved
+    (step_miss g.S.LineStore.read_moved g.S.LineStore.write_moved
     (record { store = c.self.inside.store; lines = c.self.inside.lines; stop = c.self.inside.stop })
     (record { store = c.fetch.new.store; lines = c.fetch.new.lines; stop = c.self.inside.stop }) c.args.line
     c.self.invariant.copies.cache c.in-Ok.ensures.copies.cache none
-    (subst (λ (ways : List (List Way)). IsMiss g.S.LineStore.stopped g.S.LineStore.read_moved g.S.LineStore.write_moved (victim_for ways c.args.line) c.self.inside.store c.args.line c.fetch.new.store)
-    (c.touch.ensures.unchanged c.if-touch.false) c.in-Ok.ensures.moved)
+    (λ bytes. bytes) None
+    (subst (λ (ways : List (List Way)). IsMissed g.S.LineStore.read_moved g.S.LineStore.write_moved ways c.self.inside.store c.args.line (λ bytes. bytes) None c.fetch.new.lines c.fetch.new.store)
+    (c.touch.ensures.unchanged c.if-touch.false) c.in-Ok.ensures.missed)
     (λ other apart. subst (λ (ways : List (List Way)). (way_at c.fetch.new.lines other ≡ way_at ways other) ⊎ (way_at c.fetch.new.lines other ≡ None))
     (c.touch.ensures.unchanged c.if-touch.false) (c.in-Ok.ensures.others other apart)))
 
@@ -170,14 +172,15 @@ pub returns-in-Err-clause-moved : goal.returns-in-Err-clause-moved
 returns-in-Err-clause-moved g c =
     let none : way_at c.self.inside.lines c.args.line ≡ None =
     ap (λ (ways : List (List Way)). way_at ways c.args.line) (sym (c.touch.ensures.unchanged c.if-touch.false)) ∙ c.touch.ensures.absent c.if-touch.false in
-    subst (λ (m : LineCacheView g.row.S.Denot). IsStep g.S.LineStore.stopped g.S.LineStore.read_moved g.S.LineStore.write_moved m c.args.line
+    subst (λ (m : LineCacheView g.row.S.Denot). IsStep g.S.LineStore.read_moved g.S.LineStore.write_moved m c.args.line
     (record { store = c.fetch.new.store; lines = c.fetch.new.lines; stop = c.or-self-inside.result })) c.self.view_is
-    (step_miss g.S.LineStore.stopped g.S.LineStore.read_moved g.S.LineStore.write_moved
+    (step_miss g.S.LineStore.read_moved g.S.LineStore.write_moved
     (record { store = c.self.inside.store; lines = c.self.inside.lines; stop = c.self.inside.stop })
     (record { store = c.fetch.new.store; lines = c.fetch.new.lines; stop = c.or-self-inside.result }) c.args.line
     c.self.invariant.copies.cache c.in-Err.ensures.copies.cache none
-    (subst (λ (ways : List (List Way)). IsMiss g.S.LineStore.stopped g.S.LineStore.read_moved g.S.LineStore.write_moved (victim_for ways c.args.line) c.self.inside.store c.args.line c.fetch.new.store)
-    (c.touch.ensures.unchanged c.if-touch.false) c.in-Err.ensures.moved)
+    (λ bytes. bytes) (Some c.in-Err.stop)
+    (subst (λ (ways : List (List Way)). IsMissed g.S.LineStore.read_moved g.S.LineStore.write_moved ways c.self.inside.store c.args.line (λ bytes. bytes) (Some c.in-Err.stop) c.fetch.new.lines c.fetch.new.store)
+    (c.touch.ensures.unchanged c.if-touch.false) c.in-Err.ensures.missed)
     (λ other apart. subst (λ (ways : List (List Way)). (way_at c.fetch.new.lines other ≡ way_at ways other) ⊎ (way_at c.fetch.new.lines other ≡ None))
     (c.touch.ensures.unchanged c.if-touch.false) (c.in-Err.ensures.others other apart)))
 
@@ -193,3 +196,24 @@ returns-in-Err-clause-ways_left g c =
     subst (λ (m : LineCacheView g.row.S.Denot). (c.fetch.new.lines ≡ m.lines) ⊎ (c.fetch.new.lines ≡ with_room m.lines c.args.line)) c.self.view_is
     (subst (λ (ways : List (List Way)). (c.fetch.new.lines ≡ ways) ⊎ (c.fetch.new.lines ≡ with_room ways c.args.line)) (c.touch.ensures.unchanged c.if-touch.false)
     c.in-Err.ensures.ways_left)
+
+-- by parts of the cache
+
+pub returns-then-touch-clause-missed : goal.returns-then-touch-clause-missed
+returns-then-touch-clause-missed g c = λ out.
+    absurd (out (subst (λ (m : LineCacheView g.row.S.Denot). Contains (held_lines m) c.args.line) c.self.view_is
+    (listed_at c.self.inside.lines c.args.line (c.touch.ensures.held.0 c.if-touch.true))))
+
+pub returns-in-Ok-clause-missed : goal.returns-in-Ok-clause-missed
+returns-in-Ok-clause-missed g c = λ out.
+    subst (λ (m : LineCacheView g.row.S.Denot). IsMissed g.S.LineStore.read_moved g.S.LineStore.write_moved m.lines m.store c.args.line (λ bytes. bytes) None
+    c.fetch.new.lines c.fetch.new.store) c.self.view_is
+    (subst (λ (ways : List (List Way)). IsMissed g.S.LineStore.read_moved g.S.LineStore.write_moved ways c.self.inside.store c.args.line (λ bytes. bytes) None
+    c.fetch.new.lines c.fetch.new.store) (c.touch.ensures.unchanged c.if-touch.false) c.in-Ok.ensures.missed)
+
+pub returns-in-Err-clause-missed : goal.returns-in-Err-clause-missed
+returns-in-Err-clause-missed g c = λ out.
+    subst (λ (m : LineCacheView g.row.S.Denot). IsMissed g.S.LineStore.read_moved g.S.LineStore.write_moved m.lines m.store c.args.line (λ bytes. bytes) (Some c.in-Err.stop)
+    c.fetch.new.lines c.fetch.new.store) c.self.view_is
+    (subst (λ (ways : List (List Way)). IsMissed g.S.LineStore.read_moved g.S.LineStore.write_moved ways c.self.inside.store c.args.line (λ bytes. bytes) (Some c.in-Err.stop)
+    c.fetch.new.lines c.fetch.new.store) (c.touch.ensures.unchanged c.if-touch.false) c.in-Err.ensures.missed)

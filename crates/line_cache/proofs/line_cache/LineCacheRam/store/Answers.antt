@@ -1,4 +1,4 @@
-use Rattle.std.proofs.Common.{rules, ◌≡◌, ◌∙◌, inl, ℕ, ◌*◌, ◌%◌, ◌/◌, List, Some, length, true, refl, sym, ap, subst}
+use Rattle.std.proofs.Common.{rules, ◌≡◌, ◌∙◌, inl, ℕ, ◌*◌, ◌%◌, ◌/◌, List, Some, None, length, true, refl, sym, ap, subst}
 use Rattle.std.specs.Option.{option_map}
 use Rattle.std.proofs.lemmas.Bool.{true≢false}
 use Rattle.std.proofs.lemmas.Option.{same_Some}
@@ -7,9 +7,9 @@ use Rattle.sec_base.specs.Width.{with_number}
 use Rattle.sec_base.proofs.LineNumbers.{number_written}
 use Rattle.cache_set.specs.declared.way.Way.{Way}
 use Rattle.cache_set.specs.Cache.{copy_at, way_at}
-use Rattle.line_cache.specs.LineCache.{IsStep, LineCacheView, contents, contents_over, stopped, with_changed}
+use Rattle.line_cache.specs.LineCache.{IsMissed, IsStep, LineCacheView, contents, contents_over, stopped, with_changed}
 use Rattle.line_cache.proofs.Lines.{clean_with, copies_with, over_changed, over_held}
-use Rattle.line_cache.proofs.Steps.{on_err, step_changed, way_of_copy}
+use Rattle.line_cache.proofs.Steps.{missed_changed, on_err, step_changed, way_of_copy}
 use Rattle.line_cache.proofs.line_cache.LineCacheRam.store.Goals as goal
 
 -- the line does not come
@@ -80,9 +80,9 @@ returns-clause-moved g c =
     let after : LineCacheView g.row.S.Denot = record { store = c.self.inside.store; lines = c.self.inside.lines; stop = c.self.inside.stop } in
     let changed : LineCacheView g.row.S.Denot = record { store = c.self.inside.store; lines = c.change.new.self; stop = c.self.inside.stop } in (
       changed,
-      step_changed g.S.LineStore.stopped g.S.LineStore.read_moved g.S.LineStore.write_moved before after changed (c.args.addr / 64) c.change.ensures.cache
-          (subst (λ (m : LineCacheView g.row.S.Denot). IsStep g.S.LineStore.stopped g.S.LineStore.read_moved g.S.LineStore.write_moved before (c.args.addr / 64) m) (sym c.self.view_is) c.in_ok-bring.ensures.moved)
-          refl c.change.ensures.same,
+      step_changed g.S.LineStore.read_moved g.S.LineStore.write_moved before after changed (c.args.addr / 64) refl c.change.ensures.cache
+          (subst (λ (m : LineCacheView g.row.S.Denot). IsStep g.S.LineStore.read_moved g.S.LineStore.write_moved before (c.args.addr / 64) m) (sym c.self.view_is) c.in_ok-bring.ensures.moved)
+          c.change.ensures.same,
       refl,
     )
 
@@ -111,3 +111,18 @@ returns-clause-ways g c =
           ∙ ap (λ (ways : List (List Way)). with_changed ways line (with_number copy (c.args.addr % 64) c.args.width c.args.value))
           (ap (λ (m : LineCacheView g.row.S.Denot). m.lines) c.self.view_is ∙ c.in_ok-bring.ensures.ways copy is)),
     )
+
+pub returns-clause-missed : goal.returns-clause-missed
+returns-clause-missed g c = λ out.
+    let before : LineCacheView g.row.S.Denot = c.args.self.now in
+    let after : LineCacheView g.row.S.Denot = record { store = c.self.inside.store; lines = c.self.inside.lines; stop = c.self.inside.stop } in
+    let changed : LineCacheView g.row.S.Denot = record { store = c.self.inside.store; lines = c.change.new.self; stop = c.self.inside.stop } in
+    let line = c.args.addr / 64 in
+    missed_changed g.S.LineStore.read_moved g.S.LineStore.write_moved before after changed line refl
+    (λ bytes. with_number bytes (c.args.addr % 64) c.args.width c.args.value) None
+    (subst (λ (m : LineCacheView g.row.S.Denot). IsMissed g.S.LineStore.read_moved g.S.LineStore.write_moved before.lines before.store line (λ bytes. bytes) None m.lines m.store)
+    (sym c.self.view_is) (c.in_ok-bring.ensures.missed out))
+    (λ bytes is.
+    let same : c.latest.result.now ≡ bytes = same_Some c.latest.result.now bytes (sym c.latest.ensures ∙ is) in
+    ap (option_map (λ (way : Way). way.copy)) c.change.ensures.changed
+    ∙ ap Some (c.write.ensures ∙ ap (λ (held : List ℕ). with_number held (c.args.addr % 64) c.args.width c.args.value) same))
