@@ -8,9 +8,9 @@ use Rattle.sec_base.specs.Lines.{line_at, with_line}
 use Rattle.sec_base.specs.declared.stop.MemStop.{MemStop}
 use Rattle.cache_set.specs.declared.way.Way.{Way}
 use Rattle.cache_set.specs.CacheSet.{IsSet, touched}
-use Rattle.cache_set.specs.Cache.{AreSets, IsCache, copy_at, place_of, places, set_at, way_at, with_set}
+use Rattle.cache_set.specs.Cache.{AreSets, IsCache, copy_at, place_of, places, set_at, victim_if, way_at, with_set}
 use Rattle.cache_set.proofs.Listed.{found_at, listed_at}
-use Rattle.line_cache.specs.LineCache.{AreClean, AreCopies, IsMiss, IsMissed, IsStep, LineCacheView, brought, brought_if, contents_over, leaving, line_sets, most_held, with_new, with_room}
+use Rattle.line_cache.specs.LineCache.{AreClean, AreCopies, IsMiss, IsMissed, IsStep, LineCacheView, brought, brought_if, contents_over, if_changed, leaving, line_sets, most_held, with_new, with_room}
 use Rattle.line_cache.specs.WriteBack.{IsGone, IsWritten, written, written_if}
 use Rattle.line_cache.proofs.Lines.{clean_part, clean_written, line_written, over_gone, over_written, part_gone, same_or_not}
 
@@ -157,6 +157,11 @@ stop_first first kept later stop e none = ap (λ (s : Option MemStop). option_or
 pub brought_missed : (lines : List (List Way)) (line : ℕ) (copy : List ℕ) → way_at lines line ≡ None → with_new (with_room lines line) line copy ≡ brought lines line copy
 brought_missed lines line copy none = ap (λ (found : Option Way). brought_if found lines line copy) (sym none)
 
+-- no way goes out for a line that has one
+none_leaves : (found : Option Way) (ways : List Way) → IsSome found → if_changed (victim_if found ways) ≡ None
+none_leaves None ways there = absurd (true≢false (sym there))
+none_leaves (Some way) ways there = refl
+
 -- two ways a set at most
 few_ways : (ways : List Way) → IsSet ways → length (map place_of ways) ≤ 2
 few_ways [] is = omega arith
@@ -177,7 +182,7 @@ module _ {S : Type 0} (read_moved : S → ℕ → Result (List ℕ) MemStop → 
   pub step_hit : IsSome (way_at before.lines line) → after.store ≡ before.store → ((other : ℕ) → way_at after.lines other ≡ way_at before.lines other) →
       IsStep read_moved write_moved before line after
   step_hit there stays same = record {
-    hit = λ c. stays;
+    hit = λ c. (stays, none_leaves (way_at before.lines line) (set_at before.lines line) there);
     miss = λ out. absurd (out (listed_at before.lines line there));
     held = λ other c. inl (held_before after.lines is other before.lines (inl (same other)) c);
     few = few_held after.lines is;
@@ -208,7 +213,7 @@ module _ {S : Type 0} (read_moved : S → ℕ → Result (List ℕ) MemStop → 
   pub step_changed : IsCache line_sets after'.lines → IsStep read_moved write_moved before line after →
       ((other : ℕ) → other ≢ line → way_at after'.lines other ≡ way_at after.lines other) → IsStep read_moved write_moved before line after'
   step_changed is step others = record {
-    hit = λ c. stays ∙ step.hit c;
+    hit = λ c. (stays ∙ (step.hit c).0, (step.hit c).1);
     miss = λ out. (
       (step.miss out).0,
       subst (λ (s : S). IsMiss read_moved write_moved (leaving before.lines line) before.store line (step.miss out).0 s) (sym stays) (step.miss out).1,

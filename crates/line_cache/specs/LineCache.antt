@@ -126,7 +126,7 @@ module _ {S : Type 0} (read_moved : S → ℕ → Result (List ℕ) MemStop → 
 
   -- what a call by a line makes of a cache
   pub record IsStep (before : LineCacheView S) (line : ℕ) (after : LineCacheView S) : Type 0 where
-    pub hit : Contains (held_lines before) line → after.store ≡ before.store
+    pub hit : Contains (held_lines before) line → (after.store ≡ before.store) × (leaving before.lines line ≡ None)
     pub miss : ¬ (Contains (held_lines before) line) →
         (answer : Result (List ℕ) MemStop) × IsMiss (leaving before.lines line) before.store line answer after.store
     pub held : (other : ℕ) → Contains (held_lines after) other → Contains (held_lines before) other ⊎ (other ≡ line)
