@@ -235,6 +235,7 @@ module _ {B T : Type 0} (terms : MemoryTerms B) where
           ];
       path = λ none. absurd (stopped none);
       accounted = reached.accounted;
+      shows = reached.shows;
       lied = λ place is quiet. (tampered place is).1 quiet;
       tampered = λ place is. inl (tampered place is).0;
       failed = λ other is.
@@ -360,6 +361,7 @@ module _ {B T : Type 0} (terms : MemoryTerms B) where
             ];
       };
       accounted = λ was. sealed.sealed.accounted (reached.accounted was);
+      shows = shows_on old mid new reached.node.step sealed.sealed.step reached.shows sealed.sealed.shows;
       lied = λ place is quiet.
           elim (reached.shows quiet) [
             | inl still ↦ let rose = sealed.sealed.lied place is still in omega (arith, rose, reached.node.step.lies)

@@ -252,6 +252,7 @@ module _ {B T : Type 0} (terms : MemoryTerms B) where
     -- false answers are accounted for, and tampering is of a node on the path or, with an overflow, of another line of
     -- the page
     pub accounted : AreAccounted old None → AreAccounted new stop
+    pub shows : ShowsLies old new
     pub lied : (place : Place) → stop ≡ Some (Tampered place) → old.engine.evidence ≡ None →
         Rose (terms.history old.bus).lies (terms.history new.bus).lies
     pub tampered : (place : Place) → stop ≡ Some (Tampered place) →

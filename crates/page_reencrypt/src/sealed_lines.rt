@@ -20,7 +20,6 @@ ghost use Rattle.pad_stream.specs.PadBlocks.{ShareNoBlock};
 ghost use Rattle.checked_bus.specs.Steps.{stop_of};
 ghost use Rattle.split_counter.specs.CounterBlock.{block_of, counter_of, last_counter, next_counter, place_of};
 ghost use Rattle.bonsai_tree.specs.Tree.{IsOnPath, PathWasRead, fetch_accesses};
-ghost use Rattle.counter_cache.specs.Counters.{bump_accesses};
 ghost use Rattle.page_reencrypt.specs.Contents.{counter_in, entries_of_write};
 ghost use Rattle.page_reencrypt.specs.Outside.{AreConsistent, CountersSay, HasCounter, HaveLast, HaveLastNodes, HaveRisen, IsLineRead, IsWrite, TreeFits, terms_of};
 ghost use Rattle.page_reencrypt.specs.LineMoves.{ReadMoved, WriteMoved, read_accesses, write_accesses, overflow_accesses};
@@ -381,9 +380,9 @@ fn write_next<B: Bus, T: Tagger>(
     ensures written { IsWrite (terms_of B.history B.moved T.data_tag_of T.node_tag_of outside.old) limit line bytes.now
         outside.old counters.old outside.new counters.new (stop_of result) }
     ensures once { outside.new.engine.evidence ≡ None → (next_counter (counter_in outside.old.pads.used line)).line ≢ 0 →
-        ((B.history outside.new.bus).accesses ≤ (B.history outside.old.bus).accesses + (fetch_accesses outside.old.engine.levels + bump_accesses outside.old.engine.levels + 1))
+        ((B.history outside.new.bus).accesses ≤ (B.history outside.old.bus).accesses + write_accesses outside.old.engine.levels)
         × ((other : ℕ) → (B.history outside.new.bus).reads (line_place other) ≡ (B.history outside.old.bus).reads (line_place other)) }
-    ensures few { (B.history outside.new.bus).accesses ≤ (B.history outside.old.bus).accesses + (fetch_accesses outside.old.engine.levels + bump_accesses outside.old.engine.levels + 127) }
+    ensures few { (B.history outside.new.bus).accesses ≤ (B.history outside.old.bus).accesses + overflow_accesses outside.old.engine.levels }
 {
     let page = page_of(line);
     let place = place_of(line);

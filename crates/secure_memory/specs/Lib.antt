@@ -1,2 +1,3 @@
 pub mod SecureRam
 pub mod Moving
+pub mod LineCall

@@ -1,9 +1,8 @@
 -- What contracts see of the memory that the processor sees, and what calls make of it.
-use Rattle.std.specs.Prelude.{◌≡◌, ◌⊎◌, ℕ, ◌+◌, ◌≤◌, List, [], ◌++◌, length, map, take, Option, Some, None, Contains}
+use Rattle.std.specs.Prelude.{◌≡◌, ◌⊎◌, ℕ, ◌≤◌, List, ◌++◌, length, map, Option, Some, None, Contains}
 use Rattle.sec_base.specs.declared.counter.Counter.{Counter}
 use Rattle.sec_base.specs.declared.evidence.Evidence.{Evidence}
 use Rattle.sec_base.specs.declared.message.Message.{Message}
-use Rattle.sec_base.specs.declared.place.Place.{Place}
 use Rattle.sec_base.specs.declared.place.Place.TheVariants.{Line as line_place, Node}
 use Rattle.sec_base.specs.declared.stop.MemStop.{MemStop}
 use Rattle.sec_base.specs.declared.width.Width.{Width}
@@ -13,17 +12,23 @@ use Rattle.sec_base.specs.LastMessage.{last_data, last_node}
 use Rattle.sec_base.specs.Width.{number_at}
 use Rattle.bus_model.specs.BusHistory.{BusHistory}
 use Rattle.tag_engine.specs.TagEngine.{TagEngineView}
-use Rattle.split_counter.specs.CounterBlock.{next_counter}
-use Rattle.bonsai_tree.specs.Tree.{IsOnPath, PathWasRead, fetch_accesses}
-use Rattle.counter_cache.specs.Counters.{CountersView, bump_accesses}
+use Rattle.bonsai_tree.specs.Tree.{PathWasRead}
+use Rattle.counter_cache.specs.Counters.{CountersView}
 use Rattle.counter_cache.specs.Counters as page_counters
-use Rattle.page_reencrypt.specs.Contents.{counter_in, lines_encrypted}
 use Rattle.page_reencrypt.specs.SealedLines.{IsReadBelowPath, IsReadUnder, Moves, SealedLinesView}
 use Rattle.page_reencrypt.specs.SealedLines as sealed_lines
+use Rattle.cache_set.specs.declared.way.Way.{Way}
+use Rattle.cache_set.specs.Cache.{places}
+use Rattle.line_cache.specs.LineCache.{LineCacheView, contents_over, most_held}
 
--- the lines outside
+-- the lines outside, and the sets of ways with copies of lines
 pub record SecureRamView (B T : Type 0) : Type 0 where
   pub lines : SealedLinesView B T
+  pub ways : List (List Way)
+
+-- the cache of the lines outside
+abbrev pub cache_of : {B T : Type 0} → SecureRamView B T → LineCacheView (SealedLinesView B T)
+cache_of memory = record { store = memory.lines; lines = memory.ways; stop = memory.lines.stopped }
 
 -- what was tagged and what lines were encrypted under, in order; what passed a check though it was never tagged; and
 -- the stop that is answered to each call, if there was one
@@ -46,8 +51,9 @@ levels memory = sealed_lines.levels memory.lines
 abbrev pub lines_of : {B T : Type 0} → SecureRamView B T → ℕ
 lines_of memory = sealed_lines.lines_of memory.lines
 
+-- (those of a line that has a copy are its copy's)
 abbrev pub contents : {B T : Type 0} → SecureRamView B T → List ℕ
-contents memory = sealed_lines.contents memory.lines
+contents memory = contents_over (sealed_lines.contents memory.lines) (lines_of memory) memory.ways
 
 -- nothing passed a check though it was never tagged
 abbrev pub IsQuiet : {B T : Type 0} → SecureRamView B T → Type 0
@@ -55,24 +61,14 @@ IsQuiet memory = evidence memory ≡ None
 
 -- the lines that have a copy on the chip, and the pages whose counter blocks do
 abbrev pub held_lines : {B T : Type 0} → SecureRamView B T → List ℕ
-held_lines memory = []
+held_lines memory = places memory.ways
 
 abbrev pub cached_pages : {B T : Type 0} → SecureRamView B T → List ℕ
 cached_pages memory = page_counters.cached_pages memory.lines.counters
 
--- how many lines, and how many pages, may have one
-abbrev pub most_held : ℕ
-most_held = 128
-
+-- how many pages may have one
 abbrev pub most_cached : ℕ
 most_cached = 32
-
--- how many accesses a load makes at most, and a store without an overflow
-abbrev pub load_accesses : ℕ → ℕ
-load_accesses levels = fetch_accesses levels + 1
-
-abbrev pub store_accesses : ℕ → ℕ
-store_accesses levels = load_accesses levels + (fetch_accesses levels + bump_accesses levels + 1)
 
 -- the pages of which something is on the chip
 abbrev pub pages_on_chip : {B T : Type 0} → SecureRamView B T → List ℕ
@@ -127,21 +123,3 @@ pub record IsNumberBelowPath (tag_of : Message → List ℕ) (key : List ℕ) (c
   pub bytes : List ℕ
   pub read : IsReadBelowPath tag_of key counters line before after new bytes
   pub number_is : number ≡ number_at bytes offset width
-
--- the place of the line, or of a node on the path of its page
-abbrev pub IsOfLine : {B T : Type 0} → SecureRamView B T → ℕ → Place → Type 0
-IsOfLine memory line place = (place ≡ line_place line) ⊎ IsOnPath (levels memory) 0 (page_of line) place
-
--- The entries of a write of this line were added, under one counter: its next one, where there is no evidence.
-pub record IsWrittenAnew {B T : Type 0} (line : ℕ) (old new : SecureRamView B T) : Type 0 where
-  pub counter : Counter
-  pub next : IsQuiet new → counter ≡ next_counter (counter_in (used old) line)
-  pub entries : used new ≡ used old ++ map (λ at. (at, counter)) (lines_encrypted counter line)
-
--- A front part of them was.
-pub record IsWrittenInPart {B T : Type 0} (line : ℕ) (old new : SecureRamView B T) : Type 0 where
-  pub counter : Counter
-  pub next : IsQuiet new → counter ≡ next_counter (counter_in (used old) line)
-  pub count : ℕ
-  pub within : count ≤ length (lines_encrypted counter line)
-  pub entries : used new ≡ used old ++ map (λ at. (at, counter)) (take count (lines_encrypted counter line))
