@@ -1,48 +1,68 @@
 -- What a load and a store make of a memory.
-use Rattle.std.proofs.Common.{◌≡◌, ◌≢◌, ◌⊎◌, inl, inr, ℕ, zero, suc, ◌+◌, ◌/◌, List, [], ◌∷◌, ◌++◌, length, length-append, map, take, Some, None, Result, Ok, Err, OnErr, Contains, refl, ap, sym, ◌∙◌, subst, arith, append_assoc}
+use Rattle.std.proofs.Common.{◌≡◌, ◌⊎◌, inl, inr, ℕ, zero, suc, ◌+◌, ◌/◌, ◌≤◌, List, [], ◌∷◌, ◌++◌, length, map, take, Option, Some, None, Result, Ok, Err, IfOk, IsOk, IsSome, Contains, refl, ap, sym, ◌∙◌, subst, arith}
+use Rattle.std.specs.Option.{option_or}
+use Rattle.std.specs.Result.{result_err}
 use Rattle.std.proofs.Math.Nat.{div-one, pow-zero}
-use Rattle.std.proofs.lemmas.List.{append-nil}
-use Rattle.sec_base.specs.Count.{Rose, RoseBy}
+use Rattle.std.proofs.lemmas.Bool.{true≢false}
+use Rattle.std.proofs.lemmas.List.{append-nil, take_all}
+use Rattle.std.proofs.lemmas.Option.{same_Some}
+use Rattle.sec_base.specs.Count.{Rose}
 use Rattle.sec_base.specs.Geometry.{arity, page_of}
-use Rattle.sec_base.specs.LastMessage.{data_pairs, last_node, last_pair}
+use Rattle.sec_base.specs.LastMessage.{data_pairs, last_data, last_node}
 use Rattle.sec_base.specs.Width.{number_at}
 use Rattle.sec_base.specs.declared.counter.Counter.{Counter}
+use Rattle.sec_base.specs.declared.evidence.Evidence.{Evidence}
+use Rattle.sec_base.specs.declared.evidence.Evidence.TheVariants.{Forgery}
 use Rattle.sec_base.specs.declared.message.Message.{Message}
 use Rattle.sec_base.specs.declared.place.Place.{Place}
 use Rattle.sec_base.specs.declared.place.Place.TheVariants.{Line as line_place, Node as node_place}
+use Rattle.sec_base.specs.declared.sealed.Sealed.{Sealed}
 use Rattle.sec_base.specs.declared.stop.MemStop.{MemStop}
+use Rattle.sec_base.specs.declared.stop.MemStop.TheVariants.{Tampered, Spent}
 use Rattle.sec_base.specs.declared.width.Width.{Width}
+use Rattle.sec_base.proofs.LastMessages.{none_front}
+use Rattle.sec_base.specs.LastMessage.{data_part, node_part}
 use Rattle.bus_model.specs.BusHistory.{BusHistory}
 use Rattle.tag_engine.specs.TagEngine.{TagEngineView}
 use Rattle.pad_stream.specs.Pad.{cipher_of}
-use Rattle.checked_bus.proofs.Steps.{data_pairs-append}
-use Rattle.split_counter.specs.CounterBlock.{next_counter, place_of}
+use Rattle.pad_stream.specs.PadEngine.{PadEngineView}
+use Rattle.checked_bus.specs.Steps.{stop_of}
 use Rattle.bonsai_tree.specs.Node.{path_index}
-use Rattle.bonsai_tree.specs.Tree.{IsOnPath}
-use Rattle.page_reencrypt.specs.Contents.{counter_in, entries_of_write, lines_encrypted}
-use Rattle.page_reencrypt.specs.SealedLines.{AreReread, HadMemory, IsBeside, IsSealedAnew, IsSealedInPart, IsTamperedInWrite, IsUnsealed, Moves, ReadMoved, SameCounters, SealedLinesView, enc_key, made, used}
+use Rattle.bonsai_tree.specs.Tree.{IsOnPath, PathWasRead}
+use Rattle.page_reencrypt.specs.Contents.{lines_encrypted}
+use Rattle.page_reencrypt.specs.LineMoves.{IsThrough, ReadMoved, WriteMoved, overflow_accesses, read_accesses, terms_in, write_accesses}
+use Rattle.page_reencrypt.specs.Outside.{IsLineRead, IsWrite, outside_of}
+use Rattle.page_reencrypt.specs.SealedLines.{IsUnsealed, Moves, SameCounters, SealedLinesView, made, page_counters, used}
 use Rattle.page_reencrypt.specs.SealedLines as lines
 use Rattle.page_reencrypt.specs.Stops.{lasting_stop}
+use Rattle.page_reencrypt.proofs.LineReads.{quiet_before}
 use Rattle.page_reencrypt.proofs.Moves.{moves_not, moves_on}
-use Rattle.secure_memory.specs.SecureRam.{SecureRamView, IsMoved, IsOfLine, IsQuiet, IsWrittenAnew, IsWrittenInPart, LineHad, PageHad, PageRead, PathHad, WereHad, evidence, stopped}
-use Rattle.secure_memory.specs.Moving.{line_sooner, page_sooner, was_none}
+use Rattle.page_reencrypt.proofs.Sealing.{listed_or_not}
+use Rattle.cache_set.specs.declared.way.Way.{Way}
+use Rattle.cache_set.specs.Cache.{copy_at, places, way_at}
+use Rattle.cache_set.proofs.Listed.{listed_at}
+use Rattle.line_cache.specs.LineCache.{IsMiss, IsMissed, IsStep, LineCacheView, leaving, most_held}
+use Rattle.line_cache.specs.LineCache.{IsMoved as IsChain}
+use Rattle.line_cache.proofs.Steps.{way_of_copy}
+use Rattle.secure_memory.specs.LineCall.{IsLineCall, IsWrittenAnew, IsWrittenInPart}
+use Rattle.secure_memory.specs.SecureRam.{SecureRamView, IsMoved, IsQuiet, LineHad, PageHad, cached_pages, held_lines, stopped}
+use Rattle.secure_memory.specs.Moving.{on_chip_of_line}
 
-only_line : (line other : ℕ) → Contains (line ∷ []) other → other ≡ line
-only_line line other (zero, below, at) = sym at
-only_line line other (suc k, below, at) = absurd (omega (arith, below))
+-- Answers and stops
+
+err_is : {A : Type 0} (answer : Result A MemStop) (stop : MemStop) → result_err answer ≡ Some stop → answer ≡ Err stop
+err_is (Ok value) stop is = absurd (cc)
+err_is (Err why) stop is = let same : why ≡ stop = cc in ap (λ (s : MemStop). Err s) same
+
+ok_stays : {A : Type 0} (answer : Result A MemStop) (before : Option MemStop) → result_err answer ≡ None → before ≡ None → option_or (result_err answer) before ≡ None
+ok_stays answer before ok none = ap (λ (o : Option MemStop). option_or o before) ok ∙ none
 
 none_contained : (x : ℕ) → Contains [] x → ⊥
 none_contained x (k, below, at) = omega (arith, below)
 
--- what passed its check is answered as it was decrypted
-pub accepted_number : (key key' : List ℕ) (at line : ℕ) (counter : Counter) (cipher bytes : List ℕ) (answer : Result (List ℕ) MemStop) (address value : ℕ) (width : Width) →
-    key ≡ key' → at ≡ line → answer ≡ Ok bytes → answer ≡ Ok (cipher_of key line counter cipher) → value ≡ number_at bytes address width →
-    value ≡ number_at (cipher_of key' at counter cipher) address width
-accepted_number key key' at line counter cipher bytes answer address value width same there was answered is =
-    let decrypted : bytes ≡ cipher_of key line counter cipher = cc in
-    is ∙ ap (λ (xs : List ℕ). number_at xs address width) decrypted
-    ∙ ap (λ (k : List ℕ). number_at (cipher_of k line counter cipher) address width) same
-    ∙ ap (λ (l : ℕ). number_at (cipher_of key' l counter cipher) address width) (sym there)
+only_line : (line other : ℕ) → Contains (line ∷ []) other → other ≡ line
+only_line line other (zero, below, at) = sym at
+only_line line other (suc k, below, at) = absurd (omega (arith, below))
 
 -- the page's own node is the first on its path
 page_on_path : (levels page : ℕ) → path_index levels 0 page ≡ page
@@ -54,133 +74,293 @@ module _ {B T : Type 0} (history : B → BusHistory) where
   unfolding data_pairs
   unsealed_not lines = record { unused = refl; more = []; messages = sym (append-nil (made lines)); untagged = refl; unwritten_to = λ line. refl }
 
-  -- A call that reads a line, and then one that writes it
+  -- what was had before further reads, was had
+  module _ (first second third : SealedLinesView B T) (bus_moved : B → B → Type 0) (tags : TagEngineView T → Message → List ℕ)
+      (moves : Moves history bus_moved tags first second) where
+    untagged_before : (line : ℕ) → last_data line (made second) ≡ None → last_data line (made first) ≡ None
+    untagged_before line none =
+        none_front (data_part line) (made first) moves.step.more (subst (λ (made : List Message). last_data line made ≡ None) moves.step.made none)
 
-  module _ (first second third : SealedLinesView B T) (line : ℕ) (none : IsUnsealed history first second) where
-    -- No line is encrypted by both
-    pub unsealed_on : IsUnsealed history second third → IsUnsealed history first third
-    unsealed_on more = record {
-      unused = more.unused ∙ none.unused;
-      more = none.more ++ more.more;
-      messages =
-          more.messages ∙ ap (λ (m : List Message). m ++ more.more) none.messages ∙ append_assoc (made first) none.more more.more;
-      untagged =
-          data_pairs-append none.more more.more ∙ ap (λ (pairs : List (ℕ × Counter)). pairs ++ data_pairs more.more) none.untagged
-          ∙ more.untagged;
-      unwritten_to = λ at. more.unwritten_to at ∙ none.unwritten_to at;
+    unmade_before : (level index : ℕ) → last_node level index (made second) ≡ None → last_node level index (made first) ≡ None
+    unmade_before level index none =
+        none_front (node_part level index) (made first) moves.step.more (subst (λ (made : List Message). last_node level index made ≡ None) moves.step.made none)
+
+    rose_before : (place : Place) → Rose ((history second.bus).reads place) ((history third.bus).reads place) →
+        Rose ((history first.bus).reads place) ((history third.bus).reads place)
+    rose_before place rose = let on = moves.step.reads place in omega (arith, rose, on)
+
+    path_before : second.counters.tree.levels ≡ first.counters.tree.levels → (page : ℕ) →
+        PathWasRead second.counters.tree (made second) 0 page (history second.bus) (history third.bus) →
+        PathWasRead first.counters.tree (made first) 0 page (history first.bus) (history third.bus)
+    path_before same page path = record {
+      rose = λ level above inside none.
+          subst (λ (levels : ℕ). (last_node level (path_index levels level page) (made first) ≡ None)
+          ⊎ Rose ((history first.bus).reads (node_place level (path_index levels level page))) ((history third.bus).reads (node_place level (path_index levels level page))))
+          same
+          (elim (path.rose level above (subst (λ (levels : ℕ). level ≤ levels) (sym same) inside) (λ lower low high. refl)) [
+            | inl never ↦ inl (unmade_before level (path_index second.counters.tree.levels level page) never)
+            | inr rose ↦ inr (rose_before (node_place level (path_index second.counters.tree.levels level page)) rose)
+          ]);
     }
-
-    same_next : next_counter (counter_in (used second) line) ≡ next_counter (counter_in (used first) line)
-    same_next = ap (λ (u : List (ℕ × Counter)). next_counter (counter_in u line)) none.unused
-
-    -- What was written of the line, whole or in part
-
-    pub written_anew : (bytes : List ℕ) → IsSealedAnew line bytes second third → IsWrittenAnew line (record { lines = first }) (record { lines = third })
-    written_anew bytes anew = record {
-      counter = anew.counter;
-      next = λ quiet. anew.next quiet ∙ same_next;
-      entries =
-          anew.sealed.entries
-          ∙ ap (λ (u : List (ℕ × Counter)). u ++ map (λ at. (at, anew.counter)) (lines_encrypted anew.counter line)) none.unused;
-    }
-
-    pub written_in_part : (bytes : List ℕ) → IsSealedInPart line bytes second third → IsWrittenInPart line (record { lines = first }) (record { lines = third })
-    written_in_part bytes part = record {
-      counter = part.counter;
-      next = λ quiet. part.next quiet ∙ same_next;
-      count = part.count;
-      within = part.within;
-      entries =
-          part.sealed.entries
-          ∙ ap (λ (u : List (ℕ × Counter)). u ++ map (λ at. (at, part.counter)) (take part.count (lines_encrypted part.counter line))) none.unused;
-    }
-
-    -- Memory that was taken for the write
-    memory_sooner : HadMemory second third → HadMemory first third
-    memory_sooner had =
-        let used_long : length (used second) ≡ length (used first) = ap length none.unused in
-        let made_long : length (made second) ≡ length (made first) + length none.more = ap length none.messages ∙ length-append (made first) none.more in
-        record {
-          entries = omega (arith, had.entries, used_long);
-          messages = omega (arith, had.messages, made_long);
-        }
-
-    pub reserved_sooner : {A : Type 0} (answer : Result A MemStop) → (lines.IsQuiet third → SameCounters first second) →
-        OnErr answer (((used third ≡ used second) × (lines.IsQuiet third → SameCounters second third)) ⊎ HadMemory second third) →
-        OnErr answer (((used third ≡ used first) × (lines.IsQuiet third → SameCounters first third)) ⊎ HadMemory first third)
-    reserved_sooner (Ok done) same was = tt
-    reserved_sooner (Err stop) same was = elim was [
-      | inl unchanged ↦ inl (unchanged.0 ∙ none.unused, λ quiet page. unchanged.1 quiet page ∙ same quiet page)
-      | inr had ↦ inr (memory_sooner had)
-    ]
-
-    -- Lines that were read with an overflow, and those that were sealed before one failed
-
-    pub reread_sooner : ((place : Place) → RoseBy 0 ((history first.bus).reads place) ((history second.bus).reads place)) →
-        AreReread line (lines_encrypted (next_counter (counter_in (used second) line)) line) (used second) (history second.bus) (history third.bus) →
-        AreReread line (lines_encrypted (next_counter (counter_in (used first) line)) line) (used first) (history first.bus) (history third.bus)
-    reread_sooner rises was = λ other listed differs.
-        let there : Contains (lines_encrypted (next_counter (counter_in (used second) line)) line) other =
-        subst (λ (c : Counter). Contains (lines_encrypted c line) other) (sym same_next) listed in
-        elim (was other there differs) [
-          | inl fresh ↦ inl (sym (ap (last_pair other) none.unused) ∙ fresh)
-          | inr rose ↦ let on = rises (line_place other) in inr (omega (arith, rose, on))
-        ]
-
-    pub failed_sooner : (other : ℕ) → used third ≡ used second ++ take (place_of other) (entries_of_write line (used second)) →
-        used third ≡ used first ++ take (place_of other) (entries_of_write line (used first))
-    failed_sooner other entries =
-        subst (λ (u : List (ℕ × Counter)). used third ≡ u ++ take (place_of other) (entries_of_write line u)) none.unused entries
-
-    -- Tampering
-
-    pub lied_on : RoseBy 0 (history first.bus).lies (history second.bus).lies → RoseBy 0 (history second.bus).lies (history third.bus).lies →
-        (lines.IsQuiet first → lines.IsQuiet second ⊎ Rose (history first.bus).lies (history second.bus).lies) →
-        (lines.IsQuiet second → Rose (history second.bus).lies (history third.bus).lies) → lines.IsQuiet first → Rose (history first.bus).lies (history third.bus).lies
-    lied_on early late shown lied quiet = elim (shown quiet) [
-      | inl still ↦ let rose = lied still in omega (arith, rose, early)
-      | inr rose ↦ omega (arith, rose, late)
-    ]
-
-  -- the place that a write names is of the line or of another one of its page
-  pub place_in_write : (first second third : SealedLinesView B T) (line : ℕ) (place : Place) → lines.levels second ≡ lines.levels first →
-      IsTamperedInWrite history line place second third → IsOfLine {B = B} {T = T} (record { lines = first }) line place ⊎ IsBeside line place
-  place_in_write first second third line place same tampered = elim tampered.place_is [
-    | inl node ↦ inl (inr (subst (λ (levels : ℕ). IsOnPath levels 0 (page_of line) place) same node))
-    | inr beside ↦ inr beside
-  ]
-
-  -- and that of another line is none that a read of the line names
-  pub read_not_beside : (first : SealedLinesView B T) (line other : ℕ) → other ≢ line → ¬ IsOfLine {B = B} {T = T} (record { lines = first }) line (line_place other)
-  read_not_beside first line other differs (inl own) = differs cc
-  read_not_beside first line other differs (inr node) = let is = node.place_is in absurd cc
-
-  -- Nothing was written
-  pub none_in_part : (line : ℕ) (first new : SealedLinesView B T) → used new ≡ used first → IsWrittenInPart line (record { lines = first }) (record { lines = new })
-  none_in_part line first new same = record {
-    counter = next_counter (counter_in (used first) line);
-    next = λ quiet. refl;
-    count = 0;
-    within = omega arith;
-    entries = same ∙ sym (append-nil (used first));
-  }
-
-  pub nothing_written : {A : Type 0} (answer : Result A MemStop) (line : ℕ) (first new : SealedLinesView B T) → used new ≡ used first →
-      OnErr answer (IsWrittenInPart line (record { lines = first }) (record { lines = new }))
-  nothing_written (Ok done) line first new same = tt
-  nothing_written (Err stop) line first new same = none_in_part line first new same
-
-  pub nothing_reserved : {A : Type 0} (answer : Result A MemStop) (first new : SealedLinesView B T) → used new ≡ used first →
-      (lines.IsQuiet new → SameCounters first new) →
-      OnErr answer (((used new ≡ used first) × (lines.IsQuiet new → SameCounters first new)) ⊎ HadMemory first new)
-  nothing_reserved (Ok done) first new same counters = tt
-  nothing_reserved (Err stop) first new same counters = inl (same, counters)
 
 module _ {B T : Type 0} (history : B → BusHistory) (bus_moved : B → B → Type 0) (tags : TagEngineView T → Message → List ℕ) where
+  -- A write of the line that goes out
+
+  module _ (old mid : SealedLinesView B T) (way : Way) (answer : Result (Unit {0}) MemStop)
+      (w : IsWrite (terms_in history bus_moved tags old) old.limit way.place way.copy (outside_of old) old.counters (outside_of mid) mid.counters (stop_of answer)) where
+    none_written : w.count ≡ 0 → IsUnsealed history old mid
+    none_written none =
+        let nothing : take w.count (lines_encrypted w.counter way.place) ≡ [] = ap (λ (k : ℕ). take k (lines_encrypted w.counter way.place)) none in
+        record {
+          unused = w.entries ∙ ap (λ (xs : List ℕ). used old ++ map (λ at. (at, w.counter)) xs) nothing ∙ append-nil (used old);
+          more = w.step.more;
+          messages = w.step.made;
+          untagged = w.pairs ∙ ap (λ (xs : List ℕ). map (λ at. (at, w.counter)) xs) nothing;
+          unwritten_to = w.unwritten none;
+        }
+
+  module _ (old new : SecureRamView B T) (line : ℕ) (going : stopped old ≡ None)
+      (held : (other : ℕ) → Contains (held_lines new) other → Contains (held_lines old) other ⊎ (other ≡ line)) where
+    -- A line that is held
+
+    pub hit_call : Contains (held_lines old) line → new.lines ≡ old.lines → IsLineCall history old line None None new
+    hit_call listed same =
+        let accesses : (history new.lines.bus).accesses ≡ (history old.lines.bus).accesses = ap (λ (l : SealedLinesView B T). (history l.bus).accesses) same in
+        record {
+          hit = λ there. (refl, same, refl);
+          held = held;
+          few = omega (arith, accesses);
+          once = λ quiet short. omega (arith, accesses);
+          alone = λ quiet short other differs. ap (λ (l : SealedLinesView B T). (history l.bus).reads (line_place other)) same;
+          read = λ quiet goes. inl listed;
+          path = λ goes free. absurd (free listed);
+          unsealed = λ none. (
+            subst (λ (l : SealedLinesView B T). IsUnsealed history old.lines l) (sym same) (unsealed_not history old.lines),
+            λ quiet page. ap (λ (l : SealedLinesView B T). page_counters l page) same,
+          );
+          fresh = λ none quiet never. ap (λ (l : SealedLinesView B T). (history l.bus).reads (line_place line)) same;
+          sealed = λ way is. absurd (cc);
+          tampered = λ place is. absurd (cc);
+          spent = λ page is. absurd (cc);
+          used_up = λ quiet up. absurd up;
+        }
+
+    -- Any other line
+
+    module _ (unheld : ¬ Contains (held_lines old) line) where
+      -- no changed line goes out for it
+      module _ (answer : Result (List ℕ) MemStop) (r : ReadMoved history bus_moved tags old.lines line answer new.lines) where
+        seen : IsLineRead (terms_in history bus_moved tags old.lines) line (outside_of old.lines) old.lines.counters (outside_of new.lines) new.lines.counters answer
+        seen = r.outside (ap lasting_stop going)
+
+        goes_on : result_err answer ≡ None → lasting_stop new.lines.stopped ≡ None
+        goes_on ok = ap lasting_stop (r.stopped ∙ ok_stays answer old.lines.stopped ok going)
+
+        read_call : IsLineCall history old line None (result_err answer) new
+        read_call =
+            let once : (history new.lines.bus).accesses ≤ (history old.lines.bus).accesses + read_accesses (lines.levels old.lines) = seen.once in
+            record {
+              hit = λ there. absurd (unheld there);
+              held = held;
+              few = omega (arith, once);
+              once = λ quiet short. omega (arith, once);
+              alone = λ quiet short. seen.alone;
+              read = λ quiet ok. inr (r.read.read (goes_on ok) quiet);
+              path = λ ok free. r.read.path (goes_on ok);
+              unsealed = λ none. (
+                record { unused = ap (λ (p : PadEngineView). p.used) seen.pads; more = seen.step.more; messages = seen.step.made; untagged = seen.pairs; unwritten_to = seen.written },
+                seen.same,
+              );
+              fresh = λ none. seen.fresh;
+              sealed = λ way is. absurd (cc);
+              tampered = λ place is. let named = seen.tampered place (err_is answer (Tampered place) is) in (inl named.0, named.1);
+              spent = λ page is. absurd (seen.unspent page (err_is answer (Spent page) is));
+              used_up = λ quiet up. absurd up;
+            }
+
+      -- the write of the line that goes out stops
+      module _ (way : Way) (stop : MemStop) (w : WriteMoved history bus_moved tags old.lines way.place way.copy (Err stop) new.lines) where
+        wrote : IsWrite (terms_in history bus_moved tags old.lines) old.lines.limit way.place way.copy (outside_of old.lines) old.lines.counters (outside_of new.lines) new.lines.counters (Some stop)
+        wrote = w.outside (ap lasting_stop going)
+
+        stopped_part : IsWrittenInPart way.place old new
+        stopped_part = record { counter = wrote.counter; next = wrote.next; count = wrote.count; within = wrote.within; entries = wrote.entries }
+
+        stopped_call : IsLineCall history old line (Some way) (Some stop) new
+        stopped_call =
+            let most : (history new.lines.bus).accesses ≤ (history old.lines.bus).accesses + overflow_accesses (lines.levels old.lines) = w.few in
+            record {
+              hit = λ there. absurd (unheld there);
+              held = held;
+              few = omega (arith, most);
+              once = λ quiet short.
+                  let once : (history new.lines.bus).accesses ≤ (history old.lines.bus).accesses + write_accesses (lines.levels old.lines) = (w.once quiet short).0 in
+                  omega (arith, once);
+              alone = λ quiet short other differs. (w.once quiet short).1 other;
+              read = λ quiet ok. absurd (cc);
+              path = λ ok. absurd (cc);
+              unsealed = λ none. absurd (cc);
+              fresh = λ none. absurd (cc);
+              sealed = λ other is. (subst (λ (w : Way). IsWrittenInPart w.place old new) (same_Some way other is) stopped_part, λ ok. absurd (cc));
+              tampered = λ place is. (
+                inr (elim (wrote.tampered place is) [
+                  | inl node ↦ inl node
+                  | inr beside ↦ inr beside.0
+                ]),
+                wrote.lied place is,
+              );
+              spent = λ page is. let spent = wrote.spent page is in (spent.0, spent.2, none_written old.lines new.lines way (Err stop) wrote spent.1);
+              used_up = λ quiet up. let last = wrote.used_up quiet up in (last.1, none_written old.lines new.lines way (Err stop) wrote last.0, last.2);
+            }
+
+      -- it is written, and then the line is read
+      module _ (way : Way) (answer : Result (List ℕ) MemStop) (mid : SealedLinesView B T)
+          (w : WriteMoved history bus_moved tags old.lines way.place way.copy (Ok tt) mid) (r : ReadMoved history bus_moved tags mid line answer new.lines) where
+        mid_going : mid.stopped ≡ None
+        mid_going = w.stopped ∙ going
+
+        left : IsWrite (terms_in history bus_moved tags old.lines) old.lines.limit way.place way.copy (outside_of old.lines) old.lines.counters (outside_of mid) mid.counters None
+        left = w.outside (ap lasting_stop going)
+
+        came : IsLineRead (terms_in history bus_moved tags mid) line (outside_of mid) mid.counters (outside_of new.lines) new.lines.counters answer
+        came = r.outside (ap lasting_stop mid_going)
+
+        mid_quiet : IsQuiet new → lines.IsQuiet mid
+        mid_quiet quiet = quiet_before mid.engine.evidence new.lines.engine.evidence r.moves.step.evidence quiet
+
+        then_goes_on : result_err answer ≡ None → lasting_stop new.lines.stopped ≡ None
+        then_goes_on ok = ap lasting_stop (r.stopped ∙ ok_stays answer mid.stopped ok mid_going)
+
+        same_levels : lines.levels mid ≡ lines.levels old.lines
+        same_levels = w.moves.step.levels
+
+        same_used : used new.lines ≡ used mid
+        same_used = ap (λ (p : PadEngineView). p.used) came.pads
+
+        whole_part : IsWrittenInPart way.place old new
+        whole_part = record { counter = left.counter; next = λ quiet. left.next (mid_quiet quiet); count = left.count; within = left.within; entries = same_used ∙ left.entries }
+
+        anew : IsWrittenAnew way.place old new
+        anew =
+            let whole = left.whole refl in
+            record {
+              counter = left.counter;
+              next = λ quiet. left.next (mid_quiet quiet);
+              entries = same_used ∙ left.entries
+                  ∙ ap (λ (xs : List ℕ). used old.lines ++ map (λ at. (at, left.counter)) xs) (take_all left.count (lines_encrypted left.counter way.place) (omega (arith, whole)));
+            }
+
+        both_call : IsLineCall history old line (Some way) (result_err answer) new
+        both_call =
+            let most : (history mid.bus).accesses ≤ (history old.lines.bus).accesses + overflow_accesses (lines.levels old.lines) = w.few in
+            let then : (history new.lines.bus).accesses ≤ (history mid.bus).accesses + read_accesses (lines.levels mid) = came.once in
+            record {
+              hit = λ there. absurd (unheld there);
+              held = held;
+              few = omega (arith, most, then, same_levels);
+              once = λ quiet short.
+                  let once : (history mid.bus).accesses ≤ (history old.lines.bus).accesses + write_accesses (lines.levels old.lines) = (w.once (mid_quiet quiet) short).0 in
+                  omega (arith, once, then, same_levels);
+              alone = λ quiet short other differs. came.alone other differs ∙ (w.once (mid_quiet quiet) short).1 other;
+              read = λ quiet ok.
+                  elim (r.read.read (then_goes_on ok) quiet) [
+                    | inl untagged ↦ inr (inl (untagged_before history old.lines mid new.lines bus_moved tags w.moves line untagged))
+                    | inr rose ↦ inr (inr (rose_before history old.lines mid new.lines bus_moved tags w.moves (line_place line) rose))
+                  ];
+              path = λ ok free uncached.
+                  path_before history old.lines mid new.lines bus_moved tags w.moves left.levels (page_of line)
+                  (r.read.path (then_goes_on ok) (λ cached. none_contained (page_of line) cached));
+              unsealed = λ none. absurd (cc);
+              fresh = λ none. absurd (cc);
+              sealed = λ other is. (
+                subst (λ (w : Way). IsWrittenInPart w.place old new) (same_Some way other is) whole_part,
+                λ ok. subst (λ (w : Way). IsWrittenAnew w.place old new) (same_Some way other is) anew,
+              );
+              tampered = λ place is.
+                  let named = came.tampered place (err_is answer (Tampered place) is) in (
+                    inl (subst (λ (levels : ℕ). (place ≡ line_place line) ⊎ IsOnPath levels 0 (page_of line) place) same_levels named.0),
+                    λ quiet. elim (left.shows quiet) [
+                      | inl still ↦ let rose = named.1 still in omega (arith, rose, w.moves.step.lies)
+                      | inr rose ↦ omega (arith, rose, r.moves.step.lies)
+                    ],
+                  );
+              spent = λ page is. absurd (came.unspent page (err_is answer (Spent page) is));
+              used_up = λ quiet up. absurd ((left.used_up (mid_quiet quiet) up).1 refl);
+            }
+
+      pub missed_call : (out : Option Way) (answer : Result (List ℕ) MemStop) →
+          IsMiss (ReadMoved history bus_moved tags) (WriteMoved history bus_moved tags) out old.lines line answer new.lines →
+          IsLineCall history old line out (result_err answer) new
+      missed_call None answer r = read_call answer r
+      missed_call (Some way) answer (inl (stop, is, w)) =
+          subst (λ (a : Result (List ℕ) MemStop). IsLineCall history old line (Some way) (result_err a) new) (sym is) (stopped_call way stop w)
+      missed_call (Some way) answer (inr (mid, w, r)) = both_call way answer mid w r
+
+    -- How the memory moves
+
+    pub missed_moves : ((first second third : B) → bus_moved first second → bus_moved second third → bus_moved first third) →
+        (out : Option Way) (answer : Result (List ℕ) MemStop) →
+        IsMiss (ReadMoved history bus_moved tags) (WriteMoved history bus_moved tags) out old.lines line answer new.lines →
+        Moves history bus_moved tags old.lines new.lines
+    missed_moves moved_on None answer r = r.moves
+    missed_moves moved_on (Some way) answer (inl (stop, is, w)) = w.moves
+    missed_moves moved_on (Some way) answer (inr (mid, w, r)) = moves_on history bus_moved tags moved_on old.lines mid new.lines w.moves r.moves
+
+    -- the last stop is the call's
+    stop_kept : (answer : Result (List ℕ) MemStop) (before : Option MemStop) → before ≡ None → option_or (result_err answer) before ≡ result_err answer
+    stop_kept (Ok bytes) before none = none
+    stop_kept (Err stop) before none = refl
+
+    pub missed_stops : (out : Option Way) (answer : Result (List ℕ) MemStop) →
+        IsMiss (ReadMoved history bus_moved tags) (WriteMoved history bus_moved tags) out old.lines line answer new.lines → new.lines.stopped ≡ result_err answer
+    missed_stops None answer r = r.stopped ∙ stop_kept answer old.lines.stopped going
+    missed_stops (Some way) answer (inl (stop, is, w)) = w.stopped ∙ sym (ap result_err is)
+    missed_stops (Some way) answer (inr (mid, w, r)) = r.stopped ∙ stop_kept answer mid.stopped (w.stopped ∙ going)
+
+    -- it is written through
+    pub missed_through : (out : Option Way) (answer : Result (List ℕ) MemStop) →
+        IsMiss (ReadMoved history bus_moved tags) (WriteMoved history bus_moved tags) out old.lines line answer new.lines → IsThrough history bus_moved tags new.lines
+    missed_through None answer r = r.through
+    missed_through (Some way) answer (inl (stop, is, w)) = w.through
+    missed_through (Some way) answer (inr (mid, w, r)) = r.through
+
+    module _ (out : Option Way) (stop : Option MemStop) (called : IsLineCall history old line out stop new) (stops : stopped new ≡ stop) where
+      page_had : stopped new ≡ None → PageHad history old new (page_of line)
+      page_had still =
+          elim (listed_or_not (held_lines old) line) [
+            | inl listed ↦ inl (on_chip_of_line (held_lines old) (cached_pages old) line listed)
+            | inr free ↦
+                let tree = old.lines.counters.tree in
+                let path = called.path (sym stops ∙ still) free (λ cached. none_contained (page_of line) cached) in
+                inr (subst (λ (page : ℕ). (last_node 0 page (made old.lines) ≡ None)
+                ⊎ Rose ((history old.lines.bus).reads (node_place 0 page)) ((history new.lines.bus).reads (node_place 0 page)))
+                (page_on_path tree.levels (page_of line)) (path.rose 0 (omega arith) (omega arith) (λ lower above below. refl)))
+          ]
+
+      line_had : stopped new ≡ None → IsQuiet new → LineHad history old new line × PageHad history old new (page_of line)
+      line_had still quiet = (called.read quiet (sym stops ∙ still), page_had still)
+
+      pub call_moved : Moves history bus_moved tags old.lines new.lines → length (held_lines new) ≤ most_held → IsMoved history bus_moved tags old (line ∷ []) new
+      call_moved moves few = record {
+        moves = moves;
+        stays = λ stop is. absurd (cc);
+        few = λ was. few;
+        few_cached = λ was. omega arith;
+        had = λ still quiet. record {
+          touched = λ other listed. subst (λ (l : ℕ). LineHad history old new l × PageHad history old new (page_of l)) (sym (only_line line other listed)) (line_had still quiet);
+          held = λ other there.
+              elim (held other there) [
+                | inl was ↦ (inl was, inl (on_chip_of_line (held_lines old) (cached_pages old) other was))
+                | inr same ↦ subst (λ (l : ℕ). LineHad history old new l × PageHad history old new (page_of l)) (sym same) (line_had still quiet)
+              ];
+          cached = λ page cached. absurd (none_contained page cached);
+        };
+      }
+
   -- a memory that answers its stop again
-  pub stopped_unmoved : ((bus : B) → bus_moved bus bus) → (memory : SecureRamView B T) (lines : List ℕ) (stop : MemStop) →
-      stopped memory ≡ Some stop → IsMoved history bus_moved tags memory lines memory
-  stopped_unmoved bus_unmoved memory lines stop is = record {
+  pub stopped_unmoved : ((bus : B) → bus_moved bus bus) → (memory : SecureRamView B T) (listed : List ℕ) (stop : MemStop) →
+      stopped memory ≡ Some stop → IsMoved history bus_moved tags memory listed memory
+  stopped_unmoved bus_unmoved memory listed stop is = record {
     moves = moves_not history bus_moved tags bus_unmoved memory.lines;
     stays = λ other was. was;
     few = λ few. few;
@@ -188,66 +368,107 @@ module _ {B T : Type 0} (history : B → BusHistory) (bus_moved : B → B → Ty
     had = λ going quiet. absurd (cc);
   }
 
-  module _ (old new : SecureRamView B T) (line : ℕ) where
-    -- A line that was read was had, where there is neither a stop nor evidence; nothing of it is held
-    pub line_had : ReadMoved history bus_moved tags old.lines line new.lines → stopped new ≡ None → IsQuiet new → LineHad history old new line
-    line_had moved going quiet = inr (moved.read.read (ap lasting_stop going) quiet)
+-- What is seen of a cache of the lines outside
+abbrev pub memory_of : {B T : Type 0} → LineCacheView (SealedLinesView B T) → SecureRamView B T
+memory_of cache = record { lines = cache.store; ways = cache.lines }
 
-    -- and so was its page
-    pub path_had : ReadMoved history bus_moved tags old.lines line new.lines → stopped new ≡ None → PathHad history old new line
-    path_had moved going free uncached = moved.read.path (ap lasting_stop going) uncached
+-- A call of the cache by a line
+module _ {B T : Type 0} (history : B → BusHistory) (bus_moved : B → B → Type 0) (tags : TagEngineView T → Message → List ℕ)
+    (cache cache' : LineCacheView (SealedLinesView B T)) (line : ℕ) (stop : Option MemStop) (copied : List ℕ → List ℕ)
+    (going : cache.store.stopped ≡ None)
+    (chain : IsChain (ReadMoved history bus_moved tags) (WriteMoved history bus_moved tags) cache (line ∷ []) cache')
+    (hit : Contains (places cache.lines) line → stop ≡ None)
+    (missed : ¬ Contains (places cache.lines) line →
+    IsMissed (ReadMoved history bus_moved tags) (WriteMoved history bus_moved tags) cache.lines cache.store line copied stop cache'.lines cache'.store) where
+  step : IsStep (ReadMoved history bus_moved tags) (WriteMoved history bus_moved tags) cache line cache'
+  step =
+      subst (λ (c : LineCacheView (SealedLinesView B T)). IsStep (ReadMoved history bus_moved tags) (WriteMoved history bus_moved tags) cache line c)
+      (sym chain.2) chain.1
 
-    page_read : ReadMoved history bus_moved tags old.lines line new.lines → stopped new ≡ None → PageRead history old new (page_of line)
-    page_read moved going =
-        let tree = old.lines.counters.tree in
-        let path = moved.read.path (ap lasting_stop going) (λ cached. none_contained (page_of line) cached) in
-        subst (λ (page : ℕ). (last_node 0 page (made old.lines) ≡ None)
-        ⊎ Rose ((history old.lines.bus).reads (node_place 0 page)) ((history new.lines.bus).reads (node_place 0 page)))
-        (page_on_path tree.levels (page_of line)) (path.rose 0 (omega arith) (omega arith) (λ lower above below. refl))
+  abbrev old : SecureRamView B T
+  old = memory_of cache
 
-    pub were_had : LineHad history old new line → PageHad history old new (page_of line) → WereHad history old (line ∷ []) new
-    were_had line_was page_was = record {
-      touched = λ other listed.
-          subst (λ (l : ℕ). LineHad history old new l × PageHad history old new (page_of l)) (sym (only_line line other listed)) (line_was, page_was);
-      held = λ other held. absurd (none_contained other held);
-      cached = λ page cached. absurd (none_contained page cached);
-    }
+  abbrev new : SecureRamView B T
+  new = memory_of cache'
 
-    -- a line that was read
-    pub loaded_moved : stopped old ≡ None → ReadMoved history bus_moved tags old.lines line new.lines → IsMoved history bus_moved tags old (line ∷ []) new
-    loaded_moved going moved = record {
-      moves = moved.moves;
-      stays = λ stop is. absurd (cc);
-      few = λ few. omega arith;
-      few_cached = λ few. omega arith;
-      had = λ still quiet. were_had (line_had moved still quiet) (inr (page_read moved still));
-    }
+  pub called : IsLineCall history old line (leaving cache.lines line) stop new
+  called = elim (listed_or_not (places cache.lines) line) [
+    | inl there ↦
+        subst (λ (s : Option MemStop). IsLineCall history old line (leaving cache.lines line) s new) (sym (hit there))
+        (subst (λ (out : Option Way). IsLineCall history old line out None new) (sym (step.hit there).1)
+        (hit_call history bus_moved tags old new line going step.held there (step.hit there).0))
+    | inr out ↦
+        let m = missed out in
+        subst (λ (s : Option MemStop). IsLineCall history old line (leaving cache.lines line) s new) m.stops
+        (missed_call history bus_moved tags old new line going step.held out (leaving cache.lines line) m.answer m.miss)
+  ]
 
-  -- a path that was read before further calls
-  pub path_sooner : (first second third : SecureRamView B T) (line : ℕ) → Moves history bus_moved tags second.lines third.lines →
-      PathHad history first second line → PathHad history first third line
-  path_sooner first second third line moves had free uncached = record {
-    rose = λ level above inside none. elim ((had free uncached).rose level above inside none) [
-      | inl never ↦ inl never
-      | inr rose ↦
-          let on = moves.step.reads (node_place level (path_index first.lines.counters.tree.levels level (page_of line))) in
-          inr (omega (arith, rose, on))
-    ];
-  }
+  pub stops_so : cache'.store.stopped ≡ stop
+  stops_so = elim (listed_or_not (places cache.lines) line) [
+    | inl there ↦ ap (λ (l : SealedLinesView B T). l.stopped) (step.hit there).0 ∙ going ∙ sym (hit there)
+    | inr out ↦ let m = missed out in missed_stops history bus_moved tags old new line going step.held (leaving cache.lines line) m.answer m.miss ∙ m.stops
+  ]
 
-  -- a line that was read and then written
-  pub stored_moved : ((first second third : B) → bus_moved first second → bus_moved second third → bus_moved first third) →
-      (first second third : SecureRamView B T) (line : ℕ) → stopped first ≡ None → stopped second ≡ None →
-      ReadMoved history bus_moved tags first.lines line second.lines → Moves history bus_moved tags second.lines third.lines →
-      IsMoved history bus_moved tags first (line ∷ []) third
-  stored_moved bus_moved_on first second third line going read_on moved wrote = record {
-    moves = moves_on history bus_moved tags bus_moved_on first.lines second.lines third.lines moved.moves wrote;
-    stays = λ stop is. absurd (cc);
-    few = λ few. omega arith;
-    few_cached = λ few. omega arith;
-    had = λ still quiet.
-        were_had first third line
-        (line_sooner history bus_moved tags first second third line wrote
-        (line_had first second line moved read_on (was_none (evidence second) (evidence third) wrote.step.evidence quiet)))
-        (page_sooner history bus_moved tags first second third (page_of line) wrote (inr (page_read first second line moved read_on)));
-  }
+  pub moved_so : ((bus : B) → bus_moved bus bus) → ((first second third : B) → bus_moved first second → bus_moved second third → bus_moved first third) →
+      IsMoved history bus_moved tags old (line ∷ []) new
+  moved_so unmoved moved_on =
+      call_moved history bus_moved tags old new line going step.held (leaving cache.lines line) stop called stops_so
+      (elim (listed_or_not (places cache.lines) line) [
+        | inl there ↦ subst (λ (l : SealedLinesView B T). Moves history bus_moved tags cache.store l) (sym (step.hit there).0) (moves_not history bus_moved tags unmoved cache.store)
+        | inr out ↦ let m = missed out in missed_moves history bus_moved tags old new line going step.held moved_on (leaving cache.lines line) m.answer m.miss
+      ])
+      step.few
+
+  pub few_so : length (held_lines new) ≤ most_held
+  few_so = step.few
+
+  pub through_so : IsThrough history bus_moved tags cache.store → IsThrough history bus_moved tags cache'.store
+  through_so was = elim (listed_or_not (places cache.lines) line) [
+    | inl there ↦ subst (λ (l : SealedLinesView B T). IsThrough history bus_moved tags l) (sym (step.hit there).0) was
+    | inr out ↦ let m = missed out in missed_through history bus_moved tags old new line going step.held (leaving cache.lines line) m.answer m.miss
+  ]
+
+-- What passed its check where nothing goes out
+module _ {B T : Type 0} (history : B → BusHistory) (bus_moved : B → B → Type 0) (tags : TagEngineView T → Message → List ℕ)
+    (cache : LineCacheView (SealedLinesView B T)) (store' : SealedLinesView B T) (lines' : List (List Way)) (line : ℕ) (stop : Option MemStop) (copied : List ℕ → List ℕ)
+    (going : cache.store.stopped ≡ None) (stays : leaving cache.lines line ≡ None)
+    (missed : IsMissed (ReadMoved history bus_moved tags) (WriteMoved history bus_moved tags) cache.lines cache.store line copied stop lines' store') where
+  pub alone_read : IsLineRead (terms_in history bus_moved tags cache.store) line (outside_of cache.store) cache.store.counters (outside_of store') store'.counters missed.answer
+  alone_read =
+      (subst (λ (out : Option Way). IsMiss (ReadMoved history bus_moved tags) (WriteMoved history bus_moved tags) out cache.store line missed.answer store') stays missed.miss).outside
+      (ap lasting_stop going)
+
+  -- what passed a check is kept as it was decrypted
+  pub accepted_copy : (at : ℕ) (counter : Counter) (sealed : Sealed) (made_count : ℕ) → cache.store.engine.evidence ≡ None →
+      store'.engine.evidence ≡ Some (Forgery at counter sealed made_count) →
+      (at ≡ line) × (copy_at lines' line ≡ Some (copied (cipher_of cache.store.pads.key at counter sealed.cipher)))
+  accepted_copy at counter sealed made_count quiet found =
+      let accepted = alone_read.accepted at counter sealed made_count quiet found in
+      let there : copy_at lines' line ≡ Some (copied (cipher_of cache.store.pads.key line counter sealed.cipher)) =
+      subst (λ (answer : Result (List ℕ) MemStop). IfOk answer (λ bytes. copy_at lines' line ≡ Some (copied bytes))) accepted.1 missed.copy in
+      (accepted.0, there ∙ ap (λ (l : ℕ). Some (copied (cipher_of cache.store.pads.key l counter sealed.cipher))) (sym accepted.0))
+
+-- evidence comes of no line that is held
+pub found_outside : {B T : Type 0} (store store' : SealedLinesView B T) (found : Evidence) → store' ≡ store → store.engine.evidence ≡ None → store'.engine.evidence ≡ Some found → ⊥
+found_outside {B} {T} store store' found same quiet is =
+    let still : store'.engine.evidence ≡ None = ap (λ (l : SealedLinesView B T). l.engine.evidence) same ∙ quiet in cc
+
+pub ok_goes : {A : Type 0} (answer : Result A MemStop) → IsOk answer → result_err answer ≡ None
+ok_goes (Ok value) ok = refl
+ok_goes (Err stop) ok = absurd (true≢false (sym ok))
+
+-- a line that has a copy is held
+pub copy_held : (ways : List (List Way)) (line : ℕ) (copy : List ℕ) → copy_at ways line ≡ Some copy → Contains (places ways) line
+copy_held ways line copy is =
+    let found = way_of_copy (way_at ways line) copy is in
+    listed_at ways line (subst IsSome (sym found.1) refl)
+
+-- the number that a load answers stands in what the store answered
+pub stands_in : (line offset : ℕ) (width : Width) (lines' : List (List Way)) (answer : Result (List ℕ) MemStop) (result : Result ℕ MemStop) (P : List ℕ → Type 0) →
+    result_err answer ≡ result_err result → IfOk answer (λ bytes. copy_at lines' line ≡ Some bytes) →
+    IfOk result (λ n. (copy : List ℕ) → copy_at lines' line ≡ Some copy → n ≡ number_at copy offset width) →
+    IfOk answer P → IfOk result (λ n. (bytes : List ℕ) × P bytes × (n ≡ number_at bytes offset width))
+stands_in line offset width lines' (Ok bytes) (Ok n) P stops there number p = (bytes, p, number bytes there)
+stands_in line offset width lines' (Ok bytes) (Err stop) P stops there number p = tt
+stands_in line offset width lines' (Err stop) (Ok n) P stops there number p = absurd (cc)
+stands_in line offset width lines' (Err stop) (Err why) P stops there number p = tt

@@ -1,8 +1,7 @@
 -- What a load or a store of a line makes of the memory: the line is brought into the cache, and a changed one that goes
 -- out for it is written first.
-use Rattle.std.specs.Prelude.{◌≡◌, ◌≢◌, ◌⊎◌, ℕ, ◌+◌, ◌≤◌, List, ◌++◌, length, map, take, Option, Some, None, Contains}
+use Rattle.std.specs.Prelude.{◌≡◌, ◌≢◌, ◌⊎◌, ℕ, ◌+◌, ◌≤◌, ◌++◌, length, map, take, Option, Some, None, Contains}
 use Rattle.sec_base.specs.declared.counter.Counter.{Counter}
-use Rattle.sec_base.specs.declared.message.Message.{Message}
 use Rattle.sec_base.specs.declared.place.Place.{Place}
 use Rattle.sec_base.specs.declared.place.Place.TheVariants.{Line as line_place}
 use Rattle.sec_base.specs.declared.stop.MemStop.{MemStop}
@@ -11,14 +10,12 @@ use Rattle.sec_base.specs.Count.{Rose}
 use Rattle.sec_base.specs.Geometry.{page_of}
 use Rattle.sec_base.specs.LastMessage.{IsFresh}
 use Rattle.bus_model.specs.BusHistory.{BusHistory}
-use Rattle.tag_engine.specs.TagEngine.{TagEngineView}
 use Rattle.split_counter.specs.CounterBlock.{last_counter, next_counter}
 use Rattle.bonsai_tree.specs.Tree.{IsOnPath}
 use Rattle.page_reencrypt.specs.Contents.{counter_in, lines_encrypted}
 use Rattle.page_reencrypt.specs.LineMoves.{overflow_accesses, read_accesses, write_accesses}
-use Rattle.page_reencrypt.specs.SealedLines.{HadMemory, IsBeside, IsUnsealed, SameCounters}
+use Rattle.page_reencrypt.specs.SealedLines.{IsBeside, IsUnsealed, SameCounters}
 use Rattle.cache_set.specs.declared.way.Way.{Way}
-use Rattle.line_cache.specs.LineCache.{leaving}
 use Rattle.secure_memory.specs.SecureRam.{IsQuiet, LineHad, PathHad, SecureRamView, held_lines, levels, used}
 
 -- the place of the line, or of a node on the path of its page
@@ -71,41 +68,37 @@ pub record IsWrittenInPart {B T : Type 0} (line : ℕ) (old new : SecureRamView 
   pub within : count ≤ length (lines_encrypted counter line)
   pub entries : used new ≡ used old ++ map (λ at. (at, counter)) (take count (lines_encrypted counter line))
 
--- A call by a line, with the stop that it answers, if it answers one.
-pub record IsLineCall {B T : Type 0} (history : B → BusHistory) (old : SecureRamView B T) (line : ℕ) (stop : Option MemStop) (new : SecureRamView B T) : Type 0 where
+-- A call by a line, with the changed line that goes out for it, if one does, and the stop that it answers, if it answers one.
+pub record IsLineCall {B T : Type 0} (history : B → BusHistory) (old : SecureRamView B T) (line : ℕ) (out : Option Way) (stop : Option MemStop)
+    (new : SecureRamView B T) : Type 0 where
   -- a line that is held is not sought outside, and no line goes out for it
-  pub hit : Contains (held_lines old) line → (stop ≡ None) × (new.lines ≡ old.lines) × (leaving old.ways line ≡ None)
+  pub hit : Contains (held_lines old) line → (stop ≡ None) × (new.lines ≡ old.lines) × (out ≡ None)
   pub held : (other : ℕ) → Contains (held_lines new) other → Contains (held_lines old) other ⊎ (other ≡ line)
-
   -- the path of the page and the line are read at most, and of the line that goes out what its write takes; where that is
-  -- no overflow, no line is read but this one, and this one not if it was never written
-  pub few : (history new.lines.bus).accesses ≤ (history old.lines.bus).accesses
-      + (leaving_accesses (levels old) (leaving old.ways line) + read_accesses (levels old))
-  pub once : IsQuiet new → IsShort old (leaving old.ways line) → (history new.lines.bus).accesses ≤ (history old.lines.bus).accesses
-      + (short_accesses (levels old) (leaving old.ways line) + read_accesses (levels old))
-  pub alone : IsQuiet new → IsShort old (leaving old.ways line) → (other : ℕ) → other ≢ line →
+  -- no overflow, no other line is read
+  pub few : (history new.lines.bus).accesses ≤ (history old.lines.bus).accesses + (leaving_accesses (levels old) out + read_accesses (levels old))
+  pub once : IsQuiet new → IsShort old out →
+      (history new.lines.bus).accesses ≤ (history old.lines.bus).accesses + (short_accesses (levels old) out + read_accesses (levels old))
+  pub alone : IsQuiet new → IsShort old out → (other : ℕ) → other ≢ line →
       (history new.lines.bus).reads (line_place other) ≡ (history old.lines.bus).reads (line_place other)
-  pub fresh : IsQuiet new → IsShort old (leaving old.ways line) → IsFresh line (used old) →
-      (history new.lines.bus).reads (line_place line) ≡ (history old.lines.bus).reads (line_place line)
-
   -- the line was held, or never tagged, or was read from its place, where the call neither stops nor finds evidence; the
   -- path of its page was read, where the call does not stop
   pub read : IsQuiet new → stop ≡ None → LineHad history old new line
   pub path : stop ≡ None → PathHad history old new line
-
-  -- where no changed line goes out, no line is encrypted, tagged or written, and no counter changes; else what was used
-  -- grows by the entries of one write of the line that goes out, or where the call stops by a front part of them
-  pub unsealed : leaving old.ways line ≡ None → IsUnsealed history old.lines new.lines × (IsQuiet new → SameCounters old.lines new.lines)
-  pub sealed : (way : Way) → leaving old.ways line ≡ Some way → IsWrittenInPart way.place old new × (stop ≡ None → IsWrittenAnew way.place old new)
-
+  -- where no changed line goes out, no line is encrypted, tagged or written, no counter changes, and a line that was never
+  -- written is not read
+  pub unsealed : out ≡ None → IsUnsealed history old.lines new.lines × (IsQuiet new → SameCounters old.lines new.lines)
+  pub fresh : out ≡ None → IsQuiet new → IsFresh line (used old) →
+      (history new.lines.bus).reads (line_place line) ≡ (history old.lines.bus).reads (line_place line)
+  -- else what was used grows by the entries of one write of the line that goes out, or where the call stops by a front part
+  -- of them
+  pub sealed : (way : Way) → out ≡ Some way → IsWrittenInPart way.place old new × (stop ≡ None → IsWrittenAnew way.place old new)
   -- tampering comes only of the line, of a node on the path of its page, or of a place that the write of the line that goes
   -- out may name, and where an answer was false or there was evidence before
   pub tampered : (place : Place) → stop ≡ Some (Tampered place) →
-      (IsOfLine old line place ⊎ IsOfLeaving old (leaving old.ways line) place)
+      (IsOfLine old line place ⊎ IsOfLeaving old out place)
       × (IsQuiet old → Rose (history old.lines.bus).lies (history new.lines.bus).lies)
   -- a page is spent only where a line of it goes out that has the last counter that the limit allows; such a line is not
   -- written, and the call stops
-  pub spent : (page : ℕ) → stop ≡ Some (Spent page) → IsOfPage (leaving old.ways line) page
-      × (IsQuiet new → IsUsedUp old (leaving old.ways line)) × IsUnsealed history old.lines new.lines
-  pub used_up : IsQuiet new → IsUsedUp old (leaving old.ways line) →
-      (stop ≢ None) × IsUnsealed history old.lines new.lines × SameCounters old.lines new.lines
+  pub spent : (page : ℕ) → stop ≡ Some (Spent page) → IsOfPage out page × (IsQuiet new → IsUsedUp old out) × IsUnsealed history old.lines new.lines
+  pub used_up : IsQuiet new → IsUsedUp old out → (stop ≢ None) × IsUnsealed history old.lines new.lines × SameCounters old.lines new.lines

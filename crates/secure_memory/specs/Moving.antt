@@ -32,7 +32,7 @@ mapped_there : (f : ℕ → ℕ) (items : List ℕ) (x : ℕ) → Contains items
 mapped_there f items x (k, below, at) =
     (k, omega (arith, below, length-map {A = ℕ} {B = ℕ}), get_or-map f items k x (f x) below ∙ ap f at)
 
-on_chip_of_line : (held cached : List ℕ) (line : ℕ) → Contains held line → Contains (map page_of held ++ cached) (page_of line)
+pub on_chip_of_line : (held cached : List ℕ) (line : ℕ) → Contains held line → Contains (map page_of held ++ cached) (page_of line)
 on_chip_of_line held cached line within = Contains-append_left (map page_of held) cached (page_of line) (mapped_there page_of held line within)
 
 on_chip_of_page : (held cached : List ℕ) (page : ℕ) → Contains cached page → Contains (map page_of held ++ cached) page

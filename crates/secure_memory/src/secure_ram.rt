@@ -15,7 +15,7 @@ ghost use Rattle.pad_stream.specs.PadBlocks.{ShareNoBlock};
 ghost use Rattle.split_counter.specs.CounterBlock.{block_of, counter_of, place_of};
 ghost use Rattle.page_reencrypt.specs.LineMoves.{ReadMoved, WriteMoved};
 ghost use Rattle.page_reencrypt.specs.SealedLines.{AreNew, AreProtected, AreWrittenThrough, IsUnbooted, enc_key, tag_in};
-ghost use Rattle.cache_set.specs.Cache.{copy_at};
+ghost use Rattle.cache_set.specs.Cache.{AreApart, copy_at};
 ghost use Rattle.line_cache.specs.LineCache.{IsMissed, leaving, most_held};
 ghost use Rattle.secure_memory.specs.SecureRam.{IsMoved, IsNumberBelowPath, IsNumberUnder, IsQuiet, cached_pages, contents, evidence, held_lines, lines_of, made, stopped, used};
 ghost use Rattle.secure_memory.specs.LineCall.{IsLineCall};
@@ -168,7 +168,8 @@ impl<B: Bus, T: Tagger> Ram for SecureRam<B, T> {
         ensures latched { (stop : MemStop) → stopped self.old ≡ Some stop → (result ≡ Err stop) × (self.new ≡ self.old) }
 
         // What it costs, reads and encrypts, and when it stops.
-        ensures call { stopped self.old ≡ None → IsLineCall B.history self.old (line_of addr) (result_err result) self.new }
+        ensures call { stopped self.old ≡ None → IsLineCall B.history self.old (line_of addr)
+            (leaving self.old.ways (line_of addr)) (result_err result) self.new }
 
         // A line that is not held is read, once the changed line that goes out for it was written.
         ensures missed { stopped self.old ≡ None → ¬ Contains (held_lines self.old) (line_of addr) →
@@ -180,7 +181,9 @@ impl<B: Bus, T: Tagger> Ram for SecureRam<B, T> {
         ensures through { stopped self.new ≡ None → IsQuiet self.new →
             AreWrittenThrough T.data_tag_of T.node_tag_of B.history self.new.lines }
 
-        // The number is the one in the copy that the line has after the call.
+        // Whatever can be relied on, a line that is held is answered from its copy, and any other from the one that it gets.
+        ensures held_copy { stopped self.old ≡ None → (copy : List ℕ) → copy_at self.old.ways (line_of addr) ≡ Some copy →
+            IfOk result (λ n. n ≡ number_at copy (addr % 64) width) }
         ensures copy { IfOk result (λ n. (copy : List ℕ) → copy_at self.new.ways (line_of addr) ≡ Some copy →
             n ≡ number_at copy (addr % 64) width) }
 
@@ -233,7 +236,8 @@ impl<B: Bus, T: Tagger> Ram for SecureRam<B, T> {
         ensures latched { (stop : MemStop) → stopped self.old ≡ Some stop → (result ≡ Err stop) × (self.new ≡ self.old) }
 
         // What it costs, reads and encrypts, and when it stops.
-        ensures call { stopped self.old ≡ None → IsLineCall B.history self.old (line_of addr) (result_err result) self.new }
+        ensures call { stopped self.old ≡ None → IsLineCall B.history self.old (line_of addr)
+            (leaving self.old.ways (line_of addr)) (result_err result) self.new }
 
         // A line that is not held is read, once the changed line that goes out for it was written.
         ensures missed { stopped self.old ≡ None → ¬ Contains (held_lines self.old) (line_of addr) →

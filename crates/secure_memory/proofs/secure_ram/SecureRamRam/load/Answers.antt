@@ -1,121 +1,148 @@
-use Rattle.std.proofs.Common.{◌≡◌, ◌%◌, ◌∷◌, [], Some, None, Err, refl, ap, ◌∙◌, subst, rules}
-use Rattle.sec_base.specs.Count.{Rose}
-use Rattle.sec_base.specs.Geometry.{line_of}
+use Rattle.std.proofs.Common.{◌≡◌, ◌%◌, ◌∷◌, [], ℕ, List, Option, Some, None, IfOk, Contains, inl, inr, ap, sym, ◌∙◌, subst}
+use Rattle.std.specs.Option.{option_map, option_or}
+use Rattle.std.specs.Result.{result_err}
+use Rattle.std.proofs.lemmas.Result.{IfOk-weaker}
+use Rattle.sec_base.specs.Geometry.{line_of, page_of}
 use Rattle.sec_base.specs.Width.{number_at}
-use Rattle.sec_base.specs.declared.place.Place.TheVariants.{Line as line_place}
+use Rattle.sec_base.specs.declared.evidence.Evidence.TheVariants.{Collision, Forgery}
 use Rattle.sec_base.specs.declared.stop.MemStop.{MemStop}
-use Rattle.sec_base.specs.declared.stop.MemStop.TheVariants.{Tampered}
-use Rattle.sec_base.proofs.LineNumbers.{number_read}
 use Rattle.tag_engine.specs.TagEngine.{tags_of}
+use Rattle.pad_stream.specs.Pad.{cipher_of}
 use Rattle.split_counter.specs.CounterBlock.{block_of, counter_of, place_of}
-use Rattle.page_reencrypt.specs.SealedLines.{SameCounters, enc_key, tag_in, contents as line_contents}
+use Rattle.page_reencrypt.specs.LineMoves.{ReadMoved, WriteMoved}
+use Rattle.page_reencrypt.specs.SealedLines.{SealedLinesView, enc_key, tag_in}
 use Rattle.page_reencrypt.specs.Stops.{lasting_stop}
-use Rattle.secure_memory.specs.SecureRam.{SecureRamView, IsMoved, IsNumberBelowPath, IsNumberUnder, IsOfLine, IsQuiet, LineHad, contents, stopped}
-use Rattle.secure_memory.proofs.LineCalls.{accepted_number, line_had, loaded_moved, stopped_unmoved, unsealed_not}
+use Rattle.page_reencrypt.proofs.Sealing.{listed_or_not}
+use Rattle.cache_set.specs.declared.way.Way.{Way}
+use Rattle.cache_set.specs.Cache.{copy_at, places}
+use Rattle.line_cache.specs.LineCache.{IsMissed, LineCacheView, leaving}
+use Rattle.secure_memory.specs.LineCall.{IsLineCall}
+use Rattle.secure_memory.specs.SecureRam.{SecureRamView, IsMoved, IsNumberBelowPath, IsNumberUnder, contents, evidence, stopped}
+use Rattle.secure_memory.proofs.LineCalls.{accepted_copy, alone_read, called, copy_held, few_so, found_outside, memory_of, moved_so, ok_goes, stands_in, stopped_unmoved, stops_so, through_so}
+use Rattle.secure_memory.proofs.secure_ram.SecureRamRam.load.Given.{Over}
 use Rattle.secure_memory.proofs.secure_ram.SecureRamRam.load.Goals as goal
 
 -- a stop that is answered again
 
 pub returns-in-Some-clause-moved : goal.returns-in-Some-clause-moved
 returns-in-Some-clause-moved g c =
-    let is : stopped c.args.self.now ≡ Some c.in-Some.stop = search rules in
+    let is : stopped c.args.self.now ≡ Some c.in-Some.stop =
+    ap (λ (m : SecureRamView g.row.B.Denot g.row.T.Denot). m.lines.stopped) (sym c.self.view_is) ∙ sym c.self.invariant.0 ∙ sym c.stopped.ensures ∙ c.in-Some.is in
     stopped_unmoved g.B.Bus.history g.B.Bus.moved (tags_of g.T.Tagger.data_tag_of g.T.Tagger.node_tag_of) g.met.B.Bus.unmoved
     c.args.self.now (line_of c.args.addr ∷ []) c.in-Some.stop is
 
-pub returns-in-Some-clause-unsealed : goal.returns-in-Some-clause-unsealed
-returns-in-Some-clause-unsealed g c = unsealed_not g.B.Bus.history c.args.self.now.lines
+-- a call of the cache
 
--- a line that was read
+none_stopped : (g : Over) (c : goal.After-load g) → c.self.inside.lines.stop ≡ None
+none_stopped g c = sym c.stopped.ensures ∙ c.in_default.is
 
-pub returns-clause-value : goal.returns-clause-value
-returns-clause-value g c = λ going sound.
-    let was_going : c.self.inside.lines.stopped ≡ None = search rules in
-    subst (λ (m : SecureRamView g.row.B.Denot g.row.T.Denot). c.read.result ≡ number_at (contents m) c.args.addr c.args.width) c.self.view_is
-    (number_read (line_contents c.self.inside.lines) c.in_ok-line.line c.args.addr c.read.result c.args.width
-    c.requires.aligned (c.in_ok-line.ensures.value (ap lasting_stop was_going) sound) c.read.ensures.value)
+going : (g : Over) (c : goal.After-load g) → c.self.inside.lines.store.stopped ≡ None
+going g c = sym c.self.invariant.0 ∙ none_stopped g c
+
+hit : (g : Over) (c : goal.After-load g) → Contains (places c.self.inside.lines.lines) (line_of c.args.addr) → result_err c.load.result ≡ None
+hit g c = λ there. ok_goes c.load.result (c.load.ensures.hit there).0
+
+pub invariant_of-self : goal.invariant_of-self
+invariant_of-self g c =
+    let tags = tags_of g.T.Tagger.data_tag_of g.T.Tagger.node_tag_of in
+    let cache : LineCacheView (SealedLinesView g.row.B.Denot g.row.T.Denot) = c.self.inside.lines in
+    let stops = stops_so g.B.Bus.history g.B.Bus.moved tags cache c.load.new.self (line_of c.args.addr) (result_err c.load.result) (λ bytes. bytes)
+    (going g c) c.load.ensures.moved (hit g c) c.load.ensures.missed in (
+      c.load.ensures.kept ∙ ap (λ (o : Option MemStop). option_or o (result_err c.load.result)) (none_stopped g c) ∙ sym stops,
+      few_so g.B.Bus.history g.B.Bus.moved tags cache c.load.new.self (line_of c.args.addr) (result_err c.load.result) (λ bytes. bytes)
+          (going g c) c.load.ensures.moved (hit g c) c.load.ensures.missed,
+      λ still. through_so g.B.Bus.history g.B.Bus.moved tags cache c.load.new.self (line_of c.args.addr) (result_err c.load.result) (λ bytes. bytes)
+          (going g c) c.load.ensures.moved (hit g c) c.load.ensures.missed (λ lasting. c.self.invariant.2 (going g c)) (ap lasting_stop still),
+    )
+
+pub returns-clause-through : goal.returns-clause-through
+returns-clause-through g c = λ still.
+    through_so g.B.Bus.history g.B.Bus.moved (tags_of g.T.Tagger.data_tag_of g.T.Tagger.node_tag_of) c.self.inside.lines c.load.new.self
+    (line_of c.args.addr) (result_err c.load.result) (λ bytes. bytes)
+    (going g c) c.load.ensures.moved (hit g c) c.load.ensures.missed (λ lasting. c.self.invariant.2 (going g c)) (ap lasting_stop still)
 
 pub returns-clause-moved : goal.returns-clause-moved
 returns-clause-moved g c =
-    let was_going : c.self.inside.lines.stopped ≡ None = search rules in
-    subst (λ (m : SecureRamView g.row.B.Denot g.row.T.Denot).
-    IsMoved g.B.Bus.history g.B.Bus.moved (tags_of g.T.Tagger.data_tag_of g.T.Tagger.node_tag_of) m (line_of c.args.addr ∷ []) (record { lines = c.read_line.new.self }))
-    c.self.view_is
-    (loaded_moved g.B.Bus.history g.B.Bus.moved (tags_of g.T.Tagger.data_tag_of g.T.Tagger.node_tag_of)
-    (record { lines = c.self.inside.lines }) (record { lines = c.read_line.new.self }) (line_of c.args.addr) was_going c.in_ok-line.ensures.moved)
+    let tags = tags_of g.T.Tagger.data_tag_of g.T.Tagger.node_tag_of in
+    subst (λ (m : SecureRamView g.row.B.Denot g.row.T.Denot). IsMoved g.B.Bus.history g.B.Bus.moved tags m (line_of c.args.addr ∷ []) (memory_of c.load.new.self)) c.self.view_is
+    (moved_so g.B.Bus.history g.B.Bus.moved tags c.self.inside.lines c.load.new.self (line_of c.args.addr) (result_err c.load.result) (λ bytes. bytes)
+    (going g c) c.load.ensures.moved (hit g c) c.load.ensures.missed g.met.B.Bus.unmoved g.met.B.Bus.moved_on)
 
-pub returns-clause-read : goal.returns-clause-read
-returns-clause-read g c = λ quiet.
-    let was_going : c.self.inside.lines.stopped ≡ None = search rules in
-    subst (λ (m : SecureRamView g.row.B.Denot g.row.T.Denot). LineHad g.B.Bus.history m (record { lines = c.read_line.new.self }) (line_of c.args.addr))
-    c.self.view_is
-    (line_had g.B.Bus.history g.B.Bus.moved (tags_of g.T.Tagger.data_tag_of g.T.Tagger.node_tag_of)
-    (record { lines = c.self.inside.lines }) (record { lines = c.read_line.new.self }) (line_of c.args.addr)
-    c.in_ok-line.ensures.moved (c.in_ok-line.ensures.goes_on ∙ was_going) quiet)
+pub returns-clause-call : goal.returns-clause-call
+returns-clause-call g c = λ _.
+    let tags = tags_of g.T.Tagger.data_tag_of g.T.Tagger.node_tag_of in
+    subst (λ (m : SecureRamView g.row.B.Denot g.row.T.Denot). IsLineCall g.B.Bus.history m (line_of c.args.addr) (leaving m.ways (line_of c.args.addr))
+    (result_err c.load.result) (memory_of c.load.new.self)) c.self.view_is
+    (called g.B.Bus.history g.B.Bus.moved tags c.self.inside.lines c.load.new.self (line_of c.args.addr) (result_err c.load.result) (λ bytes. bytes)
+    (going g c) c.load.ensures.moved (hit g c) c.load.ensures.missed)
 
-pub returns-in_err-line-clause-same_counters : goal.returns-in_err-line-clause-same_counters
-returns-in_err-line-clause-same_counters g c = λ quiet.
-    let was_going : c.self.inside.lines.stopped ≡ None = search rules in
-    subst (λ (m : SecureRamView g.row.B.Denot g.row.T.Denot). SameCounters m.lines c.read_line.new.self) c.self.view_is
-    (c.in_err-line.ensures.same_counters (ap lasting_stop was_going) quiet)
+pub returns-clause-missed : goal.returns-clause-missed
+returns-clause-missed g c = λ _.
+    let tags = tags_of g.T.Tagger.data_tag_of g.T.Tagger.node_tag_of in
+    subst (λ (m : SecureRamView g.row.B.Denot g.row.T.Denot). ¬ Contains (places m.ways) (line_of c.args.addr) →
+    IsMissed (ReadMoved g.B.Bus.history g.B.Bus.moved tags) (WriteMoved g.B.Bus.history g.B.Bus.moved tags)
+    m.ways m.lines (line_of c.args.addr) (λ bytes. bytes) (result_err c.load.result) c.load.new.self.lines c.load.new.self.store) c.self.view_is c.load.ensures.missed
 
-pub returns-clause-same_counters : goal.returns-clause-same_counters
-returns-clause-same_counters g c = λ quiet.
-    let was_going : c.self.inside.lines.stopped ≡ None = search rules in
-    subst (λ (m : SecureRamView g.row.B.Denot g.row.T.Denot). SameCounters m.lines c.read_line.new.self) c.self.view_is
-    (c.in_ok-line.ensures.same_counters (ap lasting_stop was_going) quiet)
+pub returns-clause-value : goal.returns-clause-value
+returns-clause-value g c = λ _ quiet.
+    subst (λ (m : SecureRamView g.row.B.Denot g.row.T.Denot). IfOk c.load.result (λ n. n ≡ number_at (contents m) c.args.addr c.args.width)) c.self.view_is
+    (c.load.ensures.value (ap (λ (o : Option MemStop). option_or o c.self.inside.lines.store.stopped) (none_stopped g c) ∙ going g c) quiet)
 
--- what passed its check
+pub returns-clause-held_copy : goal.returns-clause-held_copy
+returns-clause-held_copy g c = λ _.
+    subst (λ (m : SecureRamView g.row.B.Denot g.row.T.Denot). (copy : List ℕ) → copy_at m.ways (line_of c.args.addr) ≡ Some copy →
+    IfOk c.load.result (λ n. n ≡ number_at copy (c.args.addr % 64) c.args.width)) c.self.view_is
+    (λ copy is.
+    let kept = (c.load.ensures.hit (copy_held c.self.inside.lines.lines (line_of c.args.addr) copy is)).2 in
+    IfOk-weaker c.load.result _ _ (λ n number. number copy (ap (option_map (λ (way : Way). way.copy)) kept ∙ is)) c.load.ensures.copy)
 
-pub returns-in_err-line-clause-accepted : goal.returns-in_err-line-clause-accepted
-returns-in_err-line-clause-accepted g c = λ at counter sealed made_count going quiet is.
-    let was_going : c.self.inside.lines.stopped ≡ None = search rules in
-    let was_quiet : c.self.inside.lines.engine.evidence ≡ None = ap (λ (m : SecureRamView g.row.B.Denot g.row.T.Denot). m.lines.engine.evidence) c.self.view_is ∙ quiet in
-    ((c.in_err-line.ensures.accepted at counter sealed made_count (ap lasting_stop was_going) was_quiet is).0, search rules)
+-- what passed its check, where nothing goes out
 
 pub returns-clause-accepted : goal.returns-clause-accepted
-returns-clause-accepted g c = λ at counter sealed made_count going quiet is.
-    let was_going : c.self.inside.lines.stopped ≡ None = search rules in
-    let was_quiet : c.self.inside.lines.engine.evidence ≡ None = ap (λ (m : SecureRamView g.row.B.Denot g.row.T.Denot). m.lines.engine.evidence) c.self.view_is ∙ quiet in
-    let key = ap (λ (m : SecureRamView g.row.B.Denot g.row.T.Denot). m.lines.pads.key) c.self.view_is in
-    let accepted = c.in_ok-line.ensures.accepted at counter sealed made_count (ap lasting_stop was_going) was_quiet is in (
-      accepted.0,
-      accepted_number _ _ at (line_of c.args.addr) counter sealed.cipher c.in_ok-line.line _ (c.args.addr % 64) c.read.result c.args.width key accepted.0 refl accepted.1 c.read.ensures.value,
-    )
+returns-clause-accepted g c = λ at counter sealed made_count _.
+    let tags = tags_of g.T.Tagger.data_tag_of g.T.Tagger.node_tag_of in
+    let cache : LineCacheView (SealedLinesView g.row.B.Denot g.row.T.Denot) = c.self.inside.lines in
+    let line = line_of c.args.addr in
+    subst (λ (m : SecureRamView g.row.B.Denot g.row.T.Denot). m.lines.engine.evidence ≡ None → leaving m.ways line ≡ None →
+    c.load.new.self.store.engine.evidence ≡ Some (Forgery at counter sealed made_count) → (at ≡ line)
+    × IfOk c.load.result (λ n. n ≡ number_at (cipher_of (enc_key m.lines) at counter sealed.cipher) (c.args.addr % 64) c.args.width)) c.self.view_is
+    (λ quiet stays found. elim (listed_or_not (places cache.lines) line) [
+      | inl there ↦ absurd (found_outside cache.store c.load.new.self.store (Forgery at counter sealed made_count) (c.load.ensures.hit there).1 quiet found)
+      | inr out ↦
+          let accepted = accepted_copy g.B.Bus.history g.B.Bus.moved tags cache c.load.new.self.store c.load.new.self.lines line (result_err c.load.result) (λ bytes. bytes)
+          (going g c) stays (c.load.ensures.missed out) at counter sealed made_count quiet found in
+          (accepted.0, IfOk-weaker c.load.result _ _ (λ n number. number _ accepted.1) c.load.ensures.copy)
+    ])
 
 pub returns-clause-accepted_counters : goal.returns-clause-accepted_counters
-returns-clause-accepted_counters g c = λ made_at block tag going quiet is.
-    let was_going : c.self.inside.lines.stopped ≡ None = search rules in
-    let was_quiet : c.self.inside.lines.engine.evidence ≡ None = ap (λ (m : SecureRamView g.row.B.Denot g.row.T.Denot). m.lines.engine.evidence) c.self.view_is ∙ quiet in
-    subst (λ (m : SecureRamView g.row.B.Denot g.row.T.Denot).
-    IsNumberUnder (tag_in g.T.Tagger.data_tag_of g.T.Tagger.node_tag_of m.lines) (enc_key m.lines) (line_of c.args.addr)
-    (counter_of (place_of (line_of c.args.addr)) (block_of block)) (g.B.Bus.history c.read_line.new.self.bus) (c.args.addr % 64) c.args.width c.read.result)
-    c.self.view_is (record {
-      bytes = c.in_ok-line.line;
-      read = c.in_ok-line.ensures.accepted_counters made_at block tag (ap lasting_stop was_going) was_quiet is;
-      number_is = c.read.ensures.value;
-    })
-
-pub returns-in_err-line-clause-tampered : goal.returns-in_err-line-clause-tampered
-returns-in_err-line-clause-tampered g c = λ place going is.
-    let was_going : c.self.inside.lines.stopped ≡ None = search rules in
-    let why : c.in_err-line.field-0.0 ≡ Tampered place = search rules in
-    subst (λ (m : SecureRamView g.row.B.Denot g.row.T.Denot). IsOfLine m (line_of c.args.addr) place
-    × (IsQuiet m → Rose (g.B.Bus.history m.lines.bus).lies (g.B.Bus.history c.read_line.new.self.bus).lies)) c.self.view_is
-    (c.in_err-line.ensures.tampered place (ap lasting_stop was_going) (ap (λ (s : MemStop). Err s) why))
+returns-clause-accepted_counters g c = λ made_at block tag _.
+    let tags = tags_of g.T.Tagger.data_tag_of g.T.Tagger.node_tag_of in
+    let cache : LineCacheView (SealedLinesView g.row.B.Denot g.row.T.Denot) = c.self.inside.lines in
+    let line = line_of c.args.addr in
+    subst (λ (m : SecureRamView g.row.B.Denot g.row.T.Denot). m.lines.engine.evidence ≡ None → leaving m.ways line ≡ None →
+    c.load.new.self.store.engine.evidence ≡ Some (Collision 0 (page_of line) made_at block tag) →
+    IfOk c.load.result (IsNumberUnder (tag_in g.T.Tagger.data_tag_of g.T.Tagger.node_tag_of m.lines) (enc_key m.lines) line
+    (counter_of (place_of line) (block_of block)) (g.B.Bus.history c.load.new.self.store.bus) (c.args.addr % 64) c.args.width)) c.self.view_is
+    (λ quiet stays found. elim (listed_or_not (places cache.lines) line) [
+      | inl there ↦ absurd (found_outside cache.store c.load.new.self.store (Collision 0 (page_of line) made_at block tag) (c.load.ensures.hit there).1 quiet found)
+      | inr out ↦
+          let m = c.load.ensures.missed out in
+          let read = alone_read g.B.Bus.history g.B.Bus.moved tags cache c.load.new.self.store c.load.new.self.lines line (result_err c.load.result) (λ bytes. bytes) (going g c) stays m in
+          IfOk-weaker c.load.result _ _ (λ n is. record { bytes = is.0; read = is.1; number_is = is.2 })
+          (stands_in line (c.args.addr % 64) c.args.width c.load.new.self.lines m.answer c.load.result _ m.stops m.copy c.load.ensures.copy
+          (read.accepted_counters made_at block tag quiet found))
+    ])
 
 pub returns-clause-checked : goal.returns-clause-checked
-returns-clause-checked g c = λ going.
-    let was_going : c.self.inside.lines.stopped ≡ None = search rules in
-    subst (λ (m : SecureRamView g.row.B.Denot g.row.T.Denot).
-    IsNumberBelowPath (tag_in g.T.Tagger.data_tag_of g.T.Tagger.node_tag_of m.lines) (enc_key m.lines) m.lines.counters (line_of c.args.addr)
-    m.lines.engine.evidence c.read_line.new.self.engine.evidence (g.B.Bus.history c.read_line.new.self.bus) (c.args.addr % 64) c.args.width c.read.result)
-    c.self.view_is (record {
-      bytes = c.in_ok-line.line;
-      read = c.in_ok-line.ensures.checked (ap lasting_stop was_going);
-      number_is = c.read.ensures.value;
-    })
-
-pub returns-clause-alone : goal.returns-clause-alone
-returns-clause-alone g c = λ other differs.
-    c.in_ok-line.ensures.alone other differs
-    ∙ ap (λ (m : SecureRamView g.row.B.Denot g.row.T.Denot). (g.B.Bus.history m.lines.bus).reads (line_place other)) c.self.view_is
+returns-clause-checked g c = λ _.
+    let tags = tags_of g.T.Tagger.data_tag_of g.T.Tagger.node_tag_of in
+    let cache : LineCacheView (SealedLinesView g.row.B.Denot g.row.T.Denot) = c.self.inside.lines in
+    let line = line_of c.args.addr in
+    subst (λ (m : SecureRamView g.row.B.Denot g.row.T.Denot). ¬ Contains (places m.ways) line → leaving m.ways line ≡ None →
+    IfOk c.load.result (IsNumberBelowPath (tag_in g.T.Tagger.data_tag_of g.T.Tagger.node_tag_of m.lines) (enc_key m.lines) m.lines.counters line
+    (evidence m) c.load.new.self.store.engine.evidence (g.B.Bus.history c.load.new.self.store.bus) (c.args.addr % 64) c.args.width)) c.self.view_is
+    (λ out stays.
+    let m = c.load.ensures.missed out in
+    let read = alone_read g.B.Bus.history g.B.Bus.moved tags cache c.load.new.self.store c.load.new.self.lines line (result_err c.load.result) (λ bytes. bytes) (going g c) stays m in
+    IfOk-weaker c.load.result _ _ (λ n is. record { bytes = is.0; read = is.1; number_is = is.2 })
+    (stands_in line (c.args.addr % 64) c.args.width c.load.new.self.lines m.answer c.load.result _ m.stops m.copy c.load.ensures.copy read.checked))
