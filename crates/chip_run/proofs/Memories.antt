@@ -24,7 +24,9 @@ use Rattle.checked_bus.specs.Steps.{IsAccounted, unwritten_in}
 use Rattle.pad_stream.specs.PadBlocks.{ShareNoBlock}
 use Rattle.pad_stream.specs.Pads.{of_lines}
 use Rattle.page_reencrypt.specs.Contents.{AreUnskipped, AreWithin, HoldsSealed, contents_of}
-use Rattle.page_reencrypt.specs.SealedLines.{AccountsForAll, AreNew, AreProtected, CountersRise, IsQuiet, IsUnbooted, Moves, SealedLinesView, contents, enc_key, evidence, levels, made, used}
+use Rattle.page_reencrypt.specs.SealedLines.{AccountsForAll, AreNew, AreProtected, CountersRise, IsQuiet, IsUnbooted, Moves, SealedLinesView, contents, enc_key, evidence, levels, lines_of, made, used}
+use Rattle.cache_set.specs.declared.way.Way.{Way}
+use Rattle.line_cache.specs.LineCache.{contents_over}
 use Rattle.secure_memory.specs.SecureRam.{IsMoved, SecureRamView}
 use Rattle.chip_run.specs.Report.{ReportTerms}
 use Rattle.chip_run.specs.Run.{Terms, EndedAtBoot, unwritten_at}
@@ -202,11 +204,12 @@ module _ {B T : Type 0} (d n : T → List ℕ → List ℕ) (history : B → Bus
       }
 
   -- all its bytes, in the words of the run
-  pub run_contents : (run : RunRecord) → run.made ≡ made lines → contents_of key (line_count depth) run.made ≡ contents lines
-  run_contents run made_is =
-      ap (contents_of key (line_count depth)) made_is
-      ∙ ap (λ (levels : ℕ). contents_of key (line_count levels) (made lines)) (sym (moves.step.levels ∙ new.depth_is))
-      ∙ ap (λ (k : List ℕ). contents_of k (line_count (levels lines)) (made lines)) (sym (moves.key ∙ new.key_is))
+  pub run_contents : (run : RunRecord) (ways : List (List Way)) → run.made ≡ made lines →
+      contents_over (contents_of key (line_count depth) run.made) (line_count depth) ways ≡ contents_over (contents lines) (lines_of lines) ways
+  run_contents run ways made_is =
+      ap (λ (made : List Message). contents_over (contents_of key (line_count depth) made) (line_count depth) ways) made_is
+      ∙ ap (λ (levels : ℕ). contents_over (contents_of key (line_count levels) (made lines)) (line_count levels) ways) (sym (moves.step.levels ∙ new.depth_is))
+      ∙ ap (λ (k : List ℕ). contents_over (contents_of k (line_count (levels lines)) (made lines)) (lines_of lines) ways) (sym (moves.key ∙ new.key_is))
 
 -- what running on made of a memory in which a program was stored
 pub whole_moves : {B T : Type 0} (history : B → BusHistory) (bus_moved : B → B → Type 0) (tags : TagEngineView T → Message → List ℕ) → ((a b c : B) → bus_moved a b → bus_moved b c → bus_moved a c) →

@@ -1,5 +1,5 @@
 -- What a run's instructions came to, and what stands outside behind them.
-use Rattle.std.proofs.Common.{◌≡◌, ◌≢◌, ◌+◌, ◌*◌, ◌<◌, ◌≤◌, ℕ, zero, suc, List, [], ◌++◌, length, replicate, Option, Some, None, refl, sym, ap, ◌∙◌, subst, arith}
+use Rattle.std.proofs.Common.{◌≡◌, ◌≢◌, ◌+◌, ◌*◌, ◌<◌, ◌≤◌, ℕ, zero, suc, List, [], ◌++◌, length, replicate, Option, Some, None, Contains, refl, sym, ap, ◌∙◌, subst, arith}
 use Rattle.std.specs.Option.{option_map}
 use Rattle.std.proofs.lemmas.List.{replicate-append-replicate}
 use Rattle.sha2.specs.Sha256.{sha256}
@@ -28,9 +28,14 @@ use Rattle.rv32_core.specs.Outcome.{prints_of}
 use Rattle.rv32_run.specs.Session.{FollowsWith, IsMemoryEnding, IsStop, stop_ending}
 use Rattle.rv32_run.proofs.Runs.{budget_ends, nothing_follows}
 use Rattle.page_reencrypt.specs.Contents.{bytes_of, contents_of, line_bytes}
-use Rattle.page_reencrypt.specs.LineLengths.{length-line_bytes}
+use Rattle.page_reencrypt.specs.LineLengths.{length-contents_of, length-line_bytes}
+use Rattle.cache_set.specs.declared.way.Way.{Way}
+use Rattle.cache_set.specs.Cache.{places}
+use Rattle.line_cache.specs.LineCache.{contents_over}
+use Rattle.line_cache.proofs.Lines.{over_nothing, over_unheld}
+use Rattle.line_cache.proofs.Steps.{unheld_none}
 use Rattle.chip_run.specs.Report.{signed_report}
-use Rattle.chip_run.specs.Run.{Terms, IsWrittenOut}
+use Rattle.chip_run.specs.Run.{Terms, IsWrittenOut, most_left}
 use Rattle.chip_run.specs.declared.record.RunRecord.{RunRecord}
 use Rattle.chip_run.proofs.Ends.{OfSession, ReadsTurnover}
 use Rattle.chip_run.proofs.Turned.{nothing_turned}
@@ -57,20 +62,29 @@ joined_zeros f (suc lines) zeros =
     ∙ replicate-append-replicate (64 * lines) 64 0
     ∙ ap (λ (n : ℕ). replicate n 0) more
 
-pub opening_zeros : (key : List ℕ) (levels depth size : ℕ) (made : List Message) → data_pairs made ≡ [] → levels ≡ depth → size ≡ memory_size depth →
-    contents_of key (line_count levels) made ≡ replicate size 0
-opening_zeros key levels depth size made none same as_large =
+none_listed : (line : ℕ) → Contains [] line → ⊥
+none_listed line there = omega (arith, there.1)
+
+pub opening_zeros : (key : List ℕ) (levels depth size : ℕ) (made : List Message) (ways : List (List Way)) → data_pairs made ≡ [] → levels ≡ depth → size ≡ memory_size depth → places ways ≡ [] →
+    contents_over (contents_of key (line_count levels) made) (line_count levels) ways ≡ replicate size 0
+opening_zeros key levels depth size made ways none same as_large unheld =
     let long : 64 * line_count depth ≡ size = omega arith in
-    joined_zeros (line_bytes key made) (line_count levels) (λ line. ap (bytes_of key line) (untagged made line none))
+    over_nothing (contents_of key (line_count levels) made) (line_count levels) ways (length-contents_of key (line_count levels) made)
+    (λ line. unheld_none ways line (λ there. none_listed line (subst (λ (held : List ℕ). Contains held line) unheld there)))
+    ∙ joined_zeros (line_bytes key made) (line_count levels) (λ line. ap (bytes_of key line) (untagged made line none))
     ∙ ap (λ (n : ℕ). replicate (64 * line_count n) 0) same ∙ ap (λ (n : ℕ). replicate n 0) long
 
--- All lines are written out where the memory as a whole is that of the messages.
-written_out : (key : List ℕ) (lines : ℕ) (made : List Message) (memory : List ℕ) → contents_of key lines made ≡ memory → IsWrittenOut key lines made memory
-written_out key lines made memory whole = record {
-  left = [];
-  few = omega arith;
+-- All lines that are not held are written out where the memory as a whole is that of the messages with the held copies laid
+-- over.
+written_out : (key : List ℕ) (lines : ℕ) (made : List Message) (ways : List (List Way)) (memory : List ℕ) →
+    contents_over (contents_of key lines made) lines ways ≡ memory → length (places ways) ≤ most_left → IsWrittenOut key lines made memory
+written_out key lines made ways memory whole few = record {
+  left = places ways;
+  few = few;
   out = λ line inside free.
-      sym (line_at-joined_lines (line_bytes key made) lines line (length-line_bytes key made) inside) ∙ ap (λ (bytes : List ℕ). line_at bytes line) whole;
+      sym (line_at-joined_lines (line_bytes key made) lines line (length-line_bytes key made) inside)
+      ∙ sym (over_unheld (contents_of key lines made) lines ways line (length-contents_of key lines made) inside (unheld_none ways line free))
+      ∙ ap (λ (bytes : List ℕ). line_at bytes line) whole;
 }
 
 -- A run that its memory stopped before the first instruction
@@ -118,15 +132,16 @@ stopped_session terms out before after run entry size segments input stop begins
     }
 
 -- A run of some instructions, which a session that may do so many ended so
-pub ran_session : (terms : Terms) (out out' : SinkState) (printed : List ℕ) (before after : BusHistory) (run : RunRecord) (finished allowance : ℕ) (ended : Ending) (memory : List ℕ) →
-    run.retired ≡ finished → run.ending ≡ ended → allowance ≡ terms.budget → run.report ≡ signed_report terms.report (sha256 printed) run.retired run.ending → contents_of terms.enc_key (line_count terms.levels) run.made ≡ memory →
+pub ran_session : (terms : Terms) (out out' : SinkState) (printed : List ℕ) (before after : BusHistory) (run : RunRecord) (finished allowance : ℕ) (ended : Ending) (ways : List (List Way)) (memory : List ℕ) →
+    run.retired ≡ finished → run.ending ≡ ended → allowance ≡ terms.budget → run.report ≡ signed_report terms.report (sha256 printed) run.retired run.ending → contents_over (contents_of terms.enc_key (line_count terms.levels) run.made) (line_count terms.levels) ways ≡ memory →
+    length (places ways) ≤ most_left →
     Gains out printed out' → finished ≤ allowance → (ended ≡ OutOfSteps → finished ≡ allowance) → (IsStop ended → finished < allowance) →
     (ended ≡ WriteFault → Rose out.faults out'.faults) → out.faults ≤ out'.faults →
     (run.evidence ≡ None → FollowsWith terms.start terms.budget run.retired run.ending memory printed) →
     (run.evidence ≡ None → ended ≡ WriteFault → 0 < length (prints_of (next (plain terms.start finished).state))) →
     (run.evidence ≡ None → ReadsTurnover terms before after run) →
     OfSession terms out out' printed before after run
-ran_session terms out out' printed before after run finished allowance ended memory retired_is ending_is budget_is signed outside gained within budget_used early write_fault faults follows prints turned =
+ran_session terms out out' printed before after run finished allowance ended ways memory retired_is ending_is budget_is signed outside few gained within budget_used early write_fault faults follows prints turned =
     let in_time : IsStop run.ending → run.retired < terms.budget = λ stops. omega (arith, retired_is, budget_is, early (subst IsStop ending_is stops)) in
     record {
       gained = gained;
@@ -137,8 +152,8 @@ ran_session terms out out' printed before after run finished allowance ended mem
       faults = faults;
       follows = λ quiet. (follows quiet).follows;
       written_out = λ quiet going.
-          written_out terms.enc_key (line_count terms.levels) run.made (plain terms.start run.retired).state.memory
-          (outside ∙ (follows quiet).leaves going);
+          written_out terms.enc_key (line_count terms.levels) run.made ways (plain terms.start run.retired).state.memory
+          (outside ∙ (follows quiet).leaves going) few;
       out_of_steps = λ quiet going.
           budget_ends terms.start terms.budget run.retired run.ending printed (follows quiet).follows in_time going;
       prints = λ quiet is.

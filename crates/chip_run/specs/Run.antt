@@ -46,7 +46,7 @@ pub record Terms : Type 0 where
 
 -- how many lines may stand on the chip alone as a run ends
 abbrev pub most_left : ℕ
-most_left = 0
+most_left = 128
 
 -- All lines but those that are left on the chip have the memory's bytes.
 pub record IsWrittenOut (key : List ℕ) (lines : ℕ) (made : List Message) (memory : List ℕ) : Type 0 where

@@ -1,10 +1,11 @@
 // How a run is closed: its memory is given up, and its record made.
-ghost use Rattle.std.specs.Prelude.{◌≡◌, ◌^◌, ◌<◌, [], None, Some, IfSome, length};
+ghost use Rattle.std.specs.Prelude.{◌≡◌, ◌^◌, ◌<◌, ◌≤◌, [], None, Some, IfSome, length};
 ghost use Rattle.sec_base.specs.Evidence.{IsEvidence};
 ghost use Rattle.sec_base.specs.declared.ending.Ending.TheVariants.{NoMemory as memory_ended};
 ghost use Rattle.pad_stream.specs.PadBlocks.{ShareNoBlock};
 ghost use Rattle.page_reencrypt.specs.SealedLines.{AreProtected, enc_key, tag_in};
-ghost use Rattle.secure_memory.specs.SecureRam.{IsQuiet, evidence as evidence_of, made as made_by, used as used_by};
+ghost use Rattle.chip_run.specs.Run.{most_left};
+ghost use Rattle.secure_memory.specs.SecureRam.{IsQuiet, evidence as evidence_of, held_lines, made as made_by, used as used_by};
 
 use crate::record::RunRecord;
 use bus_model::Bus;
@@ -26,6 +27,7 @@ pub(crate) fn close<B: Bus, T: Tagger>(
     ensures evidence { result.0.evidence ≡ evidence_of memory }
     ensures used { result.0.used ≡ used_by memory }
     ensures few { length result.0.used < 2 ^ 64 }
+    ensures few_held { length (held_lines memory) ≤ most_left }
     ensures apart { IsQuiet memory → ShareNoBlock (enc_key memory.lines) result.0.used }
     ensures report { result.0.report ≡ report }
     ensures bus { result.1 ≡ memory.lines.bus }

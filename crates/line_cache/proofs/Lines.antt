@@ -219,3 +219,18 @@ over_changed stored count lines lines' line way below whole here others = sym (w
     (λ l. laid_over (way_at lines l) (line_at stored l)) (λ l. laid_over (way_at lines' l) (line_at stored l)) count line way.copy (length-line stored lines) below
     (laid_some (way_at lines' line) way (line_at stored line) here ∙ whole_same way.copy whole)
     (λ other apart. ap (λ (f : Option Way). laid_over f (line_at stored other)) (others other apart)))
+
+-- a line of the contents that has no copy is the store's
+pub over_unheld : (stored : List ℕ) (count : ℕ) (lines : List (List Way)) (line : ℕ) → length stored ≡ 64 * count → line < count → way_at lines line ≡ None →
+    line_at (contents_over stored count lines) line ≡ line_at stored line
+over_unheld stored count lines line long below none =
+    line_at-joined_lines (λ line. laid_over (way_at lines line) (line_at stored line)) count line (length-line stored lines) below
+    ∙ (laid_none (way_at lines line) (line_at stored line) none ∙ whole_same (line_at stored line) (length-line_at stored line (omega (arith, below, long))))
+
+-- where no line has a copy, the contents are the store's
+pub over_nothing : (stored : List ℕ) (count : ℕ) (lines : List (List Way)) → length stored ≡ 64 * count → ((line : ℕ) → way_at lines line ≡ None) →
+    contents_over stored count lines ≡ stored
+over_nothing stored count lines long none =
+    joined_lines-same (λ line. laid_over (way_at lines line) (line_at stored line)) (λ line. whole_line (line_at stored line)) count
+    (λ line below. laid_none (way_at lines line) (line_at stored line) (none line))
+    ∙ as_lines stored count long

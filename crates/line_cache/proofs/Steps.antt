@@ -19,6 +19,10 @@ pub none_of_both : (first later : Option MemStop) → option_or first later ≡ 
 none_of_both None later h = (refl, h)
 none_of_both (Some stop) later h = grind arith
 
+some_or_none : (found : Option Way) → IsSome found ⊎ (found ≡ None)
+some_or_none None = inr refl
+some_or_none (Some way) = inl refl
+
 some_not : (found : Option Way) → IsSome found → found ≡ None → ⊥
 some_not None s none = true≢false (sym s)
 some_not (Some way) s none = true≢false (ap (λ (f : Option Way). is_some f) none)
@@ -36,6 +40,13 @@ module _ (lines : List (List Way)) (is : IsCache line_sets lines) (line : ℕ) w
   pub held_before : (before : List (List Way)) → (way_at lines line ≡ way_at before line) ⊎ (way_at lines line ≡ None) → Contains (places lines) line → Contains (places before) line
   held_before before (inl same) c = listed_at before line (subst IsSome same (way_held c))
   held_before before (inr none) c = absurd (not_held none c)
+
+-- a line that is not held has no way
+pub unheld_none : (lines : List (List Way)) (line : ℕ) → ¬ (Contains (places lines) line) → way_at lines line ≡ None
+unheld_none lines line out = elim (some_or_none (way_at lines line)) [
+  | inl there ↦ absurd (out (listed_at lines line there))
+  | inr none ↦ none
+]
 
 -- a touch is all that a held line makes of the ways
 brought_held_if : (found : Option Way) (lines : List (List Way)) (line : ℕ) (copy : List ℕ) → IsSome found → with_set lines line (touched line (set_at lines line)) ≡ brought_if found lines line copy

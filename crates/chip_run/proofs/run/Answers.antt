@@ -15,7 +15,7 @@ use Rattle.rv32_core.specs.Turnover.{page_turnover, turnover}
 use Rattle.rv32_run.specs.Session.{CarriesEnding, FollowsWith, IsStop, Reaches}
 use Rattle.rv32_run.proofs.Runs.{opening_begins, opening_follows}
 use Rattle.page_reencrypt.specs.SealedLines.{Moves}
-use Rattle.secure_memory.specs.SecureRam.{IsQuiet, contents, made, stopped}
+use Rattle.secure_memory.specs.SecureRam.{IsQuiet, contents, held_lines, made, stopped}
 use Rattle.chip_run.specs.Report.{signed_report}
 use Rattle.chip_run.proofs.Booted.{has_message}
 use Rattle.chip_run.proofs.Closing.{ends_as_stop, going_on_fault}
@@ -24,7 +24,7 @@ use Rattle.chip_run.proofs.Memories.{run_contents, run_memory, run_reads, whole_
 use Rattle.chip_run.proofs.Outcomes.{boot_refused, storing_stopped}
 use Rattle.chip_run.proofs.Reports.{report_is}
 use Rattle.chip_run.proofs.Runs.{opening_zeros, ran_session}
-use Rattle.chip_run.proofs.Turned.{IsBooted, opening_bytes, run_turned}
+use Rattle.chip_run.proofs.Turned.{IsBooted, few_begun, opening_bytes, run_turned}
 use Rattle.chip_run.proofs.run.Given.{Over}
 use Rattle.chip_run.proofs.run.Goals as goal
 
@@ -40,7 +40,8 @@ pub store_image-requires-clause-zeros : goal.store_image-requires-clause-zeros
 store_image-requires-clause-zeros g c = λ quiet.
     let lines = c.in-Ok.memory.lines in
     let new = c.in-Ok.ensures.new in
-    opening_zeros lines.pads.key lines.engine.levels c.args.setup.now.geometry c.args.image.now.size lines.engine.made new.untagged new.depth_is c.requires.size
+    opening_zeros lines.pads.key lines.engine.levels c.args.setup.now.geometry c.args.image.now.size lines.engine.made c.in-Ok.memory.ways
+    new.untagged new.depth_is c.requires.size c.in-Ok.ensures.none_held
 
 pub returns-in-Err-store_image-clause-run : goal.returns-in-Err-store_image-clause-run
 returns-in-Err-store_image-clause-run g c =
@@ -113,6 +114,8 @@ begun_booted g c =
     let storing = c.in_default.ensures.moved.moved.moves in
     record {
       levels_are = ap (λ memory. memory.lines.engine.levels) began ∙ storing.step.levels ∙ booted.depth_is;
+      few = few_begun (held_lines c.in-Ok.memory) (held_lines c.store_image.new.ram) (held_lines c.new-session.result.memory) c.in-Ok.ensures.none_held
+          c.in_default.ensures.moved.moved.few (ap (λ memory. held_lines memory) began);
       tagged = λ page below.
           has_message _ c.args.setup.now.geometry page _ (made c.new-session.result.memory) storing.step.more booted.made_is
           (ap (λ memory. made memory) began ∙ storing.step.made) below;
@@ -179,10 +182,11 @@ returns-clause-run g c =
     (run_memory d n g.B.Bus.history g.B.Bus.moved c.args.bus c.args.tagger setup.keys.enc_key setup.geometry setup.page_limit
     c.in-Ok.memory.lines memory.lines c.in-Ok.ensures.new (ran g c)
     (opening image c.args.input.now) setup.budget _ c.close-2.result.1 c.close-2.result.0 c.requires.no_lie run.protected run.made run.used run.few run.apart run.evidence run.bus (carries g c))
-    (ran_session _ _ _ ended.follows.0 _ _ c.close-2.result.0 c.finish-ending.new.self.retired c.new-session.result.budget c.finish-ending.result (contents c.finish-ending.new.self.memory)
+    (ran_session _ _ _ ended.follows.0 _ _ c.close-2.result.0 c.finish-ending.new.self.retired c.new-session.result.budget c.finish-ending.result memory.ways (contents c.finish-ending.new.self.memory)
     (run.retired ∙ c.retired-retired.ensures) run.ending c.new-session.ensures.budget (signed g c)
     (run_contents d n g.B.Bus.history g.B.Bus.moved c.args.bus c.args.tagger setup.keys.enc_key setup.geometry setup.page_limit
-    c.in-Ok.memory.lines memory.lines c.in-Ok.ensures.new (ran g c) c.close-2.result.0 run.made ∙ ap (λ m. contents m) c.into_parts-memory.ensures.memory)
+    c.in-Ok.memory.lines memory.lines c.in-Ok.ensures.new (ran g c) c.close-2.result.0 memory.ways run.made ∙ ap (λ m. contents m) c.into_parts-memory.ensures.memory)
+    run.few_held
     ended.follows.1.0 ended.within ended.budget_used ended.early ended.write_fault ended.faults (follows g c) (prints g c) (turned g c))
 
 pub returns-clause-bus : goal.returns-clause-bus
