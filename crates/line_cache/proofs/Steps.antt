@@ -10,7 +10,7 @@ use Rattle.cache_set.specs.declared.way.Way.{Way}
 use Rattle.cache_set.specs.CacheSet.{IsSet, touched}
 use Rattle.cache_set.specs.Cache.{AreSets, IsCache, copy_at, place_of, places, set_at, victim_if, way_at, with_set}
 use Rattle.cache_set.proofs.Listed.{found_at, listed_at}
-use Rattle.line_cache.specs.LineCache.{AreClean, AreCopies, IsMiss, IsMissed, IsStep, LineCacheView, brought, brought_if, contents_over, if_changed, leaving, line_sets, most_held, with_new, with_room}
+use Rattle.line_cache.specs.LineCache.{AreClean, AreCopies, IsMiss, IsMissed, IsStep, IsStoppedMiss, LineCacheView, brought, brought_if, contents_over, if_changed, leaving, line_sets, most_held, with_new, with_room}
 use Rattle.line_cache.specs.WriteBack.{IsGone, IsWritten, written, written_if}
 use Rattle.line_cache.proofs.Lines.{clean_part, clean_written, line_written, over_gone, over_written, part_gone, same_or_not}
 
@@ -86,6 +86,17 @@ module _ {S : Type 0} (read_moved : S → ℕ → Result (List ℕ) MemStop → 
       IsWritten write_moved found stop before after → IsMiss read_moved write_moved found before line (Err stop) after
   gone_in_part None before after line stop gone = absurd gone
   gone_in_part (Some way) before after line stop gone = inl (stop, refl, gone)
+
+  pub stopped_in_write : (found : Option Way) (lines lines' : List (List Way)) (before after : S) (line : ℕ) (stop : MemStop) →
+      IsWritten write_moved found stop before after → lines' ≡ lines → IsStoppedMiss read_moved write_moved found lines before line stop lines' after
+  stopped_in_write None lines lines' before after line stop gone same = absurd gone
+  stopped_in_write (Some way) lines lines' before after line stop gone same = inl (gone, same)
+
+  pub stopped_in_read : (found : Option Way) (lines lines' : List (List Way)) (before middle after : S) (line : ℕ) (stop : MemStop) →
+      IsGone write_moved found before middle → read_moved middle line (Err stop) after → lines' ≡ with_room lines line →
+      IsStoppedMiss read_moved write_moved found lines before line stop lines' after
+  stopped_in_read None lines lines' before middle after line stop gone read same = (subst (λ (s : S). read_moved s line (Err stop) after) gone read, same)
+  stopped_in_read (Some way) lines lines' before middle after line stop gone read same = inr (middle, gone, read, same)
 
   module _ (lines lines' : List (List Way)) (before after : S) (line : ℕ) where
     pub missed : (middle : S) (answer : Result (List ℕ) MemStop) → IsGone write_moved (leaving lines line) before middle →

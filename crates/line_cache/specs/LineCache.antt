@@ -31,7 +31,7 @@ new_lines store = record { store = store; lines = new_cache line_sets; stop = No
 abbrev pub held_lines : {S : Type 0} → LineCacheView S → List ℕ
 held_lines cache = places cache.lines
 
--- as 64 bytes
+-- cut, or filled with zeros, to 64 bytes
 unfoldable pub whole_line : List ℕ → List ℕ
 whole_line bytes = take LINE_LEN (bytes ++ replicate LINE_LEN 0)
 
@@ -110,12 +110,12 @@ module _ {S : Type 0} (read_moved : S → ℕ → Result (List ℕ) MemStop → 
       ((stop : MemStop) × (answer ≡ Err stop) × write_moved before way.place way.copy (Err stop) after)
       ⊎ ((middle : S) × write_moved before way.place way.copy (Ok tt) middle × read_moved middle line answer after)
 
-  -- what a line that is not held makes of the store, by the changed way that goes out for it
+  -- what a miss makes of the store, by the changed way that goes out for it
   abbrev pub IsMiss : Option Way → S → ℕ → Result (List ℕ) MemStop → S → Type 0
   IsMiss None before line answer after = read_moved before line answer after
   IsMiss (Some way) before line answer after = IsWrittenThenRead before way line answer after
 
-  -- A call by a line that is not held. It stops as the store did; else the line's copy is what the store answered, or what
+  -- A call on a line that is not held. It stops as the store did; else the line's copy is what the store answered, or what
   -- the call made of that.
   pub record IsMissed (lines : List (List Way)) (before : S) (line : ℕ) (copied : List ℕ → List ℕ) (stop : Option MemStop)
       (lines' : List (List Way)) (after : S) : Type 0 where
@@ -124,7 +124,16 @@ module _ {S : Type 0} (read_moved : S → ℕ → Result (List ℕ) MemStop → 
     pub stops : result_err answer ≡ stop
     pub copy : IfOk answer (λ bytes. copy_at lines' line ≡ Some (copied bytes))
 
-  -- what a call by a line makes of a cache
+  -- A miss that stopped. Where the write of the changed way stopped, no way went out; where the read of the line did, the way
+  -- that goes out for it is gone.
+  abbrev pub IsStoppedMiss : Option Way → List (List Way) → S → ℕ → MemStop → List (List Way) → S → Type 0
+  IsStoppedMiss None lines before line stop lines' after = read_moved before line (Err stop) after × (lines' ≡ with_room lines line)
+  IsStoppedMiss (Some way) lines before line stop lines' after =
+      (write_moved before way.place way.copy (Err stop) after × (lines' ≡ lines))
+      ⊎ ((middle : S) × write_moved before way.place way.copy (Ok tt) middle × read_moved middle line (Err stop) after
+      × (lines' ≡ with_room lines line))
+
+  -- what a call on a line makes of a cache
   pub record IsStep (before : LineCacheView S) (line : ℕ) (after : LineCacheView S) : Type 0 where
     pub hit : Contains (held_lines before) line → (after.store ≡ before.store) × (leaving before.lines line ≡ None)
     pub miss : ¬ (Contains (held_lines before) line) →
@@ -132,7 +141,7 @@ module _ {S : Type 0} (read_moved : S → ℕ → Result (List ℕ) MemStop → 
     pub held : (other : ℕ) → Contains (held_lines after) other → Contains (held_lines before) other ⊎ (other ≡ line)
     pub few : length (held_lines after) ≤ most_held
 
-  -- calls by these lines led from one to the other
+  -- calls on these lines led from one to the other
   abbrev pub IsMoved : LineCacheView S → List ℕ → LineCacheView S → Type 0
   IsMoved before [] after = after ≡ before
   IsMoved before (line ∷ lines) after = (middle : LineCacheView S) × IsStep before line middle × IsMoved middle lines after

@@ -4,7 +4,7 @@ ghost use Rattle.std.specs.Result.{result_err};
 ghost use Rattle.sec_base.specs.Lines.{line_at, with_line};
 ghost use Rattle.cache_set.specs.CacheSet.{HasRoom};
 ghost use Rattle.cache_set.specs.Cache.{IsLatest, copy_at, set_at, victim_for, way_at};
-ghost use Rattle.line_cache.specs.LineCache.{AreClean, AreCopies, IsMissed, contents_over, if_changed, leaving, with_new, with_room};
+ghost use Rattle.line_cache.specs.LineCache.{AreClean, AreCopies, IsMissed, IsStoppedMiss, contents_over, if_changed, leaving, with_new, with_room};
 ghost use Rattle.line_cache.specs.WriteBack.{IsGone, IsWritten, written};
 
 use cache_set::{Cache, Way};
@@ -40,7 +40,8 @@ pub(crate) fn fetch<S: LineStore>(
 
     ensures ways { OnOk result ((copy : List ℕ) → copy_at lines.new line ≡ Some copy →
         lines.new ≡ with_new (with_room lines.old line) line copy) }
-    ensures ways_left { OnErr result ((lines.new ≡ lines.old) ⊎ (lines.new ≡ with_room lines.old line)) }
+    ensures ways_left { IfErr result (λ stop. IsStoppedMiss S.read_moved S.write_moved (leaving lines.old line)
+        lines.old store.old line stop lines.new store.new) }
 {
     make_room(store, lines, line)?;
     let copy = store.read_line(line)?;
@@ -48,7 +49,7 @@ pub(crate) fn fetch<S: LineStore>(
     Ok(())
 }
 
-// The way that goes out for a line goes out, written first where it was changed.
+// Evicts the way that goes out for a line, and writes it first where it was changed.
 fn make_room<S: LineStore>(store: &mut S, lines: &mut Cache<64>, line: u32) -> Result<(), MemStop>
     requires copies { AreCopies (S.extent store.old) lines.old }
     requires absent { way_at lines.old line ≡ None }

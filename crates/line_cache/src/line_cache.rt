@@ -5,7 +5,7 @@ ghost use Rattle.std.specs.Result.{result_err};
 ghost use Rattle.sec_base.specs.Geometry.{line_of};
 ghost use Rattle.sec_base.specs.Width.{width_bytes, number_at, with_number};
 ghost use Rattle.cache_set.specs.Cache.{AreApart, IsLatest, copy_at, way_at};
-ghost use Rattle.line_cache.specs.LineCache.{AreClean, IsMissed, IsMoved, IsStep, brought, contents, held_lines, most_held, new_lines, stopped, with_changed, with_room};
+ghost use Rattle.line_cache.specs.LineCache.{AreClean, IsMissed, IsMoved, IsStep, IsStoppedMiss, brought, contents, held_lines, leaving, most_held, new_lines, stopped, with_changed};
 
 use crate::fetch::fetch;
 use cache_set::Cache;
@@ -13,8 +13,8 @@ use sec_base::{LINE_LEN, LineStore, MemStop, NoMemory, NoMemoryWith, Ram, Width}
 use std::alloc::Global;
 use std::marker::Model;
 
-/// A memory over a store of lines. It holds copies of the lines that were used last, in 64 sets of two ways, and writes
-/// a line that was changed to the store only when it goes out.
+/// A memory over a store of lines. It holds copies of the most recently used lines, in 64 sets of two ways, and writes a line
+/// that was changed to the store only when it goes out.
 #[derive(Drop)]
 pub struct LineCache<S: LineStore> {
     store: S,
@@ -39,6 +39,7 @@ impl<S: LineStore> LineCache<S> {
         ensures new { IfOk result (λ cache. cache ≡ new_lines store) }
         ensures refused { IfErr result (λ refusal. refusal.0 ≡ store) }
     {
+        // It is the number of lines of some memory.
         let _lines = store.lines();
         match Cache::new(alloc) {
             Ok(lines) => Ok(LineCache {
@@ -112,7 +113,8 @@ impl<S: LineStore> LineCache<S> {
 
         ensures ways { OnOk result ((copy : List ℕ) → copy_at self.new.lines line ≡ Some copy →
             self.new.lines ≡ brought self.old.lines line copy) }
-        ensures ways_left { OnErr result ((self.new.lines ≡ self.old.lines) ⊎ (self.new.lines ≡ with_room self.old.lines line)) }
+        ensures ways_left { IfErr result (λ stop. IsStoppedMiss S.read_moved S.write_moved (leaving self.old.lines line)
+            self.old.lines self.old.store line stop self.new.lines self.new.store) }
     {
         if self.lines.touch(line) {
             return Ok(());
@@ -161,7 +163,7 @@ impl<S: LineStore> Ram for LineCache<S> {
         ensures lost { S.sound self.new.store → S.sound self.old.store }
         ensures moved { IsMoved S.read_moved S.write_moved self.old (line_of addr ∷ []) self.new }
 
-        // A line that is held is not sought in the store. A stop is what the store answered.
+        // A line that is held is not looked up in the store. A stop is what the store answered.
         ensures hit { Contains (held_lines self.old) (line_of addr) → IsOk result × (self.new.store ≡ self.old.store)
             × (way_at self.new.lines (line_of addr) ≡ way_at self.old.lines (line_of addr)) }
         ensures answered { S.stopped self.old.store ≡ None → IfErr result (λ stop. S.stopped self.new.store ≡ Some stop) }
@@ -171,15 +173,16 @@ impl<S: LineStore> Ram for LineCache<S> {
             self.old.lines self.old.store (line_of addr) (λ bytes. bytes) (result_err result) self.new.lines self.new.store }
         ensures kept { self.new.stop ≡ option_or self.old.stop (result_err result) }
 
-        // Whatever can be relied on, the number is the one in the copy that the line has after the call.
+        // Sound or not, the number is the one in the copy that the line has after the call.
         ensures copy { IfOk result (λ n. (copy : List ℕ) → copy_at self.new.lines (line_of addr) ≡ Some copy →
             n ≡ number_at copy (addr % 64) width) }
 
-        // The line is the most recently used one of its set, and the one that goes out for it is the least recently used.
+        // The line is the most recently used one of its set, and the one that goes out for it is the least recently used. Where
+        // the write of that one stops, it stays.
         ensures ways { OnOk result ((copy : List ℕ) × (copy_at self.new.lines (line_of addr) ≡ Some copy)
             × (self.new.lines ≡ brought self.old.lines (line_of addr) copy)) }
-        ensures ways_left { OnErr result (
-            (self.new.lines ≡ self.old.lines) ⊎ (self.new.lines ≡ with_room self.old.lines (line_of addr))) }
+        ensures ways_left { IfErr result (λ stop. IsStoppedMiss S.read_moved S.write_moved (leaving self.old.lines (line_of addr))
+            self.old.lines self.old.store (line_of addr) stop self.new.lines self.new.store) }
     {
         self.bring(addr / LINE_LEN)?;
         let copy = self.lines.latest(addr / LINE_LEN);
@@ -207,7 +210,7 @@ impl<S: LineStore> Ram for LineCache<S> {
         ensures unchanged { stopped S.stopped self.old ≡ None → S.sound self.new.store →
             OnErr result (contents S.contents S.extent self.new ≡ contents S.contents S.extent self.old) }
 
-        // A line that is held is not sought in the store. A stop is what the store answered.
+        // A line that is held is not looked up in the store. A stop is what the store answered.
         ensures hit { Contains (held_lines self.old) (line_of addr) → IsOk result × (self.new.store ≡ self.old.store)
             × ((copy : List ℕ) → copy_at self.old.lines (line_of addr) ≡ Some copy →
             copy_at self.new.lines (line_of addr) ≡ Some (with_number copy (addr % 64) width value)) }
@@ -220,11 +223,11 @@ impl<S: LineStore> Ram for LineCache<S> {
         ensures kept { self.new.stop ≡ option_or self.old.stop (result_err result) }
 
         // The line is the most recently used one of its set and marked, with the number in its copy. The one that goes out for
-        // it is the least recently used.
+        // it is the least recently used. Where the write of that one stops, it stays.
         ensures ways { OnOk result ((copy : List ℕ) × (self.new.lines ≡ with_changed (brought self.old.lines (line_of addr) copy)
             (line_of addr) (with_number copy (addr % 64) width value))) }
-        ensures ways_left { OnErr result (
-            (self.new.lines ≡ self.old.lines) ⊎ (self.new.lines ≡ with_room self.old.lines (line_of addr))) }
+        ensures ways_left { IfErr result (λ stop. IsStoppedMiss S.read_moved S.write_moved (leaving self.old.lines (line_of addr))
+            self.old.lines self.old.store (line_of addr) stop self.new.lines self.new.store) }
     {
         self.bring(addr / LINE_LEN)?;
         let mut copy = *self.lines.latest(addr / LINE_LEN);

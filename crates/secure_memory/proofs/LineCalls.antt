@@ -1,5 +1,5 @@
 -- What a load and a store make of a memory.
-use Rattle.std.proofs.Common.{◌≡◌, ◌⊎◌, inl, inr, ℕ, zero, suc, ◌+◌, ◌/◌, ◌≤◌, List, [], ◌∷◌, ◌++◌, length, map, take, Option, Some, None, Result, Ok, Err, IfOk, IsOk, IsSome, Contains, refl, ap, sym, ◌∙◌, subst, arith}
+use Rattle.std.proofs.Common.{◌≡◌, ◌⊎◌, inl, inr, ℕ, zero, suc, ◌+◌, ◌/◌, ◌≤◌, List, [], ◌∷◌, ◌++◌, length, map, take, Option, Some, None, Result, Ok, Err, IfOk, IsOk, IsSome, Contains, refl, ap, sym, ◌∙◌, subst, arith, ◌≢◌}
 use Rattle.std.specs.Option.{option_or}
 use Rattle.std.specs.Result.{result_err}
 use Rattle.std.proofs.Math.Nat.{div-one, pow-zero}
@@ -7,7 +7,7 @@ use Rattle.std.proofs.lemmas.Bool.{true≢false}
 use Rattle.std.proofs.lemmas.List.{append-nil, take_all}
 use Rattle.std.proofs.lemmas.Option.{same_Some}
 use Rattle.sec_base.specs.Count.{Rose}
-use Rattle.sec_base.specs.Geometry.{arity, page_of}
+use Rattle.sec_base.specs.Geometry.{arity, line_count, page_of}
 use Rattle.sec_base.specs.LastMessage.{data_pairs, last_data, last_node}
 use Rattle.sec_base.specs.Width.{number_at}
 use Rattle.sec_base.specs.declared.counter.Counter.{Counter}
@@ -33,15 +33,18 @@ use Rattle.page_reencrypt.specs.Contents.{lines_encrypted}
 use Rattle.page_reencrypt.specs.LineMoves.{IsThrough, ReadMoved, WriteMoved, overflow_accesses, read_accesses, terms_in, write_accesses}
 use Rattle.page_reencrypt.specs.Outside.{IsLineRead, IsWrite, outside_of}
 use Rattle.page_reencrypt.specs.SealedLines.{IsUnsealed, Moves, SameCounters, SealedLinesView, made, page_counters, used}
+use Rattle.page_reencrypt.specs.SealedLines.{contents as line_contents, levels as levels_of}
 use Rattle.page_reencrypt.specs.SealedLines as lines
 use Rattle.page_reencrypt.specs.Stops.{lasting_stop}
 use Rattle.page_reencrypt.proofs.LineReads.{quiet_before}
 use Rattle.page_reencrypt.proofs.Moves.{moves_not, moves_on}
+use Rattle.page_reencrypt.proofs.ReadCalls.{contents_same}
+use Rattle.page_reencrypt.proofs.ReadSteps.{not_node}
 use Rattle.page_reencrypt.proofs.Sealing.{listed_or_not}
 use Rattle.cache_set.specs.declared.way.Way.{Way}
 use Rattle.cache_set.specs.Cache.{copy_at, places, way_at}
 use Rattle.cache_set.proofs.Listed.{listed_at}
-use Rattle.line_cache.specs.LineCache.{IsMiss, IsMissed, IsStep, LineCacheView, leaving, most_held}
+use Rattle.line_cache.specs.LineCache.{IsMiss, IsMissed, IsStep, IsStoppedMiss, LineCacheView, contents_over, leaving, most_held}
 use Rattle.line_cache.specs.LineCache.{IsMoved as IsChain}
 use Rattle.line_cache.proofs.Steps.{way_of_copy}
 use Rattle.secure_memory.specs.LineCall.{IsLineCall, IsWrittenAnew, IsWrittenInPart}
@@ -67,6 +70,11 @@ only_line line other (suc k, below, at) = absurd (omega (arith, below))
 -- the page's own node is the first on its path
 page_on_path : (levels page : ℕ) → path_index levels 0 page ≡ page
 page_on_path levels page = ap (λ (n : ℕ). page / n) (pow-zero (arity levels)) ∙ div-one page
+
+-- the place of another line is none that a read of the line names
+not_beside : (levels line other : ℕ) → other ≢ line → ¬ ((line_place other ≡ line_place line) ⊎ IsOnPath levels 0 (page_of line) (line_place other))
+not_beside levels line other differs (inl own) = differs cc
+not_beside levels line other differs (inr node) = not_node levels (page_of line) other node
 
 module _ {B T : Type 0} (history : B → BusHistory) where
   -- No call encrypts no line
@@ -141,6 +149,7 @@ module _ {B T : Type 0} (history : B → BusHistory) (bus_moved : B → B → Ty
           fresh = λ none quiet never. ap (λ (l : SealedLinesView B T). (history l.bus).reads (line_place line)) same;
           sealed = λ way is. absurd (cc);
           tampered = λ place is. absurd (cc);
+          untampered = λ other quiet which differs is. absurd (cc);
           spent = λ page is. absurd (cc);
           used_up = λ quiet up. absurd up;
         }
@@ -174,6 +183,8 @@ module _ {B T : Type 0} (history : B → BusHistory) (bus_moved : B → B → Ty
               fresh = λ none. seen.fresh;
               sealed = λ way is. absurd (cc);
               tampered = λ place is. let named = seen.tampered place (err_is answer (Tampered place) is) in (inl named.0, named.1);
+              untampered = λ other quiet which differs is.
+                  not_beside (lines.levels old.lines) line other differs (seen.tampered (line_place other) (err_is answer (Tampered (line_place other)) is)).0;
               spent = λ page is. absurd (seen.unspent page (err_is answer (Spent page) is));
               used_up = λ quiet up. absurd up;
             }
@@ -209,6 +220,14 @@ module _ {B T : Type 0} (history : B → BusHistory) (bus_moved : B → B → Ty
                 ]),
                 wrote.lied place is,
               );
+              untampered = λ other quiet which differs is. elim which [
+                | inl short ↦
+                    elim (wrote.tampered (line_place other) is) [
+                      | inl node ↦ not_node (lines.levels old.lines) (page_of way.place) other node
+                      | inr beside ↦ short (sym (ap (λ (k : Counter). k.line) (wrote.next quiet)) ∙ beside.1)
+                    ]
+                | inr up ↦ not_node (lines.levels old.lines) (page_of way.place) other ((wrote.used_up quiet up).4 (line_place other) is)
+              ];
               spent = λ page is. let spent = wrote.spent page is in (spent.0, spent.2, none_written old.lines new.lines way (Err stop) wrote spent.1);
               used_up = λ quiet up. let last = wrote.used_up quiet up in (last.1, none_written old.lines new.lines way (Err stop) wrote last.0, last.2);
             }
@@ -284,6 +303,8 @@ module _ {B T : Type 0} (history : B → BusHistory) (bus_moved : B → B → Ty
                       | inr rose ↦ omega (arith, rose, r.moves.step.lies)
                     ],
                   );
+              untampered = λ other quiet which differs is.
+                  not_beside (lines.levels mid) line other differs (came.tampered (line_place other) (err_is answer (Tampered (line_place other)) is)).0;
               spent = λ page is. absurd (came.unspent page (err_is answer (Spent page) is));
               used_up = λ quiet up. absurd ((left.used_up (mid_quiet quiet) up).1 refl);
             }
@@ -472,3 +493,29 @@ stands_in line offset width lines' (Ok bytes) (Ok n) P stops there number p = (b
 stands_in line offset width lines' (Ok bytes) (Err stop) P stops there number p = tt
 stands_in line offset width lines' (Err stop) (Ok n) P stops there number p = absurd (cc)
 stands_in line offset width lines' (Err stop) (Err why) P stops there number p = tt
+
+-- A page that is spent
+
+module _ {B T : Type 0} (history : B → BusHistory) (bus_moved : B → B → Type 0) (tags : TagEngineView T → Message → List ℕ)
+    (old new : SealedLinesView B T) (lines lines' : List (List Way)) (line : ℕ) (stop : MemStop) (page : ℕ) (going : old.stopped ≡ None) (is : stop ≡ Spent page) where
+  -- the write of the line that goes out stops so, and then that one stays
+  spent_write : (way : Way) → WriteMoved history bus_moved tags old way.place way.copy (Err stop) new → lines' ≡ lines →
+      contents_over (line_contents new) (line_count (levels_of new)) lines' ≡ contents_over (line_contents old) (line_count (levels_of old)) lines
+  spent_write way w same =
+      let wrote = w.outside (ap lasting_stop going) in
+      let none = none_written history bus_moved tags old new way (Err stop) wrote (wrote.spent page (ap Some is)).1 in
+      ap (λ (ways : List (List Way)). contents_over (line_contents new) (line_count (levels_of new)) ways) same
+      ∙ ap (λ (count : ℕ). contents_over (line_contents new) (line_count count) lines) w.moves.step.levels
+      ∙ ap (λ (stored : List ℕ). contents_over stored (line_count (levels_of old)) lines)
+      (contents_same old.pads.key new.pads.key (levels_of old) (levels_of new) (made old) none.more (made new) w.moves.key w.moves.step.levels none.messages none.untagged)
+
+  -- a read does not
+  spent_read : (mid : SealedLinesView B T) → mid.stopped ≡ None → ReadMoved history bus_moved tags mid line (Err stop) new → ⊥
+  spent_read mid mid_going r = (r.outside (ap lasting_stop mid_going)).unspent page (ap (λ (s : MemStop). Err s) is)
+
+  pub spent_contents : (out : Option Way) →
+      IsStoppedMiss (ReadMoved history bus_moved tags) (WriteMoved history bus_moved tags) out lines old line stop lines' new →
+      contents_over (line_contents new) (line_count (levels_of new)) lines' ≡ contents_over (line_contents old) (line_count (levels_of old)) lines
+  spent_contents None (r, same) = absurd (spent_read old going r)
+  spent_contents (Some way) (inl (w, same)) = spent_write way w same
+  spent_contents (Some way) (inr (mid, w, r, same)) = absurd (spent_read mid (w.stopped ∙ going) r)

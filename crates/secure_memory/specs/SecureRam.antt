@@ -19,16 +19,12 @@ use Rattle.page_reencrypt.specs.SealedLines.{IsReadBelowPath, IsReadUnder, Moves
 use Rattle.page_reencrypt.specs.SealedLines as sealed_lines
 use Rattle.cache_set.specs.declared.way.Way.{Way}
 use Rattle.cache_set.specs.Cache.{places}
-use Rattle.line_cache.specs.LineCache.{LineCacheView, contents_over, most_held}
+use Rattle.line_cache.specs.LineCache.{contents_over, most_held}
 
 -- the lines outside, and the sets of ways with copies of lines
 pub record SecureRamView (B T : Type 0) : Type 0 where
   pub lines : SealedLinesView B T
   pub ways : List (List Way)
-
--- the cache of the lines outside
-abbrev pub cache_of : {B T : Type 0} → SecureRamView B T → LineCacheView (SealedLinesView B T)
-cache_of memory = record { store = memory.lines; lines = memory.ways; stop = memory.lines.stopped }
 
 -- what was tagged and what lines were encrypted under, in order; what passed a check though it was never tagged; and
 -- the stop that is answered to each call, if there was one
@@ -51,7 +47,7 @@ levels memory = sealed_lines.levels memory.lines
 abbrev pub lines_of : {B T : Type 0} → SecureRamView B T → ℕ
 lines_of memory = sealed_lines.lines_of memory.lines
 
--- (those of a line that has a copy are its copy's)
+-- (of a held line, those of its copy)
 abbrev pub contents : {B T : Type 0} → SecureRamView B T → List ℕ
 contents memory = contents_over (sealed_lines.contents memory.lines) (lines_of memory) memory.ways
 

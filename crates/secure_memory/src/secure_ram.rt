@@ -8,6 +8,7 @@ ghost use Rattle.sec_base.specs.declared.counter.Counter.{Counter};
 ghost use Rattle.sec_base.specs.declared.evidence.Evidence.TheVariants.{Collision, Forgery};
 ghost use Rattle.sec_base.specs.declared.sealed.Sealed.{Sealed};
 ghost use Rattle.sec_base.specs.declared.stop.MemStop.{MemStop};
+ghost use Rattle.sec_base.specs.declared.stop.MemStop.TheVariants.{Spent};
 ghost use Rattle.bus_model.specs.BusHistory.{NothingWritten};
 ghost use Rattle.tag_engine.specs.TagEngine.{tags_of};
 ghost use Rattle.pad_stream.specs.Pad.{cipher_of};
@@ -15,8 +16,8 @@ ghost use Rattle.pad_stream.specs.PadBlocks.{ShareNoBlock};
 ghost use Rattle.split_counter.specs.CounterBlock.{block_of, counter_of, place_of};
 ghost use Rattle.page_reencrypt.specs.LineMoves.{ReadMoved, WriteMoved};
 ghost use Rattle.page_reencrypt.specs.SealedLines.{AreNew, AreProtected, AreWrittenThrough, IsUnbooted, enc_key, tag_in};
-ghost use Rattle.cache_set.specs.Cache.{AreApart, copy_at};
-ghost use Rattle.line_cache.specs.LineCache.{IsMissed, leaving, most_held};
+ghost use Rattle.cache_set.specs.Cache.{AreApart, copy_at, new_cache};
+ghost use Rattle.line_cache.specs.LineCache.{IsMissed, IsStoppedMiss, brought, leaving, line_sets, most_held, with_changed};
 ghost use Rattle.secure_memory.specs.SecureRam.{IsMoved, IsNumberBelowPath, IsNumberUnder, IsQuiet, cached_pages, contents, evidence, held_lines, lines_of, made, stopped, used};
 ghost use Rattle.secure_memory.specs.LineCall.{IsLineCall};
 
@@ -28,7 +29,7 @@ use sec_base::{Geometry, MemStop, NoMemoryWith, Ram, Tagger, Width};
 use std::alloc::Global;
 use std::marker::Model;
 
-/// A memory over lines outside the chip, which holds copies of the lines that were used last: a load or a store of such a
+/// A memory over lines outside the chip, which holds copies of the most recently used lines: a load or a store of such a
 /// line makes no access, and any other line is brought in first. A line that was changed is written when it goes out for
 /// another. The memory's first stop is its answer to each later call.
 #[derive(Drop)]
@@ -69,6 +70,7 @@ impl<B: Bus, T: Tagger> SecureRam<B, T> {
         ensures new { IfOk result (λ memory. AreNew B.history B.moved (tags_of T.data_tag_of T.node_tag_of)
             bus tagger keys.now.enc_key geometry page_limit memory.lines) }
         ensures through { IfOk result (λ memory. AreWrittenThrough T.data_tag_of T.node_tag_of B.history memory.lines) }
+        ensures empty { IfOk result (λ memory. memory.ways ≡ new_cache line_sets) }
         ensures none_held { IfOk result (λ memory. held_lines memory ≡ []) }
         ensures none_cached { IfOk result (λ memory. cached_pages memory ≡ []) }
         ensures refused { IfErr result (λ refusal. IsUnbooted geometry (B.history bus) (B.history refusal.0) × B.moved bus refusal.0) }
@@ -177,11 +179,23 @@ impl<B: Bus, T: Tagger> Ram for SecureRam<B, T> {
             (WriteMoved B.history B.moved (tags_of T.data_tag_of T.node_tag_of))
             self.old.ways self.old.lines (line_of addr) (λ bytes. bytes) (result_err result) self.new.ways self.new.lines }
 
-        // The memory outside is written through before and after the call.
+        // The line becomes the most recently used one of its set, and a load marks no line. Where the write of the line that
+        // goes out stops, that one stays.
+        ensures ways { stopped self.old ≡ None → OnOk result ((copy : List ℕ) × (copy_at self.new.ways (line_of addr) ≡ Some copy)
+            × (self.new.ways ≡ brought self.old.ways (line_of addr) copy)) }
+        ensures ways_left { stopped self.old ≡ None → IfErr result (λ stop. IsStoppedMiss
+            (ReadMoved B.history B.moved (tags_of T.data_tag_of T.node_tag_of))
+            (WriteMoved B.history B.moved (tags_of T.data_tag_of T.node_tag_of))
+            (leaving self.old.ways (line_of addr)) self.old.ways self.old.lines (line_of addr) stop self.new.ways self.new.lines) }
+
+        // A page that is spent changes no byte, with evidence too.
+        ensures spent_stays { (page : ℕ) → stopped self.old ≡ None → result ≡ Err (Spent page) → contents self.new ≡ contents self.old }
+
+        // The memory outside is written through.
         ensures through { stopped self.new ≡ None → IsQuiet self.new →
             AreWrittenThrough T.data_tag_of T.node_tag_of B.history self.new.lines }
 
-        // Whatever can be relied on, a line that is held is answered from its copy, and any other from the one that it gets.
+        // Sound or not, a line that is held is answered from its copy.
         ensures held_copy { stopped self.old ≡ None → (copy : List ℕ) → copy_at self.old.ways (line_of addr) ≡ Some copy →
             IfOk result (λ n. n ≡ number_at copy (addr % 64) width) }
         ensures copy { IfOk result (λ n. (copy : List ℕ) → copy_at self.new.ways (line_of addr) ≡ Some copy →
@@ -245,7 +259,19 @@ impl<B: Bus, T: Tagger> Ram for SecureRam<B, T> {
             (WriteMoved B.history B.moved (tags_of T.data_tag_of T.node_tag_of))
             self.old.ways self.old.lines (line_of addr) (λ bytes. with_number bytes (addr % 64) width value) (result_err result) self.new.ways self.new.lines }
 
-        // The memory outside is written through before and after the call.
+        // The line becomes the most recently used one of its set, and is marked. Where the write of the line that goes out
+        // stops, that one stays.
+        ensures ways { stopped self.old ≡ None → OnOk result ((copy : List ℕ) × (self.new.ways
+            ≡ with_changed (brought self.old.ways (line_of addr) copy) (line_of addr) (with_number copy (addr % 64) width value))) }
+        ensures ways_left { stopped self.old ≡ None → IfErr result (λ stop. IsStoppedMiss
+            (ReadMoved B.history B.moved (tags_of T.data_tag_of T.node_tag_of))
+            (WriteMoved B.history B.moved (tags_of T.data_tag_of T.node_tag_of))
+            (leaving self.old.ways (line_of addr)) self.old.ways self.old.lines (line_of addr) stop self.new.ways self.new.lines) }
+
+        // A page that is spent changes no byte, with evidence too.
+        ensures spent_stays { (page : ℕ) → stopped self.old ≡ None → result ≡ Err (Spent page) → contents self.new ≡ contents self.old }
+
+        // The memory outside is written through.
         ensures through { stopped self.new ≡ None → IsQuiet self.new →
             AreWrittenThrough T.data_tag_of T.node_tag_of B.history self.new.lines }
 

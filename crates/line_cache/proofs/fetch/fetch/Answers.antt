@@ -1,4 +1,4 @@
-use Rattle.std.proofs.Common.{rules, ◌≡◌, ◌∙◌, ◌⊎◌, inl, inr, ℕ, ◌<◌, List, Option, None, Result, Ok, Err, length, false, refl, sym, ap, subst}
+use Rattle.std.proofs.Common.{rules, ◌≡◌, ◌∙◌, ◌⊎◌, ℕ, ◌<◌, List, Option, None, Result, Ok, Err, IfErr, length, false, refl, sym, ap, subst}
 use Rattle.std.specs.Option.{option_map}
 use Rattle.std.specs.Result.{result_err}
 use Rattle.std.proofs.lemmas.Option.{same_Some}
@@ -7,9 +7,9 @@ use Rattle.sec_base.specs.Lines.{line_at}
 use Rattle.sec_base.specs.declared.stop.MemStop.{MemStop}
 use Rattle.cache_set.specs.declared.way.Way.{Way}
 use Rattle.cache_set.specs.Cache.{way_at}
-use Rattle.line_cache.specs.LineCache.{AreClean, AreCopies, IsMissed, with_new, with_room}
+use Rattle.line_cache.specs.LineCache.{AreClean, AreCopies, IsMissed, IsStoppedMiss, leaving, with_new, with_room}
 use Rattle.line_cache.proofs.Lines.{clean_with, copies_with, over_put}
-use Rattle.line_cache.proofs.Steps.{missed, missed_in_part, on_err, over_equal}
+use Rattle.line_cache.proofs.Steps.{missed, missed_in_part, over_equal, stopped_in_read, stopped_in_write}
 use Rattle.line_cache.proofs.fetch.fetch.Goals as goal
 
 -- there is no room
@@ -27,7 +27,12 @@ returns-in_err-make_room-clause-missed g c =
     c.in_err-make_room.ensures.moved_in_part)
 
 pub returns-in_err-make_room-clause-ways_left : goal.returns-in_err-make_room-clause-ways_left
-returns-in_err-make_room-clause-ways_left g c = on_err c.from_residual.result _ (inl c.in_err-make_room.ensures.ways_left)
+returns-in_err-make_room-clause-ways_left g c =
+    let p = err_from_is_err_and c.from_residual.result c.from_residual.ensures.1 in
+    subst (λ (answer : Result (Unit {0}) MemStop). IfErr answer (λ stop. IsStoppedMiss g.S.LineStore.read_moved g.S.LineStore.write_moved (leaving c.args.lines.now c.args.line)
+    c.args.lines.now c.args.store.now c.args.line stop c.make_room.new.lines c.make_room.new.store)) (sym (p.1 ∙ ap Err p.2))
+    (stopped_in_write g.S.LineStore.read_moved g.S.LineStore.write_moved (leaving c.args.lines.now c.args.line) c.args.lines.now c.make_room.new.lines
+    c.args.store.now c.make_room.new.store c.args.line c.in_err-make_room.field-0.0 c.in_err-make_room.ensures.moved_in_part c.in_err-make_room.ensures.ways_left)
 
 pub read_line-requires : goal.read_line-requires
 read_line-requires g c = record { inside = subst (λ (n : ℕ). c.args.line < n) (sym c.in_ok-make_room.ensures.extent) c.requires.inside }
@@ -58,7 +63,13 @@ returns-in_err-copy-clause-missed g c =
     c.in_ok-make_room.ensures.moved c.in_err-copy.ensures.moved tt)
 
 pub returns-in_err-copy-clause-ways_left : goal.returns-in_err-copy-clause-ways_left
-returns-in_err-copy-clause-ways_left g c = on_err c.from_residual-in_err-copy.result _ (inr c.in_ok-make_room.ensures.ways)
+returns-in_err-copy-clause-ways_left g c =
+    let p = err_from_is_err_and c.from_residual-in_err-copy.result c.from_residual-in_err-copy.ensures.1 in
+    subst (λ (answer : Result (Unit {0}) MemStop). IfErr answer (λ stop. IsStoppedMiss g.S.LineStore.read_moved g.S.LineStore.write_moved (leaving c.args.lines.now c.args.line)
+    c.args.lines.now c.args.store.now c.args.line stop c.make_room.new.lines c.read_line.new.self)) (sym (p.1 ∙ ap Err p.2))
+    (stopped_in_read g.S.LineStore.read_moved g.S.LineStore.write_moved (leaving c.args.lines.now c.args.line) c.args.lines.now c.make_room.new.lines
+    c.args.store.now c.make_room.new.store c.read_line.new.self c.args.line c.in_err-copy.field-0.0
+    c.in_ok-make_room.ensures.moved c.in_err-copy.ensures.moved c.in_ok-make_room.ensures.ways)
 
 -- the line is put in
 

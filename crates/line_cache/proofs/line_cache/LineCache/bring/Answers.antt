@@ -4,7 +4,7 @@ use Rattle.sec_base.specs.Lines.{IsLineCount}
 use Rattle.cache_set.specs.declared.way.Way.{Way}
 use Rattle.cache_set.specs.Cache.{way_at}
 use Rattle.cache_set.proofs.Listed.{listed_at}
-use Rattle.line_cache.specs.LineCache.{AreClean, AreCopies, IsMissed, IsStep, LineCacheView, brought, contents, contents_over, held_lines, stopped, with_new, with_room}
+use Rattle.line_cache.specs.LineCache.{AreClean, AreCopies, IsMissed, IsStep, IsStoppedMiss, LineCacheView, brought, contents, contents_over, held_lines, leaving, stopped, with_new, with_room}
 use Rattle.line_cache.proofs.Lines.{clean_part, copies_part, over_touched, part_same}
 use Rattle.line_cache.proofs.Steps.{both_none, brought_held, brought_missed, none_of_both, not_held, step_hit, step_miss, stop_first, stop_kept}
 use Rattle.line_cache.proofs.line_cache.LineCache.bring.Goals as goal
@@ -193,8 +193,10 @@ returns-in-Err-clause-hit g c = λ held.
 
 pub returns-in-Err-clause-ways_left : goal.returns-in-Err-clause-ways_left
 returns-in-Err-clause-ways_left g c =
-    subst (λ (m : LineCacheView g.row.S.Denot). (c.fetch.new.lines ≡ m.lines) ⊎ (c.fetch.new.lines ≡ with_room m.lines c.args.line)) c.self.view_is
-    (subst (λ (ways : List (List Way)). (c.fetch.new.lines ≡ ways) ⊎ (c.fetch.new.lines ≡ with_room ways c.args.line)) (c.touch.ensures.unchanged c.if-touch.false)
+    subst (λ (m : LineCacheView g.row.S.Denot). IsStoppedMiss g.S.LineStore.read_moved g.S.LineStore.write_moved (leaving m.lines c.args.line) m.lines m.store c.args.line
+    c.in-Err.stop c.fetch.new.lines c.fetch.new.store) c.self.view_is
+    (subst (λ (ways : List (List Way)). IsStoppedMiss g.S.LineStore.read_moved g.S.LineStore.write_moved (leaving ways c.args.line) ways c.self.inside.store c.args.line
+    c.in-Err.stop c.fetch.new.lines c.fetch.new.store) (c.touch.ensures.unchanged c.if-touch.false)
     c.in-Err.ensures.ways_left)
 
 -- by parts of the cache

@@ -1,13 +1,15 @@
-use Rattle.std.proofs.Common.{◌≡◌, ◌∙◌, ℕ, ◌%◌, ◌/◌, List, Some, refl, sym, ap}
+use Rattle.std.proofs.Common.{◌≡◌, ◌∙◌, ℕ, ◌%◌, ◌/◌, List, Some, Result, Err, IfErr, refl, sym, ap, subst}
 use Rattle.std.proofs.lemmas.Bool.{true≢false}
 use Rattle.std.proofs.lemmas.Option.{same_Some}
+use Rattle.std.proofs.lemmas.Result.{err_from_is_err_and}
+use Rattle.sec_base.specs.declared.stop.MemStop.{MemStop}
 use Rattle.sec_base.specs.Lines.{line_at}
 use Rattle.sec_base.specs.Width.{number_at}
 use Rattle.sec_base.proofs.LineNumbers.{number_read}
 use Rattle.cache_set.specs.Cache.{copy_at, way_at}
-use Rattle.line_cache.specs.LineCache.{LineCacheView, contents, contents_over}
+use Rattle.line_cache.specs.LineCache.{IsStoppedMiss, leaving, LineCacheView, contents, contents_over}
 use Rattle.line_cache.proofs.Lines.{over_held}
-use Rattle.line_cache.proofs.Steps.{on_err, way_of_copy}
+use Rattle.line_cache.proofs.Steps.{way_of_copy}
 use Rattle.line_cache.proofs.line_cache.LineCacheRam.load.Goals as goal
 
 -- the line does not come
@@ -19,7 +21,11 @@ pub returns-in_err-bring-clause-hit : goal.returns-in_err-bring-clause-hit
 returns-in_err-bring-clause-hit g c = λ held. absurd (true≢false (sym (c.in_err-bring.ensures.hit held).0))
 
 pub returns-in_err-bring-clause-ways_left : goal.returns-in_err-bring-clause-ways_left
-returns-in_err-bring-clause-ways_left g c = on_err c.from_residual.result _ c.in_err-bring.ensures.ways_left
+returns-in_err-bring-clause-ways_left g c =
+    let p = err_from_is_err_and c.from_residual.result c.from_residual.ensures.1 in
+    let line = c.args.addr / 64 in
+    subst (λ (answer : Result ℕ MemStop). IfErr answer (λ stop. IsStoppedMiss g.S.LineStore.read_moved g.S.LineStore.write_moved (leaving c.args.self.now.lines line)
+    c.args.self.now.lines c.args.self.now.store line stop c.bring.new.self.lines c.bring.new.self.store)) (sym (p.1 ∙ ap Err p.2)) c.in_err-bring.ensures.ways_left
 
 -- it came
 

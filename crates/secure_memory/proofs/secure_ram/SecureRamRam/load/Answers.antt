@@ -1,4 +1,4 @@
-use Rattle.std.proofs.Common.{◌≡◌, ◌%◌, ◌∷◌, [], ℕ, List, Option, Some, None, IfOk, Contains, inl, inr, ap, sym, ◌∙◌, subst}
+use Rattle.std.proofs.Common.{◌≡◌, ◌%◌, ◌∷◌, [], ℕ, List, Option, Some, None, IfOk, Contains, inl, inr, ap, sym, ◌∙◌, subst, Result, IfErr, OnOk, refl}
 use Rattle.std.specs.Option.{option_map, option_or}
 use Rattle.std.specs.Result.{result_err}
 use Rattle.std.proofs.lemmas.Result.{IfOk-weaker}
@@ -6,6 +6,7 @@ use Rattle.sec_base.specs.Geometry.{line_of, page_of}
 use Rattle.sec_base.specs.Width.{number_at}
 use Rattle.sec_base.specs.declared.evidence.Evidence.TheVariants.{Collision, Forgery}
 use Rattle.sec_base.specs.declared.stop.MemStop.{MemStop}
+use Rattle.sec_base.specs.declared.stop.MemStop.TheVariants.{Spent}
 use Rattle.tag_engine.specs.TagEngine.{tags_of}
 use Rattle.pad_stream.specs.Pad.{cipher_of}
 use Rattle.split_counter.specs.CounterBlock.{block_of, counter_of, place_of}
@@ -15,10 +16,10 @@ use Rattle.page_reencrypt.specs.Stops.{lasting_stop}
 use Rattle.page_reencrypt.proofs.Sealing.{listed_or_not}
 use Rattle.cache_set.specs.declared.way.Way.{Way}
 use Rattle.cache_set.specs.Cache.{copy_at, places}
-use Rattle.line_cache.specs.LineCache.{IsMissed, LineCacheView, leaving}
+use Rattle.line_cache.specs.LineCache.{IsMissed, IsStoppedMiss, LineCacheView, brought, leaving}
 use Rattle.secure_memory.specs.LineCall.{IsLineCall}
 use Rattle.secure_memory.specs.SecureRam.{SecureRamView, IsMoved, IsNumberBelowPath, IsNumberUnder, contents, evidence, stopped}
-use Rattle.secure_memory.proofs.LineCalls.{accepted_copy, alone_read, called, copy_held, few_so, found_outside, memory_of, moved_so, ok_goes, stands_in, stopped_unmoved, stops_so, through_so}
+use Rattle.secure_memory.proofs.LineCalls.{accepted_copy, alone_read, called, copy_held, few_so, found_outside, memory_of, moved_so, ok_goes, spent_contents, stands_in, stopped_unmoved, stops_so, through_so}
 use Rattle.secure_memory.proofs.secure_ram.SecureRamRam.load.Given.{Over}
 use Rattle.secure_memory.proofs.secure_ram.SecureRamRam.load.Goals as goal
 
@@ -75,6 +76,29 @@ returns-clause-call g c = λ _.
     (result_err c.load.result) (memory_of c.load.new.self)) c.self.view_is
     (called g.B.Bus.history g.B.Bus.moved tags c.self.inside.lines c.load.new.self (line_of c.args.addr) (result_err c.load.result) (λ bytes. bytes)
     (going g c) c.load.ensures.moved (hit g c) c.load.ensures.missed)
+
+pub returns-clause-ways_left : goal.returns-clause-ways_left
+returns-clause-ways_left g c = λ _.
+    let tags = tags_of g.T.Tagger.data_tag_of g.T.Tagger.node_tag_of in
+    subst (λ (m : SecureRamView g.row.B.Denot g.row.T.Denot). IfErr c.load.result (λ stop. IsStoppedMiss
+    (ReadMoved g.B.Bus.history g.B.Bus.moved tags) (WriteMoved g.B.Bus.history g.B.Bus.moved tags)
+    (leaving m.ways (line_of c.args.addr)) m.ways m.lines (line_of c.args.addr) stop c.load.new.self.lines c.load.new.self.store)) c.self.view_is c.load.ensures.ways_left
+
+pub returns-clause-spent_stays : goal.returns-clause-spent_stays
+returns-clause-spent_stays g c = λ page _ is.
+    let tags = tags_of g.T.Tagger.data_tag_of g.T.Tagger.node_tag_of in
+    let cache : LineCacheView (SealedLinesView g.row.B.Denot g.row.T.Denot) = c.self.inside.lines in
+    let missed = subst (λ (answer : Result ℕ MemStop). IfErr answer (λ stop. IsStoppedMiss
+    (ReadMoved g.B.Bus.history g.B.Bus.moved tags) (WriteMoved g.B.Bus.history g.B.Bus.moved tags)
+    (leaving cache.lines (line_of c.args.addr)) cache.lines cache.store (line_of c.args.addr) stop c.load.new.self.lines c.load.new.self.store)) is c.load.ensures.ways_left in
+    subst (λ (m : SecureRamView g.row.B.Denot g.row.T.Denot). contents (memory_of c.load.new.self) ≡ contents m) c.self.view_is
+    (spent_contents g.B.Bus.history g.B.Bus.moved tags cache.store c.load.new.self.store cache.lines c.load.new.self.lines (line_of c.args.addr) (Spent page) page
+    (going g c) refl (leaving cache.lines (line_of c.args.addr)) missed)
+
+pub returns-clause-ways : goal.returns-clause-ways
+returns-clause-ways g c = λ _.
+    subst (λ (m : SecureRamView g.row.B.Denot g.row.T.Denot). OnOk c.load.result ((copy : List ℕ) × (copy_at c.load.new.self.lines (line_of c.args.addr) ≡ Some copy)
+    × (c.load.new.self.lines ≡ brought m.ways (line_of c.args.addr) copy))) c.self.view_is c.load.ensures.ways
 
 pub returns-clause-missed : goal.returns-clause-missed
 returns-clause-missed g c = λ _.

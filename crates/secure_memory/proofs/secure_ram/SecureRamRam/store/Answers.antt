@@ -1,10 +1,11 @@
-use Rattle.std.proofs.Common.{◌≡◌, ◌%◌, ◌∷◌, [], ℕ, List, Option, Some, None, OnOk, Contains, inl, inr, ap, sym, ◌∙◌, subst}
+use Rattle.std.proofs.Common.{◌≡◌, ◌%◌, ◌∷◌, [], ℕ, List, Option, Some, None, OnOk, Contains, inl, inr, ap, sym, ◌∙◌, subst, Result, IfErr, refl}
 use Rattle.std.specs.Option.{option_or}
 use Rattle.std.specs.Result.{result_err}
 use Rattle.sec_base.specs.Geometry.{line_of}
 use Rattle.sec_base.specs.Width.{with_number}
 use Rattle.sec_base.specs.declared.evidence.Evidence.TheVariants.{Forgery}
 use Rattle.sec_base.specs.declared.stop.MemStop.{MemStop}
+use Rattle.sec_base.specs.declared.stop.MemStop.TheVariants.{Spent}
 use Rattle.tag_engine.specs.TagEngine.{tags_of}
 use Rattle.pad_stream.specs.Pad.{cipher_of}
 use Rattle.page_reencrypt.specs.LineMoves.{ReadMoved, WriteMoved}
@@ -13,10 +14,10 @@ use Rattle.page_reencrypt.specs.Stops.{lasting_stop}
 use Rattle.page_reencrypt.proofs.Sealing.{listed_or_not}
 use Rattle.cache_set.specs.Cache.{copy_at, places}
 use Rattle.line_cache.proofs.Steps.{on_ok}
-use Rattle.line_cache.specs.LineCache.{IsMissed, LineCacheView, leaving}
+use Rattle.line_cache.specs.LineCache.{IsMissed, IsStoppedMiss, LineCacheView, brought, leaving, with_changed}
 use Rattle.secure_memory.specs.LineCall.{IsLineCall}
-use Rattle.secure_memory.specs.SecureRam.{SecureRamView, IsMoved, stopped}
-use Rattle.secure_memory.proofs.LineCalls.{accepted_copy, called, copy_held, few_so, found_outside, memory_of, moved_so, ok_goes, stopped_unmoved, stops_so, through_so}
+use Rattle.secure_memory.specs.SecureRam.{SecureRamView, IsMoved, stopped, contents}
+use Rattle.secure_memory.proofs.LineCalls.{accepted_copy, called, copy_held, few_so, found_outside, memory_of, moved_so, ok_goes, spent_contents, stopped_unmoved, stops_so, through_so}
 use Rattle.secure_memory.proofs.secure_ram.SecureRamRam.store.Given.{Over}
 use Rattle.secure_memory.proofs.secure_ram.SecureRamRam.store.Goals as goal
 
@@ -73,6 +74,29 @@ returns-clause-call g c = λ _.
     (result_err c.store.result) (memory_of c.store.new.self)) c.self.view_is
     (called g.B.Bus.history g.B.Bus.moved tags c.self.inside.lines c.store.new.self (line_of c.args.addr) (result_err c.store.result) (λ bytes. with_number bytes (c.args.addr % 64) c.args.width c.args.value)
     (going g c) c.store.ensures.moved (hit g c) c.store.ensures.missed)
+
+pub returns-clause-ways_left : goal.returns-clause-ways_left
+returns-clause-ways_left g c = λ _.
+    let tags = tags_of g.T.Tagger.data_tag_of g.T.Tagger.node_tag_of in
+    subst (λ (m : SecureRamView g.row.B.Denot g.row.T.Denot). IfErr c.store.result (λ stop. IsStoppedMiss
+    (ReadMoved g.B.Bus.history g.B.Bus.moved tags) (WriteMoved g.B.Bus.history g.B.Bus.moved tags)
+    (leaving m.ways (line_of c.args.addr)) m.ways m.lines (line_of c.args.addr) stop c.store.new.self.lines c.store.new.self.store)) c.self.view_is c.store.ensures.ways_left
+
+pub returns-clause-spent_stays : goal.returns-clause-spent_stays
+returns-clause-spent_stays g c = λ page _ is.
+    let tags = tags_of g.T.Tagger.data_tag_of g.T.Tagger.node_tag_of in
+    let cache : LineCacheView (SealedLinesView g.row.B.Denot g.row.T.Denot) = c.self.inside.lines in
+    let missed = subst (λ (answer : Result (Unit {0}) MemStop). IfErr answer (λ stop. IsStoppedMiss
+    (ReadMoved g.B.Bus.history g.B.Bus.moved tags) (WriteMoved g.B.Bus.history g.B.Bus.moved tags)
+    (leaving cache.lines (line_of c.args.addr)) cache.lines cache.store (line_of c.args.addr) stop c.store.new.self.lines c.store.new.self.store)) is c.store.ensures.ways_left in
+    subst (λ (m : SecureRamView g.row.B.Denot g.row.T.Denot). contents (memory_of c.store.new.self) ≡ contents m) c.self.view_is
+    (spent_contents g.B.Bus.history g.B.Bus.moved tags cache.store c.store.new.self.store cache.lines c.store.new.self.lines (line_of c.args.addr) (Spent page) page
+    (going g c) refl (leaving cache.lines (line_of c.args.addr)) missed)
+
+pub returns-clause-ways : goal.returns-clause-ways
+returns-clause-ways g c = λ _.
+    subst (λ (m : SecureRamView g.row.B.Denot g.row.T.Denot). OnOk c.store.result ((copy : List ℕ) × (c.store.new.self.lines
+    ≡ with_changed (brought m.ways (line_of c.args.addr) copy) (line_of c.args.addr) (with_number copy (c.args.addr % 64) c.args.width c.args.value)))) c.self.view_is c.store.ensures.ways
 
 pub returns-clause-missed : goal.returns-clause-missed
 returns-clause-missed g c = λ _.
