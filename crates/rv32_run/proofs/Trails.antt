@@ -1,5 +1,7 @@
 -- The memories that a run went through.
-use Rattle.std.proofs.Common.{◌≡◌, ◌<◌, ◌⊎◌, inl, inr, ℕ, suc, ◌+◌, List, [], Option, Some, None, Result, Ok, refl, sym, ap, ◌∙◌, subst, arith}
+use Rattle.std.proofs.Common.{◌≡◌, ◌<◌, ◌⊎◌, inl, inr, ℕ, suc, ◌+◌, List, [], Option, Some, None, Result, Ok, Err, refl, sym, ap, ◌∙◌, subst, arith}
+use Rattle.std.proofs.lemmas.List.{append-nil}
+use Rattle.sec_base.specs.Prefix.{IsPrefix}
 use Rattle.sec_base.specs.declared.ending.Ending.{Ending}
 use Rattle.sec_base.specs.declared.ending.Ending.TheVariants.{Halted, Trapped, OutOfSteps, Tampered, Spent, WriteFault, NoMemory}
 use Rattle.sec_base.specs.declared.stop.MemStop.{MemStop}
@@ -54,9 +56,14 @@ retired_or_not (Spent page) n = inl refl
 retired_or_not WriteFault n = inl refl
 retired_or_not NoMemory n = inl refl
 
+-- the lines of calls are a front part of those that are to be touched
+pub touched_front : {A E : Type 0} (result : Result A E) (all lines : List ℕ) → AreTouched result all lines → IsPrefix lines all
+touched_front (Ok x) all lines same = ([], sym same ∙ sym (append-nil lines))
+touched_front (Err e) all lines part = part
+
 -- the last turn of a run
-pub walk_ends : {M : Type 0} (stopped : M → Option MemStop) (contents : M → List ℕ) (moved : M → List ℕ → M → Type 0) (start : Machine) (from to retired : ℕ) (ending : Ending) (first last end : M) (lines : List ℕ) → moved end [] end → retired ≡ retired_after (Some ending) to → moved last lines end → (to < retired → IsInstruction stopped contents moved start to last end) → IsWalked stopped contents moved start from to first last → HasTrail stopped contents moved start from retired first end
-walk_ends {M} stopped contents moved start from to retired ending first last end lines still count led step walked =
+pub walk_ends : {M : Type 0} (stopped : M → Option MemStop) (contents : M → List ℕ) (moved : M → List ℕ → M → Type 0) (start : Machine) (from to retired : ℕ) (ending : Ending) (first last end : M) (lines : List ℕ) → moved end [] end → retired ≡ retired_after (Some ending) to → moved last lines end → IsPrefix lines (touched_lines (plain start to).state) → (to < retired → IsInstruction stopped contents moved start to last end) → IsWalked stopped contents moved start from to first last → HasTrail stopped contents moved start from retired first end
+walk_ends {M} stopped contents moved start from to retired ending first last end lines still count led part step walked =
     elim (retired_or_not ending to) [
       | inl none ↦ record {
         count = walked.count;
@@ -65,6 +72,7 @@ walk_ends {M} stopped contents moved start from to retired ending first last end
         trail = walked.trail;
         lines = lines;
         rest = led;
+        unretired = subst (λ (n : ℕ). IsPrefix lines (touched_lines (plain start n).state)) (sym (count ∙ none)) part;
       }
       | inr more ↦
           let one : retired ≡ to + 1 = count ∙ more in
@@ -76,6 +84,7 @@ walk_ends {M} stopped contents moved start from to retired ending first last end
             trail = on.trail;
             lines = [];
             rest = still;
+            unretired = (touched_lines (plain start retired).state, refl);
           }
     ]
 

@@ -1,6 +1,7 @@
 -- The memories that a run went through, one after each instruction that was retired.
 use Rattle.std.specs.Prelude.{◌≡◌, ℕ, zero, suc, ◌+◌, List, Option, None}
 use Rattle.sec_base.specs.declared.stop.MemStop.{MemStop}
+use Rattle.sec_base.specs.Prefix.{IsPrefix}
 use Rattle.rv32_core.specs.Machine.{Machine, plain}
 use Rattle.rv32_core.specs.TouchedLines.{touched_lines}
 
@@ -19,8 +20,8 @@ IsTrail {M} stopped contents moved start from zero first last = first ≡ last
 IsTrail {M} stopped contents moved start from (suc n) first last =
     (mid : M) × IsTrail stopped contents moved start from n first mid × IsInstruction stopped contents moved start (from + n) mid last
 
--- The instructions from one count to another led from a memory to the last one, and an instruction that was not
--- retired from there to the end.
+-- The instructions from one count to another led from a memory to the last one, and from there to the end an instruction that
+-- was not retired, by calls on a front part of the lines that it touches.
 pub record HasTrail {M : Type 0} (stopped : M → Option MemStop) (contents : M → List ℕ) (moved : M → List ℕ → M → Type 0) (start : Machine) (from to : ℕ) (first end : M) : Type 0 where
   pub count : ℕ
   pub counted : from + count ≡ to
@@ -28,3 +29,4 @@ pub record HasTrail {M : Type 0} (stopped : M → Option MemStop) (contents : M 
   pub trail : IsTrail stopped contents moved start from count first last
   pub lines : List ℕ
   pub rest : moved last lines end
+  pub unretired : IsPrefix lines (touched_lines (plain start to).state)

@@ -2,6 +2,7 @@
 ghost use Rattle.std.specs.Prelude.{◌≡◌, ◌↔◌, ◌<◌, ◌≤◌, ◌++◌, ℕ, List, [], None, Some, IfSome, length};
 ghost use Rattle.sec_base.specs.declared.ending.Ending.TheVariants.{OutOfSteps, WriteFault};
 ghost use Rattle.sec_base.specs.Count.{Rose};
+ghost use Rattle.sec_base.specs.Prefix.{IsPrefix};
 ghost use Rattle.sec_base.specs.Ram.{GoesOn};
 ghost use Rattle.sha2.specs.Hashers.{Holds256};
 ghost use Rattle.rv32_core.specs.State.{opening_core, state_of};
@@ -9,6 +10,7 @@ ghost use Rattle.rv32_core.specs.Effect.{next};
 ghost use Rattle.rv32_core.specs.Outcome.{prints_of};
 ghost use Rattle.rv32_core.specs.Machine.{Machine, plain, opening_calls};
 ghost use Rattle.rv32_core.specs.Printing.{Prints};
+ghost use Rattle.rv32_core.specs.TouchedLines.{touched_lines};
 ghost use Rattle.rv32_run.specs.Trail.{IsInstruction, HasTrail};
 ghost use Rattle.rv32_run.specs.Session.{Reaches, FollowsWith, Turns, retired_after, IsStop, stop_ending, CarriesEnding};
 
@@ -91,6 +93,7 @@ impl<'a, M: Ram> Session<'a, M> {
             Reaches start self.old.retired self.old.core self.old.calls.services (M.contents self.old.memory) before →
             FollowsWith start self.old.budget self.new.retired result (M.contents self.new.memory) (before ++ printed)) }
         ensures within { self.new.retired ≤ self.old.budget }
+        ensures budget { self.new.budget ≡ self.old.budget }
         ensures budget_used { result ≡ OutOfSteps → self.new.retired ≡ self.old.budget }
 
         // A stop comes while the budget allows one more instruction, and where the memory did not stop, at one that prints.
@@ -105,7 +108,8 @@ impl<'a, M: Ram> Session<'a, M> {
 
         ensures moved { GoesOn M.extent M.sound M.moved (λ _. Unit {0}) self.old.memory self.new.memory }
 
-        // It went through a memory of the plain machine after each instruction that was retired.
+        // It went through a memory of the plain machine after each instruction that was retired, and touched no lines beyond
+        // those of one more.
         ensures trail { M.sound self.new.memory → (start : Machine) (before : List ℕ) →
             Reaches start self.old.retired self.old.core self.old.calls.services (M.contents self.old.memory) before →
             HasTrail M.stopped M.contents M.moved start self.old.retired self.new.retired self.old.memory self.new.memory }
@@ -160,7 +164,9 @@ fn turn<M: Ram, S: Sink>(
     ensures write_fault { result ≡ Some WriteFault → Rose (S.state out.old).faults (S.state out.new).faults }
     ensures faults { (S.state out.old).faults ≤ (S.state out.new).faults }
 
-    ensures moved { GoesOn M.extent M.sound M.moved (λ _. Unit {0}) memory.old memory.new }
+    // It touches the lines of the instruction, or a front part of them.
+    ensures moved { GoesOn M.extent M.sound M.moved (λ lines. M.sound memory.new →
+        IsPrefix lines (touched_lines (state_of core.old calls.old.services (M.contents memory.old)))) memory.old memory.new }
     ensures instruction { retired.old < retired.new → M.sound memory.new → (start : Machine) (before : List ℕ) →
         Reaches start retired.old core.old calls.old.services (M.contents memory.old) before →
         IsInstruction M.stopped M.contents M.moved start retired.old memory.old memory.new }

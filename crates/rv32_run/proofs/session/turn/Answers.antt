@@ -1,11 +1,12 @@
-use Rattle.std.proofs.Common.{◌≡◌, [], Ok, Err, refl, sym, ap, ◌∙◌, arith}
+use Rattle.std.proofs.Common.{◌≡◌, [], Ok, Err, refl, ap, ◌∙◌, arith}
 use Rattle.rv32_core.specs.declared.step.Step.TheVariants.{Retired, Halted}
 use Rattle.rv32_core.specs.declared.step.StepStop.TheVariants.{Trap, Mem, WriteFault}
 use Rattle.rv32_core.specs.State.{CoreView, state_of}
 use Rattle.rv32_core.proofs.Plain.{step_reaches}
 use Rattle.rv32_core.proofs.Printed.{prints_nothing}
 use Rattle.rv32_run.proofs.Turns.{turn_ends, turn_halts, turn_traps, turn_stops, turn_fails}
-use Rattle.rv32_run.proofs.Trails.{step_instruction}
+use Rattle.rv32_core.specs.TouchedLines.{touched_lines}
+use Rattle.rv32_run.proofs.Trails.{step_instruction, touched_front}
 use Rattle.rv32_run.proofs.session.turn.Goals as goal
 
 pub returns-then-retired-budget-clause-turns : goal.returns-then-retired-budget-clause-turns
@@ -105,3 +106,72 @@ returns-in-Ok-Halted-clause-instruction g c =
     (state_of c.step.new.self c.step.new.calls.services (g.M.Ram.contents c.step.new.ram))
     before outcome.0 c.step.result (Halted c.in-Ok-Halted.code) c.step.ensures.moved.lines here (outcome.2 (c.requires.going, sound)) is
     (c.step.ensures.mem c.requires.going) refl c.step.ensures.moved.moved (c.step.ensures.moved.touched (c.requires.going, sound))
+
+pub returns-then-retired-budget-clause-moved : goal.returns-then-retired-budget-clause-moved
+returns-then-retired-budget-clause-moved g c = record {
+  extent = refl;
+  lost = λ sound. sound;
+  lines = [];
+  moved = g.met.M.Ram.unmoved c.args.memory.now;
+  touched = λ sound. (touched_lines (state_of c.args.core.now c.args.calls.now.services (g.M.Ram.contents c.args.memory.now)), refl);
+}
+
+pub returns-in-Ok-Retired-clause-moved : goal.returns-in-Ok-Retired-clause-moved
+returns-in-Ok-Retired-clause-moved g c =
+    let step = c.step.ensures.moved in
+    record {
+      extent = step.extent;
+      lost = step.lost;
+      lines = step.lines;
+      moved = step.moved;
+      touched = λ sound. touched_front c.step.result (touched_lines (state_of c.args.core.now c.args.calls.now.services (g.M.Ram.contents c.args.memory.now))) step.lines
+          (step.touched (c.requires.going, sound));
+    }
+
+pub returns-in-Ok-Halted-clause-moved : goal.returns-in-Ok-Halted-clause-moved
+returns-in-Ok-Halted-clause-moved g c =
+    let step = c.step.ensures.moved in
+    record {
+      extent = step.extent;
+      lost = step.lost;
+      lines = step.lines;
+      moved = step.moved;
+      touched = λ sound. touched_front c.step.result (touched_lines (state_of c.args.core.now c.args.calls.now.services (g.M.Ram.contents c.args.memory.now))) step.lines
+          (step.touched (c.requires.going, sound));
+    }
+
+pub returns-in-Err-Trap-clause-moved : goal.returns-in-Err-Trap-clause-moved
+returns-in-Err-Trap-clause-moved g c =
+    let step = c.step.ensures.moved in
+    record {
+      extent = step.extent;
+      lost = step.lost;
+      lines = step.lines;
+      moved = step.moved;
+      touched = λ sound. touched_front c.step.result (touched_lines (state_of c.args.core.now c.args.calls.now.services (g.M.Ram.contents c.args.memory.now))) step.lines
+          (step.touched (c.requires.going, sound));
+    }
+
+pub returns-in-Err-Mem-clause-moved : goal.returns-in-Err-Mem-clause-moved
+returns-in-Err-Mem-clause-moved g c =
+    let step = c.step.ensures.moved in
+    record {
+      extent = step.extent;
+      lost = step.lost;
+      lines = step.lines;
+      moved = step.moved;
+      touched = λ sound. touched_front c.step.result (touched_lines (state_of c.args.core.now c.args.calls.now.services (g.M.Ram.contents c.args.memory.now))) step.lines
+          (step.touched (c.requires.going, sound));
+    }
+
+pub returns-in-Err-WriteFault-clause-moved : goal.returns-in-Err-WriteFault-clause-moved
+returns-in-Err-WriteFault-clause-moved g c =
+    let step = c.step.ensures.moved in
+    record {
+      extent = step.extent;
+      lost = step.lost;
+      lines = step.lines;
+      moved = step.moved;
+      touched = λ sound. touched_front c.step.result (touched_lines (state_of c.args.core.now c.args.calls.now.services (g.M.Ram.contents c.args.memory.now))) step.lines
+          (step.touched (c.requires.going, sound));
+    }

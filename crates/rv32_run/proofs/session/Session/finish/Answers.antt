@@ -1,4 +1,7 @@
-use Rattle.std.proofs.Common.{[], ◌++◌, sym, ap, ◌∙◌, arith}
+use Rattle.std.proofs.Common.{[], ◌++◌, sym, ap, ◌∙◌, subst, arith}
+use Rattle.sec_base.specs.Prefix.{IsPrefix}
+use Rattle.rv32_core.specs.Machine.{Machine}
+use Rattle.rv32_core.specs.TouchedLines.{touched_lines}
 use Rattle.rv32_core.proofs.Printed.{prints_both, prints_nothing_as}
 use Rattle.rv32_run.proofs.Turns.{begun_reaches, begun_within, begun_going, carries_on, allowed, reaches_on, follows_on, stop_prints}
 use Rattle.rv32_run.proofs.Trails.{walk_begins, walked_on, walk_ends}
@@ -98,5 +101,6 @@ returns-in-Some-clause-trail g c =
     walk_ends g.M.Ram.stopped g.M.Ram.contents g.M.Ram.moved start c.args.self.now.retired c.loop-ending.retired c.turn-turned.new.retired
     c.in-Some.ending c.args.self.now.memory c.loop-ending.self-inside.memory c.turn-turned.new.memory turn.moved.lines
     (g.met.M.Ram.unmoved c.turn-turned.new.memory) turn.retired turn.moved.moved
+    (subst (λ (machine : Machine). IsPrefix turn.moved.lines (touched_lines machine.state)) (sym (so_far.turns.2 old start before here)) (turn.moved.touched sound))
     (λ more. turn.instruction more sound start (before ++ so_far.turns.0) (so_far.turns.2 old start before here))
     (so_far.walked old start before here)
