@@ -5,7 +5,7 @@ ghost use Rattle.sec_base.specs.Ram.{GoesOn, IsReliable};
 ghost use Rattle.rv32_decode.specs.Encoding.{IsInst};
 ghost use Rattle.rv32_core.specs.Effect.{effect};
 ghost use Rattle.rv32_core.specs.Outcome.{CarriesStop, IsOutcome, IsSinkStop};
-ghost use Rattle.rv32_core.specs.Printing.{Prints};
+ghost use Rattle.rv32_core.specs.Printing.{KeepsFaults, Prints};
 ghost use Rattle.rv32_core.specs.State.{state_of};
 ghost use Rattle.rv32_core.specs.TouchedLines.{AreTouched, data_lines};
 ghost use Rattle.rv32_core.specs.declared.step.StepStop.TheVariants.{WriteFault};
@@ -45,6 +45,7 @@ impl Core {
             (effect inst.now.op inst.now (state_of self.old calls.old.services (M.contents ram.old))) }
         ensures write_fault { result ≡ Err WriteFault → Rose (S.state out.old).faults (S.state out.new).faults }
         ensures faults { (S.state out.old).faults ≤ (S.state out.new).faults }
+        ensures quiet { KeepsFaults result (S.state out.old) (S.state out.new) }
 
         ensures moved { GoesOn M.extent M.sound M.moved (λ lines. AreTouched result
             (data_lines inst.now.op inst.now (state_of self.old calls.old.services (M.contents ram.old))) lines) ram.old ram.new }

@@ -3,7 +3,7 @@ ghost use Rattle.std.specs.Prelude.{◌≡◌, ◌+◌, ◌<◌, ◌≤◌, ◌^
 ghost use Rattle.sec_base.specs.Count.{Rose};
 ghost use Rattle.sec_base.specs.Ram.{GoesOn, IsReliable};
 ghost use Rattle.rv32_core.specs.Print.{IsPrinted, StopsAs, piece_length as length_of_piece};
-ghost use Rattle.rv32_core.specs.Printing.{Prints};
+ghost use Rattle.rv32_core.specs.Printing.{KeepsFaults, Prints};
 ghost use Rattle.rv32_core.specs.State.{memory_bytes};
 ghost use Rattle.rv32_core.specs.TouchedLines.{AreTouched, byte_lines};
 ghost use Rattle.rv32_core.specs.declared.step.StepStop.TheVariants.{WriteFault};
@@ -32,6 +32,7 @@ pub fn print<M: Ram, S: Sink>(
     ensures some { M.stopped ram.old ≡ None → M.stopped ram.new ≡ None → OnErr result (0 < count) }
     ensures write_fault { result ≡ Err WriteFault → Rose (S.state out.old).faults (S.state out.new).faults }
     ensures faults { (S.state out.old).faults ≤ (S.state out.new).faults }
+    ensures quiet { KeepsFaults result (S.state out.old) (S.state out.new) }
 
     ensures moved { GoesOn M.extent M.sound M.moved
         (λ lines. AreTouched result (byte_lines from count) lines) ram.old ram.new }
@@ -74,6 +75,7 @@ fn print_piece<M: Ram, S: Sink>(
     ensures mem { M.stopped ram.old ≡ None → StopsAs (M.stopped ram.new) result }
     ensures write_fault { result ≡ Err WriteFault → Rose (S.state out.old).faults (S.state out.new).faults }
     ensures faults { (S.state out.old).faults ≤ (S.state out.new).faults }
+    ensures quiet { KeepsFaults result (S.state out.old) (S.state out.new) }
 
     ensures moved { GoesOn M.extent M.sound M.moved
         (λ lines. AreTouched result (byte_lines from count) lines) ram.old ram.new }
@@ -94,6 +96,7 @@ fn write_piece<S: Sink>(calls: &mut Calls, out: &mut S, piece: &[u8]) -> Result<
     ensures mem { StopsAs None result }
     ensures write_fault { result ≡ Err WriteFault → Rose (S.state out.old).faults (S.state out.new).faults }
     ensures faults { (S.state out.old).faults ≤ (S.state out.new).faults }
+    ensures quiet { KeepsFaults result (S.state out.old) (S.state out.new) }
 {
     let mut rest = piece;
     while !rest.is_empty() {

@@ -6,7 +6,7 @@ ghost use Rattle.sec_base.specs.Ram.{GoesOn, IsReliable};
 ghost use Rattle.sec_base.specs.declared.ending.Cause.{Cause};
 ghost use Rattle.rv32_core.specs.Effect.{next};
 ghost use Rattle.rv32_core.specs.Outcome.{CarriesStop, IsOutcome, IsSinkStop};
-ghost use Rattle.rv32_core.specs.Printing.{Prints};
+ghost use Rattle.rv32_core.specs.Printing.{KeepsFaults, Prints};
 ghost use Rattle.rv32_core.specs.State.{next_core, next_core_with, opening_core, register, state_of, with_pc, with_register};
 ghost use Rattle.rv32_core.specs.TouchedLines.{AreTouched, touched_lines};
 ghost use Rattle.rv32_core.specs.declared.step.Step.{Step};
@@ -96,6 +96,7 @@ impl Core {
             IsSinkStop result (next (state_of self.old calls.old.services (M.contents ram.old))) }
         ensures write_fault { result ≡ Err WriteFault → Rose (S.state out.old).faults (S.state out.new).faults }
         ensures faults { (S.state out.old).faults ≤ (S.state out.new).faults }
+        ensures quiet { KeepsFaults result (S.state out.old) (S.state out.new) }
 
         // It touches the lines of that instruction, in order, and after an error a front part of them.
         ensures moved { GoesOn M.extent M.sound M.moved

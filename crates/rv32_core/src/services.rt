@@ -4,7 +4,7 @@ ghost use Rattle.sec_base.specs.Count.{Rose};
 ghost use Rattle.sec_base.specs.Ram.{GoesOn, IsReliable};
 ghost use Rattle.rv32_decode.specs.Words.{word_of_signed};
 ghost use Rattle.rv32_core.specs.Outcome.{CarriesStop, IsOutcome, IsSinkStop, OnlyTraps};
-ghost use Rattle.rv32_core.specs.Printing.{Prints};
+ghost use Rattle.rv32_core.specs.Printing.{KeepsFaults, Prints};
 ghost use Rattle.rv32_core.specs.Services.{brk_service, is_inside, is_output, read_service, service, write_service};
 ghost use Rattle.rv32_core.specs.State.{next_core, next_core_with, register, state_of};
 ghost use Rattle.rv32_core.specs.TouchedLines.{AreTouched, read_lines, service_lines, write_lines};
@@ -62,6 +62,7 @@ impl Core {
             IsSinkStop result (Ok (service (state_of self.old calls.old.services (M.contents ram.old)))) }
         ensures write_fault { result ≡ Err WriteFault → Rose (S.state out.old).faults (S.state out.new).faults }
         ensures faults { (S.state out.old).faults ≤ (S.state out.new).faults }
+        ensures quiet { KeepsFaults result (S.state out.old) (S.state out.new) }
 
         ensures moved { GoesOn M.extent M.sound M.moved
             (λ lines. AreTouched result (service_lines (state_of self.old calls.old.services (M.contents ram.old))) lines)
@@ -126,6 +127,7 @@ impl Core {
             IsSinkStop result (Ok (write_service (state_of self.old calls.old.services (M.contents ram.old)))) }
         ensures write_fault { result ≡ Err WriteFault → Rose (S.state out.old).faults (S.state out.new).faults }
         ensures faults { (S.state out.old).faults ≤ (S.state out.new).faults }
+        ensures quiet { KeepsFaults result (S.state out.old) (S.state out.new) }
 
         ensures moved { GoesOn M.extent M.sound M.moved
             (λ lines. AreTouched result (write_lines (state_of self.old calls.old.services (M.contents ram.old))) lines)

@@ -18,6 +18,7 @@ loop-at-init g c =
       ended = omega arith;
       stopped = λ none. none;
       faults = omega arith;
+      quiet = refl;
       moved = untouched g.M.Ram.extent g.M.Ram.sound g.M.Ram.moved _ c.args.ram.now (g.met.M.Ram.unmoved c.args.ram.now) (rw none (sym (no_lines c.args.from)));
     }
 
@@ -44,6 +45,7 @@ loop-at-preserved g c =
       ended = before.ended;
       stopped = λ none. none_from_ok _ _ (c.in_ok-print_piece.ensures.mem (before.stopped none));
       faults = omega arith;
+      quiet = c.in_ok-print_piece.ensures.quiet (λ is. cc) (λ is. cc) ∙ before.quiet;
       moved = record {
         extent = more.extent ∙ before.moved.extent;
         lost = λ sound. before.moved.lost (more.lost sound);

@@ -18,6 +18,7 @@ invariant-loop-at g l =
       ended : l.end ≡ l.from + l.count;
       stopped : ram.stopped l.initial.ram ≡ None → ram.stopped l.ram ≡ None;
       faults : (g.S.Sink.state l.initial.out).faults ≤ (g.S.Sink.state l.out).faults;
+      quiet : (g.S.Sink.state l.out).faults ≡ (g.S.Sink.state l.initial.out).faults;
       moved : GoesOn ram.extent ram.sound ram.moved (λ lines. lines ≡ byte_lines l.from (l.at - l.from)) l.initial.ram l.ram;
     }
 

@@ -6,6 +6,7 @@ abbrev pub invariant-loop-rest : goal.invariant-loop-rest
 invariant-loop-rest g l = record {
   printed : IsPrintedUpTo (g.S.Sink.state l.initial.out) (g.S.Sink.state l.out) l.initial.calls.digest l.calls.digest l.piece l.rest;
   services : l.calls.services ≡ l.initial.calls.services;
+  quiet : (g.S.Sink.state l.out).faults ≡ (g.S.Sink.state l.initial.out).faults;
 }
 
 abbrev pub decreases-loop-rest : goal.decreases-loop-rest
