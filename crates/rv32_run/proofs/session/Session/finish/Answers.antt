@@ -1,4 +1,4 @@
-use Rattle.std.proofs.Common.{[], ◌++◌, sym, ap, ◌∙◌, subst, arith}
+use Rattle.std.proofs.Common.{[], ◌++◌, refl, sym, ap, ◌∙◌, subst, arith}
 use Rattle.sec_base.specs.Prefix.{IsPrefix}
 use Rattle.rv32_core.specs.Machine.{Machine}
 use Rattle.rv32_core.specs.TouchedLines.{touched_lines}
@@ -14,6 +14,7 @@ loop-ending-init g c = record {
   budget = ap (λ session. session.budget) c.self.view_is;
   going = begun_going g.M.Ram.stopped _ c.args.self.now c.self.view_is c.requires.going;
   faults = omega arith;
+  quiet = refl;
   moved = record {
     extent = ap (λ session. g.M.Ram.extent session.memory) c.self.view_is;
     lost = λ sound. rw (sym c.self.view_is) sound;
@@ -45,6 +46,7 @@ loop-ending-preserved g c =
       budget = so_far.budget;
       going = carries_on _ turn.mem;
       faults = omega (arith, turn.faults);
+      quiet = turn.quiet (λ is. cc) (λ is. cc) ∙ so_far.quiet;
       moved = record {
         extent = turn.moved.extent ∙ so_far.moved.extent;
         lost = λ sound. so_far.moved.lost (turn.moved.lost sound);

@@ -19,6 +19,7 @@ invariant-loop-ending g l =
       budget : l.self-inside.budget ≡ l.fn.self.budget;
       going : ram.stopped l.self-inside.memory ≡ None;
       faults : (sink.state l.fn.out).faults ≤ (sink.state l.out).faults;
+      quiet : (sink.state l.out).faults ≡ (sink.state l.fn.out).faults;
       moved : GoesOn ram.extent ram.sound ram.moved (λ lines. Unit {0}) l.fn.self.memory l.self-inside.memory;
       walked : ram.sound l.self-inside.memory → (start : Machine) (before : List ℕ) →
           Reaches start l.fn.self.retired l.fn.self.core l.fn.self.calls.services (ram.contents l.fn.self.memory) before →
