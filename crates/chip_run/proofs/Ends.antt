@@ -72,6 +72,7 @@ pub record OfSession (terms : Terms) (out out' : SinkState) (printed : List ℕ)
   pub early : IsStop run.ending → 0 < terms.budget → run.retired < terms.budget
   pub write_fault : run.ending ≡ WriteFault → Rose out.faults out'.faults
   pub faults : out.faults ≤ out'.faults
+  pub quiet : run.ending ≢ WriteFault → run.ending ≢ NoMemory → out'.faults ≡ out.faults
   pub follows : run.evidence ≡ None → Follows terms.start terms.budget run.retired run.ending printed
   pub written_out : run.evidence ≡ None → ¬ IsMemoryEnding run.ending →
       IsWrittenOut terms.enc_key (line_count terms.levels) run.made (plain terms.start run.retired).state.memory
@@ -154,6 +155,7 @@ module _ (terms : Terms) (out out' : SinkState) (printed : List ℕ) (before aft
     early = session.early;
     write_fault = session.write_fault;
     faults = session.faults;
+    quiet = session.quiet;
     inside = memory.inside;
     few = memory.few;
     paired = memory.paired;

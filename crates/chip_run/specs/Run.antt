@@ -88,9 +88,10 @@ pub record HoldsAlways (terms : Terms) (out out' : SinkState) (before after : Bu
   pub within : run.retired ≤ terms.budget
   pub budget_used : run.ending ≡ OutOfSteps → run.retired ≡ terms.budget
   pub early : IsStop run.ending → 0 < terms.budget → run.retired < terms.budget
-  -- a write fault is one of the sink
+  -- a write fault is one of the sink, and where it had one, the run ended so, or out of memory
   pub write_fault : run.ending ≡ WriteFault → Rose out.faults out'.faults
   pub faults : out.faults ≤ out'.faults
+  pub quiet : run.ending ≢ WriteFault → run.ending ≢ NoMemory → out'.faults ≡ out.faults
   -- each entry of `used` is of a line of the memory, and each line was tagged under the counters that it was encrypted
   -- under, in the same order
   pub inside : (line : ℕ) (counter : Counter) → Contains run.used (line, counter) → line < line_count terms.levels

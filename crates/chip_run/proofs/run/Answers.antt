@@ -187,7 +187,7 @@ returns-clause-run g c =
     (run_contents d n g.B.Bus.history g.B.Bus.moved c.args.bus c.args.tagger setup.keys.enc_key setup.geometry setup.page_limit
     c.in-Ok.memory.lines memory.lines c.in-Ok.ensures.new (ran g c) c.close-2.result.0 memory.ways run.made ∙ ap (λ m. contents m) c.into_parts-memory.ensures.memory)
     run.few_held
-    ended.follows.1.0 ended.within ended.budget_used ended.early ended.write_fault ended.faults (follows g c) (prints g c) (turned g c))
+    ended.follows.1.0 ended.within ended.budget_used ended.early ended.write_fault ended.faults ended.quiet (follows g c) (prints g c) (turned g c))
 
 pub returns-clause-bus : goal.returns-clause-bus
 returns-clause-bus g c =
