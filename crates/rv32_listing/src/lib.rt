@@ -3,7 +3,7 @@
 
 ghost use Rattle.rv32_listing.specs.Listing.{listing_of};
 ghost use Rattle.sec_base.specs.Sink.{IsWritten};
-ghost use Rattle.std.specs.Prelude.{◌≤◌};
+ghost use Rattle.std.specs.Prelude.{◌≤◌, ◌≡◌, OnOk};
 
 mod lines;
 #[cfg(test)]
@@ -22,6 +22,7 @@ use std::alloc::Global;
 pub fn write_listing<S: Sink>(alloc: Global, image: &Image, out: &mut S) -> Result<(), SinkStop>
     ensures listed { IsWritten (listing_of image.now.segments) (S.state out.old) (S.state out.new) result }
     ensures faults { (S.state out.old).faults ≤ (S.state out.new).faults }
+    ensures quiet { OnOk result ((S.state out.new).faults ≡ (S.state out.old).faults) }
 {
     for segment in image.segments.as_slice() {
         write_bytes(alloc, segment.addr, segment.bytes.as_slice(), out)?;

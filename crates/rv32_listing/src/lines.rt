@@ -4,7 +4,7 @@ ghost use Rattle.rv32_listing.specs.Lines as spec;
 ghost use Rattle.rv32_listing.specs.Lines.{bytes_lines};
 ghost use Rattle.sec_base.specs.Hexadecimal.{hex_digits};
 ghost use Rattle.sec_base.specs.Sink.{IsWritten};
-ghost use Rattle.std.specs.Prelude.{◌≡◌, ◌+◌, ◌<◌, ◌≤◌, ◌^◌, ◌++◌, IfOk, codes, length, string_bytes};
+ghost use Rattle.std.specs.Prelude.{◌≡◌, ◌+◌, ◌<◌, ◌≤◌, ◌^◌, ◌++◌, IfOk, codes, length, string_bytes, OnOk};
 
 use rv32_text::write_word;
 use sec_base::{NoMemory, Sink, SinkStop, write_all};
@@ -20,6 +20,7 @@ pub fn write_bytes<S: Sink>(
     requires { addr + length bytes.now < 2 ^ 32 }
     ensures listed { IsWritten (bytes_lines addr bytes.now) (S.state out.old) (S.state out.new) result }
     ensures faults { (S.state out.old).faults ≤ (S.state out.new).faults }
+    ensures quiet { OnOk result ((S.state out.new).faults ≡ (S.state out.old).faults) }
 {
     let mut address = addr;
     let mut rest = bytes;
@@ -46,6 +47,7 @@ fn write_word_line<S: Sink>(
 ) -> Result<(), SinkStop>
     ensures listed { IsWritten (spec.word_line address word) (S.state out.old) (S.state out.new) result }
     ensures faults { (S.state out.old).faults ≤ (S.state out.new).faults }
+    ensures quiet { OnOk result ((S.state out.new).faults ≡ (S.state out.old).faults) }
 {
     let line = word_line(alloc, address, word)?;
     write_all(out, &line)?;
@@ -60,6 +62,7 @@ fn write_byte_line<S: Sink>(
 ) -> Result<(), SinkStop>
     ensures listed { IsWritten (spec.byte_line address byte) (S.state out.old) (S.state out.new) result }
     ensures faults { (S.state out.old).faults ≤ (S.state out.new).faults }
+    ensures quiet { OnOk result ((S.state out.new).faults ≡ (S.state out.old).faults) }
 {
     let line = byte_line(alloc, address, byte)?;
     write_all(out, line.as_bytes())?;

@@ -1,4 +1,4 @@
-use Rattle.std.proofs.Common.{◌≡◌, ◌<◌, ◌≤◌, length, Err, rules, arith}
+use Rattle.std.proofs.Common.{◌≡◌, ◌∙◌, ◌<◌, ◌≤◌, length, Err, rules, arith}
 use Rattle.std.proofs.lemmas.List.{take_rest, length-drop}
 use Rattle.sec_base.proofs.Writes.{part_done}
 use Rattle.rv32_listing.proofs.Firsts.{byte_first, word_first, none_left}
@@ -20,6 +20,7 @@ loop-rest-preserved-then-rest-lt4 g c =
     rw take_rest
     (record {
       part = first_written _ _ _ _ _ _ _ (byte_first c.loop-rest.address c.loop-rest.rest.now some few) c.loop-rest.invariant.part c.in_ok-write_byte_line.ensures.listed c.write_byte_line.ensures.faults;
+      quiet = c.in_ok-write_byte_line.ensures.quiet ∙ c.loop-rest.invariant.quiet;
       place = simp length-drop (omega arith);
     })
 
@@ -36,6 +37,7 @@ loop-rest-preserved g c =
     rw take_rest
     (record {
       part = first_written _ _ _ _ _ _ _ (word_first c.loop-rest.address c.loop-rest.rest.now _ many c.from_le_bytes-word.ensures) c.loop-rest.invariant.part c.in_ok-write_word_line.ensures.listed c.write_word_line.ensures.faults;
+      quiet = c.in_ok-write_word_line.ensures.quiet ∙ c.loop-rest.invariant.quiet;
       place = simp length-drop (omega arith);
     })
 
