@@ -8,6 +8,7 @@ use Rattle.chip_main.specs.Call.{GivesAsked, GivesDue, SaysStatus}
 use Rattle.chip_main.proofs.Outcomes as outcomes
 use Rattle.chip_main.proofs.RunOutcomes as runs
 use Rattle.chip_main.proofs.Requested as requested
+use Rattle.chip_main.proofs.Faults as faults
 use Rattle.chip_main.proofs.Wholes as wholes
 
 pub says_status : {request : Result Asked WordsFault} {old new : World} {answer : Done} → Outcome request old new answer → SaysStatus request old new answer
@@ -24,6 +25,7 @@ says_status o = record {
   tag_differs = outcomes.tag_differs o;
   read_fault = outcomes.read_fault o;
   write_fault = runs.write_fault o;
+  faultless = faults.faultless o;
 }
 
 pub gives_asked : {request : Result Asked WordsFault} {old new : World} {answer : Done} → Outcome request old new answer → GivesAsked request old new answer

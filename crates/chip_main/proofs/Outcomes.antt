@@ -1,5 +1,5 @@
 -- What the course of a call says of its status and of what was told.
-use Rattle.std.proofs.Common.{◌≡◌, ◌≢◌, ◌<◌, ◌≤◌, ◌⊎◌, inl, inr, List, ℕ, Option, Some, None, Result, Ok, Err, IfSome, refl, sym, ap, ◌∙◌, subst, arith}
+use Rattle.std.proofs.Common.{◌≡◌, ◌≢◌, ◌<◌, ◌≤◌, ◌⊎◌, inl, inr, List, ℕ, Option, Some, None, Result, Ok, Err, OnOk, IfSome, refl, sym, ap, ◌∙◌, subst, arith}
 use Rattle.std.specs.Result.{IsErr, is_err}
 use Rattle.sec_base.specs.Count.{Rose}
 use Rattle.sec_base.specs.Files.{FilesState}
@@ -21,7 +21,7 @@ use Rattle.chip_main.specs.declared.Done.{Done}
 use Rattle.chip_main.specs.World.{World}
 use Rattle.chip_main.specs.Needs.{needs_of}
 use Rattle.chip_main.specs.Causes.{IsRefused, Stops}
-use Rattle.chip_main.specs.Status.{IsStatus, Telling, code_of, ending_status, evidence_status, refusal_status, run_status, status_with, text_status, told_status, untold_ending_status}
+use Rattle.chip_main.specs.Status.{IsResult, IsStatus, Telling, code_of, ending_status, evidence_status, refusal_status, run_status, status_with, text_status, told_status, untold_ending_status}
 use Rattle.chip_main.specs.declared.status.Status.{Status}
 use Rattle.chip_main.specs.declared.status.Status.TheVariants as status
 use Rattle.chip_main.specs.Buses.{LiesByScript, lies_of, run_history}
@@ -33,9 +33,10 @@ use Rattle.chip_main.specs.Course.{CameAbout, Outcome, TellsCourse, course_bus, 
 -- ---- the whole of a call
 
 pub outcome : (request : Result Asked WordsFault) (old new : World) (done : Done) (course : Course) (told : Telling) → CameAbout course request old.files new.files old.out new.out → TellsCourse course old.note new.note told →
+    (IsResult (code_of (course_status course)) → (new.files.faults ≡ old.files.faults) × (new.out.faults ≡ old.out.faults)) → OnOk told (new.note.faults ≡ old.note.faults) →
     done.status ≡ code_of (status_of course told) → done.run ≡ course_run course → done.bus ≡ course_bus course → done.lies ≡ lies_of (course_bus course) → IfSome (course_bus course) LiesByScript → Outcome request old new done
-outcome request old new done course told came tells status_is run_is bus_is lies_is by_script =
-    record { course = course; told = told; came = came; tells = tells; status = status_is; run = run_is; bus = bus_is; lies = lies_is; by_script = by_script }
+outcome request old new done course told came tells taken noted status_is run_is bus_is lies_is by_script =
+    record { course = course; told = told; came = came; tells = tells; taken = taken; noted = noted; status = status_is; run = run_is; bus = bus_is; lies = lies_is; by_script = by_script }
 
 -- ---- the statuses
 

@@ -14,7 +14,7 @@ use Rattle.chip_main.specs.Taken.{Tell}
 use Rattle.chip_main.specs.Verdict.{verdict_of}
 use Rattle.chip_main.specs.Endings.{IsTrapped, IsOutOfSteps, EndedTampered, EndedSpent, EndedWithEvidence}
 use Rattle.chip_main.specs.Texts.{elf_file, listing, measurement_line}
-use Rattle.chip_main.specs.Status.{IsOneOf, IsStatus, code_of}
+use Rattle.chip_main.specs.Status.{IsOneOf, IsResult, IsStatus, code_of}
 use Rattle.chip_main.specs.Answer.{Ended, FileRefused, GivesPlainRun, GivesReport, GivesRun, GivesSummary, GivesText, IsDone, RanAnd, Undone}
 use Rattle.chip_main.specs.Whole.{Faultless, RanWhole, Ready, verdict_status, whole_statuses}
 use Rattle.chip_main.specs.declared.Done.{Done}
@@ -37,6 +37,9 @@ pub record SaysStatus (request : Result Asked WordsFault) (old new : World) (ans
   pub read_fault : answer.status ≡ code_of status.ReadFault → Stops Unread (needs_of request) old.files new.files
   pub write_fault : answer.status ≡ code_of status.WriteFault →
       Rose old.out.faults new.out.faults ⊎ Rose old.note.faults new.note.faults
+  -- a result comes only where no count of faults rose
+  pub faultless : IsResult answer.status → (new.files.faults ≡ old.files.faults) × (new.out.faults ≡ old.out.faults)
+      × (new.note.faults ≡ old.note.faults)
 
 -- What each command gives. A run on protected memory is of the request's program and input, over a bus that follows the
 -- request's script, or is honest where there is none. Without evidence it follows the plain machine, and ended as

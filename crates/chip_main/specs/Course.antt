@@ -1,5 +1,5 @@
 -- What a call came to, how that came about, and what is made of it.
-use Rattle.std.specs.Prelude.{◌≡◌, Option, Some, None, IfSome, Result, Ok, Err}
+use Rattle.std.specs.Prelude.{◌≡◌, Option, Some, None, IfSome, Result, Ok, Err, OnOk}
 use Rattle.sec_base.specs.Files.{FilesState}
 use Rattle.sec_base.specs.Sink.{SinkState, IsSilent, IsWritten}
 use Rattle.sec_base.specs.declared.sink.SinkStop.TheVariants.{Failed, NoMemory as no_memory}
@@ -14,7 +14,7 @@ use Rattle.chip_main.specs.Needs.{needs_of}
 use Rattle.chip_main.specs.Causes.{IsRefused, RunsOut}
 use Rattle.chip_main.specs.Requests.{OtherTagRequest, PlainlyRunsRequest, RunsRequest, SummarizesRequest, WritesRequest}
 use Rattle.chip_main.specs.Texts.{plain_text, record_text, refusal_text, tag_differs_line}
-use Rattle.chip_main.specs.Status.{Telling, code_of, ending_status, refusal_status, run_status, text_status, told_status, untold_ending_status}
+use Rattle.chip_main.specs.Status.{IsResult, Telling, code_of, ending_status, refusal_status, run_status, text_status, told_status, untold_ending_status}
 use Rattle.chip_main.specs.declared.status.Status.{Status}
 use Rattle.chip_main.specs.declared.status.Status.TheVariants.{NoMemory as out_of_memory, TagDiffers, WriteFault}
 use Rattle.chip_main.specs.Buses.{LiesByScript, run_history, lies_of}
@@ -95,6 +95,8 @@ pub record Outcome (request : Result Asked WordsFault) (old new : World) (done :
   pub told : Telling
   pub came : CameAbout course request old.files new.files old.out new.out
   pub tells : TellsCourse course old.note new.note told
+  pub taken : IsResult (code_of (course_status course)) → (new.files.faults ≡ old.files.faults) × (new.out.faults ≡ old.out.faults)
+  pub noted : OnOk told (new.note.faults ≡ old.note.faults)
   pub status : done.status ≡ code_of (status_of course told)
   pub run : done.run ≡ course_run course
   pub bus : done.bus ≡ course_bus course

@@ -1,5 +1,5 @@
 -- The status of the process.
-use Rattle.std.specs.Prelude.{◌≡◌, ℕ, List, map, Contains, Option, Some, None, Result, Ok, Err}
+use Rattle.std.specs.Prelude.{◌≡◌, ℕ, List, map, Contains, Option, Some, None, Result, Ok, Err, ◌≢◌}
 use Rattle.sec_base.specs.declared.evidence.Evidence.{Evidence}
 use Rattle.sec_base.specs.declared.ending.Ending.{Ending}
 use Rattle.sec_base.specs.declared.ending.Ending.TheVariants as ending
@@ -33,6 +33,11 @@ IsStatus number = (status : Status) × (number ≡ code_of status)
 -- the number is one of these statuses'
 abbrev pub IsOneOf : List Status → ℕ → Type 0
 IsOneOf statuses number = Contains (map code_of statuses) number
+
+-- the number is that of a result, and no stop's
+abbrev pub IsResult : ℕ → Type 0
+IsResult number = (number ≢ code_of Usage) × (number ≢ code_of Refused) × (number ≢ code_of ReadFault)
+    × (number ≢ code_of WriteFault) × (number ≢ code_of NoMemory)
 
 abbrev pub ending_status : Ending → Status
 ending_status (ending.Halted exit) = Done

@@ -2,7 +2,8 @@
 ghost use Rattle.std.specs.Prelude.{◌≡◌, ◌≤◌, IfErr, IfOk};
 ghost use Rattle.chip_words.specs.Request.{request_of};
 ghost use Rattle.chip_words.specs.Words.{texts};
-ghost use Rattle.chip_main.specs.Course.{CameAbout};
+ghost use Rattle.chip_main.specs.Course.{CameAbout, course_status};
+ghost use Rattle.chip_main.specs.Status.{IsResult, code_of};
 ghost use Rattle.chip_main.specs.Stop.{stopped_course};
 
 use crate::course::Course;
@@ -29,6 +30,8 @@ pub fn perform<F: Files, O: Sink>(
     ensures held { (F.state files.new).held ≡ (F.state files.old).held }
     ensures files_faults { (F.state files.old).faults ≤ (F.state files.new).faults }
     ensures out_faults { (O.state out.old).faults ≤ (O.state out.new).faults }
+    ensures quiet { IsResult (code_of (course_status result)) → ((F.state files.new).faults ≡ (F.state files.old).faults)
+        × ((O.state out.new).faults ≡ (O.state out.old).faults) }
 {
     match course_of(alloc, words, files, out) {
         Ok(course) => course,
@@ -49,6 +52,8 @@ fn course_of<F: Files, O: Sink>(
     ensures held { (F.state files.new).held ≡ (F.state files.old).held }
     ensures files_faults { (F.state files.old).faults ≤ (F.state files.new).faults }
     ensures out_faults { (O.state out.old).faults ≤ (O.state out.new).faults }
+    ensures quiet { IfOk result (λ course. IsResult (code_of (course_status course)) →
+        ((F.state files.new).faults ≡ (F.state files.old).faults) × ((O.state out.new).faults ≡ (O.state out.old).faults)) }
 {
     match read_words(alloc, words)? {
         Request::Run(asked) => {

@@ -1,5 +1,5 @@
 // What a report says, as lines.
-ghost use Rattle.std.specs.Prelude.{◌≡◌, ◌≤◌, map, string_bytes, IfOk};
+ghost use Rattle.std.specs.Prelude.{◌≡◌, ◌≤◌, map, string_bytes, IfOk, OnOk};
 ghost use Rattle.sec_base.specs.Sink.{IsWritten};
 ghost use Rattle.chip_main.specs.Texts as spec;
 
@@ -13,6 +13,7 @@ use std::alloc::{AllocError, Global};
 pub fn write_fields<O: Sink>(alloc: Global, report: &Report, out: &mut O) -> Result<(), SinkStop>
     ensures told { IsWritten (spec.report_text report.now) (O.state out.old) (O.state out.new) result }
     ensures faults { (O.state out.old).faults ≤ (O.state out.new).faults }
+    ensures quiet { OnOk result ((O.state out.new).faults ≡ (O.state out.old).faults) }
 {
     let lines = field_lines(alloc, report)?;
     write_lines(out, &lines)

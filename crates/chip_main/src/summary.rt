@@ -1,5 +1,5 @@
 // What is written of the run of a generated program.
-ghost use Rattle.std.specs.Prelude.{◌≡◌, ◌≤◌, map, string_bytes, IfOk};
+ghost use Rattle.std.specs.Prelude.{◌≡◌, ◌≤◌, map, string_bytes, IfOk, OnOk};
 ghost use Rattle.sec_base.specs.Sink.{IsWritten};
 ghost use Rattle.chip_main.specs.Texts as spec;
 
@@ -19,6 +19,7 @@ pub fn write_summary<O: Sink>(
 ) -> Result<(), SinkStop>
     ensures told { IsWritten (spec.summary_text number run.now printed.now) (O.state out.old) (O.state out.new) result }
     ensures faults { (O.state out.old).faults ≤ (O.state out.new).faults }
+    ensures quiet { OnOk result ((O.state out.new).faults ≡ (O.state out.old).faults) }
 {
     let lines = summary_lines(alloc, number, run, printed)?;
     write_lines(out, &lines)

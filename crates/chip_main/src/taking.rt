@@ -45,6 +45,7 @@ pub fn take_run<F: Files>(
     ensures stopped { IfErr result (λ stop.
         IsStoppedBy stop (run_needs (run_asked asked.now)) (F.state files.old) (F.state files.new)) }
     ensures held { (F.state files.new).held ≡ (F.state files.old).held }
+    ensures quiet { OnOk result ((F.state files.new).faults ≡ (F.state files.old).faults) }
     ensures faults { (F.state files.old).faults ≤ (F.state files.new).faults }
 {
     let file = &asked.execution.file;
@@ -66,6 +67,7 @@ pub fn take_execution<F: Files>(
     ensures stopped { IfErr result (λ stop.
         IsStoppedBy stop (execution_needs (execution_asked execution.now)) (F.state files.old) (F.state files.new)) }
     ensures held { (F.state files.new).held ≡ (F.state files.old).held }
+    ensures quiet { OnOk result ((F.state files.new).faults ≡ (F.state files.old).faults) }
     ensures faults { (F.state files.old).faults ≤ (F.state files.new).faults }
 {
     let image = take_program(alloc, &execution.file, files)?;
@@ -105,6 +107,7 @@ pub fn take_report<F: Files>(
     ensures stopped { IfErr result (λ stop.
         IsStoppedBy stop (report_need (report_asked asked.now) ∷ []) (F.state files.old) (F.state files.new)) }
     ensures held { (F.state files.new).held ≡ (F.state files.old).held }
+    ensures quiet { OnOk result ((F.state files.new).faults ≡ (F.state files.old).faults) }
     ensures faults { (F.state files.old).faults ≤ (F.state files.new).faults }
 {
     let text = read_file(alloc, asked.name, REPORT_LIMIT, files)?;
@@ -162,6 +165,7 @@ fn take_input<F: Files>(alloc: Global, name: Option<&str>, files: &mut F) -> Res
     ensures stopped { IfErr result (λ stop.
         IsStoppedBy stop (input_needs (option_map (λ n. n.now) name.entry)) (F.state files.old) (F.state files.new)) }
     ensures held { (F.state files.new).held ≡ (F.state files.old).held }
+    ensures quiet { OnOk result ((F.state files.new).faults ≡ (F.state files.old).faults) }
     ensures faults { (F.state files.old).faults ≤ (F.state files.new).faults }
     ensures bytes_taken { (F.state files.old).taken ≤ (F.state files.new).taken }
 {

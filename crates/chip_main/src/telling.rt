@@ -1,5 +1,5 @@
 // What is told of a call.
-ghost use Rattle.std.specs.Prelude.{◌≡◌, ◌≤◌, [], ◌∷◌, ◌++◌, codes, map, IfOk, string_bytes};
+ghost use Rattle.std.specs.Prelude.{◌≡◌, ◌≤◌, [], ◌∷◌, ◌++◌, codes, map, IfOk, string_bytes, OnOk};
 ghost use Rattle.std.specs.List.{concat};
 ghost use Rattle.sec_base.specs.Sink.{IsWritten};
 ghost use Rattle.chip_main.specs.Course.{TellsCourse};
@@ -22,6 +22,7 @@ use std::alloc::{AllocError, Global};
 pub fn tell<N: Sink>(alloc: Global, course: &Course, note: &mut N) -> Result<(), SinkStop>
     ensures told { TellsCourse course.now (N.state note.old) (N.state note.new) result }
     ensures faults { (N.state note.old).faults ≤ (N.state note.new).faults }
+    ensures quiet { OnOk result ((N.state note.new).faults ≡ (N.state note.old).faults) }
 {
     match course {
         Course::Refused(refusal) => tell_refusal(alloc, refusal, note),
@@ -35,6 +36,7 @@ pub fn tell<N: Sink>(alloc: Global, course: &Course, note: &mut N) -> Result<(),
 fn tell_refusal<N: Sink>(alloc: Global, refusal: &Refusal, note: &mut N) -> Result<(), SinkStop>
     ensures told { IsWritten (spec.refusal_text refusal.now) (N.state note.old) (N.state note.new) result }
     ensures faults { (N.state note.old).faults ≤ (N.state note.new).faults }
+    ensures quiet { OnOk result ((N.state note.new).faults ≡ (N.state note.old).faults) }
 {
     match refusal {
         Refusal::Usage(text) => tell_usage(text.as_str(), note),
@@ -55,6 +57,7 @@ fn tell_refusal<N: Sink>(alloc: Global, refusal: &Refusal, note: &mut N) -> Resu
 fn tell_usage<N: Sink>(text: &str, note: &mut N) -> Result<(), SinkStop>
     ensures told { IsWritten (codes "usage\n" ++ text.now) (N.state note.old) (N.state note.new) result }
     ensures faults { (N.state note.old).faults ≤ (N.state note.new).faults }
+    ensures quiet { OnOk result ((N.state note.new).faults ≡ (N.state note.old).faults) }
 {
     write_line(note, "usage\n")?;
     write_line(note, text)
@@ -63,6 +66,7 @@ fn tell_usage<N: Sink>(text: &str, note: &mut N) -> Result<(), SinkStop>
 fn tell_plain<N: Sink>(alloc: Global, run: &PlainRecord, note: &mut N) -> Result<(), SinkStop>
     ensures told { IsWritten (spec.plain_text run.now) (N.state note.old) (N.state note.new) result }
     ensures faults { (N.state note.old).faults ≤ (N.state note.new).faults }
+    ensures quiet { OnOk result ((N.state note.new).faults ≡ (N.state note.old).faults) }
 {
     let lines = plain_lines(alloc, run)?;
     write_lines(note, &lines)
@@ -86,6 +90,7 @@ fn tell_run<N: Sink>(
 ) -> Result<(), SinkStop>
     ensures told { IsWritten (spec.record_text run.now lies) (N.state note.old) (N.state note.new) result }
     ensures faults { (N.state note.old).faults ≤ (N.state note.new).faults }
+    ensures quiet { OnOk result ((N.state note.new).faults ≡ (N.state note.old).faults) }
 {
     let lines = run_lines(alloc, run, lies)?;
     write_lines(note, &lines)?;
@@ -110,6 +115,7 @@ fn tell_evidence<N: Sink>(alloc: Global, run: &RunRecord, note: &mut N) -> Resul
     ensures told { IsWritten (concat (spec.shown_lines run.now.made run.now.evidence))
         (N.state note.old) (N.state note.new) result }
     ensures faults { (N.state note.old).faults ≤ (N.state note.new).faults }
+    ensures quiet { OnOk result ((N.state note.new).faults ≡ (N.state note.old).faults) }
 {
     match &run.evidence {
         Some(evidence) => {
@@ -124,6 +130,7 @@ fn tell_evidence<N: Sink>(alloc: Global, run: &RunRecord, note: &mut N) -> Resul
 fn tell_report<N: Sink>(alloc: Global, run: &RunRecord, note: &mut N) -> Result<(), SinkStop>
     ensures told { IsWritten (concat (spec.report_lines run.now.report)) (N.state note.old) (N.state note.new) result }
     ensures faults { (N.state note.old).faults ≤ (N.state note.new).faults }
+    ensures quiet { OnOk result ((N.state note.new).faults ≡ (N.state note.old).faults) }
 {
     match &run.report {
         Some(report) => write_lines(note, &[hex_line(alloc, "report", report)?]),
@@ -135,6 +142,7 @@ fn tell_report<N: Sink>(alloc: Global, run: &RunRecord, note: &mut N) -> Result<
 pub fn write_lines<N: Sink>(note: &mut N, lines: &[String]) -> Result<(), SinkStop>
     ensures told { IsWritten (concat (map string_bytes lines.now)) (N.state note.old) (N.state note.new) result }
     ensures faults { (N.state note.old).faults ≤ (N.state note.new).faults }
+    ensures quiet { OnOk result ((N.state note.new).faults ≡ (N.state note.old).faults) }
 {
     for line in lines {
         write_line(note, line.as_str())?;
@@ -146,6 +154,7 @@ pub fn write_lines<N: Sink>(note: &mut N, lines: &[String]) -> Result<(), SinkSt
 fn write_line<N: Sink>(note: &mut N, line: &str) -> Result<(), SinkStop>
     ensures told { IsWritten line.now (N.state note.old) (N.state note.new) result }
     ensures faults { (N.state note.old).faults ≤ (N.state note.new).faults }
+    ensures quiet { OnOk result ((N.state note.new).faults ≡ (N.state note.old).faults) }
 {
     write_all(note, line.as_bytes())
 }

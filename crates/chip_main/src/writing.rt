@@ -1,5 +1,5 @@
 // What is written of a program.
-ghost use Rattle.std.specs.Prelude.{◌≡◌, ◌≤◌, IfOk, string_bytes};
+ghost use Rattle.std.specs.Prelude.{◌≡◌, ◌≤◌, IfOk, string_bytes, OnOk};
 ghost use Rattle.sec_base.specs.Sink.{IsWritten};
 ghost use Rattle.chip_main.specs.Texts.{elf_file, measurement_line};
 
@@ -11,6 +11,7 @@ use std::alloc::{AllocError, Global};
 pub fn write_elf_file<O: Sink>(alloc: Global, image: &Image, out: &mut O) -> Result<(), SinkStop>
     ensures told { IsWritten (elf_file image.now) (O.state out.old) (O.state out.new) result }
     ensures faults { (O.state out.old).faults ≤ (O.state out.new).faults }
+    ensures quiet { OnOk result ((O.state out.new).faults ≡ (O.state out.old).faults) }
 {
     let bytes = elf_load::write(alloc, image)?;
     write_all(out, bytes.as_slice())
@@ -20,6 +21,7 @@ pub fn write_elf_file<O: Sink>(alloc: Global, image: &Image, out: &mut O) -> Res
 pub fn write_measurement<O: Sink>(alloc: Global, image: &Image, out: &mut O) -> Result<(), SinkStop>
     ensures told { IsWritten (measurement_line image.now) (O.state out.old) (O.state out.new) result }
     ensures faults { (O.state out.old).faults ≤ (O.state out.new).faults }
+    ensures quiet { OnOk result ((O.state out.new).faults ≡ (O.state out.old).faults) }
 {
     let line = measurement_text(alloc, image)?;
     write_all(out, line.as_bytes())

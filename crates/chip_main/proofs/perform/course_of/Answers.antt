@@ -5,6 +5,7 @@ use Rattle.chip_main.specs.Texts.{elf_file, listing, measurement_line}
 use Rattle.std.proofs.Common.{Ok, refl}
 use Rattle.chip_main.proofs.Courses.{came_refused, came_unread, came_without_memory, writes_of}
 use Rattle.chip_main.proofs.DeviceRuns.{opening_is}
+use Rattle.chip_main.proofs.Faults.{result_ending, result_quiet, result_summed, result_text}
 use Rattle.chip_main.proofs.perform.course_of.Goals as goal
 
 pub returns-in_err-asked-clause-stopped : goal.returns-in_err-asked-clause-stopped
@@ -51,6 +52,7 @@ returns-in_ok-image-in-Plain-clause-came g c =
         write_fault = c.run-run.ensures.write_fault;
         prints = rw (slice, opens) at c.run-run.ensures.prints;
         no_memory = rw (slice, opens) at c.run-run.ensures.no_memory;
+        quiet = c.run-run.ensures.quiet;
         untampered = c.run-run.ensures.untampered;
         unspent = c.run-run.ensures.unspent;
       },
@@ -87,3 +89,29 @@ returns-in_ok-run-in-Bench-clause-came g c =
       runs = c.in_ok-run-in-Bench.ensures.ran;
       written = rw c.as_slice-in-Bench.ensures at c.write_summary-written.ensures.told;
     })
+
+pub returns-in_ok-run-in-Run-clause-quiet : goal.returns-in_ok-run-in-Run-clause-quiet
+returns-in_ok-run-in-Run-clause-quiet g c =
+    let taken = c.in_ok-image-in-Run.ensures.taken in
+    λ is. (c.in_ok-image-in-Run.ensures.quiet, result_quiet (c.in_ok-run-in-Run.ensures.ran taken.0 taken.1) is)
+
+pub returns-in_ok-image-in-Plain-clause-quiet : goal.returns-in_ok-image-in-Plain-clause-quiet
+returns-in_ok-image-in-Plain-clause-quiet g c =
+    λ is. let none = result_ending c.run-run.result.ending is in
+    (c.in_ok-image-in-Plain.ensures.quiet, c.run-run.ensures.quiet none.0 none.1)
+
+pub returns-in_ok-image-in-Asm-clause-quiet : goal.returns-in_ok-image-in-Asm-clause-quiet
+returns-in_ok-image-in-Asm-clause-quiet g c =
+    λ is. (c.in_ok-image-in-Asm.ensures.quiet, result_text c.write_elf_file.result is c.write_elf_file.ensures.quiet)
+
+pub returns-in_ok-image-in-Dis-clause-quiet : goal.returns-in_ok-image-in-Dis-clause-quiet
+returns-in_ok-image-in-Dis-clause-quiet g c =
+    λ is. (c.in_ok-image-in-Dis.ensures.quiet, result_text c.write_listing.result is c.write_listing.ensures.quiet)
+
+pub returns-in_ok-image-in-Measure-clause-quiet : goal.returns-in_ok-image-in-Measure-clause-quiet
+returns-in_ok-image-in-Measure-clause-quiet g c =
+    λ is. (c.in_ok-image-in-Measure.ensures.quiet, result_text c.write_measurement.result is c.write_measurement.ensures.quiet)
+
+pub returns-in_ok-run-in-Bench-clause-quiet : goal.returns-in_ok-run-in-Bench-clause-quiet
+returns-in_ok-run-in-Bench-clause-quiet g c =
+    λ is. (refl, result_summed c.in_ok-run-in-Bench.ensures.ran c.write_summary-written.result is c.write_summary-written.ensures.quiet)
