@@ -1,9 +1,9 @@
 -- The ways of one set, by place.
-use Rattle.std.proofs.Common.{◌≡◌, ◌≢◌, ◌==◌, ◌⊎◌, inl, inr, ℕ, ◌<◌, ◌%◌, List, [], ◌∷◌, ◌++◌, length, Option, Some, None, Bool, true, false, not, cond, IsSome, refl, sym, ◌∙◌, ap, subst, arith}
+use Rattle.std.proofs.Common.{◌≡◌, ◌≢◌, ◌==◌, ◌⊎◌, inl, inr, ℕ, ◌<◌, ◌≤◌, ◌%◌, List, [], ◌∷◌, ◌++◌, length, Option, Some, None, Bool, true, false, not, cond, IsSome, refl, sym, ◌∙◌, ap, subst, arith}
 use Rattle.std.specs.List.{AllByRecursion}
 use Rattle.std.proofs.lemmas.Bool.Decides.{nat_tests}
 use Rattle.cache_set.specs.declared.way.Way.{Way}
-use Rattle.cache_set.specs.CacheSet.{IsSet, latest_place, touched, way_of, with_found, with_latest, without}
+use Rattle.cache_set.specs.CacheSet.{IsSet, exchanged, in_order, latest_place, touched, way_of, with_found, with_latest, without}
 use Rattle.cache_set.specs.Cache.{AreWays}
 
 -- a way that is found has the place
@@ -148,3 +148,64 @@ room_without place [] h s = omega arith
 room_without place (a ∷ []) h s = elim (a.place == place) as (λ t. length (cond (not t) (a ∷ []) []) < 2) [ true ↦ omega arith | false ↦ omega arith ]
 room_without place (a ∷ b ∷ []) h s = room_left a b (a.place == place) (b.place == place) s
 room_without place (a ∷ b ∷ c ∷ ways) h s = absurd h
+
+none_of : {A : Type 0} (found : Option A) → ¬ IsSome found → found ≡ None
+none_of None n = refl
+none_of (Some a) n = absurd (n refl)
+
+-- ---- ways that may be swapped
+
+-- one way is in order anyhow
+pub few_in_order : (swapped : Bool) (ways : List Way) → length (in_order swapped ways) < 2 → in_order swapped ways ≡ ways
+few_in_order false ways few = refl
+few_in_order true [] few = refl
+few_in_order true (a ∷ []) few = refl
+few_in_order true (a ∷ b ∷ ways) few = absurd (omega (arith, few))
+
+left_in_order : (a b : Way) (s t : Bool) → exchanged (cond (not s) (a ∷ cond (not t) (b ∷ []) []) (cond (not t) (b ∷ []) [])) ≡ cond (not t) (b ∷ cond (not s) (a ∷ []) []) (cond (not s) (a ∷ []) [])
+left_in_order a b true true = refl
+left_in_order a b true false = refl
+left_in_order a b false true = refl
+left_in_order a b false false = refl
+
+-- what is left of two ways keeps its order
+pub without_in_order : (swapped : Bool) (place : ℕ) (ways : List Way) → IsSet (in_order swapped ways) → in_order swapped (without place ways) ≡ without place (in_order swapped ways)
+without_in_order false place ways few = refl
+without_in_order true place [] few = refl
+without_in_order true place (a ∷ []) few = elim (a.place == place) as (λ s. exchanged (cond (not s) (a ∷ []) []) ≡ cond (not s) (a ∷ []) []) [ true ↦ refl | false ↦ refl ]
+without_in_order true place (a ∷ b ∷ []) few = left_in_order a b (a.place == place) (b.place == place)
+without_in_order true place (a ∷ b ∷ c ∷ ways) few = absurd few
+
+-- a set is one in either order
+pub set_in_order : (swapped : Bool) (ways : List Way) → IsSet (in_order swapped ways) → IsSet ways
+set_in_order false ways h = h
+set_in_order true [] h = tt
+set_in_order true (a ∷ []) h = tt
+set_in_order true (a ∷ b ∷ []) h = λ e. h (sym e)
+set_in_order true (a ∷ b ∷ c ∷ ways) h = absurd h
+
+found_either : (a b : Way) (place : ℕ) → a.place ≢ b.place → way_of place (a ∷ b ∷ []) ≡ way_of place (b ∷ a ∷ [])
+found_either a b place h = grind (arith, nat_tests)
+
+-- and has the way of a place
+pub found_in_order : (swapped : Bool) (ways : List Way) (place : ℕ) → IsSet ways → way_of place (in_order swapped ways) ≡ way_of place ways
+found_in_order false ways place h = refl
+found_in_order true [] place h = refl
+found_in_order true (a ∷ []) place h = refl
+found_in_order true (a ∷ b ∷ []) place h = found_either b a place (λ e. h (sym e))
+found_in_order true (a ∷ b ∷ c ∷ ways) place h = absurd h
+
+touched_either : (a b : Way) (place : ℕ) → a.place ≢ b.place → IsSome (way_of place (a ∷ b ∷ [])) → touched place (b ∷ a ∷ []) ≡ touched place (a ∷ b ∷ [])
+touched_either a b place h s = grind (arith, nat_tests)
+
+-- after a touch the order is as it was made
+pub touched_in_order : (swapped : Bool) (ways : List Way) (place : ℕ) → IsSet ways → IsSome (way_of place ways) → touched place (in_order swapped ways) ≡ touched place ways
+touched_in_order false ways place h s = refl
+touched_in_order true [] place h s = refl
+touched_in_order true (a ∷ []) place h s = refl
+touched_in_order true (a ∷ b ∷ []) place h s = touched_either a b place h s
+touched_in_order true (a ∷ b ∷ c ∷ ways) place h s = absurd h
+
+-- a place without a way leaves them
+pub absent_in_order : (swapped : Bool) (ways : List Way) (place : ℕ) → IsSet ways → ¬ IsSome (way_of place ways) → touched place (in_order swapped ways) ≡ in_order swapped ways
+absent_in_order swapped ways place h n = ap (λ found. with_found found (in_order swapped ways)) (found_in_order swapped ways place h ∙ none_of (way_of place ways) n)

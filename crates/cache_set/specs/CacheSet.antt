@@ -1,5 +1,5 @@
 -- One set of a cache: its ways, the least recently used first.
-use Rattle.std.specs.Prelude.{◌≢◌, ◌==◌, ℕ, ◌<◌, List, [], ◌∷◌, ◌++◌, length, Option, Some, None, not, if◌then◌else◌}
+use Rattle.std.specs.Prelude.{◌≢◌, ◌==◌, Bool, ℕ, ◌<◌, List, [], ◌∷◌, ◌++◌, length, Option, Some, None, not, if◌then◌else◌}
 use Rattle.std.specs.List.{filter}
 use Rattle.std.specs.Option.{option_map}
 use Rattle.cache_set.specs.declared.way.Way.{Way}
@@ -11,6 +11,16 @@ way_of place (way ∷ ways) = if way.place == place then Some way else way_of pl
 
 abbrev pub copy_of : ℕ → List Way → Option (List ℕ)
 copy_of place ways = option_map (λ way. way.copy) (way_of place ways)
+
+-- the first two in the other order
+abbrev pub exchanged : List Way → List Way
+exchanged [] = []
+exchanged (way ∷ []) = way ∷ []
+exchanged (way ∷ next ∷ ways) = next ∷ way ∷ ways
+
+-- the ways, the least recently used first, of those that may be swapped
+abbrev pub in_order : Bool → List Way → List Way
+in_order swapped ways = if swapped then exchanged ways else ways
 
 -- the ways of the other places
 abbrev pub without : ℕ → List Way → List Way

@@ -1,24 +1,27 @@
 // One set of a cache.
-ghost use Rattle.std.specs.Prelude.{true, false, ◌≡◌, ◌<◌, ◌↔◌, [], ◌∷◌, ◌++◌, Some, None, length, IsTrue, IsSome};
-ghost use Rattle.cache_set.specs.CacheSet.{IsSet, HasRoom, copy_of, latest_place, touched, victim, way_of, with_latest, without};
+ghost use Rattle.std.specs.Prelude.{true, false, ◌≡◌, ◌==◌, ◌+◌, ◌-◌, ◌<◌, ◌↔◌, [], ◌∷◌, ◌++◌, Some, None, length, not, if◌then◌else◌, IfSome, IsTrue, IsSome};
+ghost use Rattle.cache_set.specs.CacheSet.{IsSet, HasRoom, copy_of, in_order, latest_place, touched, victim, way_of, with_latest, without};
 
 use crate::way::Way;
 use arrayvec::ArrayVec;
 use std::marker::Model;
 
-// The ways of a set, the least recently used first. A contract sees the list.
+// The ways of a set, which never move: where they are swapped, the first of two is the most recently used one. A
+// contract sees the list of the ways, the least recently used first.
 #[derive(Drop)]
 pub(crate) struct CacheSet {
     ways: ArrayVec<Way, 2>,
+    swapped: bool,
 }
 
 impl Model for CacheSet {
     ghost use Rattle.std.specs.Prelude.{List};
     ghost use Rattle.cache_set.specs.declared.way.Way.{Way};
+    ghost use Rattle.cache_set.specs.CacheSet.{in_order};
 
     ghost Value = { List Way };
 
-    ghost view = { λ set. set.ways.items };
+    ghost view = { λ set. in_order set.swapped set.ways.items };
 }
 
 impl CacheSet {
@@ -27,6 +30,7 @@ impl CacheSet {
     {
         CacheSet {
             ways: ArrayVec::new(),
+            swapped: false,
         }
     }
 
@@ -42,7 +46,7 @@ impl CacheSet {
         requires { IsSet self.now }
         ensures { IsTrue result ↔ IsSome (way_of place self.now) }
     {
-        has_place(self.ways.as_slice(), place)
+        position(self.ways.as_slice(), place).is_some()
     }
 
     // Whether a place has a way, which is the most recently used one then.
@@ -51,7 +55,13 @@ impl CacheSet {
         ensures held { IsTrue result ↔ IsSome (way_of place self.old) }
         ensures after { self.new ≡ touched place self.old }
     {
-        touch_way(self.ways.as_mut_slice(), place)
+        match position(self.ways.as_slice(), place) {
+            Some(index) => {
+                self.swapped = index + 1 != self.ways.len();
+                true
+            }
+            None => false,
+        }
     }
 
     // The copy of the most recently used way, which is that of a place.
@@ -60,7 +70,7 @@ impl CacheSet {
         requires latest { latest_place self.now ≡ Some place }
         ensures { copy_of place self.now ≡ Some result.now }
     {
-        latest_copy(self.ways.as_slice(), place)
+        latest_copy(self.ways.as_slice(), self.swapped, place)
     }
 
     // Puts another copy in the most recently used way, which is that of a place, and marks it.
@@ -69,7 +79,7 @@ impl CacheSet {
         requires latest { latest_place self.old ≡ Some place }
         ensures { self.new ≡ with_latest (record { place = place; changed = true; copy = copy }) self.old }
     {
-        change_latest(self.ways.as_mut_slice(), place, copy);
+        change_latest(self.ways.as_mut_slice(), self.swapped, place, copy);
     }
 
     // The least recently used of two ways.
@@ -77,7 +87,7 @@ impl CacheSet {
         requires { IsSet self.now }
         ensures { result ≡ victim self.now }
     {
-        first_of_two(self.ways.as_slice())
+        least_recent(self.ways.as_slice(), self.swapped)
     }
 
     // A new way, which is not changed, becomes the most recently used one.
@@ -91,70 +101,72 @@ impl CacheSet {
             changed: false,
             copy,
         });
+        self.swapped = false;
     }
 
     // A place loses its way.
     pub(crate) fn remove(&mut self, place: u32)
+        requires { IsSet self.old }
         ensures { self.new ≡ without place self.old }
     {
         self.ways.retain(|way| way.place != place);
     }
 }
 
-fn has_place(ways: &[Way], place: u32) -> bool
+// Which way a place has.
+fn position(ways: &[Way], place: u32) -> Option<usize>
     requires { IsSet ways.now }
-    ensures { IsTrue result ↔ IsSome (way_of place ways.now) }
+    ensures held { IsSome result ↔ IsSome (way_of place ways.now) }
+    ensures few { IfSome result (λ index. index < 2) }
+    ensures last { IfSome result (λ index. touched place ways.now ≡ in_order (not (index + 1 == length ways.now)) ways.now) }
 {
-    (!ways.is_empty() && ways[0].place == place) || (ways.len() > 1 && ways[1].place == place)
+    if !ways.is_empty() && ways[0].place == place {
+        return Some(0);
+    }
+    if ways.len() > 1 && ways[1].place == place {
+        return Some(1);
+    }
+    None
 }
 
-fn touch_way(ways: &mut [Way], place: u32) -> bool
-    requires { IsSet ways.old }
-    ensures held { IsTrue result ↔ IsSome (way_of place ways.old) }
-    ensures after { ways.new ≡ touched place ways.old }
-{
-    if ways.is_empty() {
-        return false;
-    }
-    let last = ways.len() - 1;
-    if ways[last].place == place {
-        return true;
-    }
-    if last == 0 || ways[0].place != place {
-        return false;
-    }
-    ways.swap(0, 1);
-    true
-}
-
-fn latest_copy(ways: &[Way], place: u32) -> &[u8; 64]
-    requires apart { IsSet ways.now }
-    requires latest { latest_place ways.now ≡ Some place }
-    ensures { copy_of place ways.now ≡ Some result.now }
+// The copy of the most recently used way.
+fn latest_copy(ways: &[Way], swapped: bool, place: u32) -> &[u8; 64]
+    requires apart { IsSet (in_order swapped ways.now) }
+    requires latest { latest_place (in_order swapped ways.now) ≡ Some place }
+    ensures { copy_of place (in_order swapped ways.now) ≡ Some result.now }
 {
     let _ = place;
-    &ways[ways.len() - 1].copy
+    &ways[latest_index(ways.len(), swapped)].copy
 }
 
-fn change_latest(ways: &mut [Way], place: u32, copy: [u8; 64])
-    requires apart { IsSet ways.old }
-    requires latest { latest_place ways.old ≡ Some place }
-    ensures { ways.new ≡ with_latest (record { place = place; changed = true; copy = copy }) ways.old }
+fn change_latest(ways: &mut [Way], swapped: bool, place: u32, copy: [u8; 64])
+    requires apart { IsSet (in_order swapped ways.old) }
+    requires latest { latest_place (in_order swapped ways.old) ≡ Some place }
+    ensures { in_order swapped ways.new ≡ with_latest (record { place = place; changed = true; copy = copy }) (in_order swapped ways.old) }
 {
-    let last = ways.len() - 1;
-    ways[last] = Way {
+    let latest = latest_index(ways.len(), swapped);
+    ways[latest] = Way {
         place,
         changed: true,
         copy,
     };
 }
 
-fn first_of_two(ways: &[Way]) -> Option<Way>
-    requires { IsSet ways.now }
-    ensures { result ≡ victim ways.now }
+// Which of so many ways is the most recently used one.
+fn latest_index(count: usize, swapped: bool) -> usize
+    requires { 0 < count }
+    ensures { result ≡ (if swapped then 0 else count - 1) }
+{
+    if swapped { 0 } else { count - 1 }
+}
+
+// The least recently used of two ways.
+fn least_recent(ways: &[Way], swapped: bool) -> Option<Way>
+    requires { IsSet (in_order swapped ways.now) }
+    ensures { result ≡ victim (in_order swapped ways.now) }
 {
     if ways.len() < 2 {
         return None;
     }
-    Some(ways[0])
+    Some(ways[usize::from(swapped)])
 }

@@ -303,16 +303,15 @@ fn out_of_memory_a_line_is_written_in_part(rt: HostRuntime) -> Result<(), Fail> 
     Ok(())
 }
 
-// What is held is neither sought outside nor written there: the bit that the bus flips at the line's first read shows only
-// once the line has gone out and comes in again.
+// Only the first call makes accesses: it reads the path of a line that was never written.
 #[test]
-fn an_attack_on_a_held_line_waits(rt: HostRuntime) -> Result<(), Fail> {
+fn a_line_that_is_held_makes_no_access(rt: HostRuntime) -> Result<(), Fail> {
     let mut counted = Counted::new(rt.alloc(), 1, 0)?.ok_or("no memory")?;
     assert_eq!(rt; counted.memory.store(320, Width::Four, 1), Ok(()));
-    for value in 0..1000u32 {
-        assert_eq!(rt; counted.memory.store(320, Width::Four, value), Ok(()));
-        assert_eq!(rt; counted.load(), Ok(value));
-    }
+    assert_eq!(rt; counted.load(), Ok(1));
+    assert_eq!(rt; counted.memory.store(320, Width::Four, 2), Ok(()));
+    assert_eq!(rt; counted.memory.store(320, Width::Four, 3), Ok(()));
+    assert_eq!(rt; counted.load(), Ok(3));
     let Counted { memory } = counted;
     let (account, bus) = memory.finish();
     assert_eq!(rt; bus.asked(), 5 + 2);
