@@ -1,5 +1,5 @@
 -- The sizes of the memories that there are.
-use Rattle.std.proofs.Common.{ℕ, zero, suc, ◌≤◌, ◌^◌, refl, arith}
+use Rattle.std.proofs.Common.{◌≡◌, ◌*◌, ◌%◌, ℕ, zero, suc, ◌≤◌, ◌^◌, refl, arith}
 use Rattle.std.proofs.Math.Nat.{pow-le-pow_right}
 use Rattle.sec_base.specs.Geometry.{memory_size, IsMemorySize, line_count}
 use Rattle.sec_base.specs.Lines.{IsLineCount}
@@ -29,3 +29,36 @@ some_lines (suc (suc (suc (suc zero)))) low high = refl
 some_lines (suc (suc (suc (suc (suc zero))))) low high = refl
 some_lines (suc (suc (suc (suc (suc (suc zero)))))) low high = refl
 some_lines (suc (suc (suc (suc (suc (suc (suc levels))))))) low high = absurd (omega arith)
+
+-- a shift by two bits a level gives the pages
+pub pages_shifted : (levels : ℕ) → levels ≤ 6 → 1 * 2 ^ (2 * levels) % 4294967296 ≡ 4 ^ levels
+pages_shifted zero h = refl
+pages_shifted (suc zero) h = refl
+pages_shifted (suc (suc zero)) h = refl
+pages_shifted (suc (suc (suc zero))) h = refl
+pages_shifted (suc (suc (suc (suc zero)))) h = refl
+pages_shifted (suc (suc (suc (suc (suc zero))))) h = refl
+pages_shifted (suc (suc (suc (suc (suc (suc zero)))))) h = refl
+pages_shifted (suc (suc (suc (suc (suc (suc (suc levels))))))) h = absurd (omega (arith, h))
+
+-- the lines
+pub lines_shifted : (levels : ℕ) → levels ≤ 6 → 64 * 2 ^ (2 * levels) % 4294967296 ≡ 64 * 4 ^ levels
+lines_shifted zero h = refl
+lines_shifted (suc zero) h = refl
+lines_shifted (suc (suc zero)) h = refl
+lines_shifted (suc (suc (suc zero))) h = refl
+lines_shifted (suc (suc (suc (suc zero)))) h = refl
+lines_shifted (suc (suc (suc (suc (suc zero))))) h = refl
+lines_shifted (suc (suc (suc (suc (suc (suc zero)))))) h = refl
+lines_shifted (suc (suc (suc (suc (suc (suc (suc levels))))))) h = absurd (omega (arith, h))
+
+-- and the bytes
+pub size_shifted : (levels : ℕ) → levels ≤ 6 → 4096 * 2 ^ (2 * levels) % 4294967296 ≡ 4096 * 4 ^ levels
+size_shifted zero h = refl
+size_shifted (suc zero) h = refl
+size_shifted (suc (suc zero)) h = refl
+size_shifted (suc (suc (suc zero))) h = refl
+size_shifted (suc (suc (suc (suc zero)))) h = refl
+size_shifted (suc (suc (suc (suc (suc zero))))) h = refl
+size_shifted (suc (suc (suc (suc (suc (suc zero)))))) h = refl
+size_shifted (suc (suc (suc (suc (suc (suc (suc levels))))))) h = absurd (omega (arith, h))

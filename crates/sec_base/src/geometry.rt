@@ -60,33 +60,33 @@ impl Geometry {
     }
 
     /// The number of pages, 4 ^ levels.
-    #[tactic(auto, using(crate::proofs::Geometries::few_pages))]
+    #[tactic(auto, using(crate::proofs::Geometries::few_pages, crate::proofs::Geometries::pages_shifted))]
     pub fn pages(&self) -> u32
         ensures pages { result ≡ page_count self.now }
         ensures number { result ≡ 4 ^ self.now }
         ensures most { result ≤ 4096 }
     {
-        ARITY.pow(u32::from(self.levels))
+        1 << (2 * self.levels)
     }
 
     /// The number of lines of 64 bytes, 64 a page.
-    #[tactic(auto, using(crate::proofs::Geometries::few_pages))]
+    #[tactic(auto, using(crate::proofs::Geometries::lines_shifted))]
     pub fn lines(&self) -> u32
         ensures lines { result ≡ line_count self.now }
         ensures number { result ≡ 64 * 4 ^ self.now }
         ensures some_memory { IsLineCount result }
     {
-        LINES_PER_PAGE * ARITY.pow(u32::from(self.levels))
+        LINES_PER_PAGE << (2 * self.levels)
     }
 
     /// The memory's size in bytes.
-    #[tactic(auto, using(crate::proofs::Geometries::few_pages))]
+    #[tactic(auto, using(crate::proofs::Geometries::size_shifted))]
     pub fn size(&self) -> u32
         ensures size { result ≡ memory_size self.now }
         ensures number { result ≡ 4096 * 4 ^ self.now }
         ensures some_size { IsMemorySize result }
     {
-        PAGE_LEN * ARITY.pow(u32::from(self.levels))
+        PAGE_LEN << (2 * self.levels)
     }
 
     /// Whether the place is one of this memory.

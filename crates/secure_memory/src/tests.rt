@@ -1,5 +1,5 @@
 // The memory over a bus that tells the truth and over one that does not.
-ghost use Rattle.std.specs.Prelude.{◌≡◌, ◌*◌, ◌≤◌, IfOk};
+ghost use Rattle.std.specs.Prelude.{◌≡◌, ◌+◌, ◌*◌, ◌≤◌, IfOk};
 ghost use Rattle.bus_model.specs.BusHistory.{new_history};
 ghost use Rattle.secure_memory.specs.SecureRam.{lines_of};
 
