@@ -28,10 +28,10 @@ const EXIT_WITH_FIRST: [u32; 4] = [0x0000_12b7, 0x0002_a503, 0x05d0_0893, 0x0000
 
 const EXIT_WITH_SECOND: [u32; 4] = [0x0000_12b7, 0x0042_a503, 0x05d0_0893, 0x0000_0073];
 
-// Prints the 8 bytes from 0x103c on, and exits with 8.
+// Prints the 8 bytes from 0xffc on, and exits with 8.
 const PRINT_8: [u32; 8] = [
     0x0000_15b7,
-    0x03c5_8593,
+    0xffc5_8593,
     0x0010_0513,
     0x0080_0613,
     0x0400_0893,
@@ -233,7 +233,7 @@ fn a_program_prints_in_pieces(rt: HostRuntime) -> Result<(), Fail> {
         let done = outcome(
             alloc,
             &PRINT_8,
-            (0x103c, b"ABCDEFGH"),
+            (0x0ffc, b"ABCDEFGH"),
             (0x2000, &[]),
             99,
             &mut out,
@@ -245,19 +245,20 @@ fn a_program_prints_in_pieces(rt: HostRuntime) -> Result<(), Fail> {
     Ok(())
 }
 
-// The first piece is written as soon as it is loaded, before the line of the second one is read.
+// The first piece is written as soon as it is loaded, before the line of the second one is read: lines 0, 64 and 128 share
+// a set, so line 0 goes out for line 128 while the program is stored, and line 64 for line 0 at the first fetch.
 #[test]
 fn a_program_prints_what_it_loaded_before_tampering(rt: HostRuntime) -> Result<(), Fail> {
     let alloc = rt.alloc();
-    let image = image(alloc, &PRINT_8, (0x103c, b"ABCDEFGH"), (0x2000, &[]))?;
+    let image = image(alloc, &PRINT_8, (0x0ffc, b"ABCDEFGH"), (0x2000, &[]))?;
     let geometry = Geometry::new(1).ok_or("no geometry")?;
     let setup = setup(geometry, 99, u64::MAX);
     let tagger = HmacTagger::new(&setup.keys);
-    let bus = FlipBus::new(alloc, geometry, Place::Line(65), 1, 0, 1)?;
+    let bus = FlipBus::new(alloc, geometry, LINE_64, 1, 0, 1)?;
     let mut out = MemorySink::new(alloc, &[])?;
     let (done, bus) = run(alloc, &image, &[], &setup, tagger, bus, &mut out);
     assert_eq!(rt; out.bytes(), b"ABCD".as_slice());
-    assert_eq!(rt; done.ending, Ending::Tampered(Place::Line(65)));
+    assert_eq!(rt; done.ending, Ending::Tampered(LINE_64));
     assert_eq!(rt; done.retired, 5);
     assert_eq!(rt; bus.lies(), 1);
     Ok(())
@@ -297,13 +298,61 @@ const EXIT_65: [u32; 6] = [
     0x0000_0073,
 ];
 
-// Stores 65 at 0x1000 twice, loads it, and exits with it.
-const EXIT_65_AGAIN: [u32; 7] = [
+// The code of the next four programs is line 0, which is in one set with lines 64 and 128. It is used last at each
+// fetch, so a load of line 128 evicts line 64.
+
+// Stores 65 in line 64, loads from line 128, loads line 64 again, and exits with it.
+const EXIT_WITH_65_AGAIN: [u32; 8] = [
     0x0000_12b7,
+    0x0000_23b7,
     0x0410_0313,
     0x0062_a023,
-    0x0062_a023,
+    0x0003_ae03,
     0x0002_a503,
+    0x05d0_0893,
+    0x0000_0073,
+];
+
+// The same, but the store and the load from line 128 are done twice.
+const STORE_65_TWICE: [u32; 10] = [
+    0x0000_12b7,
+    0x0000_23b7,
+    0x0410_0313,
+    0x0062_a023,
+    0x0003_ae03,
+    0x0062_a023,
+    0x0003_ae03,
+    0x0002_a503,
+    0x05d0_0893,
+    0x0000_0073,
+];
+
+// Stores 65 in line 64, prints that byte, loads from line 128, prints the byte again, and exits with 1.
+const PRINT_A_AGAIN: [u32; 13] = [
+    0x0000_12b7,
+    0x0000_23b7,
+    0x0410_0313,
+    0x0062_a023,
+    0x0010_0513,
+    0x0002_8593,
+    0x0010_0613,
+    0x0400_0893,
+    0x0000_0073,
+    0x0003_ae03,
+    0x0000_0073,
+    0x05d0_0893,
+    0x0000_0073,
+];
+
+// Stores 200, 199, and so on to 1 in line 64, with a load from line 128 behind each store, and exits with 0.
+const WEAR_LINE_64: [u32; 9] = [
+    0x0000_12b7,
+    0x0000_23b7,
+    0x0c80_0313,
+    0x0062_a023,
+    0x0003_ae03,
+    0xfff3_0313,
+    0xfe03_1ae3,
     0x05d0_0893,
     0x0000_0073,
 ];
@@ -439,45 +488,58 @@ fn a_program_prints_over_an_honest_bus(rt: HostRuntime) -> Result<(), Fail> {
     Ok(())
 }
 
-// The five nodes of the tree are tagged first. Then six words of the program are stored in line 0 and 65 in line 64: each
-// store tags the page's counters, the node above them and the line.
+// Lines 0 and 64 are stored into, and neither leaves the chip. So only boot tags.
+#[test]
+fn what_is_held_is_not_tagged(rt: HostRuntime) -> Result<(), Fail> {
+    let mut out = MemorySink::new(rt.alloc(), &[])?;
+    let (done, outside) = honest(rt.alloc(), &EXIT_65, u64::MAX, &mut out)?;
+    assert_eq!(rt; done.ending, Ending::Halted(65));
+    assert_eq!(rt; done.retired, 6);
+    assert_eq!(rt; done.made.len(), 5);
+    assert_eq!(rt; done.used.len(), 0);
+    assert_eq!(rt; outside, [0; 64]);
+    Ok(())
+}
+
+// The five nodes of the tree are tagged first. Then line 64 goes out twice, and each time its page's counters, the node
+// above them and the line are tagged. Line 0 has the code, and stays; line 128 goes out unchanged.
 #[test]
 fn each_write_is_tagged(rt: HostRuntime) -> Result<(), Fail> {
     let mut out = MemorySink::new(rt.alloc(), &[])?;
-    let (done, _) = honest(rt.alloc(), &EXIT_65, u64::MAX, &mut out)?;
+    let (done, _) = honest(rt.alloc(), &STORE_65_TWICE, u64::MAX, &mut out)?;
     assert_eq!(rt; done.ending, Ending::Halted(65));
-    assert_eq!(rt; done.retired, 6);
+    assert_eq!(rt; done.retired, 10);
     assert_eq!(rt; done.evidence, None);
-    assert_eq!(rt; done.made.len(), 5 + 7 * 3);
-    for at in 0..5u8 {
-        let Some(Message::Node { level, index, .. }) = done.made.get(u64::from(at)) else {
+    let nodes = [
+        (0, (0, 0)),
+        (1, (0, 1)),
+        (2, (0, 2)),
+        (3, (0, 3)),
+        (4, (1, 0)),
+        (5, (0, 1)),
+        (6, (1, 0)),
+        (8, (0, 1)),
+        (9, (1, 0)),
+    ];
+    for (at, node) in nodes {
+        let Some(Message::Node { level, index, .. }) = done.made.get(at) else {
             return Err(Fail::from("no message of a node"));
         };
-        let wanted = if at < 4 { (0, u32::from(at)) } else { (1, 0) };
-        assert_eq!(rt; (level, index), wanted, "message {at}");
+        assert_eq!(rt; (level, index), node, "message {at}");
     }
-    for at in 0..6u8 {
-        let first = 5 + 3 * u64::from(at);
-        let Some(Message::Node { level, index, .. }) = done.made.get(first) else {
-            return Err(Fail::from("no message of a page"));
-        };
-        assert_eq!(rt; (level, index), (0, 0), "message {first}");
-        let Some(Message::Node { level, index, .. }) = done.made.get(first + 1) else {
-            return Err(Fail::from("no message of the top node"));
-        };
-        assert_eq!(rt; (level, index), (1, 0), "behind message {first}");
-        let Some(Message::Line { line, counter, .. }) = done.made.get(first + 2) else {
-            return Err(Fail::from("no message of a line"));
-        };
-        assert_eq!(rt; line, 0, "two behind message {first}");
-        assert_eq!(rt; counter, written(at + 1), "two behind message {first}");
-    }
-    let last = Message::Line {
+    let first = Message::Line {
         line: 64,
         counter: written(1),
         cipher: CIPHER_65,
     };
-    assert_eq!(rt; done.made.get(25), Some(last));
+    assert_eq!(rt; done.made.get(7), Some(first));
+    let second = Message::Line {
+        line: 64,
+        counter: written(2),
+        cipher: CIPHER_65_AGAIN,
+    };
+    assert_eq!(rt; done.made.get(10), Some(second));
+    assert_eq!(rt; done.made.len(), 11);
     Ok(())
 }
 
@@ -485,29 +547,20 @@ fn each_write_is_tagged(rt: HostRuntime) -> Result<(), Fail> {
 #[test]
 fn each_encryption_is_listed(rt: HostRuntime) -> Result<(), Fail> {
     let mut out = MemorySink::new(rt.alloc(), &[])?;
-    let (done, _) = honest(rt.alloc(), &EXIT_65, u64::MAX, &mut out)?;
-    let wanted = [
-        (0, written(1)),
-        (0, written(2)),
-        (0, written(3)),
-        (0, written(4)),
-        (0, written(5)),
-        (0, written(6)),
-        (64, written(1)),
-    ];
-    assert_eq!(rt; done.used.as_slice(), wanted.as_slice());
+    let (done, _) = honest(rt.alloc(), &EXIT_WITH_65_AGAIN, u64::MAX, &mut out)?;
+    assert_eq!(rt; done.used.as_slice(), [(64, written(1))].as_slice());
     Ok(())
 }
 
 #[test]
 fn equal_bytes_are_enciphered_anew_by_each_write(rt: HostRuntime) -> Result<(), Fail> {
     let mut out = MemorySink::new(rt.alloc(), &[])?;
-    let (_, once) = honest(rt.alloc(), &EXIT_65, u64::MAX, &mut out)?;
-    let (done, twice) = honest(rt.alloc(), &EXIT_65_AGAIN, u64::MAX, &mut out)?;
+    let (_, once) = honest(rt.alloc(), &EXIT_WITH_65_AGAIN, u64::MAX, &mut out)?;
+    let (done, twice) = honest(rt.alloc(), &STORE_65_TWICE, u64::MAX, &mut out)?;
     assert_eq!(rt; done.ending, Ending::Halted(65));
-    assert_eq!(rt; done.used.get(7), Some((64, written(1))));
-    assert_eq!(rt; done.used.get(8), Some((64, written(2))));
-    assert_eq!(rt; done.used.len(), 9);
+    assert_eq!(rt; done.used.get(0), Some((64, written(1))));
+    assert_eq!(rt; done.used.get(1), Some((64, written(2))));
+    assert_eq!(rt; done.used.len(), 2);
     assert!(rt; once != twice);
     assert_eq!(rt; once, CIPHER_65);
     assert_eq!(rt; twice, CIPHER_65_AGAIN);
@@ -516,24 +569,41 @@ fn equal_bytes_are_enciphered_anew_by_each_write(rt: HostRuntime) -> Result<(), 
 
 #[test]
 fn a_false_answer_that_fails_its_check_ends_the_run(rt: HostRuntime) -> Result<(), Fail> {
-    let (done, lies) = flipped(rt.alloc(), &EXIT_65, LINE_64, 1, HmacTagger::new(&keys()))?;
+    let tagger = HmacTagger::new(&keys());
+    let (done, lies) = flipped(rt.alloc(), &EXIT_WITH_65_AGAIN, LINE_64, 1, tagger)?;
     assert_eq!(rt; done.ending, Ending::Tampered(LINE_64));
-    assert_eq!(rt; done.retired, 3);
+    assert_eq!(rt; done.retired, 5);
     assert_eq!(rt; done.evidence, None);
     assert_eq!(rt; lies, 1);
     Ok(())
 }
 
-// The second store of line 64 reads what the first one wrote, and the load reads it once more.
+// The second store of line 64 reads what went out after the first one, and the load reads it once more. That is all: a
+// third read would be false, and there is none.
 #[test]
-fn a_line_is_read_by_each_access(rt: HostRuntime) -> Result<(), Fail> {
-    for (k, retired) in [(1, 3), (2, 4)] {
+fn a_line_is_read_as_it_comes_in(rt: HostRuntime) -> Result<(), Fail> {
+    let rows = [
+        (1, Ending::Tampered(LINE_64), 5, 1),
+        (2, Ending::Tampered(LINE_64), 7, 1),
+        (3, Ending::Halted(65), 10, 0),
+    ];
+    for (k, ending, retired, false_answers) in rows {
         let tagger = HmacTagger::new(&keys());
-        let (done, lies) = flipped(rt.alloc(), &EXIT_65_AGAIN, LINE_64, k, tagger)?;
-        assert_eq!(rt; done.ending, Ending::Tampered(LINE_64), "read {k}");
+        let (done, lies) = flipped(rt.alloc(), &STORE_65_TWICE, LINE_64, k, tagger)?;
+        assert_eq!(rt; done.ending, ending, "read {k}");
         assert_eq!(rt; done.retired, retired, "read {k}");
-        assert_eq!(rt; lies, 1, "read {k}");
+        assert_eq!(rt; lies, false_answers, "read {k}");
     }
+    Ok(())
+}
+
+// The load finds the line that was stored into on the chip: its place is not read.
+#[test]
+fn a_line_that_is_held_is_not_read(rt: HostRuntime) -> Result<(), Fail> {
+    let (done, lies) = flipped(rt.alloc(), &EXIT_65, LINE_64, 1, HmacTagger::new(&keys()))?;
+    assert_eq!(rt; done.ending, Ending::Halted(65));
+    assert_eq!(rt; done.retired, 6);
+    assert_eq!(rt; lies, 0);
     Ok(())
 }
 
@@ -556,9 +626,9 @@ fn lines_past_what_a_chip_may_hold_are_read_again(rt: HostRuntime) -> Result<(),
 
 #[test]
 fn a_false_answer_that_passes_its_check_is_shown(rt: HostRuntime) -> Result<(), Fail> {
-    let (done, lies) = flipped(rt.alloc(), &EXIT_65, LINE_64, 1, Zeros)?;
+    let (done, lies) = flipped(rt.alloc(), &EXIT_WITH_65_AGAIN, LINE_64, 1, Zeros)?;
     assert_eq!(rt; done.ending, Ending::Halted(64));
-    assert_eq!(rt; done.retired, 6);
+    assert_eq!(rt; done.retired, 8);
     let mut cipher = CIPHER_65;
     cipher[0] ^= 1;
     let shown = Evidence::Forgery {
@@ -568,7 +638,7 @@ fn a_false_answer_that_passes_its_check_is_shown(rt: HostRuntime) -> Result<(), 
             cipher,
             tag: [0; 16],
         },
-        made_count: 5 + 7 * 3,
+        made_count: 5 + 3,
     };
     assert_eq!(rt; done.evidence, Some(shown));
     assert_eq!(rt; lies, 1);
@@ -587,24 +657,38 @@ const COUNT_DOWN: [u32; 8] = [
     0x0000_0073,
 ];
 
-// Line 0 is written eight times before the first instruction. The 128th store encrypts the page of line 64, and 72 more
-// follow; or it is refused, and 127 stores are done. Each store that is done tags two nodes.
+// Line 64 goes out behind each store. The 128th write encrypts its page, and 72 more follow; or it is refused while line 128
+// is loaded, and 127 are done. Each write that is done tags two nodes.
 #[test]
 fn a_line_is_written_as_often_as_the_limit_allows(rt: HostRuntime) -> Result<(), Fail> {
     let rows = [
-        (0, 384, Ending::Spent(1), 8 + 127, 8 + 127),
-        (1, 605, Ending::Halted(0), 8 + 127 + 64 + 72, 8 + 200),
-        (u64::MAX, 605, Ending::Halted(0), 8 + 127 + 64 + 72, 8 + 200),
+        (0, 512, Ending::Spent(1), 127, 127),
+        (1, 805, Ending::Halted(0), 127 + 64 + 72, 200),
+        (u64::MAX, 805, Ending::Halted(0), 127 + 64 + 72, 200),
     ];
-    for (page_limit, retired, ending, entries, stores) in rows {
+    for (page_limit, retired, ending, entries, writes) in rows {
         let mut out = MemorySink::new(rt.alloc(), &[])?;
-        let (done, _) = honest(rt.alloc(), &COUNT_DOWN, page_limit, &mut out)?;
+        let (done, _) = honest(rt.alloc(), &WEAR_LINE_64, page_limit, &mut out)?;
         assert_eq!(rt; done.ending, ending, "limit {page_limit}");
         assert_eq!(rt; done.retired, retired, "limit {page_limit}");
         assert_eq!(rt; done.used.len(), entries, "limit {page_limit}");
-        let messages = 5 + 2 * stores + entries;
+        let messages = 5 + 2 * writes + entries;
         assert_eq!(rt; done.made.len(), messages, "limit {page_limit}");
         assert_eq!(rt; done.evidence, None, "limit {page_limit}");
+    }
+    Ok(())
+}
+
+// The line is held all along, so no write of it is counted.
+#[test]
+fn stores_into_a_line_that_is_held_wear_out_nothing(rt: HostRuntime) -> Result<(), Fail> {
+    for page_limit in [0, 1, u64::MAX] {
+        let mut out = MemorySink::new(rt.alloc(), &[])?;
+        let (done, _) = honest(rt.alloc(), &COUNT_DOWN, page_limit, &mut out)?;
+        assert_eq!(rt; done.ending, Ending::Halted(0), "limit {page_limit}");
+        assert_eq!(rt; done.retired, 605, "limit {page_limit}");
+        assert_eq!(rt; done.used.len(), 0, "limit {page_limit}");
+        assert_eq!(rt; done.made.len(), 5, "limit {page_limit}");
     }
     Ok(())
 }
@@ -623,44 +707,63 @@ fn a_node_that_fails_its_check_ends_the_run(rt: HostRuntime) -> Result<(), Fail>
     Ok(())
 }
 
-// Each of the three stores of the program reads the top node four times, and each instruction once.
+// A line that comes in reads the top node once, and one that goes out three times before. So read 1 is that of line 0, as
+// the program is stored; 2 that of line 64; 3 to 6 and 8 to 11 are those of line 128, for which line 64 goes out; and 7 and 12
+// those of line 64 again.
 #[test]
 fn each_read_of_the_top_node_is_checked(rt: HostRuntime) -> Result<(), Fail> {
     let top = Place::Node { level: 1, index: 0 };
-    for k in 1..16u64 {
+    let rows = [
+        (1, 0),
+        (2, 3),
+        (3, 4),
+        (4, 4),
+        (5, 4),
+        (6, 4),
+        (7, 5),
+        (8, 6),
+        (9, 6),
+        (10, 6),
+        (11, 6),
+        (12, 7),
+    ];
+    for (k, retired) in rows {
         let tagger = HmacTagger::new(&keys());
-        let (done, lies) = flipped(rt.alloc(), &EXIT_7, top, k, tagger)?;
+        let (done, lies) = flipped(rt.alloc(), &STORE_65_TWICE, top, k, tagger)?;
         assert_eq!(rt; done.ending, Ending::Tampered(top), "read {k}");
-        assert_eq!(rt; done.retired, k.saturating_sub(13), "read {k}");
+        assert_eq!(rt; done.retired, retired, "read {k}");
         assert_eq!(rt; lies, 1, "read {k}");
     }
-    let (done, lies) = flipped(rt.alloc(), &EXIT_7, top, 16, HmacTagger::new(&keys()))?;
-    assert_eq!(rt; done.ending, Ending::Halted(7));
+    let tagger = HmacTagger::new(&keys());
+    let (done, lies) = flipped(rt.alloc(), &STORE_65_TWICE, top, 13, tagger)?;
+    assert_eq!(rt; done.ending, Ending::Halted(65));
     assert_eq!(rt; lies, 0);
     Ok(())
 }
 
-// Line 0 is read by the second store on, line 64 by the load, and the nodes of the pages that are used.
+// Of lines only 64 is read, as it comes in again: line 0 stays, and line 128 was never written. Of counters those of the
+// pages that are used.
 #[test]
 fn each_place_is_checked_or_never_read(rt: HostRuntime) -> Result<(), Fail> {
     let rows = [
         (Place::Node { level: 1, index: 0 }, Some(0)),
         (Place::Node { level: 0, index: 0 }, Some(0)),
-        (Place::Node { level: 0, index: 1 }, Some(2)),
-        (Place::Node { level: 0, index: 2 }, None),
+        (Place::Node { level: 0, index: 1 }, Some(3)),
+        (Place::Node { level: 0, index: 2 }, Some(4)),
         (Place::Node { level: 0, index: 3 }, None),
-        (Place::Line(0), Some(0)),
+        (Place::Line(0), None),
         (Place::Line(1), None),
         (Place::Line(63), None),
-        (Place::Line(64), Some(3)),
+        (Place::Line(64), Some(5)),
+        (Place::Line(128), None),
         (Place::Line(255), None),
     ];
     for (place, failed) in rows {
         let tagger = HmacTagger::new(&keys());
-        let (done, lies) = flipped(rt.alloc(), &EXIT_65, place, 1, tagger)?;
+        let (done, lies) = flipped(rt.alloc(), &EXIT_WITH_65_AGAIN, place, 1, tagger)?;
         let (ending, retired, false_answers) = match failed {
             Some(retired) => (Ending::Tampered(place), retired, 1),
-            None => (Ending::Halted(65), 6, 0),
+            None => (Ending::Halted(65), 8, 0),
         };
         assert_eq!(rt; done.ending, ending, "{place}");
         assert_eq!(rt; done.retired, retired, "{place}");
@@ -670,21 +773,22 @@ fn each_place_is_checked_or_never_read(rt: HostRuntime) -> Result<(), Fail> {
     Ok(())
 }
 
-// After the second store the line as the first one left it fails its check; so do its counters, if they are replayed too,
-// and so does the top node, if all is.
+// Once line 64 has gone out twice, its place as it was after the first time fails its check; so do its counters, if they
+// are replayed too. Both are read by the last load. If all is replayed, the top node fails first: line 128, for which the
+// line goes out, comes in by it.
 #[test]
 fn what_stood_there_before_fails_its_check(rt: HostRuntime) -> Result<(), Fail> {
     let geometry = Geometry::new(1).ok_or("no geometry")?;
     let rows = [
-        (0, LINE_64),
-        (1, Place::Node { level: 0, index: 1 }),
-        (2, Place::Node { level: 1, index: 0 }),
+        (0, LINE_64, 7),
+        (1, Place::Node { level: 0, index: 1 }, 7),
+        (2, Place::Node { level: 1, index: 0 }, 6),
     ];
-    for (below, place) in rows {
+    for (below, place, retired) in rows {
         let image = Image {
             entry: 0,
             size: 16384,
-            segments: flat(rt.alloc(), &EXIT_65_AGAIN)?,
+            segments: flat(rt.alloc(), &STORE_65_TWICE)?,
         };
         let setup = setup(geometry, 2000, u64::MAX);
         let tagger = HmacTagger::new(&setup.keys);
@@ -692,7 +796,7 @@ fn what_stood_there_before_fails_its_check(rt: HostRuntime) -> Result<(), Fail> 
         let mut out = MemorySink::new(rt.alloc(), &[])?;
         let (done, bus) = run(rt.alloc(), &image, &[], &setup, tagger, bus, &mut out);
         assert_eq!(rt; done.ending, Ending::Tampered(place), "below {below}");
-        assert_eq!(rt; done.retired, 4, "below {below}");
+        assert_eq!(rt; done.retired, retired, "below {below}");
         assert_eq!(rt; done.evidence, None, "below {below}");
         assert_eq!(rt; bus.lies(), 1, "below {below}");
     }
@@ -720,32 +824,55 @@ fn two_blocks_with_one_tag_are_shown(rt: HostRuntime) -> Result<(), Fail> {
     Ok(())
 }
 
-// Boot makes 5 accesses, the three stores 10, 11 and 11, and the three instructions 3 each.
+// What a run makes, how many accesses that are in all, and how many instructions are retired before: boot; line 0 comes in;
+// line 64 comes in, and goes out for line 128, which comes in; line 64 comes in again, and goes out for line 128, which
+// comes in; line 64 comes in.
+const ACCESSES: [(u64, u64); 9] = [
+    (5, 0),
+    (2, 0),
+    (2, 3),
+    (8, 4),
+    (2, 4),
+    (3, 5),
+    (8, 6),
+    (2, 6),
+    (3, 7),
+];
+
+// What a run comes to whose bus refuses one access.
+fn refused(alloc: Global, at: u64) -> Result<RunRecord, Fail> {
+    let geometry = Geometry::new(1).ok_or("no geometry")?;
+    let image = Image {
+        entry: 0,
+        size: 16384,
+        segments: flat(alloc, &STORE_65_TWICE)?,
+    };
+    let setup = setup(geometry, 2000, u64::MAX);
+    let tagger = HmacTagger::new(&setup.keys);
+    let bus = RefusingBus::new(alloc, geometry, at)?;
+    let mut out = MemorySink::new(alloc, &[])?;
+    let (done, _bus) = run(alloc, &image, &[], &setup, tagger, bus, &mut out);
+    Ok(done)
+}
+
 #[test]
 fn a_run_ends_where_the_bus_is_out_of_memory(rt: HostRuntime) -> Result<(), Fail> {
-    let geometry = Geometry::new(1).ok_or("no geometry")?;
-    for refused in 1..48u64 {
-        let image = Image {
-            entry: 0,
-            size: 16384,
-            segments: flat(rt.alloc(), &EXIT_7)?,
-        };
-        let setup = setup(geometry, 2000, u64::MAX);
-        let tagger = HmacTagger::new(&setup.keys);
-        let bus = RefusingBus::new(rt.alloc(), geometry, refused)?;
-        let mut out = MemorySink::new(rt.alloc(), &[])?;
-        let (done, _bus) = run(rt.alloc(), &image, &[], &setup, tagger, bus, &mut out);
-        let ending = if refused < 47 {
-            Ending::NoMemory
-        } else {
-            Ending::Halted(7)
-        };
-        assert_eq!(rt; done.ending, ending, "access {refused}");
-        let retired = (refused - 1).saturating_sub(37) / 3;
-        assert_eq!(rt; done.retired, retired, "access {refused}");
-        assert_eq!(rt; done.evidence, None, "access {refused}");
-        assert_eq!(rt; done.report.is_some(), refused == 47, "access {refused}");
-        assert_eq!(rt; done.made.is_empty(), refused < 6, "access {refused}");
+    let mut at = 1;
+    for (accesses, retired) in ACCESSES {
+        for _ in 0..accesses {
+            let done = refused(rt.alloc(), at)?;
+            assert_eq!(rt; done.ending, Ending::NoMemory, "access {at}");
+            assert_eq!(rt; done.retired, retired, "access {at}");
+            assert_eq!(rt; done.evidence, None, "access {at}");
+            assert_eq!(rt; done.report, None, "access {at}");
+            assert_eq!(rt; done.made.is_empty(), at < 6, "access {at}");
+            at = at.saturating_add(1);
+        }
     }
+    let done = refused(rt.alloc(), 36)?;
+    assert_eq!(rt; at, 36);
+    assert_eq!(rt; done.ending, Ending::Halted(65));
+    assert_eq!(rt; done.retired, 10);
+    assert!(rt; done.report.is_some());
     Ok(())
 }

@@ -3,7 +3,7 @@
 ghost use Rattle.std.specs.Prelude.{◌<◌, ◌≤◌, length};
 ghost use Rattle.sec_base.specs.Place.{place_size};
 
-use super::{COUNT_DOWN, EXIT_65, LINE_64, PRINT_A, Zeros, flat, keys};
+use super::{EXIT_WITH_65_AGAIN, LINE_64, PRINT_A, PRINT_A_AGAIN, WEAR_LINE_64, Zeros, flat, keys};
 use crate::{Setup, run};
 use attest_report::write_report;
 use bus_model::FlipBus;
@@ -39,25 +39,25 @@ const OUT_OF_STEPS: &[u8; 316] = b"\
     a3221192d307253f9666ad498af3b50325662c7ac63099a75799ae1dfccc5167";
 
 const TAMPERED: &[u8; 316] = b"\
-    014187fa751bd71f78b94b3c5cbc470f79b7bee7d8f886544ea79353bb69f47e1e\
+    01698b55760d8e5f66b9952ede72d6e038d02e0e75081421b337d11b491868d3b6\
     ba7816bf8f01cfea414140de5dae2223b00361a396177a9cb410ff61f20015ad\
     559aead08264d5795d3909718cdd05abd49572e84fe55590eef31a88a08fdffd\
-    080000000000000005000000000102030405060708090a0b0c0d0e0f10\
-    8ec84ea2158de20150fd2b720e0e94b4770e281be9da0997c7289f1ae23cde6b";
+    0a0000000000000005000000000102030405060708090a0b0c0d0e0f10\
+    4562ce33206a4c1783a66c2305c6910bf549518ac161c00718ce797adb8369b0";
 
 const SPENT: &[u8; 316] = b"\
-    016b4093e711b53e6df3fd6aa6c38880834ab3a641546997d410023665f7ed2d07\
+    01ad7cddc78d019d545d3b9f7243321c2f4becb979c95ff736b06c30abba952a2c\
     ba7816bf8f01cfea414140de5dae2223b00361a396177a9cb410ff61f20015ad\
     e3b0c44298fc1c149afbf4c8996fb92427ae41e4649b934ca495991b7852b855\
-    800100000000000006000000000102030405060708090a0b0c0d0e0f10\
-    bb361c60344d0571844d01557a8ea7329afdf43d37abb12dace246e468f19d43";
+    000200000000000006000000000102030405060708090a0b0c0d0e0f10\
+    f3540ddbd1008f5fabbc1f268eeb0f1ff826ceb3424b7c483890a0a73cf059dc";
 
 const WITH_EVIDENCE: &[u8; 316] = b"\
-    011d9ee55fcff4372bf9435da38697081f675226ab4eac0254be8819e3057bdc05\
+    0198b2691784f2982c2e9ec8c657866e6324a6b2dd8822d5c830d13eb3c54514b4\
     ba7816bf8f01cfea414140de5dae2223b00361a396177a9cb410ff61f20015ad\
     e3b0c44298fc1c149afbf4c8996fb92427ae41e4649b934ca495991b7852b855\
-    060000000000000000400000000102030405060708090a0b0c0d0e0f10\
-    2b265f62218f0b1bb4f01d64dda9bbce68a666a43a8a178dfa9b3a9711790816";
+    080000000000000000400000000102030405060708090a0b0c0d0e0f10\
+    65058f994fa4ef3ce00935d37588065f4c7845f047464dfbdf163167d1363ff1";
 
 // The text of the report of a program of a few words, or nothing where there is none. The lowest bit of the `k`-th
 // answer of a place is flipped, and the writes with these numbers fail.
@@ -112,29 +112,29 @@ fn a_report_tells_how_the_program_ended(rt: HostRuntime) -> Result<(), Fail> {
     Ok(())
 }
 
-// The 18th answer for line 0 is that of the fetch behind the write.
+// The first answer for line 64 is that of the second print.
 #[test]
 fn a_report_tells_how_the_memory_stopped(rt: HostRuntime) -> Result<(), Fail> {
     let alloc = rt.alloc();
     let tagger = HmacTagger::new(&keys());
-    let text = reported(
-        alloc,
-        &PRINT_A,
-        (2000, 0),
-        (Place::Line(0), 18),
-        &[],
-        tagger,
-    )?;
+    let text = reported(alloc, &PRINT_A_AGAIN, (2000, 0), (LINE_64, 1), &[], tagger)?;
     assert_eq!(rt; text.as_slice(), TAMPERED.as_slice());
     let tagger = HmacTagger::new(&keys());
-    let text = reported(alloc, &COUNT_DOWN, (2000, 0), (NOWHERE, 1), &[], tagger)?;
+    let text = reported(alloc, &WEAR_LINE_64, (2000, 0), (NOWHERE, 1), &[], tagger)?;
     assert_eq!(rt; text.as_slice(), SPENT.as_slice());
     Ok(())
 }
 
 #[test]
 fn a_report_knows_of_no_evidence(rt: HostRuntime) -> Result<(), Fail> {
-    let text = reported(rt.alloc(), &EXIT_65, (2000, 0), (LINE_64, 1), &[], Zeros)?;
+    let text = reported(
+        rt.alloc(),
+        &EXIT_WITH_65_AGAIN,
+        (2000, 0),
+        (LINE_64, 1),
+        &[],
+        Zeros,
+    )?;
     assert_eq!(rt; text.as_slice(), WITH_EVIDENCE.as_slice());
     Ok(())
 }
