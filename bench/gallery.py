@@ -26,7 +26,7 @@ REPORT = re.compile(r"^(report [0-9a-f]{316}|chip: .*)\n", re.MULTILINE)
 SCRIPT = re.compile(r'^const (\w+): &\[u8\] =\s*b"([^"]*)";', re.MULTILINE)
 ATTACK = re.compile(r"^    Attack \{\n(.*?)^    \},", re.MULTILINE | re.DOTALL)
 FIELD = re.compile(r'^        (\w+): (?:b?"([^"]*)"|(\w+)),$', re.MULTILINE)
-PROGRAMS = {"EXIT_7_TEXT": "exit7"}
+PROGRAMS = {"COLD_EXIT_7": "cold_exit7"}
 RUN = re.compile(r"^\./chip run (\S+)(?: --flat)? --script (\S+)(?: --tags (\w+))?; echo \$\?$")
 
 
@@ -70,7 +70,8 @@ def attacks():
         match = RUN.match(command)
         if match:
             program = os.path.splitext(os.path.basename(match[1]))[0]
-            printed = "A" if program == "store_and_print" and shown[0].startswith("A") else ""
+            # Programs print letters A alone, and no line that is told begins with one.
+            printed = re.match("A*", shown[0])[0]
             told = "".join(line + "\n" for line in shown[:-1])[len(printed) :]
             with open(os.path.join(TOP, match[2])) as file:
                 yield program, match[3] or "hmac", file.read(), printed, told, shown[-1]

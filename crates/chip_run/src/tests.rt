@@ -254,7 +254,7 @@ fn a_program_prints_what_it_loaded_before_tampering(rt: HostRuntime) -> Result<(
     let geometry = Geometry::new(1).ok_or("no geometry")?;
     let setup = setup(geometry, 99, u64::MAX);
     let tagger = HmacTagger::new(&setup.keys);
-    let bus = FlipBus::new(alloc, geometry, LINE_64, 1, 0, 1)?;
+    let bus = FlipBus::new(alloc, geometry, Place::Line(64), 1, 0, 1)?;
     let mut out = MemorySink::new(alloc, &[])?;
     let (done, bus) = run(alloc, &image, &[], &setup, tagger, bus, &mut out);
     assert_eq!(rt; out.bytes(), b"ABCD".as_slice());
@@ -824,55 +824,41 @@ fn two_blocks_with_one_tag_are_shown(rt: HostRuntime) -> Result<(), Fail> {
     Ok(())
 }
 
-// What a run makes, how many accesses that are in all, and how many instructions are retired before: boot; line 0 comes in;
-// line 64 comes in, and goes out for line 128, which comes in; line 64 comes in again, and goes out for line 128, which
-// comes in; line 64 comes in.
-const ACCESSES: [(u64, u64); 9] = [
-    (5, 0),
-    (2, 0),
-    (2, 3),
-    (8, 4),
-    (2, 4),
-    (3, 5),
-    (8, 6),
-    (2, 6),
-    (3, 7),
-];
-
-// What a run comes to whose bus refuses one access.
-fn refused(alloc: Global, at: u64) -> Result<RunRecord, Fail> {
-    let geometry = Geometry::new(1).ok_or("no geometry")?;
-    let image = Image {
-        entry: 0,
-        size: 16384,
-        segments: flat(alloc, &STORE_65_TWICE)?,
-    };
-    let setup = setup(geometry, 2000, u64::MAX);
-    let tagger = HmacTagger::new(&setup.keys);
-    let bus = RefusingBus::new(alloc, geometry, at)?;
-    let mut out = MemorySink::new(alloc, &[])?;
-    let (done, _bus) = run(alloc, &image, &[], &setup, tagger, bus, &mut out);
-    Ok(done)
+// How a run ends whose bus refuses this access, and how many instructions it retired. Boot makes 5 accesses, and line 0 comes
+// in by 2; line 64 comes in by 2, and goes out by 8 for line 128, which comes in by 2; line 64 comes in again by 3, and goes
+// out by 8 for line 128, which comes in by 2; and line 64 comes in by 3.
+fn refused_at(access: u64) -> (Ending, u64) {
+    match access {
+        0..=7 => (Ending::NoMemory, 0),
+        8..=9 => (Ending::NoMemory, 3),
+        10..=19 => (Ending::NoMemory, 4),
+        20..=22 => (Ending::NoMemory, 5),
+        23..=32 => (Ending::NoMemory, 6),
+        33..=35 => (Ending::NoMemory, 7),
+        _ => (Ending::Halted(65), 10),
+    }
 }
 
 #[test]
 fn a_run_ends_where_the_bus_is_out_of_memory(rt: HostRuntime) -> Result<(), Fail> {
-    let mut at = 1;
-    for (accesses, retired) in ACCESSES {
-        for _ in 0..accesses {
-            let done = refused(rt.alloc(), at)?;
-            assert_eq!(rt; done.ending, Ending::NoMemory, "access {at}");
-            assert_eq!(rt; done.retired, retired, "access {at}");
-            assert_eq!(rt; done.evidence, None, "access {at}");
-            assert_eq!(rt; done.report, None, "access {at}");
-            assert_eq!(rt; done.made.is_empty(), at < 6, "access {at}");
-            at = at.saturating_add(1);
-        }
+    let geometry = Geometry::new(1).ok_or("no geometry")?;
+    for refused in 1..37u64 {
+        let image = Image {
+            entry: 0,
+            size: 16384,
+            segments: flat(rt.alloc(), &STORE_65_TWICE)?,
+        };
+        let setup = setup(geometry, 2000, u64::MAX);
+        let tagger = HmacTagger::new(&setup.keys);
+        let bus = RefusingBus::new(rt.alloc(), geometry, refused)?;
+        let mut out = MemorySink::new(rt.alloc(), &[])?;
+        let (done, _bus) = run(rt.alloc(), &image, &[], &setup, tagger, bus, &mut out);
+        let (ending, retired) = refused_at(refused);
+        assert_eq!(rt; done.ending, ending, "access {refused}");
+        assert_eq!(rt; done.retired, retired, "access {refused}");
+        assert_eq!(rt; done.evidence, None, "access {refused}");
+        assert_eq!(rt; done.report.is_some(), refused == 36, "access {refused}");
+        assert_eq!(rt; done.made.is_empty(), refused < 6, "access {refused}");
     }
-    let done = refused(rt.alloc(), 36)?;
-    assert_eq!(rt; at, 36);
-    assert_eq!(rt; done.ending, Ending::Halted(65));
-    assert_eq!(rt; done.retired, 10);
-    assert!(rt; done.report.is_some());
     Ok(())
 }

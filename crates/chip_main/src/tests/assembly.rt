@@ -65,10 +65,24 @@ again:  sb   t3, 0(t0)
         ecall
 ";
 
-// One line is stored 200 times.
-const WEAR_ONE_LINE: &[u8] = b"li t0, 0x1000
+// One line is stored 200 times, and never leaves the chip.
+const HOLD_ONE_LINE: &[u8] = b"li t0, 0x1000
 li t1, 200
 again: sw t1, 0(t0)
+addi t1, t1, -1
+bnez t1, again
+li a7, 93
+ecall
+";
+
+// One line is stored 200 times, and goes out each time: two others of its set are loaded behind each store.
+const WEAR_ONE_LINE: &[u8] = b"li t0, 0x1140
+li t1, 200
+li t2, 0x2140
+li t3, 0x3140
+again: sw t1, 0(t0)
+lw t4, 0(t2)
+lw t4, 0(t3)
 addi t1, t1, -1
 bnez t1, again
 li a7, 93
@@ -127,11 +141,12 @@ fn texts_are_assembled(rt: HostRuntime) -> Result<(), Fail> {
 #[test]
 fn assembled_programs_run(rt: HostRuntime) -> Result<(), Fail> {
     let words = ["chip", "run", "f"];
-    let rows: [(&[u8], &[u8], &[u8]); 5] = [
+    let rows: [(&[u8], &[u8], &[u8]); 6] = [
         (STORE_AND_PRINT, b"A", b"halted 65\nretired 20\nlies 0\n"),
         (STORE_TWICE, b"", b"halted 66\nretired 22\nlies 0\n"),
         (PRINT_TWICE, b"AB", b"halted 1\nretired 11\nlies 0\n"),
-        (WEAR_ONE_LINE, b"", b"halted 0\nretired 605\nlies 0\n"),
+        (HOLD_ONE_LINE, b"", b"halted 0\nretired 605\nlies 0\n"),
+        (WEAR_ONE_LINE, b"", b"halted 0\nretired 1009\nlies 0\n"),
         (READ_UNTOUCHED, b"", b"halted 64\nretired 15\nlies 0\n"),
     ];
     for (text, printed, told) in rows {
@@ -143,16 +158,24 @@ fn assembled_programs_run(rt: HostRuntime) -> Result<(), Fail> {
     Ok(())
 }
 
-// 127 stores take the line's counter to 127, and the next one needs page counter 1.
+// 127 writes take the line's counter to 127, and the next one needs page counter 1: it is that of the 128th round's second
+// load. A line that is not written needs none.
 #[test]
 fn a_page_is_spent_at_its_limit(rt: HostRuntime) -> Result<(), Fail> {
-    let rows: [(&str, &[u8], u8); 2] = [
-        ("0", b"spent page 1\nretired 384\nlies 0\n", 6),
-        ("1", b"halted 0\nretired 605\nlies 0\n", 0),
+    let rows: [(&str, &[u8], &[u8], u8); 4] = [
+        (
+            "0",
+            WEAR_ONE_LINE,
+            b"spent page 1\nretired 644\nlies 0\n",
+            6,
+        ),
+        ("1", WEAR_ONE_LINE, b"halted 0\nretired 1009\nlies 0\n", 0),
+        ("0", HOLD_ONE_LINE, b"halted 0\nretired 605\nlies 0\n", 0),
+        ("1", HOLD_ONE_LINE, b"halted 0\nretired 605\nlies 0\n", 0),
     ];
-    for (limit, told, status) in rows {
+    for (limit, text, told, status) in rows {
         let words = ["chip", "run", "f", "--page-limit", limit];
-        let call = call_assembled(rt.alloc(), &words, WEAR_ONE_LINE, &[])?;
+        let call = call_assembled(rt.alloc(), &words, text, &[])?;
         check(&rt, &call, b"", told, status);
     }
     Ok(())

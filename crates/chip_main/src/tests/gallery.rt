@@ -4,22 +4,50 @@ use super::assembly::{STORE_AND_PRINT, STORE_TWICE};
 use super::attacks::{Attack, check_attack};
 use std::test::Fail;
 
-// It exits with 7.
-const EXIT_7_TEXT: &[u8] = b"li a0, 7
-li a7, 93
-ecall
+// It exits with 7, and its code has gone out before its first fetch.
+const COLD_EXIT_7: &[u8] = b"_start: li   a0, 7
+        li   a7, 93
+        ecall
+        .space 8192
 ";
 
-const PATCH_CODE: &[u8] = b"# Changes an instruction of exit7 as it is fetched.
+// It prints a byte three times, from a line that goes out before the first time and before the third.
+const READ_AGAIN: &[u8] = b"_start: li   t0, 0x140
+        lui  t1, 0x1
+        add  t1, t1, t0
+        lui  t2, 0x2
+        add  t2, t2, t0
+        li   t3, 65
+        sb   t3, 0(t0)
+        sb   t3, 64(t0)
+        lbu  t4, 0(t1)
+        lbu  t4, 64(t1)
+        lbu  t4, 0(t2)
+        li   a0, 1
+        mv   a1, t0
+        li   a2, 1
+        li   a7, 64
+        ecall
+        lbu  t4, 64(t2)
+        ecall
+        lbu  t4, 0(t1)
+        lbu  t4, 0(t2)
+        ecall
+        li   a7, 93
+        ecall
+";
+
+const PATCH_CODE: &[u8] = b"# Changes an instruction of cold_exit7 as it is fetched.
 #
 # The first word is `li a0, 7`, bytes 13 05 70 00. In counter mode a bit that is
 # flipped in the ciphertext is flipped in the line, so 70 becomes 60: `li a0, 6`.
 # Byte 18 stands behind the program; flipping it there is for the tags `xor`,
 # whose sum of pieces of 16 bytes then stays the same.
 #
-# Line 0 is read twice while the program is stored, then at each fetch.
-read data 0 3: flip data 0 2 10
-read data 0 3: flip data 0 18 10
+# Line 0 goes out while the program is stored. The first fetch reads it, and the
+# others find it on the chip.
+read data 0 1: flip data 0 2 10
+read data 0 1: flip data 0 18 10
 ";
 
 const FLIP: &[u8] = b"# Flips one bit of line 5 as store_and_print reads it back.
@@ -40,27 +68,29 @@ write data 5 1: swap node 1 0 node 1 1
 
 const FORGET_PAGE: &[u8] =
     b"# Clears the counters of page 1 in store_twice, so that its line 69 would count as
-# never written and be read as zeros. Each store reads the block three times; this
-# is the first read of the second store.
+# never written and be read as zeros. The block is read once as the line comes in
+# and twice as it goes out; this is the read for its second store.
 read node 0 1 4: put node 0 1 00000000000000000000000000000000000000000000000000000000000000000000000000000000000000000000000000000000000000000000000000000000
 ";
 
 const TRUE_THEN_FALSE: &[u8] =
     b"# Answers truly when store_twice asks for the counters of page 1 to read line 69,
-# and falsely when it asks again, to write it (time of check, time of use).
+# and falsely when it asks again, as the line goes out (time of check, time of
+# use).
 read node 0 1 5: flip node 0 1 12 18
 ";
 
 const REPLAY_LINE: &[u8] =
-    b"# Gives store_twice line 5 as it was before its second store: the letter A, with
-# the tag that the chip made for it.
+    b"# Gives store_twice line 5 as it was written first: the letter A, with the tag that
+# the chip made for it.
 write data 5 2: save 0 data 5
 read data 5 2: restore 0 data 5
 ";
 
 const REPLAY_LINE_AND_COUNTER: &[u8] =
-    b"# The same with the counter block of page 0, as it was before the second store.
-# They are put back while the store to line 69 is made, before its last write.
+    b"# The same with the counter block of page 0, as it was when line 5 was read for its
+# second store. They are put back after its second write, as line 69 goes out for
+# the last load.
 read data 5 1: save 0 data 5
 read data 5 1: save 1 node 0 0
 write data 69 2: restore 0 data 5
@@ -87,6 +117,12 @@ read data 5 1: saveall 0
 write data 69 2: restoreall 0
 ";
 
+const ATTACK_THAT_WAITS: &[u8] =
+    b"# Flips a bit of line 5 in read_again while the chip holds it, as it was read: as
+# line 6 goes out, between the first print and the second.
+write data 6 1: flip data 5 0 01
+";
+
 const JUNK_AT_POWER_ON: &[u8] = b"# Fills places with junk before the chip's first access.
 access 1: set data 5 0 deadbeef
 access 1: set data 100 0 deadbeef
@@ -95,17 +131,20 @@ access 1: set node 4 0 0 deadbeef
 ";
 
 const REPAIRED_BY_A_WRITE: &[u8] =
-    b"# Flips a bit of line 5 between the read and the write of its second store.
-write data 5 2: flip data 5 0 01
+    b"# Flips a bit of line 5 while store_twice holds it, changed by its second store: as
+# line 133 goes out.
+write data 133 1: flip data 5 0 01
 ";
 
-const NEVER_READ_AGAIN: &[u8] = b"# Flips a bit of line 6 of store_and_print after its only store.
-write data 133 1: flip data 6 0 01
+const NEVER_READ_AGAIN: &[u8] =
+    b"# Flips a bit of line 6 of store_and_print after its only write, as line 69 goes
+# out.
+write data 69 1: flip data 6 0 01
 ";
 
 const SWAP_OF_EQUALS: &[u8] =
-    b"# Swaps the counter blocks of pages 1 and 2 in store_twice, after one store into
-# line 5 of each of these pages.
+    b"# Swaps the counter blocks of pages 1 and 2 in store_twice, when one line of each
+# has gone out once: that at place 5.
 read node 0 1 4: swap node 0 1 node 0 2
 ";
 
@@ -118,18 +157,18 @@ read node 0 0 1: flip node 0 0 16 01
 ";
 
 const REPEAT_A_PAD: &[u8] =
-    b"# Sets the counter of line 69 in store_twice from 1 back to 0, just before its
-# second store, which would count up to 1 again and encrypt under a pad that was
-# used. The counter is bits 35 to 41 behind the page counter: bit 3 of byte 12 is
-# its lowest. Byte 28 is for the tags `xor`, as 16 bytes on; it makes the counter
-# of line 87 a 4, which is never asked for.
+    b"# Sets the counter of line 69 in store_twice from 1 back to 0, as the line comes in
+# for its second store. When it goes out, the chip would count up to 1 again and
+# encrypt under a pad that was used. The counter is bits 35 to 41 behind the page
+# counter: bit 3 of byte 12 is its lowest. Byte 28 is for the tags `xor`, as 16
+# bytes on; it makes the counter of line 87 a 4, which is never asked for.
 read node 0 1 4: flip node 0 1 12 08
 read node 0 1 4: flip node 0 1 28 08
 ";
 
-const CAUGHT: [Attack<'static>; 8] = [
+const CAUGHT: [Attack<'static>; 9] = [
     Attack {
-        text: EXIT_7_TEXT,
+        text: COLD_EXIT_7,
         tags: "hmac",
         script: PATCH_CODE,
         printed: b"",
@@ -145,6 +184,14 @@ const CAUGHT: [Attack<'static>; 8] = [
         status: 5,
     },
     Attack {
+        text: READ_AGAIN,
+        tags: "hmac",
+        script: ATTACK_THAT_WAITS,
+        printed: b"AA",
+        told: b"tampered data 5\nretired 20\nlies 1\n",
+        status: 5,
+    },
+    Attack {
         text: STORE_AND_PRINT,
         tags: "hmac",
         script: SPLICE_LINES,
@@ -157,7 +204,7 @@ const CAUGHT: [Attack<'static>; 8] = [
         tags: "hmac",
         script: SPLICE_NODES,
         printed: b"",
-        told: b"tampered node 1 0\nretired 7\nlies 1\n",
+        told: b"tampered node 1 0\nretired 10\nlies 1\n",
         status: 5,
     },
     Attack {
@@ -173,7 +220,7 @@ const CAUGHT: [Attack<'static>; 8] = [
         tags: "hmac",
         script: TRUE_THEN_FALSE,
         printed: b"",
-        told: b"tampered node 0 1\nretired 14\nlies 1\n",
+        told: b"tampered node 0 1\nretired 19\nlies 1\n",
         status: 5,
     },
     Attack {
@@ -208,7 +255,7 @@ const REPLAYS: [Attack<'static>; 4] = [
         tags: "hmac",
         script: REPLAY_LINE_AND_COUNTER,
         printed: b"",
-        told: b"tampered node 0 0\nretired 15\nlies 1\n",
+        told: b"tampered node 0 0\nretired 19\nlies 1\n",
         status: 5,
     },
     Attack {
@@ -216,7 +263,7 @@ const REPLAYS: [Attack<'static>; 4] = [
         tags: "hmac",
         script: REPLAY_BRANCH,
         printed: b"",
-        told: b"tampered node 3 0\nretired 15\nlies 1\n",
+        told: b"tampered node 3 0\nretired 19\nlies 1\n",
         status: 5,
     },
     Attack {
@@ -224,7 +271,7 @@ const REPLAYS: [Attack<'static>; 4] = [
         tags: "hmac",
         script: REPLAY_EVERYTHING,
         printed: b"",
-        told: b"tampered node 4 0\nretired 15\nlies 1\n",
+        told: b"tampered node 4 0\nretired 19\nlies 1\n",
         status: 5,
     },
 ];
@@ -266,17 +313,17 @@ const UNSEEN: [Attack<'static>; 4] = [
 
 const WEAK_TAGS: [Attack<'static>; 3] = [
     Attack {
-        text: EXIT_7_TEXT,
+        text: COLD_EXIT_7,
         tags: "xor",
         script: PATCH_CODE,
         printed: b"",
         told: b"halted 6
 retired 3
-lies 3
+lies 1
 evidence forgery data 0
-counter 0 3
-cipher ea5311ff4d49f9536a00efe9a71f109bd42972e3f93d90593aa8677fdb2a6e77c83e1e33af021ab1dda86db890079e7b68302ea09a8aff42ac446a90aaeb17a2
-tag 8a580e5fe7dfe2760ca1f4596a382537
+counter 0 1
+cipher 92c918401038941890ec7cd99e676abeaf910a44135dcd3e6d71ce824cac4260657186c64b81eb517fa5541126abd07bbd2b6336a4e1b47f063173fb9a2430cc
+tag 2e2363a66d2e473b16aedcc455665e41
 ",
         status: 7,
     },

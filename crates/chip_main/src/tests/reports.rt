@@ -61,11 +61,11 @@ const REPORT_OUT_OF_STEPS: &[u8; 316] = b"\
     9eb279eb706f939cc3b2da1675014f85973d6549862573a2d935d01ca2d10eb8";
 
 const REPORT_SPENT: &[u8; 316] = b"\
-    016b4093e711b53e6df3fd6aa6c38880834ab3a641546997d410023665f7ed2d07\
+    01ad7cddc78d019d545d3b9f7243321c2f4becb979c95ff736b06c30abba952a2c\
     e3b0c44298fc1c149afbf4c8996fb92427ae41e4649b934ca495991b7852b855\
     e3b0c44298fc1c149afbf4c8996fb92427ae41e4649b934ca495991b7852b855\
-    8001000000000000060000000000000000000000000000000000000000\
-    e8f72c8d806dd27c17a18ab1d1c2088831371e6a007ceb9cc39834877be0776d";
+    0002000000000000060000000000000000000000000000000000000000\
+    624ca9c796f24e04f308ca1cc9fb50fc0a071f535a132ea5fc5fbb866403c091";
 
 const REPORT_TAMPERED: &[u8; 316] = b"\
     0116f7bfdd45a5acd592864f31537f995066d1d163ad715d1d9d9d83c121daa865\
@@ -91,14 +91,16 @@ const PRINT_3: [u32; 13] = [
     0x0000_0073, // ecall
 ];
 
-// It stores to one line 200 times.
-const STORE_200_TIMES: [u32; 8] = [
+// It stores to line 64 200 times, and loads from line 128 behind each store. Its code is line 0, in the same set, and used
+// last: so line 64 goes out for each load.
+const WRITE_200_TIMES: [u32; 9] = [
     0x0000_12b7, // lui t0, 0x1
-    0x0002_8293, // addi t0, t0, 0
+    0x0000_23b7, // lui t2, 0x2
     0x0c80_0313, // addi t1, zero, 200
     0x0062_a023, // sw t1, 0(t0)
+    0x0003_ae03, // lw t3, 0(t2)
     0xfff3_0313, // addi t1, t1, -1
-    0xfe03_1ce3, // bne t1, zero, -8
+    0xfe03_1ae3, // bne t1, zero, -12
     0x05d0_0893, // addi a7, zero, 93
     0x0000_0073, // ecall
 ];
@@ -188,9 +190,9 @@ const REPORTED: [Reported<'static>; 9] = [
     },
     Reported {
         options: &["--levels", "1", "--page-limit", "0"],
-        code: &STORE_200_TIMES,
+        code: &WRITE_200_TIMES,
         printed: b"",
-        told: b"spent page 1\nretired 384\nlies 0\n",
+        told: b"spent page 1\nretired 512\nlies 0\n",
         report: REPORT_SPENT,
         status: 6,
     },
