@@ -74,7 +74,8 @@ def main():
             print(f"{name}: {WORDS} instructions, {costs[name][0]:.4f} s a run, peak {costs[name][1]} bytes")
     more_seconds = costs["stores"][0] - costs["nothing"][0]
     more_bytes = costs["stores"][1] - costs["nothing"][1]
-    print(f"a store that brings a line in and lets one go out: {1e6 * more_seconds / STORES:.2f} microseconds, {more_bytes / STORES:.0f} bytes kept, spare room included")
+    print("a store that brings a line in and lets one go out: ", end="")
+    print(f"{1e6 * more_seconds / STORES:.2f} microseconds, {more_bytes / STORES:.0f} bytes kept, spare room included")
 
 
 if __name__ == "__main__":

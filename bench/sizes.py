@@ -199,7 +199,9 @@ def table(loops, generated):
 def row(command, levels, retired, taken, accesses):
     kib = 16 * 4 ** (levels - 1)
     memory = f"{kib} KiB" if kib < 1024 else f"{kib // 1024} MiB"
-    tags, each = (f"{accesses:,}", f"{1e6 * taken / accesses:.2f}") if accesses else ("none", "")
+    tags = f"{accesses:,}" if accesses else "none"
+    # Where there are fewer accesses than instructions, the time is not the tags'.
+    each = f"{1e6 * taken / accesses:.2f}" if accesses and accesses > retired else ""
     print(f"| {command} | {levels} | {memory} | {retired:,} | {taken:.3f} | {tags} | {each} |", flush=True)
 
 
