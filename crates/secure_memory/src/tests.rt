@@ -1,5 +1,5 @@
 // The memory over a bus that tells the truth and over one that does not.
-ghost use Rattle.std.specs.Prelude.{◌≡◌, ◌+◌, ◌*◌, ◌≤◌, IfOk};
+ghost use Rattle.std.specs.Prelude.{◌≡◌, ◌+◌, ◌*◌, ◌^◌, ◌<◌, ◌≤◌, IfOk};
 ghost use Rattle.bus_model.specs.BusHistory.{new_history};
 ghost use Rattle.secure_memory.specs.SecureRam.{lines_of};
 
@@ -71,6 +71,7 @@ fn a_store_changes_as_many_bytes_as_its_width(rt: HostRuntime) -> Result<(), Fai
 // Loads from the two other lines of its set, of which the second makes a line go out that was used just before.
 fn send_out<B: Bus>(memory: &mut SecureRam<B, HmacTagger>, line: u32) -> Result<(), MemStop>
     requires inside { 64 * (line + 129) ≤ 64 * lines_of memory.old }
+    requires fits { 64 * (line + 129) < 2 ^ 32 }
     ensures extent { lines_of memory.new ≡ lines_of memory.old }
 {
     memory.load(64 * (line + 64), Width::Four)?;
