@@ -1,9 +1,10 @@
 -- The ways of one set, by place.
-use Rattle.std.proofs.Common.{◌≡◌, ◌≢◌, ◌==◌, ◌⊎◌, inl, inr, ℕ, ◌<◌, ◌≤◌, ◌%◌, List, [], ◌∷◌, ◌++◌, length, Option, Some, None, Bool, true, false, not, cond, IsSome, refl, sym, ◌∙◌, ap, subst, arith}
+use Rattle.std.proofs.Common.{◌≡◌, ◌≢◌, ◌-◌, ◌==◌, ◌⊎◌, inl, inr, ℕ, ◌<◌, ◌%◌, List, [], ◌∷◌, ◌++◌, length, Option, Some, None, Bool, true, false, not, cond, if◌then◌else◌, slice_index_or, slice_set, IsSome, refl, sym, ◌∙◌, ap, subst, arith}
 use Rattle.std.specs.List.{AllByRecursion}
 use Rattle.std.proofs.lemmas.Bool.Decides.{nat_tests}
+use Rattle.std.proofs.lemmas.Option.{none-some, same_Some}
 use Rattle.cache_set.specs.declared.way.Way.{Way}
-use Rattle.cache_set.specs.CacheSet.{IsSet, exchanged, in_order, latest_place, touched, way_of, with_found, with_latest, without}
+use Rattle.cache_set.specs.CacheSet.{IsSet, copy_of, exchanged, in_order, latest_place, touched, way_of, with_found, with_latest, without}
 use Rattle.cache_set.specs.Cache.{AreWays}
 
 -- a way that is found has the place
@@ -209,3 +210,32 @@ touched_in_order true (a ∷ b ∷ c ∷ ways) place h s = absurd h
 -- a place without a way leaves them
 pub absent_in_order : (swapped : Bool) (ways : List Way) (place : ℕ) → IsSet ways → ¬ IsSome (way_of place ways) → touched place (in_order swapped ways) ≡ in_order swapped ways
 absent_in_order swapped ways place h n = ap (λ found. with_found found (in_order swapped ways)) (found_in_order swapped ways place h ∙ none_of (way_of place ways) n)
+
+-- the most recently used way, written in place
+abbrev pub Written : (List ℕ → List ℕ) → ℕ → List Way → List Way → Type 0
+Written write place old new = (x : List ℕ) × (copy_of place old ≡ Some x) × (new ≡ with_latest (record { place = place; changed = true; copy = write x }) old)
+
+written_one : (write : List ℕ → List ℕ) (a : Way) → Written write a.place (a ∷ []) (record { place = a.place; changed = true; copy = write a.copy } ∷ [])
+written_one write a = (a.copy, grind (arith, nat_tests), grind (arith, nat_tests))
+
+written_two : (write : List ℕ → List ℕ) (a b : Way) → a.place ≢ b.place → Written write b.place (a ∷ b ∷ []) (a ∷ record { place = b.place; changed = true; copy = write b.copy } ∷ [])
+written_two write a b h = (b.copy, grind (arith, nat_tests), grind (arith, nat_tests))
+
+at_place : (write : List ℕ → List ℕ) (a : Way) (place : ℕ) (old new : List Way) → Some a.place ≡ Some place → Written write a.place old new → Written write place old new
+at_place write a place old new h w = subst (λ p. Written write p old new) (same_Some a.place place h) w
+
+pub written_in_order : (write : List ℕ → List ℕ) (swapped : Bool) (ways : List Way) (place : ℕ) (spare : Way) → IsSet (in_order swapped ways) → latest_place (in_order swapped ways) ≡ Some place →
+    Written write place (in_order swapped ways)
+    (in_order swapped (slice_set ways (if swapped then 0 else length ways - 1) (record {
+      place = (slice_index_or ways (if swapped then 0 else length ways - 1) spare).place;
+      changed = true;
+      copy = write (slice_index_or ways (if swapped then 0 else length ways - 1) spare).copy;
+    })))
+written_in_order write false [] place spare set h = absurd (none-some place h)
+written_in_order write true [] place spare set h = absurd (none-some place h)
+written_in_order write false (a ∷ []) place spare set h = at_place write a place (a ∷ []) _ h (written_one write a)
+written_in_order write true (a ∷ []) place spare set h = at_place write a place (a ∷ []) _ h (written_one write a)
+written_in_order write false (a ∷ b ∷ []) place spare set h = at_place write b place (a ∷ b ∷ []) _ h (written_two write a b set)
+written_in_order write true (a ∷ b ∷ []) place spare set h = at_place write a place (b ∷ a ∷ []) _ h (written_two write b a set)
+written_in_order write false (a ∷ b ∷ c ∷ ways) place spare set h = absurd set
+written_in_order write true (a ∷ b ∷ c ∷ ways) place spare set h = absurd set

@@ -1,11 +1,12 @@
 // A cache of sets of two ways.
-ghost use Rattle.std.specs.Prelude.{true, false, ◌≡◌, ◌≢◌, ◌<◌, ◌≤◌, ◌*◌, ◌%◌, ◌^◌, ◌↔◌, ℕ, replicate, length, [], Some, None, IfOk, IfSome, IsTrue, IsSome, Contains, All};
+ghost use Rattle.std.specs.Prelude.{true, false, ◌≡◌, ◌≢◌, ◌<◌, ◌≤◌, ◌+◌, ◌*◌, ◌%◌, ◌^◌, ◌↔◌, ℕ, List, replicate, length, [], Some, None, IfOk, IfSome, IsTrue, IsSome, Contains, All};
+ghost use Rattle.sec_base.specs.Width.{width_bytes, with_number};
 ghost use Rattle.cache_set.specs.CacheSet.{HasRoom, touched, with_latest, without};
 ghost use Rattle.cache_set.specs.Cache.{AreApart, IsCache, IsLatest, copy_at, new_cache, places, set_at, victim_for, way_at, with_set};
 
 use crate::cache_set::CacheSet;
 use crate::way::Way;
-use sec_base::NoMemory;
+use sec_base::{NoMemory, Width};
 use std::alloc::Global;
 use std::marker::Model;
 
@@ -90,6 +91,20 @@ impl<const SETS: usize> Cache<SETS> {
         ensures same { (other : ℕ) → other ≢ place → way_at self.new other ≡ way_at self.old other }
     {
         self.sets[place as usize % SETS].change(place, copy);
+    }
+
+    /// Puts a number in the copy of the most recently used way of a set, which is that of a place, and marks it.
+    pub fn write(&mut self, place: u32, at: usize, width: Width, value: u32)
+        requires latest { IsLatest self.old place }
+        requires inside { at + width_bytes width ≤ 64 }
+        ensures after { (copy : List ℕ) × (copy_at self.old place ≡ Some copy) × (self.new ≡ with_set self.old place
+            (with_latest (record { place = place; changed = true; copy = with_number copy at width value }) (set_at self.old place))) }
+        ensures cache { IsCache SETS self.new }
+        ensures changed { (copy : List ℕ) → copy_at self.old place ≡ Some copy →
+            way_at self.new place ≡ Some (record { place = place; changed = true; copy = with_number copy at width value }) }
+        ensures same { (other : ℕ) → other ≢ place → way_at self.new other ≡ way_at self.old other }
+    {
+        self.sets[place as usize % SETS].write(place, at, width, value);
     }
 
     /// The way that goes out where a place comes that has none: the least recently used one of its set, where both are in

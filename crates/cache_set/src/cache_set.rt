@@ -1,9 +1,11 @@
 // One set of a cache.
-ghost use Rattle.std.specs.Prelude.{true, false, ◌≡◌, ◌==◌, ◌+◌, ◌-◌, ◌<◌, ◌↔◌, [], ◌∷◌, ◌++◌, Some, None, length, not, if◌then◌else◌, IfSome, IsTrue, IsSome};
+ghost use Rattle.std.specs.Prelude.{true, false, ◌≡◌, ◌==◌, ◌+◌, ◌-◌, ◌<◌, ◌≤◌, ◌↔◌, ℕ, List, [], ◌∷◌, ◌++◌, Some, None, length, not, if◌then◌else◌, IfSome, IsTrue, IsSome};
+ghost use Rattle.sec_base.specs.Width.{width_bytes, with_number};
 ghost use Rattle.cache_set.specs.CacheSet.{IsSet, HasRoom, copy_of, in_order, latest_place, touched, victim, way_of, with_latest, without};
 
 use crate::way::Way;
 use arrayvec::ArrayVec;
+use sec_base::Width;
 use std::marker::Model;
 
 // The ways of a set, which never move: where they are swapped, the first of two is the most recently used one. A
@@ -82,6 +84,24 @@ impl CacheSet {
         change_latest(self.ways.as_mut_slice(), self.swapped, place, copy);
     }
 
+    // Puts a number in the copy of the most recently used way, which is that of a place, and marks it.
+    pub(crate) fn write(&mut self, place: u32, at: usize, width: Width, value: u32)
+        requires apart { IsSet self.old }
+        requires latest { latest_place self.old ≡ Some place }
+        requires inside { at + width_bytes width ≤ 64 }
+        ensures { (copy : List ℕ) × (copy_of place self.old ≡ Some copy)
+            × (self.new ≡ with_latest (record { place = place; changed = true; copy = with_number copy at width value }) self.old) }
+    {
+        write_latest(
+            self.ways.as_mut_slice(),
+            self.swapped,
+            place,
+            at,
+            width,
+            value,
+        );
+    }
+
     // The least recently used of two ways.
     pub(crate) fn victim(&self) -> Option<Way>
         requires { IsSet self.now }
@@ -150,6 +170,19 @@ fn change_latest(ways: &mut [Way], swapped: bool, place: u32, copy: [u8; 64])
         changed: true,
         copy,
     };
+}
+
+fn write_latest(ways: &mut [Way], swapped: bool, place: u32, at: usize, width: Width, value: u32)
+    requires apart { IsSet (in_order swapped ways.old) }
+    requires latest { latest_place (in_order swapped ways.old) ≡ Some place }
+    requires inside { at + width_bytes width ≤ 64 }
+    ensures { (copy : List ℕ) × (copy_of place (in_order swapped ways.old) ≡ Some copy)
+        × (in_order swapped ways.new ≡ with_latest (record { place = place; changed = true; copy = with_number copy at width value }) (in_order swapped ways.old)) }
+{
+    let latest = latest_index(ways.len(), swapped);
+    let way = &mut ways[latest];
+    width.write(&mut way.copy, at, value);
+    way.changed = true;
 }
 
 // Which of so many ways is the most recently used one.

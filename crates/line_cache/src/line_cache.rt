@@ -230,9 +230,8 @@ impl<S: LineStore> Ram for LineCache<S> {
             self.old.lines self.old.store (line_of addr) stop self.new.lines self.new.store) }
     {
         self.bring(addr / LINE_LEN)?;
-        let mut copy = *self.lines.latest(addr / LINE_LEN);
-        width.write(&mut copy, (addr % LINE_LEN) as usize, value);
-        self.lines.change(addr / LINE_LEN, copy);
+        self.lines
+            .write(addr / LINE_LEN, (addr % LINE_LEN) as usize, width, value);
         Ok(())
     }
 
