@@ -9,7 +9,10 @@ use Rattle.rv32_decode.specs.declared.Inst.{Inst}
 use Rattle.rv32_decode.specs.Decoding.{instruction_of}
 use Rattle.rv32_core.specs.State.{State, CoreView}
 use Rattle.rv32_core.specs.Services.{is_input, is_output, is_inside, next_input, a0, a1, a2, a7}
-use Rattle.rv32_core.specs.Effect.{data_address, fetched_word}
+use Rattle.sec_base.specs.declared.ending.Cause.{Cause}
+use Rattle.sec_base.specs.declared.width.Width.{Width}
+use Rattle.sec_base.specs.declared.width.Width.TheVariants.{One, Two, Four}
+use Rattle.rv32_core.specs.Effect.{data_address, data_fault, fetched_word}
 
 -- the line of each byte from an address on
 unfoldable pub byte_lines : ℕ → ℕ → List ℕ
@@ -31,19 +34,23 @@ service_lines state =
     if a7 state == 63 then read_lines state
     else (if a7 state == 64 then write_lines state else [])
 
--- a load or a store
-abbrev pub access_line : Inst → CoreView → List ℕ
-access_line inst core = line_of (data_address inst core) ∷ []
+-- a load or a store; one that traps touches nothing
+abbrev pub line_unless : Option Cause → ℕ → List ℕ
+line_unless None address = line_of address ∷ []
+line_unless (Some cause) address = []
+
+abbrev pub access_line : Width → Inst → CoreView → ℕ → List ℕ
+access_line width inst core size = line_unless (data_fault (data_address inst core) width size) (data_address inst core)
 
 abbrev pub data_lines : Op → Inst → State → List ℕ
-data_lines Lb inst state = access_line inst state.core
-data_lines Lh inst state = access_line inst state.core
-data_lines Lw inst state = access_line inst state.core
-data_lines Lbu inst state = access_line inst state.core
-data_lines Lhu inst state = access_line inst state.core
-data_lines Sb inst state = access_line inst state.core
-data_lines Sh inst state = access_line inst state.core
-data_lines Sw inst state = access_line inst state.core
+data_lines Lb inst state = access_line One inst state.core (length state.memory)
+data_lines Lh inst state = access_line Two inst state.core (length state.memory)
+data_lines Lw inst state = access_line Four inst state.core (length state.memory)
+data_lines Lbu inst state = access_line One inst state.core (length state.memory)
+data_lines Lhu inst state = access_line Two inst state.core (length state.memory)
+data_lines Sb inst state = access_line One inst state.core (length state.memory)
+data_lines Sh inst state = access_line Two inst state.core (length state.memory)
+data_lines Sw inst state = access_line Four inst state.core (length state.memory)
 data_lines Ecall inst state = service_lines state
 data_lines _ inst state = []
 

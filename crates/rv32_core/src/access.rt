@@ -1,5 +1,5 @@
 // Fetches, loads and stores (RISC-V unprivileged manual, section 2.6).
-ghost use Rattle.std.specs.Prelude.{◌≡◌, ◌≢◌, ◌*◌, ◌%◌, ◌^◌, ◌<◌, ℕ, List, [], ◌∷◌, None, Err, OnErr};
+ghost use Rattle.std.specs.Prelude.{◌≡◌, ◌≢◌, ◌*◌, ◌%◌, ◌^◌, ◌<◌, ℕ, List, [], ◌∷◌, None, Err, OnErr, length};
 ghost use Rattle.sec_base.specs.Geometry.{line_of};
 ghost use Rattle.sec_base.specs.Ram.{GoesOn, IsReliable};
 ghost use Rattle.sec_base.specs.Width.{width_bytes};
@@ -67,7 +67,7 @@ impl Core {
         ensures write_fault { result ≢ Err WriteFault }
 
         ensures moved { GoesOn M.extent M.sound M.moved
-            (λ lines. AreTouched result (access_line inst.now self.old) lines) ram.old ram.new }
+            (λ lines. AreTouched result (access_line width inst.now self.old (length (M.contents ram.old))) lines) ram.old ram.new }
     {
         let address = self.data_address(inst);
         if let Some(cause) = fault_at(address, width, ram.size()) {
@@ -97,7 +97,7 @@ impl Core {
         ensures write_fault { result ≢ Err WriteFault }
 
         ensures moved { GoesOn M.extent M.sound M.moved
-            (λ lines. AreTouched result (access_line inst.now self.old) lines) ram.old ram.new }
+            (λ lines. AreTouched result (access_line width inst.now self.old (length (M.contents ram.old))) lines) ram.old ram.new }
     {
         let address = self.data_address(inst);
         if let Some(cause) = fault_at(address, width, ram.size()) {
