@@ -151,6 +151,7 @@ impl<B: Bus, T: Tagger> Ram for SecureRam<B, T> {
         self.lines.size()
     }
 
+    #[inline(always)]
     fn load(&mut self, addr: u32, width: Width) -> Result<u32, MemStop>
         requires inside { addr + width_bytes width ≤ 64 * lines_of self.old }
         requires aligned { addr % width_bytes width ≡ 0 }
