@@ -150,10 +150,6 @@ room_without place (a ∷ []) h s = elim (a.place == place) as (λ t. length (co
 room_without place (a ∷ b ∷ []) h s = room_left a b (a.place == place) (b.place == place) s
 room_without place (a ∷ b ∷ c ∷ ways) h s = absurd h
 
-none_of : {A : Type 0} (found : Option A) → ¬ IsSome found → found ≡ None
-none_of None n = refl
-none_of (Some a) n = absurd (n refl)
-
 -- ---- ways that may be swapped
 
 -- one way is in order anyhow
@@ -176,40 +172,6 @@ without_in_order true place [] few = refl
 without_in_order true place (a ∷ []) few = elim (a.place == place) as (λ s. exchanged (cond (not s) (a ∷ []) []) ≡ cond (not s) (a ∷ []) []) [ true ↦ refl | false ↦ refl ]
 without_in_order true place (a ∷ b ∷ []) few = left_in_order a b (a.place == place) (b.place == place)
 without_in_order true place (a ∷ b ∷ c ∷ ways) few = absurd few
-
--- a set is one in either order
-pub set_in_order : (swapped : Bool) (ways : List Way) → IsSet (in_order swapped ways) → IsSet ways
-set_in_order false ways h = h
-set_in_order true [] h = tt
-set_in_order true (a ∷ []) h = tt
-set_in_order true (a ∷ b ∷ []) h = λ e. h (sym e)
-set_in_order true (a ∷ b ∷ c ∷ ways) h = absurd h
-
-found_either : (a b : Way) (place : ℕ) → a.place ≢ b.place → way_of place (a ∷ b ∷ []) ≡ way_of place (b ∷ a ∷ [])
-found_either a b place h = grind (arith, nat_tests)
-
--- and has the way of a place
-pub found_in_order : (swapped : Bool) (ways : List Way) (place : ℕ) → IsSet ways → way_of place (in_order swapped ways) ≡ way_of place ways
-found_in_order false ways place h = refl
-found_in_order true [] place h = refl
-found_in_order true (a ∷ []) place h = refl
-found_in_order true (a ∷ b ∷ []) place h = found_either b a place (λ e. h (sym e))
-found_in_order true (a ∷ b ∷ c ∷ ways) place h = absurd h
-
-touched_either : (a b : Way) (place : ℕ) → a.place ≢ b.place → IsSome (way_of place (a ∷ b ∷ [])) → touched place (b ∷ a ∷ []) ≡ touched place (a ∷ b ∷ [])
-touched_either a b place h s = grind (arith, nat_tests)
-
--- after a touch the order is as it was made
-pub touched_in_order : (swapped : Bool) (ways : List Way) (place : ℕ) → IsSet ways → IsSome (way_of place ways) → touched place (in_order swapped ways) ≡ touched place ways
-touched_in_order false ways place h s = refl
-touched_in_order true [] place h s = refl
-touched_in_order true (a ∷ []) place h s = refl
-touched_in_order true (a ∷ b ∷ []) place h s = touched_either a b place h s
-touched_in_order true (a ∷ b ∷ c ∷ ways) place h s = absurd h
-
--- a place without a way leaves them
-pub absent_in_order : (swapped : Bool) (ways : List Way) (place : ℕ) → IsSet ways → ¬ IsSome (way_of place ways) → touched place (in_order swapped ways) ≡ in_order swapped ways
-absent_in_order swapped ways place h n = ap (λ found. with_found found (in_order swapped ways)) (found_in_order swapped ways place h ∙ none_of (way_of place ways) n)
 
 -- the most recently used way, written in place
 abbrev pub Written : (List ℕ → List ℕ) → ℕ → List Way → List Way → Type 0
