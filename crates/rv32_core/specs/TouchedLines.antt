@@ -1,6 +1,9 @@
 -- Which lines an instruction touches: one for each access, in order.
 use Rattle.std.specs.Prelude.{◌≡◌, ℕ, ◌+◌, ◌==◌, ◌&&◌, if◌then◌else◌, List, [], ◌∷◌, length, map, Option, Some, None, Result, Ok, Err}
 use Rattle.std.specs.List.{range_with_len}
+use Rattle.sec_base.specs.declared.ending.Cause.{Cause}
+use Rattle.sec_base.specs.declared.width.Width.{Width}
+use Rattle.sec_base.specs.declared.width.Width.TheVariants.{One, Two, Four}
 use Rattle.sec_base.specs.Geometry.{line_of}
 use Rattle.sec_base.specs.Prefix.{IsPrefix}
 use Rattle.rv32_decode.specs.declared.Op.{Op}
@@ -9,9 +12,6 @@ use Rattle.rv32_decode.specs.declared.Inst.{Inst}
 use Rattle.rv32_decode.specs.Decoding.{instruction_of}
 use Rattle.rv32_core.specs.State.{State, CoreView}
 use Rattle.rv32_core.specs.Services.{is_input, is_output, is_inside, next_input, a0, a1, a2, a7}
-use Rattle.sec_base.specs.declared.ending.Cause.{Cause}
-use Rattle.sec_base.specs.declared.width.Width.{Width}
-use Rattle.sec_base.specs.declared.width.Width.TheVariants.{One, Two, Four}
 use Rattle.rv32_core.specs.Effect.{data_address, data_fault, fetched_word}
 
 -- the line of each byte from an address on
