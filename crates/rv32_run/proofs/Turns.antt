@@ -16,7 +16,7 @@ use Rattle.rv32_core.specs.Machine.{Machine, plain}
 use Rattle.rv32_core.specs.Follows.{EndsAs}
 use Rattle.rv32_core.proofs.Plain.{going_on, plain_stepped, out_of_steps_follows, step_halts, step_traps, step_stops, step_fails}
 use Rattle.rv32_run.specs.SessionView.{SessionView}
-use Rattle.rv32_run.specs.Session.{Reaches, IsMemoryEnding, IsStop, FollowsWith, retired_after, stop_ending, CarriesEnding}
+use Rattle.rv32_run.specs.Session.{Reaches, StandsAt, IsMemoryEnding, IsStop, FollowsWith, retired_after, stop_ending, CarriesEnding}
 
 -- a stop of the memory ends a program that goes on
 ends_by : (stop : MemStop) (state : State) (before printed : List ℕ) (n budget : ℕ) → EndsAs (stop_ending stop) (going_on state before n) n budget printed
@@ -88,6 +88,17 @@ turn_fails start budget n old new before printed result here within outcome is =
       let failed = subst (λ (r : Result Step StepStop). IsOutcome (next old) r old new printed) is outcome in
       failed.1 ∙ ap (λ (machine : Machine). machine.state.memory) (sym here);
 }
+
+-- The processor and the services that a turn leaves
+
+pub stands_here : (machine : Machine) (core : CoreView) (calls : ServicesView) (memory printed : List ℕ) (n : ℕ) → machine ≡ going_on (record { core = core; calls = calls; memory = memory }) printed n → StandsAt machine core calls
+stands_here machine core calls memory printed n here =
+    (ap (λ (m : Machine). m.state.core) here, ap (λ (m : Machine). m.state.calls) here)
+
+-- after an error, those that it began with
+pub stands_still : (machine : Machine) (core new_core : CoreView) (calls new_calls : ServicesView) (memory printed : List ℕ) (n : ℕ) → machine ≡ going_on (record { core = core; calls = calls; memory = memory }) printed n → (new_core ≡ core) × (new_calls ≡ calls) → StandsAt machine new_core new_calls
+stands_still machine core new_core calls new_calls memory printed n here stays =
+    (ap (λ (m : Machine). m.state.core) here ∙ sym stays.0, ap (λ (m : Machine). m.state.calls) here ∙ sym stays.1)
 
 -- a turn without an ending: the memory did not stop, and the budget allowed it
 pub carries_on : (stopped : Option MemStop) → CarriesEnding stopped None → stopped ≡ None

@@ -17,6 +17,10 @@ Reaches start n core calls memory printed = plain start n ≡ record {
   exit = None;
 }
 
+-- the machine has this processor and these services
+abbrev pub StandsAt : Machine → CoreView → ServicesView → Type 0
+StandsAt machine core calls = (machine.state.core ≡ core) × (machine.state.calls ≡ calls)
+
 -- the memory ended it: as tampering, as used up, or because the emulator is out of memory
 abbrev pub IsMemoryEnding : Ending → Type 0
 IsMemoryEnding (Halted code) = ⊥

@@ -12,7 +12,7 @@ ghost use Rattle.rv32_core.specs.Machine.{Machine, plain, opening_calls};
 ghost use Rattle.rv32_core.specs.Printing.{Prints};
 ghost use Rattle.rv32_core.specs.TouchedLines.{touched_lines};
 ghost use Rattle.rv32_run.specs.Trail.{IsInstruction, HasTrail};
-ghost use Rattle.rv32_run.specs.Session.{Reaches, FollowsWith, Turns, retired_after, IsStop, stop_ending, CarriesEnding};
+ghost use Rattle.rv32_run.specs.Session.{Reaches, StandsAt, FollowsWith, Turns, retired_after, IsStop, stop_ending, CarriesEnding};
 
 use rv32_core::{Calls, Core, Step, StepStop};
 use sec_base::{Ending, Image, MemStop, Ram, Sink};
@@ -92,6 +92,11 @@ impl<'a, M: Ram> Session<'a, M> {
             × (M.sound self.new.memory → (start : Machine) (before : List ℕ) →
             Reaches start self.old.retired self.old.core self.old.calls.services (M.contents self.old.memory) before →
             FollowsWith start self.old.budget self.new.retired result (M.contents self.new.memory) (before ++ printed)) }
+
+        // Where the memory can be relied on, it leaves the processor and the services of the plain machine.
+        ensures stands { M.sound self.new.memory → (start : Machine) (before : List ℕ) →
+            Reaches start self.old.retired self.old.core self.old.calls.services (M.contents self.old.memory) before →
+            StandsAt (plain start self.new.retired) self.new.core self.new.calls.services }
         ensures within { self.new.retired ≤ self.old.budget }
         ensures budget { self.new.budget ≡ self.old.budget }
         ensures budget_used { result ≡ OutOfSteps → self.new.retired ≡ self.old.budget }
@@ -152,6 +157,10 @@ fn turn<M: Ram, S: Sink>(
         × (M.sound memory.new → (start : Machine) (before : List ℕ) →
         Reaches start retired.old core.old calls.old.services (M.contents memory.old) before →
         Turns start budget result retired.new core.new calls.new.services (M.contents memory.new) (before ++ printed)) }
+
+    ensures stands { M.sound memory.new → (start : Machine) (before : List ℕ) →
+        Reaches start retired.old core.old calls.old.services (M.contents memory.old) before →
+        StandsAt (plain start retired.new) core.new calls.new.services }
 
     ensures out_of_steps { (result ≡ Some OutOfSteps) ↔ (retired.old ≡ budget) }
     ensures retired { retired.new ≡ retired_after result retired.old }

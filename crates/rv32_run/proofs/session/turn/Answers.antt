@@ -1,10 +1,13 @@
-use Rattle.std.proofs.Common.{◌≡◌, [], Ok, Err, refl, ap, ◌∙◌, arith}
+use Rattle.std.proofs.Common.{◌≡◌, [], Some, Ok, Err, subst, Result, refl, ap, ◌∙◌, arith}
 use Rattle.rv32_core.specs.declared.step.Step.TheVariants.{Retired, Halted}
 use Rattle.rv32_core.specs.declared.step.StepStop.TheVariants.{Trap, Mem, WriteFault}
 use Rattle.rv32_core.specs.State.{CoreView, state_of}
-use Rattle.rv32_core.proofs.Plain.{step_reaches}
+use Rattle.rv32_core.specs.Machine.{Machine}
+use Rattle.rv32_core.proofs.Plain.{plain_stepped, step_reaches}
 use Rattle.rv32_core.proofs.Printed.{prints_nothing}
-use Rattle.rv32_run.proofs.Turns.{turn_ends, turn_halts, turn_traps, turn_stops, turn_fails}
+use Rattle.rv32_run.proofs.Turns.{turn_ends, turn_halts, turn_traps, turn_stops, turn_fails, stands_here, stands_still}
+use Rattle.rv32_core.specs.Effect.{next}
+use Rattle.rv32_core.specs.Outcome.{IsOutcome}
 use Rattle.rv32_core.specs.TouchedLines.{touched_lines}
 use Rattle.rv32_run.proofs.Trails.{step_instruction, touched_front}
 use Rattle.rv32_run.proofs.session.turn.Goals as goal
@@ -175,3 +178,46 @@ returns-in-Err-WriteFault-clause-moved g c =
       touched = λ sound. touched_front c.step.result (touched_lines (state_of c.args.core.now c.args.calls.now.services (g.M.Ram.contents c.args.memory.now))) step.lines
           (step.touched (c.requires.going, sound));
     }
+
+-- the processor and the services that it leaves
+
+pub returns-then-retired-budget-clause-stands : goal.returns-then-retired-budget-clause-stands
+returns-then-retired-budget-clause-stands g c = λ sound start before here.
+    stands_here _ c.args.core.now c.args.calls.now.services (g.M.Ram.contents c.args.memory.now) before c.args.retired.now here
+
+pub returns-in-Ok-Retired-clause-stands : goal.returns-in-Ok-Retired-clause-stands
+returns-in-Ok-Retired-clause-stands g c =
+    let outcome = c.step.ensures.outcome in
+    let is : c.step.result ≡ Ok Retired = cc in
+    λ sound start before here.
+    stands_here _ c.step.new.self c.step.new.calls.services (g.M.Ram.contents c.step.new.ram) _ _
+    (step_reaches start c.args.retired.now
+    (state_of c.args.core.now c.args.calls.now.services (g.M.Ram.contents c.args.memory.now))
+    (state_of c.step.new.self c.step.new.calls.services (g.M.Ram.contents c.step.new.ram))
+    before outcome.0 c.step.result here (outcome.2 (c.requires.going, sound)) is)
+
+pub returns-in-Ok-Halted-clause-stands : goal.returns-in-Ok-Halted-clause-stands
+returns-in-Ok-Halted-clause-stands g c =
+    let outcome = c.step.ensures.outcome in
+    let is : c.step.result ≡ Ok (Halted c.in-Ok-Halted.code) = cc in
+    λ sound start before here.
+    let old = state_of c.args.core.now c.args.calls.now.services (g.M.Ram.contents c.args.memory.now) in
+    let new = state_of c.step.new.self c.step.new.calls.services (g.M.Ram.contents c.step.new.ram) in
+    let stepped = plain_stepped start c.args.retired.now old new before outcome.0 (Some c.in-Ok-Halted.code) here
+        (subst (λ r. IsOutcome (next old) r old new outcome.0) is (outcome.2 (c.requires.going, sound))) in
+    (ap (λ (m : Machine). m.state.core) stepped, ap (λ (m : Machine). m.state.calls) stepped)
+
+pub returns-in-Err-Trap-clause-stands : goal.returns-in-Err-Trap-clause-stands
+returns-in-Err-Trap-clause-stands g c = λ sound start before here.
+    stands_still _ c.args.core.now c.step.new.self c.args.calls.now.services c.step.new.calls.services
+    (g.M.Ram.contents c.args.memory.now) before c.args.retired.now here c.in-Err-Trap.ensures.stays
+
+pub returns-in-Err-Mem-clause-stands : goal.returns-in-Err-Mem-clause-stands
+returns-in-Err-Mem-clause-stands g c = λ sound start before here.
+    stands_still _ c.args.core.now c.step.new.self c.args.calls.now.services c.step.new.calls.services
+    (g.M.Ram.contents c.args.memory.now) before c.args.retired.now here c.in-Err-Mem.ensures.stays
+
+pub returns-in-Err-WriteFault-clause-stands : goal.returns-in-Err-WriteFault-clause-stands
+returns-in-Err-WriteFault-clause-stands g c = λ sound start before here.
+    stands_still _ c.args.core.now c.step.new.self c.args.calls.now.services c.step.new.calls.services
+    (g.M.Ram.contents c.args.memory.now) before c.args.retired.now here c.in-Err-WriteFault.ensures.stays

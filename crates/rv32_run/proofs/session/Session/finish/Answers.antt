@@ -106,3 +106,10 @@ returns-in-Some-clause-trail g c =
     (subst (λ (machine : Machine). IsPrefix turn.moved.lines (touched_lines machine.state)) (sym (so_far.turns.2 old start before here)) (turn.moved.touched sound))
     (λ more. turn.instruction more sound start (before ++ so_far.turns.0) (so_far.turns.2 old start before here))
     (so_far.walked old start before here)
+
+pub returns-in-Some-clause-stands : goal.returns-in-Some-clause-stands
+returns-in-Some-clause-stands g c =
+    let so_far = c.loop-ending.invariant in
+    let turn = c.in-Some.ensures in
+    λ sound start before here.
+    turn.stands sound start (before ++ so_far.turns.0) (so_far.turns.2 (turn.moved.lost sound) start before here)
