@@ -3,7 +3,9 @@
 ghost use Rattle.std.specs.Prelude.{◌<◌, ◌≤◌, length};
 ghost use Rattle.sec_base.specs.Place.{place_size};
 
-use super::{EXIT_WITH_65_AGAIN, LINE_64, PRINT_A, PRINT_A_AGAIN, WEAR_LINE_64, Zeros, flat, keys};
+use super::programs::{EXIT_WITH_65_AGAIN, PRINT_A, PRINT_A_AGAIN, WEAR_LINE_64};
+use super::zeros::Zeros;
+use super::{LINE_64, flat, keys};
 use crate::{Setup, run};
 use attest_report::write_report;
 use bus_model::FlipBus;
