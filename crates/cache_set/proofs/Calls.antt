@@ -1,14 +1,14 @@
 -- What calls leave of a cache.
-use Rattle.std.proofs.Common.{◌≡◌, ◌≢◌, inl, inr, ◌↔◌, ℕ, ◌<◌, ◌%◌, List, [], ◌∷◌, length, get_or, Option, Some, None, IfSome, IsSome, IsTrue, Bool, false, refl, sym, ◌∙◌, ap, subst, arith}
+use Rattle.std.proofs.Common.{◌≡◌, ◌≢◌, ◌⊎◌, inl, inr, ◌↔◌, ℕ, ◌<◌, ◌%◌, List, [], ◌∷◌, length, get_or, Option, Some, None, IfSome, IsSome, IsTrue, Bool, true, false, refl, sym, ◌∙◌, ap, subst, arith}
 use Rattle.std.specs.List.{Contains}
 use Rattle.std.proofs.Math.ListN.{set}
 use Rattle.std.proofs.lemmas.Bool.{true≢false}
 use Rattle.std.proofs.lemmas.Bool.Decides.{nat_tests}
-use Rattle.std.proofs.lemmas.List.{get_or_default, set-get_or}
+use Rattle.std.proofs.lemmas.List.{get_or_default, length-set, set-get_or, set-set}
 use Rattle.cache_set.specs.declared.way.Way.{Way}
 use Rattle.cache_set.specs.CacheSet.{latest_place, touched, victim, way_of, with_found, with_latest, without}
-use Rattle.cache_set.specs.Cache.{AreWays, IsCache, IsLatest, places, set_at, way_at}
-use Rattle.cache_set.proofs.Ways.{Fits, found_latest, found_others, found_touched, found_without, latest_behind, latest_found, latest_touched, none_without, room_without, ways_latest, ways_touched, ways_without}
+use Rattle.cache_set.specs.Cache.{AreWays, IsCache, IsLatest, places, set_at, way_at, with_set}
+use Rattle.cache_set.proofs.Ways.{Fits, Written, found_latest, found_others, found_touched, found_without, latest_after_touch, latest_behind, latest_found, latest_touched, none_without, room_without, ways_latest, ways_touched, ways_without}
 use Rattle.cache_set.proofs.Sets.{cache_with, same_or_not, set_here, way_beside, ways_at}
 use Rattle.cache_set.proofs.Listed.{found_at, listed_at, listed_found, right_place}
 use Rattle.std.proofs.lemmas.Option.{same_Some}
@@ -16,6 +16,10 @@ use Rattle.std.proofs.lemmas.Option.{same_Some}
 none_of : (found : Option Way) → (IsSome found → ⊥) → found ≡ None
 none_of None h = refl
 none_of (Some way) h = absurd (h refl)
+
+found_or_not : (found : Bool) → IsTrue found ⊎ (found ≡ false)
+found_or_not true = inl refl
+found_or_not false = inr refl
 
 -- the victim of a set is the way of its place
 victim_found : (ways : List Way) (way : Way) → victim ways ≡ Some way → way_of way.place ways ≡ Some way
@@ -90,6 +94,20 @@ module _ (count : ℕ) (sets : List (List Way)) (place : ℕ) (is : IsCache coun
       pub latest_latest : IsLatest (set sets (place % count) new) place
       latest_latest = ap latest_place (set_here count sets place place new is refl ∙ e) ∙ (latest_behind (without way.place old) way ∙ ap Some here)
 
+    -- where the place has a way, a number was put in its copy
+    module _ (found : Bool) (copied : List ℕ → List ℕ) (there : IsTrue found → IsSome (way_of place old)) (put : IsTrue found → Written copied place old new) (stays : found ≡ false → new ≡ old) where
+      pub cache_written : IsCache count (set sets (place % count) new)
+      cache_written = elim (found_or_not found) [
+        | inl is_there ↦ cache_latest (record { place = place; changed = true; copy = copied (put is_there).0 }) refl (put is_there).2 (inr (there is_there))
+        | inr out ↦ cache_with count sets place new is (subst (AreWays count (place % count)) (sym (stays out)) read_ways)
+      ]
+
+      pub same_written : (other : ℕ) → other ≢ place → way_at (set sets (place % count) new) other ≡ way_at sets other
+      same_written other d = elim (found_or_not found) [
+        | inl is_there ↦ same_latest (record { place = place; changed = true; copy = copied (put is_there).0 }) refl (put is_there).2 other d
+        | inr out ↦ same_where other (ap (way_of other) (stays out))
+      ]
+
     module _ (e : new ≡ without place old) where
       pub cache_without : IsCache count (set sets (place % count) new)
       cache_without = cache_with count sets place new is (subst (AreWays count (place % count)) (sym e) (ways_without count (place % count) place old read_ways))
@@ -125,3 +143,19 @@ module _ (count : ℕ) (sets : List (List Way)) (place : ℕ) (is : IsCache coun
       ap (λ n. way_of way.place (get_or sets (way.place % n) [])) is.counted
       ∙ (ap (λ i. way_of way.place (get_or sets i [])) (victim_right way (sym e))
       ∙ (ap (way_of way.place) (sym read_set) ∙ victim_found old way (sym e)))
+
+-- a touch before a way comes changes nothing of the cache
+pub put_after_touch : (count : ℕ) (sets : List (List Way)) (way : Way) → IsCache count sets →
+    with_set (with_set sets way.place (touched way.place (set_at sets way.place))) way.place
+    (with_latest way (set_at (with_set sets way.place (touched way.place (set_at sets way.place))) way.place))
+    ≡ with_set sets way.place (with_latest way (set_at sets way.place))
+put_after_touch count sets way is =
+    let here = way.place % length sets in
+    let ways = set_at sets way.place in
+    let sets' = set sets here (touched way.place ways) in
+    let there : set_at sets' way.place ≡ touched way.place ways =
+    set_here (length sets) sets way.place way.place (touched way.place ways) (subst (λ n. IsCache n sets) (sym is.counted) is) refl in
+    ap (λ n. set sets' (way.place % n) (with_latest way (set_at sets' way.place))) (length-set sets here (touched way.place ways))
+    ∙ (ap (λ (w : List Way). set sets' here (with_latest way w)) there
+    ∙ (ap (set sets' here) (latest_after_touch way ways)
+    ∙ set-set sets here (touched way.place ways) (with_latest way ways)))

@@ -1,8 +1,8 @@
 -- The ways of one set, by place.
-use Rattle.std.proofs.Common.{◌≡◌, ◌≢◌, ◌-◌, ◌==◌, ◌⊎◌, inl, inr, ℕ, ◌<◌, ◌%◌, List, [], ◌∷◌, ◌++◌, length, Option, Some, None, Bool, true, false, not, cond, if◌then◌else◌, slice_index_or, slice_set, IsSome, refl, sym, ◌∙◌, ap, subst, arith}
+use Rattle.std.proofs.Common.{◌≡◌, ◌≢◌, ◌-◌, ◌==◌, ◌⊎◌, inl, inr, ℕ, zero, suc, ◌<◌, ◌%◌, List, [], ◌∷◌, ◌++◌, length, Option, Some, None, Bool, true, false, not, cond, if◌then◌else◌, slice_get, slice_index_or, slice_set, IsSome, refl, sym, ◌∙◌, ap, subst, arith}
 use Rattle.std.specs.List.{AllByRecursion}
 use Rattle.std.proofs.lemmas.Bool.Decides.{nat_tests}
-use Rattle.std.proofs.lemmas.Option.{none-some, same_Some}
+use Rattle.std.proofs.lemmas.Option.{same_Some}
 use Rattle.cache_set.specs.declared.way.Way.{Way}
 use Rattle.cache_set.specs.CacheSet.{IsSet, copy_of, exchanged, in_order, latest_place, touched, way_of, with_found, with_latest, without}
 use Rattle.cache_set.specs.Cache.{AreWays}
@@ -105,6 +105,24 @@ set_one : (a way : Way) (s : Bool) → s ≡ (a.place == way.place) → IsSet (c
 set_one a way true e = tt
 set_one a way false e = differ a.place way.place e
 
+without_twice : (place : ℕ) (ways : List Way) → without place (without place ways) ≡ without place ways
+without_twice place [] = refl
+without_twice place (way ∷ ways) = grind (arith, nat_tests, without_twice place ways)
+
+without_behind : (place : ℕ) (ways : List Way) (way : Way) → way.place ≡ place → without place (ways ++ way ∷ []) ≡ without place ways
+without_behind place [] way e = grind (arith, nat_tests)
+without_behind place (first ∷ ways) way e = grind (arith, nat_tests, without_behind place ways way e)
+
+without_again : (found : Option Way) (place : ℕ) (ways : List Way) → way_of place ways ≡ found → without place (with_found found ways) ≡ without place ways
+without_again None place ways h = refl
+without_again (Some way) place ways h =
+    let here = place_found place ways way h in
+    without_behind place (without way.place ways) way here ∙ (ap (λ q. without place (without q ways)) here ∙ without_twice place ways)
+
+-- a touch before it changes nothing of a way that comes
+pub latest_after_touch : (way : Way) (ways : List Way) → with_latest way (touched way.place ways) ≡ with_latest way ways
+latest_after_touch way ways = ap (λ left. left ++ way ∷ []) (without_again (way_of way.place ways) way.place ways refl)
+
 -- a way that fits makes a set
 pub set_latest : (way : Way) (ways : List Way) → IsSet ways → Fits way.place ways → IsSet (with_latest way ways)
 set_latest way [] h f = tt
@@ -173,7 +191,7 @@ without_in_order true place (a ∷ []) few = elim (a.place == place) as (λ s. e
 without_in_order true place (a ∷ b ∷ []) few = left_in_order a b (a.place == place) (b.place == place)
 without_in_order true place (a ∷ b ∷ c ∷ ways) few = absurd few
 
--- the most recently used way, written in place
+-- a way, written in place
 abbrev pub Written : (List ℕ → List ℕ) → ℕ → List Way → List Way → Type 0
 Written write place old new = (x : List ℕ) × (copy_of place old ≡ Some x) × (new ≡ with_latest (record { place = place; changed = true; copy = write x }) old)
 
@@ -186,18 +204,24 @@ written_two write a b h = (b.copy, grind (arith, nat_tests), grind (arith, nat_t
 at_place : (write : List ℕ → List ℕ) (a : Way) (place : ℕ) (old new : List Way) → Some a.place ≡ Some place → Written write a.place old new → Written write place old new
 at_place write a place old new h w = subst (λ p. Written write p old new) (same_Some a.place place h) w
 
-pub written_in_order : (write : List ℕ → List ℕ) (swapped : Bool) (ways : List Way) (place : ℕ) (spare : Way) → IsSet (in_order swapped ways) → latest_place (in_order swapped ways) ≡ Some place →
-    Written write place (in_order swapped ways)
-    (in_order swapped (slice_set ways (if swapped then 0 else length ways - 1) (record {
-      place = (slice_index_or ways (if swapped then 0 else length ways - 1) spare).place;
+written_first : (write : List ℕ → List ℕ) (a b : Way) → a.place ≢ b.place → Written write a.place (a ∷ b ∷ []) (b ∷ record { place = a.place; changed = true; copy = write a.copy } ∷ [])
+written_first write a b h = (a.copy, grind (arith, nat_tests), grind (arith, nat_tests))
+
+-- the way of a place, written where it stands
+pub written_at : (write : List ℕ → List ℕ) (ways : List Way) (index place : ℕ) (spare : Way) → IsSet ways → slice_get ways index ≡ way_of place ways → index < length ways →
+    Written write place ways
+    (in_order (index == 0) (slice_set ways index (record {
+      place = (slice_index_or ways index spare).place;
       changed = true;
-      copy = write (slice_index_or ways (if swapped then 0 else length ways - 1) spare).copy;
+      copy = write (slice_index_or ways index spare).copy;
     })))
-written_in_order write false [] place spare set h = absurd (none-some place h)
-written_in_order write true [] place spare set h = absurd (none-some place h)
-written_in_order write false (a ∷ []) place spare set h = at_place write a place (a ∷ []) _ h (written_one write a)
-written_in_order write true (a ∷ []) place spare set h = at_place write a place (a ∷ []) _ h (written_one write a)
-written_in_order write false (a ∷ b ∷ []) place spare set h = at_place write b place (a ∷ b ∷ []) _ h (written_two write a b set)
-written_in_order write true (a ∷ b ∷ []) place spare set h = at_place write a place (b ∷ a ∷ []) _ h (written_two write b a set)
-written_in_order write false (a ∷ b ∷ c ∷ ways) place spare set h = absurd set
-written_in_order write true (a ∷ b ∷ c ∷ ways) place spare set h = absurd set
+written_at write [] index place spare set here inside = absurd (omega (arith, inside))
+written_at write (a ∷ []) zero place spare set here inside =
+    at_place write a place (a ∷ []) _ (ap Some (place_found place (a ∷ []) a (sym here))) (written_one write a)
+written_at write (a ∷ []) (suc index) place spare set here inside = absurd (omega (arith, inside))
+written_at write (a ∷ b ∷ []) zero place spare set here inside =
+    at_place write a place (a ∷ b ∷ []) _ (ap Some (place_found place (a ∷ b ∷ []) a (sym here))) (written_first write a b set)
+written_at write (a ∷ b ∷ []) (suc zero) place spare set here inside =
+    at_place write b place (a ∷ b ∷ []) _ (ap Some (place_found place (a ∷ b ∷ []) b (sym here))) (written_two write a b set)
+written_at write (a ∷ b ∷ []) (suc (suc index)) place spare set here inside = absurd (omega (arith, inside))
+written_at write (a ∷ b ∷ c ∷ ways) index place spare set here inside = absurd set

@@ -1,6 +1,7 @@
 // A cache of sets of two ways.
 ghost use Rattle.std.specs.Prelude.{true, false, ◌≡◌, ◌≢◌, ◌<◌, ◌≤◌, ◌+◌, ◌*◌, ◌%◌, ◌^◌, ◌↔◌, ℕ, List, replicate, length, [], Some, None, IfOk, IfSome, IsTrue, IsSome, Contains, All};
-ghost use Rattle.sec_base.specs.Width.{width_bytes, with_number};
+ghost use Rattle.std.specs.Option.{option_map};
+ghost use Rattle.sec_base.specs.Width.{width_bytes, number_at, with_number};
 ghost use Rattle.cache_set.specs.CacheSet.{HasRoom, touched, with_latest, without};
 ghost use Rattle.cache_set.specs.Cache.{AreApart, IsCache, IsLatest, copy_at, new_cache, places, set_at, victim_for, way_at, with_set};
 
@@ -93,18 +94,37 @@ impl<const SETS: usize> Cache<SETS> {
         self.sets[place as usize % SETS].change(place, copy);
     }
 
-    /// Puts a number in the copy of the most recently used way of a set, which is that of a place, and marks it.
-    pub fn write(&mut self, place: u32, at: usize, width: Width, value: u32)
-        requires latest { IsLatest self.old place }
+    /// The number at a place in the copy of a way, if the way's place has one, which is the most recently used one of its set
+    /// then.
+    pub fn read(&mut self, place: u32, at: usize, width: Width) -> Option<u32>
         requires inside { at + width_bytes width ≤ 64 }
-        ensures after { (copy : List ℕ) × (copy_at self.old place ≡ Some copy) × (self.new ≡ with_set self.old place
+        ensures value { result ≡ option_map (λ copy. number_at copy at width) (copy_at self.old place) }
+        ensures fits { IfSome result (λ n. n < 2 ^ (8 * width_bytes width)) }
+        ensures held { IsSome result ↔ IsSome (way_at self.old place) }
+        ensures after { self.new ≡ with_set self.old place (touched place (set_at self.old place)) }
+        ensures cache { IsCache SETS self.new }
+        ensures absent { result ≡ None → way_at self.new place ≡ None }
+        ensures unchanged { result ≡ None → self.new ≡ self.old }
+        ensures same { (other : ℕ) → way_at self.new other ≡ way_at self.old other }
+    {
+        self.sets[place as usize % SETS].read(place, at, width)
+    }
+
+    /// Puts a number in the copy of a way, if the way's place has one, marks it, and makes it the most recently used one of
+    /// its set. Whether the place has one.
+    pub fn write(&mut self, place: u32, at: usize, width: Width, value: u32) -> bool
+        requires inside { at + width_bytes width ≤ 64 }
+        ensures held { IsTrue result ↔ IsSome (way_at self.old place) }
+        ensures after { IsTrue result → (copy : List ℕ) × (copy_at self.old place ≡ Some copy) × (self.new ≡ with_set self.old place
             (with_latest (record { place = place; changed = true; copy = with_number copy at width value }) (set_at self.old place))) }
         ensures cache { IsCache SETS self.new }
-        ensures changed { (copy : List ℕ) → copy_at self.old place ≡ Some copy →
+        ensures changed { IsTrue result → (copy : List ℕ) → copy_at self.old place ≡ Some copy →
             way_at self.new place ≡ Some (record { place = place; changed = true; copy = with_number copy at width value }) }
+        ensures absent { result ≡ false → way_at self.new place ≡ None }
+        ensures unchanged { result ≡ false → self.new ≡ self.old }
         ensures same { (other : ℕ) → other ≢ place → way_at self.new other ≡ way_at self.old other }
     {
-        self.sets[place as usize % SETS].write(place, at, width, value);
+        self.sets[place as usize % SETS].write(place, at, width, value)
     }
 
     /// The way that goes out where a place comes that has none: the least recently used one of its set, where both are in

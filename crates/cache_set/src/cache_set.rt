@@ -1,6 +1,7 @@
 // One set of a cache.
-ghost use Rattle.std.specs.Prelude.{true, false, ◌≡◌, ◌==◌, ◌+◌, ◌-◌, ◌<◌, ◌≤◌, ◌↔◌, ℕ, List, [], ◌∷◌, ◌++◌, Some, None, length, not, if◌then◌else◌, IfSome, IsTrue, IsSome};
-ghost use Rattle.sec_base.specs.Width.{width_bytes, with_number};
+ghost use Rattle.std.specs.Prelude.{true, false, ◌≡◌, ◌==◌, ◌+◌, ◌-◌, ◌<◌, ◌≤◌, ◌*◌, ◌^◌, ◌↔◌, ℕ, List, [], ◌∷◌, ◌++◌, Some, None, length, slice_get, not, if◌then◌else◌, IfSome, IsTrue, IsSome};
+ghost use Rattle.std.specs.Option.{option_map};
+ghost use Rattle.sec_base.specs.Width.{width_bytes, number_at, with_number};
 ghost use Rattle.cache_set.specs.CacheSet.{IsSet, HasRoom, copy_of, in_order, latest_place, touched, victim, way_of, with_latest, without};
 
 use crate::way::Way;
@@ -57,13 +58,7 @@ impl CacheSet {
         ensures held { IsTrue result ↔ IsSome (way_of place self.old) }
         ensures after { self.new ≡ touched place self.old }
     {
-        match position(self.ways.as_slice(), place) {
-            Some(index) => {
-                self.swapped = index + 1 != self.ways.len();
-                true
-            }
-            None => false,
-        }
+        find(self.ways.as_slice(), &mut self.swapped, place).is_some()
     }
 
     // The copy of the most recently used way, which is that of a place.
@@ -84,22 +79,33 @@ impl CacheSet {
         change_latest(self.ways.as_mut_slice(), self.swapped, place, copy);
     }
 
-    // Puts a number in the copy of the most recently used way, which is that of a place, and marks it.
-    pub(crate) fn write(&mut self, place: u32, at: usize, width: Width, value: u32)
+    // The number at a place in the copy of a way, if the way's place has one, which is the most recently used one then.
+    pub(crate) fn read(&mut self, place: u32, at: usize, width: Width) -> Option<u32>
         requires apart { IsSet self.old }
-        requires latest { latest_place self.old ≡ Some place }
         requires inside { at + width_bytes width ≤ 64 }
-        ensures { (copy : List ℕ) × (copy_of place self.old ≡ Some copy)
-            × (self.new ≡ with_latest (record { place = place; changed = true; copy = with_number copy at width value }) self.old) }
+        ensures value { result ≡ option_map (λ copy. number_at copy at width) (copy_of place self.old) }
+        ensures fits { IfSome result (λ n. n < 2 ^ (8 * width_bytes width)) }
+        ensures after { self.new ≡ touched place self.old }
     {
-        write_latest(
-            self.ways.as_mut_slice(),
-            self.swapped,
-            place,
-            at,
-            width,
-            value,
-        );
+        let index = find(self.ways.as_slice(), &mut self.swapped, place)?;
+        Some(width.read(&self.ways.as_slice()[index].copy, at))
+    }
+
+    // Puts a number in the copy of a way, if the way's place has one, marks it, and makes it the most recently used one.
+    // Whether the place has one.
+    pub(crate) fn write(&mut self, place: u32, at: usize, width: Width, value: u32) -> bool
+        requires apart { IsSet self.old }
+        requires inside { at + width_bytes width ≤ 64 }
+        ensures held { IsTrue result ↔ IsSome (way_of place self.old) }
+        ensures after { IsTrue result → (copy : List ℕ) × (copy_of place self.old ≡ Some copy)
+            × (self.new ≡ with_latest (record { place = place; changed = true; copy = with_number copy at width value }) self.old) }
+        ensures unchanged { result ≡ false → self.new ≡ self.old }
+    {
+        let Some(index) = find(self.ways.as_slice(), &mut self.swapped, place) else {
+            return false;
+        };
+        write_at(self.ways.as_mut_slice(), index, place, at, width, value);
+        true
     }
 
     // The least recently used of two ways.
@@ -133,12 +139,28 @@ impl CacheSet {
     }
 }
 
+// Which way a place has, which is the most recently used one then.
+fn find(ways: &[Way], swapped: &mut bool, place: u32) -> Option<usize>
+    requires { IsSet ways.now }
+    ensures held { IsSome result ↔ IsSome (way_of place ways.now) }
+    ensures here { IfSome result (λ index. slice_get ways.now index ≡ way_of place ways.now) }
+    ensures inside { IfSome result (λ index. index < length ways.now) }
+    ensures latest { IfSome result (λ index. swapped.new ≡ (index == 0)) }
+    ensures touched { IfSome result (λ index. touched place ways.now ≡ in_order swapped.new ways.now) }
+    ensures unchanged { result ≡ None → swapped.new ≡ swapped.old }
+{
+    let index = position(ways, place)?;
+    *swapped = index == 0;
+    Some(index)
+}
+
 // Which way a place has.
 fn position(ways: &[Way], place: u32) -> Option<usize>
     requires { IsSet ways.now }
     ensures held { IsSome result ↔ IsSome (way_of place ways.now) }
-    ensures few { IfSome result (λ index. index < 2) }
-    ensures last { IfSome result (λ index. touched place ways.now ≡ in_order (not (index + 1 == length ways.now)) ways.now) }
+    ensures inside { IfSome result (λ index. index < length ways.now) }
+    ensures here { IfSome result (λ index. slice_get ways.now index ≡ way_of place ways.now) }
+    ensures touched { IfSome result (λ index. touched place ways.now ≡ in_order (index == 0) ways.now) }
 {
     if !ways.is_empty() && ways[0].place == place {
         return Some(0);
@@ -172,15 +194,16 @@ fn change_latest(ways: &mut [Way], swapped: bool, place: u32, copy: [u8; 64])
     };
 }
 
-fn write_latest(ways: &mut [Way], swapped: bool, place: u32, at: usize, width: Width, value: u32)
-    requires apart { IsSet (in_order swapped ways.old) }
-    requires latest { latest_place (in_order swapped ways.old) ≡ Some place }
+// Puts a number in the copy of the way that a place has, and marks it.
+fn write_at(ways: &mut [Way], index: usize, place: u32, at: usize, width: Width, value: u32)
+    requires apart { IsSet ways.old }
+    requires index { index < length ways.old }
+    requires here { slice_get ways.old index ≡ way_of place ways.old }
     requires inside { at + width_bytes width ≤ 64 }
-    ensures { (copy : List ℕ) × (copy_of place (in_order swapped ways.old) ≡ Some copy)
-        × (in_order swapped ways.new ≡ with_latest (record { place = place; changed = true; copy = with_number copy at width value }) (in_order swapped ways.old)) }
+    ensures { (copy : List ℕ) × (copy_of place ways.old ≡ Some copy)
+        × (in_order (index == 0) ways.new ≡ with_latest (record { place = place; changed = true; copy = with_number copy at width value }) ways.old) }
 {
-    let latest = latest_index(ways.len(), swapped);
-    let way = &mut ways[latest];
+    let way = &mut ways[index];
     width.write(&mut way.copy, at, value);
     way.changed = true;
 }

@@ -166,9 +166,6 @@ clean_written stored count lines way = clean_if way.changed stored count lines w
 abbrev pub IsPart : List (List Way) → List (List Way) → Type 0
 IsPart lines' lines = (line : ℕ) (way : Way) → way_at lines' line ≡ Some way → way_at lines line ≡ Some way
 
-pub part_same : (lines lines' : List (List Way)) → ((other : ℕ) → way_at lines' other ≡ way_at lines other) → IsPart lines' lines
-part_same lines lines' same line way is = sym (same line) ∙ is
-
 pub part_gone : (lines lines' : List (List Way)) (place : ℕ) → way_at lines' place ≡ None → ((other : ℕ) → other ≢ place → way_at lines' other ≡ way_at lines other) → IsPart lines' lines
 part_gone lines lines' place none others line way is = elim (same_or_not line place) [
   | inl here ↦ absurd (none-some way (sym none ∙ (ap (way_at lines') (sym here) ∙ is)))

@@ -9,8 +9,9 @@ use Rattle.sec_base.specs.declared.stop.MemStop.{MemStop}
 use Rattle.cache_set.specs.declared.way.Way.{Way}
 use Rattle.cache_set.specs.CacheSet.{IsSet, touched}
 use Rattle.cache_set.specs.Cache.{AreSets, IsCache, copy_at, place_of, places, set_at, victim_if, way_at, with_set}
+use Rattle.cache_set.proofs.Calls.{put_after_touch}
 use Rattle.cache_set.proofs.Listed.{found_at, listed_at}
-use Rattle.line_cache.specs.LineCache.{AreClean, AreCopies, IsMiss, IsMissed, IsStep, IsStoppedMiss, LineCacheView, brought, brought_if, contents_over, if_changed, leaving, line_sets, most_held, with_new, with_room}
+use Rattle.line_cache.specs.LineCache.{AreClean, AreCopies, IsMiss, IsMissed, IsStep, IsStoppedMiss, LineCacheView, brought, brought_if, contents_over, if_changed, leaving, line_sets, most_held, with_changed, with_new, with_room}
 use Rattle.line_cache.specs.WriteBack.{IsGone, IsWritten, written, written_if}
 use Rattle.line_cache.proofs.Lines.{clean_part, clean_written, line_written, over_gone, over_written, part_gone, same_or_not}
 
@@ -55,6 +56,16 @@ brought_held_if (Some way) lines line copy s = refl
 
 pub brought_held : (lines : List (List Way)) (line : ℕ) (copy : List ℕ) → IsSome (way_at lines line) → with_set lines line (touched line (set_at lines line)) ≡ brought lines line copy
 brought_held lines line copy s = brought_held_if (way_at lines line) lines line copy s
+
+-- a line that is held, and changed then
+changed_held_if : (found : Option Way) (lines : List (List Way)) (line : ℕ) (copy copy' : List ℕ) → IsCache line_sets lines → IsSome found →
+    with_changed (brought_if found lines line copy) line copy' ≡ with_changed lines line copy'
+changed_held_if None lines line copy copy' is s = absurd (true≢false (sym s))
+changed_held_if (Some way) lines line copy copy' is s = put_after_touch line_sets lines (record { place = line; changed = true; copy = copy' }) is
+
+pub changed_held : (lines : List (List Way)) (line : ℕ) (copy copy' : List ℕ) → IsCache line_sets lines → IsSome (way_at lines line) →
+    with_changed (brought lines line copy) line copy' ≡ with_changed lines line copy'
+changed_held lines line copy copy' is s = changed_held_if (way_at lines line) lines line copy copy' is s
 
 -- the way that goes out, and what the store has then
 module _ (count : ℕ) (stored stored' : List ℕ) (lines lines' : List (List Way)) (way : Way) (long : length stored ≡ 64 * count) (copies : AreCopies count lines) (is : way_at lines way.place ≡ Some way) (put : stored' ≡ written way stored) where
@@ -230,6 +241,10 @@ pub way_of_copy : (found : Option Way) (copy : List ℕ) → option_map (λ (way
 way_of_copy None copy h = absurd (none-some copy h)
 way_of_copy (Some way) copy h = (way, refl, same_Some way.copy copy h)
 
+-- a copy stays where its way does
+pub copy_touched : (lines lines' : List (List Way)) (line : ℕ) (copy : List ℕ) → way_at lines' line ≡ way_at lines line → copy_at lines line ≡ Some copy → copy_at lines' line ≡ Some copy
+copy_touched lines lines' line copy same is = ap (option_map (λ (way : Way). way.copy)) same ∙ is
+
 -- a call that then changes the line's copy
 module _ {S : Type 0} (read_moved : S → ℕ → Result (List ℕ) MemStop → S → Type 0) (write_moved : S → ℕ → List ℕ → Result (Unit {0}) MemStop → S → Type 0) (before after after' : LineCacheView S) (line : ℕ) (stays : after'.store ≡ after.store) where
   pub step_changed : IsCache line_sets after'.lines → IsStep read_moved write_moved before line after →
@@ -245,22 +260,4 @@ module _ {S : Type 0} (read_moved : S → ℕ → Result (List ℕ) MemStop → 
       | inr apart ↦ step.held other (held_before after'.lines is other after.lines (inl (others other apart)) c)
     ];
     few = few_held after'.lines is;
-  }
-
-  missed_changed_if : (answer : Result (List ℕ) MemStop) (copied : List ℕ → List ℕ) →
-      IfOk answer (λ bytes. copy_at after.lines line ≡ Some bytes) →
-      ((bytes : List ℕ) → copy_at after.lines line ≡ Some bytes → copy_at after'.lines line ≡ Some (copied bytes)) →
-      IfOk answer (λ bytes. copy_at after'.lines line ≡ Some (copied bytes))
-  missed_changed_if (Ok bytes) copied there changed = changed bytes there
-  missed_changed_if (Err stop) copied there changed = tt
-
-  pub missed_changed : (copied : List ℕ → List ℕ) (stop : Option MemStop) →
-      IsMissed read_moved write_moved before.lines before.store line (λ bytes. bytes) stop after.lines after.store →
-      ((bytes : List ℕ) → copy_at after.lines line ≡ Some bytes → copy_at after'.lines line ≡ Some (copied bytes)) →
-      IsMissed read_moved write_moved before.lines before.store line copied stop after'.lines after'.store
-  missed_changed copied stop missed_it changed = record {
-    answer = missed_it.answer;
-    miss = subst (λ (s : S). IsMiss read_moved write_moved (leaving before.lines line) before.store line missed_it.answer s) (sym stays) missed_it.miss;
-    stops = missed_it.stops;
-    copy = missed_changed_if missed_it.answer copied missed_it.copy changed;
   }

@@ -10,8 +10,7 @@ ghost use Rattle.line_cache.specs.WriteBack.{IsGone, IsWritten, written};
 use cache_set::{Cache, Way};
 use sec_base::{LineStore, MemStop};
 
-// Brings in a line that is not held. A call on a held line does without it, and is quick where this stands apart.
-#[inline(never)]
+// Brings in a line that is not held.
 pub(crate) fn fetch<S: LineStore>(
     store: &mut S,
     lines: &mut Cache<64>,

@@ -90,9 +90,12 @@ impl<S: LineStore> LineCache<S> {
         store
     }
 
-    // Makes a line the most recently used one of its set. The first stop is kept.
+    // Brings in a line that is not held. The first stop is kept. A call on a held line does without it, and is quick where
+    // this stands apart.
+    #[inline(never)]
     fn bring(&mut self, line: u32) -> Result<(), MemStop>
         requires inside { line < S.extent self.old.store }
+        requires absent { way_at self.old.lines line ≡ None }
 
         ensures contents { stopped S.stopped self.old ≡ None → S.sound self.new.store →
             contents S.contents S.extent self.new ≡ contents S.contents S.extent self.old }
@@ -106,19 +109,14 @@ impl<S: LineStore> LineCache<S> {
         ensures lost { S.sound self.new.store → S.sound self.old.store }
         ensures kept { self.new.stop ≡ option_or self.old.stop (result_err result) }
         ensures moved { IsStep S.read_moved S.write_moved self.old line self.new }
-        ensures hit { Contains (held_lines self.old) line → IsOk result × (self.new.store ≡ self.old.store)
-            × (way_at self.new.lines line ≡ way_at self.old.lines line) }
-        ensures missed { ¬ Contains (held_lines self.old) line → IsMissed S.read_moved S.write_moved self.old.lines self.old.store line
-            (λ bytes. bytes) (result_err result) self.new.lines self.new.store }
+        ensures missed { IsMissed S.read_moved S.write_moved self.old.lines self.old.store line (λ bytes. bytes)
+            (result_err result) self.new.lines self.new.store }
 
         ensures ways { OnOk result ((copy : List ℕ) → copy_at self.new.lines line ≡ Some copy →
             self.new.lines ≡ brought self.old.lines line copy) }
         ensures ways_left { IfErr result (λ stop. IsStoppedMiss S.read_moved S.write_moved (leaving self.old.lines line)
             self.old.lines self.old.store line stop self.new.lines self.new.store) }
     {
-        if self.lines.touch(line) {
-            return Ok(());
-        }
         match fetch(&mut self.store, &mut self.lines, line) {
             Ok(()) => Ok(()),
             Err(stop) => {
@@ -184,11 +182,15 @@ impl<S: LineStore> Ram for LineCache<S> {
         ensures ways_left { IfErr result (λ stop. IsStoppedMiss S.read_moved S.write_moved (leaving self.old.lines (line_of addr))
             self.old.lines self.old.store (line_of addr) stop self.new.lines self.new.store) }
     {
-        self.bring(addr / LINE_LEN)?;
-        let copy = self.lines.latest(addr / LINE_LEN);
-        Ok(width.read(copy, (addr % LINE_LEN) as usize))
+        let (line, at) = (addr / LINE_LEN, (addr % LINE_LEN) as usize);
+        if let Some(value) = self.lines.read(line, at, width) {
+            return Ok(value);
+        }
+        self.bring(line)?;
+        Ok(width.read(self.lines.latest(line), at))
     }
 
+    #[inline(always)]
     fn store(&mut self, addr: u32, width: Width, value: u32) -> Result<(), MemStop>
         requires inside { addr + width_bytes width ≤ 64 * S.extent self.old.store }
         requires aligned { addr % width_bytes width ≡ 0 }
@@ -229,9 +231,12 @@ impl<S: LineStore> Ram for LineCache<S> {
         ensures ways_left { IfErr result (λ stop. IsStoppedMiss S.read_moved S.write_moved (leaving self.old.lines (line_of addr))
             self.old.lines self.old.store (line_of addr) stop self.new.lines self.new.store) }
     {
-        self.bring(addr / LINE_LEN)?;
-        self.lines
-            .write(addr / LINE_LEN, (addr % LINE_LEN) as usize, width, value);
+        let (line, at) = (addr / LINE_LEN, (addr % LINE_LEN) as usize);
+        if self.lines.write(line, at, width, value) {
+            return Ok(());
+        }
+        self.bring(line)?;
+        self.lines.write(line, at, width, value);
         Ok(())
     }
 

@@ -228,6 +228,7 @@ impl<B: Bus, T: Tagger> Ram for SecureRam<B, T> {
         self.lines.load(addr, width)
     }
 
+    #[inline(always)]
     fn store(&mut self, addr: u32, width: Width, value: u32) -> Result<(), MemStop>
         requires inside { addr + width_bytes width ≤ 64 * lines_of self.old }
         requires aligned { addr % width_bytes width ≡ 0 }

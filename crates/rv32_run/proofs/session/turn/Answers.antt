@@ -1,4 +1,4 @@
-use Rattle.std.proofs.Common.{◌≡◌, [], Some, Ok, Err, subst, Result, refl, ap, ◌∙◌, arith}
+use Rattle.std.proofs.Common.{◌≡◌, [], Some, Ok, Err, subst, refl, ap, ◌∙◌, arith}
 use Rattle.rv32_core.specs.declared.step.Step.TheVariants.{Retired, Halted}
 use Rattle.rv32_core.specs.declared.step.StepStop.TheVariants.{Trap, Mem, WriteFault}
 use Rattle.rv32_core.specs.State.{CoreView, state_of}

@@ -1,61 +1,107 @@
-use Rattle.std.proofs.Common.{◌≡◌, ◌∙◌, ℕ, ◌%◌, ◌/◌, List, Some, Result, Err, IfErr, refl, sym, ap, subst}
-use Rattle.std.proofs.lemmas.Bool.{true≢false}
-use Rattle.std.proofs.lemmas.Option.{same_Some}
-use Rattle.std.proofs.lemmas.Result.{err_from_is_err_and}
-use Rattle.sec_base.specs.declared.stop.MemStop.{MemStop}
-use Rattle.sec_base.specs.Lines.{line_at}
+use Rattle.std.proofs.Common.{◌≡◌, ◌∙◌, ℕ, ◌%◌, ◌/◌, List, Some, IsSome, Contains, refl, sym, ap, subst}
 use Rattle.sec_base.specs.Width.{number_at}
-use Rattle.sec_base.proofs.LineNumbers.{number_read}
-use Rattle.cache_set.specs.Cache.{copy_at, way_at}
-use Rattle.line_cache.specs.LineCache.{IsStoppedMiss, leaving, LineCacheView, contents, contents_over}
-use Rattle.line_cache.proofs.Lines.{over_held}
-use Rattle.line_cache.proofs.Steps.{way_of_copy}
+use Rattle.cache_set.specs.Cache.{copy_at}
+use Rattle.cache_set.proofs.Listed.{listed_at}
+use Rattle.line_cache.specs.LineCache.{IsStep, LineCacheView, brought, contents, held_lines, stopped}
+use Rattle.line_cache.proofs.Lines.{over_touched}
+use Rattle.line_cache.proofs.Numbers.{as_before, copy_of_number, read_over}
+use Rattle.line_cache.proofs.Steps.{brought_held, copy_touched, not_held, step_hit}
 use Rattle.line_cache.proofs.line_cache.LineCacheRam.load.Goals as goal
 
--- the line does not come
+-- a line that is held
+
+pub returns-in-Some-clause-value : goal.returns-in-Some-clause-value
+returns-in-Some-clause-value g c = λ still sound.
+    let copy = copy_of_number (copy_at c.self.inside.lines (c.args.addr / 64)) (λ bytes. number_at bytes (c.args.addr % 64) c.args.width) c.in-Some.value
+        (sym c.in-Some.is ∙ c.read.ensures.value) in
+    read_over (g.S.LineStore.contents c.self.inside.store) (g.S.LineStore.extent c.self.inside.store) c.self.inside.lines c.args.addr c.args.width
+    c.self.invariant.copies c.requires.aligned copy.0 copy.1 c.in-Some.value copy.2
+    ∙ ap (λ (m : LineCacheView g.row.S.Denot). number_at (contents g.S.LineStore.contents g.S.LineStore.extent m) c.args.addr c.args.width) c.self.view_is
+
+pub returns-in-Some-clause-contents : goal.returns-in-Some-clause-contents
+returns-in-Some-clause-contents g c = λ still sound.
+    over_touched (g.S.LineStore.contents c.self.inside.store) (g.S.LineStore.extent c.self.inside.store) c.self.inside.lines c.read.new.self c.read.ensures.same
+    ∙ ap (contents g.S.LineStore.contents g.S.LineStore.extent) c.self.view_is
+
+pub returns-in-Some-clause-moved : goal.returns-in-Some-clause-moved
+returns-in-Some-clause-moved g c = (
+  record { store = c.self.inside.store; lines = c.read.new.self; stop = c.self.inside.stop },
+  subst (λ (m : LineCacheView g.row.S.Denot). IsStep g.S.LineStore.read_moved g.S.LineStore.write_moved m (c.args.addr / 64)
+      (record { store = c.self.inside.store; lines = c.read.new.self; stop = c.self.inside.stop })) c.self.view_is
+      (step_hit g.S.LineStore.read_moved g.S.LineStore.write_moved
+      (record { store = c.self.inside.store; lines = c.self.inside.lines; stop = c.self.inside.stop })
+      (record { store = c.self.inside.store; lines = c.read.new.self; stop = c.self.inside.stop }) (c.args.addr / 64)
+      c.self.invariant.copies.cache c.read.ensures.cache (c.read.ensures.held.0 (subst IsSome (sym c.in-Some.is) refl)) refl c.read.ensures.same),
+  refl,
+)
+
+pub returns-in-Some-clause-missed : goal.returns-in-Some-clause-missed
+returns-in-Some-clause-missed g c = λ out.
+    absurd (out (subst (λ (m : LineCacheView g.row.S.Denot). Contains (held_lines m) (c.args.addr / 64)) c.self.view_is
+    (listed_at c.self.inside.lines (c.args.addr / 64) (c.read.ensures.held.0 (subst IsSome (sym c.in-Some.is) refl)))))
+
+pub returns-in-Some-clause-ways : goal.returns-in-Some-clause-ways
+returns-in-Some-clause-ways g c =
+    let line = c.args.addr / 64 in
+    let copy = copy_of_number (copy_at c.self.inside.lines line) (λ bytes. number_at bytes (c.args.addr % 64) c.args.width) c.in-Some.value
+        (sym c.in-Some.is ∙ c.read.ensures.value) in (
+      copy.0,
+      copy_touched c.self.inside.lines c.read.new.self line copy.0 (c.read.ensures.same line) copy.1,
+      subst (λ (m : LineCacheView g.row.S.Denot). c.read.new.self ≡ brought m.lines line copy.0) c.self.view_is
+          (c.read.ensures.after ∙ brought_held c.self.inside.lines line copy.0 (c.read.ensures.held.0 (subst IsSome (sym c.in-Some.is) refl))),
+    )
+
+-- a line that is not, and does not come
 
 pub returns-in_err-bring-clause-moved : goal.returns-in_err-bring-clause-moved
-returns-in_err-bring-clause-moved g c = (c.bring.new.self, c.in_err-bring.ensures.moved, refl)
+returns-in_err-bring-clause-moved g c = (
+  c.bring.new.self,
+  subst (λ (m : LineCacheView g.row.S.Denot). IsStep g.S.LineStore.read_moved g.S.LineStore.write_moved m (c.args.addr / 64) c.bring.new.self)
+      (as_before c.self.inside.store c.self.inside.stop c.self.inside.lines c.read.new.self c.args.self.now (c.read.ensures.unchanged c.in_default.is) c.self.view_is)
+      c.in_err-bring.ensures.moved,
+  refl,
+)
 
 pub returns-in_err-bring-clause-hit : goal.returns-in_err-bring-clause-hit
-returns-in_err-bring-clause-hit g c = λ held. absurd (true≢false (sym (c.in_err-bring.ensures.hit held).0))
+returns-in_err-bring-clause-hit g c = λ held.
+    absurd (not_held c.read.new.self c.read.ensures.cache (c.args.addr / 64) (c.read.ensures.absent c.in_default.is)
+    (subst (λ (m : LineCacheView g.row.S.Denot). Contains (held_lines m) (c.args.addr / 64))
+    (sym (as_before c.self.inside.store c.self.inside.stop c.self.inside.lines c.read.new.self c.args.self.now (c.read.ensures.unchanged c.in_default.is) c.self.view_is)) held))
 
-pub returns-in_err-bring-clause-ways_left : goal.returns-in_err-bring-clause-ways_left
-returns-in_err-bring-clause-ways_left g c =
-    let p = err_from_is_err_and c.from_residual.result c.from_residual.ensures.1 in
-    let line = c.args.addr / 64 in
-    subst (λ (answer : Result ℕ MemStop). IfErr answer (λ stop. IsStoppedMiss g.S.LineStore.read_moved g.S.LineStore.write_moved (leaving c.args.self.now.lines line)
-    c.args.self.now.lines c.args.self.now.store line stop c.bring.new.self.lines c.bring.new.self.store)) (sym (p.1 ∙ ap Err p.2)) c.in_err-bring.ensures.ways_left
-
--- it came
+-- it comes
 
 pub returns-clause-value : goal.returns-clause-value
 returns-clause-value g c = λ still sound.
-    let line = c.args.addr / 64 in
-    let way = way_of_copy (way_at c.self.inside.lines line) c.latest-copy.result.now c.latest-copy.ensures in
-    let copies = c.self.invariant.copies in
-    let stored = g.S.LineStore.contents c.self.inside.store in
-    let count = g.S.LineStore.extent c.self.inside.store in
-    let held : line_at (contents_over stored count c.self.inside.lines) line ≡ way.0.copy =
-    over_held stored count c.self.inside.lines line way.0 (copies.inside line way.0 way.1) way.1 (copies.whole line way.0 way.1) in
-    number_read (contents_over stored count c.self.inside.lines) c.latest-copy.result.now c.args.addr c.read.result c.args.width c.requires.aligned
-    (sym (held ∙ way.2)) c.read.ensures.value
+    let same = as_before c.self.inside.store c.self.inside.stop c.self.inside.lines c.read.new.self c.args.self.now (c.read.ensures.unchanged c.in_default.is) c.self.view_is in
+    read_over (g.S.LineStore.contents c.self-2.inside.store) (g.S.LineStore.extent c.self-2.inside.store) c.self-2.inside.lines c.args.addr c.args.width
+    c.self-2.invariant.copies c.requires.aligned c.latest.result.now c.latest.ensures c.read-2.result c.read-2.ensures.value
     ∙ ap (λ (bytes : List ℕ). number_at bytes c.args.addr c.args.width)
-    (ap (contents g.S.LineStore.contents g.S.LineStore.extent) c.self.view_is ∙ c.in_ok-bring.ensures.contents still sound)
+    (ap (contents g.S.LineStore.contents g.S.LineStore.extent) c.self-2.view_is
+    ∙ (c.in_ok-bring.ensures.contents (ap (stopped g.S.LineStore.stopped) same ∙ still) sound ∙ ap (contents g.S.LineStore.contents g.S.LineStore.extent) same))
 
 pub returns-clause-moved : goal.returns-clause-moved
-returns-clause-moved g c = (c.bring.new.self, c.in_ok-bring.ensures.moved, refl)
+returns-clause-moved g c = (
+  c.bring.new.self,
+  subst (λ (m : LineCacheView g.row.S.Denot). IsStep g.S.LineStore.read_moved g.S.LineStore.write_moved m (c.args.addr / 64) c.bring.new.self)
+      (as_before c.self.inside.store c.self.inside.stop c.self.inside.lines c.read.new.self c.args.self.now (c.read.ensures.unchanged c.in_default.is) c.self.view_is)
+      c.in_ok-bring.ensures.moved,
+  refl,
+)
 
 pub returns-clause-hit : goal.returns-clause-hit
-returns-clause-hit g c = λ held. let hit = c.in_ok-bring.ensures.hit held in (refl, hit.1, hit.2)
-
-pub returns-clause-copy : goal.returns-clause-copy
-returns-clause-copy g c = λ copy is.
-    c.read.ensures.value ∙ ap (λ (bytes : List ℕ). number_at bytes (c.args.addr % 64) c.args.width)
-    (same_Some c.latest-copy.result.now copy (sym c.latest-copy.ensures ∙ (ap (λ (m : LineCacheView g.row.S.Denot). copy_at m.lines (c.args.addr / 64)) c.self.view_is ∙ is)))
+returns-clause-hit g c = λ held.
+    absurd (not_held c.read.new.self c.read.ensures.cache (c.args.addr / 64) (c.read.ensures.absent c.in_default.is)
+    (subst (λ (m : LineCacheView g.row.S.Denot). Contains (held_lines m) (c.args.addr / 64))
+    (sym (as_before c.self.inside.store c.self.inside.stop c.self.inside.lines c.read.new.self c.args.self.now (c.read.ensures.unchanged c.in_default.is) c.self.view_is)) held))
 
 pub returns-clause-ways : goal.returns-clause-ways
 returns-clause-ways g c =
-    let is : copy_at c.bring.new.self.lines (c.args.addr / 64) ≡ Some c.latest-copy.result.now =
-    ap (λ (m : LineCacheView g.row.S.Denot). copy_at m.lines (c.args.addr / 64)) (sym c.self.view_is) ∙ c.latest-copy.ensures in
-    (c.latest-copy.result.now, is, c.in_ok-bring.ensures.ways c.latest-copy.result.now is)
+    let line = c.args.addr / 64 in
+    let same = as_before c.self.inside.store c.self.inside.stop c.self.inside.lines c.read.new.self c.args.self.now (c.read.ensures.unchanged c.in_default.is) c.self.view_is in
+    let is : copy_at c.bring.new.self.lines line ≡ Some c.latest.result.now =
+    ap (λ (m : LineCacheView g.row.S.Denot). copy_at m.lines line) (sym c.self-2.view_is) ∙ c.latest.ensures in (
+      c.latest.result.now,
+      is,
+      c.in_ok-bring.ensures.ways c.latest.result.now is
+          ∙ ap (λ (m : LineCacheView g.row.S.Denot). brought m.lines line c.latest.result.now) same,
+    )
