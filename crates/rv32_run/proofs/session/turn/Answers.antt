@@ -204,7 +204,7 @@ returns-in-Ok-Halted-clause-stands g c =
     let old = state_of c.args.core.now c.args.calls.now.services (g.M.Ram.contents c.args.memory.now) in
     let new = state_of c.step.new.self c.step.new.calls.services (g.M.Ram.contents c.step.new.ram) in
     let stepped = plain_stepped start c.args.retired.now old new before outcome.0 (Some c.in-Ok-Halted.code) here
-        (subst (λ r. IsOutcome (next old) r old new outcome.0) is (outcome.2 (c.requires.going, sound))) in
+    (subst (λ r. IsOutcome (next old) r old new outcome.0) is (outcome.2 (c.requires.going, sound))) in
     (ap (λ (m : Machine). m.state.core) stepped, ap (λ (m : Machine). m.state.calls) stepped)
 
 pub returns-in-Err-Trap-clause-stands : goal.returns-in-Err-Trap-clause-stands

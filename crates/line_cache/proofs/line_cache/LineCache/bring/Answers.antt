@@ -70,7 +70,6 @@ returns-in-Ok-clause-ways g c = λ copy is.
     subst (λ (m : LineCacheView g.row.S.Denot). c.fetch.new.lines ≡ brought m.lines c.args.line copy) c.self.view_is
     (c.in-Ok.ensures.ways copy is ∙ brought_missed c.self.inside.lines c.args.line copy none)
 
-
 pub returns-in-Err-clause-contents : goal.returns-in-Err-clause-contents
 returns-in-Err-clause-contents g c = λ still sound.
     let still_is : stopped g.S.LineStore.stopped (record { store = c.self.inside.store; lines = c.self.inside.lines; stop = c.self.inside.stop }) ≡ None =
@@ -115,7 +114,6 @@ returns-in-Err-clause-ways_left g c =
     subst (λ (m : LineCacheView g.row.S.Denot). IsStoppedMiss g.S.LineStore.read_moved g.S.LineStore.write_moved (leaving m.lines c.args.line) m.lines m.store c.args.line
     c.in-Err.stop c.fetch.new.lines c.fetch.new.store) c.self.view_is
     c.in-Err.ensures.ways_left
-
 
 pub returns-in-Ok-clause-missed : goal.returns-in-Ok-clause-missed
 returns-in-Ok-clause-missed g c =

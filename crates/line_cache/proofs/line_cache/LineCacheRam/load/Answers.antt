@@ -13,7 +13,7 @@ use Rattle.line_cache.proofs.line_cache.LineCacheRam.load.Goals as goal
 pub returns-in-Some-clause-value : goal.returns-in-Some-clause-value
 returns-in-Some-clause-value g c = λ still sound.
     let copy = copy_of_number (copy_at c.self.inside.lines (c.args.addr / 64)) (λ bytes. number_at bytes (c.args.addr % 64) c.args.width) c.in-Some.value
-        (sym c.in-Some.is ∙ c.read.ensures.value) in
+    (sym c.in-Some.is ∙ c.read.ensures.value) in
     read_over (g.S.LineStore.contents c.self.inside.store) (g.S.LineStore.extent c.self.inside.store) c.self.inside.lines c.args.addr c.args.width
     c.self.invariant.copies c.requires.aligned copy.0 copy.1 c.in-Some.value copy.2
     ∙ ap (λ (m : LineCacheView g.row.S.Denot). number_at (contents g.S.LineStore.contents g.S.LineStore.extent m) c.args.addr c.args.width) c.self.view_is
@@ -44,7 +44,7 @@ pub returns-in-Some-clause-ways : goal.returns-in-Some-clause-ways
 returns-in-Some-clause-ways g c =
     let line = c.args.addr / 64 in
     let copy = copy_of_number (copy_at c.self.inside.lines line) (λ bytes. number_at bytes (c.args.addr % 64) c.args.width) c.in-Some.value
-        (sym c.in-Some.is ∙ c.read.ensures.value) in (
+    (sym c.in-Some.is ∙ c.read.ensures.value) in (
       copy.0,
       copy_touched c.self.inside.lines c.read.new.self line copy.0 (c.read.ensures.same line) copy.1,
       subst (λ (m : LineCacheView g.row.S.Denot). c.read.new.self ≡ brought m.lines line copy.0) c.self.view_is
