@@ -27,6 +27,8 @@ use std::alloc::Global;
 
 /// Runs a program on an input, in a memory that stands outside the chip, and writes what it prints to a sink. The bus
 /// to that memory comes back as it stands at the end.
+// As a part of its caller's body its loop would be slower.
+#[inline(never)]
 pub fn run<B: Bus, T: Tagger, S: Sink>(
     alloc: Global,
     image: &Image,

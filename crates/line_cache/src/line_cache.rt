@@ -144,6 +144,7 @@ impl<S: LineStore> Ram for LineCache<S> {
         LINE_LEN * self.store.lines()
     }
 
+    #[inline(always)]
     fn load(&mut self, addr: u32, width: Width) -> Result<u32, MemStop>
         requires inside { addr + width_bytes width ≤ 64 * S.extent self.old.store }
         requires aligned { addr % width_bytes width ≡ 0 }

@@ -27,7 +27,7 @@ pub enum Extension {
 }
 
 /// The word at the program counter.
-#[inline]
+#[inline(always)]
 pub fn fetch<M: Ram>(ram: &mut M, pc: u32) -> Result<u32, StepStop>
     requires { pc % 4 ≡ 0 }
 
@@ -47,7 +47,7 @@ pub fn fetch<M: Ram>(ram: &mut M, pc: u32) -> Result<u32, StepStop>
 
 impl Core {
     // A load of this width, extended to a word.
-    #[inline]
+    #[inline(always)]
     pub(crate) fn load<M: Ram>(
         &mut self,
         inst: &Inst,
@@ -78,7 +78,7 @@ impl Core {
     }
 
     // A store of this width.
-    #[inline]
+    #[inline(always)]
     pub(crate) fn store<M: Ram>(
         &mut self,
         inst: &Inst,
