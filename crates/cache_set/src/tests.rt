@@ -4,6 +4,7 @@ ghost use Rattle.cache_set.specs.CacheSet.{HasRoom};
 ghost use Rattle.cache_set.specs.Cache.{set_at, way_at};
 
 use crate::Cache;
+use sec_base::Width;
 use std::process::Abort;
 use std::test::Fail;
 
@@ -99,5 +100,25 @@ fn a_changed_way_is_marked(rt: HostRuntime) -> Result<(), Fail> {
     let victim = cache.victim(15).ok_or("no victim")?;
     assert_eq!(rt; victim.place, 11);
     assert!(rt; !victim.changed);
+    Ok(())
+}
+
+#[test]
+fn a_number_stands_where_it_was_written(rt: HostRuntime) -> Result<(), Fail> {
+    let mut cache = Cache::<4>::new(rt.alloc()).ok().ok_or("no memory")?;
+    assert_eq!(rt; cache.read(7, 0, Width::Four), None);
+    assert!(rt; !cache.write(7, 0, Width::One, 5));
+    let _ = bring(&mut cache, 7);
+    let _ = bring(&mut cache, 3);
+    assert!(rt; cache.write(7, 60, Width::Four, 0x0102_0304));
+    assert_eq!(rt; cache.read(7, 60, Width::Two), Some(0x0304));
+    assert_eq!(rt; cache.read(7, 59, Width::One), Some(3));
+    assert_eq!(rt; bring(&mut cache, 11), Some(3));
+    assert_eq!(rt; cache.read(3, 0, Width::One), None);
+    assert_eq!(rt; cache.read(11, 0, Width::One), Some(3));
+    assert!(rt; !cache.touch(15));
+    let victim = cache.victim(15).ok_or("no victim")?;
+    assert_eq!(rt; victim.place, 7);
+    assert!(rt; victim.changed);
     Ok(())
 }
