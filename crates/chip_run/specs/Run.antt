@@ -48,7 +48,7 @@ pub record Terms : Type 0 where
 abbrev pub most_left : ℕ
 most_left = 128
 
--- All lines but those that are left on the chip have the memory's bytes.
+-- All lines but a few, at most as many as the chip can hold, have the memory's bytes.
 pub record IsWrittenOut (key : List ℕ) (lines : ℕ) (made : List Message) (memory : List ℕ) : Type 0 where
   pub left : List ℕ
   pub few : length left ≤ most_left
