@@ -62,13 +62,19 @@ impl Tagger for Zeros {
     }
 }
 
-// An honest bus that answers so many calls, counts its reads of nodes and keeps the writes of nodes in order.
+// What was asked of a node.
+#[derive(Clone, Copy, PartialEq, Debug)]
+enum Asked {
+    Read(u8, u32),
+    Write(u8, u32),
+}
+
+// An honest bus that answers so many calls, and keeps those of nodes in order.
 #[derive(Drop)]
 struct CountingBus {
     bus: HonestBus,
     left: u64,
-    reads: u64,
-    writes: Vec<(u8, u32)>,
+    asked: Vec<Asked>,
 }
 
 impl CountingBus {
@@ -80,8 +86,7 @@ impl CountingBus {
         Ok(CountingBus {
             bus,
             left,
-            reads: 0,
-            writes: Vec::new(alloc),
+            asked: Vec::new(alloc),
         })
     }
 }
@@ -108,7 +113,7 @@ impl Bus for CountingBus {
             return Err(NoMemory);
         }
         self.left -= 1;
-        self.reads = self.reads.saturating_add(1);
+        self.asked.push(Asked::Read(level, index))?;
         self.bus.read_node(level, index)
     }
 
@@ -117,7 +122,7 @@ impl Bus for CountingBus {
             return Err(NoMemory);
         }
         self.left -= 1;
-        self.writes.push((level, index))?;
+        self.asked.push(Asked::Write(level, index))?;
         self.bus.write_node(level, index, block)
     }
 }
@@ -139,7 +144,7 @@ fn flipping(
 }
 
 // More calls than any test makes.
-const MANY: u64 = 10_000;
+const MANY: u64 = 100_000;
 
 #[test]
 fn boot_writes_the_children_by_slot_and_then_the_node(rt: HostRuntime) -> Result<(), Fail> {
@@ -170,49 +175,123 @@ fn boot_writes_the_children_by_slot_and_then_the_node(rt: HostRuntime) -> Result
         (1, 3),
         (2, 0),
     ];
-    assert_eq!(rt; bus.reads, 0);
-    assert_eq!(rt; bus.writes.as_slice(), order.as_slice());
+    assert_eq!(rt; bus.asked.len(), order.len());
+    for (asked, (level, index)) in bus.asked.iter().zip(order.iter()) {
+        assert_eq!(rt; *asked, Asked::Write(*level, *index));
+    }
     let (made, evidence) = tags.finish();
     assert_eq!(rt; made.len(), 21);
     assert_eq!(rt; evidence, None);
     Ok(())
 }
 
-#[test]
-fn a_fetch_reads_a_path_and_an_update_writes_one(rt: HostRuntime) -> Result<(), Fail> {
-    let rows = [(1, 5), (2, 21), (4, 341)];
-    for (levels, nodes) in rows {
+// A tree with a bus that keeps what it is asked, and its tag engine.
+#[derive(Drop)]
+struct Counted {
+    geometry: Geometry,
+    bus: CountingBus,
+    tags: TagEngine<Quarters>,
+    tree: Tree,
+    ghost bus_fits: { (honest_history bus.bus).levels ≡ geometry },
+    ghost engine_fits: { tags.levels ≡ geometry },
+    ghost tree_fits: { tree.levels ≡ geometry },
+}
+
+impl Counted {
+    // A new tree, of whose boot nothing is kept.
+    fn new(alloc: Global, levels: u8) -> Result<Counted, Fail> {
         let geometry = Geometry::new(levels).ok_or("no geometry")?;
-        let mut bus = CountingBus::new(rt.alloc(), geometry, MANY)?;
-        let mut tags = TagEngine::new(rt.alloc(), Quarters, geometry)?;
-        let mut tree = Tree::boot(rt.alloc(), geometry, &mut bus, &mut tags)?;
-        assert!(rt; geometry.pages() > 2);
-        assert_eq!(rt; bus.writes.len(), nodes, "boot at {levels}");
-        assert_eq!(rt; tree.fetch(&mut bus, &mut tags, 1), Ok([0; 64]));
-        assert_eq!(rt; bus.reads, u64::from(levels) + 1, "fetch at {levels}");
-        assert_eq!(rt; bus.writes.len(), nodes, "fetch at {levels}");
-        tree.update(&mut bus, &mut tags, 1, &[9; 64])?;
-        assert_eq!(rt; bus.reads, 2 * u64::from(levels) + 1, "update at {levels}");
-        assert_eq!(rt;
-            bus.writes.len(),
-            nodes + usize::from(levels) + 1,
-            "update at {levels}"
-        );
-        assert_eq!(rt;
-            tree.fetch(&mut bus, &mut tags, 1),
-            Ok([9; 64]),
-            "at {levels}"
-        );
-        assert_eq!(rt;
-            tree.fetch(&mut bus, &mut tags, 0),
-            Ok([0; 64]),
-            "at {levels}"
-        );
-        assert_eq!(rt;
-            tree.fetch(&mut bus, &mut tags, 2),
-            Ok([0; 64]),
-            "at {levels}"
-        );
+        let mut bus = CountingBus::new(alloc, geometry, MANY)?;
+        let mut tags = TagEngine::new(alloc, Quarters, geometry)?;
+        let tree = Tree::boot(alloc, geometry, &mut bus, &mut tags)?;
+        bus.asked.clear();
+        Ok(Counted {
+            geometry,
+            bus,
+            tags,
+            tree,
+        })
+    }
+
+    fn fetch(&mut self, rt: &impl Abort, page: u32) -> Result<[u8; 64], MemStop> {
+        assert!(rt; page < self.geometry.pages());
+        self.tree.fetch(&mut self.bus, &mut self.tags, page)
+    }
+
+    fn update(&mut self, rt: &impl Abort, page: u32, block: &[u8; 64]) -> Result<(), MemStop> {
+        assert!(rt; page < self.geometry.pages());
+        self.tree.update(&mut self.bus, &mut self.tags, page, block)
+    }
+
+    // Whether this was asked since the last call of it, in this order.
+    fn asked(&mut self, asked: &[Asked]) -> bool {
+        let same = self.bus.asked.as_slice() == asked;
+        self.bus.asked.clear();
+        same
+    }
+}
+
+// Level 1 of a tree of four levels has 64 nodes in 8 sets: nodes 0, 8 and 16 are in one set of two ways.
+#[test]
+fn a_changed_node_is_written_when_it_goes_out(rt: HostRuntime) -> Result<(), Fail> {
+    let mut tree = Counted::new(rt.alloc(), 4)?;
+    tree.update(&rt, 0, &[9; 64])?;
+    assert!(rt; tree.asked(&[
+        Asked::Read(4, 0),
+        Asked::Read(3, 0),
+        Asked::Read(2, 0),
+        Asked::Read(1, 0),
+        Asked::Write(0, 0),
+    ]));
+    assert_eq!(rt; tree.fetch(&rt, 1), Ok([0; 64]));
+    assert!(rt; tree.asked(&[Asked::Read(0, 1)]));
+    assert_eq!(rt; tree.fetch(&rt, 32), Ok([0; 64]));
+    assert!(rt; tree.asked(&[
+        Asked::Read(2, 2),
+        Asked::Read(1, 8),
+        Asked::Read(0, 32),
+    ]));
+    assert_eq!(rt; tree.fetch(&rt, 64), Ok([0; 64]));
+    assert!(rt; tree.asked(&[
+        Asked::Write(1, 0),
+        Asked::Read(3, 1),
+        Asked::Read(2, 4),
+        Asked::Read(1, 16),
+        Asked::Read(0, 64),
+    ]));
+    assert_eq!(rt; tree.fetch(&rt, 0), Ok([9; 64]));
+    assert!(rt; tree.asked(&[Asked::Read(1, 0), Asked::Read(0, 0)]));
+    Ok(())
+}
+
+// A page that is asked for or gets a block, by a number that goes on.
+fn after(number: u32) -> u32 {
+    number.wrapping_mul(1_664_525).wrapping_add(1_013_904_223)
+}
+
+// In trees of five levels nodes of levels 1 and 2 go out, and so do their parents for them.
+#[test]
+fn calls_in_no_order_are_those_of_a_list_of_blocks(rt: HostRuntime) -> Result<(), Fail> {
+    let rows = [(1, 3), (2, 7), (4, 31), (5, 63)];
+    for (levels, most) in rows {
+        let mut tree = Counted::new(rt.alloc(), levels)?;
+        let pages = tree.geometry.pages();
+        let mut blocks = vec![in rt.alloc(); 0u8; pages as usize]?;
+        let mut number = 7;
+        for call in 0..600u32 {
+            number = after(number);
+            let page = (number >> 8) % pages;
+            assert!(rt; (page as usize) < blocks.len());
+            if number % 3 == 0 {
+                assert_eq!(rt; tree.fetch(&rt, page), Ok([blocks[page as usize]; 64]), "{levels}, {call}");
+            } else {
+                let byte = (call % 251) as u8;
+                tree.update(&rt, page, &[byte; 64])?;
+                blocks[page as usize] = byte;
+            }
+            assert!(rt; tree.bus.asked.len() <= most, "{levels}, {call}");
+            tree.bus.asked.clear();
+        }
     }
     Ok(())
 }
@@ -269,7 +348,7 @@ impl Flipped {
     }
 }
 
-// A node of level k stands above 4^k pages, and is read once for each of them.
+// A node of level k stands above 4^k pages. It is read for the first of them, and has a copy then, unless it was false.
 #[test]
 fn each_node_that_is_flipped_is_tampering_at_that_read(rt: HostRuntime) -> Result<(), Fail> {
     let rows = [
@@ -282,11 +361,7 @@ fn each_node_that_is_flipped_is_tampering_at_that_read(rt: HostRuntime) -> Resul
     for (levels, level, nodes, pages) in rows {
         for index in 0..nodes {
             let first = index * pages;
-            let reads = [
-                (1, Some(first)),
-                (u64::from(pages), Some(first + pages - 1)),
-                (u64::from(pages) + 1, None),
-            ];
+            let reads = [(1, Some(first)), (2, None)];
             for (k, page) in reads {
                 let mut flipped = Flipped::new(rt.alloc(), levels, level, index, k)?;
                 assert_eq!(rt;
@@ -358,39 +433,35 @@ fn two_blocks_with_one_tag_are_a_collision(rt: HostRuntime) -> Result<(), Fail> 
     Ok(())
 }
 
-// Page 0 of a tree of two levels has a second block, and the bus answers the first again, with the nodes above it up to a
-// level.
-fn replayed(alloc: Global, up_to: u8) -> Result<Result<[u8; 64], MemStop>, Fail> {
-    let geometry = Geometry::new(2).ok_or("no geometry")?;
-    let mut bus = CountingBus::new(alloc, geometry, MANY)?;
-    let mut tags = TagEngine::new(alloc, Quarters, geometry)?;
-    let mut tree = Tree::boot(alloc, geometry, &mut bus, &mut tags)?;
-    tree.update(&mut bus, &mut tags, 0, &[1; 64])?;
-    let block = bus.read_node(0, 0)?;
-    let parent = bus.read_node(1, 0)?;
-    let top = bus.read_node(2, 0)?;
-    tree.update(&mut bus, &mut tags, 0, &[2; 64])?;
-    bus.write_node(0, 0, &block)?;
-    if up_to > 0 {
-        bus.write_node(1, 0, &parent)?;
+// Page 0 of a tree of four levels gets a block, and then another; each time the nodes above it go out. The bus then answers
+// the first block again, with the node above it or without.
+fn replayed(rt: &impl Abort, alloc: Global, with_parent: bool) -> Result<Result<[u8; 64], MemStop>, Fail> {
+    let mut tree = Counted::new(alloc, 4)?;
+    tree.update(rt, 0, &[1; 64])?;
+    tree.fetch(rt, 32)?;
+    tree.fetch(rt, 64)?;
+    let block = tree.bus.read_node(0, 0)?;
+    let parent = tree.bus.read_node(1, 0)?;
+    tree.update(rt, 0, &[2; 64])?;
+    tree.fetch(rt, 32)?;
+    tree.fetch(rt, 64)?;
+    tree.bus.write_node(0, 0, &block)?;
+    if with_parent {
+        tree.bus.write_node(1, 0, &parent)?;
     }
-    if up_to > 1 {
-        bus.write_node(2, 0, &top)?;
-    }
-    Ok(tree.fetch(&mut bus, &mut tags, 0))
+    Ok(tree.fetch(rt, 0))
 }
 
 #[test]
 fn old_nodes_are_tampering_of_the_highest(rt: HostRuntime) -> Result<(), Fail> {
-    for level in 0..3 {
-        let highest = Err(MemStop::Tampered(Place::Node { level, index: 0 }));
-        assert_eq!(rt; replayed(rt.alloc(), level)?, highest, "level {level}");
-    }
+    let highest = |level| Err(MemStop::Tampered(Place::Node { level, index: 0 }));
+    assert_eq!(rt; replayed(&rt, rt.alloc(), false)?, highest(0));
+    assert_eq!(rt; replayed(&rt, rt.alloc(), true)?, highest(1));
     Ok(())
 }
 
-// Boot writes all nodes. A fetch reads a path, and an update reads one but for the page's block and writes one: the message
-// of a write that is refused was made.
+// Boot writes all nodes. A first fetch reads a path, and a first update reads one but for the page's block, which it writes:
+// the message of a write that is refused was made.
 #[test]
 fn each_call_that_is_refused_is_want_of_memory(rt: HostRuntime) -> Result<(), Fail> {
     for (levels, nodes) in [(1u8, 5u64), (2, 21)] {
@@ -418,7 +489,7 @@ fn each_call_that_is_refused_is_want_of_memory(rt: HostRuntime) -> Result<(), Fa
                 "fetch, {left}"
             );
         }
-        for left in nodes..nodes + 2 * reads + 1 {
+        for left in nodes..nodes + reads + 1 {
             let mut bus = CountingBus::new(rt.alloc(), geometry, left)?;
             let mut tags = TagEngine::new(rt.alloc(), Quarters, geometry)?;
             let mut tree = Tree::boot(rt.alloc(), geometry, &mut bus, &mut tags)?;
