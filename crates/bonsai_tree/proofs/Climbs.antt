@@ -73,7 +73,7 @@ pub above_on : (levels index lower more : ℕ) → above levels (above levels in
 above_on levels index lower more =
     div-div-eq-div-mul index (4 ^ lower) (4 ^ more) ∙ sym (ap (λ (n : ℕ). index / n) (pow-add 4 lower more))
 
-read_up_on : (tree mid : TreeView) (level index : ℕ) (first second third : BusHistory) → mid.levels ≡ tree.levels →
+pub read_up_on : (tree mid : TreeView) (level index : ℕ) (first second third : BusHistory) → mid.levels ≡ tree.levels →
     ((place : Place) → RoseBy 0 (first.reads place) (second.reads place)) → ((place : Place) → RoseBy 0 (second.reads place) (third.reads place)) →
     ((at_level at : ℕ) → cached_node mid at_level at ≢ None → WasReadUp tree at_level at first second) →
     WasReadUp mid level index second third → WasReadUp tree level index first third

@@ -178,7 +178,7 @@ two_in (first ∷ []) set = omega arith
 two_in (first ∷ second ∷ []) set = omega arith
 two_in (first ∷ second ∷ third ∷ ways) set = absurd set
 
-few_in : (count base : ℕ) (sets : List (List Way)) → AreSets count base sets → length (places sets) ≤ 2 * length sets
+pub few_in : (count base : ℕ) (sets : List (List Way)) → AreSets count base sets → length (places sets) ≤ 2 * length sets
 few_in count base [] are = omega arith
 few_in count base (ways ∷ sets) are =
     omega (

@@ -1,5 +1,6 @@
 -- Calls that have a block on the chip, one after another, and how they are made of calls of the tree and of changes of copies.
 use Rattle.std.proofs.Common.{◌≡◌, ◌≢◌, ◌⊎◌, inl, inr, ℕ, ◌+◌, ◌-◌, ◌/◌, ◌^◌, ◌<◌, ◌≤◌, true, false, List, [], ◌++◌, length, Option, Some, None, Result, Ok, Err, OnOk, refl, ap, sym, ◌∙◌, subst, arith, length-append}
+use Rattle.std.specs.List.{Contains}
 use Rattle.std.proofs.lemmas.Bool.{cases_eq}
 use Rattle.sec_base.specs.Count.{Rose, RoseBy}
 use Rattle.sec_base.specs.Evidence.{evidence_place}
@@ -23,8 +24,9 @@ use Rattle.bonsai_tree.specs.Node.{CachedNode, block_or_zeros, current_of, page_
 use Rattle.bonsai_tree.specs.Tree.{TreeView, HoldsTree, NodesAreMade, NodesHoldLast, PathWasRead, WasReadUp, above, cached_node}
 use Rattle.bonsai_tree.proofs.Climbs.{above_on, find_copy, read_up_held, read_up_on, unchanged_writes}
 use Rattle.bonsai_tree.proofs.Nodes.{same_tags, some_not_none, some_or_none, was_none}
-use Rattle.counter_cache.specs.Counters.{AreBlocks, CountersView, HoldsCounters, SameCounters, cached_block, counters_in, current_page}
+use Rattle.counter_cache.specs.Counters.{AreBlocks, CountersView, HoldsCounters, SameCounters, cached_block, cached_pages, counters_in, current_page}
 use Rattle.counter_cache.specs.Having.{CameFrom, Has}
+use Rattle.counter_cache.proofs.BlockCopies.{cached_held, held_cached}
 
 -- What a call of the tree says.
 pub record TreeCall {T : Type 0} (tags : TagEngineView T → Message → List ℕ) (Where : Place → Type 0) (tree : TreeView) (old : BusHistory)
@@ -72,13 +74,14 @@ came_after : (made made' : List Message) (first second third : BusHistory) (page
 came_after made made' first second third page before unmade (inl none) = inl (unmade none)
 came_after made made' first second third page before unmade (inr rose) = inr (omega (arith, rose, before (node_place 0 page)))
 
-pub unmade_before : (made made' more : List Message) (page : ℕ) → made' ≡ made ++ more → last_node 0 page made' ≡ None → last_node 0 page made ≡ None
-unmade_before made made' more page is none =
-    none_front (node_part 0 page) made more (subst (λ (m : List Message). last_node 0 page m ≡ None) is none)
+pub unmade_before : (made made' more : List Message) → made' ≡ made ++ more → (level index : ℕ) → last_node level index made' ≡ None →
+    last_node level index made ≡ None
+unmade_before made made' more is level index none =
+    none_front (node_part level index) made more (subst (λ (m : List Message). last_node level index m ≡ None) is none)
 
 held_before : (found before : Option CachedNode) → found ≢ None → ((copy : CachedNode) → found ≡ Some copy → before ≡ Some copy) → before ≢ None
 held_before None before held fewer = absurd (held refl)
-held_before (Some copy) before held fewer none = let some : before ≡ Some copy = fewer copy refl in absurd (cc)
+held_before (Some copy) before held fewer = λ none. let some : before ≡ Some copy = fewer copy refl in absurd (cc)
 
 module _ {T : Type 0} (d n : T → List ℕ → List ℕ) (Where : Place → Type 0) where
   -- nothing was done
@@ -183,7 +186,7 @@ module _ {T : Type 0} (d n : T → List ℕ → List ℕ) (Where : Place → Typ
                 | inr came ↦ inr (came_before engine.made first second third page more.moves.reads came)
               ]
               | inr came ↦ inr (came_after engine.made engine'.made first second third page has.moves.reads
-                  (unmade_before engine.made engine'.made has.moves.more page has.moves.made) came)
+                  (unmade_before engine.made engine'.made has.moves.more has.moves.made 0 page) came)
             ];
       }
 
@@ -372,6 +375,23 @@ has_as d n Some_of All_of counters counters' old new engine engine' stop wider h
   read = has.read;
   copied = has.copied;
 }
+
+module _ {T : Type 0} (d n : T → List ℕ → List ℕ) (Where : Place → Type 0) (counters counters' : CountersView) (old new : BusHistory) (engine engine' : TagEngineView T)
+    (stop : Option MemStop) (has : Has (tags_of d n) Where counters old engine counters' new engine' stop) where
+  -- the messages that were made more
+  pub has_writes : (more : List Message) → engine'.made ≡ engine.made ++ more → WritesMessages old new (length more) (unwritten_in stop)
+  has_writes more is =
+      let same : length has.moves.more ≡ length more =
+      omega (arith, ap length is, ap length has.moves.made, length-append engine.made has.moves.more, length-append engine.made more) in
+      subst (λ (k : ℕ). WritesMessages old new k (unwritten_in stop)) same has.writes
+
+  -- the pages that have a copy
+  pub has_pages : AreBlocks counters'.tree.levels counters'.blocks → (page : ℕ) → Contains (cached_pages counters') page →
+      Contains (cached_pages counters) page ⊎ CameFrom engine.made old new page
+  has_pages are page cached = elim (has.copied page (cached_held counters' page are.cache cached)) [
+    | inl held ↦ inl (held_cached counters page held)
+    | inr came ↦ inr came
+  ]
 
 -- Results
 

@@ -2,3 +2,4 @@ pub mod Blocks
 pub mod Rising
 pub mod BlockCopies
 pub mod Havings
+pub mod Hads

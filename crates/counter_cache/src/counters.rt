@@ -144,6 +144,7 @@ impl Counters {
             OnOk result (PathWasRead self.old.tree tags.old.made 0 page (B.history bus.old) (B.history bus.new)) }
         ensures idle { Contains (cached_pages self.old) page → (B.history bus.new ≡ B.history bus.old) × (tags.new ≡ tags.old) }
         ensures cached { OnOk result (Contains (cached_pages self.new) page) }
+        ensures latest { OnOk result (IsLatest self.new.blocks page) }
         ensures once { (B.history bus.new).accesses ≤ (B.history bus.old).accesses + counter_accesses self.old.tree.levels }
         ensures few { length tags.new.made ≤ length tags.old.made + counter_accesses self.old.tree.levels }
         ensures room { tags.old.room ≤ tags.new.room + counter_accesses self.old.tree.levels }
@@ -279,6 +280,8 @@ impl Counters {
         ensures blocks { AreBlocks self.new.tree.levels self.new.blocks }
         ensures had { OnOk result ((bytes : List ℕ) → copy_at self.new.blocks page ≡ Some bytes →
             IsHad (tags_of T.data_tag_of T.node_tag_of tags.old) self.old self.new tags.new.made page tags.old.evidence tags.new.evidence bytes) }
+        ensures accepted { (made_at : ℕ) (bytes tag : List ℕ) → tags.old.evidence ≡ None →
+            tags.new.evidence ≡ Some (Collision 0 page made_at bytes tag) → IsOk result }
         ensures hit { Contains (cached_pages self.old) page → IsOk result × (cached_block self.new page ≡ cached_block self.old page)
             × (B.history bus.new ≡ B.history bus.old) × (tags.new ≡ tags.old) }
         ensures read { ¬ Contains (cached_pages self.old) page →

@@ -1,62 +1,93 @@
-use Rattle.std.proofs.Common.{◌≡◌, ◌≢◌, ◌⊎◌, inl, inr, ◌+◌, ◌≤◌, ℕ, List, length, Option, Some, None, IsSome, Result, Ok, Err, Bool, true, false, refl, ap, sym, ◌∙◌, subst, arith, rules}
+use Rattle.std.proofs.Common.{◌≡◌, ◌≢◌, ◌⊎◌, inl, inr, ◌+◌, ◌<◌, ◌≤◌, ℕ, List, length, Option, Some, None, IsSome, Result, Ok, Err, Bool, true, false, refl, ap, sym, ◌∙◌, subst, arith, rules}
+use Rattle.std.specs.List.{Contains}
 use Rattle.std.specs.Option.{option_map}
 use Rattle.sec_base.specs.Evidence.{evidence_place}
 use Rattle.sec_base.specs.Geometry.{page_count}
+use Rattle.sec_base.specs.declared.evidence.Evidence.TheVariants.{Collision}
+use Rattle.sec_base.specs.declared.message.Message.{Message}
+use Rattle.sec_base.specs.declared.message.Message.TheVariants.{Node}
 use Rattle.sec_base.specs.declared.place.Place.{Place}
+use Rattle.sec_base.specs.declared.place.Place.TheVariants.{Node as node_place}
 use Rattle.sec_base.specs.declared.stop.MemStop.{MemStop}
 use Rattle.sec_base.specs.declared.stop.MemStop.TheVariants.{Tampered, Spent}
 use Rattle.cache_set.specs.declared.way.Way.{Way}
 use Rattle.cache_set.specs.Cache.{way_at}
+use Rattle.cache_set.proofs.Listed.{listed_at}
 use Rattle.tag_engine.specs.TagEngine.{tags_of}
 use Rattle.checked_bus.specs.Steps.{stop_of}
 use Rattle.bonsai_tree.specs.NodeCache.{copy_of}
-use Rattle.bonsai_tree.specs.Tree.{IsFetchPlace, IsNodeFrom, TreeView}
-use Rattle.counter_cache.specs.Counters.{AreBlocks, CountersView, cached_block}
-use Rattle.counter_cache.specs.Having.{CameFrom, Has}
-use Rattle.counter_cache.proofs.BlockCopies.{blocks_put, blocks_same}
+use Rattle.bonsai_tree.specs.Tree.{IsFetchPlace, IsNodeFrom, PathWasRead, TreeView}
 use Rattle.bonsai_tree.proofs.Climbs.{above_none}
-use Rattle.bonsai_tree.proofs.Nodes.{stop_is}
-use Rattle.counter_cache.proofs.Havings.{TreeCall, has_as, has_on, has_put, has_touched, has_tree, no_copy_below, ok_at, over, path_on}
+use Rattle.bonsai_tree.proofs.Nodes.{same_tags, stop_is}
+use Rattle.bonsai_tree.proofs.PathCalls.{not_from_one}
+use Rattle.counter_cache.specs.Counters.{AreBlocks, CountersView, IsHad, cached_block, cached_pages}
+use Rattle.counter_cache.specs.Having.{CameFrom, Has}
+use Rattle.counter_cache.proofs.BlockCopies.{blocks_put, blocks_same, cached_held}
+use Rattle.counter_cache.proofs.Hads.{had_tagged, quiet_before}
+use Rattle.counter_cache.proofs.Havings.{TreeCall, has_as, has_on, has_put, has_touched, has_tree, no_copy_below, ok_at, over, path_on, unmade_before}
 use Rattle.counter_cache.proofs.counters.Counters.bring.Goals as goal
 
+-- where it has a copy
 pub returns-then-touch-clause-has : goal.returns-then-touch-clause-has
 returns-then-touch-clause-has g c =
+    let same : (page : ℕ) → way_at c.touch.new.self page ≡ way_at c.args.self.now.blocks page =
+    λ page. c.if-touch.ensures.same page ∙ ap (λ (v : CountersView). way_at v.blocks page) c.self.view_is in
+    let are : AreBlocks c.args.self.now.tree.levels c.args.self.now.blocks = subst (λ (v : CountersView). AreBlocks v.tree.levels v.blocks) c.self.view_is c.self.invariant in
     has_touched g.T.Tagger.data_tag_of g.T.Tagger.node_tag_of (IsFetchPlace c.args.self.now.tree.levels c.args.page) c.args.self.now (record { tree = c.self.inside.tree; blocks = c.touch.new.self }) (g.B.Bus.history c.args.bus.now) c.args.tags.now (ap (λ (v : CountersView). v.tree) c.self.view_is)
-    (blocks_same c.args.self.now.tree.levels c.args.self.now.blocks c.touch.new.self (subst (λ (v : CountersView). AreBlocks v.tree.levels v.blocks) c.self.view_is c.self.invariant) c.if-touch.ensures.cache
-    (λ page. c.if-touch.ensures.same page ∙ ap (λ (v : CountersView). way_at v.blocks page) c.self.view_is))
-    (λ page. ap (option_map copy_of) (c.if-touch.ensures.same page ∙ ap (λ (v : CountersView). way_at v.blocks page) c.self.view_is))
+    (blocks_same c.args.self.now.tree.levels c.args.self.now.blocks c.touch.new.self are c.if-touch.ensures.cache same)
+    (λ page. ap (option_map copy_of) (same page))
 
+pub returns-then-touch-clause-read : goal.returns-then-touch-clause-read
+returns-then-touch-clause-read g c = λ uncached.
+    absurd (uncached (subst (λ (v : CountersView). Contains (cached_pages v) c.args.page) c.self.view_is
+    (listed_at c.self.inside.blocks c.args.page (c.if-touch.ensures.held.0 refl))))
+
+-- where no room is made
 pub returns-in_err-make_room-clause-has : goal.returns-in_err-make_room-clause-has
 returns-in_err-make_room-clause-has g c =
     let why = c.in_err-make_room.field-0.0 in
     let stop : stop_of c.from_residual.result ≡ Some why = search rules in
-    subst (λ (s : Option MemStop). Has (tags_of g.T.Tagger.data_tag_of g.T.Tagger.node_tag_of) (IsFetchPlace c.args.self.now.tree.levels c.args.page) c.args.self.now (g.B.Bus.history c.args.bus.now) c.args.tags.now c.make_room.new.self (g.B.Bus.history c.make_room.new.bus) c.make_room.new.tags s) (sym stop)
-    (has_on g.T.Tagger.data_tag_of g.T.Tagger.node_tag_of (IsFetchPlace c.args.self.now.tree.levels c.args.page) c.args.self.now (record { tree = c.self.inside.tree; blocks = c.touch.new.self }) c.make_room.new.self (g.B.Bus.history c.args.bus.now) (g.B.Bus.history c.args.bus.now) (g.B.Bus.history c.make_room.new.bus) c.args.tags.now c.args.tags.now c.make_room.new.tags (Some why)
-    (has_touched g.T.Tagger.data_tag_of g.T.Tagger.node_tag_of (IsFetchPlace c.args.self.now.tree.levels c.args.page) c.args.self.now (record { tree = c.self.inside.tree; blocks = c.touch.new.self }) (g.B.Bus.history c.args.bus.now) c.args.tags.now (ap (λ (v : CountersView). v.tree) c.self.view_is)
-    (blocks_same c.args.self.now.tree.levels c.args.self.now.blocks c.touch.new.self (subst (λ (v : CountersView). AreBlocks v.tree.levels v.blocks) c.self.view_is c.self.invariant) c.if-touch.ensures.cache
-    (λ page. c.if-touch.ensures.same page ∙ ap (λ (v : CountersView). way_at v.blocks page) c.self.view_is))
-    (λ page. ap (option_map copy_of) (c.if-touch.ensures.same page ∙ ap (λ (v : CountersView). way_at v.blocks page) c.self.view_is)))
-    (has_as g.T.Tagger.data_tag_of g.T.Tagger.node_tag_of (IsNodeFrom c.self.inside.tree.levels 1) (IsFetchPlace c.args.self.now.tree.levels c.args.page) (record { tree = c.self.inside.tree; blocks = c.touch.new.self }) c.make_room.new.self (g.B.Bus.history c.args.bus.now) (g.B.Bus.history c.make_room.new.bus) c.args.tags.now c.make_room.new.tags (Some why)
-    (λ place from. inr (subst (λ (v : CountersView). IsNodeFrom v.tree.levels 1 place) c.self.view_is from)) c.in_err-make_room.ensures.has))
+    let same : (record { tree = c.self.inside.tree; blocks = c.touch.new.self }) ≡ c.args.self.now =
+    ap (λ (b : List (List Way)). record { tree = c.self.inside.tree; blocks = b }) (c.if-touch.ensures.unchanged refl) ∙ c.self.view_is in
+    let room : Has (tags_of g.T.Tagger.data_tag_of g.T.Tagger.node_tag_of) (IsFetchPlace c.args.self.now.tree.levels c.args.page) c.args.self.now (g.B.Bus.history c.args.bus.now) c.args.tags.now c.make_room.new.self (g.B.Bus.history c.make_room.new.bus) c.make_room.new.tags (Some why) =
+    subst (λ (v : CountersView). Has (tags_of g.T.Tagger.data_tag_of g.T.Tagger.node_tag_of) (IsFetchPlace v.tree.levels c.args.page) v (g.B.Bus.history c.args.bus.now) c.args.tags.now c.make_room.new.self (g.B.Bus.history c.make_room.new.bus) c.make_room.new.tags (Some why)) same
+    (has_as g.T.Tagger.data_tag_of g.T.Tagger.node_tag_of (IsNodeFrom c.self.inside.tree.levels 1) (IsFetchPlace c.self.inside.tree.levels c.args.page) (record { tree = c.self.inside.tree; blocks = c.touch.new.self }) c.make_room.new.self (g.B.Bus.history c.args.bus.now) (g.B.Bus.history c.make_room.new.bus) c.args.tags.now c.make_room.new.tags (Some why)
+    (λ place from. inr from) c.in_err-make_room.ensures.has) in
+    subst (λ (s : Option MemStop). Has (tags_of g.T.Tagger.data_tag_of g.T.Tagger.node_tag_of) (IsFetchPlace c.args.self.now.tree.levels c.args.page) c.args.self.now (g.B.Bus.history c.args.bus.now) c.args.tags.now c.make_room.new.self (g.B.Bus.history c.make_room.new.bus) c.make_room.new.tags s) (sym stop) room
 
+pub returns-in_err-make_room-clause-accepted : goal.returns-in_err-make_room-clause-accepted
+returns-in_err-make_room-clause-accepted g c = λ made_at bytes tag quiet is.
+    absurd (not_from_one c.self.inside.tree.levels c.args.page (node_place 0 c.args.page) refl
+    (c.in_err-make_room.ensures.has.found quiet (Collision 0 c.args.page made_at bytes tag) is))
+
+pub returns-in_err-make_room-clause-hit : goal.returns-in_err-make_room-clause-hit
+returns-in_err-make_room-clause-hit g c = λ cached.
+    let same : (record { tree = c.self.inside.tree; blocks = c.touch.new.self }) ≡ c.args.self.now =
+    ap (λ (b : List (List Way)). record { tree = c.self.inside.tree; blocks = b }) (c.if-touch.ensures.unchanged refl) ∙ c.self.view_is in
+    let absent : cached_block c.args.self.now c.args.page ≡ None =
+    ap (λ (v : CountersView). cached_block v c.args.page) (sym same) ∙ ap (option_map copy_of) (c.if-touch.ensures.absent refl) in
+    let are : AreBlocks c.args.self.now.tree.levels c.args.self.now.blocks = subst (λ (v : CountersView). AreBlocks v.tree.levels v.blocks) c.self.view_is c.self.invariant in
+    absurd (cached_held c.args.self.now c.args.page are.cache cached absent)
+
+-- where its block can't be fetched
 pub returns-in_err-block-clause-has : goal.returns-in_err-block-clause-has
 returns-in_err-block-clause-has g c =
+    let same : (record { tree = c.self.inside.tree; blocks = c.touch.new.self }) ≡ c.args.self.now =
+    ap (λ (b : List (List Way)). record { tree = c.self.inside.tree; blocks = b }) (c.if-touch.ensures.unchanged refl) ∙ c.self.view_is in
+    let room : Has (tags_of g.T.Tagger.data_tag_of g.T.Tagger.node_tag_of) (IsFetchPlace c.args.self.now.tree.levels c.args.page) c.args.self.now (g.B.Bus.history c.args.bus.now) c.args.tags.now c.make_room.new.self (g.B.Bus.history c.make_room.new.bus) c.make_room.new.tags None =
+    subst (λ (v : CountersView). Has (tags_of g.T.Tagger.data_tag_of g.T.Tagger.node_tag_of) (IsFetchPlace v.tree.levels c.args.page) v (g.B.Bus.history c.args.bus.now) c.args.tags.now c.make_room.new.self (g.B.Bus.history c.make_room.new.bus) c.make_room.new.tags None) same
+    (has_as g.T.Tagger.data_tag_of g.T.Tagger.node_tag_of (IsNodeFrom c.self.inside.tree.levels 1) (IsFetchPlace c.self.inside.tree.levels c.args.page) (record { tree = c.self.inside.tree; blocks = c.touch.new.self }) c.make_room.new.self (g.B.Bus.history c.args.bus.now) (g.B.Bus.history c.make_room.new.bus) c.args.tags.now c.make_room.new.tags None
+    (λ place from. inr from) c.in_ok-make_room.ensures.has) in
     let tree_is : c.self-2.inside.tree ≡ c.make_room.new.self.tree = ap (λ (v : CountersView). v.tree) c.self-2.view_is in
+    let levels : c.self-2.inside.tree.levels ≡ c.args.self.now.tree.levels = ap (λ (t : TreeView). t.levels) tree_is ∙ room.levels in
     let at_levels : (place : Place) → IsFetchPlace c.self-2.inside.tree.levels c.args.page place → IsFetchPlace c.args.self.now.tree.levels c.args.page place =
-    λ place is. subst (λ (k : ℕ). IsFetchPlace k c.args.page place) (ap (λ (t : TreeView). t.levels) tree_is ∙ (c.in_ok-make_room.ensures.has.levels ∙ ap (λ (v : CountersView). v.tree.levels) c.self.view_is)) is in
+    λ place is. subst (λ (k : ℕ). IsFetchPlace k c.args.page place) levels is in
     let why = c.in_err-block.field-0.0 in
     let stop : stop_of c.from_residual-in_err-block.result ≡ Some why = search rules in
     let is : c.fetch.result ≡ Err why = c.in_err-block.was in
     subst (λ (s : Option MemStop). Has (tags_of g.T.Tagger.data_tag_of g.T.Tagger.node_tag_of) (IsFetchPlace c.args.self.now.tree.levels c.args.page) c.args.self.now (g.B.Bus.history c.args.bus.now) c.args.tags.now (record { tree = c.fetch.new.self; blocks = c.self-2.inside.blocks }) (g.B.Bus.history c.fetch.new.bus) c.fetch.new.tags s)
     (ap stop_of is ∙ sym stop)
-    (has_on g.T.Tagger.data_tag_of g.T.Tagger.node_tag_of (IsFetchPlace c.args.self.now.tree.levels c.args.page) c.args.self.now c.make_room.new.self (record { tree = c.fetch.new.self; blocks = c.self-2.inside.blocks }) (g.B.Bus.history c.args.bus.now) (g.B.Bus.history c.make_room.new.bus) (g.B.Bus.history c.fetch.new.bus) c.args.tags.now c.make_room.new.tags c.fetch.new.tags (stop_of c.fetch.result)
-    (has_on g.T.Tagger.data_tag_of g.T.Tagger.node_tag_of (IsFetchPlace c.args.self.now.tree.levels c.args.page) c.args.self.now (record { tree = c.self.inside.tree; blocks = c.touch.new.self }) c.make_room.new.self (g.B.Bus.history c.args.bus.now) (g.B.Bus.history c.args.bus.now) (g.B.Bus.history c.make_room.new.bus) c.args.tags.now c.args.tags.now c.make_room.new.tags None
-    (has_touched g.T.Tagger.data_tag_of g.T.Tagger.node_tag_of (IsFetchPlace c.args.self.now.tree.levels c.args.page) c.args.self.now (record { tree = c.self.inside.tree; blocks = c.touch.new.self }) (g.B.Bus.history c.args.bus.now) c.args.tags.now (ap (λ (v : CountersView). v.tree) c.self.view_is)
-    (blocks_same c.args.self.now.tree.levels c.args.self.now.blocks c.touch.new.self (subst (λ (v : CountersView). AreBlocks v.tree.levels v.blocks) c.self.view_is c.self.invariant) c.if-touch.ensures.cache
-    (λ page. c.if-touch.ensures.same page ∙ ap (λ (v : CountersView). way_at v.blocks page) c.self.view_is))
-    (λ page. ap (option_map copy_of) (c.if-touch.ensures.same page ∙ ap (λ (v : CountersView). way_at v.blocks page) c.self.view_is)))
-    (has_as g.T.Tagger.data_tag_of g.T.Tagger.node_tag_of (IsNodeFrom c.self.inside.tree.levels 1) (IsFetchPlace c.args.self.now.tree.levels c.args.page) (record { tree = c.self.inside.tree; blocks = c.touch.new.self }) c.make_room.new.self (g.B.Bus.history c.args.bus.now) (g.B.Bus.history c.make_room.new.bus) c.args.tags.now c.make_room.new.tags None
-    (λ place from. inr (subst (λ (v : CountersView). IsNodeFrom v.tree.levels 1 place) c.self.view_is from)) c.in_ok-make_room.ensures.has))
+    (has_on g.T.Tagger.data_tag_of g.T.Tagger.node_tag_of (IsFetchPlace c.args.self.now.tree.levels c.args.page) c.args.self.now c.make_room.new.self (record { tree = c.fetch.new.self; blocks = c.self-2.inside.blocks }) (g.B.Bus.history c.args.bus.now) (g.B.Bus.history c.make_room.new.bus) (g.B.Bus.history c.fetch.new.bus) c.args.tags.now c.make_room.new.tags c.fetch.new.tags (stop_of c.fetch.result) room
     (subst (λ (v : CountersView). Has (tags_of g.T.Tagger.data_tag_of g.T.Tagger.node_tag_of) (IsFetchPlace c.args.self.now.tree.levels c.args.page) v (g.B.Bus.history c.make_room.new.bus) c.make_room.new.tags (over c.fetch.new.self (record { tree = c.self-2.inside.tree; blocks = c.self-2.inside.blocks })) (g.B.Bus.history c.fetch.new.bus) c.fetch.new.tags (stop_of c.fetch.result)) c.self-2.view_is
     (has_tree g.T.Tagger.data_tag_of g.T.Tagger.node_tag_of (IsFetchPlace c.args.self.now.tree.levels c.args.page) (record { tree = c.self-2.inside.tree; blocks = c.self-2.inside.blocks }) c.fetch.new.self (g.B.Bus.history c.make_room.new.bus) (g.B.Bus.history c.fetch.new.bus) c.make_room.new.tags c.fetch.new.tags (stop_of c.fetch.result)
     (record {
@@ -78,22 +109,72 @@ returns-in_err-block-clause-has g c =
     })
     (λ page unchanged. c.fetch.ensures.pages.last page))))
 
+pub returns-in_err-block-clause-accepted : goal.returns-in_err-block-clause-accepted
+returns-in_err-block-clause-accepted g c = λ made_at bytes tag quiet is.
+    let mid : c.make_room.new.tags.evidence ≡ None =
+    quiet_before c.self.inside.tree.levels c.args.page c.make_room.new.tags.evidence c.fetch.new.tags.evidence (c.in_ok-make_room.ensures.has.found quiet)
+    c.fetch.ensures.moves.evidence made_at bytes tag is in
+    let both : Ok bytes ≡ Err c.in_err-block.field-0.0 = sym (c.fetch.ensures.accepted made_at bytes tag mid is) ∙ c.in_err-block.was in
+    absurd (cc)
+
+pub returns-in_err-block-clause-hit : goal.returns-in_err-block-clause-hit
+returns-in_err-block-clause-hit g c = λ cached.
+    let same : (record { tree = c.self.inside.tree; blocks = c.touch.new.self }) ≡ c.args.self.now =
+    ap (λ (b : List (List Way)). record { tree = c.self.inside.tree; blocks = b }) (c.if-touch.ensures.unchanged refl) ∙ c.self.view_is in
+    let absent : cached_block c.args.self.now c.args.page ≡ None =
+    ap (λ (v : CountersView). cached_block v c.args.page) (sym same) ∙ ap (option_map copy_of) (c.if-touch.ensures.absent refl) in
+    let are : AreBlocks c.args.self.now.tree.levels c.args.self.now.blocks = subst (λ (v : CountersView). AreBlocks v.tree.levels v.blocks) c.self.view_is c.self.invariant in
+    absurd (cached_held c.args.self.now c.args.page are.cache cached absent)
+
+-- where its block is fetched
+pub invariant_of-self-3 : goal.invariant_of-self-3
+invariant_of-self-3 g c =
+    let same : (record { tree = c.self.inside.tree; blocks = c.touch.new.self }) ≡ c.args.self.now =
+    ap (λ (b : List (List Way)). record { tree = c.self.inside.tree; blocks = b }) (c.if-touch.ensures.unchanged refl) ∙ c.self.view_is in
+    let room : Has (tags_of g.T.Tagger.data_tag_of g.T.Tagger.node_tag_of) (IsFetchPlace c.args.self.now.tree.levels c.args.page) c.args.self.now (g.B.Bus.history c.args.bus.now) c.args.tags.now c.make_room.new.self (g.B.Bus.history c.make_room.new.bus) c.make_room.new.tags None =
+    subst (λ (v : CountersView). Has (tags_of g.T.Tagger.data_tag_of g.T.Tagger.node_tag_of) (IsFetchPlace v.tree.levels c.args.page) v (g.B.Bus.history c.args.bus.now) c.args.tags.now c.make_room.new.self (g.B.Bus.history c.make_room.new.bus) c.make_room.new.tags None) same
+    (has_as g.T.Tagger.data_tag_of g.T.Tagger.node_tag_of (IsNodeFrom c.self.inside.tree.levels 1) (IsFetchPlace c.self.inside.tree.levels c.args.page) (record { tree = c.self.inside.tree; blocks = c.touch.new.self }) c.make_room.new.self (g.B.Bus.history c.args.bus.now) (g.B.Bus.history c.make_room.new.bus) c.args.tags.now c.make_room.new.tags None
+    (λ place from. inr from) c.in_ok-make_room.ensures.has) in
+    let tree_is : c.self-2.inside.tree ≡ c.make_room.new.self.tree = ap (λ (v : CountersView). v.tree) c.self-2.view_is in
+    let levels : c.self-2.inside.tree.levels ≡ c.args.self.now.tree.levels = ap (λ (t : TreeView). t.levels) tree_is ∙ room.levels in
+    let at_levels : (place : Place) → IsFetchPlace c.self-2.inside.tree.levels c.args.page place → IsFetchPlace c.args.self.now.tree.levels c.args.page place =
+    λ place is. subst (λ (k : ℕ). IsFetchPlace k c.args.page place) levels is in
+    blocks_put c.fetch.new.self.levels c.self-2.inside.blocks c.put.new.self
+    (subst (λ (k : ℕ). AreBlocks k c.self-2.inside.blocks) (sym c.fetch.ensures.levels) c.self-2.invariant) c.put.ensures.cache c.args.page c.in_ok-block.block false
+    (subst (λ (k : ℕ). c.args.page < page_count k) (sym (c.fetch.ensures.levels ∙ levels)) c.requires.page) (search rules) c.put.ensures.put c.put.ensures.same
+
+pub returns-clause-blocks : goal.returns-clause-blocks
+returns-clause-blocks g c =
+    let same : (record { tree = c.self.inside.tree; blocks = c.touch.new.self }) ≡ c.args.self.now =
+    ap (λ (b : List (List Way)). record { tree = c.self.inside.tree; blocks = b }) (c.if-touch.ensures.unchanged refl) ∙ c.self.view_is in
+    let room : Has (tags_of g.T.Tagger.data_tag_of g.T.Tagger.node_tag_of) (IsFetchPlace c.args.self.now.tree.levels c.args.page) c.args.self.now (g.B.Bus.history c.args.bus.now) c.args.tags.now c.make_room.new.self (g.B.Bus.history c.make_room.new.bus) c.make_room.new.tags None =
+    subst (λ (v : CountersView). Has (tags_of g.T.Tagger.data_tag_of g.T.Tagger.node_tag_of) (IsFetchPlace v.tree.levels c.args.page) v (g.B.Bus.history c.args.bus.now) c.args.tags.now c.make_room.new.self (g.B.Bus.history c.make_room.new.bus) c.make_room.new.tags None) same
+    (has_as g.T.Tagger.data_tag_of g.T.Tagger.node_tag_of (IsNodeFrom c.self.inside.tree.levels 1) (IsFetchPlace c.self.inside.tree.levels c.args.page) (record { tree = c.self.inside.tree; blocks = c.touch.new.self }) c.make_room.new.self (g.B.Bus.history c.args.bus.now) (g.B.Bus.history c.make_room.new.bus) c.args.tags.now c.make_room.new.tags None
+    (λ place from. inr from) c.in_ok-make_room.ensures.has) in
+    let tree_is : c.self-2.inside.tree ≡ c.make_room.new.self.tree = ap (λ (v : CountersView). v.tree) c.self-2.view_is in
+    let levels : c.self-2.inside.tree.levels ≡ c.args.self.now.tree.levels = ap (λ (t : TreeView). t.levels) tree_is ∙ room.levels in
+    let at_levels : (place : Place) → IsFetchPlace c.self-2.inside.tree.levels c.args.page place → IsFetchPlace c.args.self.now.tree.levels c.args.page place =
+    λ place is. subst (λ (k : ℕ). IsFetchPlace k c.args.page place) levels is in
+    blocks_put c.fetch.new.self.levels c.self-2.inside.blocks c.put.new.self
+    (subst (λ (k : ℕ). AreBlocks k c.self-2.inside.blocks) (sym c.fetch.ensures.levels) c.self-2.invariant) c.put.ensures.cache c.args.page c.in_ok-block.block false
+    (subst (λ (k : ℕ). c.args.page < page_count k) (sym (c.fetch.ensures.levels ∙ levels)) c.requires.page) (search rules) c.put.ensures.put c.put.ensures.same
+
 pub returns-clause-has : goal.returns-clause-has
 returns-clause-has g c =
+    let same : (record { tree = c.self.inside.tree; blocks = c.touch.new.self }) ≡ c.args.self.now =
+    ap (λ (b : List (List Way)). record { tree = c.self.inside.tree; blocks = b }) (c.if-touch.ensures.unchanged refl) ∙ c.self.view_is in
+    let room : Has (tags_of g.T.Tagger.data_tag_of g.T.Tagger.node_tag_of) (IsFetchPlace c.args.self.now.tree.levels c.args.page) c.args.self.now (g.B.Bus.history c.args.bus.now) c.args.tags.now c.make_room.new.self (g.B.Bus.history c.make_room.new.bus) c.make_room.new.tags None =
+    subst (λ (v : CountersView). Has (tags_of g.T.Tagger.data_tag_of g.T.Tagger.node_tag_of) (IsFetchPlace v.tree.levels c.args.page) v (g.B.Bus.history c.args.bus.now) c.args.tags.now c.make_room.new.self (g.B.Bus.history c.make_room.new.bus) c.make_room.new.tags None) same
+    (has_as g.T.Tagger.data_tag_of g.T.Tagger.node_tag_of (IsNodeFrom c.self.inside.tree.levels 1) (IsFetchPlace c.self.inside.tree.levels c.args.page) (record { tree = c.self.inside.tree; blocks = c.touch.new.self }) c.make_room.new.self (g.B.Bus.history c.args.bus.now) (g.B.Bus.history c.make_room.new.bus) c.args.tags.now c.make_room.new.tags None
+    (λ place from. inr from) c.in_ok-make_room.ensures.has) in
     let tree_is : c.self-2.inside.tree ≡ c.make_room.new.self.tree = ap (λ (v : CountersView). v.tree) c.self-2.view_is in
+    let levels : c.self-2.inside.tree.levels ≡ c.args.self.now.tree.levels = ap (λ (t : TreeView). t.levels) tree_is ∙ room.levels in
     let at_levels : (place : Place) → IsFetchPlace c.self-2.inside.tree.levels c.args.page place → IsFetchPlace c.args.self.now.tree.levels c.args.page place =
-    λ place is. subst (λ (k : ℕ). IsFetchPlace k c.args.page place) (ap (λ (t : TreeView). t.levels) tree_is ∙ (c.in_ok-make_room.ensures.has.levels ∙ ap (λ (v : CountersView). v.tree.levels) c.self.view_is)) is in
+    λ place is. subst (λ (k : ℕ). IsFetchPlace k c.args.page place) levels is in
     let is : c.fetch.result ≡ Ok c.in_ok-block.block = c.in_ok-block.was in
-    let absent : way_at c.self-2.inside.blocks c.args.page ≡ None =
+    let empty : way_at c.self-2.inside.blocks c.args.page ≡ None =
     ap (λ (v : CountersView). way_at v.blocks c.args.page) c.self-2.view_is ∙ c.in_ok-make_room.ensures.absent in
-    has_on g.T.Tagger.data_tag_of g.T.Tagger.node_tag_of (IsFetchPlace c.args.self.now.tree.levels c.args.page) c.args.self.now c.make_room.new.self (record { tree = c.fetch.new.self; blocks = c.put.new.self }) (g.B.Bus.history c.args.bus.now) (g.B.Bus.history c.make_room.new.bus) (g.B.Bus.history c.fetch.new.bus) c.args.tags.now c.make_room.new.tags c.fetch.new.tags None
-    (has_on g.T.Tagger.data_tag_of g.T.Tagger.node_tag_of (IsFetchPlace c.args.self.now.tree.levels c.args.page) c.args.self.now (record { tree = c.self.inside.tree; blocks = c.touch.new.self }) c.make_room.new.self (g.B.Bus.history c.args.bus.now) (g.B.Bus.history c.args.bus.now) (g.B.Bus.history c.make_room.new.bus) c.args.tags.now c.args.tags.now c.make_room.new.tags None
-    (has_touched g.T.Tagger.data_tag_of g.T.Tagger.node_tag_of (IsFetchPlace c.args.self.now.tree.levels c.args.page) c.args.self.now (record { tree = c.self.inside.tree; blocks = c.touch.new.self }) (g.B.Bus.history c.args.bus.now) c.args.tags.now (ap (λ (v : CountersView). v.tree) c.self.view_is)
-    (blocks_same c.args.self.now.tree.levels c.args.self.now.blocks c.touch.new.self (subst (λ (v : CountersView). AreBlocks v.tree.levels v.blocks) c.self.view_is c.self.invariant) c.if-touch.ensures.cache
-    (λ page. c.if-touch.ensures.same page ∙ ap (λ (v : CountersView). way_at v.blocks page) c.self.view_is))
-    (λ page. ap (option_map copy_of) (c.if-touch.ensures.same page ∙ ap (λ (v : CountersView). way_at v.blocks page) c.self.view_is)))
-    (has_as g.T.Tagger.data_tag_of g.T.Tagger.node_tag_of (IsNodeFrom c.self.inside.tree.levels 1) (IsFetchPlace c.args.self.now.tree.levels c.args.page) (record { tree = c.self.inside.tree; blocks = c.touch.new.self }) c.make_room.new.self (g.B.Bus.history c.args.bus.now) (g.B.Bus.history c.make_room.new.bus) c.args.tags.now c.make_room.new.tags None
-    (λ place from. inr (subst (λ (v : CountersView). IsNodeFrom v.tree.levels 1 place) c.self.view_is from)) c.in_ok-make_room.ensures.has))
+    has_on g.T.Tagger.data_tag_of g.T.Tagger.node_tag_of (IsFetchPlace c.args.self.now.tree.levels c.args.page) c.args.self.now c.make_room.new.self (record { tree = c.fetch.new.self; blocks = c.put.new.self }) (g.B.Bus.history c.args.bus.now) (g.B.Bus.history c.make_room.new.bus) (g.B.Bus.history c.fetch.new.bus) c.args.tags.now c.make_room.new.tags c.fetch.new.tags None room
     (subst (λ (v : CountersView). Has (tags_of g.T.Tagger.data_tag_of g.T.Tagger.node_tag_of) (IsFetchPlace c.args.self.now.tree.levels c.args.page) v (g.B.Bus.history c.make_room.new.bus) c.make_room.new.tags (record { tree = c.fetch.new.self; blocks = c.put.new.self }) (g.B.Bus.history c.fetch.new.bus) c.fetch.new.tags None) c.self-2.view_is
     (has_put g.T.Tagger.data_tag_of g.T.Tagger.node_tag_of (IsFetchPlace c.args.self.now.tree.levels c.args.page) c.args.page (record { tree = c.self-2.inside.tree; blocks = c.self-2.inside.blocks }) c.fetch.new.self (record { tree = c.fetch.new.self; blocks = c.put.new.self }) (g.B.Bus.history c.make_room.new.bus) (g.B.Bus.history c.fetch.new.bus) c.make_room.new.tags c.fetch.new.tags c.in_ok-block.block
     (subst (λ (s : Option MemStop). TreeCall (tags_of g.T.Tagger.data_tag_of g.T.Tagger.node_tag_of) (IsFetchPlace c.args.self.now.tree.levels c.args.page) c.self-2.inside.tree (g.B.Bus.history c.make_room.new.bus) c.make_room.new.tags c.fetch.new.self (g.B.Bus.history c.fetch.new.bus) c.fetch.new.tags s) (ap stop_of is)
@@ -119,7 +200,52 @@ returns-clause-has g c =
     (subst (λ (page : ℕ). CameFrom c.make_room.new.tags.made (g.B.Bus.history c.make_room.new.bus) (g.B.Bus.history c.fetch.new.bus) page) (above_none 0 c.args.page)
     (c.in_ok-block.ensures.read.rose 0 (omega arith) (omega arith) (λ lower from_zero few. no_copy_below c.self-2.inside.tree lower c.args.page few))) refl
     (blocks_put c.fetch.new.self.levels c.self-2.inside.blocks c.put.new.self
-    (subst (λ (k : ℕ). AreBlocks k c.self-2.inside.blocks) (sym c.fetch.ensures.levels) c.self-2.invariant) c.put.ensures.cache
-    c.args.page c.in_ok-block.block false (subst (λ (k : ℕ). c.args.page < page_count k) (sym (c.fetch.ensures.levels ∙ ap (λ (v : CountersView). v.tree.levels) c.self-2.view_is ∙ c.in_ok-make_room.ensures.has.levels ∙ ap (λ (v : CountersView). v.tree.levels) c.self.view_is)) c.requires.page) (search rules) c.put.ensures.put c.put.ensures.same)
-    (ap (option_map copy_of) absent) (ap (option_map copy_of) c.put.ensures.put)
+    (subst (λ (k : ℕ). AreBlocks k c.self-2.inside.blocks) (sym c.fetch.ensures.levels) c.self-2.invariant) c.put.ensures.cache c.args.page c.in_ok-block.block false
+    (subst (λ (k : ℕ). c.args.page < page_count k) (sym (c.fetch.ensures.levels ∙ levels)) c.requires.page) (search rules) c.put.ensures.put c.put.ensures.same)
+    (ap (option_map copy_of) empty) (ap (option_map copy_of) c.put.ensures.put)
     (λ other apart. ap (option_map copy_of) (c.put.ensures.same other apart))))
+
+pub returns-clause-had : goal.returns-clause-had
+returns-clause-had g c = λ bytes copied.
+    let same : (record { tree = c.self.inside.tree; blocks = c.touch.new.self }) ≡ c.args.self.now =
+    ap (λ (b : List (List Way)). record { tree = c.self.inside.tree; blocks = b }) (c.if-touch.ensures.unchanged refl) ∙ c.self.view_is in
+    let absent : cached_block c.args.self.now c.args.page ≡ None =
+    ap (λ (v : CountersView). cached_block v c.args.page) (sym same) ∙ ap (option_map copy_of) (c.if-touch.ensures.absent refl) in
+    let some : Some c.in_ok-block.block ≡ Some bytes = sym (ap (option_map (λ (way : Way). way.copy)) c.put.ensures.put) ∙ copied in
+    let block_is : c.in_ok-block.block ≡ bytes = cc in
+    subst (λ (b : List ℕ). IsHad (tags_of g.T.Tagger.data_tag_of g.T.Tagger.node_tag_of c.args.tags.now) c.args.self.now (record { tree = c.fetch.new.self; blocks = c.put.new.self }) c.fetch.new.tags.made c.args.page c.args.tags.now.evidence c.fetch.new.tags.evidence b) block_is
+    (had_tagged (tags_of g.T.Tagger.data_tag_of g.T.Tagger.node_tag_of c.args.tags.now) c.args.self.now (record { tree = c.fetch.new.self; blocks = c.put.new.self }) c.fetch.new.tags.made c.args.page c.args.tags.now.evidence c.fetch.new.tags.evidence c.in_ok-block.block absent
+    (sym (ap (λ (t : Message → List ℕ). t (Node 0 c.args.page c.in_ok-block.block))
+    (same_tags g.T.Tagger.data_tag_of g.T.Tagger.node_tag_of (g.B.Bus.history c.args.bus.now) (g.B.Bus.history c.make_room.new.bus) c.args.tags.now c.make_room.new.tags c.in_ok-make_room.ensures.has.moves))
+    ∙ c.in_ok-block.ensures.checked)
+    (λ quiet made_at shown tag is.
+    let mid : c.make_room.new.tags.evidence ≡ None =
+    quiet_before c.self.inside.tree.levels c.args.page c.make_room.new.tags.evidence c.fetch.new.tags.evidence (c.in_ok-make_room.ensures.has.found quiet)
+    c.fetch.ensures.moves.evidence made_at shown tag is in
+    let both : Ok c.in_ok-block.block ≡ Ok shown = sym c.in_ok-block.was ∙ c.fetch.ensures.accepted made_at shown tag mid is in
+    let same_block : c.in_ok-block.block ≡ shown = cc in same_block))
+
+pub returns-clause-hit : goal.returns-clause-hit
+returns-clause-hit g c = λ cached.
+    let same : (record { tree = c.self.inside.tree; blocks = c.touch.new.self }) ≡ c.args.self.now =
+    ap (λ (b : List (List Way)). record { tree = c.self.inside.tree; blocks = b }) (c.if-touch.ensures.unchanged refl) ∙ c.self.view_is in
+    let absent : cached_block c.args.self.now c.args.page ≡ None =
+    ap (λ (v : CountersView). cached_block v c.args.page) (sym same) ∙ ap (option_map copy_of) (c.if-touch.ensures.absent refl) in
+    let are : AreBlocks c.args.self.now.tree.levels c.args.self.now.blocks = subst (λ (v : CountersView). AreBlocks v.tree.levels v.blocks) c.self.view_is c.self.invariant in
+    absurd (cached_held c.args.self.now c.args.page are.cache cached absent)
+
+pub returns-clause-read : goal.returns-clause-read
+returns-clause-read g c = λ uncached.
+    let same : (record { tree = c.self.inside.tree; blocks = c.touch.new.self }) ≡ c.args.self.now =
+    ap (λ (b : List (List Way)). record { tree = c.self.inside.tree; blocks = b }) (c.if-touch.ensures.unchanged refl) ∙ c.self.view_is in
+    let room : Has (tags_of g.T.Tagger.data_tag_of g.T.Tagger.node_tag_of) (IsFetchPlace c.args.self.now.tree.levels c.args.page) c.args.self.now (g.B.Bus.history c.args.bus.now) c.args.tags.now c.make_room.new.self (g.B.Bus.history c.make_room.new.bus) c.make_room.new.tags None =
+    subst (λ (v : CountersView). Has (tags_of g.T.Tagger.data_tag_of g.T.Tagger.node_tag_of) (IsFetchPlace v.tree.levels c.args.page) v (g.B.Bus.history c.args.bus.now) c.args.tags.now c.make_room.new.self (g.B.Bus.history c.make_room.new.bus) c.make_room.new.tags None) same
+    (has_as g.T.Tagger.data_tag_of g.T.Tagger.node_tag_of (IsNodeFrom c.self.inside.tree.levels 1) (IsFetchPlace c.self.inside.tree.levels c.args.page) (record { tree = c.self.inside.tree; blocks = c.touch.new.self }) c.make_room.new.self (g.B.Bus.history c.args.bus.now) (g.B.Bus.history c.make_room.new.bus) c.args.tags.now c.make_room.new.tags None
+    (λ place from. inr from) c.in_ok-make_room.ensures.has) in
+    path_on c.args.self.now.tree c.make_room.new.self.tree c.args.page c.args.tags.now.made c.make_room.new.tags.made (g.B.Bus.history c.args.bus.now) (g.B.Bus.history c.make_room.new.bus) (g.B.Bus.history c.fetch.new.bus) room.levels room.moves.reads
+    c.fetch.ensures.moves.reads room.read (unmade_before c.args.tags.now.made c.make_room.new.tags.made room.moves.more room.moves.made)
+    (subst (λ (v : CountersView). PathWasRead v.tree c.make_room.new.tags.made 0 c.args.page (g.B.Bus.history c.make_room.new.bus) (g.B.Bus.history c.fetch.new.bus)) c.self-2.view_is c.in_ok-block.ensures.read)
+
+pub returns-clause-moved : goal.returns-clause-moved
+returns-clause-moved g c =
+    g.met.B.Bus.moved_on c.args.bus.now c.make_room.new.bus c.fetch.new.bus c.make_room.ensures.moved c.fetch.ensures.moved

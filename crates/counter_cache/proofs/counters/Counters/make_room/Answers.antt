@@ -9,7 +9,7 @@ use Rattle.bonsai_tree.specs.NodeCache.{copy_of}
 use Rattle.bonsai_tree.specs.Tree.{IsNodeFrom, TreeView}
 use Rattle.counter_cache.specs.Counters.{AreBlocks, CountersView, cached_block}
 use Rattle.counter_cache.specs.Having.{Has}
-use Rattle.counter_cache.proofs.BlockCopies.{blocks_left}
+use Rattle.counter_cache.proofs.BlockCopies.{apart_from, blocks_left}
 use Rattle.counter_cache.proofs.Havings.{has_dropped, has_not, has_on}
 use Rattle.counter_cache.proofs.counters.Counters.make_room.Goals as goal
 
@@ -43,3 +43,20 @@ returns-clause-has g c =
 
 pub returns-clause-room_for : goal.returns-clause-room_for
 returns-clause-room_for g c = c.remove.ensures.room c.args.page c.in-Some.ensures.beside
+
+pub returns-in_err-write_back-clause-pages : goal.returns-in_err-write_back-clause-pages
+returns-in_err-write_back-clause-pages g c =
+    c.write_back.ensures.others c.args.page
+    (apart_from c.self.inside.blocks c.args.page c.in-Some.victim.place c.in-Some.victim
+    (ap (λ (v : CountersView). way_at v.blocks c.args.page) c.self.view_is ∙ c.requires.absent) c.in-Some.ensures.way)
+
+pub invariant_of-self : goal.invariant_of-self
+invariant_of-self g c =
+    blocks_left c.self-2.inside.tree.levels c.self-2.inside.blocks c.remove.new.self c.in-Some.victim.place c.self-2.invariant c.remove.ensures.cache
+    c.remove.ensures.removed c.remove.ensures.same
+
+pub returns-clause-pages : goal.returns-clause-pages
+returns-clause-pages g c =
+    c.write_back.ensures.others c.args.page
+    (apart_from c.self.inside.blocks c.args.page c.in-Some.victim.place c.in-Some.victim
+    (ap (λ (v : CountersView). way_at v.blocks c.args.page) c.self.view_is ∙ c.requires.absent) c.in-Some.ensures.way)

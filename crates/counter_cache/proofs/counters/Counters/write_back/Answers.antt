@@ -50,3 +50,8 @@ returns-clause-has g c =
           let changed : c.args.victim.now.changed ≡ true = search rules in
           absurd (cc)
     ]))
+
+pub returns-then-not-victim-clause-last : goal.returns-then-not-victim-clause-last
+returns-then-not-victim-clause-last g c = λ holds quiet.
+    let unchanged : c.args.victim.now.changed ≡ false = search rules in
+    holds.clean quiet c.args.victim.now.place (copy_of c.args.victim.now) (ap (option_map copy_of) c.requires.held) unchanged
