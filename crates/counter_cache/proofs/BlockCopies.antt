@@ -77,5 +77,13 @@ held_cached counters page held = listed_at counters.blocks page (copied_some (wa
 pub latest_cached : (counters : CountersView) (page : ℕ) → IsLatest counters.blocks page → Contains (cached_pages counters) page
 latest_cached counters page latest = listed_at counters.blocks page (latest_found page (set_at counters.blocks page) latest)
 
+-- a copy that changes is of a page that had one
+pub same_pages : (blocks blocks' : List (List Way)) (page : ℕ) → IsCache block_sets blocks' → Contains (places blocks) page →
+    ((other : ℕ) → other ≢ page → way_at blocks' other ≡ way_at blocks other) → (other : ℕ) → Contains (places blocks') other → Contains (places blocks) other
+same_pages blocks blocks' page cache there same other listed = elim (cases_eq other page) [
+  | inl here ↦ subst (λ (p : ℕ). Contains (places blocks) p) (sym here) there
+  | inr apart ↦ listed_at blocks other (subst (λ (o : Option Way). IsSome o) (same other apart) (found_at block_sets blocks' other cache listed))
+]
+
 pub few_blocks : (levels : ℕ) (blocks : List (List Way)) → AreBlocks levels blocks → length (places blocks) ≤ most_blocks
 few_blocks levels blocks are = omega (arith, few_in block_sets 0 blocks are.cache.sets_are, are.cache.counted)

@@ -1,0 +1,78 @@
+use Rattle.std.proofs.Common.{◌≡◌, ◌≢◌, ◌<◌, ℕ, List, length, Option, Some, None, Ok, Err, Bool, true, is_some, ap, sym, ◌∙◌, subst, rules}
+use Rattle.std.specs.List.{Contains}
+use Rattle.std.specs.Option.{option_map}
+use Rattle.sec_base.specs.Geometry.{page_count}
+use Rattle.sec_base.specs.LastMessage.{last_node}
+use Rattle.sec_base.specs.declared.stop.MemStop.TheVariants.{NoMemory}
+use Rattle.cache_set.specs.declared.way.Way.{Way}
+use Rattle.cache_set.specs.Cache.{way_at}
+use Rattle.cache_set.proofs.Listed.{listed_at}
+use Rattle.checked_bus.specs.Steps.{stop_of}
+use Rattle.split_counter.specs.declared.bumped.Bumped.TheVariants.{Line, Page, Spent}
+use Rattle.split_counter.specs.CounterBlock.{CounterBlockView, IsCounterBlock, after_bump, block_of, counter_of}
+use Rattle.bonsai_tree.specs.Node.{current_of}
+use Rattle.bonsai_tree.specs.NodeCache.{copy_of}
+use Rattle.bonsai_tree.proofs.Nodes.{stop_is}
+use Rattle.counter_cache.specs.Counters.{CountersView, cached_pages, counters_in}
+use Rattle.counter_cache.proofs.BlockCopies.{blocks_put, few_blocks, same_pages}
+use Rattle.counter_cache.proofs.Blocks.{counters_of_copy}
+use Rattle.counter_cache.proofs.Rising.{bumped_at_least, line_within, page_within}
+use Rattle.counter_cache.proofs.counters.Counters.bump.Goals as goal
+
+pub returns-in_err-block-clause-last_blocks : goal.returns-in_err-block-clause-last_blocks
+returns-in_err-block-clause-last_blocks g c = λ was memory.
+    let stop : stop_of c.from_residual.result ≡ Some c.in_err-block.field-0.0 = search rules in
+    c.get.ensures.last_blocks was
+    (λ (is : c.get.result ≡ Err NoMemory). memory (stop_is c.from_residual.result NoMemory (stop ∙ sym (ap stop_of c.in_err-block.was) ∙ ap stop_of is)))
+
+pub invariant_of-self : goal.invariant_of-self
+invariant_of-self g c =
+    let levels : c.self.inside.tree.levels ≡ c.args.self.now.tree.levels = ap (λ (v : CountersView). v.tree.levels) c.self.view_is ∙ c.get.ensures.levels in
+    let long : length c.to_bytes.result ≡ 64 = search rules in
+    blocks_put c.self.inside.tree.levels c.self.inside.blocks c.change.new.self c.self.invariant c.change.ensures.cache c.args.page c.to_bytes.result true
+    (subst (λ (k : ℕ). c.args.page < page_count k) (sym levels) c.requires.page) long c.change.ensures.changed c.change.ensures.same
+
+pub returns-clause-rises : goal.returns-clause-rises
+returns-clause-rises g c = λ holds quiet.
+    let block : c.in_ok-block.block ≡ counters_in c.args.self.now c.args.tags.now.made c.args.page = c.in_ok-block.ensures.counters holds quiet in
+    (bumped_at_least c.args.place c.args.limit (counters_in c.args.self.now c.args.tags.now.made c.args.page) (counters_in (record { tree = c.self.inside.tree; blocks = c.change.new.self }) c.get.new.tags.made c.args.page)
+    (subst IsCounterBlock block c.in_ok-block.ensures.is_block)
+    (counters_of_copy (record { tree = c.self.inside.tree; blocks = c.change.new.self }) c.get.new.tags.made c.args.page c.to_bytes.result (ap (option_map (λ (way : Way). way.copy)) c.change.ensures.changed)
+    ∙ c.to_bytes.ensures.read_back ∙ c.bump-outcome.ensures.counters ∙ ap (λ (b : CounterBlockView). (after_bump c.args.place c.args.limit b).1) block)).at_least
+
+pub returns-clause-others : goal.returns-clause-others
+returns-clause-others g c = λ holds quiet other apart.
+    ap (λ (o : Option Way). block_of (current_of (option_map copy_of o) (last_node 0 other c.get.new.tags.made)))
+    (c.change.ensures.same other apart ∙ ap (λ (v : CountersView). way_at v.blocks other) c.self.view_is)
+    ∙ c.get.ensures.same holds quiet other
+
+pub returns-clause-line : goal.returns-clause-line
+returns-clause-line g c = λ counter is.
+    let outcome : c.bump-outcome.result ≡ Line counter = cc in
+    let unspent : c.bump-outcome.result ≢ Spent = λ (spent : c.bump-outcome.result ≡ Spent). let both : Line counter ≡ Spent = sym outcome ∙ spent in absurd (cc) in
+    line_within c.args.place c.in_ok-block.block c.bump-outcome.new.self counter c.bump-outcome.ensures.is_block c.requires.place
+    (c.bump-outcome.ensures.line counter outcome) (c.bump-outcome.ensures.page_stays counter outcome) (c.bump-outcome.ensures.next unspent)
+
+pub returns-clause-overflow : goal.returns-clause-overflow
+returns-clause-overflow g c = λ next is.
+    let outcome : c.bump-outcome.result ≡ Page next = cc in
+    page_within c.args.limit next (counter_of c.args.place c.in_ok-block.block) (sym c.bump-outcome.ensures.outcome ∙ outcome)
+
+pub returns-clause-cached : goal.returns-clause-cached
+returns-clause-cached g c =
+    listed_at c.change.new.self c.args.page (ap (λ (o : Option Way). is_some o) c.change.ensures.changed)
+
+pub returns-clause-few_copies : goal.returns-clause-few_copies
+returns-clause-few_copies g c =
+    let levels : c.self.inside.tree.levels ≡ c.args.self.now.tree.levels = ap (λ (v : CountersView). v.tree.levels) c.self.view_is ∙ c.get.ensures.levels in
+    let long : length c.to_bytes.result ≡ 64 = search rules in
+    few_blocks c.self.inside.tree.levels c.change.new.self
+    (blocks_put c.self.inside.tree.levels c.self.inside.blocks c.change.new.self c.self.invariant c.change.ensures.cache c.args.page c.to_bytes.result true
+    (subst (λ (k : ℕ). c.args.page < page_count k) (sym levels) c.requires.page) long c.change.ensures.changed c.change.ensures.same)
+
+pub returns-clause-new_copies : goal.returns-clause-new_copies
+returns-clause-new_copies g c = λ other listed.
+    c.get.ensures.new_copies other
+    (subst (λ (v : CountersView). Contains (cached_pages v) other) c.self.view_is
+    (same_pages c.self.inside.blocks c.change.new.self c.args.page c.change.ensures.cache
+    (subst (λ (v : CountersView). Contains (cached_pages v) c.args.page) (sym c.self.view_is) c.in_ok-block.ensures.cached) c.change.ensures.same other listed))
