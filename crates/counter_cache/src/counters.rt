@@ -232,6 +232,7 @@ impl Counters {
         ensures read { ¬ Contains (cached_pages self.old) page →
             OnOk result (PathWasRead self.old.tree tags.old.made 0 page (B.history bus.old) (B.history bus.new)) }
         ensures idle { Contains (cached_pages self.old) page → (B.history bus.new ≡ B.history bus.old) × (tags.new ≡ tags.old) }
+        ensures hit { Contains (cached_pages self.old) page → IsOk result }
         ensures cached { OnOk result (Contains (cached_pages self.new) page) }
         ensures once { (B.history bus.new).accesses ≤ (B.history bus.old).accesses + counter_accesses self.old.tree.levels }
         ensures few { length tags.new.made ≤ length tags.old.made + counter_accesses self.old.tree.levels }

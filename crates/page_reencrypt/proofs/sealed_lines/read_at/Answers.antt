@@ -24,6 +24,7 @@ returns-in_err-block g c =
       node = e.step;
       levels = e.levels;
       fits = ok_where (Err why) tt e.unspent;
+      copies = e.copies;
       accounted = e.accounted c.requires.fits;
       shows = e.shows c.requires.fits;
     } in
@@ -48,6 +49,7 @@ read-requires-clause-counter g c = λ quiet.
       node = e.step;
       levels = e.levels;
       fits = λ going. e.fits c.requires.fits;
+      copies = e.copies;
       accounted = e.accounted c.requires.fits;
       shows = e.shows c.requires.fits;
     } in
@@ -83,6 +85,7 @@ returns g c =
       node = e.step;
       levels = e.levels;
       fits = λ going. e.fits c.requires.fits;
+      copies = e.copies;
       accounted = e.accounted c.requires.fits;
       shows = e.shows c.requires.fits;
     } in

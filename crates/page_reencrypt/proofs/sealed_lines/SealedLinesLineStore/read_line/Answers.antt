@@ -88,8 +88,8 @@ returns-clause-unsealed g c =
 pub returns-clause-same_counters : goal.returns-clause-same_counters
 returns-clause-same_counters g c = λ _ quiet page. rw (← c.self.view_is) (c.read_at-read.ensures.read.same quiet page)
 
-pub returns-clause-through : goal.returns-clause-through
-returns-clause-through g c =
+pub returns-clause-fits : goal.returns-clause-fits
+returns-clause-fits g c =
     let lines = sealed_lines_view c.self.inside in
     let new = c.read_at-read.new.outside in
     let counters = c.read_at-read.new.counters in
@@ -98,7 +98,7 @@ returns-clause-through g c =
     let stops : c.or-self-inside.result ≡ option_or (result_err c.read_at-read.result) lines.stopped =
     c.or-self-inside.ensures ∙ ap (λ (o : Option MemStop). option_or o lines.stopped) c.err.ensures.value in
     (read_kept g.T.Tagger.data_tag_of g.T.Tagger.node_tag_of g.B.Bus.history g.B.Bus.moved lines c.args.line c.self.invariant.1 going inside new counters
-    c.read_at-read.result c.read_at-read.ensures.read c.or-self-inside.result stops).through
+    c.read_at-read.result c.read_at-read.ensures.read c.or-self-inside.result stops).fits
 
 pub returns-clause-accepted : goal.returns-clause-accepted
 returns-clause-accepted g c = λ at counter sealed made_count _ quiet found.

@@ -38,8 +38,8 @@ invariant_of-self g c =
           c.write_next-written.result c.write_next-written.ensures.written c.or-self-inside.result stops,
     )
 
-pub returns-clause-through : goal.returns-clause-through
-returns-clause-through g c =
+pub returns-clause-fits : goal.returns-clause-fits
+returns-clause-fits g c =
     let lines = sealed_lines_view c.self.inside in
     let new = c.write_next-written.new.outside in
     let counters = c.write_next-written.new.counters in
@@ -48,7 +48,7 @@ returns-clause-through g c =
     let stops : c.or-self-inside.result ≡ option_or (result_err c.write_next-written.result) lines.stopped =
     c.or-self-inside.ensures ∙ ap (λ (o : Option MemStop). option_or o lines.stopped) c.err.ensures.value in
     (write_kept g.T.Tagger.data_tag_of g.T.Tagger.node_tag_of g.B.Bus.history g.B.Bus.moved lines c.args.line c.args.bytes.now c.self.invariant.1 going inside new counters
-    c.write_next-written.result c.write_next-written.ensures.written c.or-self-inside.result stops).through
+    c.write_next-written.result c.write_next-written.ensures.written c.or-self-inside.result stops).fits
 
 pub returns-clause-stored : goal.returns-clause-stored
 returns-clause-stored g c = λ _ quiet.
