@@ -36,7 +36,7 @@ err_map (Err error) follows refused = follows refused
 
 pub ok_gives : {A E P : Type 0} (result : Result A E) → IsOk result → OnOk result P → P
 ok_gives (Ok value) ok holds = holds
-ok_gives (Err error) ok holds = absurd ok
+ok_gives (Err error) ok holds = absurd (cc)
 
 pub shows_by : {A P : Type 0} (found : Option A) → (found ≢ None → P) → (found ≡ None) ⊎ P
 shows_by None shown = inl refl

@@ -8,7 +8,7 @@ use Rattle.sec_base.specs.declared.place.Place.{Place}
 use Rattle.sec_base.specs.declared.place.Place.TheVariants.{Line as line_place, Node as node_place}
 use Rattle.sec_base.specs.declared.stop.MemStop.{MemStop}
 use Rattle.sec_base.specs.declared.stop.MemStop.TheVariants.{Tampered, Spent}
-use Rattle.sec_base.specs.Count.{Rose}
+use Rattle.sec_base.specs.Count.{Rose, RoseBy}
 use Rattle.sec_base.specs.Geometry.{line_count, page_of}
 use Rattle.sec_base.specs.LastMessage.{data_pairs, last_data, last_node, node_part, IsFresh}
 use Rattle.sec_base.proofs.LastMessages.{none_front}
@@ -58,7 +58,7 @@ came_not history made counters = record { few = λ few. few; came = λ page cach
 
 -- and more was read since
 pub came_more : (first second third : BusHistory) (made : List Message) (counters counters' : CountersView) → BlocksCame first made counters second counters' →
-    ((place : Place) → second.reads place ≤ third.reads place) → BlocksCame first made counters third counters'
+    ((place : Place) → RoseBy 0 (second.reads place) (third.reads place)) → BlocksCame first made counters third counters'
 came_more first second third made counters counters' a more = record {
   few = a.few;
   came = λ page cached.
@@ -184,7 +184,7 @@ module _ {B T : Type 0} (terms : MemoryTerms B) where
           nodes_hold_last = λ goes_on. nodes;
         };
         levels = refl;
-        fits = λ going. fits;
+        fits = λ going. record { tree = record { fits = fits.tree.fits }; clean = fits.clean };
         copies = came_not (terms.history old.bus) old.engine.made counters;
         accounted = λ was.
             subst (λ (u : List (ℕ × Counter)). IsAccounted terms.tag_of u old.engine.made (terms.history old.bus) stop old.engine.evidence) (sym used)

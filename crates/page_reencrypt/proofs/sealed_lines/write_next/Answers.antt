@@ -137,7 +137,7 @@ returns-in_err-reserve g c =
     }
 
 pub returns-in_err-counter : goal.returns-in_err-counter
-returns-in_err-counter g c = absurd c.in_err-counter.ensures.ok
+returns-in_err-counter g c = let refused = c.in_err-counter.ensures.ok in absurd (cc)
 
 pub returns-in-Spent-2 : goal.returns-in-Spent-2
 returns-in-Spent-2 g c =

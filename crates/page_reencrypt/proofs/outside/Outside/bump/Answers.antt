@@ -5,12 +5,10 @@ use Rattle.page_reencrypt.proofs.NodeSteps.{fits_after, fits_before, ok_gives}
 use Rattle.page_reencrypt.proofs.outside.Outside.bump.Goals as goal
 
 pub returns-clause-idle : goal.returns-clause-idle
-returns-clause-idle g c = 
-rw (← c.self.view_is) (c.bump.ensures.idle c.requires.cached)
+returns-clause-idle g c = rw (← c.self.view_is) (c.bump.ensures.idle c.requires.cached)
 
 pub returns-clause-copies : goal.returns-clause-copies
-returns-clause-copies g c = 
-
+returns-clause-copies g c =
     rw (← c.self.view_is) (record { few = λ few. c.bump.ensures.few_copies; came = λ page cached. c.bump.ensures.new_copies page cached })
 
 pub returns-clause-fits : goal.returns-clause-fits

@@ -86,6 +86,5 @@ returns-clause-idle g c = λ cached.
     rw (← c.self.view_is) (c.get.ensures.idle cached)
 
 pub returns-clause-copies : goal.returns-clause-copies
-returns-clause-copies g c = 
-
+returns-clause-copies g c =
     rw (← c.self.view_is) (record { few = λ few. c.get.ensures.few_copies; came = λ page cached. c.get.ensures.new_copies page cached })
