@@ -24,8 +24,8 @@ use Rattle.bonsai_tree.specs.Node.{CachedNode, block_or_zeros, current_of, page_
 use Rattle.bonsai_tree.specs.Tree.{TreeView, HoldsTree, NodesAreMade, NodesHoldLast, PathWasRead, WasReadUp, above, cached_node}
 use Rattle.bonsai_tree.proofs.Climbs.{above_on, find_copy, read_up_held, read_up_on, unchanged_writes}
 use Rattle.bonsai_tree.proofs.Nodes.{same_tags, some_not_none, some_or_none, was_none}
-use Rattle.counter_cache.specs.Counters.{AreBlocks, CountersView, HoldsCounters, SameCounters, cached_block, cached_pages, counters_in, current_page}
-use Rattle.counter_cache.specs.Having.{CameFrom, Has}
+use Rattle.counter_cache.specs.Counters.{AreBlocks, CameFrom, CountersView, HoldsCounters, SameCounters, cached_block, cached_pages, counters_in, current_page}
+use Rattle.counter_cache.specs.Having.{Has}
 use Rattle.counter_cache.proofs.BlockCopies.{cached_held, held_cached}
 
 -- What a call of the tree says.

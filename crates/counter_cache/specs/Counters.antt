@@ -1,18 +1,19 @@
 -- What contracts see of the counters of all pages: the tree over their counter blocks, and the copies of counter blocks.
-use Rattle.std.specs.Prelude.{◌≡◌, ◌≢◌, ℕ, ◌*◌, ◌<◌, List, length, false, Option, Some, None, Contains}
+use Rattle.std.specs.Prelude.{◌≡◌, ◌⊎◌, ℕ, ◌*◌, ◌<◌, List, length, false, Option, Some, None, Contains}
 use Rattle.std.specs.Option.{option_map}
+use Rattle.sec_base.specs.Count.{Rose}
 use Rattle.sec_base.specs.Geometry.{page_count}
 use Rattle.sec_base.specs.LastMessage.{last_node}
 use Rattle.sec_base.specs.declared.evidence.Evidence.{Evidence}
 use Rattle.sec_base.specs.declared.evidence.Evidence.TheVariants.{Collision}
 use Rattle.sec_base.specs.declared.message.Message.{Message}
 use Rattle.sec_base.specs.declared.message.Message.TheVariants.{Node}
+use Rattle.sec_base.specs.declared.place.Place.TheVariants.{Node as node_place}
 use Rattle.cache_set.specs.declared.way.Way.{Way}
 use Rattle.cache_set.specs.Cache.{IsCache, places, way_at}
 use Rattle.bus_model.specs.BusHistory.{BusHistory}
 use Rattle.tag_engine.specs.TagEngine.{TagEngineView}
 use Rattle.split_counter.specs.declared.bumped.Bumped.{Bumped}
-use Rattle.split_counter.specs.declared.bumped.Bumped.TheVariants.{Spent}
 use Rattle.split_counter.specs.CounterBlock.{CounterBlockView, after_bump, block_of, bumped, counter_of}
 use Rattle.bonsai_tree.specs.Node.{CachedNode, current_of, page_block}
 use Rattle.bonsai_tree.specs.NodeCache.{copy_of}
@@ -67,6 +68,10 @@ SameCounters counters made counters' made' = (page : ℕ) → counters_in counte
 abbrev pub counter_accesses : ℕ → ℕ
 counter_accesses levels = 2 * path_accesses levels
 
+-- a page's block was never made, or was read from its place
+abbrev pub CameFrom : List Message → BusHistory → BusHistory → ℕ → Type 0
+CameFrom made old new page = (last_node 0 page made ≡ None) ⊎ Rose (old.reads (node_place 0 page)) (new.reads (node_place 0 page))
+
 -- The block is the copy that a page has; where it has none, one with the tag that the tree keeps of the page's block after it.
 abbrev pub IsCopyOrTagged : Option CachedNode → (Message → List ℕ) → TreeView → List Message → ℕ → List ℕ → Type 0
 IsCopyOrTagged (Some copy) tag_of tree made page block = block ≡ copy.block
@@ -85,11 +90,11 @@ pub record AreHad (tag_of : Message → List ℕ) (counters counters' : Counters
   pub had : IsHad tag_of counters counters' made' page before after bytes
   pub spelled : block ≡ block_of bytes
 
--- A bump of the line at a place comes to this by counters of a block that was had, and unless the line is spent those after
--- it are the page's.
+-- A bump of the line at a place comes to this by counters of a block that was had, and those after it are the page's: the same
+-- ones where the line is spent.
 pub record IsBumped (tag_of : Message → List ℕ) (counters counters' : CountersView) (made' : List Message) (page place limit : ℕ) (before after : Option Evidence)
     (outcome : Bumped) : Type 0 where
   pub bytes : List ℕ
   pub had : IsHad tag_of counters counters' made' page before after bytes
   pub comes : outcome ≡ bumped limit (counter_of place (block_of bytes))
-  pub counted : outcome ≢ Spent → counters_in counters' made' page ≡ (after_bump place limit (block_of bytes)).1
+  pub counted : counters_in counters' made' page ≡ (after_bump place limit (block_of bytes)).1

@@ -3,12 +3,10 @@
 use Rattle.std.specs.Prelude.{◌≡◌, ◌≢◌, ◌⊎◌, ℕ, List, length, Option, Some, None}
 use Rattle.sec_base.specs.Count.{Rose}
 use Rattle.sec_base.specs.Evidence.{evidence_place}
-use Rattle.sec_base.specs.LastMessage.{last_node}
 use Rattle.sec_base.specs.declared.counter.Counter.{Counter}
 use Rattle.sec_base.specs.declared.evidence.Evidence.{Evidence}
 use Rattle.sec_base.specs.declared.message.Message.{Message}
 use Rattle.sec_base.specs.declared.place.Place.{Place}
-use Rattle.sec_base.specs.declared.place.Place.TheVariants.{Node as node_place}
 use Rattle.sec_base.specs.declared.stop.MemStop.{MemStop}
 use Rattle.sec_base.specs.declared.stop.MemStop.TheVariants.{Tampered, Spent, NoMemory}
 use Rattle.bus_model.specs.BusHistory.{BusHistory}
@@ -16,11 +14,7 @@ use Rattle.tag_engine.specs.TagEngine.{TagEngineView}
 use Rattle.checked_bus.specs.Accesses.{WritesMessages}
 use Rattle.checked_bus.specs.Steps.{IsAccounted, Moves, SameLines, unwritten_in}
 use Rattle.bonsai_tree.specs.Tree.{NodesAreMade, NodesHoldLast, WasReadUp, cached_node}
-use Rattle.counter_cache.specs.Counters.{AreBlocks, CountersView, HoldsCounters, SameCounters, cached_block}
-
--- a page's block was read, or was never made
-abbrev pub CameFrom : List Message → BusHistory → BusHistory → ℕ → Type 0
-CameFrom made old new page = (last_node 0 page made ≡ None) ⊎ Rose (old.reads (node_place 0 page)) (new.reads (node_place 0 page))
+use Rattle.counter_cache.specs.Counters.{AreBlocks, CameFrom, CountersView, HoldsCounters, SameCounters, cached_block}
 
 -- The places that are read are among these.
 pub record Has {T : Type 0} (tags : TagEngineView T → Message → List ℕ) (Where : Place → Type 0) (counters : CountersView) (old : BusHistory)

@@ -9,7 +9,6 @@ ghost use Rattle.sec_base.specs.declared.evidence.Evidence.{Evidence};
 ghost use Rattle.sec_base.specs.declared.evidence.Evidence.TheVariants.{Collision};
 ghost use Rattle.sec_base.specs.declared.message.Message.{Message};
 ghost use Rattle.sec_base.specs.declared.place.Place.{Place};
-ghost use Rattle.sec_base.specs.declared.place.Place.TheVariants.{Node as node_place};
 ghost use Rattle.sec_base.specs.declared.stop.MemStop.TheVariants.{Tampered, Spent as stop_spent, NoMemory as no_memory};
 ghost use Rattle.bus_model.specs.BusHistory.{NothingWritten};
 ghost use Rattle.cache_set.specs.CacheSet.{HasRoom};
@@ -21,8 +20,9 @@ ghost use Rattle.split_counter.specs.declared.bumped.Bumped.TheVariants.{Line, P
 ghost use Rattle.split_counter.specs.CounterBlock.{IsCounterBlock, after_bump, block_of, bumped, counter_number, counter_of, new_block};
 ghost use Rattle.bonsai_tree.specs.Boot.{boot_messages, node_count};
 ghost use Rattle.bonsai_tree.specs.Node.{page_block};
-ghost use Rattle.bonsai_tree.specs.Tree.{IsFetchPlace, IsNodeFrom, NodesAreMade, NodesHoldLast, OnlyWroteNodes, PathWasRead, path_accesses, want_of};
-ghost use Rattle.counter_cache.specs.Counters.{AreBlocks, AreHad, HoldsCounters, IsBumped, IsHad, SameCounters, cached_block, cached_pages, counter_accesses, counters_in, most_blocks};
+ghost use Rattle.bonsai_tree.specs.NodeCache.{most_copies};
+ghost use Rattle.bonsai_tree.specs.Tree.{IsFetchPlace, IsNodeFrom, NodesAreMade, NodesHoldLast, OnlyWroteNodes, PathWasRead, WasReadUp, cached_node, cached_nodes, path_accesses, want_of};
+ghost use Rattle.counter_cache.specs.Counters.{AreBlocks, AreHad, CameFrom, HoldsCounters, IsBumped, IsHad, SameCounters, cached_block, cached_pages, counter_accesses, counters_in, most_blocks};
 ghost use Rattle.counter_cache.specs.Having.{Has};
 
 use bonsai_tree::Tree;
@@ -70,6 +70,7 @@ impl Counters {
         ensures zeros { IfOk result (λ counters. (page : ℕ) → page < page_count geometry →
             counters_in counters tags.new.made page ≡ new_block) }
         ensures empty { IfOk result (λ counters. cached_pages counters ≡ []) }
+        ensures empty_nodes { IfOk result (λ counters. (level : ℕ) → cached_nodes counters.tree level ≡ []) }
         ensures holds { IfOk result (λ counters.
             HoldsCounters (tags_of T.data_tag_of T.node_tag_of) counters (B.history bus.new) tags.new) }
 
@@ -115,6 +116,7 @@ impl Counters {
         ensures counters { HoldsCounters (tags_of T.data_tag_of T.node_tag_of) self.old (B.history bus.old) tags.old →
             tags.new.evidence ≡ None → IfOk result (λ block. block ≡ counters_in self.old tags.old.made page) }
         ensures is_block { IfOk result IsCounterBlock }
+        ensures kept { IfOk result (λ block. block ≡ counters_in self.new tags.new.made page) }
         ensures same { HoldsCounters (tags_of T.data_tag_of T.node_tag_of) self.old (B.history bus.old) tags.old →
             tags.new.evidence ≡ None → SameCounters self.old tags.old.made self.new tags.new.made }
         ensures hit { Contains (cached_pages self.old) page → result ≡ Ok (counters_in self.old tags.old.made page) }
@@ -150,8 +152,10 @@ impl Counters {
         ensures room { tags.old.room ≤ tags.new.room + counter_accesses self.old.tree.levels }
         ensures few_copies { length (cached_pages self.new) ≤ most_blocks }
         ensures new_copies { (other : ℕ) → Contains (cached_pages self.new) other → Contains (cached_pages self.old) other
-            ⊎ (last_node 0 other tags.old.made ≡ None)
-            ⊎ Rose ((B.history bus.old).reads (node_place 0 other)) ((B.history bus.new).reads (node_place 0 other)) }
+            ⊎ ((other ≡ page) × CameFrom tags.old.made (B.history bus.old) (B.history bus.new) page) }
+        ensures few_nodes { (level : ℕ) → length (cached_nodes self.new.tree level) ≤ most_copies }
+        ensures new_nodes { (level index : ℕ) → cached_node self.new.tree level index ≢ None →
+            WasReadUp self.old.tree level index (B.history bus.old) (B.history bus.new) }
 
         ensures moves { Moves (B.history bus.old) tags.old (B.history bus.new) tags.new }
         ensures lines { SameLines (B.history bus.old) tags.old.made (B.history bus.new) tags.new.made }
@@ -239,8 +243,10 @@ impl Counters {
         ensures room { tags.old.room ≤ tags.new.room + counter_accesses self.old.tree.levels }
         ensures few_copies { length (cached_pages self.new) ≤ most_blocks }
         ensures new_copies { (other : ℕ) → Contains (cached_pages self.new) other → Contains (cached_pages self.old) other
-            ⊎ (last_node 0 other tags.old.made ≡ None)
-            ⊎ Rose ((B.history bus.old).reads (node_place 0 other)) ((B.history bus.new).reads (node_place 0 other)) }
+            ⊎ ((other ≡ page) × CameFrom tags.old.made (B.history bus.old) (B.history bus.new) page) }
+        ensures few_nodes { (level : ℕ) → length (cached_nodes self.new.tree level) ≤ most_copies }
+        ensures new_nodes { (level index : ℕ) → cached_node self.new.tree level index ≢ None →
+            WasReadUp self.old.tree level index (B.history bus.old) (B.history bus.new) }
 
         ensures moves { Moves (B.history bus.old) tags.old (B.history bus.new) tags.new }
         ensures lines { SameLines (B.history bus.old) tags.old.made (B.history bus.new) tags.new.made }

@@ -20,8 +20,8 @@ use Rattle.bonsai_tree.specs.Tree.{IsFetchPlace, IsNodeFrom, PathWasRead, TreeVi
 use Rattle.bonsai_tree.proofs.Climbs.{above_none}
 use Rattle.bonsai_tree.proofs.Nodes.{same_tags, stop_is}
 use Rattle.bonsai_tree.proofs.PathCalls.{not_from_one}
-use Rattle.counter_cache.specs.Counters.{AreBlocks, CountersView, IsHad, cached_block, cached_pages}
-use Rattle.counter_cache.specs.Having.{CameFrom, Has}
+use Rattle.counter_cache.specs.Counters.{AreBlocks, CameFrom, CountersView, IsHad, cached_block, cached_pages}
+use Rattle.counter_cache.specs.Having.{Has}
 use Rattle.counter_cache.proofs.BlockCopies.{blocks_put, blocks_same, cached_held}
 use Rattle.counter_cache.proofs.Hads.{had_tagged, quiet_before}
 use Rattle.counter_cache.proofs.Havings.{TreeCall, has_as, has_on, has_put, has_touched, has_tree, no_copy_below, ok_at, over, path_on, unmade_before}
