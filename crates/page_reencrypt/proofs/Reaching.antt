@@ -23,13 +23,14 @@ use Rattle.checked_bus.specs.Steps.{unwritten_in}
 use Rattle.checked_bus.proofs.Steps.{counted_not, data_pairs-append, moves_on as step_on, same_lines_not, same_lines_on}
 use Rattle.split_counter.specs.CounterBlock.{last_counter, next_counter}
 use Rattle.bonsai_tree.specs.Node.{path_index}
-use Rattle.bonsai_tree.specs.Tree.{IsFetchPlace, NodesHoldLast, PathWasRead}
+use Rattle.bonsai_tree.specs.Tree.{IsFetchPlace, NodesHoldLast, PathWasRead, TreeView, WasReadUp, above, cached_node}
+use Rattle.bonsai_tree.proofs.Climbs.{above_none, read_up_on}
 use Rattle.counter_cache.specs.Counters.{CountersView, SameCounters, cached_pages, counter_accesses, counters_in}
 use Rattle.checked_bus.proofs.Writes.{writes_on}
 use Rattle.page_reencrypt.specs.Consistency.{IsConsistent}
 use Rattle.page_reencrypt.specs.Contents.{HoldsLast, bytes_of, counter_in, line_bytes, lines_encrypted}
 use Rattle.page_reencrypt.specs.Outside.{AreAccounted, AreConsistent, AreSealedInOrder, CountersFit, CountersSay, HaveLast, HaveLastNodes, HaveRisen, IsNodeStep, IsWrite, MemoryTerms, OutsideView, ShowsLies}
-use Rattle.page_reencrypt.specs.SealedLines.{AreReread, BlocksCame}
+use Rattle.page_reencrypt.specs.SealedLines.{AreReread, CopiesCame}
 use Rattle.page_reencrypt.specs.Stops.{lasting_stop}
 use Rattle.page_reencrypt.proofs.LineReads.{quiet_before}
 use Rattle.page_reencrypt.proofs.NodeSteps.{same_last_data}
@@ -51,37 +52,60 @@ no_pairs = refl
 writes_none : (history : BusHistory) (unwritten : ℕ) → WritesMessages history history 0 unwritten
 writes_none history unwritten = record { writes = 0; counted = counted_not history; at_most = omega arith; at_least = omega arith }
 
--- The copies of counter blocks came
+-- The copies on the chip came
 
-pub came_not : (history : BusHistory) (made : List Message) (counters : CountersView) → BlocksCame history made counters history counters
-came_not history made counters = record { few = λ few. few; came = λ page cached. inl cached }
-
--- and more was read since
-pub came_more : (first second third : BusHistory) (made : List Message) (counters counters' : CountersView) → BlocksCame first made counters second counters' →
-    ((place : Place) → RoseBy 0 (second.reads place) (third.reads place)) → BlocksCame first made counters third counters'
-came_more first second third made counters counters' a more = record {
-  few = a.few;
-  came = λ page cached.
-      elim (a.came page cached) [
-        | inl had ↦ inl had
-        | inr (inl never) ↦ inr (inl never)
-        | inr (inr rose) ↦ inr (inr (omega (arith, rose, more (node_place 0 page))))
-      ];
+copied_not : (tree : TreeView) (level index : ℕ) (history : BusHistory) → cached_node tree level index ≢ None → WasReadUp tree level index history history
+copied_not tree level index history copied = record {
+  rose = λ more inside none.
+      let first : cached_node tree level index ≡ None =
+      subst (λ (at : ℕ). cached_node tree at index ≡ None) (omega arith)
+      (subst (λ (at : ℕ). cached_node tree (level + 0) at ≡ None) (above_none tree.levels index) (none 0 (omega arith))) in absurd (copied first);
 }
 
-came_on : {T : Type 0} (first second third : BusHistory) (engine engine' engine'' : TagEngineView T) (counters counters' counters'' : CountersView) →
-    StepMoves first engine second engine' → StepMoves second engine' third engine'' →
-    BlocksCame first engine.made counters second counters' → BlocksCame second engine'.made counters' third counters'' →
-    BlocksCame first engine.made counters third counters''
-came_on first second third engine engine' engine'' counters counters' counters'' step more a b = record {
-  few = λ few. b.few (a.few few);
-  came = λ page cached.
-      elim (b.came page cached) [
-        | inl had ↦ (came_more first second third engine.made counters counters' a more.reads).came page had
-        | inr (inl never) ↦
-            inr (inl (none_front (node_part 0 page) engine.made step.more (subst (λ (made : List Message). last_node 0 page made ≡ None) step.made never)))
-        | inr (inr rose) ↦ inr (inr (omega (arith, rose, step.reads (node_place 0 page))))
+pub came_not : (page : ℕ) (history : BusHistory) (made : List Message) (counters : CountersView) → CopiesCame page history made counters history counters
+came_not page history made counters = record {
+  few_blocks = λ few. few;
+  few_nodes = λ level few. few;
+  blocks = λ other cached. inl cached;
+  nodes = λ level index copied. copied_not counters.tree level index history copied;
+}
+
+-- and more was read since
+pub came_more : (page : ℕ) (first second third : BusHistory) (made : List Message) (counters counters' : CountersView) →
+    CopiesCame page first made counters second counters' → ((place : Place) → RoseBy 0 (second.reads place) (third.reads place)) →
+    CopiesCame page first made counters third counters'
+came_more page first second third made counters counters' a more = record {
+  few_blocks = a.few_blocks;
+  few_nodes = a.few_nodes;
+  blocks = λ other cached.
+      elim (a.blocks other cached) [
+        | inl had ↦ inl had
+        | inr (own, inl never) ↦ inr (own, inl never)
+        | inr (own, inr rose) ↦ inr (own, inr (omega (arith, rose, more (node_place 0 page))))
       ];
+  nodes = λ level index copied. record {
+    rose = λ up inside none.
+        let rose = (a.nodes level index copied).rose up inside none in
+        omega (arith, rose, more (node_place (level + up) (above counters.tree.levels index up)));
+  };
+}
+
+pub came_on : {T : Type 0} (page : ℕ) (first second third : BusHistory) (engine engine' engine'' : TagEngineView T) (counters counters' counters'' : CountersView) →
+    counters'.tree.levels ≡ counters.tree.levels → StepMoves first engine second engine' → StepMoves second engine' third engine'' →
+    CopiesCame page first engine.made counters second counters' → CopiesCame page second engine'.made counters' third counters'' →
+    CopiesCame page first engine.made counters third counters''
+came_on page first second third engine engine' engine'' counters counters' counters'' levels step more a b = record {
+  few_blocks = λ few. b.few_blocks (a.few_blocks few);
+  few_nodes = λ level few. b.few_nodes level (a.few_nodes level few);
+  blocks = λ other cached.
+      elim (b.blocks other cached) [
+        | inl had ↦ (came_more page first second third engine.made counters counters' a more.reads).blocks other had
+        | inr (own, inl never) ↦
+            inr (own, inl (none_front (node_part 0 page) engine.made step.more (subst (λ (made : List Message). last_node 0 page made ≡ None) step.made never)))
+        | inr (own, inr rose) ↦ inr (own, inr (omega (arith, rose, step.reads (node_place 0 page))))
+      ];
+  nodes = λ level index copied.
+      read_up_on counters.tree counters'.tree level index first second third levels step.reads more.reads a.nodes (b.nodes level index copied);
 }
 
 module _ {B T : Type 0} (terms : MemoryTerms B) where
@@ -90,7 +114,6 @@ module _ {B T : Type 0} (terms : MemoryTerms B) where
     pub node : IsNodeStep terms old new stop
     pub levels : counters'.tree.levels ≡ counters.tree.levels
     pub fits : lasting_stop stop ≡ None → CountersFit terms new counters'
-    pub copies : BlocksCame (terms.history old.bus) old.engine.made counters (terms.history new.bus) counters'
     pub accounted : AreAccounted terms old None → AreAccounted terms new stop
     pub shows : ShowsLies terms old new
 
@@ -146,8 +169,6 @@ module _ {B T : Type 0} (terms : MemoryTerms B) where
     node = node_step_on moved_on first second third stop a.node b.node;
     levels = b.levels ∙ a.levels;
     fits = b.fits;
-    copies = came_on (terms.history first.bus) (terms.history second.bus) (terms.history third.bus) first.engine second.engine third.engine counters counters' counters''
-        a.node.step b.node.step a.copies b.copies;
     accounted = λ was. b.accounted (a.accounted was);
     shows = shows_on first second third a.node.step b.node.step a.shows b.shows;
   }
@@ -185,7 +206,6 @@ module _ {B T : Type 0} (terms : MemoryTerms B) where
         };
         levels = refl;
         fits = λ going. record { tree = record { fits = fits.tree.fits }; clean = fits.clean };
-        copies = came_not (terms.history old.bus) old.engine.made counters;
         accounted = λ was.
             subst (λ (u : List (ℕ × Counter)). IsAccounted terms.tag_of u old.engine.made (terms.history old.bus) stop old.engine.evidence) (sym used)
             (other_stop terms.tag_of old.pads.used old.engine.made (terms.history old.bus) None stop old.engine.evidence (λ place is. cc) untampered was);
@@ -196,9 +216,8 @@ module _ {B T : Type 0} (terms : MemoryTerms B) where
   pub reached_idle : (old : OutsideView B T) (counters : CountersView) (new : OutsideView B T) (counters' : CountersView) → terms.moved old.bus new.bus →
       AreConsistent terms old → HaveLast terms old → HaveLastNodes terms old →
       (same : terms.history new.bus ≡ terms.history old.bus) (engine : new.engine ≡ old.engine) (pads : new.pads ≡ old.pads) →
-      counters'.tree.levels ≡ counters.tree.levels → CountersFit terms new counters' →
-      BlocksCame (terms.history old.bus) old.engine.made counters (terms.history new.bus) counters' → IsReached old counters new counters' None
-  reached_idle old counters new counters' went kept last nodes same engine pads levels fits copies =
+      counters'.tree.levels ≡ counters.tree.levels → CountersFit terms new counters' → IsReached old counters new counters' None
+  reached_idle old counters new counters' went kept last nodes same engine pads levels fits =
       let written : (terms.history new.bus).written ≡ (terms.history old.bus).written = ap (λ (h : BusHistory). h.written) same in
       let made : new.engine.made ≡ old.engine.made = ap (λ (e : TagEngineView T). e.made) engine in
       let used : new.pads.used ≡ old.pads.used = ap (λ (p : PadEngineView). p.used) pads in
@@ -232,7 +251,6 @@ module _ {B T : Type 0} (terms : MemoryTerms B) where
         };
         levels = levels;
         fits = λ going. fits;
-        copies = copies;
         accounted = λ was.
             subst (λ (h : BusHistory). IsAccounted terms.tag_of new.pads.used new.engine.made h None new.engine.evidence) (sym same)
             (subst (λ (e : TagEngineView T). IsAccounted terms.tag_of new.pads.used e.made (terms.history old.bus) None e.evidence) (sym engine)
@@ -258,7 +276,6 @@ module _ {B T : Type 0} (terms : MemoryTerms B) where
     };
     levels = is.levels;
     fits = λ going. is.fits refl;
-    copies = is.copies;
     accounted = λ was.
         other_stop terms.tag_of new.pads.used new.engine.made (terms.history new.bus) None (Some (Spent page)) new.engine.evidence (λ place is. cc) (λ place is. cc)
         (is.accounted was);
@@ -289,8 +306,9 @@ module _ {B T : Type 0} (terms : MemoryTerms B) where
         (new.engine.evidence ≡ None → counter_in old.pads.used line ≡ last_counter limit →
         SameCounters counters old.engine.made counters' new.engine.made
         × ((terms.history new.bus).accesses ≤ (terms.history old.bus).accesses + counter_accesses terms.levels)) →
+        CopiesCame (page_of line) (terms.history old.bus) old.engine.made counters (terms.history new.bus) counters' →
         IsWrite terms limit line bytes old counters new counters' stop
-    early_write limit line bytes rose stopped say reserved tampered spent used_up = record {
+    early_write limit line bytes rose stopped say reserved tampered spent used_up copies = record {
       bus = reached.node.bus;
       step = reached.node.step;
       levels = reached.levels;
@@ -321,7 +339,7 @@ module _ {B T : Type 0} (terms : MemoryTerms B) where
             | inr roomy ↦ let used = ap length reached.node.used in inr (omega (arith, used, roomy.0), roomy.1)
           ];
       path = λ none. absurd (stopped none);
-      copies = reached.copies;
+      copies = copies;
       accounted = reached.accounted;
       shows = reached.shows;
       lied = λ place is quiet. (tampered place is).1 quiet;
@@ -398,8 +416,9 @@ module _ {B T : Type 0} (terms : MemoryTerms B) where
         (¬ Contains (cached_pages counters) (page_of line) →
         PathWasRead counters.tree old.engine.made 0 (page_of line) (terms.history old.bus) (terms.history mid.bus)) →
         ((place : Place) → stop ≡ Some (Tampered place) → counter.line ≡ 0) → (lasting_stop stop ≡ None → stop ≡ None) →
+        CopiesCame (page_of line) (terms.history old.bus) old.engine.made counters (terms.history mid.bus) counters' →
         IsWrite terms limit line bytes old counters new counters' stop
-    late_write moved_on limit next below say entries_room room path overflow going = record {
+    late_write moved_on limit next below say entries_room room path overflow going copies = record {
       bus = moved_on old.bus mid.bus new.bus reached.node.bus sealed.sealed.bus;
       step = whole_step;
       levels = reached.levels;
@@ -447,7 +466,7 @@ module _ {B T : Type 0} (terms : MemoryTerms B) where
                   let on = sealed.sealed.step.reads (node_place level (path_index counters.tree.levels level (page_of line))) in inr (omega (arith, rose, on))
             ];
       };
-      copies = came_more (terms.history old.bus) (terms.history mid.bus) (terms.history new.bus) old.engine.made counters counters' reached.copies
+      copies = came_more (page_of line) (terms.history old.bus) (terms.history mid.bus) (terms.history new.bus) old.engine.made counters counters' copies
           sealed.sealed.step.reads;
       accounted = λ was. sealed.sealed.accounted (reached.accounted was);
       shows = shows_on old mid new reached.node.step sealed.sealed.step reached.shows sealed.sealed.shows;

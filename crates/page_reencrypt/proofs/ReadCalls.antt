@@ -7,7 +7,7 @@ use Rattle.sec_base.specs.declared.counter.Counter.{Counter}
 use Rattle.sec_base.specs.declared.message.Message.{Message}
 use Rattle.sec_base.specs.declared.stop.MemStop.{MemStop}
 use Rattle.sec_base.specs.declared.stop.MemStop.TheVariants.{NoMemory, Spent, Tampered}
-use Rattle.sec_base.specs.Geometry.{line_count}
+use Rattle.sec_base.specs.Geometry.{line_count, page_of}
 use Rattle.sec_base.specs.LastMessage.{data_pairs, last_data}
 use Rattle.sec_base.specs.Lines.{line_at}
 use Rattle.sec_base.proofs.JoinedLines.{joined_lines-same, line_at-joined_lines}
@@ -49,7 +49,7 @@ lasting_read history bus_moved tags bus_unmoved lines line stop lasting = record
   moves = moves_not history bus_moved tags bus_unmoved lines;
   read = record { path = λ going uncached. absurd (cc); read = λ going quiet. absurd (cc) };
   stopped = lasts_itself lines.stopped stop lasting;
-  copies = came_not (history lines.bus) lines.engine.made lines.counters;
+  copies = came_not (page_of line) (history lines.bus) lines.engine.made lines.counters;
   fits = λ going quiet. absurd (cc);
   outside = λ going. absurd (cc);
 }

@@ -30,7 +30,7 @@ use Rattle.checked_bus.proofs.Writes.{writes_on}
 use Rattle.page_reencrypt.specs.Consistency.{IsConsistent}
 use Rattle.page_reencrypt.specs.Contents.{HoldsLast, bytes_of, line_bytes}
 use Rattle.page_reencrypt.specs.Outside.{AreAccounted, CountersFit, IsLineRead, MemoryTerms, OutsideView, ShowsLies, terms_of}
-use Rattle.page_reencrypt.specs.SealedLines.{IsReadUnder}
+use Rattle.page_reencrypt.specs.SealedLines.{CopiesCame, IsReadUnder}
 use Rattle.page_reencrypt.proofs.LineReads.{quiet_before}
 use Rattle.page_reencrypt.proofs.Nodes.{fits_same, nodes_last, not_node}
 use Rattle.page_reencrypt.proofs.Reaching.{IsReached, came_more, reached_data, shows_on}
@@ -93,8 +93,9 @@ module _ {B T : Type 0} (history : B → BusHistory) (moved : B → B → Type 0
       ((evidence : Evidence) → old.engine.evidence ≡ None → new.engine.evidence ≡ Some evidence → IsFetchPlace old.engine.levels page (evidence_place evidence)) →
       ((place : Place) → why ≡ Tampered place → IsFetchPlace old.engine.levels page place
       × (old.engine.evidence ≡ None → Rose (history old.bus).lies (history new.bus).lies)) →
-      ((spent : ℕ) → why ≢ Spent spent) → IsLineRead terms line old counters new counters' (Err why)
-  unread new counters' why reached pads once same found tampered unspent = record {
+      ((spent : ℕ) → why ≢ Spent spent) → CopiesCame page (history old.bus) old.engine.made counters (history new.bus) counters' →
+      IsLineRead terms line old counters new counters' (Err why)
+  unread new counters' why reached pads once same found tampered unspent copies = record {
     bus = reached.node.bus;
     step = reached.node.step;
     pairs = reached.node.pairs;
@@ -109,7 +110,7 @@ module _ {B T : Type 0} (history : B → BusHistory) (moved : B → B → Type 0
     nodes_hold_last = reached.node.nodes_hold_last;
     fits = λ none. absurd (cc);
     same = same;
-    copies = reached.copies;
+    copies = subst (λ (p : ℕ). CopiesCame p (history old.bus) old.engine.made counters (history new.bus) counters') page_is copies;
     value = λ quiet. tt;
     path = λ none. absurd (cc);
     rose = λ quiet none. absurd (cc);
@@ -177,6 +178,7 @@ module _ {B T : Type 0} (history : B → BusHistory) (moved : B → B → Type 0
 
     pub line_read : (history got.bus).accesses ≤ (history old.bus).accesses + counter_accesses old.engine.levels →
         (got.engine.evidence ≡ None → SameCounters counters old.engine.made counters' got.engine.made) →
+        CopiesCame page (history old.bus) old.engine.made counters (history got.bus) counters' →
         (¬ Contains (cached_pages counters) page → PathWasRead counters.tree old.engine.made 0 page (history old.bus) (history got.bus)) →
         ((evidence : Evidence) → old.engine.evidence ≡ None → got.engine.evidence ≡ Some evidence → IsFetchPlace old.engine.levels page (evidence_place evidence)) →
         ((made_at : ℕ) (bytes tag : List ℕ) → old.engine.evidence ≡ None →
@@ -197,7 +199,7 @@ module _ {B T : Type 0} (history : B → BusHistory) (moved : B → B → Type 0
         ((place : Place) → result ≡ Err (Tampered place) → (place ≡ line_place line)
         × (got.engine.evidence ≡ None → Rose (history got.bus).lies (history new.bus).lies)) →
         ((spent : ℕ) → result ≢ Err (Spent spent)) → IsLineRead terms line old counters new counters' result
-    line_read got_once same path node_found node_accepted had went counted once alone value fresh rose accounted shows found under accepted tampered unspent = record {
+    line_read got_once same copies path node_found node_accepted had went counted once alone value fresh rose accounted shows found under accepted tampered unspent = record {
       bus = went;
       step = whole_step;
       pairs = a.node.pairs;
@@ -219,7 +221,8 @@ module _ {B T : Type 0} (history : B → BusHistory) (moved : B → B → Type 0
           (λ level index. ap (λ (made : List Message). last_node level index made) unmade);
       fits = λ none. read_fits;
       same = λ quiet other. ap (λ (made : List Message). counters_in counters' made other) unmade ∙ same (got_quiet quiet) other;
-      copies = came_more (history old.bus) (history got.bus) (history new.bus) old.engine.made counters counters' a.copies r.reads;
+      copies = subst (λ (p : ℕ). CopiesCame p (history old.bus) old.engine.made counters (history new.bus) counters') page_is
+          (came_more page (history old.bus) (history got.bus) (history new.bus) old.engine.made counters counters' copies r.reads);
       value = λ quiet. if_ok result (λ bytes is. is ∙ got_bytes) (value quiet);
       path = λ none missed. record {
         rose = λ level above within uncached.

@@ -74,7 +74,7 @@ pub lasting_write : {B T : Type 0} (history : B → BusHistory) (bus_moved : B �
 lasting_write history bus_moved tags bus_unmoved lines line bytes stop lasting = record {
   moves = moves_not history bus_moved tags bus_unmoved lines;
   stopped = lasts_itself lines.stopped stop lasting;
-  copies = came_not (history lines.bus) lines.engine.made lines.counters;
+  copies = came_not (page_of line) (history lines.bus) lines.engine.made lines.counters;
   fits = λ going quiet. absurd (cc);
   outside = λ going. absurd (cc);
   once = λ quiet short. (omega arith, λ other. refl);

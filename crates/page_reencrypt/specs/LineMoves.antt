@@ -2,6 +2,7 @@
 use Rattle.std.specs.Prelude.{◌≡◌, ◌≢◌, ℕ, ◌+◌, ◌≤◌, List, Result, None}
 use Rattle.std.specs.Option.{option_or}
 use Rattle.std.specs.Result.{result_err}
+use Rattle.sec_base.specs.Geometry.{page_of}
 use Rattle.sec_base.specs.declared.message.Message.{Message}
 use Rattle.sec_base.specs.declared.place.Place.TheVariants.{Line as line_place}
 use Rattle.sec_base.specs.declared.stop.MemStop.{MemStop}
@@ -12,7 +13,7 @@ use Rattle.split_counter.specs.CounterBlock.{next_counter}
 use Rattle.counter_cache.specs.Counters.{counter_accesses}
 use Rattle.page_reencrypt.specs.Contents.{counter_in}
 use Rattle.page_reencrypt.specs.Outside.{IsLineRead, IsWrite, MemoryTerms, outside_of}
-use Rattle.page_reencrypt.specs.SealedLines.{BlocksCame, FitsTogether, IsQuiet, Moves, SealedLinesView, WasRead, levels, made, used}
+use Rattle.page_reencrypt.specs.SealedLines.{CopiesCame, FitsTogether, IsQuiet, Moves, SealedLinesView, WasRead, levels, made, used}
 use Rattle.page_reencrypt.specs.Stops.{lasting_stop}
 
 -- how many accesses a read of a line makes at most, and a write without an overflow and with one
@@ -39,7 +40,7 @@ module _ {B T : Type 0} (history : B → BusHistory) (bus_moved : B → B → Ty
     pub moves : Moves history bus_moved tags old new
     pub read : WasRead history old line new
     pub stopped : new.stopped ≡ option_or (result_err answer) old.stopped
-    pub copies : BlocksCame (history old.bus) (made old) old.counters (history new.bus) new.counters
+    pub copies : CopiesCame (page_of line) (history old.bus) (made old) old.counters (history new.bus) new.counters
     pub fits : FitsUnlessStopped new
     pub outside : lasting_stop old.stopped ≡ None →
         IsLineRead (terms_in old) line (outside_of old) old.counters (outside_of new) new.counters answer
@@ -48,7 +49,7 @@ module _ {B T : Type 0} (history : B → BusHistory) (bus_moved : B → B → Ty
   pub record WriteMoved (old : SealedLinesView B T) (line : ℕ) (bytes : List ℕ) (answer : Result (Unit {0}) MemStop) (new : SealedLinesView B T) : Type 0 where
     pub moves : Moves history bus_moved tags old new
     pub stopped : new.stopped ≡ option_or (result_err answer) old.stopped
-    pub copies : BlocksCame (history old.bus) (made old) old.counters (history new.bus) new.counters
+    pub copies : CopiesCame (page_of line) (history old.bus) (made old) old.counters (history new.bus) new.counters
     pub fits : FitsUnlessStopped new
     pub outside : lasting_stop old.stopped ≡ None →
         IsWrite (terms_in old) old.limit line bytes (outside_of old) old.counters (outside_of new) new.counters (stop_of answer)

@@ -28,7 +28,7 @@ ghost use Rattle.bonsai_tree.specs.Tree.{IsFetchPlace, PathWasRead};
 ghost use Rattle.counter_cache.specs.Counters.{AreHad, SameCounters, cached_pages, counter_accesses, counters_in};
 ghost use Rattle.page_reencrypt.specs.Contents.{line_bytes, page_lines};
 ghost use Rattle.page_reencrypt.specs.Outside.{AreAccounted, AreConsistent, AreSealedInOrder, CountersFit, DiffersInRoom, HasCounter, HaveLast, HaveLastNodes, HaveRisen, IsNodeStep, ShowsLies, terms_of, with_room};
-ghost use Rattle.page_reencrypt.specs.SealedLines.{BlocksCame, IsReadUnder};
+ghost use Rattle.page_reencrypt.specs.SealedLines.{CopiesCame, IsReadUnder};
 
 use bus_model::Bus;
 use checked_bus::{read_line, write_line};
@@ -101,7 +101,7 @@ impl<B: Bus, T: Tagger> Outside<B, T> {
         ensures idle { Contains (cached_pages counters.old) page →
             (B.history self.new.bus ≡ B.history self.old.bus) × (self.new.engine ≡ self.old.engine) }
         ensures cached { OnOk result (Contains (cached_pages counters.new) page) }
-        ensures copies { BlocksCame (B.history self.old.bus) self.old.engine.made counters.old (B.history self.new.bus) counters.new }
+        ensures copies { CopiesCame page (B.history self.old.bus) self.old.engine.made counters.old (B.history self.new.bus) counters.new }
 
         // A false answer is shown as evidence or taken for tampering.
         ensures accounted { CountersFit (terms_of B.history B.moved T.data_tag_of T.node_tag_of self.old) self.old counters.old →
@@ -143,7 +143,7 @@ impl<B: Bus, T: Tagger> Outside<B, T> {
         ensures idle { (B.history self.new.bus ≡ B.history self.old.bus) × (self.new.engine ≡ self.old.engine) }
         ensures pads { self.new.pads ≡ self.old.pads }
         ensures levels { counters.new.tree.levels ≡ counters.old.tree.levels }
-        ensures copies { BlocksCame (B.history self.old.bus) self.old.engine.made counters.old (B.history self.new.bus) counters.new }
+        ensures copies { CopiesCame page (B.history self.old.bus) self.old.engine.made counters.old (B.history self.new.bus) counters.new }
 
         // Where the counters fit or there is evidence, they still do, and the line's counter is the next one.
         ensures fits { CountersFit (terms_of B.history B.moved T.data_tag_of T.node_tag_of self.old) self.old counters.old →

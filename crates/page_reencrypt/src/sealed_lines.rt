@@ -24,7 +24,7 @@ ghost use Rattle.counter_cache.specs.Counters.{cached_pages, counter_accesses};
 ghost use Rattle.page_reencrypt.specs.Contents.{counter_in, entries_of_write};
 ghost use Rattle.page_reencrypt.specs.Outside.{AreConsistent, CountersFit, CountersSay, HasCounter, HaveLast, HaveLastNodes, HaveRisen, IsLineRead, IsWrite, terms_of};
 ghost use Rattle.page_reencrypt.specs.LineMoves.{ReadMoved, WriteMoved, read_accesses, write_accesses, overflow_accesses};
-ghost use Rattle.page_reencrypt.specs.SealedLines.{AreNew, AreProtected, AreReread, BlocksCame, HadMemory, IsReadByCounters, IsReadUnder, IsSealedAnew, IsSealedInPart, IsTamperedInWrite, IsUnbooted, IsQuiet, IsUnsealed, LinesFit, SameCounters, contents, enc_key, evidence, levels, lines_of, lines_of_write, made, tag_in, used};
+ghost use Rattle.page_reencrypt.specs.SealedLines.{AreNew, AreProtected, AreReread, CopiesCame, HadMemory, IsReadByCounters, IsReadUnder, IsSealedAnew, IsSealedInPart, IsTamperedInWrite, IsUnbooted, IsQuiet, IsUnsealed, LinesFit, SameCounters, contents, enc_key, evidence, levels, lines_of, lines_of_write, made, tag_in, used};
 ghost use Rattle.page_reencrypt.specs.Stops.{lasting_stop};
 
 use crate::account::Account;
@@ -209,8 +209,8 @@ impl<B: Bus, T: Tagger> LineStore for SealedLines<B, T> {
             (enc_key self.old) self.old.counters self.new.counters (made self.new) line (evidence self.old) (evidence self.new)
             (B.history self.new.bus)) }
 
-        // A counter block that has a copy had it before, or was read from its place, or was never made.
-        ensures copies { BlocksCame (B.history self.old.bus) (made self.old) self.old.counters (B.history self.new.bus) self.new.counters }
+        // What has a copy on the chip had one before, or was read.
+        ensures copies { CopiesCame (page_of line) (B.history self.old.bus) (made self.old) self.old.counters (B.history self.new.bus) self.new.counters }
 
         // Evidence comes only of a false answer.
         ensures shown { lasting_stop self.old.stopped ≡ None → IsQuiet self.old →
@@ -271,7 +271,7 @@ impl<B: Bus, T: Tagger> LineStore for SealedLines<B, T> {
             OnOk result (PathWasRead self.old.counters.tree (made self.old) 0 (page_of line) (B.history self.old.bus) (B.history self.new.bus)) }
         ensures reread { IsQuiet self.new → OnOk result (AreReread line (lines_of_write line self.old) (used self.old)
             (B.history self.old.bus) (B.history self.new.bus)) }
-        ensures copies { BlocksCame (B.history self.old.bus) (made self.old) self.old.counters (B.history self.new.bus) self.new.counters }
+        ensures copies { CopiesCame (page_of line) (B.history self.old.bus) (made self.old) self.old.counters (B.history self.new.bus) self.new.counters }
 
         // A counter changes only where there was memory for all lines of the page.
         ensures reserved { OnErr result (((used self.new ≡ used self.old) × (IsQuiet self.new → SameCounters self.old self.new))

@@ -1,4 +1,5 @@
 use Rattle.std.proofs.Common.{◌≡◌, ◌≤◌, ◌+◌, ℕ, inl, inr, Option, Some, None, Ok, Err, ap, sym, ◌∙◌, subst, arith, rules}
+use Rattle.sec_base.specs.Geometry.{page_of}
 use Rattle.sec_base.specs.declared.counter.Counter.{Counter}
 use Rattle.sec_base.specs.declared.place.Place.{Place}
 use Rattle.sec_base.specs.declared.place.Place.TheVariants.{Line as line_place}
@@ -12,6 +13,7 @@ use Rattle.checked_bus.specs.Steps.{stop_of}
 use Rattle.checked_bus.proofs.TaggedWrites.{wrote_once}
 use Rattle.counter_cache.specs.Counters.{counters_in}
 use Rattle.page_reencrypt.specs.Outside.{IsWrite, OutsideView, terms_of}
+use Rattle.page_reencrypt.specs.SealedLines.{CopiesCame}
 use Rattle.page_reencrypt.proofs.LineReads.{quiet_before}
 use Rattle.page_reencrypt.proofs.NextWrites.{HadCounters, counted_up, counter_here, is_last, line_unwritten, line_written, mid_counters, mid_inside, mid_kept, mid_last, mid_later, mid_rooms, mid_rose, ok_where, page_overflows, page_written, refused_reached, say_same, spent_after, spent_early, stopped_early}
 use Rattle.page_reencrypt.proofs.Reaching.{IsReached}
@@ -33,17 +35,18 @@ returns-in_err-block-clause-written g c =
       node = e.step;
       levels = e.levels;
       fits = ok_where (Err why) tt e.unspent;
-      copies = e.copies;
       accounted = e.accounted c.requires.fits;
       shows = e.shows c.requires.fits;
     } in
+    let copies : CopiesCame (page_of c.args.line) (h old.bus) old.engine.made counters (h c.get.new.self.bus) c.get.new.counters =
+    subst (λ (p : ℕ). CopiesCame p (h old.bus) old.engine.made counters (h c.get.new.self.bus) c.get.new.counters) c.page_of-page.ensures.page e.copies in
     subst (λ (s : Option MemStop). IsWrite (terms_of h m d n old) c.args.limit c.args.line c.args.bytes.now old counters c.get.new.self c.get.new.counters s) (sym stop)
     (stopped_early h m d n old counters c.get.new.self c.get.new.counters why reached c.args.limit c.args.line c.args.bytes.now c.requires.risen
     (λ page is. e.unspent page (ap (λ (s : MemStop). Err s) is)) (inl (e.same c.requires.fits))
     (λ place is.
     let there = e.tampered place (ap (λ (s : MemStop). Err s) is) in
     (rw (← c.page_of-page.ensures.page) there.0, there.1 c.requires.fits))
-    (λ quiet last. (e.same c.requires.fits quiet, e.once)))
+    (λ quiet last. (e.same c.requires.fits quiet, e.once)) copies)
 
 pub returns-in-Spent-clause-written : goal.returns-in-Spent-clause-written
 returns-in-Spent-clause-written g c =
@@ -58,7 +61,6 @@ returns-in-Spent-clause-written g c =
       node = e.step;
       levels = e.levels;
       fits = λ going. e.fits c.requires.fits;
-      copies = e.copies;
       accounted = e.accounted c.requires.fits;
       shows = e.shows c.requires.fits;
     } in
@@ -69,11 +71,14 @@ returns-in-Spent-clause-written g c =
       page_is = c.page_of-page.ensures.page;
       place_is = c.place_of-place.ensures.place;
       same = e.same c.requires.fits;
+      copies = e.copies;
       block_is = e.block c.requires.fits;
       is_block = e.is_block;
       counter_is = c.get-2.ensures.counter;
       foreseen_is = c.of.ensures.outcome;
     } in
+    let copies : CopiesCame (page_of c.args.line) (h old.bus) old.engine.made counters (h c.get.new.self.bus) c.get.new.counters =
+    subst (λ (p : ℕ). CopiesCame p (h old.bus) old.engine.made counters (h c.get.new.self.bus) c.get.new.counters) c.page_of-page.ensures.page e.copies in
     spent_early h m d n old counters c.get.new.self c.get.new.counters c.page_of-page.result got c.args.limit c.args.line c.args.bytes.now c.requires.risen
     (say_same h m d n old counters c.requires.current c.get.new.self c.get.new.counters None got (e.same c.requires.fits)) (inl (e.same c.requires.fits)) c.page_of-page.ensures.page
     (λ quiet.
@@ -82,7 +87,7 @@ returns-in-Spent-clause-written g c =
     let full = c.of.ensures.spent.0 c.in-Spent.is in
     let was_quiet = quiet_before old.engine.evidence c.get.new.self.engine.evidence e.step.step.evidence quiet in
     here ∙ is_last c.args.limit c.get-2.result full.0 full.1 (subst (λ (k : Counter). k.page ≤ c.args.limit) here (c.requires.limited was_quiet)))
-    (λ quiet last. (e.same c.requires.fits quiet, e.once))
+    (λ quiet last. (e.same c.requires.fits quiet, e.once)) copies
 
 pub returns-in_err-reserve : goal.returns-in_err-reserve
 returns-in_err-reserve g c =
@@ -97,7 +102,6 @@ returns-in_err-reserve g c =
       node = e.step;
       levels = e.levels;
       fits = λ going. e.fits c.requires.fits;
-      copies = e.copies;
       accounted = e.accounted c.requires.fits;
       shows = e.shows c.requires.fits;
     } in
@@ -108,6 +112,7 @@ returns-in_err-reserve g c =
       page_is = c.page_of-page.ensures.page;
       place_is = c.place_of-place.ensures.place;
       same = e.same c.requires.fits;
+      copies = e.copies;
       block_is = e.block c.requires.fits;
       is_block = e.is_block;
       counter_is = c.get-2.ensures.counter;
@@ -116,6 +121,8 @@ returns-in_err-reserve g c =
     let differs = c.in_err-reserve.ensures.refused in
     let same_bus : h c.reserve.new.self.bus ≡ h c.get.new.self.bus = ap h differs.bus in
     let same_accesses = ap (λ (t : BusHistory). t.accesses) same_bus in
+    let copies : CopiesCame (page_of c.args.line) (h old.bus) old.engine.made counters (h c.get.new.self.bus) c.get.new.counters =
+    subst (λ (p : ℕ). CopiesCame p (h old.bus) old.engine.made counters (h c.get.new.self.bus) c.get.new.counters) c.page_of-page.ensures.page e.copies in
     let stop : stop_of c.from_residual-in_err-reserve.result ≡ Some NoMemory = search rules in
     record {
       written = subst (λ (s : Option MemStop). IsWrite (terms_of h m d n old) c.args.limit c.args.line c.args.bytes.now old counters c.reserve.new.self c.get.new.counters s) (sym stop)
@@ -128,7 +135,8 @@ returns-in_err-reserve g c =
             λ page. ap (λ e. counters_in c.get.new.counters e.made page) differs.engine
                 ∙ e.same c.requires.fits (sym (ap (λ e. e.evidence) differs.engine) ∙ quiet) page,
             omega (arith, e.once, same_accesses),
-          )));
+          ))
+          (subst (λ (t : BusHistory). CopiesCame (page_of c.args.line) (h old.bus) old.engine.made counters t c.get.new.counters) (sym same_bus) copies));
       once = λ quiet short. (
         omega (arith, e.once, same_accesses),
         λ other. ap (λ (t : BusHistory). t.reads (line_place other)) same_bus ∙ e.step.lines.reads other,
@@ -152,7 +160,6 @@ returns-in-Spent-2 g c =
       node = e.step;
       levels = e.levels;
       fits = λ going. e.fits c.requires.fits;
-      copies = e.copies;
       accounted = e.accounted c.requires.fits;
       shows = e.shows c.requires.fits;
     } in
@@ -163,6 +170,7 @@ returns-in-Spent-2 g c =
       page_is = c.page_of-page.ensures.page;
       place_is = c.place_of-place.ensures.place;
       same = e.same c.requires.fits;
+      copies = e.copies;
       block_is = e.block c.requires.fits;
       is_block = e.is_block;
       counter_is = c.get-2.ensures.counter;
@@ -202,7 +210,6 @@ returns-in_err-seal-in-Line g c =
       node = e.step;
       levels = e.levels;
       fits = λ going. e.fits c.requires.fits;
-      copies = e.copies;
       accounted = e.accounted c.requires.fits;
       shows = e.shows c.requires.fits;
     } in
@@ -213,6 +220,7 @@ returns-in_err-seal-in-Line g c =
       page_is = c.page_of-page.ensures.page;
       place_is = c.place_of-place.ensures.place;
       same = e.same c.requires.fits;
+      copies = e.copies;
       block_is = e.block c.requires.fits;
       is_block = e.is_block;
       counter_is = c.get-2.ensures.counter;
@@ -260,7 +268,6 @@ returns-in_ok-seal-in-Line g c =
       node = e.step;
       levels = e.levels;
       fits = λ going. e.fits c.requires.fits;
-      copies = e.copies;
       accounted = e.accounted c.requires.fits;
       shows = e.shows c.requires.fits;
     } in
@@ -271,6 +278,7 @@ returns-in_ok-seal-in-Line g c =
       page_is = c.page_of-page.ensures.page;
       place_is = c.place_of-place.ensures.place;
       same = e.same c.requires.fits;
+      copies = e.copies;
       block_is = e.block c.requires.fits;
       is_block = e.is_block;
       counter_is = c.get-2.ensures.counter;
@@ -319,7 +327,6 @@ reencrypt_page-requires g c =
       node = e.step;
       levels = e.levels;
       fits = λ going. e.fits c.requires.fits;
-      copies = e.copies;
       accounted = e.accounted c.requires.fits;
       shows = e.shows c.requires.fits;
     } in
@@ -330,6 +337,7 @@ reencrypt_page-requires g c =
       page_is = c.page_of-page.ensures.page;
       place_is = c.place_of-place.ensures.place;
       same = e.same c.requires.fits;
+      copies = e.copies;
       block_is = e.block c.requires.fits;
       is_block = e.is_block;
       counter_is = c.get-2.ensures.counter;
@@ -384,7 +392,6 @@ returns-in-Page g c =
       node = e.step;
       levels = e.levels;
       fits = λ going. e.fits c.requires.fits;
-      copies = e.copies;
       accounted = e.accounted c.requires.fits;
       shows = e.shows c.requires.fits;
     } in
@@ -395,6 +402,7 @@ returns-in-Page g c =
       page_is = c.page_of-page.ensures.page;
       place_is = c.place_of-place.ensures.place;
       same = e.same c.requires.fits;
+      copies = e.copies;
       block_is = e.block c.requires.fits;
       is_block = e.is_block;
       counter_is = c.get-2.ensures.counter;

@@ -9,7 +9,14 @@ returns-clause-idle g c = rw (← c.self.view_is) (c.bump.ensures.idle c.require
 
 pub returns-clause-copies : goal.returns-clause-copies
 returns-clause-copies g c =
-    rw (← c.self.view_is) (record { few = λ few. c.bump.ensures.few_copies; came = λ page cached. c.bump.ensures.new_copies page cached })
+    let e = c.bump.ensures in
+    rw (← c.self.view_is)
+    (record {
+      few_blocks = λ few. e.few_copies;
+      few_nodes = λ level few. e.few_nodes level;
+      blocks = e.new_copies;
+      nodes = e.new_nodes;
+    })
 
 pub returns-clause-fits : goal.returns-clause-fits
 returns-clause-fits g c = λ fits.

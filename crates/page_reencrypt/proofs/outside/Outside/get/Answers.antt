@@ -87,4 +87,11 @@ returns-clause-idle g c = λ cached.
 
 pub returns-clause-copies : goal.returns-clause-copies
 returns-clause-copies g c =
-    rw (← c.self.view_is) (record { few = λ few. c.get.ensures.few_copies; came = λ page cached. c.get.ensures.new_copies page cached })
+    let e = c.get.ensures in
+    rw (← c.self.view_is)
+    (record {
+      few_blocks = λ few. e.few_copies;
+      few_nodes = λ level few. e.few_nodes level;
+      blocks = e.new_copies;
+      nodes = e.new_nodes;
+    })
