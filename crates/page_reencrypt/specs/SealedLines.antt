@@ -2,7 +2,7 @@
 use Rattle.std.specs.Prelude.{◌≡◌, ◌≢◌, ◌⊎◌, ◌↔◌, ℕ, ◌+◌, ◌<◌, ◌≤◌, List, [], ◌++◌, length, map, take, Option, Some, None, Contains, replicate, false}
 use Rattle.sec_base.specs.declared.geometry.TheConstants.{LINES_PER_PAGE}
 use Rattle.sec_base.specs.declared.place.Place.{Place}
-use Rattle.sec_base.specs.declared.place.Place.TheVariants.{Line as line_place, Node as node_place}
+use Rattle.sec_base.specs.declared.place.Place.TheVariants.{Line as line_place}
 use Rattle.sec_base.specs.declared.counter.Counter.{Counter}
 use Rattle.sec_base.specs.declared.evidence.Evidence.{Evidence}
 use Rattle.sec_base.specs.declared.message.Message.{Message}
@@ -12,7 +12,7 @@ use Rattle.sec_base.specs.declared.stop.MemStop.{MemStop}
 use Rattle.sec_base.specs.declared.stop.MemStop.TheVariants.{Spent, NoMemory}
 use Rattle.sec_base.specs.Count.{Rose, more_by}
 use Rattle.sec_base.specs.Evidence.{sealed_bytes}
-use Rattle.sec_base.specs.LastMessage.{IsFresh, last_data, last_node, data_pairs}
+use Rattle.sec_base.specs.LastMessage.{IsFresh, last_data, data_pairs}
 use Rattle.sec_base.specs.Geometry.{line_count, page_count, page_of}
 use Rattle.bus_model.specs.BusHistory.{BusHistory, after_read}
 use Rattle.tag_engine.specs.TagEngine.{TagEngineView, tags_of}
@@ -28,7 +28,7 @@ use Rattle.checked_bus.specs.Steps.{unwritten_in}
 use Rattle.bonsai_tree.specs.Node.{CachedNode, page_block}
 use Rattle.bonsai_tree.specs.NodeCache.{most_copies}
 use Rattle.bonsai_tree.specs.Tree.{IsFetchPlace, IsTree, NodesAreMade, NodesHoldLast, OnlyWroteNodes, PathWasRead, WasReadUp, cached_node, cached_nodes}
-use Rattle.counter_cache.specs.Counters.{AreHad, CountersView, cached_block, cached_pages, counters_in, most_blocks}
+use Rattle.counter_cache.specs.Counters.{AreHad, CameFrom, CountersView, cached_block, cached_pages, counters_in, most_blocks}
 use Rattle.page_reencrypt.specs.Consistency.{IsConsistent}
 use Rattle.page_reencrypt.specs.Contents.{ArePaged, AreUnskipped, AreWithin, HoldsLast, IsSpent, contents_of, counter_in, lines_encrypted, never_written}
 use Rattle.page_reencrypt.specs.Stops.{lasting_stop}
@@ -195,8 +195,7 @@ pub record CopiesCame (page : ℕ) (old : BusHistory) (made : List Message) (cou
   pub few_blocks : length (cached_pages counters) ≤ most_blocks → length (cached_pages counters') ≤ most_blocks
   pub few_nodes : (level : ℕ) → length (cached_nodes counters.tree level) ≤ most_copies → length (cached_nodes counters'.tree level) ≤ most_copies
   pub blocks : (other : ℕ) → Contains (cached_pages counters') other → Contains (cached_pages counters) other
-      ⊎ ((other ≡ page)
-      × ((last_node 0 page made ≡ None) ⊎ Rose (old.reads (node_place 0 page)) (new.reads (node_place 0 page))))
+      ⊎ ((other ≡ page) × CameFrom made old new page)
   pub nodes : (level index : ℕ) → cached_node counters'.tree level index ≢ None → WasReadUp counters.tree level index old new
 
 -- Where there is no stop that lasts, the nodes on the path of the line's page were read, unless its counters were on the
