@@ -27,7 +27,7 @@ use Rattle.bonsai_tree.specs.Climb.{Climbs}
 use Rattle.bonsai_tree.specs.Node.{CachedNode, block_or_zeros, current_of}
 use Rattle.bonsai_tree.specs.NodeCache.{level_cache}
 use Rattle.bonsai_tree.specs.Tree.{TreeView, HoldsTree, IsNodeFrom, IsTree, NodesAreMade, NodesHoldLast, WasReadUp, above, cached_node, current_block, kept_tag}
-use Rattle.bonsai_tree.proofs.Nodes.{NodeRead, is_current, same_tags, some_not_none, some_or_none, stop_is, stop_or_not, was_none}
+use Rattle.bonsai_tree.proofs.Nodes.{NodeRead, is_current, same_tags, some_not_none, some_or_none, stop_is, was_none}
 use Rattle.bonsai_tree.proofs.Puts.{tree_recached}
 
 -- Which nodes were read
@@ -93,14 +93,14 @@ read_up_on tree mid level index first second third levels before after read more
             let up : WasReadUp tree (level + found.lower) (above tree.levels index found.lower) first second =
             read (level + found.lower) (above tree.levels index found.lower) found.copied in
             let none_up : (lower : ℕ) → lower ≤ more - found.lower →
-                cached_node tree (level + found.lower + lower) (above tree.levels (above tree.levels index found.lower) lower) ≡ None =
+            cached_node tree (level + found.lower + lower) (above tree.levels (above tree.levels index found.lower) lower) ≡ None =
             λ lower few.
-                let sum : level + found.lower + lower ≡ level + (found.lower + lower) = omega arith in
-                ap (λ (k : ℕ). cached_node tree k (above tree.levels (above tree.levels index found.lower) lower)) sum
-                ∙ ap (λ (i : ℕ). cached_node tree (level + (found.lower + lower)) i) (above_on tree.levels index found.lower lower)
-                ∙ none (found.lower + lower) (omega (arith, found.within)) in
+            let sum : level + found.lower + lower ≡ level + (found.lower + lower) = omega arith in
+            ap (λ (k : ℕ). cached_node tree k (above tree.levels (above tree.levels index found.lower) lower)) sum
+            ∙ ap (λ (i : ℕ). cached_node tree (level + (found.lower + lower)) i) (above_on tree.levels index found.lower lower)
+            ∙ none (found.lower + lower) (omega (arith, found.within)) in
             let rose : Rose (first.reads (node_place (level + found.lower + (more - found.lower)) (above tree.levels (above tree.levels index found.lower) (more - found.lower))))
-                (second.reads (node_place (level + found.lower + (more - found.lower)) (above tree.levels (above tree.levels index found.lower) (more - found.lower)))) =
+            (second.reads (node_place (level + found.lower + (more - found.lower)) (above tree.levels (above tree.levels index found.lower) (more - found.lower)))) =
             up.rose (more - found.lower) (omega (arith, level_is)) none_up in
             let here : Rose (first.reads (node_place (level + more) (above tree.levels index more))) (second.reads (node_place (level + more) (above tree.levels index more))) =
             subst (λ (k : ℕ). Rose (first.reads (node_place k (above tree.levels index more))) (second.reads (node_place k (above tree.levels index more)))) level_is

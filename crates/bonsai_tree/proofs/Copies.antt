@@ -28,9 +28,6 @@ module _ (levels : ℕ) (caches : List (List (List Way))) (level : ℕ) (is : Ar
   pub read_level : level_cache caches level ≡ old
   read_level = level_is caches level some ∙ sym (was ∙ get_or_default caches (level - 1) old [] below)
 
-  pub read_cache : IsCache node_sets old
-  read_cache = subst (IsCache node_sets) read_level (is.each level some inside)
-
   module _ (new : List (List Way)) where
     pub level_here : level_cache (set caches (level - 1) new) level ≡ new
     level_here = level_is (set caches (level - 1) new) level some ∙ get_or-set_same caches (level - 1) new [] below
@@ -56,9 +53,6 @@ module _ (levels : ℕ) (caches : List (List (List Way))) (level : ℕ) (is : Ar
           | inl e ↦ subst (λ (k : ℕ). node_way (set caches (level - 1) new) k at ≡ node_way caches k at) (sym e)
               (same_at at (same at (λ here. apart (e, here))))
         ]
-
-    pub way_here : (at : ℕ) (found : Option Way) → way_at new at ≡ found → node_way (set caches (level - 1) new) level at ≡ found
-    way_here at found e = ap (λ (c : List (List Way)). way_at c at) level_here ∙ e
 
     -- where the ways are of nodes of the level, and whole
     pub are_with : IsCache node_sets new → ((at : ℕ) (way : Way) → way_at new at ≡ Some way → IsNode levels level at × (length way.copy ≡ 64)) →

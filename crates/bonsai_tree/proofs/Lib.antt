@@ -1,4 +1,4 @@
-pub mod Paths
+pub mod Accesses
 pub mod Copies
 pub mod SlotTags
 pub mod Nodes

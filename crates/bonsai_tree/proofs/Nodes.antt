@@ -68,12 +68,6 @@ some_or_none (Some evidence) = inr (evidence, refl)
 pub some_not_none : (evidence : Option Evidence) (shown : Evidence) → evidence ≡ Some shown → evidence ≢ None
 some_not_none evidence shown some none = cc
 
-pub stop_or_not : (stop : Option MemStop) → (stop ≡ Some NoMemory) ⊎ (stop ≢ Some NoMemory)
-stop_or_not None = inr (λ (e : None ≡ Some NoMemory). absurd (cc))
-stop_or_not (Some (Tampered place)) = inr (λ (e : Some (Tampered place) ≡ Some NoMemory). absurd (cc))
-stop_or_not (Some (Spent page)) = inr (λ (e : Some (Spent page) ≡ Some NoMemory). absurd (cc))
-stop_or_not (Some NoMemory) = inl refl
-
 pub stop_is : {A : Type 0} (result : Result A MemStop) (stop : MemStop) → stop_of result ≡ Some stop → result ≡ Err stop
 stop_is (Ok value) stop is = absurd (cc)
 stop_is (Err other) stop is = cc

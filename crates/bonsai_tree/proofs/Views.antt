@@ -40,6 +40,3 @@ module _ (tree : TreeView) (root : List ℕ) (nodes nodes' : NodeCacheView) (vie
   pub all_as : ((other at : ℕ) → node_way nodes'.caches other at ≡ node_way nodes.caches other at) → (other at : ℕ) →
       cached_node (tree_of root nodes') other at ≡ cached_node tree other at
   all_as same other at = ap (option_map copy_of) (same other at) ∙ ap (λ (v : TreeView). cached_node v other at) view_is
-
-  pub copy_as : (level index : ℕ) (found : Option Way) → node_way nodes.caches level index ≡ found → cached_node tree level index ≡ option_map copy_of found
-  copy_as level index found is = sym (ap (λ (v : TreeView). cached_node v level index) view_is) ∙ ap (option_map copy_of) is

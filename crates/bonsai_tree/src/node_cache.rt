@@ -1,9 +1,9 @@
 // The copies of nodes on the chip.
-ghost use Rattle.std.specs.Prelude.{true, false, ◌≡◌, ◌≢◌, ◌<◌, ◌≤◌, ◌%◌, ◌↔◌, ℕ, [], Some, None, IfOk, IfSome, IsTrue, IsSome, length};
+ghost use Rattle.std.specs.Prelude.{true, false, ◌≡◌, ◌<◌, ◌≤◌, ◌%◌, ◌↔◌, ℕ, [], Some, None, IfOk, IfSome, IsTrue, IsSome, length};
 ghost use Rattle.sec_base.specs.Geometry.{IsNode};
 ghost use Rattle.cache_set.specs.CacheSet.{HasRoom};
 ghost use Rattle.cache_set.specs.Cache.{copy_at, set_at};
-ghost use Rattle.bonsai_tree.specs.NodeCache.{AreEmpty, AreNodeCaches, IsLatestNode, OtherLevels, OtherNodes, copied_nodes, level_cache, node_sets, node_way};
+ghost use Rattle.bonsai_tree.specs.NodeCache.{AreEmpty, AreNodeCaches, IsLatestNode, OtherLevels, OtherNodes, copied_nodes, level_cache, node_way};
 
 use cache_set::{Cache, Way};
 use sec_base::{Geometry, NoMemory};

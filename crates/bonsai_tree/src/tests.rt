@@ -144,7 +144,7 @@ fn flipping(
 }
 
 // More calls than any test makes.
-const MANY: u64 = 100_000;
+const MANY: u64 = 10_000_000;
 
 #[test]
 fn boot_writes_the_children_by_slot_and_then_the_node(rt: HostRuntime) -> Result<(), Fail> {
@@ -229,6 +229,30 @@ impl Counted {
         self.bus.asked.clear();
         same
     }
+
+    // How often anything was asked since the last call of it.
+    fn accesses(&mut self) -> usize {
+        let count = self.bus.asked.len();
+        self.bus.asked.clear();
+        count
+    }
+
+    // What a node's place holds.
+    fn stored(&mut self, rt: &impl Abort, level: u8, index: u32) -> Result<[u8; 64], NoMemory> {
+        assert!(rt; self.geometry.contains(Place::Node { level, index }));
+        self.bus.read_node(level, index)
+    }
+
+    fn store(
+        &mut self,
+        rt: &impl Abort,
+        level: u8,
+        index: u32,
+        block: &[u8; 64],
+    ) -> Result<(), NoMemory> {
+        assert!(rt; self.geometry.contains(Place::Node { level, index }));
+        self.bus.write_node(level, index, block)
+    }
 }
 
 // Level 1 of a tree of four levels has 64 nodes in 8 sets: nodes 0, 8 and 16 are in one set of two ways.
@@ -236,31 +260,101 @@ impl Counted {
 fn a_changed_node_is_written_when_it_goes_out(rt: HostRuntime) -> Result<(), Fail> {
     let mut tree = Counted::new(rt.alloc(), 4)?;
     tree.update(&rt, 0, &[9; 64])?;
-    assert!(rt; tree.asked(&[
-        Asked::Read(4, 0),
-        Asked::Read(3, 0),
-        Asked::Read(2, 0),
-        Asked::Read(1, 0),
-        Asked::Write(0, 0),
-    ]));
+    assert!(rt;
+        tree.asked(&[
+            Asked::Read(4, 0),
+            Asked::Read(3, 0),
+            Asked::Read(2, 0),
+            Asked::Read(1, 0),
+            Asked::Write(0, 0),
+        ])
+    );
     assert_eq!(rt; tree.fetch(&rt, 1), Ok([0; 64]));
     assert!(rt; tree.asked(&[Asked::Read(0, 1)]));
     assert_eq!(rt; tree.fetch(&rt, 32), Ok([0; 64]));
-    assert!(rt; tree.asked(&[
-        Asked::Read(2, 2),
-        Asked::Read(1, 8),
-        Asked::Read(0, 32),
-    ]));
+    assert!(rt; tree.asked(&[Asked::Read(2, 2), Asked::Read(1, 8), Asked::Read(0, 32),]));
     assert_eq!(rt; tree.fetch(&rt, 64), Ok([0; 64]));
-    assert!(rt; tree.asked(&[
-        Asked::Write(1, 0),
-        Asked::Read(3, 1),
-        Asked::Read(2, 4),
-        Asked::Read(1, 16),
-        Asked::Read(0, 64),
-    ]));
+    assert!(rt;
+        tree.asked(&[
+            Asked::Write(1, 0),
+            Asked::Read(3, 1),
+            Asked::Read(2, 4),
+            Asked::Read(1, 16),
+            Asked::Read(0, 64),
+        ])
+    );
     assert_eq!(rt; tree.fetch(&rt, 0), Ok([9; 64]));
     assert!(rt; tree.asked(&[Asked::Read(1, 0), Asked::Read(0, 0)]));
+    Ok(())
+}
+
+// Level 2 of a tree of five levels has 64 nodes in 8 sets. Three updates leave nodes 32 and 64 of level 1 and nodes 0 and 16 of
+// level 2 in sets of two; nodes (1, 32), (1, 64) and (2, 0) are changed.
+fn climbing(rt: &impl Abort, alloc: Global) -> Result<Counted, Fail> {
+    let mut tree = Counted::new(alloc, 5)?;
+    for (page, byte) in [(0, 1), (128, 2), (256, 3)] {
+        tree.update(rt, page, &[byte; 64])?;
+    }
+    tree.bus.asked.clear();
+    Ok(tree)
+}
+
+// A fetch of page 384 needs node (1, 96), for which (1, 32) goes out, whose parent (2, 8) has no copy: for that (2, 0) goes out.
+const CLIMB: [Asked; 7] = [
+    Asked::Write(2, 0),
+    Asked::Read(2, 8),
+    Asked::Write(1, 32),
+    Asked::Read(3, 6),
+    Asked::Read(2, 24),
+    Asked::Read(1, 96),
+    Asked::Read(0, 384),
+];
+
+#[test]
+fn a_node_goes_out_for_the_parent_of_one_that_goes_out(rt: HostRuntime) -> Result<(), Fail> {
+    let mut tree = climbing(&rt, rt.alloc())?;
+    assert_eq!(rt; tree.fetch(&rt, 384), Ok([0; 64]));
+    assert!(rt; tree.asked(&CLIMB));
+    assert_eq!(rt; tree.fetch(&rt, 0), Ok([1; 64]));
+    assert!(rt;
+        tree.asked(&[
+            Asked::Write(2, 8),
+            Asked::Read(2, 16),
+            Asked::Write(1, 64),
+            Asked::Read(2, 0),
+            Asked::Read(1, 0),
+            Asked::Read(0, 0),
+        ])
+    );
+    assert_eq!(rt; tree.fetch(&rt, 256), Ok([3; 64]));
+    assert!(rt; tree.asked(&[Asked::Read(1, 64), Asked::Read(0, 256)]));
+    assert_eq!(rt; tree.fetch(&rt, 128), Ok([2; 64]));
+    assert!(rt; tree.asked(&[Asked::Read(2, 8), Asked::Read(1, 32), Asked::Read(0, 128),]));
+    Ok(())
+}
+
+// Boot makes 1365 messages, the updates make four: that of each page, and that of node (1, 0), which went out.
+#[test]
+fn a_call_that_writes_other_nodes_is_refused_at_each_access(rt: HostRuntime) -> Result<(), Fail> {
+    let rows = [
+        (0, 1370),
+        (1, 1370),
+        (2, 1371),
+        (3, 1371),
+        (4, 1371),
+        (5, 1371),
+        (6, 1371),
+    ];
+    for (left, messages) in rows {
+        let mut tree = climbing(&rt, rt.alloc())?;
+        tree.bus.left = left;
+        assert_eq!(rt; tree.fetch(&rt, 384), Err(MemStop::NoMemory), "{left}");
+        assert!(rt; left as usize <= CLIMB.len());
+        assert!(rt; tree.asked(&CLIMB[..left as usize]), "{left}");
+        let (made, evidence) = tree.tags.finish();
+        assert_eq!(rt; made.len(), messages, "{left}");
+        assert_eq!(rt; evidence, None, "{left}");
+    }
     Ok(())
 }
 
@@ -269,28 +363,79 @@ fn after(number: u32) -> u32 {
     number.wrapping_mul(1_664_525).wrapping_add(1_013_904_223)
 }
 
-// In trees of five levels nodes of levels 1 and 2 go out, and so do their parents for them.
+// In trees of four levels and more the nodes above these eight pages share a set of each level that has one too small: nodes
+// of level 1 go out there, of five levels also those of level 2, and of six those of level 3. How many accesses there are in all,
+// and in one call at most, was computed apart.
 #[test]
 fn calls_in_no_order_are_those_of_a_list_of_blocks(rt: HostRuntime) -> Result<(), Fail> {
-    let rows = [(1, 3), (2, 7), (4, 31), (5, 63)];
-    for (levels, most) in rows {
+    let rows = [
+        (1, 4, 1, 601, 2),
+        (2, 16, 1, 605, 3),
+        (4, 8, 32, 1405, 5),
+        (5, 8, 128, 2393, 8),
+        (6, 8, 512, 3426, 12),
+    ];
+    for (levels, pages, step, in_all, most) in rows {
+        assert!(rt; 0 < pages && pages <= 16 && step <= 512);
         let mut tree = Counted::new(rt.alloc(), levels)?;
-        let pages = tree.geometry.pages();
-        let mut blocks = vec![in rt.alloc(); 0u8; pages as usize]?;
+        let mut blocks = [0u8; 16];
         let mut number = 7;
+        let mut total = 0usize;
+        let mut greatest = 0usize;
         for call in 0..600u32 {
             number = after(number);
-            let page = (number >> 8) % pages;
-            assert!(rt; (page as usize) < blocks.len());
+            let at = (number >> 8) % pages;
             if number % 3 == 0 {
-                assert_eq!(rt; tree.fetch(&rt, page), Ok([blocks[page as usize]; 64]), "{levels}, {call}");
+                assert_eq!(rt;
+                    tree.fetch(&rt, at * step),
+                    Ok([blocks[at as usize]; 64]),
+                    "{levels}, {call}"
+                );
             } else {
                 let byte = (call % 251) as u8;
-                tree.update(&rt, page, &[byte; 64])?;
-                blocks[page as usize] = byte;
+                tree.update(&rt, at * step, &[byte; 64])?;
+                blocks[at as usize] = byte;
             }
-            assert!(rt; tree.bus.asked.len() <= most, "{levels}, {call}");
-            tree.bus.asked.clear();
+            let accesses = tree.accesses();
+            total = total.wrapping_add(accesses);
+            greatest = greatest.max(accesses);
+        }
+        assert_eq!(rt; total, in_all, "{levels}");
+        assert_eq!(rt; greatest, most, "{levels}");
+    }
+    Ok(())
+}
+
+// All sequences of five calls over six pages, and over the four of one level, one after another: a sequence is a number, and each
+// of its digits says a page and whether that is fetched or gets a block. No call reads more than a path.
+#[test]
+fn all_sequences_of_five_calls_are_those_of_a_list_of_blocks(rt: HostRuntime) -> Result<(), Fail> {
+    for (levels, pages, step, sequences, most) in [
+        (1, 4, 1, 32_768u32, 10),
+        (2, 6, 3, 248_832, 15),
+    ] {
+        assert!(rt; 0 < pages && pages <= 6 && step <= 3 && sequences < 1_000_000);
+        let mut tree = Counted::new(rt.alloc(), levels)?;
+        let mut blocks = [0u8; 6];
+        for sequence in 0..sequences {
+            let mut rest = sequence;
+            for call in 0..5u32 {
+                let at = rest % pages;
+                rest /= pages;
+                if rest % 2 == 0 {
+                    assert_eq!(rt;
+                        tree.fetch(&rt, at * step),
+                        Ok([blocks[at as usize]; 64]),
+                        "{levels}, {sequence}, {call}"
+                    );
+                } else {
+                    let byte = ((sequence + call) % 251) as u8;
+                    tree.update(&rt, at * step, &[byte; 64])?;
+                    blocks[at as usize] = byte;
+                }
+                rest /= 2;
+            }
+            assert!(rt; tree.accesses() <= most, "{levels}, {sequence}");
         }
     }
     Ok(())
@@ -328,18 +473,31 @@ impl Flipped {
         self.tree.fetch(&mut self.bus, &mut self.tags, page)
     }
 
-    // The page at which fetches of all pages in order meet the flipped bit as tampering of the node, if one does. All
-    // others answer zeros.
-    fn caught_at(&mut self, rt: &impl Abort, level: u8, index: u32) -> Option<u32> {
+    fn update(&mut self, rt: &impl Abort, page: u32, block: &[u8; 64]) -> Result<(), MemStop> {
+        assert!(rt; page < self.geometry.pages());
+        self.tree.update(&mut self.bus, &mut self.tags, page, block)
+    }
+
+    // Each page gets a block in turn, and then each is fetched. The pass and the page at which a call meets the flipped bit as
+    // tampering of the node, if one does; all others do what they should.
+    fn caught_at(&mut self, rt: &impl Abort, level: u8, index: u32) -> Option<(u8, u32)> {
         let tampered = MemStop::Tampered(Place::Node { level, index });
         let mut caught = None;
         for page in 0..self.geometry.pages() {
+            if let Err(stop) = self.update(rt, page, &[7; 64]) {
+                assert_eq!(rt; stop, tampered, "page {page}");
+                assert_eq!(rt; caught, None, "page {page}");
+                caught = Some((0, page));
+            }
+        }
+        for page in 0..self.geometry.pages() {
+            let byte = if caught == Some((0, page)) { 0 } else { 7 };
             match self.fetch(rt, page) {
-                Ok(block) => assert_eq!(rt; block, [0; 64], "page {page}"),
+                Ok(block) => assert_eq!(rt; block, [byte; 64], "page {page}"),
                 Err(stop) => {
                     assert_eq!(rt; stop, tampered, "page {page}");
                     assert_eq!(rt; caught, None, "page {page}");
-                    caught = Some(page);
+                    caught = Some((1, page));
                 }
             }
         }
@@ -348,25 +506,26 @@ impl Flipped {
     }
 }
 
-// A node of level k stands above 4^k pages. It is read for the first of them, and has a copy then, unless it was false.
+// A node of level k stands above 4^k pages. Above level 0 it is read for the first of them, when that gets its block, and has a
+// copy then, unless it was false; the 64 nodes of level 1 of a tree of four levels go out and are read once more, when that page is
+// fetched. The page's own block is read then alone.
 #[test]
 fn each_node_that_is_flipped_is_tampering_at_that_read(rt: HostRuntime) -> Result<(), Fail> {
     let rows = [
-        (1, 0, 4, 1),
-        (1, 1, 1, 4),
-        (2, 0, 16, 1),
-        (2, 1, 4, 4),
-        (2, 2, 1, 16),
+        (1, 0, 4, 1, Some(1), None),
+        (1, 1, 1, 4, Some(0), None),
+        (2, 0, 16, 1, Some(1), None),
+        (2, 1, 4, 4, Some(0), None),
+        (2, 2, 1, 16, Some(0), None),
+        (4, 1, 64, 4, Some(0), Some(1)),
     ];
-    for (levels, level, nodes, pages) in rows {
+    for (levels, level, nodes, pages, first, second) in rows {
         for index in 0..nodes {
-            let first = index * pages;
-            let reads = [(1, Some(first)), (2, None)];
-            for (k, page) in reads {
+            for (k, pass) in [(1, first), (2, second), (3, None)] {
                 let mut flipped = Flipped::new(rt.alloc(), levels, level, index, k)?;
                 assert_eq!(rt;
                     flipped.caught_at(&rt, level, index),
-                    page,
+                    pass.map(|pass| (pass, index * pages)),
                     "node {level} {index} at {levels}, read {k}"
                 );
             }
@@ -435,19 +594,23 @@ fn two_blocks_with_one_tag_are_a_collision(rt: HostRuntime) -> Result<(), Fail> 
 
 // Page 0 of a tree of four levels gets a block, and then another; each time the nodes above it go out. The bus then answers
 // the first block again, with the node above it or without.
-fn replayed(rt: &impl Abort, alloc: Global, with_parent: bool) -> Result<Result<[u8; 64], MemStop>, Fail> {
+fn replayed(
+    rt: &impl Abort,
+    alloc: Global,
+    with_parent: bool,
+) -> Result<Result<[u8; 64], MemStop>, Fail> {
     let mut tree = Counted::new(alloc, 4)?;
     tree.update(rt, 0, &[1; 64])?;
     tree.fetch(rt, 32)?;
     tree.fetch(rt, 64)?;
-    let block = tree.bus.read_node(0, 0)?;
-    let parent = tree.bus.read_node(1, 0)?;
+    let block = tree.stored(rt, 0, 0)?;
+    let parent = tree.stored(rt, 1, 0)?;
     tree.update(rt, 0, &[2; 64])?;
     tree.fetch(rt, 32)?;
     tree.fetch(rt, 64)?;
-    tree.bus.write_node(0, 0, &block)?;
+    tree.store(rt, 0, 0, &block)?;
     if with_parent {
-        tree.bus.write_node(1, 0, &parent)?;
+        tree.store(rt, 1, 0, &parent)?;
     }
     Ok(tree.fetch(rt, 0))
 }

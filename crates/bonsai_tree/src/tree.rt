@@ -1,5 +1,5 @@
 // The tree, of which the chip keeps the root register and copies of nodes.
-ghost use Rattle.std.specs.Prelude.{true, ◌≡◌, ◌≢◌, ◌⊎◌, ◌+◌, ◌-◌, ◌*◌, ◌/◌, ◌<◌, ◌≤◌, ◌++◌, ℕ, List, [], None, Some, Ok, Err, IfOk, IsOk, OnOk, OnErr, length};
+ghost use Rattle.std.specs.Prelude.{true, ◌≡◌, ◌≢◌, ◌⊎◌, ◌+◌, ◌-◌, ◌*◌, ◌/◌, ◌<◌, ◌≤◌, ◌++◌, ℕ, List, [], None, Some, Ok, Err, IfOk, OnOk, OnErr, length};
 ghost use Rattle.sec_base.specs.Count.{Rose, more_by};
 ghost use Rattle.sec_base.specs.Geometry.{IsNode, page_count, parent, slot};
 ghost use Rattle.sec_base.specs.LastMessage.{last_node};
@@ -21,7 +21,7 @@ ghost use Rattle.checked_bus.specs.Steps.{IsAccounted, Moves, SameLines, stop_of
 ghost use Rattle.bonsai_tree.specs.Boot.{boot_messages, node_count};
 ghost use Rattle.bonsai_tree.specs.Climb.{Climbs};
 ghost use Rattle.bonsai_tree.specs.Node.{CachedNode, block_or_zeros, no_block, page_block, with_tag};
-ghost use Rattle.bonsai_tree.specs.NodeCache.{AreNodeCaches, IsLatestNode, OtherLevels, OtherNodes, level_cache, most_copies, node_copy, node_way};
+ghost use Rattle.bonsai_tree.specs.NodeCache.{AreNodeCaches, IsLatestNode, OtherLevels, OtherNodes, level_cache, most_copies, node_way};
 ghost use Rattle.bonsai_tree.specs.Tree.{HoldsTree, IsFetchPlace, IsNodeFrom, NodesAreMade, NodesHoldLast, OnlyWroteNodes, PathWasRead, SamePages, WasReadUp, cached_node, cached_nodes, current_block, kept_tag, path_accesses, present_accesses, want_of};
 
 use crate::boot::boot_tree;
@@ -100,7 +100,8 @@ impl Tree {
 
     /// The counter block of a page: the nodes above it are had from the top down, each from its copy or from its place, where
     /// it is checked against the tag that its parent keeps, the top node against the root register. A copy that goes out for
-    /// another is written first, if it was changed, and its tag is put into its parent, which is had for that.
+    /// another is written first, if it was changed, and its tag is put into its parent, which is had for that. It is refused as
+    /// tampering of the first node that has another tag, where nothing more is read, and out of memory.
     pub fn fetch<B: Bus, T: Tagger>(
         &mut self,
         bus: &mut B,
@@ -171,7 +172,8 @@ impl Tree {
     }
 
     /// Gives a page a new counter block: the nodes above it are had as in `fetch`, then the block is written, and its tag put
-    /// into the copy of the node above it. Each call that writes takes memory for its message first.
+    /// into the copy of the node above it. Memory for each message is taken right before its write. It is refused as tampering
+    /// of a node above the page's, where the page keeps its block, and out of memory, where it has the old or the new one.
     pub fn update<B: Bus, T: Tagger>(
         &mut self,
         bus: &mut B,
@@ -439,7 +441,9 @@ impl Tree {
         if level == geometry.levels() {
             return self.root;
         }
-        let block = self.nodes.latest(level + 1, geometry.parent(level, index).1);
+        let block = self
+            .nodes
+            .latest(level + 1, geometry.parent(level, index).1);
         slot_tag(block, geometry.slot(index))
     }
 

@@ -15,8 +15,8 @@ use Rattle.bonsai_tree.specs.NodeCache.{AreNodeCaches, copy_of, level_cache, nod
 use Rattle.bonsai_tree.specs.Tree.{TreeView, HoldsTree, want_of}
 use Rattle.bonsai_tree.proofs.Climbs.{climbs_not, climbs_on, climbs_up}
 use Rattle.bonsai_tree.proofs.NodeCalls.{climbs_dropped, climbs_touched}
-use Rattle.bonsai_tree.proofs.Paths.{below_top, present_first, present_second}
-use Rattle.bonsai_tree.proofs.Views.{all_as, copy_as, levels_as, others_as, root_as, same_as, tree_of}
+use Rattle.bonsai_tree.proofs.Accesses.{present_first, present_second}
+use Rattle.bonsai_tree.proofs.Views.{all_as, levels_as, others_as, root_as, same_as, tree_of}
 use Rattle.bonsai_tree.proofs.tree.Tree.+present.Goals as goal
 
 pub parent_present-returns-then-level-levels-clause-climbs : goal.parent_present-returns-then-level-levels-clause-climbs

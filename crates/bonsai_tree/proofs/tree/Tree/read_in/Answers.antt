@@ -8,7 +8,7 @@ use Rattle.bonsai_tree.specs.NodeCache.{AreNodeCaches, copy_of}
 use Rattle.bonsai_tree.specs.Tree.{TreeView}
 use Rattle.bonsai_tree.proofs.Nodes.{NodeRead, node_found}
 use Rattle.bonsai_tree.proofs.NodeCalls.{climbs_put, climbs_read}
-use Rattle.bonsai_tree.proofs.Views.{copy_as, latest_cached, levels_as, others_as, root_as, same_as, tree_of}
+use Rattle.bonsai_tree.proofs.Views.{latest_cached, levels_as, others_as, root_as, same_as, tree_of}
 use Rattle.bonsai_tree.proofs.tree.Tree.read_in.Goals as goal
 
 pub returns-in_err-block-clause-climbs : goal.returns-in_err-block-clause-climbs
