@@ -1,11 +1,8 @@
 -- What it takes to have a node on the chip.
-use Rattle.std.proofs.Common.{◌≡◌, ◌≢◌, inl, inr, ℕ, ◌+◌, ◌-◌, ◌*◌, ◌/◌, ◌^◌, ◌<◌, ◌≤◌, ap, sym, ◌∙◌, subst, arith}
-use Rattle.std.proofs.lemmas.Bool.{cases_lt}
-use Rattle.sec_base.specs.Geometry.{IsNode}
+use Rattle.std.proofs.Common.{◌≡◌, ℕ, ◌+◌, ◌-◌, ◌*◌, ◌^◌, ◌≤◌, ap, ◌∙◌, subst, arith}
 use Rattle.bonsai_tree.specs.Tree.{present_accesses}
-use Rattle.std.proofs.Math.Nat.{pow-le-pow_right, div-div-eq-div-mul, div-one}
+use Rattle.std.proofs.Math.Nat.{pow-le-pow_right}
 use Rattle.std.proofs.lemmas.Grind.{pow_more}
-use Rattle.std.proofs.lemmas.Nat.{div_below, pow-add}
 
 pub present_more : (levels level : ℕ) → level ≤ levels → 2 ^ (levels + 2 - level) ≡ 2 * 2 ^ (levels + 2 - (level + 1))
 present_more levels level inside =

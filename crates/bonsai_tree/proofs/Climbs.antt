@@ -1,34 +1,28 @@
 -- Calls that read and write nodes of a level and of those above it, one after another.
-use Rattle.std.proofs.Common.{◌≡◌, ◌≢◌, ◌⊎◌, inl, inr, ℕ, zero, suc, ◌+◌, ◌-◌, ◌*◌, ◌/◌, ◌%◌, ◌^◌, ◌<◌, ◌≤◌, Bool, true, false, List, [], ◌∷◌, ◌++◌, length, Option, Some, None, Result, Ok, Err, refl, ap, sym, ◌∙◌, subst, arith, length-append}
-use Rattle.std.specs.Option.{option_map}
+use Rattle.std.proofs.Common.{◌≡◌, ◌≢◌, ◌⊎◌, inl, inr, ℕ, zero, suc, ◌+◌, ◌-◌, ◌/◌, ◌^◌, ◌<◌, ◌≤◌, List, length, Option, Some, None, refl, ap, sym, ◌∙◌, subst, arith, length-append}
 use Rattle.std.proofs.lemmas.Bool.{cases_lt}
 use Rattle.std.proofs.lemmas.Nat.{pow-add}
 use Rattle.std.proofs.Math.Nat.{div-div-eq-div-mul}
-use Rattle.std.proofs.lemmas.List.{append-nil}
 use Rattle.sec_base.specs.Count.{Rose, RoseBy}
 use Rattle.sec_base.specs.Evidence.{evidence_place}
-use Rattle.sec_base.specs.Geometry.{IsNode}
-use Rattle.sec_base.specs.LastMessage.{last_node}
-use Rattle.sec_base.specs.declared.counter.Counter.{Counter}
 use Rattle.sec_base.specs.declared.evidence.Evidence.{Evidence}
 use Rattle.sec_base.specs.declared.message.Message.{Message}
 use Rattle.sec_base.specs.declared.place.Place.{Place}
 use Rattle.sec_base.specs.declared.place.Place.TheVariants.{Node as node_place}
 use Rattle.sec_base.specs.declared.stop.MemStop.{MemStop}
-use Rattle.sec_base.specs.declared.stop.MemStop.TheVariants.{Tampered, Spent, NoMemory}
+use Rattle.sec_base.specs.declared.stop.MemStop.TheVariants.{NoMemory}
 use Rattle.bus_model.specs.BusHistory.{BusHistory}
-use Rattle.tag_engine.specs.TagEngine.{TagEngineView, tags_of, with_room}
-use Rattle.checked_bus.specs.Accesses.{AreCounted, WritesMessages}
-use Rattle.checked_bus.specs.Steps.{IsAccounted, IsCurrentNode, Moves, SameLines, stop_of, unwritten_in}
+use Rattle.tag_engine.specs.TagEngine.{TagEngineView, tags_of}
+use Rattle.checked_bus.specs.Accesses.{WritesMessages}
+use Rattle.checked_bus.specs.Steps.{IsAccounted, Moves, unwritten_in}
 use Rattle.checked_bus.proofs.CheckedReads.{ended_accounted}
-use Rattle.checked_bus.proofs.Steps.{counted_not, counted_on, moves_not, moves_on, same_lines_not, same_lines_on}
-use Rattle.checked_bus.proofs.Writes.{none_more, writes_not, writes_on, writes_read}
+use Rattle.checked_bus.proofs.Steps.{moves_not, moves_on, same_lines_not, same_lines_on}
+use Rattle.checked_bus.proofs.Writes.{none_more, writes_not, writes_on}
 use Rattle.bonsai_tree.specs.Climb.{Climbs}
-use Rattle.bonsai_tree.specs.Node.{CachedNode, block_or_zeros, current_of}
-use Rattle.bonsai_tree.specs.NodeCache.{level_cache}
-use Rattle.bonsai_tree.specs.Tree.{TreeView, HoldsTree, IsNodeFrom, IsTree, NodesAreMade, NodesHoldLast, WasReadUp, above, cached_node, current_block, kept_tag}
-use Rattle.bonsai_tree.proofs.Nodes.{NodeRead, is_current, same_tags, some_not_none, some_or_none, stop_is, was_none}
-use Rattle.bonsai_tree.proofs.Puts.{tree_recached}
+use Rattle.bonsai_tree.specs.Node.{CachedNode}
+use Rattle.bonsai_tree.specs.NodeCache.{AreNodeCaches, level_cache}
+use Rattle.bonsai_tree.specs.Tree.{TreeView, HoldsTree, IsNodeFrom, NodesAreMade, NodesHoldLast, WasReadUp, above, cached_node}
+use Rattle.bonsai_tree.proofs.Nodes.{same_tags, some_not_none, some_or_none}
 
 -- Which nodes were read
 
@@ -137,22 +131,26 @@ unchanged_writes history engine =
     subst (λ (k : ℕ). WritesMessages history history k 0) (sym none) (writes_not history)
 
 module _ {T : Type 0} (d n : T → List ℕ → List ℕ) where
-  -- nothing was done
-  pub climbs_not : (from : ℕ) (tree : TreeView) (history : BusHistory) (engine : TagEngineView T) →
-      Climbs (tags_of d n) from tree history engine tree history engine None
-  climbs_not from tree history engine = record {
+  -- copies alone changed
+  pub climbs_recached : (from : ℕ) (tree tree' : TreeView) (history : BusHistory) (engine : TagEngineView T) → tree'.levels ≡ tree.levels → tree'.root ≡ tree.root →
+      (AreNodeCaches tree.levels tree.caches → AreNodeCaches tree'.levels tree'.caches) →
+      ((level : ℕ) → level < from → level_cache tree'.caches level ≡ level_cache tree.caches level) →
+      (HoldsTree (tags_of d n) tree history engine → HoldsTree (tags_of d n) tree' history engine) →
+      ((level index : ℕ) → cached_node tree' level index ≢ None → cached_node tree level index ≢ None) →
+      Climbs (tags_of d n) from tree history engine tree' history engine None
+  climbs_recached from tree tree' history engine levels root nodes copies holds held = record {
     moves = moves_not history engine;
     lines = same_lines_not history engine.made;
-    levels = refl;
-    root = refl;
-    nodes = λ are. are;
-    copies = λ level low. refl;
+    levels = levels;
+    root = root;
+    nodes = nodes;
+    copies = copies;
     last = λ level index low. refl;
     written = λ level index low. refl;
-    holds = λ holds none. holds;
-    honest = λ holds used was. was;
-    lied = λ holds quiet place is. absurd (cc);
-    shown = λ holds quiet some. absurd (some quiet);
+    holds = λ was none. holds was;
+    honest = λ was used accounted. accounted;
+    lied = λ was quiet place is. absurd (cc);
+    shown = λ was quiet some. absurd (some quiet);
     tampered = λ place is. absurd (cc);
     found = λ quiet evidence is. absurd (cc);
     unspent = λ spent is. absurd (cc);
@@ -160,8 +158,14 @@ module _ {T : Type 0} (d n : T → List ℕ → List ℕ) where
     writes = unchanged_writes history engine;
     made_blocks = λ was. was;
     last_blocks = λ remembered was. was;
-    read = λ level index held. read_up_held tree level index history history held;
+    read = λ level index copied. read_up_held tree level index history history (held level index copied);
   }
+
+  -- nothing was done
+  pub climbs_not : (from : ℕ) (tree : TreeView) (history : BusHistory) (engine : TagEngineView T) →
+      Climbs (tags_of d n) from tree history engine tree history engine None
+  climbs_not from tree history engine =
+      climbs_recached from tree tree history engine refl refl (λ are. are) (λ level low. refl) (λ was. was) (λ level index held. held)
 
   -- nor where there was no memory
   pub climbs_refused : (from : ℕ) (tree : TreeView) (history : BusHistory) (engine : TagEngineView T) →

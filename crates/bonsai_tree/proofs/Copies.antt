@@ -1,12 +1,12 @@
 -- The caches of all levels, where one of them changes.
-use Rattle.std.proofs.Common.{◌≡◌, ◌≢◌, ◌⊎◌, inl, inr, ℕ, zero, suc, ◌+◌, ◌-◌, ◌*◌, ◌<◌, ◌≤◌, List, [], ◌∷◌, ◌++◌, length, length-append, map, replicate, get_or, Option, Some, None, IfSome, IsSome, Bool, true, false, refl, ap, sym, ◌∙◌, subst, arith}
+use Rattle.std.proofs.Common.{◌≡◌, ◌≢◌, inl, inr, ℕ, zero, suc, ◌+◌, ◌-◌, ◌*◌, ◌<◌, ◌≤◌, List, [], ◌∷◌, ◌++◌, length, length-append, map, replicate, get_or, Some, None, IsSome, Bool, refl, ap, sym, ◌∙◌, subst, arith}
 use Rattle.std.proofs.Math.ListN.{set}
 use Rattle.std.proofs.lemmas.Bool.{cases_eq, cases_lt}
 use Rattle.std.proofs.lemmas.List.{get_or_default, get_or_past, get_or-replicate, get_or-set_same, get_or-set_other, length-map, length-replicate, length-set, replicate-append-replicate}
 use Rattle.sec_base.specs.Geometry.{IsNode}
 use Rattle.cache_set.specs.declared.way.Way.{Way}
-use Rattle.cache_set.specs.CacheSet.{IsSet, latest_place, way_of}
-use Rattle.cache_set.specs.Cache.{AreSets, IsCache, IsLatest, new_cache, place_of, places, set_at, way_at}
+use Rattle.cache_set.specs.CacheSet.{IsSet}
+use Rattle.cache_set.specs.Cache.{AreSets, IsCache, new_cache, place_of, places, set_at, way_at}
 use Rattle.cache_set.proofs.Sets.{cache_new, none_new}
 use Rattle.cache_set.proofs.Ways.{latest_found}
 use Rattle.bonsai_tree.specs.NodeCache.{AreEmpty, AreNodeCaches, IsLatestNode, OtherLevels, OtherNodes, copied_nodes, level_cache, most_copies, node_sets, node_way}

@@ -1,5 +1,5 @@
 -- One read, one write, and a change of copies, as what calls make of the tree.
-use Rattle.std.proofs.Common.{◌≡◌, ◌≢◌, ◌⊎◌, inl, inr, ℕ, ◌+◌, ◌-◌, ◌/◌, ◌%◌, ◌^◌, ◌<◌, ◌≤◌, true, false, max, List, [], ◌∷◌, ◌++◌, length, Option, Some, None, Result, Ok, Err, refl, ap, sym, ◌∙◌, subst, arith}
+use Rattle.std.proofs.Common.{◌≡◌, ◌≢◌, ◌⊎◌, inl, inr, ℕ, ◌+◌, ◌/◌, ◌<◌, ◌≤◌, false, max, List, length, Option, Some, None, Result, refl, ap, sym, ◌∙◌, subst, arith}
 use Rattle.std.proofs.lemmas.Bool.{cases_lt}
 use Rattle.sec_base.specs.Count.{Rose}
 use Rattle.sec_base.specs.Evidence.{evidence_place}
@@ -15,62 +15,29 @@ use Rattle.sec_base.specs.declared.stop.MemStop.{MemStop}
 use Rattle.sec_base.specs.declared.stop.MemStop.TheVariants.{Tampered, Spent, NoMemory}
 use Rattle.bus_model.specs.BusHistory.{BusHistory}
 use Rattle.tag_engine.specs.TagEngine.{TagEngineView, tags_of, with_room}
-use Rattle.checked_bus.specs.Accesses.{WritesMessages}
-use Rattle.checked_bus.specs.Steps.{IsAccounted, IsCurrentNode, Moves, SameLines, WritesOnce, stop_of, unwritten_in}
+use Rattle.checked_bus.specs.Steps.{IsAccounted, IsCurrentNode, WritesOnce, stop_of, unwritten_in}
 use Rattle.checked_bus.proofs.CheckedReads.{ended_accounted}
-use Rattle.checked_bus.proofs.Steps.{moves_not, same_lines_not}
 use Rattle.checked_bus.proofs.Writes.{none_more}
 use Rattle.bonsai_tree.specs.Climb.{Climbs}
 use Rattle.bonsai_tree.specs.Node.{CachedNode, block_or_zeros, current_of}
 use Rattle.bonsai_tree.specs.NodeCache.{AreNodeCaches, OtherLevels, level_cache}
 use Rattle.bonsai_tree.specs.Tree.{TreeView, HoldsTree, IsNodeFrom, IsTree, NodesAreMade, NodesHoldLast, WasReadUp, above, cached_node, current_block, kept_tag}
 use Rattle.bonsai_tree.specs.Writing.{WritesNodes}
-use Rattle.bonsai_tree.proofs.Climbs.{read_up_held, unchanged_writes}
-use Rattle.bonsai_tree.proofs.Nodes.{NodeRead, SameNode, is_current, same_or_not, same_tags, some_not_none, stop_is, was_none}
-use Rattle.bonsai_tree.proofs.NodeWrites.{NodeWritten, is_put, own}
+use Rattle.bonsai_tree.proofs.Climbs.{climbs_recached, read_up_held}
+use Rattle.bonsai_tree.proofs.Nodes.{NodeRead, SameNode, is_current, same_or_not, same_tags, stop_is, was_none}
+use Rattle.bonsai_tree.proofs.NodeWrites.{NodeWritten, is_put}
 use Rattle.bonsai_tree.proofs.Puts.{IsPut, PutsTag, tree_put, tree_recached}
 
 here_from : (levels level index : ℕ) (place : Place) → IsNode levels level index → place ≡ node_place level index → IsNodeFrom levels level place
 here_from levels level index place node is = record { level = level; index = index; node = node; above = omega arith; place_is = is }
 
 module _ {T : Type 0} (d n : T → List ℕ → List ℕ) where
-  -- A change of copies alone
-
-  pub climbs_recached : (from : ℕ) (tree tree' : TreeView) (history : BusHistory) (engine : TagEngineView T) → tree'.levels ≡ tree.levels → tree'.root ≡ tree.root →
-      AreNodeCaches tree'.levels tree'.caches →
-      ((level : ℕ) → level < from → level_cache tree'.caches level ≡ level_cache tree.caches level) →
-      (HoldsTree (tags_of d n) tree history engine → HoldsTree (tags_of d n) tree' history engine) →
-      ((level index : ℕ) → cached_node tree' level index ≢ None → cached_node tree level index ≢ None) →
-      Climbs (tags_of d n) from tree history engine tree' history engine None
-  climbs_recached from tree tree' history engine levels root nodes copies holds held = record {
-    moves = moves_not history engine;
-    lines = same_lines_not history engine.made;
-    levels = levels;
-    root = root;
-    nodes = λ are. nodes;
-    copies = copies;
-    last = λ level index low. refl;
-    written = λ level index low. refl;
-    holds = λ was none. holds was;
-    honest = λ was used accounted. accounted;
-    lied = λ was quiet place is. absurd (cc);
-    shown = λ was quiet some. absurd (some quiet);
-    tampered = λ place is. absurd (cc);
-    found = λ quiet evidence is. absurd (cc);
-    unspent = λ spent is. absurd (cc);
-    room = omega arith;
-    writes = unchanged_writes history engine;
-    made_blocks = λ was. was;
-    last_blocks = λ remembered was. was;
-    read = λ level index copied. read_up_held tree level index history history (held level index copied);
-  }
-
   -- all copies are the same
   pub climbs_touched : (level : ℕ) (tree tree' : TreeView) (history : BusHistory) (engine : TagEngineView T) → tree'.levels ≡ tree.levels → tree'.root ≡ tree.root →
       AreNodeCaches tree'.levels tree'.caches → OtherLevels level tree.caches tree'.caches → ((other at : ℕ) → cached_node tree' other at ≡ cached_node tree other at) →
       Climbs (tags_of d n) level tree history engine tree' history engine None
   climbs_touched level tree tree' history engine levels root nodes others same =
-      climbs_recached level tree tree' history engine levels root nodes
+      climbs_recached d n level tree tree' history engine levels root (λ are. nodes)
       (λ other low. others other (λ (e : other ≡ level). absurd (omega (arith, e, low))))
       (λ was. record {
         fits = λ quiet.
@@ -88,7 +55,7 @@ module _ {T : Type 0} (d n : T → List ℕ → List ℕ) where
       (HoldsTree (tags_of d n) tree history engine → engine.evidence ≡ None → copy.block ≡ block_or_zeros (last_node level index engine.made)) →
       Climbs (tags_of d n) level tree history engine tree' history engine None
   climbs_dropped level index tree tree' history engine copy levels root nodes others held gone same is_last =
-      climbs_recached level tree tree' history engine levels root nodes
+      climbs_recached d n level tree tree' history engine levels root (λ are. nodes)
       (λ other low. others other (λ (e : other ≡ level). absurd (omega (arith, e, low))))
       (λ was. record {
         fits = λ quiet.

@@ -1,9 +1,7 @@
 -- What becomes of the tree that contracts see, by what becomes of the caches of its nodes.
-use Rattle.std.proofs.Common.{◌≡◌, ◌≢◌, ℕ, ◌<◌, ◌≤◌, List, Option, Some, None, IsSome, refl, ap, sym, ◌∙◌, subst, arith}
+use Rattle.std.proofs.Common.{◌≡◌, ◌≢◌, ℕ, ◌<◌, ◌≤◌, List, Option, Some, None, IsSome, ap, ◌∙◌}
 use Rattle.std.specs.Option.{option_map}
-use Rattle.sec_base.specs.Geometry.{IsNode}
 use Rattle.cache_set.specs.declared.way.Way.{Way}
-use Rattle.bonsai_tree.specs.Node.{CachedNode}
 use Rattle.bonsai_tree.specs.NodeCache.{AreNodeCaches, IsLatestNode, NodeCacheView, OtherLevels, OtherNodes, copy_of, level_cache, node_way}
 use Rattle.bonsai_tree.specs.Tree.{TreeView, cached_node}
 use Rattle.bonsai_tree.proofs.Copies.{latest_held}

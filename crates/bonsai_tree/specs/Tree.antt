@@ -1,6 +1,6 @@
 -- The tree over the counter blocks (a Bonsai Merkle tree: Rogers et al., MICRO 2007), and when it fits the messages that
 -- were made and what stands outside.
-use Rattle.std.specs.Prelude.{◌≡◌, ◌⊎◌, ℕ, ◌+◌, ◌-◌, ◌/◌, ◌^◌, ◌≤◌, List, [], length, false, nat_lt, if◌then◌else◌, Option, Some, None, Contains, Result, Ok, Err}
+use Rattle.std.specs.Prelude.{◌≡◌, ◌⊎◌, ℕ, ◌+◌, ◌-◌, ◌/◌, ◌^◌, ◌≤◌, List, length, false, nat_lt, if◌then◌else◌, Option, Some, None, Contains, Result, Ok, Err}
 use Rattle.sec_base.specs.Count.{Rose, RoseBy}
 use Rattle.sec_base.specs.Geometry.{IsNode, arity, parent, slot}
 use Rattle.sec_base.specs.LastMessage.{last_node}

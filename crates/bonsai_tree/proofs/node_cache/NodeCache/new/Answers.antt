@@ -1,8 +1,6 @@
 use Rattle.std.proofs.Common.{◌≡◌, ℕ, List, [], ◌∷◌, ◌++◌, ap, sym, ◌∙◌, subst, arith}
-use Rattle.std.proofs.lemmas.List.{replicate-append-replicate}
 use Rattle.cache_set.specs.declared.way.Way.{Way}
-use Rattle.cache_set.specs.Cache.{new_cache}
-use Rattle.bonsai_tree.specs.NodeCache.{AreEmpty, AreNodeCaches, copied_nodes, node_sets}
+use Rattle.bonsai_tree.specs.NodeCache.{AreEmpty, AreNodeCaches, copied_nodes}
 use Rattle.bonsai_tree.proofs.Copies.{caches_more, caches_none, new_are, new_caches, new_empty, new_none}
 use Rattle.bonsai_tree.proofs.node_cache.NodeCache.new.Goals as goal
 

@@ -1,7 +1,5 @@
-use Rattle.std.proofs.Common.{◌<◌, ◌≤◌, ◌∙◌, true, false, List, length, ap, sym, subst, rules}
+use Rattle.std.proofs.Common.{◌∙◌, false, ap, sym, subst, rules}
 use Rattle.sec_base.specs.Geometry.{IsNode}
-use Rattle.cache_set.specs.declared.way.Way.{Way}
-use Rattle.cache_set.specs.Cache.{set_at}
 use Rattle.bonsai_tree.specs.NodeCache.{NodeCacheView, node_way}
 use Rattle.bonsai_tree.proofs.Copies.{are_put, other_same}
 use Rattle.bonsai_tree.proofs.node_cache.NodeCache.put.Goals as goal

@@ -1,5 +1,4 @@
-use Rattle.std.proofs.Common.{◌<◌, ◌≤◌, ◌∙◌, true, false, List, length, ap, sym, subst, rules}
-use Rattle.sec_base.specs.Geometry.{IsNode}
+use Rattle.std.proofs.Common.{◌<◌, ◌≤◌, ◌∙◌, List, length, ap, sym, subst}
 use Rattle.cache_set.specs.declared.way.Way.{Way}
 use Rattle.cache_set.specs.Cache.{set_at}
 use Rattle.bonsai_tree.specs.NodeCache.{NodeCacheView, node_way}

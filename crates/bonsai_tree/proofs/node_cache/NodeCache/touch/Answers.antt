@@ -1,7 +1,4 @@
-use Rattle.std.proofs.Common.{◌<◌, ◌≤◌, ◌∙◌, true, false, List, length, ap, sym, subst, rules}
-use Rattle.sec_base.specs.Geometry.{IsNode}
-use Rattle.cache_set.specs.declared.way.Way.{Way}
-use Rattle.cache_set.specs.Cache.{set_at}
+use Rattle.std.proofs.Common.{◌≤◌, ◌∙◌, ap, sym, subst}
 use Rattle.bonsai_tree.specs.NodeCache.{NodeCacheView, node_way}
 use Rattle.bonsai_tree.proofs.Copies.{all_same, are_same}
 use Rattle.bonsai_tree.proofs.node_cache.NodeCache.touch.Goals as goal

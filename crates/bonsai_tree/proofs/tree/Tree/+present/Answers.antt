@@ -1,8 +1,5 @@
-use Rattle.std.proofs.Common.{◌≡◌, ◌≢◌, ◌+◌, ◌-◌, ◌*◌, ◌/◌, ◌^◌, ◌<◌, ◌≤◌, inl, inr, ℕ, List, length, Option, Some, None, IsSome, Result, Ok, Err, Bool, true, false, refl, ap, sym, ◌∙◌, subst, arith, rules}
+use Rattle.std.proofs.Common.{◌≡◌, ◌+◌, ℕ, List, length, Option, Some, None, ap, sym, ◌∙◌, subst, arith, rules}
 use Rattle.std.specs.Option.{option_map}
-use Rattle.sec_base.specs.Count.{more_by}
-use Rattle.sec_base.specs.LastMessage.{last_node}
-use Rattle.sec_base.specs.declared.message.Message.{Message}
 use Rattle.sec_base.specs.declared.stop.MemStop.{MemStop}
 use Rattle.sec_base.specs.declared.stop.MemStop.TheVariants.{NoMemory}
 use Rattle.cache_set.specs.declared.way.Way.{Way}
@@ -10,9 +7,8 @@ use Rattle.cache_set.specs.Cache.{way_at}
 use Rattle.tag_engine.specs.TagEngine.{tags_of}
 use Rattle.checked_bus.specs.Steps.{stop_of}
 use Rattle.bonsai_tree.specs.Climb.{Climbs}
-use Rattle.bonsai_tree.specs.Node.{CachedNode, block_or_zeros, current_of}
-use Rattle.bonsai_tree.specs.NodeCache.{AreNodeCaches, copy_of, level_cache, node_way}
-use Rattle.bonsai_tree.specs.Tree.{TreeView, HoldsTree, want_of}
+use Rattle.bonsai_tree.specs.NodeCache.{AreNodeCaches, copy_of, node_way}
+use Rattle.bonsai_tree.specs.Tree.{TreeView}
 use Rattle.bonsai_tree.proofs.Climbs.{climbs_not, climbs_on, climbs_up}
 use Rattle.bonsai_tree.proofs.NodeCalls.{climbs_dropped, climbs_touched}
 use Rattle.bonsai_tree.proofs.Accesses.{present_first, present_second}

@@ -1,4 +1,4 @@
-use Rattle.std.proofs.Common.{◌≡◌, ◌≢◌, ◌+◌, ◌/◌, ◌<◌, ◌≤◌, ℕ, List, length, Option, Some, None, Result, Ok, Err, refl, ap, sym, ◌∙◌, subst, arith, rules}
+use Rattle.std.proofs.Common.{◌≡◌, ◌+◌, ◌/◌, ◌≤◌, length, Option, Some, refl, ap, sym, subst, arith, rules}
 use Rattle.sec_base.specs.Geometry.{IsNode}
 use Rattle.sec_base.specs.declared.evidence.Evidence.TheVariants.{Collision}
 use Rattle.sec_base.specs.declared.place.Place.TheVariants.{Node as node_place}
@@ -8,13 +8,34 @@ use Rattle.tag_engine.specs.TagEngine.{tags_of}
 use Rattle.checked_bus.specs.Accesses.{WritesMessages}
 use Rattle.checked_bus.specs.Steps.{stop_of, unwritten_in}
 use Rattle.bonsai_tree.specs.Climb.{Climbs}
-use Rattle.bonsai_tree.specs.NodeCache.{IsLatestNode}
-use Rattle.bonsai_tree.specs.Tree.{cached_node, path_accesses, present_accesses}
+use Rattle.bonsai_tree.specs.Tree.{path_accesses}
 use Rattle.bonsai_tree.proofs.Copies.{few_copies}
 use Rattle.bonsai_tree.proofs.Nodes.{NodeRead, node_found}
 use Rattle.bonsai_tree.proofs.PathCalls.{climb_room, climb_writes, fetched, fetched_accepted, fetched_block, fetched_checked, fetched_found, fetched_pages, fetched_read, not_from_one, ok_of, page_node, path_more, read_most, stop_of_err}
 use Rattle.bonsai_tree.proofs.Views.{latest_cached}
+use Rattle.bonsai_tree.proofs.tree.Tree.fetch.Given.{Over}
 use Rattle.bonsai_tree.proofs.tree.Tree.fetch.Goals as goal
+
+own_node : (g : Over) (c : goal.After-read_node g) → IsNode c.args.self.now.levels 0 c.args.page
+own_node g c = page_node c.args.self.now.levels c.args.page c.requires.page
+
+-- the read of the page's own node
+own_read : (g : Over) (c : goal.After-read_node g) → NodeRead (tags_of g.T.Tagger.data_tag_of g.T.Tagger.node_tag_of) 0 c.args.page c.kept_tag-tag.result (g.B.Bus.history c.parent_present.new.bus) c.parent_present.new.tags (g.B.Bus.history c.read_node.new.bus) c.read_node.new.tags c.read_node.result
+own_read g c = record {
+  moves = c.read_node.ensures.moves;
+  once = c.read_node.ensures.once;
+  lines = c.read_node.ensures.lines;
+  honest = c.read_node.ensures.honest;
+  shown = c.read_node.ensures.shown;
+  found = node_found (tags_of g.T.Tagger.data_tag_of g.T.Tagger.node_tag_of c.parent_present.new.tags) 0 c.args.page c.kept_tag-tag.result (g.B.Bus.history c.parent_present.new.bus) (g.B.Bus.history c.read_node.new.bus) c.parent_present.new.tags c.read_node.new.tags c.read_node.result c.read_node.ensures.read;
+  tampered = c.read_node.ensures.tampered;
+  unspent = c.read_node.ensures.unspent;
+}
+
+-- the whole call
+whole : (g : Over) (c : goal.After-read_node g) → Climbs (tags_of g.T.Tagger.data_tag_of g.T.Tagger.node_tag_of) 0 c.args.self.now (g.B.Bus.history c.args.bus.now) c.args.tags.now c.parent_present.new.self (g.B.Bus.history c.read_node.new.bus) c.read_node.new.tags (stop_of c.read_node.result)
+whole g c =
+    fetched g.T.Tagger.data_tag_of g.T.Tagger.node_tag_of c.args.self.now c.parent_present.new.self c.args.page c.kept_tag-tag.result (g.B.Bus.history c.args.bus.now) (g.B.Bus.history c.parent_present.new.bus) (g.B.Bus.history c.read_node.new.bus) c.args.tags.now c.parent_present.new.tags c.read_node.new.tags c.read_node.result (own_node g c) c.in_ok-parent_present.ensures.climbs c.kept_tag-tag.ensures (own_read g c)
 
 pub returns-in_err-parent_present-clause-accepted : goal.returns-in_err-parent_present-clause-accepted
 returns-in_err-parent_present-clause-accepted g c = λ made_at bytes tag quiet is.
@@ -35,151 +56,39 @@ returns-in_err-parent_present-clause-writes g c = λ more is.
 
 pub returns-clause-holds : goal.returns-clause-holds
 returns-clause-holds g c = λ holds.
-    let node : IsNode c.args.self.now.levels 0 c.args.page = page_node c.args.self.now.levels c.args.page c.requires.page in
-    let read : NodeRead (tags_of g.T.Tagger.data_tag_of g.T.Tagger.node_tag_of) 0 c.args.page c.kept_tag-tag.result (g.B.Bus.history c.parent_present.new.bus) c.parent_present.new.tags (g.B.Bus.history c.read_node.new.bus) c.read_node.new.tags c.read_node.result =
-    (record {
-      moves = c.read_node.ensures.moves;
-      once = c.read_node.ensures.once;
-      lines = c.read_node.ensures.lines;
-      honest = c.read_node.ensures.honest;
-      shown = c.read_node.ensures.shown;
-      found = node_found (tags_of g.T.Tagger.data_tag_of g.T.Tagger.node_tag_of c.parent_present.new.tags) 0 c.args.page c.kept_tag-tag.result (g.B.Bus.history c.parent_present.new.bus) (g.B.Bus.history c.read_node.new.bus) c.parent_present.new.tags c.read_node.new.tags c.read_node.result c.read_node.ensures.read;
-      tampered = c.read_node.ensures.tampered;
-      unspent = c.read_node.ensures.unspent;
-    }) in
-    let whole : Climbs (tags_of g.T.Tagger.data_tag_of g.T.Tagger.node_tag_of) 0 c.args.self.now (g.B.Bus.history c.args.bus.now) c.args.tags.now c.parent_present.new.self (g.B.Bus.history c.read_node.new.bus) c.read_node.new.tags (stop_of c.read_node.result) = fetched g.T.Tagger.data_tag_of g.T.Tagger.node_tag_of c.args.self.now c.parent_present.new.self c.args.page c.kept_tag-tag.result (g.B.Bus.history c.args.bus.now) (g.B.Bus.history c.parent_present.new.bus) (g.B.Bus.history c.read_node.new.bus) c.args.tags.now c.parent_present.new.tags c.read_node.new.tags c.read_node.result node c.in_ok-parent_present.ensures.climbs c.kept_tag-tag.ensures read in
-    ok_of c.read_node.result (λ going. whole.holds holds going)
+    ok_of c.read_node.result (λ going. (whole g c).holds holds going)
 
 pub returns-clause-block : goal.returns-clause-block
 returns-clause-block g c =
-    let node : IsNode c.args.self.now.levels 0 c.args.page = page_node c.args.self.now.levels c.args.page c.requires.page in
-    let read : NodeRead (tags_of g.T.Tagger.data_tag_of g.T.Tagger.node_tag_of) 0 c.args.page c.kept_tag-tag.result (g.B.Bus.history c.parent_present.new.bus) c.parent_present.new.tags (g.B.Bus.history c.read_node.new.bus) c.read_node.new.tags c.read_node.result =
-    (record {
-      moves = c.read_node.ensures.moves;
-      once = c.read_node.ensures.once;
-      lines = c.read_node.ensures.lines;
-      honest = c.read_node.ensures.honest;
-      shown = c.read_node.ensures.shown;
-      found = node_found (tags_of g.T.Tagger.data_tag_of g.T.Tagger.node_tag_of c.parent_present.new.tags) 0 c.args.page c.kept_tag-tag.result (g.B.Bus.history c.parent_present.new.bus) (g.B.Bus.history c.read_node.new.bus) c.parent_present.new.tags c.read_node.new.tags c.read_node.result c.read_node.ensures.read;
-      tampered = c.read_node.ensures.tampered;
-      unspent = c.read_node.ensures.unspent;
-    }) in
-    fetched_block g.T.Tagger.data_tag_of g.T.Tagger.node_tag_of c.args.self.now c.parent_present.new.self c.args.page c.kept_tag-tag.result (g.B.Bus.history c.args.bus.now) (g.B.Bus.history c.parent_present.new.bus) (g.B.Bus.history c.read_node.new.bus) c.args.tags.now c.parent_present.new.tags c.read_node.new.tags c.read_node.result node c.in_ok-parent_present.ensures.climbs c.kept_tag-tag.ensures read c.read_node.ensures.known
+    fetched_block g.T.Tagger.data_tag_of g.T.Tagger.node_tag_of c.args.self.now c.parent_present.new.self c.args.page c.kept_tag-tag.result (g.B.Bus.history c.args.bus.now) (g.B.Bus.history c.parent_present.new.bus) (g.B.Bus.history c.read_node.new.bus) c.args.tags.now c.parent_present.new.tags c.read_node.new.tags c.read_node.result (own_node g c) c.in_ok-parent_present.ensures.climbs c.kept_tag-tag.ensures (own_read g c) c.read_node.ensures.known
 
 pub returns-clause-pages : goal.returns-clause-pages
 returns-clause-pages g c =
-    let node : IsNode c.args.self.now.levels 0 c.args.page = page_node c.args.self.now.levels c.args.page c.requires.page in
-    let read : NodeRead (tags_of g.T.Tagger.data_tag_of g.T.Tagger.node_tag_of) 0 c.args.page c.kept_tag-tag.result (g.B.Bus.history c.parent_present.new.bus) c.parent_present.new.tags (g.B.Bus.history c.read_node.new.bus) c.read_node.new.tags c.read_node.result =
-    (record {
-      moves = c.read_node.ensures.moves;
-      once = c.read_node.ensures.once;
-      lines = c.read_node.ensures.lines;
-      honest = c.read_node.ensures.honest;
-      shown = c.read_node.ensures.shown;
-      found = node_found (tags_of g.T.Tagger.data_tag_of g.T.Tagger.node_tag_of c.parent_present.new.tags) 0 c.args.page c.kept_tag-tag.result (g.B.Bus.history c.parent_present.new.bus) (g.B.Bus.history c.read_node.new.bus) c.parent_present.new.tags c.read_node.new.tags c.read_node.result c.read_node.ensures.read;
-      tampered = c.read_node.ensures.tampered;
-      unspent = c.read_node.ensures.unspent;
-    }) in
-    fetched_pages g.T.Tagger.data_tag_of g.T.Tagger.node_tag_of c.args.self.now c.parent_present.new.self c.args.page c.kept_tag-tag.result (g.B.Bus.history c.args.bus.now) (g.B.Bus.history c.parent_present.new.bus) (g.B.Bus.history c.read_node.new.bus) c.args.tags.now c.parent_present.new.tags c.read_node.new.tags c.read_node.result node c.in_ok-parent_present.ensures.climbs c.kept_tag-tag.ensures read
+    fetched_pages g.T.Tagger.data_tag_of g.T.Tagger.node_tag_of c.args.self.now c.parent_present.new.self c.args.page c.kept_tag-tag.result (g.B.Bus.history c.args.bus.now) (g.B.Bus.history c.parent_present.new.bus) (g.B.Bus.history c.read_node.new.bus) c.args.tags.now c.parent_present.new.tags c.read_node.new.tags c.read_node.result (own_node g c) c.in_ok-parent_present.ensures.climbs c.kept_tag-tag.ensures (own_read g c)
 
 pub returns-clause-honest : goal.returns-clause-honest
 returns-clause-honest g c = λ used holds was.
-    let node : IsNode c.args.self.now.levels 0 c.args.page = page_node c.args.self.now.levels c.args.page c.requires.page in
-    let read : NodeRead (tags_of g.T.Tagger.data_tag_of g.T.Tagger.node_tag_of) 0 c.args.page c.kept_tag-tag.result (g.B.Bus.history c.parent_present.new.bus) c.parent_present.new.tags (g.B.Bus.history c.read_node.new.bus) c.read_node.new.tags c.read_node.result =
-    (record {
-      moves = c.read_node.ensures.moves;
-      once = c.read_node.ensures.once;
-      lines = c.read_node.ensures.lines;
-      honest = c.read_node.ensures.honest;
-      shown = c.read_node.ensures.shown;
-      found = node_found (tags_of g.T.Tagger.data_tag_of g.T.Tagger.node_tag_of c.parent_present.new.tags) 0 c.args.page c.kept_tag-tag.result (g.B.Bus.history c.parent_present.new.bus) (g.B.Bus.history c.read_node.new.bus) c.parent_present.new.tags c.read_node.new.tags c.read_node.result c.read_node.ensures.read;
-      tampered = c.read_node.ensures.tampered;
-      unspent = c.read_node.ensures.unspent;
-    }) in
-    let whole : Climbs (tags_of g.T.Tagger.data_tag_of g.T.Tagger.node_tag_of) 0 c.args.self.now (g.B.Bus.history c.args.bus.now) c.args.tags.now c.parent_present.new.self (g.B.Bus.history c.read_node.new.bus) c.read_node.new.tags (stop_of c.read_node.result) = fetched g.T.Tagger.data_tag_of g.T.Tagger.node_tag_of c.args.self.now c.parent_present.new.self c.args.page c.kept_tag-tag.result (g.B.Bus.history c.args.bus.now) (g.B.Bus.history c.parent_present.new.bus) (g.B.Bus.history c.read_node.new.bus) c.args.tags.now c.parent_present.new.tags c.read_node.new.tags c.read_node.result node c.in_ok-parent_present.ensures.climbs c.kept_tag-tag.ensures read in
-    whole.honest holds used was
+    (whole g c).honest holds used was
 
 pub returns-clause-accepted : goal.returns-clause-accepted
 returns-clause-accepted g c =
-    let node : IsNode c.args.self.now.levels 0 c.args.page = page_node c.args.self.now.levels c.args.page c.requires.page in
-    let read : NodeRead (tags_of g.T.Tagger.data_tag_of g.T.Tagger.node_tag_of) 0 c.args.page c.kept_tag-tag.result (g.B.Bus.history c.parent_present.new.bus) c.parent_present.new.tags (g.B.Bus.history c.read_node.new.bus) c.read_node.new.tags c.read_node.result =
-    (record {
-      moves = c.read_node.ensures.moves;
-      once = c.read_node.ensures.once;
-      lines = c.read_node.ensures.lines;
-      honest = c.read_node.ensures.honest;
-      shown = c.read_node.ensures.shown;
-      found = node_found (tags_of g.T.Tagger.data_tag_of g.T.Tagger.node_tag_of c.parent_present.new.tags) 0 c.args.page c.kept_tag-tag.result (g.B.Bus.history c.parent_present.new.bus) (g.B.Bus.history c.read_node.new.bus) c.parent_present.new.tags c.read_node.new.tags c.read_node.result c.read_node.ensures.read;
-      tampered = c.read_node.ensures.tampered;
-      unspent = c.read_node.ensures.unspent;
-    }) in
-    fetched_accepted g.T.Tagger.data_tag_of g.T.Tagger.node_tag_of c.args.self.now c.parent_present.new.self c.args.page c.kept_tag-tag.result (g.B.Bus.history c.args.bus.now) (g.B.Bus.history c.parent_present.new.bus) (g.B.Bus.history c.read_node.new.bus) c.args.tags.now c.parent_present.new.tags c.read_node.new.tags c.read_node.result node c.in_ok-parent_present.ensures.climbs c.kept_tag-tag.ensures read (λ made_at bytes under still is. (c.read_node.ensures.accepted 0 c.args.page made_at bytes under still is).3)
+    fetched_accepted g.T.Tagger.data_tag_of g.T.Tagger.node_tag_of c.args.self.now c.parent_present.new.self c.args.page c.kept_tag-tag.result (g.B.Bus.history c.args.bus.now) (g.B.Bus.history c.parent_present.new.bus) (g.B.Bus.history c.read_node.new.bus) c.args.tags.now c.parent_present.new.tags c.read_node.new.tags c.read_node.result (own_node g c) c.in_ok-parent_present.ensures.climbs c.kept_tag-tag.ensures (own_read g c) (λ made_at bytes under still is. (c.read_node.ensures.accepted 0 c.args.page made_at bytes under still is).3)
 
 pub returns-clause-found : goal.returns-clause-found
 returns-clause-found g c =
-    let node : IsNode c.args.self.now.levels 0 c.args.page = page_node c.args.self.now.levels c.args.page c.requires.page in
-    let read : NodeRead (tags_of g.T.Tagger.data_tag_of g.T.Tagger.node_tag_of) 0 c.args.page c.kept_tag-tag.result (g.B.Bus.history c.parent_present.new.bus) c.parent_present.new.tags (g.B.Bus.history c.read_node.new.bus) c.read_node.new.tags c.read_node.result =
-    (record {
-      moves = c.read_node.ensures.moves;
-      once = c.read_node.ensures.once;
-      lines = c.read_node.ensures.lines;
-      honest = c.read_node.ensures.honest;
-      shown = c.read_node.ensures.shown;
-      found = node_found (tags_of g.T.Tagger.data_tag_of g.T.Tagger.node_tag_of c.parent_present.new.tags) 0 c.args.page c.kept_tag-tag.result (g.B.Bus.history c.parent_present.new.bus) (g.B.Bus.history c.read_node.new.bus) c.parent_present.new.tags c.read_node.new.tags c.read_node.result c.read_node.ensures.read;
-      tampered = c.read_node.ensures.tampered;
-      unspent = c.read_node.ensures.unspent;
-    }) in
-    fetched_found g.T.Tagger.data_tag_of g.T.Tagger.node_tag_of c.args.self.now c.parent_present.new.self c.args.page c.kept_tag-tag.result (g.B.Bus.history c.args.bus.now) (g.B.Bus.history c.parent_present.new.bus) (g.B.Bus.history c.read_node.new.bus) c.args.tags.now c.parent_present.new.tags c.read_node.new.tags c.read_node.result node c.in_ok-parent_present.ensures.climbs c.kept_tag-tag.ensures read
+    fetched_found g.T.Tagger.data_tag_of g.T.Tagger.node_tag_of c.args.self.now c.parent_present.new.self c.args.page c.kept_tag-tag.result (g.B.Bus.history c.args.bus.now) (g.B.Bus.history c.parent_present.new.bus) (g.B.Bus.history c.read_node.new.bus) c.args.tags.now c.parent_present.new.tags c.read_node.new.tags c.read_node.result (own_node g c) c.in_ok-parent_present.ensures.climbs c.kept_tag-tag.ensures (own_read g c)
 
 pub returns-clause-shown : goal.returns-clause-shown
 returns-clause-shown g c =
-    let node : IsNode c.args.self.now.levels 0 c.args.page = page_node c.args.self.now.levels c.args.page c.requires.page in
-    let read : NodeRead (tags_of g.T.Tagger.data_tag_of g.T.Tagger.node_tag_of) 0 c.args.page c.kept_tag-tag.result (g.B.Bus.history c.parent_present.new.bus) c.parent_present.new.tags (g.B.Bus.history c.read_node.new.bus) c.read_node.new.tags c.read_node.result =
-    (record {
-      moves = c.read_node.ensures.moves;
-      once = c.read_node.ensures.once;
-      lines = c.read_node.ensures.lines;
-      honest = c.read_node.ensures.honest;
-      shown = c.read_node.ensures.shown;
-      found = node_found (tags_of g.T.Tagger.data_tag_of g.T.Tagger.node_tag_of c.parent_present.new.tags) 0 c.args.page c.kept_tag-tag.result (g.B.Bus.history c.parent_present.new.bus) (g.B.Bus.history c.read_node.new.bus) c.parent_present.new.tags c.read_node.new.tags c.read_node.result c.read_node.ensures.read;
-      tampered = c.read_node.ensures.tampered;
-      unspent = c.read_node.ensures.unspent;
-    }) in
-    let whole : Climbs (tags_of g.T.Tagger.data_tag_of g.T.Tagger.node_tag_of) 0 c.args.self.now (g.B.Bus.history c.args.bus.now) c.args.tags.now c.parent_present.new.self (g.B.Bus.history c.read_node.new.bus) c.read_node.new.tags (stop_of c.read_node.result) = fetched g.T.Tagger.data_tag_of g.T.Tagger.node_tag_of c.args.self.now c.parent_present.new.self c.args.page c.kept_tag-tag.result (g.B.Bus.history c.args.bus.now) (g.B.Bus.history c.parent_present.new.bus) (g.B.Bus.history c.read_node.new.bus) c.args.tags.now c.parent_present.new.tags c.read_node.new.tags c.read_node.result node c.in_ok-parent_present.ensures.climbs c.kept_tag-tag.ensures read in
-    whole.shown
+    (whole g c).shown
 
 pub returns-clause-tampered : goal.returns-clause-tampered
 returns-clause-tampered g c = λ place is holds quiet.
-    let node : IsNode c.args.self.now.levels 0 c.args.page = page_node c.args.self.now.levels c.args.page c.requires.page in
-    let read : NodeRead (tags_of g.T.Tagger.data_tag_of g.T.Tagger.node_tag_of) 0 c.args.page c.kept_tag-tag.result (g.B.Bus.history c.parent_present.new.bus) c.parent_present.new.tags (g.B.Bus.history c.read_node.new.bus) c.read_node.new.tags c.read_node.result =
-    (record {
-      moves = c.read_node.ensures.moves;
-      once = c.read_node.ensures.once;
-      lines = c.read_node.ensures.lines;
-      honest = c.read_node.ensures.honest;
-      shown = c.read_node.ensures.shown;
-      found = node_found (tags_of g.T.Tagger.data_tag_of g.T.Tagger.node_tag_of c.parent_present.new.tags) 0 c.args.page c.kept_tag-tag.result (g.B.Bus.history c.parent_present.new.bus) (g.B.Bus.history c.read_node.new.bus) c.parent_present.new.tags c.read_node.new.tags c.read_node.result c.read_node.ensures.read;
-      tampered = c.read_node.ensures.tampered;
-      unspent = c.read_node.ensures.unspent;
-    }) in
-    let whole : Climbs (tags_of g.T.Tagger.data_tag_of g.T.Tagger.node_tag_of) 0 c.args.self.now (g.B.Bus.history c.args.bus.now) c.args.tags.now c.parent_present.new.self (g.B.Bus.history c.read_node.new.bus) c.read_node.new.tags (stop_of c.read_node.result) = fetched g.T.Tagger.data_tag_of g.T.Tagger.node_tag_of c.args.self.now c.parent_present.new.self c.args.page c.kept_tag-tag.result (g.B.Bus.history c.args.bus.now) (g.B.Bus.history c.parent_present.new.bus) (g.B.Bus.history c.read_node.new.bus) c.args.tags.now c.parent_present.new.tags c.read_node.new.tags c.read_node.result node c.in_ok-parent_present.ensures.climbs c.kept_tag-tag.ensures read in
-    whole.lied holds quiet place (stop_of_err c.read_node.result (Tampered place) is)
+    (whole g c).lied holds quiet place (stop_of_err c.read_node.result (Tampered place) is)
 
 pub returns-clause-checked : goal.returns-clause-checked
 returns-clause-checked g c =
-    let node : IsNode c.args.self.now.levels 0 c.args.page = page_node c.args.self.now.levels c.args.page c.requires.page in
-    let read : NodeRead (tags_of g.T.Tagger.data_tag_of g.T.Tagger.node_tag_of) 0 c.args.page c.kept_tag-tag.result (g.B.Bus.history c.parent_present.new.bus) c.parent_present.new.tags (g.B.Bus.history c.read_node.new.bus) c.read_node.new.tags c.read_node.result =
-    (record {
-      moves = c.read_node.ensures.moves;
-      once = c.read_node.ensures.once;
-      lines = c.read_node.ensures.lines;
-      honest = c.read_node.ensures.honest;
-      shown = c.read_node.ensures.shown;
-      found = node_found (tags_of g.T.Tagger.data_tag_of g.T.Tagger.node_tag_of c.parent_present.new.tags) 0 c.args.page c.kept_tag-tag.result (g.B.Bus.history c.parent_present.new.bus) (g.B.Bus.history c.read_node.new.bus) c.parent_present.new.tags c.read_node.new.tags c.read_node.result c.read_node.ensures.read;
-      tampered = c.read_node.ensures.tampered;
-      unspent = c.read_node.ensures.unspent;
-    }) in
-    fetched_checked g.T.Tagger.data_tag_of g.T.Tagger.node_tag_of c.args.self.now c.parent_present.new.self c.args.page c.kept_tag-tag.result (g.B.Bus.history c.args.bus.now) (g.B.Bus.history c.parent_present.new.bus) (g.B.Bus.history c.read_node.new.bus) c.args.tags.now c.parent_present.new.tags c.read_node.new.tags c.read_node.result node c.in_ok-parent_present.ensures.climbs c.kept_tag-tag.ensures read c.read_node.ensures.read
+    fetched_checked g.T.Tagger.data_tag_of g.T.Tagger.node_tag_of c.args.self.now c.parent_present.new.self c.args.page c.kept_tag-tag.result (g.B.Bus.history c.args.bus.now) (g.B.Bus.history c.parent_present.new.bus) (g.B.Bus.history c.read_node.new.bus) c.args.tags.now c.parent_present.new.tags c.read_node.new.tags c.read_node.result (own_node g c) c.in_ok-parent_present.ensures.climbs c.kept_tag-tag.ensures (own_read g c) c.read_node.ensures.read
 
 pub returns-clause-parent : goal.returns-clause-parent
 returns-clause-parent g c =
@@ -190,20 +99,8 @@ returns-clause-parent g c =
 
 pub returns-clause-read : goal.returns-clause-read
 returns-clause-read g c =
-    let node : IsNode c.args.self.now.levels 0 c.args.page = page_node c.args.self.now.levels c.args.page c.requires.page in
-    let read : NodeRead (tags_of g.T.Tagger.data_tag_of g.T.Tagger.node_tag_of) 0 c.args.page c.kept_tag-tag.result (g.B.Bus.history c.parent_present.new.bus) c.parent_present.new.tags (g.B.Bus.history c.read_node.new.bus) c.read_node.new.tags c.read_node.result =
-    (record {
-      moves = c.read_node.ensures.moves;
-      once = c.read_node.ensures.once;
-      lines = c.read_node.ensures.lines;
-      honest = c.read_node.ensures.honest;
-      shown = c.read_node.ensures.shown;
-      found = node_found (tags_of g.T.Tagger.data_tag_of g.T.Tagger.node_tag_of c.parent_present.new.tags) 0 c.args.page c.kept_tag-tag.result (g.B.Bus.history c.parent_present.new.bus) (g.B.Bus.history c.read_node.new.bus) c.parent_present.new.tags c.read_node.new.tags c.read_node.result c.read_node.ensures.read;
-      tampered = c.read_node.ensures.tampered;
-      unspent = c.read_node.ensures.unspent;
-    }) in
     let inside : 1 ≤ c.parent_present.new.self.levels = omega (arith, c.in_ok-parent_present.ensures.climbs.levels, c.in_ok-parent_present.ensures.some) in
-    ok_of c.read_node.result (λ going. fetched_read g.T.Tagger.data_tag_of g.T.Tagger.node_tag_of c.args.self.now c.parent_present.new.self c.args.page c.kept_tag-tag.result (g.B.Bus.history c.args.bus.now) (g.B.Bus.history c.parent_present.new.bus) (g.B.Bus.history c.read_node.new.bus) c.args.tags.now c.parent_present.new.tags c.read_node.new.tags c.read_node.result node c.in_ok-parent_present.ensures.climbs c.kept_tag-tag.ensures read going
+    ok_of c.read_node.result (λ going. fetched_read g.T.Tagger.data_tag_of g.T.Tagger.node_tag_of c.args.self.now c.parent_present.new.self c.args.page c.kept_tag-tag.result (g.B.Bus.history c.args.bus.now) (g.B.Bus.history c.parent_present.new.bus) (g.B.Bus.history c.read_node.new.bus) c.args.tags.now c.parent_present.new.tags c.read_node.new.tags c.read_node.result (own_node g c) c.in_ok-parent_present.ensures.climbs c.kept_tag-tag.ensures (own_read g c) going
     (latest_cached c.parent_present.new.self 1 (c.args.page / 4) c.in_ok-parent_present.ensures.nodes (omega arith) inside
     (c.in_ok-parent_present.ensures.latest c.in_ok-parent_present.ensures.some)))
 
@@ -216,52 +113,13 @@ returns-clause-few_copies g c = λ level. few_copies c.parent_present.new.self.l
 
 pub returns-clause-new_copies : goal.returns-clause-new_copies
 returns-clause-new_copies g c =
-    let node : IsNode c.args.self.now.levels 0 c.args.page = page_node c.args.self.now.levels c.args.page c.requires.page in
-    let read : NodeRead (tags_of g.T.Tagger.data_tag_of g.T.Tagger.node_tag_of) 0 c.args.page c.kept_tag-tag.result (g.B.Bus.history c.parent_present.new.bus) c.parent_present.new.tags (g.B.Bus.history c.read_node.new.bus) c.read_node.new.tags c.read_node.result =
-    (record {
-      moves = c.read_node.ensures.moves;
-      once = c.read_node.ensures.once;
-      lines = c.read_node.ensures.lines;
-      honest = c.read_node.ensures.honest;
-      shown = c.read_node.ensures.shown;
-      found = node_found (tags_of g.T.Tagger.data_tag_of g.T.Tagger.node_tag_of c.parent_present.new.tags) 0 c.args.page c.kept_tag-tag.result (g.B.Bus.history c.parent_present.new.bus) (g.B.Bus.history c.read_node.new.bus) c.parent_present.new.tags c.read_node.new.tags c.read_node.result c.read_node.ensures.read;
-      tampered = c.read_node.ensures.tampered;
-      unspent = c.read_node.ensures.unspent;
-    }) in
-    let whole : Climbs (tags_of g.T.Tagger.data_tag_of g.T.Tagger.node_tag_of) 0 c.args.self.now (g.B.Bus.history c.args.bus.now) c.args.tags.now c.parent_present.new.self (g.B.Bus.history c.read_node.new.bus) c.read_node.new.tags (stop_of c.read_node.result) = fetched g.T.Tagger.data_tag_of g.T.Tagger.node_tag_of c.args.self.now c.parent_present.new.self c.args.page c.kept_tag-tag.result (g.B.Bus.history c.args.bus.now) (g.B.Bus.history c.parent_present.new.bus) (g.B.Bus.history c.read_node.new.bus) c.args.tags.now c.parent_present.new.tags c.read_node.new.tags c.read_node.result node c.in_ok-parent_present.ensures.climbs c.kept_tag-tag.ensures read in
-    whole.read
+    (whole g c).read
 
 pub returns-clause-room : goal.returns-clause-room
 returns-clause-room g c =
-    let node : IsNode c.args.self.now.levels 0 c.args.page = page_node c.args.self.now.levels c.args.page c.requires.page in
-    let read : NodeRead (tags_of g.T.Tagger.data_tag_of g.T.Tagger.node_tag_of) 0 c.args.page c.kept_tag-tag.result (g.B.Bus.history c.parent_present.new.bus) c.parent_present.new.tags (g.B.Bus.history c.read_node.new.bus) c.read_node.new.tags c.read_node.result =
-    (record {
-      moves = c.read_node.ensures.moves;
-      once = c.read_node.ensures.once;
-      lines = c.read_node.ensures.lines;
-      honest = c.read_node.ensures.honest;
-      shown = c.read_node.ensures.shown;
-      found = node_found (tags_of g.T.Tagger.data_tag_of g.T.Tagger.node_tag_of c.parent_present.new.tags) 0 c.args.page c.kept_tag-tag.result (g.B.Bus.history c.parent_present.new.bus) (g.B.Bus.history c.read_node.new.bus) c.parent_present.new.tags c.read_node.new.tags c.read_node.result c.read_node.ensures.read;
-      tampered = c.read_node.ensures.tampered;
-      unspent = c.read_node.ensures.unspent;
-    }) in
-    let whole : Climbs (tags_of g.T.Tagger.data_tag_of g.T.Tagger.node_tag_of) 0 c.args.self.now (g.B.Bus.history c.args.bus.now) c.args.tags.now c.parent_present.new.self (g.B.Bus.history c.read_node.new.bus) c.read_node.new.tags (stop_of c.read_node.result) = fetched g.T.Tagger.data_tag_of g.T.Tagger.node_tag_of c.args.self.now c.parent_present.new.self c.args.page c.kept_tag-tag.result (g.B.Bus.history c.args.bus.now) (g.B.Bus.history c.parent_present.new.bus) (g.B.Bus.history c.read_node.new.bus) c.args.tags.now c.parent_present.new.tags c.read_node.new.tags c.read_node.result node c.in_ok-parent_present.ensures.climbs c.kept_tag-tag.ensures read in
-    climb_room g.T.Tagger.data_tag_of g.T.Tagger.node_tag_of 0 (path_accesses c.args.self.now.levels) c.args.self.now c.parent_present.new.self (g.B.Bus.history c.args.bus.now) (g.B.Bus.history c.read_node.new.bus) c.args.tags.now c.read_node.new.tags (stop_of c.read_node.result) whole
+    climb_room g.T.Tagger.data_tag_of g.T.Tagger.node_tag_of 0 (path_accesses c.args.self.now.levels) c.args.self.now c.parent_present.new.self (g.B.Bus.history c.args.bus.now) (g.B.Bus.history c.read_node.new.bus) c.args.tags.now c.read_node.new.tags (stop_of c.read_node.result) (whole g c)
     (omega (arith, c.in_ok-parent_present.ensures.few, path_more c.args.self.now.levels, ap length c.read_node.ensures.once.made))
 
 pub returns-clause-writes : goal.returns-clause-writes
 returns-clause-writes g c = λ more is.
-    let node : IsNode c.args.self.now.levels 0 c.args.page = page_node c.args.self.now.levels c.args.page c.requires.page in
-    let read : NodeRead (tags_of g.T.Tagger.data_tag_of g.T.Tagger.node_tag_of) 0 c.args.page c.kept_tag-tag.result (g.B.Bus.history c.parent_present.new.bus) c.parent_present.new.tags (g.B.Bus.history c.read_node.new.bus) c.read_node.new.tags c.read_node.result =
-    (record {
-      moves = c.read_node.ensures.moves;
-      once = c.read_node.ensures.once;
-      lines = c.read_node.ensures.lines;
-      honest = c.read_node.ensures.honest;
-      shown = c.read_node.ensures.shown;
-      found = node_found (tags_of g.T.Tagger.data_tag_of g.T.Tagger.node_tag_of c.parent_present.new.tags) 0 c.args.page c.kept_tag-tag.result (g.B.Bus.history c.parent_present.new.bus) (g.B.Bus.history c.read_node.new.bus) c.parent_present.new.tags c.read_node.new.tags c.read_node.result c.read_node.ensures.read;
-      tampered = c.read_node.ensures.tampered;
-      unspent = c.read_node.ensures.unspent;
-    }) in
-    let whole : Climbs (tags_of g.T.Tagger.data_tag_of g.T.Tagger.node_tag_of) 0 c.args.self.now (g.B.Bus.history c.args.bus.now) c.args.tags.now c.parent_present.new.self (g.B.Bus.history c.read_node.new.bus) c.read_node.new.tags (stop_of c.read_node.result) = fetched g.T.Tagger.data_tag_of g.T.Tagger.node_tag_of c.args.self.now c.parent_present.new.self c.args.page c.kept_tag-tag.result (g.B.Bus.history c.args.bus.now) (g.B.Bus.history c.parent_present.new.bus) (g.B.Bus.history c.read_node.new.bus) c.args.tags.now c.parent_present.new.tags c.read_node.new.tags c.read_node.result node c.in_ok-parent_present.ensures.climbs c.kept_tag-tag.ensures read in
-    climb_writes g.T.Tagger.data_tag_of g.T.Tagger.node_tag_of 0 c.args.self.now c.parent_present.new.self (g.B.Bus.history c.args.bus.now) (g.B.Bus.history c.read_node.new.bus) c.args.tags.now c.read_node.new.tags (stop_of c.read_node.result) whole more is
+    climb_writes g.T.Tagger.data_tag_of g.T.Tagger.node_tag_of 0 c.args.self.now c.parent_present.new.self (g.B.Bus.history c.args.bus.now) (g.B.Bus.history c.read_node.new.bus) c.args.tags.now c.read_node.new.tags (stop_of c.read_node.result) (whole g c) more is

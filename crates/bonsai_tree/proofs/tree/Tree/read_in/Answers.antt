@@ -1,4 +1,4 @@
-use Rattle.std.proofs.Common.{◌≡◌, ◌<◌, ◌+◌, ◌/◌, List, ℕ, Option, Some, None, Result, Ok, Err, refl, ap, sym, ◌∙◌, subst, arith, rules}
+use Rattle.std.proofs.Common.{◌≡◌, ◌+◌, ◌/◌, Option, Some, Ok, Err, refl, ap, sym, subst, arith, rules}
 use Rattle.std.specs.Option.{option_map}
 use Rattle.sec_base.specs.declared.stop.MemStop.{MemStop}
 use Rattle.tag_engine.specs.TagEngine.{tags_of}
@@ -6,7 +6,7 @@ use Rattle.checked_bus.specs.Steps.{stop_of}
 use Rattle.bonsai_tree.specs.Climb.{Climbs}
 use Rattle.bonsai_tree.specs.NodeCache.{AreNodeCaches, copy_of}
 use Rattle.bonsai_tree.specs.Tree.{TreeView}
-use Rattle.bonsai_tree.proofs.Nodes.{NodeRead, node_found}
+use Rattle.bonsai_tree.proofs.Nodes.{node_found}
 use Rattle.bonsai_tree.proofs.NodeCalls.{climbs_put, climbs_read}
 use Rattle.bonsai_tree.proofs.Views.{latest_cached, levels_as, others_as, root_as, same_as, tree_of}
 use Rattle.bonsai_tree.proofs.tree.Tree.read_in.Goals as goal
