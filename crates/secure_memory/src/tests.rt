@@ -12,6 +12,7 @@ use counting_bus::CountingBus;
 use hmac_tag::{HmacTagger, derive};
 use sec_base::{Geometry, MemStop, Place, Ram, Width};
 use std::alloc::Global;
+use std::process::Abort;
 use std::test::Fail;
 
 // The smallest memory, of 256 lines.
@@ -279,6 +280,42 @@ impl Counted {
     fn load(&mut self) -> Result<u32, MemStop> {
         self.memory.load(320, Width::Four)
     }
+
+    // The address of the line at place 5 of a page.
+    fn line_at(&self, rt: &impl Abort, page: u32) -> u32
+        ensures inside { result + 4 ≤ 64 * lines_of self.now }
+        ensures aligned { result % 4 ≡ 0 }
+    {
+        assert!(rt; page < 4096);
+        let addr = 4096 * page + 320;
+        assert!(rt; addr % 4 == 0);
+        assert!(rt; addr + 4 <= self.memory.size());
+        addr
+    }
+
+    // So often a number is stored at four places, and then so often the four are loaded. Their pages are so many apart.
+    fn go_round(
+        &mut self,
+        rt: &impl Abort,
+        apart: u32,
+        stores: u32,
+        loads: u32,
+    ) -> Result<(), MemStop> {
+        assert!(rt; apart <= 1024);
+        for value in 0..stores {
+            for at in 0..4 {
+                let addr = self.line_at(rt, apart * at);
+                self.memory.store(addr, Width::Four, value)?;
+            }
+        }
+        for _ in 0..loads {
+            for at in 0..4 {
+                let addr = self.line_at(rt, apart * at);
+                self.memory.load(addr, Width::Four)?;
+            }
+        }
+        Ok(())
+    }
 }
 
 // How many accesses boot, so many stores and a load make in all.
@@ -313,6 +350,49 @@ fn calls_make_so_many_accesses_at_each_level(rt: HostRuntime) -> Result<(), Fail
             let made = accesses(rt.alloc(), levels, stores)?;
             assert_eq!(rt; made, *boot + more, "{stores} stores at {levels}");
         }
+    }
+    Ok(())
+}
+
+// How many accesses boot and so many rounds over four pages make, a quarter of the memory apart.
+fn rounds(
+    rt: &impl Abort,
+    alloc: Global,
+    levels: u8,
+    apart: u32,
+    stores: u32,
+    loads: u32,
+) -> Result<u64, Fail> {
+    let mut counted = Counted::new(alloc, levels, 0)?.ok_or("no memory")?;
+    counted
+        .go_round(rt, apart, stores, loads)
+        .ok()
+        .ok_or("a call is refused")?;
+    let Counted { memory } = counted;
+    let (_account, bus) = memory.finish();
+    Ok(bus.asked())
+}
+
+// Each of the four lines pushes out another one, and with it the counter block of that line's page and the nodes above it, but
+// for those of the three highest levels, which have room for all. Where all of them are changed, a call writes and reads as many
+// as it must; where none is, it reads the path as far as it is gone, and the line.
+#[test]
+fn calls_over_distant_pages_make_so_many_accesses(rt: HostRuntime) -> Result<(), Fail> {
+    let rows = [
+        (1, 1, 2, 1),
+        (2, 4, 2, 1),
+        (3, 16, 5, 2),
+        (4, 64, 8, 3),
+        (5, 256, 12, 4),
+        (6, 1024, 16, 5),
+    ];
+    for (levels, apart, store, load) in rows {
+        let stored = rounds(&rt, rt.alloc(), levels, apart, 3, 0)?;
+        let once_more = rounds(&rt, rt.alloc(), levels, apart, 4, 0)?;
+        assert_eq!(rt; stored.saturating_add(4 * store), once_more, "{levels}");
+        let loaded = rounds(&rt, rt.alloc(), levels, apart, 4, 3)?;
+        let once_more = rounds(&rt, rt.alloc(), levels, apart, 4, 4)?;
+        assert_eq!(rt; loaded.saturating_add(4 * load), once_more, "{levels}");
     }
     Ok(())
 }
