@@ -20,7 +20,7 @@ use Rattle.page_reencrypt.specs.Contents.{HoldsLast, counter_in, never_written}
 use Rattle.page_reencrypt.specs.Outside.{AreConsistent, CountersFit, CountersSay, HasCounter, HaveLast, HaveLastNodes, HaveRisen, MemoryTerms, OutsideView, outside_of, terms_of}
 use Rattle.page_reencrypt.specs.SealedLines.{AreProtected, CountersRise, FitsTogether, IsOfPage, IsProtected, SealedLinesView}
 use Rattle.page_reencrypt.specs.Stops.{lasting_stop}
-use Rattle.page_reencrypt.proofs.RisingPairs.{counter_fresh, counter_limited, has_counter}
+use Rattle.page_reencrypt.proofs.RisingPairs.{counter_fresh, counter_limited}
 use Rattle.page_reencrypt.proofs.Stops.{going_not_memory, going_not_tampered, other_stop}
 use Rattle.page_reencrypt.proofs.Unmade.{same_tags}
 
@@ -90,30 +90,8 @@ module _ {B T : Type 0} (d n : T → List ℕ → List ℕ) (history : B → Bus
   abbrev terms : MemoryTerms B
   terms = terms_of history bus_moved d n (outside_of m)
 
-  -- What a memory that goes on gives to its calls
-
+  -- the limit of a memory that goes on
   module _ (kept : AreProtected d n history m) (going : lasting_stop m.stopped ≡ None) where
-    pub kept_consistent : AreConsistent terms (outside_of m)
-    kept_consistent = kept.always.consistent
-
-    pub kept_last : HaveLast terms (outside_of m)
-    kept_last = kept.always.holds_last (going_not_memory m.stopped going)
-
-    pub kept_nodes : HaveLastNodes terms (outside_of m)
-    kept_nodes = kept.always.nodes_hold_last (going_not_memory m.stopped going)
-
-    pub kept_risen : HaveRisen terms (outside_of m)
-    kept_risen quiet = (kept.rise quiet).rising
-
-    pub kept_fits : CountersFit terms (outside_of m) m.counters
-    kept_fits = record { tree = record { fits = λ quiet. (kept.fits going quiet).tree }; clean = λ quiet. (kept.fits going quiet).clean }
-
-    pub kept_say : CountersSay terms (outside_of m) m.counters
-    kept_say quiet = (kept.fits going quiet).current
-
-    pub kept_started : m.engine.evidence ≡ None → (at : ℕ) → HasCounter m.pads.used at (counter_in m.pads.used at)
-    kept_started quiet at = has_counter m.limit m.pads.used at (kept.rise quiet).within
-
     pub kept_limited : (line : ℕ) → m.engine.evidence ≡ None → (counter_in m.pads.used line).page ≤ m.limit
     kept_limited line quiet = counter_limited m.limit m.pads.used line (kept.rise quiet).within
 

@@ -84,9 +84,3 @@ read_found tag_of line counter history history' engine engine' (Err (Spent page)
 read_found {T} tag_of line counter history history' engine engine' (Err NoMemory) refused evidence none shown =
     let same : engine'.evidence ≡ engine.evidence = ap (λ (e : TagEngineView T). e.evidence) refused.1 in absurd (cc)
 
--- it is read as its place answered
-pub read_under : {T : Type 0} (tag_of : Message → List ℕ) (key : List ℕ) (line : ℕ) (counter : Counter) (history history' : BusHistory) (engine engine' : TagEngineView T)
-    (cipher bytes : List ℕ) → Passed tag_of line counter history history' engine engine' cipher → bytes ≡ cipher_of key line counter cipher →
-    IsReadUnder tag_of key line counter history' bytes
-read_under tag_of key line counter history history' engine engine' cipher bytes passed plain =
-    inr (history, passed.sealed, passed.tagged, passed.answered, plain ∙ ap (cipher_of key line counter) passed.given)

@@ -38,13 +38,6 @@ use Rattle.page_reencrypt.proofs.Nodes.{counters_same, fits_same, nodes_last, no
 use Rattle.page_reencrypt.proofs.Sealing.{listed_not}
 use Rattle.page_reencrypt.proofs.Stops.{other_stop}
 
--- as many messages as lines and counters, at least
-pub pairs_short : (made : List Message) → length (data_pairs made) ≤ length made
-unfolding data_pairs
-pairs_short [] = omega arith
-pairs_short (Line line counter cipher ∷ made) = omega (arith, pairs_short made)
-pairs_short (Node level index block ∷ made) = omega (arith, pairs_short made)
-
 no_pairs : data_pairs [] ≡ []
 unfolding data_pairs
 no_pairs = refl
