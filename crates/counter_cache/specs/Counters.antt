@@ -1,5 +1,5 @@
 -- What contracts see of the counters of all pages: the tree over their counter blocks, and the copies of counter blocks.
-use Rattle.std.specs.Prelude.{◌≡◌, ◌⊎◌, ℕ, ◌*◌, ◌<◌, List, length, false, Option, Some, None, Contains}
+use Rattle.std.specs.Prelude.{◌≡◌, ◌⊎◌, ℕ, ◌*◌, ◌<◌, ◌≤◌, List, length, false, Option, Some, None, Contains}
 use Rattle.std.specs.Option.{option_map}
 use Rattle.sec_base.specs.Count.{Rose}
 use Rattle.sec_base.specs.Geometry.{page_count}
@@ -16,8 +16,8 @@ use Rattle.tag_engine.specs.TagEngine.{TagEngineView}
 use Rattle.split_counter.specs.declared.bumped.Bumped.{Bumped}
 use Rattle.split_counter.specs.CounterBlock.{CounterBlockView, after_bump, block_of, bumped, counter_of}
 use Rattle.bonsai_tree.specs.Node.{CachedNode, current_of, page_block}
-use Rattle.bonsai_tree.specs.NodeCache.{copy_of}
-use Rattle.bonsai_tree.specs.Tree.{HoldsTree, TreeView, kept_tag, path_accesses}
+use Rattle.bonsai_tree.specs.NodeCache.{copy_of, most_copies}
+use Rattle.bonsai_tree.specs.Tree.{HoldsTree, TreeView, cached_nodes, kept_tag, path_accesses}
 
 -- how many sets of two ways there are, and how many copies at most
 abbrev pub block_sets : ℕ
@@ -47,11 +47,20 @@ current_page counters made page = current_of (cached_block counters page) (last_
 abbrev pub counters_in : CountersView → List Message → ℕ → CounterBlockView
 counters_in counters made page = block_of (current_page counters made page)
 
+-- no level has more copies of nodes than its sets have ways
+abbrev pub HasFewNodes : TreeView → Type 0
+HasFewNodes tree = (level : ℕ) → length (cached_nodes tree level) ≤ most_copies
+
 -- Each copy is of a page's block, and whole.
 pub record AreBlocks (levels : ℕ) (blocks : List (List Way)) : Type 0 where
   pub cache : IsCache block_sets blocks
   pub pages : (page : ℕ) (way : Way) → way_at blocks page ≡ Some way → page < page_count levels
   pub whole : (page : ℕ) (way : Way) → way_at blocks page ≡ Some way → length way.copy ≡ 64
+
+-- The copies of blocks are right, and there are few of nodes.
+pub record AreCopies (counters : CountersView) : Type 0 where
+  pub blocks : AreBlocks counters.tree.levels counters.blocks
+  pub few_nodes : HasFewNodes counters.tree
 
 -- There is evidence, or the tree over the counter blocks fits, and a copy that was not changed is the last block of its page.
 pub record HoldsCounters {T : Type 0} (tags : TagEngineView T → Message → List ℕ) (counters : CountersView)

@@ -22,7 +22,7 @@ ghost use Rattle.bonsai_tree.specs.Boot.{boot_messages, node_count};
 ghost use Rattle.bonsai_tree.specs.Node.{page_block};
 ghost use Rattle.bonsai_tree.specs.NodeCache.{most_copies};
 ghost use Rattle.bonsai_tree.specs.Tree.{IsFetchPlace, IsNodeFrom, NodesAreMade, NodesHoldLast, OnlyWroteNodes, PathWasRead, WasReadUp, cached_node, cached_nodes, path_accesses, want_of};
-ghost use Rattle.counter_cache.specs.Counters.{AreBlocks, AreHad, CameFrom, HoldsCounters, IsBumped, IsHad, SameCounters, cached_block, cached_pages, counter_accesses, counters_in, most_blocks};
+ghost use Rattle.counter_cache.specs.Counters.{AreCopies, AreHad, CameFrom, HoldsCounters, IsBumped, IsHad, SameCounters, cached_block, cached_pages, counter_accesses, counters_in, most_blocks};
 ghost use Rattle.counter_cache.specs.Having.{Has};
 
 use bonsai_tree::Tree;
@@ -43,13 +43,13 @@ pub struct Counters {
 }
 
 impl Model for Counters {
-    ghost use Rattle.counter_cache.specs.Counters.{AreBlocks, CountersView};
+    ghost use Rattle.counter_cache.specs.Counters.{AreCopies, CountersView};
 
     ghost Value = { CountersView };
 
     ghost view = { λ counters. record { tree = counters.tree; blocks = counters.blocks } };
 
-    ghost invariant = { λ counters. AreBlocks counters.tree.levels counters.blocks };
+    ghost invariant = { λ counters. AreCopies (record { tree = counters.tree; blocks = counters.blocks }) };
 }
 
 impl Counters {
@@ -284,7 +284,7 @@ impl Counters {
         ensures few { length tags.new.made ≤ length tags.old.made + counter_accesses self.old.tree.levels }
         ensures room { tags.old.room ≤ tags.new.room + counter_accesses self.old.tree.levels }
         ensures latest { OnOk result (IsLatest self.new.blocks page) }
-        ensures blocks { AreBlocks self.new.tree.levels self.new.blocks }
+        ensures copies { AreCopies self.new }
         ensures had { OnOk result ((bytes : List ℕ) → copy_at self.new.blocks page ≡ Some bytes →
             IsHad (tags_of T.data_tag_of T.node_tag_of tags.old) self.old self.new tags.new.made page tags.old.evidence tags.new.evidence bytes) }
         ensures accepted { (made_at : ℕ) (bytes tag : List ℕ) → tags.old.evidence ≡ None →

@@ -32,7 +32,7 @@ pub returns-then-touch-clause-has : goal.returns-then-touch-clause-has
 returns-then-touch-clause-has g c =
     let same : (page : ℕ) → way_at c.touch.new.self page ≡ way_at c.args.self.now.blocks page =
     λ page. c.if-touch.ensures.same page ∙ ap (λ (v : CountersView). way_at v.blocks page) c.self.view_is in
-    let are : AreBlocks c.args.self.now.tree.levels c.args.self.now.blocks = subst (λ (v : CountersView). AreBlocks v.tree.levels v.blocks) c.self.view_is c.self.invariant in
+    let are : AreBlocks c.args.self.now.tree.levels c.args.self.now.blocks = subst (λ (v : CountersView). AreBlocks v.tree.levels v.blocks) c.self.view_is c.self.invariant.blocks in
     has_touched g.T.Tagger.data_tag_of g.T.Tagger.node_tag_of (IsFetchPlace c.args.self.now.tree.levels c.args.page) c.args.self.now (record { tree = c.self.inside.tree; blocks = c.touch.new.self }) (g.B.Bus.history c.args.bus.now) c.args.tags.now (ap (λ (v : CountersView). v.tree) c.self.view_is)
     (blocks_same c.args.self.now.tree.levels c.args.self.now.blocks c.touch.new.self are c.if-touch.ensures.cache same)
     (λ page. ap (option_map copy_of) (same page))
@@ -66,7 +66,7 @@ returns-in_err-make_room-clause-hit g c = λ cached.
     ap (λ (b : List (List Way)). record { tree = c.self.inside.tree; blocks = b }) (c.if-touch.ensures.unchanged refl) ∙ c.self.view_is in
     let absent : cached_block c.args.self.now c.args.page ≡ None =
     ap (λ (v : CountersView). cached_block v c.args.page) (sym same) ∙ ap (option_map copy_of) (c.if-touch.ensures.absent refl) in
-    let are : AreBlocks c.args.self.now.tree.levels c.args.self.now.blocks = subst (λ (v : CountersView). AreBlocks v.tree.levels v.blocks) c.self.view_is c.self.invariant in
+    let are : AreBlocks c.args.self.now.tree.levels c.args.self.now.blocks = subst (λ (v : CountersView). AreBlocks v.tree.levels v.blocks) c.self.view_is c.self.invariant.blocks in
     absurd (cached_held c.args.self.now c.args.page are.cache cached absent)
 
 -- where its block can't be fetched
@@ -95,6 +95,7 @@ returns-in_err-block-clause-has g c =
       lines = c.fetch.ensures.lines;
       levels = c.fetch.ensures.levels;
       root = c.fetch.ensures.root;
+      few_nodes = c.fetch.ensures.few_copies;
       holds = λ holds going. ok_at c.fetch.result going (c.fetch.ensures.holds holds);
       honest = λ holds used was. c.fetch.ensures.honest used holds was;
       lied = λ holds quiet place is. c.fetch.ensures.tampered place (stop_is c.fetch.result (Tampered place) is) holds quiet;
@@ -123,7 +124,7 @@ returns-in_err-block-clause-hit g c = λ cached.
     ap (λ (b : List (List Way)). record { tree = c.self.inside.tree; blocks = b }) (c.if-touch.ensures.unchanged refl) ∙ c.self.view_is in
     let absent : cached_block c.args.self.now c.args.page ≡ None =
     ap (λ (v : CountersView). cached_block v c.args.page) (sym same) ∙ ap (option_map copy_of) (c.if-touch.ensures.absent refl) in
-    let are : AreBlocks c.args.self.now.tree.levels c.args.self.now.blocks = subst (λ (v : CountersView). AreBlocks v.tree.levels v.blocks) c.self.view_is c.self.invariant in
+    let are : AreBlocks c.args.self.now.tree.levels c.args.self.now.blocks = subst (λ (v : CountersView). AreBlocks v.tree.levels v.blocks) c.self.view_is c.self.invariant.blocks in
     absurd (cached_held c.args.self.now c.args.page are.cache cached absent)
 
 -- where its block is fetched
@@ -139,25 +140,15 @@ invariant_of-self-3 g c =
     let levels : c.self-2.inside.tree.levels ≡ c.args.self.now.tree.levels = ap (λ (t : TreeView). t.levels) tree_is ∙ room.levels in
     let at_levels : (place : Place) → IsFetchPlace c.self-2.inside.tree.levels c.args.page place → IsFetchPlace c.args.self.now.tree.levels c.args.page place =
     λ place is. subst (λ (k : ℕ). IsFetchPlace k c.args.page place) levels is in
-    blocks_put c.fetch.new.self.levels c.self-2.inside.blocks c.put.new.self
-    (subst (λ (k : ℕ). AreBlocks k c.self-2.inside.blocks) (sym c.fetch.ensures.levels) c.self-2.invariant) c.put.ensures.cache c.args.page c.in_ok-block.block false
-    (subst (λ (k : ℕ). c.args.page < page_count k) (sym (c.fetch.ensures.levels ∙ levels)) c.requires.page) (search rules) c.put.ensures.put c.put.ensures.same
+    record {
+      blocks = blocks_put c.fetch.new.self.levels c.self-2.inside.blocks c.put.new.self
+    (subst (λ (k : ℕ). AreBlocks k c.self-2.inside.blocks) (sym c.fetch.ensures.levels) c.self-2.invariant.blocks) c.put.ensures.cache c.args.page c.in_ok-block.block false
+    (subst (λ (k : ℕ). c.args.page < page_count k) (sym (c.fetch.ensures.levels ∙ levels)) c.requires.page) (search rules) c.put.ensures.put c.put.ensures.same;
+      few_nodes = c.fetch.ensures.few_copies;
+    }
 
-pub returns-clause-blocks : goal.returns-clause-blocks
-returns-clause-blocks g c =
-    let same : (record { tree = c.self.inside.tree; blocks = c.touch.new.self }) ≡ c.args.self.now =
-    ap (λ (b : List (List Way)). record { tree = c.self.inside.tree; blocks = b }) (c.if-touch.ensures.unchanged refl) ∙ c.self.view_is in
-    let room : Has (tags_of g.T.Tagger.data_tag_of g.T.Tagger.node_tag_of) (IsFetchPlace c.args.self.now.tree.levels c.args.page) c.args.self.now (g.B.Bus.history c.args.bus.now) c.args.tags.now c.make_room.new.self (g.B.Bus.history c.make_room.new.bus) c.make_room.new.tags None =
-    subst (λ (v : CountersView). Has (tags_of g.T.Tagger.data_tag_of g.T.Tagger.node_tag_of) (IsFetchPlace v.tree.levels c.args.page) v (g.B.Bus.history c.args.bus.now) c.args.tags.now c.make_room.new.self (g.B.Bus.history c.make_room.new.bus) c.make_room.new.tags None) same
-    (has_as g.T.Tagger.data_tag_of g.T.Tagger.node_tag_of (IsNodeFrom c.self.inside.tree.levels 1) (IsFetchPlace c.self.inside.tree.levels c.args.page) (record { tree = c.self.inside.tree; blocks = c.touch.new.self }) c.make_room.new.self (g.B.Bus.history c.args.bus.now) (g.B.Bus.history c.make_room.new.bus) c.args.tags.now c.make_room.new.tags None
-    (λ place from. inr from) c.in_ok-make_room.ensures.has) in
-    let tree_is : c.self-2.inside.tree ≡ c.make_room.new.self.tree = ap (λ (v : CountersView). v.tree) c.self-2.view_is in
-    let levels : c.self-2.inside.tree.levels ≡ c.args.self.now.tree.levels = ap (λ (t : TreeView). t.levels) tree_is ∙ room.levels in
-    let at_levels : (place : Place) → IsFetchPlace c.self-2.inside.tree.levels c.args.page place → IsFetchPlace c.args.self.now.tree.levels c.args.page place =
-    λ place is. subst (λ (k : ℕ). IsFetchPlace k c.args.page place) levels is in
-    blocks_put c.fetch.new.self.levels c.self-2.inside.blocks c.put.new.self
-    (subst (λ (k : ℕ). AreBlocks k c.self-2.inside.blocks) (sym c.fetch.ensures.levels) c.self-2.invariant) c.put.ensures.cache c.args.page c.in_ok-block.block false
-    (subst (λ (k : ℕ). c.args.page < page_count k) (sym (c.fetch.ensures.levels ∙ levels)) c.requires.page) (search rules) c.put.ensures.put c.put.ensures.same
+pub returns-clause-copies : goal.returns-clause-copies
+returns-clause-copies g c = invariant_of-self-3 g c
 
 pub returns-clause-has : goal.returns-clause-has
 returns-clause-has g c =
@@ -183,6 +174,7 @@ returns-clause-has g c =
       lines = c.fetch.ensures.lines;
       levels = c.fetch.ensures.levels;
       root = c.fetch.ensures.root;
+      few_nodes = c.fetch.ensures.few_copies;
       holds = λ holds going. ok_at c.fetch.result going (c.fetch.ensures.holds holds);
       honest = λ holds used was. c.fetch.ensures.honest used holds was;
       lied = λ holds quiet place is. c.fetch.ensures.tampered place (stop_is c.fetch.result (Tampered place) is) holds quiet;
@@ -196,12 +188,10 @@ returns-clause-has g c =
       read = c.fetch.ensures.new_copies;
     }))
     c.fetch.ensures.pages.last
-    c.in_ok-block.ensures.block
+    c.in_ok-block.ensures.block (inl refl)
     (subst (λ (page : ℕ). CameFrom c.make_room.new.tags.made (g.B.Bus.history c.make_room.new.bus) (g.B.Bus.history c.fetch.new.bus) page) (above_none 0 c.args.page)
     (c.in_ok-block.ensures.read.rose 0 (omega arith) (omega arith) (λ lower from_zero few. no_copy_below c.self-2.inside.tree lower c.args.page few))) refl
-    (blocks_put c.fetch.new.self.levels c.self-2.inside.blocks c.put.new.self
-    (subst (λ (k : ℕ). AreBlocks k c.self-2.inside.blocks) (sym c.fetch.ensures.levels) c.self-2.invariant) c.put.ensures.cache c.args.page c.in_ok-block.block false
-    (subst (λ (k : ℕ). c.args.page < page_count k) (sym (c.fetch.ensures.levels ∙ levels)) c.requires.page) (search rules) c.put.ensures.put c.put.ensures.same)
+    (invariant_of-self-3 g c).blocks
     (ap (option_map copy_of) empty) (ap (option_map copy_of) c.put.ensures.put)
     (λ other apart. ap (option_map copy_of) (c.put.ensures.same other apart))))
 
@@ -231,7 +221,7 @@ returns-clause-hit g c = λ cached.
     ap (λ (b : List (List Way)). record { tree = c.self.inside.tree; blocks = b }) (c.if-touch.ensures.unchanged refl) ∙ c.self.view_is in
     let absent : cached_block c.args.self.now c.args.page ≡ None =
     ap (λ (v : CountersView). cached_block v c.args.page) (sym same) ∙ ap (option_map copy_of) (c.if-touch.ensures.absent refl) in
-    let are : AreBlocks c.args.self.now.tree.levels c.args.self.now.blocks = subst (λ (v : CountersView). AreBlocks v.tree.levels v.blocks) c.self.view_is c.self.invariant in
+    let are : AreBlocks c.args.self.now.tree.levels c.args.self.now.blocks = subst (λ (v : CountersView). AreBlocks v.tree.levels v.blocks) c.self.view_is c.self.invariant.blocks in
     absurd (cached_held c.args.self.now c.args.page are.cache cached absent)
 
 pub returns-clause-read : goal.returns-clause-read

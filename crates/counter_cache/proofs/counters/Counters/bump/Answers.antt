@@ -7,15 +7,17 @@ use Rattle.sec_base.specs.declared.stop.MemStop.TheVariants.{NoMemory}
 use Rattle.cache_set.specs.declared.way.Way.{Way}
 use Rattle.cache_set.specs.Cache.{way_at}
 use Rattle.cache_set.proofs.Listed.{listed_at}
+use Rattle.tag_engine.specs.TagEngine.{tags_of}
 use Rattle.checked_bus.specs.Steps.{stop_of}
 use Rattle.split_counter.specs.declared.bumped.Bumped.TheVariants.{Line, Page, Spent}
-use Rattle.split_counter.specs.CounterBlock.{CounterBlockView, IsCounterBlock, after_bump, block_of, counter_of}
+use Rattle.split_counter.specs.CounterBlock.{CounterBlockView, IsCounterBlock, after_bump, block_of, bumped, counter_of}
 use Rattle.bonsai_tree.specs.Node.{current_of}
 use Rattle.bonsai_tree.specs.NodeCache.{copy_of}
 use Rattle.bonsai_tree.proofs.Nodes.{stop_is}
 use Rattle.counter_cache.specs.Counters.{CountersView, cached_pages, counters_in}
 use Rattle.counter_cache.proofs.BlockCopies.{blocks_put, few_blocks, same_pages}
 use Rattle.counter_cache.proofs.Blocks.{counters_of_copy}
+use Rattle.counter_cache.proofs.Hads.{had_over}
 use Rattle.counter_cache.proofs.Rising.{bumped_at_least, line_within, page_within}
 use Rattle.counter_cache.proofs.counters.Counters.bump.Goals as goal
 
@@ -29,8 +31,11 @@ pub invariant_of-self : goal.invariant_of-self
 invariant_of-self g c =
     let levels : c.self.inside.tree.levels ≡ c.args.self.now.tree.levels = ap (λ (v : CountersView). v.tree.levels) c.self.view_is ∙ c.get.ensures.levels in
     let long : length c.to_bytes.result ≡ 64 = search rules in
-    blocks_put c.self.inside.tree.levels c.self.inside.blocks c.change.new.self c.self.invariant c.change.ensures.cache c.args.page c.to_bytes.result true
-    (subst (λ (k : ℕ). c.args.page < page_count k) (sym levels) c.requires.page) long c.change.ensures.changed c.change.ensures.same
+    record {
+      blocks = blocks_put c.self.inside.tree.levels c.self.inside.blocks c.change.new.self c.self.invariant.blocks c.change.ensures.cache c.args.page c.to_bytes.result true
+    (subst (λ (k : ℕ). c.args.page < page_count k) (sym levels) c.requires.page) long c.change.ensures.changed c.change.ensures.same;
+      few_nodes = c.self.invariant.few_nodes;
+    }
 
 pub returns-clause-rises : goal.returns-clause-rises
 returns-clause-rises g c = λ holds quiet.
@@ -63,12 +68,7 @@ returns-clause-cached g c =
     listed_at c.change.new.self c.args.page (ap (λ (o : Option Way). is_some o) c.change.ensures.changed)
 
 pub returns-clause-few_copies : goal.returns-clause-few_copies
-returns-clause-few_copies g c =
-    let levels : c.self.inside.tree.levels ≡ c.args.self.now.tree.levels = ap (λ (v : CountersView). v.tree.levels) c.self.view_is ∙ c.get.ensures.levels in
-    let long : length c.to_bytes.result ≡ 64 = search rules in
-    few_blocks c.self.inside.tree.levels c.change.new.self
-    (blocks_put c.self.inside.tree.levels c.self.inside.blocks c.change.new.self c.self.invariant c.change.ensures.cache c.args.page c.to_bytes.result true
-    (subst (λ (k : ℕ). c.args.page < page_count k) (sym levels) c.requires.page) long c.change.ensures.changed c.change.ensures.same)
+returns-clause-few_copies g c = few_blocks c.self.inside.tree.levels c.change.new.self (invariant_of-self g c).blocks
 
 pub returns-clause-new_copies : goal.returns-clause-new_copies
 returns-clause-new_copies g c = λ other listed.
@@ -76,3 +76,16 @@ returns-clause-new_copies g c = λ other listed.
     (subst (λ (v : CountersView). Contains (cached_pages v) other) c.self.view_is
     (same_pages c.self.inside.blocks c.change.new.self c.args.page c.change.ensures.cache
     (subst (λ (v : CountersView). Contains (cached_pages v) c.args.page) (sym c.self.view_is) c.in_ok-block.ensures.cached) c.change.ensures.same other listed))
+
+pub returns-clause-checked : goal.returns-clause-checked
+returns-clause-checked g c =
+    let was = c.in_ok-block.ensures.checked in
+    record {
+      bytes = was.bytes;
+      had = had_over (tags_of g.T.Tagger.data_tag_of g.T.Tagger.node_tag_of c.args.tags.now) c.args.self.now c.get.new.self (record { tree = c.self.inside.tree; blocks = c.change.new.self }) c.get.new.tags.made c.args.page
+          c.args.tags.now.evidence c.get.new.tags.evidence was.bytes (ap (λ (v : CountersView). v.tree) c.self.view_is) was.had;
+      comes = c.bump-outcome.ensures.outcome ∙ ap (λ (b : CounterBlockView). bumped c.args.limit (counter_of c.args.place b)) was.spelled;
+      counted =
+          counters_of_copy (record { tree = c.self.inside.tree; blocks = c.change.new.self }) c.get.new.tags.made c.args.page c.to_bytes.result (ap (option_map (λ (way : Way). way.copy)) c.change.ensures.changed)
+          ∙ c.to_bytes.ensures.read_back ∙ c.bump-outcome.ensures.counters ∙ ap (λ (b : CounterBlockView). (after_bump c.args.place c.args.limit b).1) was.spelled;
+    }

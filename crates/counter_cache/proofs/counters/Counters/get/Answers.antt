@@ -14,12 +14,12 @@ use Rattle.counter_cache.proofs.counters.Counters.get.Goals as goal
 
 pub returns-in_err-bring-clause-few_copies : goal.returns-in_err-bring-clause-few_copies
 returns-in_err-bring-clause-few_copies g c =
-    few_blocks c.bring.new.self.tree.levels c.bring.new.self.blocks c.in_err-bring.ensures.blocks
+    few_blocks c.bring.new.self.tree.levels c.bring.new.self.blocks c.in_err-bring.ensures.copies.blocks
 
 pub returns-in_err-bring-clause-new_copies : goal.returns-in_err-bring-clause-new_copies
 returns-in_err-bring-clause-new_copies g c =
-    has_pages g.T.Tagger.data_tag_of g.T.Tagger.node_tag_of (IsFetchPlace c.args.self.now.tree.levels c.args.page) c.args.self.now c.bring.new.self (g.B.Bus.history c.args.bus.now) (g.B.Bus.history c.bring.new.bus) c.args.tags.now c.bring.new.tags (Some c.in_err-bring.field-0.0)
-    c.in_err-bring.ensures.has c.in_err-bring.ensures.blocks
+    has_pages g.T.Tagger.data_tag_of g.T.Tagger.node_tag_of c.args.page c.args.self.now c.bring.new.self (g.B.Bus.history c.args.bus.now) (g.B.Bus.history c.bring.new.bus) c.args.tags.now c.bring.new.tags (Some c.in_err-bring.field-0.0)
+    c.in_err-bring.ensures.has c.in_err-bring.ensures.copies.blocks
 
 pub returns-in_err-bring-clause-last_blocks : goal.returns-in_err-bring-clause-last_blocks
 returns-in_err-bring-clause-last_blocks g c = λ was memory.
@@ -30,7 +30,7 @@ pub returns-in_err-bring-clause-writes : goal.returns-in_err-bring-clause-writes
 returns-in_err-bring-clause-writes g c = λ more is.
     let stop : stop_of c.from_residual.result ≡ Some c.in_err-bring.field-0.0 = search rules in
     subst (λ (s : Option MemStop). WritesMessages (g.B.Bus.history c.args.bus.now) (g.B.Bus.history c.bring.new.bus) (length more) (unwritten_in s)) (sym stop)
-    (has_writes g.T.Tagger.data_tag_of g.T.Tagger.node_tag_of (IsFetchPlace c.args.self.now.tree.levels c.args.page) c.args.self.now c.bring.new.self (g.B.Bus.history c.args.bus.now) (g.B.Bus.history c.bring.new.bus) c.args.tags.now c.bring.new.tags (Some c.in_err-bring.field-0.0)
+    (has_writes g.T.Tagger.data_tag_of g.T.Tagger.node_tag_of c.args.page c.args.self.now c.bring.new.self (g.B.Bus.history c.args.bus.now) (g.B.Bus.history c.bring.new.bus) c.args.tags.now c.bring.new.tags (Some c.in_err-bring.field-0.0)
     c.in_err-bring.ensures.has more is)
 
 pub returns-clause-accepted : goal.returns-clause-accepted
@@ -55,9 +55,9 @@ returns-clause-cached g c =
 
 pub returns-clause-few_copies : goal.returns-clause-few_copies
 returns-clause-few_copies g c =
-    few_blocks c.bring.new.self.tree.levels c.bring.new.self.blocks c.in_ok-bring.ensures.blocks
+    few_blocks c.bring.new.self.tree.levels c.bring.new.self.blocks c.in_ok-bring.ensures.copies.blocks
 
 pub returns-clause-new_copies : goal.returns-clause-new_copies
 returns-clause-new_copies g c =
-    has_pages g.T.Tagger.data_tag_of g.T.Tagger.node_tag_of (IsFetchPlace c.args.self.now.tree.levels c.args.page) c.args.self.now c.bring.new.self (g.B.Bus.history c.args.bus.now) (g.B.Bus.history c.bring.new.bus) c.args.tags.now c.bring.new.tags None
-    c.in_ok-bring.ensures.has c.in_ok-bring.ensures.blocks
+    has_pages g.T.Tagger.data_tag_of g.T.Tagger.node_tag_of c.args.page c.args.self.now c.bring.new.self (g.B.Bus.history c.args.bus.now) (g.B.Bus.history c.bring.new.bus) c.args.tags.now c.bring.new.tags None
+    c.in_ok-bring.ensures.has c.in_ok-bring.ensures.copies.blocks

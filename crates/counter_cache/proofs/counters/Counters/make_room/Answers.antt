@@ -35,7 +35,7 @@ returns-clause-has g c =
     (has_dropped g.T.Tagger.data_tag_of g.T.Tagger.node_tag_of (IsNodeFrom c.args.self.now.tree.levels 1) c.in-Some.victim.place c.write_back.new.self (record { tree = c.self-2.inside.tree; blocks = c.remove.new.self })
     (g.B.Bus.history c.write_back.new.bus) c.write_back.new.tags (copy_of c.in-Some.victim) (ap (λ (v : CountersView). v.tree) c.self-2.view_is)
     (blocks_left c.write_back.new.self.tree.levels c.write_back.new.self.blocks c.remove.new.self c.in-Some.victim.place
-    (subst (λ (v : CountersView). AreBlocks v.tree.levels v.blocks) c.self-2.view_is c.self-2.invariant) c.remove.ensures.cache c.remove.ensures.removed
+    (subst (λ (v : CountersView). AreBlocks v.tree.levels v.blocks) c.self-2.view_is c.self-2.invariant.blocks) c.remove.ensures.cache c.remove.ensures.removed
     (λ other apart. c.remove.ensures.same other apart ∙ ap (λ (v : CountersView). way_at v.blocks other) c.self-2.view_is))
     (ap (option_map copy_of) here) (ap (option_map copy_of) c.remove.ensures.removed)
     (λ other apart. ap (option_map copy_of) (c.remove.ensures.same other apart ∙ ap (λ (v : CountersView). way_at v.blocks other) c.self-2.view_is))
@@ -52,8 +52,11 @@ returns-in_err-write_back-clause-pages g c =
 
 pub invariant_of-self : goal.invariant_of-self
 invariant_of-self g c =
-    blocks_left c.self-2.inside.tree.levels c.self-2.inside.blocks c.remove.new.self c.in-Some.victim.place c.self-2.invariant c.remove.ensures.cache
-    c.remove.ensures.removed c.remove.ensures.same
+    record {
+      blocks = blocks_left c.self-2.inside.tree.levels c.self-2.inside.blocks c.remove.new.self c.in-Some.victim.place c.self-2.invariant.blocks c.remove.ensures.cache
+    c.remove.ensures.removed c.remove.ensures.same;
+      few_nodes = c.self-2.invariant.few_nodes;
+    }
 
 pub returns-clause-pages : goal.returns-clause-pages
 returns-clause-pages g c =

@@ -28,6 +28,7 @@ returns-clause-has g c =
       lines = c.update.ensures.lines;
       levels = c.update.ensures.levels;
       root = c.update.ensures.root;
+      few_nodes = c.update.ensures.few_copies;
       holds = λ holds going. ok_at c.update.result going (c.update.ensures.holds holds);
       honest = λ holds used was. c.update.ensures.honest used holds was;
       lied = λ holds quiet place is. c.update.ensures.tampered place (stop_is c.update.result (Tampered place) is) holds quiet;
