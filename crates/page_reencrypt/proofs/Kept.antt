@@ -17,7 +17,7 @@ use Rattle.bonsai_tree.specs.Tree.{IsTree}
 use Rattle.counter_cache.specs.Counters.{CountersView, cached_block, counters_in}
 use Rattle.page_reencrypt.specs.Consistency.{IsConsistent}
 use Rattle.page_reencrypt.specs.Contents.{HoldsLast, counter_in, never_written}
-use Rattle.page_reencrypt.specs.Outside.{AreConsistent, CountersFit, CountersSay, HasCounter, HaveLast, HaveLastNodes, HaveRisen, MemoryTerms, OutsideView, outside_of, terms_of}
+use Rattle.page_reencrypt.specs.Outside.{AreConsistent, CountersFit, CountersSay, HaveLast, HaveLastNodes, MemoryTerms, OutsideView, outside_of, terms_of}
 use Rattle.page_reencrypt.specs.SealedLines.{AreProtected, CountersRise, FitsTogether, IsOfPage, IsProtected, SealedLinesView}
 use Rattle.page_reencrypt.specs.Stops.{lasting_stop}
 use Rattle.page_reencrypt.proofs.RisingPairs.{counter_fresh, counter_limited}

@@ -1,4 +1,4 @@
-use Rattle.std.proofs.Common.{◌≡◌, ◌≤◌, ◌+◌, ℕ, inl, inr, Option, Some, None, Ok, Err, ap, sym, ◌∙◌, subst, arith, rules}
+use Rattle.std.proofs.Common.{◌≡◌, ◌≤◌, ℕ, inl, Option, Some, None, Ok, Err, ap, sym, ◌∙◌, subst, arith, rules}
 use Rattle.sec_base.specs.Geometry.{page_of}
 use Rattle.sec_base.specs.declared.counter.Counter.{Counter}
 use Rattle.sec_base.specs.declared.place.Place.{Place}
