@@ -333,27 +333,38 @@ fn a_node_goes_out_for_the_parent_of_one_that_goes_out(rt: HostRuntime) -> Resul
     Ok(())
 }
 
-// Boot makes 1365 messages, the updates make four: that of each page, and that of node (1, 0), which went out.
+// Boot makes 1365 messages, the updates make four: that of each page, and that of node (1, 0), which went out. The message of a
+// write that is refused was made.
 #[test]
 fn a_call_that_writes_other_nodes_is_refused_at_each_access(rt: HostRuntime) -> Result<(), Fail> {
     let rows = [
-        (0, 1370),
-        (1, 1370),
-        (2, 1371),
-        (3, 1371),
-        (4, 1371),
-        (5, 1371),
-        (6, 1371),
+        (0, 1370, 1370),
+        (1, 1370, 1370),
+        (2, 1371, 1371),
+        (3, 1371, 1371),
+        (4, 1371, 1371),
+        (5, 1371, 1371),
+        (6, 1371, 1372),
     ];
-    for (left, messages) in rows {
-        let mut tree = climbing(&rt, rt.alloc())?;
-        tree.bus.left = left;
-        assert_eq!(rt; tree.fetch(&rt, 384), Err(MemStop::NoMemory), "{left}");
-        assert!(rt; left as usize <= CLIMB.len());
-        assert!(rt; tree.asked(&CLIMB[..left as usize]), "{left}");
-        let (made, evidence) = tree.tags.finish();
-        assert_eq!(rt; made.len(), messages, "{left}");
-        assert_eq!(rt; evidence, None, "{left}");
+    for (left, by_fetch, by_update) in rows {
+        for (updates, messages) in [(false, by_fetch), (true, by_update)] {
+            let mut tree = climbing(&rt, rt.alloc())?;
+            tree.bus.left = left;
+            if updates {
+                assert_eq!(rt;
+                    tree.update(&rt, 384, &[4; 64]),
+                    Err(MemStop::NoMemory),
+                    "{left}"
+                );
+            } else {
+                assert_eq!(rt; tree.fetch(&rt, 384), Err(MemStop::NoMemory), "{left}");
+            }
+            assert!(rt; left as usize <= CLIMB.len());
+            assert!(rt; tree.asked(&CLIMB[..left as usize]), "{left}");
+            let (made, evidence) = tree.tags.finish();
+            assert_eq!(rt; made.len(), messages, "{left}");
+            assert_eq!(rt; evidence, None, "{left}");
+        }
     }
     Ok(())
 }
