@@ -24,6 +24,7 @@ fn run_counted(alloc: Global, number: u32) -> Result<(Ending, Made), Fail> {
     let image = make(alloc, number)?;
     let geometry = Geometry::new(4).ok_or("no geometry")?;
     let count = Cell::new(0);
+    let mut out = MemorySink::new(alloc, &[])?;
     let bus = WatchingBus::new(alloc, geometry, &count)?;
     let keys = derive(&[0; 32]);
     let tagger = HmacTagger::new(&keys);
@@ -40,7 +41,6 @@ fn run_counted(alloc: Global, number: u32) -> Result<(Ending, Made), Fail> {
     };
     store_image(&mut counted, &image).ok().ok_or("not stored")?;
     let mut session = Session::new(&image, &[], counted, u64::MAX);
-    let mut out = MemorySink::new(alloc, &[])?;
     let ending = session.finish(&mut out);
     let (counted, _calls) = session.into_parts();
     let most = counted.most;
