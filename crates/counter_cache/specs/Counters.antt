@@ -10,7 +10,7 @@ use Rattle.sec_base.specs.declared.message.Message.{Message}
 use Rattle.sec_base.specs.declared.message.Message.TheVariants.{Node}
 use Rattle.sec_base.specs.declared.place.Place.TheVariants.{Node as node_place}
 use Rattle.cache_set.specs.declared.way.Way.{Way}
-use Rattle.cache_set.specs.Cache.{IsCache, places, way_at}
+use Rattle.cache_set.specs.Cache.{IsCache, place_of, places, victim_for, way_at}
 use Rattle.bus_model.specs.BusHistory.{BusHistory}
 use Rattle.tag_engine.specs.TagEngine.{TagEngineView}
 use Rattle.split_counter.specs.declared.bumped.Bumped.{Bumped}
@@ -46,6 +46,16 @@ current_page counters made page = current_of (cached_block counters page) (last_
 -- the current counters of a page
 abbrev pub counters_in : CountersView → List Message → ℕ → CounterBlockView
 counters_in counters made page = block_of (current_page counters made page)
+
+-- The page whose copy goes out where that of another page comes: the least recently used one of its set, where both ways are in
+-- use. None does where the page has a copy.
+abbrev pub leaving : CountersView → ℕ → Option ℕ
+leaving counters page = option_map place_of (victim_for counters.blocks page)
+
+-- it was not changed, or none goes out
+abbrev pub LeavesClean : CountersView → ℕ → Type 0
+LeavesClean counters page = (other : ℕ) (copy : CachedNode) → leaving counters page ≡ Some other → cached_block counters other ≡ Some copy →
+    copy.changed ≡ false
 
 -- no level has more copies of nodes than its sets have ways
 abbrev pub HasFewNodes : TreeView → Type 0

@@ -1,5 +1,5 @@
 // The counters of all pages, by the tree over their blocks and copies of these.
-ghost use Rattle.std.specs.Prelude.{true, ◌≡◌, ◌≢◌, ◌⊎◌, ◌+◌, ◌^◌, ◌<◌, ◌≤◌, ◌++◌, ℕ, List, [], None, Some, Ok, Err, IfOk, IsOk, OnOk, OnErr, Contains, length};
+ghost use Rattle.std.specs.Prelude.{true, false, ◌≡◌, ◌≢◌, ◌⊎◌, ◌+◌, ◌^◌, ◌<◌, ◌≤◌, ◌++◌, ℕ, List, [], None, Some, Ok, Err, IfOk, IsOk, OnOk, OnErr, Contains, length};
 ghost use Rattle.sec_base.specs.Count.{Rose, more_by};
 ghost use Rattle.sec_base.specs.Geometry.{page_count};
 ghost use Rattle.sec_base.specs.LastMessage.{last_node};
@@ -19,10 +19,10 @@ ghost use Rattle.checked_bus.specs.Steps.{IsAccounted, Moves, SameLines, stop_of
 ghost use Rattle.split_counter.specs.declared.bumped.Bumped.TheVariants.{Line, Page, Spent};
 ghost use Rattle.split_counter.specs.CounterBlock.{IsCounterBlock, after_bump, block_of, bumped, counter_number, counter_of, new_block};
 ghost use Rattle.bonsai_tree.specs.Boot.{boot_messages, node_count};
-ghost use Rattle.bonsai_tree.specs.Node.{page_block};
+ghost use Rattle.bonsai_tree.specs.Node.{CachedNode, page_block};
 ghost use Rattle.bonsai_tree.specs.NodeCache.{most_copies};
 ghost use Rattle.bonsai_tree.specs.Tree.{IsFetchPlace, IsNodeFrom, NodesAreMade, NodesHoldLast, OnlyWroteNodes, PathWasRead, WasReadUp, cached_node, cached_nodes, path_accesses, want_of};
-ghost use Rattle.counter_cache.specs.Counters.{AreCopies, AreHad, CameFrom, HoldsCounters, IsBumped, IsHad, SameCounters, cached_block, cached_pages, counter_accesses, counters_in, most_blocks};
+ghost use Rattle.counter_cache.specs.Counters.{AreCopies, AreHad, CameFrom, HoldsCounters, IsBumped, IsHad, LeavesClean, SameCounters, cached_block, cached_pages, counter_accesses, counters_in, leaving, most_blocks};
 ghost use Rattle.counter_cache.specs.Having.{Has};
 
 use bonsai_tree::Tree;
@@ -157,6 +157,16 @@ impl Counters {
         ensures new_nodes { (level index : ℕ) → cached_node self.new.tree level index ≢ None →
             WasReadUp self.old.tree level index (B.history bus.old) (B.history bus.new) }
 
+        // The least recently used copy of a full set goes out for a block that comes, and is written only if it was changed. All
+        // others stay as they are.
+        ensures goes { (other : ℕ) → leaving self.old page ≡ Some other → OnOk result (cached_block self.new other ≡ None) }
+        ensures stays { (other : ℕ) (copy : CachedNode) → leaving self.old page ≢ Some other →
+            cached_block self.old other ≡ Some copy → cached_block self.new other ≡ Some copy }
+        ensures clean { ¬ Contains (cached_pages self.old) page → (copy : CachedNode) →
+            cached_block self.new page ≡ Some copy → copy.changed ≡ false }
+        ensures once_clean { LeavesClean self.old page →
+            (B.history bus.new).accesses ≤ (B.history bus.old).accesses + path_accesses self.old.tree.levels }
+
         ensures moves { Moves (B.history bus.old) tags.old (B.history bus.new) tags.new }
         ensures lines { SameLines (B.history bus.old) tags.old.made (B.history bus.new) tags.new.made }
         ensures moved { B.moved bus.old bus.new }
@@ -248,6 +258,14 @@ impl Counters {
         ensures new_nodes { (level index : ℕ) → cached_node self.new.tree level index ≢ None →
             WasReadUp self.old.tree level index (B.history bus.old) (B.history bus.new) }
 
+        // Copies go and stay as in `get`, but the page's own has the new counters and is changed, unless the line is spent.
+        ensures goes { (other : ℕ) → leaving self.old page ≡ Some other → OnOk result (cached_block self.new other ≡ None) }
+        ensures stays { (other : ℕ) (copy : CachedNode) → other ≢ page → leaving self.old page ≢ Some other →
+            cached_block self.old other ≡ Some copy → cached_block self.new other ≡ Some copy }
+        ensures marked { (copy : CachedNode) → result ≢ Ok Spent → cached_block self.new page ≡ Some copy → OnOk result (copy.changed ≡ true) }
+        ensures once_clean { LeavesClean self.old page →
+            (B.history bus.new).accesses ≤ (B.history bus.old).accesses + path_accesses self.old.tree.levels }
+
         ensures moves { Moves (B.history bus.old) tags.old (B.history bus.new) tags.new }
         ensures lines { SameLines (B.history bus.old) tags.old.made (B.history bus.new) tags.new.made }
         ensures moved { B.moved bus.old bus.new }
@@ -293,6 +311,13 @@ impl Counters {
             × (B.history bus.new ≡ B.history bus.old) × (tags.new ≡ tags.old) }
         ensures read { ¬ Contains (cached_pages self.old) page →
             OnOk result (PathWasRead self.old.tree tags.old.made 0 page (B.history bus.old) (B.history bus.new)) }
+        ensures goes { (other : ℕ) → leaving self.old page ≡ Some other → OnOk result (cached_block self.new other ≡ None) }
+        ensures stays { (other : ℕ) → other ≢ page → leaving self.old page ≢ Some other →
+            cached_block self.new other ≡ cached_block self.old other }
+        ensures clean { ¬ Contains (cached_pages self.old) page → (copy : CachedNode) →
+            cached_block self.new page ≡ Some copy → copy.changed ≡ false }
+        ensures once_clean { LeavesClean self.old page →
+            (B.history bus.new).accesses ≤ (B.history bus.old).accesses + path_accesses self.old.tree.levels }
         ensures moved { B.moved bus.old bus.new }
     {
         if self.blocks.touch(page) {
@@ -321,9 +346,13 @@ impl Counters {
         ensures once { (B.history bus.new).accesses ≤ (B.history bus.old).accesses + path_accesses self.old.tree.levels }
         ensures few { length tags.new.made ≤ length tags.old.made + path_accesses self.old.tree.levels }
         ensures room { tags.old.room ≤ tags.new.room + path_accesses self.old.tree.levels }
-        ensures absent { OnOk result (way_at self.new.blocks page ≡ None) }
+        ensures absent { way_at self.new.blocks page ≡ None }
         ensures room_for { OnOk result (HasRoom (set_at self.new.blocks page)) }
         ensures pages { last_node 0 page tags.new.made ≡ last_node 0 page tags.old.made }
+        ensures apart { leaving self.old page ≢ Some page }
+        ensures goes { (other : ℕ) → leaving self.old page ≡ Some other → OnOk result (cached_block self.new other ≡ None) }
+        ensures stays { (other : ℕ) → leaving self.old page ≢ Some other → cached_block self.new other ≡ cached_block self.old other }
+        ensures idle { LeavesClean self.old page → (B.history bus.new).accesses ≡ (B.history bus.old).accesses }
         ensures moved { B.moved bus.old bus.new }
     {
         let Some(victim) = self.blocks.victim(page) else {
@@ -355,6 +384,7 @@ impl Counters {
         ensures last { OnOk result (HoldsCounters (tags_of T.data_tag_of T.node_tag_of) self.new (B.history bus.new) tags.new →
             tags.new.evidence ≡ None → victim.now.copy ≡ page_block victim.now.place tags.new.made) }
         ensures others { (other : ℕ) → other ≢ victim.now.place → last_node 0 other tags.new.made ≡ last_node 0 other tags.old.made }
+        ensures idle { victim.now.changed ≡ false → (B.history bus.new).accesses ≡ (B.history bus.old).accesses }
         ensures moved { B.moved bus.old bus.new }
     {
         if !victim.changed {

@@ -344,13 +344,12 @@ fn a_changed_block_is_written_when_it_goes_out(rt: HostRuntime) -> Result<(), Fa
     Ok(())
 }
 
-// Some gets and bumps of some pages, as the digits of a number say, are those of a list of counts.
+// Five gets and bumps of some pages, as the digits of a number say, are those of a list of counts.
 fn follow(
     rt: &impl Abort,
     alloc: Global,
     levels: u8,
     pages: &[u32],
-    count: u32,
     calls: u32,
 ) -> Result<(), Fail>
     requires some { 0 < length pages.now }
@@ -359,7 +358,7 @@ fn follow(
     let mut memory = honest(alloc, levels)?;
     let mut writes = [0u8; 6];
     let mut left = calls;
-    for call in 0..count {
+    for call in 0..5 {
         let at = left as usize % pages.len();
         let bumps = left / pages.len() as u32 % 2 == 1;
         left = left / pages.len() as u32 / 2;
@@ -385,21 +384,21 @@ fn follow(
 }
 
 #[test]
-fn calls_in_each_order_are_those_of_a_list_of_counts(rt: HostRuntime) -> Result<(), Fail> {
+fn five_calls_in_each_order_are_those_of_a_list_of_counts(rt: HostRuntime) -> Result<(), Fail> {
     for calls in 0..8u32.pow(5) {
-        follow(&rt, rt.alloc(), 1, &[0, 1, 2, 3], 5, calls)?;
+        follow(&rt, rt.alloc(), 1, &[0, 1, 2, 3], calls)?;
     }
-    for calls in 0..12u32.pow(4) {
-        follow(&rt, rt.alloc(), 2, &[0, 1, 4, 5, 8, 15], 4, calls)?;
+    for calls in 0..12u32.pow(5) {
+        follow(&rt, rt.alloc(), 2, &[0, 1, 4, 5, 8, 15], calls)?;
     }
     Ok(())
 }
 
-// The pages are in one set of two ways.
+// Three of the pages are in one set of two ways.
 #[test]
-fn calls_that_evict_are_those_of_a_list_of_counts(rt: HostRuntime) -> Result<(), Fail> {
-    for calls in 0..6u32.pow(5) {
-        follow(&rt, rt.alloc(), 3, &[0, 16, 32], 5, calls)?;
+fn five_calls_that_evict_are_those_of_a_list_of_counts(rt: HostRuntime) -> Result<(), Fail> {
+    for calls in 0..8u32.pow(5) {
+        follow(&rt, rt.alloc(), 3, &[0, 16, 32, 5], calls)?;
     }
     Ok(())
 }

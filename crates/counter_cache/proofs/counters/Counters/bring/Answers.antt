@@ -16,11 +16,11 @@ use Rattle.cache_set.proofs.Listed.{listed_at}
 use Rattle.tag_engine.specs.TagEngine.{tags_of}
 use Rattle.checked_bus.specs.Steps.{stop_of}
 use Rattle.bonsai_tree.specs.NodeCache.{copy_of}
-use Rattle.bonsai_tree.specs.Tree.{IsFetchPlace, IsNodeFrom, PathWasRead, TreeView}
+use Rattle.bonsai_tree.specs.Tree.{IsFetchPlace, IsNodeFrom, PathWasRead, TreeView, path_accesses}
 use Rattle.bonsai_tree.proofs.Climbs.{above_none}
 use Rattle.bonsai_tree.proofs.Nodes.{same_tags, stop_is}
 use Rattle.bonsai_tree.proofs.PathCalls.{not_from_one}
-use Rattle.counter_cache.specs.Counters.{AreBlocks, CameFrom, CountersView, IsHad, cached_block, cached_pages}
+use Rattle.counter_cache.specs.Counters.{AreBlocks, CameFrom, CountersView, IsHad, LeavesClean, cached_block, cached_pages, leaving}
 use Rattle.counter_cache.specs.Having.{Has}
 use Rattle.counter_cache.proofs.BlockCopies.{blocks_put, blocks_same, cached_held}
 use Rattle.counter_cache.proofs.Hads.{had_tagged, quiet_before}
@@ -39,6 +39,11 @@ returns-then-touch-clause-has g c =
 
 pub returns-then-touch-clause-read : goal.returns-then-touch-clause-read
 returns-then-touch-clause-read g c = λ uncached.
+    absurd (uncached (subst (λ (v : CountersView). Contains (cached_pages v) c.args.page) c.self.view_is
+    (listed_at c.self.inside.blocks c.args.page (c.if-touch.ensures.held.0 refl))))
+
+pub returns-then-touch-clause-clean : goal.returns-then-touch-clause-clean
+returns-then-touch-clause-clean g c = λ uncached.
     absurd (uncached (subst (λ (v : CountersView). Contains (cached_pages v) c.args.page) c.self.view_is
     (listed_at c.self.inside.blocks c.args.page (c.if-touch.ensures.held.0 refl))))
 
@@ -126,6 +131,18 @@ returns-in_err-block-clause-hit g c = λ cached.
     ap (λ (v : CountersView). cached_block v c.args.page) (sym same) ∙ ap (option_map copy_of) (c.if-touch.ensures.absent refl) in
     let are : AreBlocks c.args.self.now.tree.levels c.args.self.now.blocks = subst (λ (v : CountersView). AreBlocks v.tree.levels v.blocks) c.self.view_is c.self.invariant.blocks in
     absurd (cached_held c.args.self.now c.args.page are.cache cached absent)
+
+pub returns-in_err-block-clause-once_clean : goal.returns-in_err-block-clause-once_clean
+returns-in_err-block-clause-once_clean g c = λ clean.
+    let same : (record { tree = c.self.inside.tree; blocks = c.touch.new.self }) ≡ c.args.self.now =
+    ap (λ (b : List (List Way)). record { tree = c.self.inside.tree; blocks = b }) (c.if-touch.ensures.unchanged refl) ∙ c.self.view_is in
+    let idle : (g.B.Bus.history c.make_room.new.bus).accesses ≡ (g.B.Bus.history c.args.bus.now).accesses =
+    subst (λ (v : CountersView). LeavesClean v c.args.page → (g.B.Bus.history c.make_room.new.bus).accesses ≡ (g.B.Bus.history c.args.bus.now).accesses) same
+    c.make_room.ensures.idle clean in
+    let levels : c.self-2.inside.tree.levels ≡ c.args.self.now.tree.levels =
+    ap (λ (v : CountersView). v.tree.levels) c.self-2.view_is ∙ c.in_ok-make_room.ensures.has.levels ∙ ap (λ (v : CountersView). v.tree.levels) c.self.view_is in
+    subst (λ (k : ℕ). (g.B.Bus.history c.fetch.new.bus).accesses ≤ (g.B.Bus.history c.args.bus.now).accesses + path_accesses k) levels
+    (subst (λ (n : ℕ). (g.B.Bus.history c.fetch.new.bus).accesses ≤ n + path_accesses c.self-2.inside.tree.levels) idle c.fetch.ensures.once)
 
 -- where its block is fetched
 pub invariant_of-self-3 : goal.invariant_of-self-3
@@ -239,3 +256,32 @@ returns-clause-read g c = λ uncached.
 pub returns-clause-moved : goal.returns-clause-moved
 returns-clause-moved g c =
     g.met.B.Bus.moved_on c.args.bus.now c.make_room.new.bus c.fetch.new.bus c.make_room.ensures.moved c.fetch.ensures.moved
+
+pub returns-clause-goes : goal.returns-clause-goes
+returns-clause-goes g c = λ other goes.
+    let same : (record { tree = c.self.inside.tree; blocks = c.touch.new.self }) ≡ c.args.self.now =
+    ap (λ (b : List (List Way)). record { tree = c.self.inside.tree; blocks = b }) (c.if-touch.ensures.unchanged refl) ∙ c.self.view_is in
+    let apart : other ≢ c.args.page = λ here.
+        subst (λ (v : CountersView). leaving v c.args.page ≢ Some c.args.page) same c.make_room.ensures.apart (goes ∙ ap Some here) in
+    ap (option_map copy_of) (c.put.ensures.same other apart) ∙ ap (λ (v : CountersView). cached_block v other) c.self-2.view_is
+    ∙ subst (λ (v : CountersView). leaving v c.args.page ≡ Some other → cached_block c.make_room.new.self other ≡ None) same (c.in_ok-make_room.ensures.goes other) goes
+
+pub returns-clause-stays : goal.returns-clause-stays
+returns-clause-stays g c = λ other apart stays.
+    let same : (record { tree = c.self.inside.tree; blocks = c.touch.new.self }) ≡ c.args.self.now =
+    ap (λ (b : List (List Way)). record { tree = c.self.inside.tree; blocks = b }) (c.if-touch.ensures.unchanged refl) ∙ c.self.view_is in
+    ap (option_map copy_of) (c.put.ensures.same other apart) ∙ ap (λ (v : CountersView). cached_block v other) c.self-2.view_is
+    ∙ subst (λ (v : CountersView). leaving v c.args.page ≢ Some other → cached_block c.make_room.new.self other ≡ cached_block v other) same
+    (c.make_room.ensures.stays other) stays
+
+pub returns-clause-once_clean : goal.returns-clause-once_clean
+returns-clause-once_clean g c = λ clean.
+    let same : (record { tree = c.self.inside.tree; blocks = c.touch.new.self }) ≡ c.args.self.now =
+    ap (λ (b : List (List Way)). record { tree = c.self.inside.tree; blocks = b }) (c.if-touch.ensures.unchanged refl) ∙ c.self.view_is in
+    let idle : (g.B.Bus.history c.make_room.new.bus).accesses ≡ (g.B.Bus.history c.args.bus.now).accesses =
+    subst (λ (v : CountersView). LeavesClean v c.args.page → (g.B.Bus.history c.make_room.new.bus).accesses ≡ (g.B.Bus.history c.args.bus.now).accesses) same
+    c.make_room.ensures.idle clean in
+    let levels : c.self-2.inside.tree.levels ≡ c.args.self.now.tree.levels =
+    ap (λ (v : CountersView). v.tree.levels) c.self-2.view_is ∙ c.in_ok-make_room.ensures.has.levels ∙ ap (λ (v : CountersView). v.tree.levels) c.self.view_is in
+    subst (λ (k : ℕ). (g.B.Bus.history c.fetch.new.bus).accesses ≤ (g.B.Bus.history c.args.bus.now).accesses + path_accesses k) levels
+    (subst (λ (n : ℕ). (g.B.Bus.history c.fetch.new.bus).accesses ≤ n + path_accesses c.self-2.inside.tree.levels) idle c.fetch.ensures.once)

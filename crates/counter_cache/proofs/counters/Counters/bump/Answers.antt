@@ -14,7 +14,7 @@ use Rattle.split_counter.specs.CounterBlock.{CounterBlockView, IsCounterBlock, a
 use Rattle.bonsai_tree.specs.Node.{current_of}
 use Rattle.bonsai_tree.specs.NodeCache.{copy_of}
 use Rattle.bonsai_tree.proofs.Nodes.{stop_is}
-use Rattle.counter_cache.specs.Counters.{CountersView, cached_pages, counters_in}
+use Rattle.counter_cache.specs.Counters.{CountersView, cached_block, cached_pages, counters_in}
 use Rattle.counter_cache.proofs.BlockCopies.{blocks_put, few_blocks, same_pages}
 use Rattle.counter_cache.proofs.Blocks.{counters_of_copy}
 use Rattle.counter_cache.proofs.Hads.{had_over}
@@ -89,3 +89,8 @@ returns-clause-checked g c =
           counters_of_copy (record { tree = c.self.inside.tree; blocks = c.change.new.self }) c.get.new.tags.made c.args.page c.to_bytes.result (ap (option_map (λ (way : Way). way.copy)) c.change.ensures.changed)
           ∙ c.to_bytes.ensures.read_back ∙ c.bump-outcome.ensures.counters ∙ ap (λ (b : CounterBlockView). (after_bump c.args.place c.args.limit b).1) was.spelled;
     }
+
+pub returns-clause-stays : goal.returns-clause-stays
+returns-clause-stays g c = λ other copy apart stays found.
+    ap (option_map copy_of) (c.change.ensures.same other apart) ∙ ap (λ (v : CountersView). cached_block v other) c.self.view_is
+    ∙ c.get.ensures.stays other copy stays found

@@ -8,7 +8,7 @@ use Rattle.split_counter.specs.CounterBlock.{block_of}
 use Rattle.bonsai_tree.specs.Tree.{IsFetchPlace}
 use Rattle.bonsai_tree.proofs.Nodes.{stop_is}
 use Rattle.counter_cache.specs.Counters.{CountersView}
-use Rattle.counter_cache.proofs.BlockCopies.{few_blocks, latest_cached}
+use Rattle.counter_cache.proofs.BlockCopies.{few_blocks, latest_cached, stays_all}
 use Rattle.counter_cache.proofs.Havings.{has_pages, has_writes}
 use Rattle.counter_cache.proofs.counters.Counters.get.Goals as goal
 
@@ -61,3 +61,11 @@ pub returns-clause-new_copies : goal.returns-clause-new_copies
 returns-clause-new_copies g c =
     has_pages g.T.Tagger.data_tag_of g.T.Tagger.node_tag_of c.args.page c.args.self.now c.bring.new.self (g.B.Bus.history c.args.bus.now) (g.B.Bus.history c.bring.new.bus) c.args.tags.now c.bring.new.tags None
     c.in_ok-bring.ensures.has c.in_ok-bring.ensures.copies.blocks
+
+pub returns-in_err-bring-clause-stays : goal.returns-in_err-bring-clause-stays
+returns-in_err-bring-clause-stays g c =
+    stays_all c.args.self.now c.bring.new.self c.args.page (λ cached. (c.bring.ensures.hit cached).1) c.bring.ensures.stays
+
+pub returns-clause-stays : goal.returns-clause-stays
+returns-clause-stays g c =
+    stays_all c.args.self.now c.bring.new.self c.args.page (λ cached. (c.bring.ensures.hit cached).1) c.bring.ensures.stays

@@ -2,12 +2,12 @@ use Rattle.std.proofs.Common.{◌≡◌, ◌≢◌, ◌<◌, ℕ, List, Option, 
 use Rattle.std.specs.Option.{option_map}
 use Rattle.sec_base.specs.declared.stop.MemStop.{MemStop}
 use Rattle.cache_set.specs.declared.way.Way.{Way}
-use Rattle.cache_set.specs.Cache.{way_at}
+use Rattle.cache_set.specs.Cache.{place_of, way_at}
 use Rattle.tag_engine.specs.TagEngine.{tags_of}
 use Rattle.checked_bus.specs.Steps.{stop_of}
 use Rattle.bonsai_tree.specs.NodeCache.{copy_of}
 use Rattle.bonsai_tree.specs.Tree.{IsNodeFrom, TreeView}
-use Rattle.counter_cache.specs.Counters.{AreBlocks, CountersView, cached_block}
+use Rattle.counter_cache.specs.Counters.{AreBlocks, CountersView, cached_block, leaving}
 use Rattle.counter_cache.specs.Having.{Has}
 use Rattle.counter_cache.proofs.BlockCopies.{apart_from, blocks_left}
 use Rattle.counter_cache.proofs.Havings.{has_dropped, has_not, has_on}
@@ -63,3 +63,19 @@ returns-clause-pages g c =
     c.write_back.ensures.others c.args.page
     (apart_from c.self.inside.blocks c.args.page c.in-Some.victim.place c.in-Some.victim
     (ap (λ (v : CountersView). way_at v.blocks c.args.page) c.self.view_is ∙ c.requires.absent) c.in-Some.ensures.way)
+
+pub returns-in_err-write_back-clause-idle : goal.returns-in_err-write_back-clause-idle
+returns-in_err-write_back-clause-idle g c = λ clean.
+    let goes : leaving c.args.self.now c.args.page ≡ Some c.in-Some.victim.place =
+    ap (λ (v : CountersView). leaving v c.args.page) (sym c.self.view_is) ∙ ap (option_map place_of) (sym c.in-Some.ensures.victim) in
+    let way : way_at c.args.self.now.blocks c.in-Some.victim.place ≡ Some c.in-Some.victim =
+    sym (ap (λ (v : CountersView). way_at v.blocks c.in-Some.victim.place) c.self.view_is) ∙ c.in-Some.ensures.way in
+    c.write_back.ensures.idle (clean c.in-Some.victim.place (copy_of c.in-Some.victim) goes (ap (option_map copy_of) way))
+
+pub returns-clause-idle : goal.returns-clause-idle
+returns-clause-idle g c = λ clean.
+    let goes : leaving c.args.self.now c.args.page ≡ Some c.in-Some.victim.place =
+    ap (λ (v : CountersView). leaving v c.args.page) (sym c.self.view_is) ∙ ap (option_map place_of) (sym c.in-Some.ensures.victim) in
+    let way : way_at c.args.self.now.blocks c.in-Some.victim.place ≡ Some c.in-Some.victim =
+    sym (ap (λ (v : CountersView). way_at v.blocks c.in-Some.victim.place) c.self.view_is) ∙ c.in-Some.ensures.way in
+    c.write_back.ensures.idle (clean c.in-Some.victim.place (copy_of c.in-Some.victim) goes (ap (option_map copy_of) way))
