@@ -1,5 +1,5 @@
 // The memory over a bus that tells the truth and over one that does not.
-ghost use Rattle.std.specs.Prelude.{◌≡◌, ◌+◌, ◌*◌, ◌^◌, ◌<◌, ◌≤◌, IfOk};
+ghost use Rattle.std.specs.Prelude.{◌≡◌, ◌+◌, ◌*◌, ◌%◌, ◌^◌, ◌<◌, ◌≤◌, IfOk};
 ghost use Rattle.sec_base.specs.Place.{place_size};
 ghost use Rattle.bus_model.specs.BusHistory.{new_history};
 ghost use Rattle.secure_memory.specs.SecureRam.{lines_of};
@@ -283,7 +283,7 @@ impl Counted {
 
     // The address of the line at place 5 of a page.
     fn line_at(&self, rt: &impl Abort, page: u32) -> u32
-        ensures inside { result + 4 ≤ 64 * lines_of self.now }
+        ensures inside { result + 4 ≤ 64 * lines_of self.now.memory }
         ensures aligned { result % 4 ≡ 0 }
     {
         assert!(rt; page < 4096);
