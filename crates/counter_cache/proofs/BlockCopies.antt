@@ -5,7 +5,7 @@ use Rattle.std.specs.Option.{option_map}
 use Rattle.std.proofs.lemmas.Bool.{cases_eq}
 use Rattle.sec_base.specs.Geometry.{page_count}
 use Rattle.cache_set.specs.declared.way.Way.{Way}
-use Rattle.cache_set.specs.Cache.{IsCache, IsLatest, place_of, places, set_at, victim_if, way_at}
+use Rattle.cache_set.specs.Cache.{IsCache, IsLatest, places, set_at, way_at}
 use Rattle.cache_set.proofs.Listed.{found_at, listed_at}
 use Rattle.cache_set.proofs.Ways.{latest_found}
 use Rattle.bonsai_tree.specs.Node.{CachedNode}
@@ -88,16 +88,6 @@ same_pages blocks blocks' page cache there same other listed = elim (cases_eq ot
 
 pub few_blocks : (levels : ℕ) (blocks : List (List Way)) → AreBlocks levels blocks → length (places blocks) ≤ most_blocks
 few_blocks levels blocks are = omega (arith, few_in block_sets 0 blocks are.cache.sets_are, are.cache.counted)
-
--- The copies that go and stay
-
-leaving_if : (found : Option Way) (ways : List Way) → IsSome found → option_map place_of (victim_if found ways) ≡ None
-leaving_if None ways some = absurd (cc)
-leaving_if (Some way) ways some = refl
-
--- none goes out where a page has a copy
-pub leaving_none : (counters : CountersView) (page : ℕ) → IsSome (way_at counters.blocks page) → leaving counters page ≡ None
-leaving_none counters page held = leaving_if (way_at counters.blocks page) (set_at counters.blocks page) held
 
 -- where a page's own copy stays, and those of all others
 pub stays_all : (counters counters' : CountersView) (page : ℕ) →

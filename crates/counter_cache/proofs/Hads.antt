@@ -1,33 +1,16 @@
--- A block that was had: the copy of its page, or one that was fetched.
+-- A block that was had.
 use Rattle.std.proofs.Common.{◌≡◌, inl, inr, ℕ, List, Option, Some, None, refl, sym, subst}
-use Rattle.std.specs.Option.{option_map}
 use Rattle.sec_base.specs.Evidence.{evidence_place}
 use Rattle.sec_base.specs.declared.evidence.Evidence.{Evidence}
 use Rattle.sec_base.specs.declared.evidence.Evidence.TheVariants.{Collision}
 use Rattle.sec_base.specs.declared.message.Message.{Message}
 use Rattle.sec_base.specs.declared.message.Message.TheVariants.{Node}
 use Rattle.sec_base.specs.declared.place.Place.TheVariants.{Node as node_place}
-use Rattle.cache_set.specs.declared.way.Way.{Way}
-use Rattle.cache_set.specs.Cache.{copy_at, way_at}
 use Rattle.bonsai_tree.specs.Node.{CachedNode}
-use Rattle.bonsai_tree.specs.NodeCache.{copy_of}
 use Rattle.bonsai_tree.specs.Tree.{TreeView, IsNodeFrom, kept_tag}
 use Rattle.bonsai_tree.proofs.Nodes.{some_or_none}
 use Rattle.bonsai_tree.proofs.PathCalls.{not_from_one}
 use Rattle.counter_cache.specs.Counters.{CountersView, IsCopyOrTagged, IsHad, cached_block}
-
-copied_or : (found : Option Way) (tag_of : Message → List ℕ) (tree : TreeView) (made : List Message) (page : ℕ) (bytes : List ℕ) →
-    option_map (λ way. way.copy) found ≡ Some bytes → IsCopyOrTagged (option_map copy_of found) tag_of tree made page bytes
-copied_or None tag_of tree made page bytes is = absurd (cc)
-copied_or (Some way) tag_of tree made page bytes is = let same : way.copy ≡ bytes = cc in sym same
-
--- the copy that a page had
-pub had_copied : (tag_of : Message → List ℕ) (counters counters' : CountersView) (made' : List Message) (page : ℕ) (evidence : Option Evidence) (bytes : List ℕ) →
-    copy_at counters.blocks page ≡ Some bytes → IsHad tag_of counters counters' made' page evidence evidence bytes
-had_copied tag_of counters counters' made' page evidence bytes is = record {
-  copy_or_tagged = copied_or (way_at counters.blocks page) tag_of counters'.tree made' page bytes is;
-  accepted = λ quiet made_at shown tag some. absurd (cc);
-}
 
 -- a block that was fetched
 pub had_tagged : (tag_of : Message → List ℕ) (counters counters' : CountersView) (made' : List Message) (page : ℕ) (before after : Option Evidence) (bytes : List ℕ) →

@@ -1,5 +1,5 @@
 -- Calls that have a block on the chip, one after another, and how they are made of calls of the tree and of changes of copies.
-use Rattle.std.proofs.Common.{◌≡◌, ◌≢◌, ◌⊎◌, inl, inr, ℕ, ◌+◌, ◌-◌, ◌/◌, ◌^◌, ◌<◌, ◌≤◌, true, false, List, [], ◌++◌, length, Option, Some, None, Result, Ok, Err, OnOk, refl, ap, sym, ◌∙◌, subst, arith, length-append}
+use Rattle.std.proofs.Common.{◌≡◌, ◌≢◌, ◌⊎◌, inl, inr, ℕ, ◌+◌, ◌-◌, ◌/◌, ◌^◌, ◌≤◌, false, List, ◌++◌, length, Option, Some, None, Result, Ok, Err, OnOk, refl, ap, sym, ◌∙◌, subst, arith, length-append}
 use Rattle.std.specs.List.{Contains}
 use Rattle.std.proofs.lemmas.Bool.{cases_eq}
 use Rattle.sec_base.specs.Count.{Rose, RoseBy}
@@ -189,8 +189,11 @@ module _ {T : Type 0} (d n : T → List ℕ → List ℕ) (Where : Place → Typ
                 | inl before ↦ inl before
                 | inr came ↦ inr (came.0, came_before engine.made first second third page more.moves.reads came.1)
               ]
-              | inr came ↦ inr (came.0, came_after engine.made engine'.made first second third page has.moves.reads
-                  (unmade_before engine.made engine'.made has.moves.more has.moves.made 0 page) came.1)
+              | inr came ↦ inr (
+                came.0,
+                came_after engine.made engine'.made first second third page has.moves.reads
+                    (unmade_before engine.made engine'.made has.moves.more has.moves.made 0 page) came.1,
+              )
             ];
       }
 
@@ -432,9 +435,9 @@ path_on tree mid page made made' first second third levels before after read unm
       elim (find_copy mid 0 page level) [
         | inl none_mid ↦ elim (path.rose level (omega arith) (omega (arith, levels, high))
             (λ lower from_zero few. ap (λ (k : ℕ). cached_node mid k (above mid.levels page lower)) (zero_more lower) ∙ none_mid lower few)) [
-          | inl none_made ↦ inl (unmade level (page / 4 ^ level) none_made)
-          | inr rose ↦ inr (omega (arith, rose, before (node_place level (page / 4 ^ level))))
-        ]
+              | inl none_made ↦ inl (unmade level (page / 4 ^ level) none_made)
+              | inr rose ↦ inr (omega (arith, rose, before (node_place level (page / 4 ^ level))))
+            ]
         | inr found ↦
             let up : WasReadUp tree (0 + found.lower) (page / 4 ^ found.lower) first second = read (0 + found.lower) (page / 4 ^ found.lower) found.copied in
             let back : found.lower + (level - found.lower) ≡ level = omega (arith, found.within) in
@@ -443,12 +446,12 @@ path_on tree mid page made made' first second third levels before after read unm
             above_on tree.levels page found.lower (level - found.lower) ∙ ap (λ (k : ℕ). page / 4 ^ k) back in
             let none_up : (lower : ℕ) → lower ≤ level - found.lower → cached_node tree (0 + found.lower + lower) (page / 4 ^ found.lower / 4 ^ lower) ≡ None =
             λ lower few.
-                let sum : 0 + found.lower + lower ≡ found.lower + lower = omega arith in
-                ap (λ (k : ℕ). cached_node tree k (page / 4 ^ found.lower / 4 ^ lower)) sum
-                ∙ ap (λ (i : ℕ). cached_node tree (found.lower + lower) i) (above_on tree.levels page found.lower lower)
-                ∙ none (found.lower + lower) (omega arith) (omega (arith, few, found.within)) in
+            let sum : 0 + found.lower + lower ≡ found.lower + lower = omega arith in
+            ap (λ (k : ℕ). cached_node tree k (page / 4 ^ found.lower / 4 ^ lower)) sum
+            ∙ ap (λ (i : ℕ). cached_node tree (found.lower + lower) i) (above_on tree.levels page found.lower lower)
+            ∙ none (found.lower + lower) (omega arith) (omega (arith, few, found.within)) in
             let rose : Rose (first.reads (node_place (0 + found.lower + (level - found.lower)) (page / 4 ^ found.lower / 4 ^ (level - found.lower))))
-                (second.reads (node_place (0 + found.lower + (level - found.lower)) (page / 4 ^ found.lower / 4 ^ (level - found.lower)))) =
+            (second.reads (node_place (0 + found.lower + (level - found.lower)) (page / 4 ^ found.lower / 4 ^ (level - found.lower)))) =
             up.rose (level - found.lower) (omega (arith, here, high)) none_up in
             let there : Rose (first.reads (node_place level (page / 4 ^ level))) (second.reads (node_place level (page / 4 ^ level))) =
             subst (λ (k : ℕ). Rose (first.reads (node_place k (page / 4 ^ level))) (second.reads (node_place k (page / 4 ^ level)))) here

@@ -1,5 +1,5 @@
 -- A bump lets no counter go down.
-use Rattle.std.proofs.Common.{◌≡◌, ◌==◌, ℕ, ◌+◌, ◌*◌, ◌^◌, ◌<◌, ◌≤◌, inl, inr, Bool, true, false, cond, nat_lt, replicate, slice_index, slice_set, refl, ap, sym, ◌∙◌, subst, arith}
+use Rattle.std.proofs.Common.{◌≡◌, ◌==◌, ℕ, ◌+◌, ◌^◌, ◌<◌, ◌≤◌, inl, inr, Bool, true, false, cond, nat_lt, replicate, slice_index, slice_set, refl, ap, sym, ◌∙◌, subst, arith}
 use Rattle.std.proofs.lemmas.Bool.{cases_eq}
 use Rattle.std.proofs.lemmas.Bool.Decides.{Decides-ltb}
 use Rattle.std.proofs.lemmas.List.{get_or-set_same, get_or-set_other}
@@ -65,8 +65,7 @@ pub line_within : (place : ℕ) (block after : CounterBlockView) (counter : Coun
     (0 < counter.line) × (counter.line < 128) × (counter.page < 2 ^ 64)
 line_within place block after counter is inside here stays next =
     let page : counter.page ≡ after.page = ap (λ (k : Counter). k.page) here in
-    let line : counter.line ≡ slice_index after.lines place = ap (λ (k : Counter). k.line) here in
-    (
+    let line : counter.line ≡ slice_index after.lines place = ap (λ (k : Counter). k.line) here in (
       omega (arith, line, stays, next),
       omega (arith, line, line_fits after place is inside),
       subst (λ (n : ℕ). n < 2 ^ 64) (sym page) is.page_fits,

@@ -1,5 +1,5 @@
 -- What contracts see of the counters of all pages: the tree over their counter blocks, and the copies of counter blocks.
-use Rattle.std.specs.Prelude.{◌≡◌, ◌⊎◌, ℕ, ◌*◌, ◌<◌, ◌≤◌, List, length, false, Option, Some, None, Contains}
+use Rattle.std.specs.Prelude.{◌≡◌, ◌⊎◌, ℕ, ◌*◌, ◌<◌, ◌≤◌, List, length, false, Option, Some, None}
 use Rattle.std.specs.Option.{option_map}
 use Rattle.sec_base.specs.Count.{Rose}
 use Rattle.sec_base.specs.Geometry.{page_count}

@@ -144,7 +144,11 @@ impl<T: Tagger> Memory<T> {
     // Counts one write of the line at place 0 of a page, which was written so often by then.
     fn write(&mut self, rt: &impl Abort, page: u32, line: u8) {
         let counter = Counter { page: 0, line };
-        assert_eq!(rt; self.bump(rt, page, 0, 0), Ok(Bumped::Line(counter)), "page {page}");
+        assert_eq!(rt;
+            self.bump(rt, page, 0, 0),
+            Ok(Bumped::Line(counter)),
+            "page {page}"
+        );
     }
 
     // All 127 writes of a line up to the end of its counter.
@@ -345,13 +349,7 @@ fn a_changed_block_is_written_when_it_goes_out(rt: HostRuntime) -> Result<(), Fa
 }
 
 // Five gets and bumps of some pages, as the digits of a number say, are those of a list of counts.
-fn follow(
-    rt: &impl Abort,
-    alloc: Global,
-    levels: u8,
-    pages: &[u32],
-    calls: u32,
-) -> Result<(), Fail>
+fn follow(rt: &impl Abort, alloc: Global, levels: u8, pages: &[u32], calls: u32) -> Result<(), Fail>
     requires some { 0 < length pages.now }
     requires few { length pages.now ≤ 6 }
 {
@@ -424,7 +422,11 @@ fn calls_in_no_order_are_those_of_a_list_of_counts(rt: HostRuntime) -> Result<()
             assert!(rt; (page as usize) < writes.len());
             let _ = memory.accesses();
             if number % 3 == 0 {
-                assert_eq!(rt; memory.get(&rt, page), Ok(written(writes[page as usize])), "{levels}, {call}");
+                assert_eq!(rt;
+                    memory.get(&rt, page),
+                    Ok(written(writes[page as usize])),
+                    "{levels}, {call}"
+                );
             } else {
                 writes[page as usize] = writes[page as usize].saturating_add(1);
                 memory.write(&rt, page, writes[page as usize]);

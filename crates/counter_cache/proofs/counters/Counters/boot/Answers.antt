@@ -1,4 +1,4 @@
-use Rattle.std.proofs.Common.{◌≡◌, ℕ, List, Option, None, ap, ◌∙◌}
+use Rattle.std.proofs.Common.{Option, ap, ◌∙◌}
 use Rattle.std.specs.Option.{option_map}
 use Rattle.sec_base.specs.LastMessage.{last_node}
 use Rattle.cache_set.specs.declared.way.Way.{Way}

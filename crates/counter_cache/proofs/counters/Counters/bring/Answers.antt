@@ -1,4 +1,4 @@
-use Rattle.std.proofs.Common.{◌≡◌, ◌≢◌, ◌⊎◌, inl, inr, ◌+◌, ◌<◌, ◌≤◌, ℕ, List, length, Option, Some, None, IsSome, Result, Ok, Err, Bool, true, false, refl, ap, sym, ◌∙◌, subst, arith, rules}
+use Rattle.std.proofs.Common.{◌≡◌, ◌≢◌, inl, inr, ◌+◌, ◌<◌, ◌≤◌, ℕ, List, Option, Some, None, Ok, Err, false, refl, ap, sym, ◌∙◌, subst, arith, rules}
 use Rattle.std.specs.List.{Contains}
 use Rattle.std.specs.Option.{option_map}
 use Rattle.sec_base.specs.Evidence.{evidence_place}
@@ -159,8 +159,8 @@ invariant_of-self-3 g c =
     λ place is. subst (λ (k : ℕ). IsFetchPlace k c.args.page place) levels is in
     record {
       blocks = blocks_put c.fetch.new.self.levels c.self-2.inside.blocks c.put.new.self
-    (subst (λ (k : ℕ). AreBlocks k c.self-2.inside.blocks) (sym c.fetch.ensures.levels) c.self-2.invariant.blocks) c.put.ensures.cache c.args.page c.in_ok-block.block false
-    (subst (λ (k : ℕ). c.args.page < page_count k) (sym (c.fetch.ensures.levels ∙ levels)) c.requires.page) (search rules) c.put.ensures.put c.put.ensures.same;
+          (subst (λ (k : ℕ). AreBlocks k c.self-2.inside.blocks) (sym c.fetch.ensures.levels) c.self-2.invariant.blocks) c.put.ensures.cache c.args.page c.in_ok-block.block false
+          (subst (λ (k : ℕ). c.args.page < page_count k) (sym (c.fetch.ensures.levels ∙ levels)) c.requires.page) (search rules) c.put.ensures.put c.put.ensures.same;
       few_nodes = c.fetch.ensures.few_copies;
     }
 
@@ -262,7 +262,7 @@ returns-clause-goes g c = λ other goes.
     let same : (record { tree = c.self.inside.tree; blocks = c.touch.new.self }) ≡ c.args.self.now =
     ap (λ (b : List (List Way)). record { tree = c.self.inside.tree; blocks = b }) (c.if-touch.ensures.unchanged refl) ∙ c.self.view_is in
     let apart : other ≢ c.args.page = λ here.
-        subst (λ (v : CountersView). leaving v c.args.page ≢ Some c.args.page) same c.make_room.ensures.apart (goes ∙ ap Some here) in
+    subst (λ (v : CountersView). leaving v c.args.page ≢ Some c.args.page) same c.make_room.ensures.apart (goes ∙ ap Some here) in
     ap (option_map copy_of) (c.put.ensures.same other apart) ∙ ap (λ (v : CountersView). cached_block v other) c.self-2.view_is
     ∙ subst (λ (v : CountersView). leaving v c.args.page ≡ Some other → cached_block c.make_room.new.self other ≡ None) same (c.in_ok-make_room.ensures.goes other) goes
 

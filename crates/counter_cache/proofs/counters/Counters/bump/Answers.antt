@@ -1,4 +1,4 @@
-use Rattle.std.proofs.Common.{◌≡◌, ◌≢◌, ◌<◌, ℕ, List, length, Option, Some, None, Ok, Err, Bool, true, is_some, ap, sym, ◌∙◌, subst, rules}
+use Rattle.std.proofs.Common.{◌≡◌, ◌≢◌, ◌<◌, ℕ, length, Option, Some, Err, true, is_some, ap, sym, ◌∙◌, subst, rules}
 use Rattle.std.specs.List.{Contains}
 use Rattle.std.specs.Option.{option_map}
 use Rattle.sec_base.specs.Geometry.{page_count}
@@ -33,7 +33,7 @@ invariant_of-self g c =
     let long : length c.to_bytes.result ≡ 64 = search rules in
     record {
       blocks = blocks_put c.self.inside.tree.levels c.self.inside.blocks c.change.new.self c.self.invariant.blocks c.change.ensures.cache c.args.page c.to_bytes.result true
-    (subst (λ (k : ℕ). c.args.page < page_count k) (sym levels) c.requires.page) long c.change.ensures.changed c.change.ensures.same;
+          (subst (λ (k : ℕ). c.args.page < page_count k) (sym levels) c.requires.page) long c.change.ensures.changed c.change.ensures.same;
       few_nodes = c.self.invariant.few_nodes;
     }
 

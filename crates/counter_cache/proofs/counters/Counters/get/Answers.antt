@@ -1,11 +1,10 @@
-use Rattle.std.proofs.Common.{◌≡◌, ◌≢◌, ℕ, List, length, Option, Some, None, Ok, ap, sym, ◌∙◌, subst, rules}
+use Rattle.std.proofs.Common.{◌≡◌, ℕ, List, length, Option, Some, None, Ok, ap, sym, ◌∙◌, subst, rules}
 use Rattle.sec_base.specs.declared.stop.MemStop.{MemStop}
 use Rattle.sec_base.specs.declared.stop.MemStop.TheVariants.{NoMemory}
 use Rattle.cache_set.specs.Cache.{copy_at}
 use Rattle.checked_bus.specs.Accesses.{WritesMessages}
 use Rattle.checked_bus.specs.Steps.{stop_of, unwritten_in}
 use Rattle.split_counter.specs.CounterBlock.{block_of}
-use Rattle.bonsai_tree.specs.Tree.{IsFetchPlace}
 use Rattle.bonsai_tree.proofs.Nodes.{stop_is}
 use Rattle.counter_cache.specs.Counters.{CountersView}
 use Rattle.counter_cache.proofs.BlockCopies.{few_blocks, latest_cached, stays_all}

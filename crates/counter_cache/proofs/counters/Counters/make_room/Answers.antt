@@ -1,4 +1,4 @@
-use Rattle.std.proofs.Common.{◌≡◌, ◌≢◌, ◌<◌, ℕ, List, Option, Some, None, refl, ap, sym, ◌∙◌, subst, arith, rules}
+use Rattle.std.proofs.Common.{◌≡◌, List, Option, Some, None, ap, sym, ◌∙◌, subst, rules}
 use Rattle.std.specs.Option.{option_map}
 use Rattle.sec_base.specs.declared.stop.MemStop.{MemStop}
 use Rattle.cache_set.specs.declared.way.Way.{Way}
@@ -6,8 +6,8 @@ use Rattle.cache_set.specs.Cache.{place_of, way_at}
 use Rattle.tag_engine.specs.TagEngine.{tags_of}
 use Rattle.checked_bus.specs.Steps.{stop_of}
 use Rattle.bonsai_tree.specs.NodeCache.{copy_of}
-use Rattle.bonsai_tree.specs.Tree.{IsNodeFrom, TreeView}
-use Rattle.counter_cache.specs.Counters.{AreBlocks, CountersView, cached_block, leaving}
+use Rattle.bonsai_tree.specs.Tree.{IsNodeFrom}
+use Rattle.counter_cache.specs.Counters.{AreBlocks, CountersView, leaving}
 use Rattle.counter_cache.specs.Having.{Has}
 use Rattle.counter_cache.proofs.BlockCopies.{apart_from, blocks_left}
 use Rattle.counter_cache.proofs.Havings.{has_dropped, has_not, has_on}
@@ -54,7 +54,7 @@ pub invariant_of-self : goal.invariant_of-self
 invariant_of-self g c =
     record {
       blocks = blocks_left c.self-2.inside.tree.levels c.self-2.inside.blocks c.remove.new.self c.in-Some.victim.place c.self-2.invariant.blocks c.remove.ensures.cache
-    c.remove.ensures.removed c.remove.ensures.same;
+          c.remove.ensures.removed c.remove.ensures.same;
       few_nodes = c.self-2.invariant.few_nodes;
     }
 

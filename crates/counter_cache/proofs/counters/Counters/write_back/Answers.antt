@@ -1,18 +1,16 @@
-use Rattle.std.proofs.Common.{◌≡◌, ◌≢◌, inl, inr, ℕ, List, Option, Some, None, Bool, true, false, refl, ap, sym, ◌∙◌, subst, arith, rules}
+use Rattle.std.proofs.Common.{◌≡◌, inl, inr, ℕ, Some, true, false, ap, ◌∙◌, subst, rules}
 use Rattle.std.specs.Option.{option_map}
 use Rattle.std.proofs.lemmas.Bool.{cases_eq}
 use Rattle.sec_base.specs.declared.stop.MemStop.TheVariants.{Tampered, Spent}
-use Rattle.cache_set.specs.declared.way.Way.{Way}
 use Rattle.cache_set.specs.Cache.{way_at}
 use Rattle.tag_engine.specs.TagEngine.{tags_of}
 use Rattle.checked_bus.specs.Steps.{stop_of}
-use Rattle.bonsai_tree.specs.Node.{CachedNode, block_or_zeros}
 use Rattle.bonsai_tree.specs.NodeCache.{copy_of}
 use Rattle.bonsai_tree.specs.Tree.{IsNodeFrom}
 use Rattle.counter_cache.specs.Counters.{CountersView, cached_block}
 use Rattle.counter_cache.specs.Having.{Has}
 use Rattle.bonsai_tree.proofs.Nodes.{stop_is}
-use Rattle.counter_cache.proofs.Havings.{IsUnchanged, has_not, has_tree, ok_at, over}
+use Rattle.counter_cache.proofs.Havings.{has_not, has_tree, ok_at, over}
 use Rattle.counter_cache.proofs.counters.Counters.write_back.Goals as goal
 
 pub returns-then-not-victim-clause-has : goal.returns-then-not-victim-clause-has
