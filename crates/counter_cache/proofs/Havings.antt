@@ -21,7 +21,7 @@ use Rattle.checked_bus.proofs.Steps.{moves_not, moves_on, same_lines_not, same_l
 use Rattle.checked_bus.proofs.Writes.{writes_on}
 use Rattle.split_counter.specs.CounterBlock.{block_of}
 use Rattle.bonsai_tree.specs.Node.{CachedNode, block_or_zeros, current_of, page_block}
-use Rattle.bonsai_tree.specs.Tree.{TreeView, HoldsTree, IsFetchPlace, NodesAreMade, NodesHoldLast, PathWasRead, WasReadUp, above, cached_node}
+use Rattle.bonsai_tree.specs.Tree.{TreeView, HoldsTree, IsFetchPlace, IsNodeFrom, NodesAreMade, NodesHoldLast, PathWasRead, WasReadUp, above, cached_node}
 use Rattle.bonsai_tree.proofs.Climbs.{above_on, find_copy, read_up_held, read_up_on, unchanged_writes}
 use Rattle.bonsai_tree.proofs.Nodes.{same_tags, some_not_none, some_or_none, was_none}
 use Rattle.bonsai_tree.proofs.PathCalls.{not_from_one}
@@ -362,7 +362,7 @@ module _ {T : Type 0} (d n : T → List ℕ → List ℕ) (Where : Place → Typ
     }
 
 -- places that are among others
-pub has_as : {T : Type 0} (d n : T → List ℕ → List ℕ) (Some_of All_of : Place → Type 0) (counters counters' : CountersView) (old new : BusHistory) (engine engine' : TagEngineView T)
+has_as : {T : Type 0} (d n : T → List ℕ → List ℕ) (Some_of All_of : Place → Type 0) (counters counters' : CountersView) (old new : BusHistory) (engine engine' : TagEngineView T)
     (stop : Option MemStop) → ((place : Place) → Some_of place → All_of place) → Has (tags_of d n) Some_of counters old engine counters' new engine' stop →
     Has (tags_of d n) All_of counters old engine counters' new engine' stop
 has_as d n Some_of All_of counters counters' old new engine engine' stop wider has = record {
@@ -389,6 +389,14 @@ has_as d n Some_of All_of counters counters' old new engine engine' stop wider h
     | inr came ↦ inr (wider (node_place 0 page) came.0, came.1)
   ];
 }
+
+-- room that is made for a page's block, from copies that are the same
+pub has_room : {T : Type 0} (d n : T → List ℕ → List ℕ) (page : ℕ) (counters touched counters' : CountersView) (old new : BusHistory) (engine engine' : TagEngineView T)
+    (stop : Option MemStop) → touched ≡ counters → Has (tags_of d n) (IsNodeFrom touched.tree.levels 1) touched old engine counters' new engine' stop →
+    Has (tags_of d n) (IsFetchPlace counters.tree.levels page) counters old engine counters' new engine' stop
+has_room d n page counters touched counters' old new engine engine' stop same has =
+    subst (λ (v : CountersView). Has (tags_of d n) (IsFetchPlace v.tree.levels page) v old engine counters' new engine' stop) same
+    (has_as d n (IsNodeFrom touched.tree.levels 1) (IsFetchPlace touched.tree.levels page) touched counters' old new engine engine' stop (λ place from. inr from) has)
 
 -- a page's place that is read where a block is fetched is that of its own page
 fetched_page : (levels page other : ℕ) → IsFetchPlace levels page (node_place 0 other) → other ≡ page

@@ -1,4 +1,4 @@
-use Rattle.std.proofs.Common.{◌≡◌, ◌≢◌, inl, inr, ◌+◌, ◌<◌, ◌≤◌, ℕ, List, Option, Some, None, Ok, Err, false, refl, ap, sym, ◌∙◌, subst, arith, rules}
+use Rattle.std.proofs.Common.{◌≡◌, ◌≢◌, inl, ◌+◌, ◌<◌, ◌≤◌, ℕ, List, Option, Some, None, Ok, Err, false, refl, ap, sym, ◌∙◌, subst, arith, rules}
 use Rattle.std.specs.List.{Contains}
 use Rattle.std.specs.Option.{option_map}
 use Rattle.sec_base.specs.Evidence.{evidence_place}
@@ -16,7 +16,7 @@ use Rattle.cache_set.proofs.Listed.{listed_at}
 use Rattle.tag_engine.specs.TagEngine.{tags_of}
 use Rattle.checked_bus.specs.Steps.{stop_of}
 use Rattle.bonsai_tree.specs.NodeCache.{copy_of}
-use Rattle.bonsai_tree.specs.Tree.{IsFetchPlace, IsNodeFrom, PathWasRead, TreeView, path_accesses}
+use Rattle.bonsai_tree.specs.Tree.{IsFetchPlace, PathWasRead, TreeView, path_accesses}
 use Rattle.bonsai_tree.proofs.Climbs.{above_none}
 use Rattle.bonsai_tree.proofs.Nodes.{same_tags, stop_is}
 use Rattle.bonsai_tree.proofs.PathCalls.{not_from_one}
@@ -24,7 +24,7 @@ use Rattle.counter_cache.specs.Counters.{AreBlocks, CameFrom, CountersView, IsHa
 use Rattle.counter_cache.specs.Having.{Has}
 use Rattle.counter_cache.proofs.BlockCopies.{blocks_put, blocks_same, cached_held}
 use Rattle.counter_cache.proofs.Hads.{had_tagged, quiet_before}
-use Rattle.counter_cache.proofs.Havings.{TreeCall, has_as, has_on, has_put, has_touched, has_tree, no_copy_below, ok_at, over, path_on, unmade_before}
+use Rattle.counter_cache.proofs.Havings.{TreeCall, has_on, has_put, has_room, has_touched, has_tree, no_copy_below, ok_at, over, path_on, unmade_before}
 use Rattle.counter_cache.proofs.counters.Counters.bring.Goals as goal
 
 -- where it has a copy
@@ -55,9 +55,8 @@ returns-in_err-make_room-clause-has g c =
     let same : (record { tree = c.self.inside.tree; blocks = c.touch.new.self }) ≡ c.args.self.now =
     ap (λ (b : List (List Way)). record { tree = c.self.inside.tree; blocks = b }) (c.if-touch.ensures.unchanged refl) ∙ c.self.view_is in
     let room : Has (tags_of g.T.Tagger.data_tag_of g.T.Tagger.node_tag_of) (IsFetchPlace c.args.self.now.tree.levels c.args.page) c.args.self.now (g.B.Bus.history c.args.bus.now) c.args.tags.now c.make_room.new.self (g.B.Bus.history c.make_room.new.bus) c.make_room.new.tags (Some why) =
-    subst (λ (v : CountersView). Has (tags_of g.T.Tagger.data_tag_of g.T.Tagger.node_tag_of) (IsFetchPlace v.tree.levels c.args.page) v (g.B.Bus.history c.args.bus.now) c.args.tags.now c.make_room.new.self (g.B.Bus.history c.make_room.new.bus) c.make_room.new.tags (Some why)) same
-    (has_as g.T.Tagger.data_tag_of g.T.Tagger.node_tag_of (IsNodeFrom c.self.inside.tree.levels 1) (IsFetchPlace c.self.inside.tree.levels c.args.page) (record { tree = c.self.inside.tree; blocks = c.touch.new.self }) c.make_room.new.self (g.B.Bus.history c.args.bus.now) (g.B.Bus.history c.make_room.new.bus) c.args.tags.now c.make_room.new.tags (Some why)
-    (λ place from. inr from) c.in_err-make_room.ensures.has) in
+    has_room g.T.Tagger.data_tag_of g.T.Tagger.node_tag_of c.args.page c.args.self.now (record { tree = c.self.inside.tree; blocks = c.touch.new.self }) c.make_room.new.self (g.B.Bus.history c.args.bus.now) (g.B.Bus.history c.make_room.new.bus)
+    c.args.tags.now c.make_room.new.tags (Some why) same c.in_err-make_room.ensures.has in
     subst (λ (s : Option MemStop). Has (tags_of g.T.Tagger.data_tag_of g.T.Tagger.node_tag_of) (IsFetchPlace c.args.self.now.tree.levels c.args.page) c.args.self.now (g.B.Bus.history c.args.bus.now) c.args.tags.now c.make_room.new.self (g.B.Bus.history c.make_room.new.bus) c.make_room.new.tags s) (sym stop) room
 
 pub returns-in_err-make_room-clause-accepted : goal.returns-in_err-make_room-clause-accepted
@@ -80,9 +79,8 @@ returns-in_err-block-clause-has g c =
     let same : (record { tree = c.self.inside.tree; blocks = c.touch.new.self }) ≡ c.args.self.now =
     ap (λ (b : List (List Way)). record { tree = c.self.inside.tree; blocks = b }) (c.if-touch.ensures.unchanged refl) ∙ c.self.view_is in
     let room : Has (tags_of g.T.Tagger.data_tag_of g.T.Tagger.node_tag_of) (IsFetchPlace c.args.self.now.tree.levels c.args.page) c.args.self.now (g.B.Bus.history c.args.bus.now) c.args.tags.now c.make_room.new.self (g.B.Bus.history c.make_room.new.bus) c.make_room.new.tags None =
-    subst (λ (v : CountersView). Has (tags_of g.T.Tagger.data_tag_of g.T.Tagger.node_tag_of) (IsFetchPlace v.tree.levels c.args.page) v (g.B.Bus.history c.args.bus.now) c.args.tags.now c.make_room.new.self (g.B.Bus.history c.make_room.new.bus) c.make_room.new.tags None) same
-    (has_as g.T.Tagger.data_tag_of g.T.Tagger.node_tag_of (IsNodeFrom c.self.inside.tree.levels 1) (IsFetchPlace c.self.inside.tree.levels c.args.page) (record { tree = c.self.inside.tree; blocks = c.touch.new.self }) c.make_room.new.self (g.B.Bus.history c.args.bus.now) (g.B.Bus.history c.make_room.new.bus) c.args.tags.now c.make_room.new.tags None
-    (λ place from. inr from) c.in_ok-make_room.ensures.has) in
+    has_room g.T.Tagger.data_tag_of g.T.Tagger.node_tag_of c.args.page c.args.self.now (record { tree = c.self.inside.tree; blocks = c.touch.new.self }) c.make_room.new.self (g.B.Bus.history c.args.bus.now) (g.B.Bus.history c.make_room.new.bus)
+    c.args.tags.now c.make_room.new.tags None same c.in_ok-make_room.ensures.has in
     let tree_is : c.self-2.inside.tree ≡ c.make_room.new.self.tree = ap (λ (v : CountersView). v.tree) c.self-2.view_is in
     let levels : c.self-2.inside.tree.levels ≡ c.args.self.now.tree.levels = ap (λ (t : TreeView). t.levels) tree_is ∙ room.levels in
     let at_levels : (place : Place) → IsFetchPlace c.self-2.inside.tree.levels c.args.page place → IsFetchPlace c.args.self.now.tree.levels c.args.page place =
@@ -147,16 +145,8 @@ returns-in_err-block-clause-once_clean g c = λ clean.
 -- where its block is fetched
 pub invariant_of-self-3 : goal.invariant_of-self-3
 invariant_of-self-3 g c =
-    let same : (record { tree = c.self.inside.tree; blocks = c.touch.new.self }) ≡ c.args.self.now =
-    ap (λ (b : List (List Way)). record { tree = c.self.inside.tree; blocks = b }) (c.if-touch.ensures.unchanged refl) ∙ c.self.view_is in
-    let room : Has (tags_of g.T.Tagger.data_tag_of g.T.Tagger.node_tag_of) (IsFetchPlace c.args.self.now.tree.levels c.args.page) c.args.self.now (g.B.Bus.history c.args.bus.now) c.args.tags.now c.make_room.new.self (g.B.Bus.history c.make_room.new.bus) c.make_room.new.tags None =
-    subst (λ (v : CountersView). Has (tags_of g.T.Tagger.data_tag_of g.T.Tagger.node_tag_of) (IsFetchPlace v.tree.levels c.args.page) v (g.B.Bus.history c.args.bus.now) c.args.tags.now c.make_room.new.self (g.B.Bus.history c.make_room.new.bus) c.make_room.new.tags None) same
-    (has_as g.T.Tagger.data_tag_of g.T.Tagger.node_tag_of (IsNodeFrom c.self.inside.tree.levels 1) (IsFetchPlace c.self.inside.tree.levels c.args.page) (record { tree = c.self.inside.tree; blocks = c.touch.new.self }) c.make_room.new.self (g.B.Bus.history c.args.bus.now) (g.B.Bus.history c.make_room.new.bus) c.args.tags.now c.make_room.new.tags None
-    (λ place from. inr from) c.in_ok-make_room.ensures.has) in
-    let tree_is : c.self-2.inside.tree ≡ c.make_room.new.self.tree = ap (λ (v : CountersView). v.tree) c.self-2.view_is in
-    let levels : c.self-2.inside.tree.levels ≡ c.args.self.now.tree.levels = ap (λ (t : TreeView). t.levels) tree_is ∙ room.levels in
-    let at_levels : (place : Place) → IsFetchPlace c.self-2.inside.tree.levels c.args.page place → IsFetchPlace c.args.self.now.tree.levels c.args.page place =
-    λ place is. subst (λ (k : ℕ). IsFetchPlace k c.args.page place) levels is in
+    let levels : c.self-2.inside.tree.levels ≡ c.args.self.now.tree.levels =
+    ap (λ (v : CountersView). v.tree.levels) c.self-2.view_is ∙ c.in_ok-make_room.ensures.has.levels ∙ ap (λ (v : CountersView). v.tree.levels) c.self.view_is in
     record {
       blocks = blocks_put c.fetch.new.self.levels c.self-2.inside.blocks c.put.new.self
           (subst (λ (k : ℕ). AreBlocks k c.self-2.inside.blocks) (sym c.fetch.ensures.levels) c.self-2.invariant.blocks) c.put.ensures.cache c.args.page c.in_ok-block.block false
@@ -172,9 +162,8 @@ returns-clause-has g c =
     let same : (record { tree = c.self.inside.tree; blocks = c.touch.new.self }) ≡ c.args.self.now =
     ap (λ (b : List (List Way)). record { tree = c.self.inside.tree; blocks = b }) (c.if-touch.ensures.unchanged refl) ∙ c.self.view_is in
     let room : Has (tags_of g.T.Tagger.data_tag_of g.T.Tagger.node_tag_of) (IsFetchPlace c.args.self.now.tree.levels c.args.page) c.args.self.now (g.B.Bus.history c.args.bus.now) c.args.tags.now c.make_room.new.self (g.B.Bus.history c.make_room.new.bus) c.make_room.new.tags None =
-    subst (λ (v : CountersView). Has (tags_of g.T.Tagger.data_tag_of g.T.Tagger.node_tag_of) (IsFetchPlace v.tree.levels c.args.page) v (g.B.Bus.history c.args.bus.now) c.args.tags.now c.make_room.new.self (g.B.Bus.history c.make_room.new.bus) c.make_room.new.tags None) same
-    (has_as g.T.Tagger.data_tag_of g.T.Tagger.node_tag_of (IsNodeFrom c.self.inside.tree.levels 1) (IsFetchPlace c.self.inside.tree.levels c.args.page) (record { tree = c.self.inside.tree; blocks = c.touch.new.self }) c.make_room.new.self (g.B.Bus.history c.args.bus.now) (g.B.Bus.history c.make_room.new.bus) c.args.tags.now c.make_room.new.tags None
-    (λ place from. inr from) c.in_ok-make_room.ensures.has) in
+    has_room g.T.Tagger.data_tag_of g.T.Tagger.node_tag_of c.args.page c.args.self.now (record { tree = c.self.inside.tree; blocks = c.touch.new.self }) c.make_room.new.self (g.B.Bus.history c.args.bus.now) (g.B.Bus.history c.make_room.new.bus)
+    c.args.tags.now c.make_room.new.tags None same c.in_ok-make_room.ensures.has in
     let tree_is : c.self-2.inside.tree ≡ c.make_room.new.self.tree = ap (λ (v : CountersView). v.tree) c.self-2.view_is in
     let levels : c.self-2.inside.tree.levels ≡ c.args.self.now.tree.levels = ap (λ (t : TreeView). t.levels) tree_is ∙ room.levels in
     let at_levels : (place : Place) → IsFetchPlace c.self-2.inside.tree.levels c.args.page place → IsFetchPlace c.args.self.now.tree.levels c.args.page place =
@@ -246,9 +235,8 @@ returns-clause-read g c = λ uncached.
     let same : (record { tree = c.self.inside.tree; blocks = c.touch.new.self }) ≡ c.args.self.now =
     ap (λ (b : List (List Way)). record { tree = c.self.inside.tree; blocks = b }) (c.if-touch.ensures.unchanged refl) ∙ c.self.view_is in
     let room : Has (tags_of g.T.Tagger.data_tag_of g.T.Tagger.node_tag_of) (IsFetchPlace c.args.self.now.tree.levels c.args.page) c.args.self.now (g.B.Bus.history c.args.bus.now) c.args.tags.now c.make_room.new.self (g.B.Bus.history c.make_room.new.bus) c.make_room.new.tags None =
-    subst (λ (v : CountersView). Has (tags_of g.T.Tagger.data_tag_of g.T.Tagger.node_tag_of) (IsFetchPlace v.tree.levels c.args.page) v (g.B.Bus.history c.args.bus.now) c.args.tags.now c.make_room.new.self (g.B.Bus.history c.make_room.new.bus) c.make_room.new.tags None) same
-    (has_as g.T.Tagger.data_tag_of g.T.Tagger.node_tag_of (IsNodeFrom c.self.inside.tree.levels 1) (IsFetchPlace c.self.inside.tree.levels c.args.page) (record { tree = c.self.inside.tree; blocks = c.touch.new.self }) c.make_room.new.self (g.B.Bus.history c.args.bus.now) (g.B.Bus.history c.make_room.new.bus) c.args.tags.now c.make_room.new.tags None
-    (λ place from. inr from) c.in_ok-make_room.ensures.has) in
+    has_room g.T.Tagger.data_tag_of g.T.Tagger.node_tag_of c.args.page c.args.self.now (record { tree = c.self.inside.tree; blocks = c.touch.new.self }) c.make_room.new.self (g.B.Bus.history c.args.bus.now) (g.B.Bus.history c.make_room.new.bus)
+    c.args.tags.now c.make_room.new.tags None same c.in_ok-make_room.ensures.has in
     path_on c.args.self.now.tree c.make_room.new.self.tree c.args.page c.args.tags.now.made c.make_room.new.tags.made (g.B.Bus.history c.args.bus.now) (g.B.Bus.history c.make_room.new.bus) (g.B.Bus.history c.fetch.new.bus) room.levels room.moves.reads
     c.fetch.ensures.moves.reads room.read (unmade_before c.args.tags.now.made c.make_room.new.tags.made room.moves.more room.moves.made)
     (subst (λ (v : CountersView). PathWasRead v.tree c.make_room.new.tags.made 0 c.args.page (g.B.Bus.history c.make_room.new.bus) (g.B.Bus.history c.fetch.new.bus)) c.self-2.view_is c.in_ok-block.ensures.read)
