@@ -40,6 +40,26 @@ fn push_out(
     Ok(())
 }
 
+// What stops a write of a line that is a byte 64 times, and what stops a read.
+fn write_stop(
+    rt: &impl Abort,
+    lines: &mut SealedLines<ReplayBus, SomeBytes>,
+    line: u32,
+    byte: u8,
+) -> Option<MemStop> {
+    assert!(rt; line < lines.lines());
+    lines.write_line(line, &[byte; 64]).err()
+}
+
+fn read_stop(
+    rt: &impl Abort,
+    lines: &mut SealedLines<ReplayBus, SomeBytes>,
+    line: u32,
+) -> Option<MemStop> {
+    assert!(rt; line < lines.lines());
+    lines.read_line(line).err()
+}
+
 // A line of page 0 and one of page 8 were written twice, and each time the counter block and the node above it left the chip.
 // What their places held after the first write fits together, up to the node of level 2, which has a copy.
 #[test]
@@ -56,13 +76,13 @@ fn what_was_replaced_is_tampering(rt: HostRuntime) -> Result<(), Fail> {
     ];
     for (line, page, replays_line, below, place) in rows {
         let mut lines = replaying(rt.alloc(), 4, page, replays_line, below)?;
-        assert!(rt; line < lines.lines());
+        assert!(rt; page < 160);
         let stops = [
-            lines.write_line(line, &[1; 64]).err(),
+            write_stop(&rt, &mut lines, line, 1),
             push_out(&rt, &mut lines, page).err(),
-            lines.write_line(line, &[2; 64]).err(),
+            write_stop(&rt, &mut lines, line, 2),
             push_out(&rt, &mut lines, page).err(),
-            lines.read_line(line).err(),
+            read_stop(&rt, &mut lines, line),
             lines.stopped(),
         ];
         let tampered = Some(MemStop::Tampered(place));
