@@ -1,15 +1,18 @@
 #!/usr/bin/env python3
 """Runs programs with and without protection, in memories of each size, and prints a table of time, accesses and tags.
 
-Two go round a loop that loads a word, adds to it and stores it, in one line after another. One goes over 64 lines, which
-the chip holds from the first round on; one over 192 lines, three of each set of the chip's cache, so that each load brings
-its line in. They are run by `plain` and by `run`, in memories of 1 to 6 levels. A third is the generated program of the
-number 0, at 4 levels. It is run by `bench 0`, and as an assembly text by `plain`. How many accesses a run on protected
-memory makes is counted here, apart from the chip: the programs are run by a machine in Python, and its fetches, loads and
-stores go through a cache of the chip's kind (bench/README.md, "Accesses and tags"). Each access computes one tag, an
-HMAC-SHA-256. Of several tries the one with the least processor time counts.
+Three go round a loop that loads a word, adds to it and stores it, in one line after another. One goes over 64 lines, which
+the chip holds from the first round on. One goes over 192 lines of three pages, three of each set of the chip's cache of
+lines, so that each load brings its line in and lets another one go out, under counters that are on the chip. One goes over
+192 lines of four pages, 48 of each, which are a quarter of the memory apart. It goes from page to page, so that each load
+wants a counter block as well, and the nodes above it, and all that can go out has gone out. They are run by `plain` and by
+`run`, in memories of 1 to 6 levels. A fourth is the generated program of the number 0, at 4 levels. It is run by `bench 0`,
+and as an assembly text by `plain`. How many accesses a run on protected memory makes is counted here, apart from the chip:
+the programs are run by a machine in Python, and its fetches, loads and stores go through caches of the chip's kinds
+(bench/README.md, "Accesses and tags"). Each access computes one tag, an HMAC-SHA-256. Of several tries the one with the
+least processor time counts.
 
-With --plot it runs the second loop with budgets from a tenth of its instructions to all of them, too, and draws
+With --plot it runs the third loop with budgets from a tenth of its instructions to all of them, too, and draws
 bench/sizes.svg: seconds over instructions, a line for each size.
 """
 
@@ -47,10 +50,44 @@ next:   addi t1, t1, -1
         li   a7, 93
         ecall
 """
-# Of each loop over so many lines, its text and how many instructions are retired.
-LOOPS = {
-    lines: (PROGRAM.format(behind=1 + lines // 64, rounds=ROUNDS), 5 + 7 * ROUNDS + ROUNDS // lines + 3) for lines in (64, 192)
-}
+APART = """
+        .globl _start
+_start: li   t0, {quarter}      # from page to page
+        li   t1, {rounds}
+        li   s1, {size}
+        li   t3, 128            # the first line of the first page that is used
+        li   s0, 3200           # behind the last one
+        mv   t6, t3
+        add  t2, t3, s1         # behind the last page
+        mv   t4, t3
+again:  lw   t5, 0(t4)
+        add  t5, t5, t1
+        sw   t5, 0(t4)
+        add  t4, t4, t0
+        bne  t4, t2, next
+        addi t6, t6, 64
+        addi t2, t2, 64
+        mv   t4, t6
+        bne  t6, s0, next
+        mv   t6, t3
+        add  t2, t3, s1
+        mv   t4, t3
+next:   addi t1, t1, -1
+        bnez t1, again
+        li   a0, 0
+        li   a7, 93
+        ecall
+"""
+
+
+def text_of(loop, levels):
+    """The text of a loop in a memory of so many levels."""
+    if loop == "192 apart":
+        return APART.format(quarter=1024 * 4**levels, size=4096 * 4**levels, rounds=ROUNDS)
+    return PROGRAM.format(behind=1 + int(loop.split()[0]) // 64, rounds=ROUNDS)
+
+
+LOOPS = ["64 lines", "192 lines", "192 apart"]
 GENERATED_RETIRED = 561533
 
 
@@ -58,15 +95,15 @@ GENERATED_RETIRED = 561533
 
 
 def used(code):
-    """Each address that the chip uses for a program, in order, and whether it stores there: first it stores the program's
-    words, then it runs them. It knows the instructions that the programs here have."""
+    """Each address that the chip uses for a program, in order, whether it stores there, and whether it fetches: first it
+    stores the program's words, then it runs them. It knows the instructions that the programs here have."""
     memory = {}
     for at in range(0, len(code), 4):
         memory[at] = int.from_bytes(code[at : at + 4], "little")
-        yield at, True
+        yield at, True, False
     registers, pc = [0] * 32, 0
     while True:
-        yield pc, False
+        yield pc, False, True
         word = memory[pc]
         code, at, kind = word & 0x7F, word >> 7 & 31, word >> 12 & 7
         left, right = registers[word >> 15 & 31], registers[word >> 20 & 31]
@@ -78,11 +115,11 @@ def used(code):
             product = code == 0x33 and word >> 25 == 1
             value = left * right if product else calculated(kind, left, number)
         elif code == 0x03:
-            yield left + short & 0xFFFFFFFF, False
+            yield left + short & 0xFFFFFFFF, False, False
             value = memory.get(left + short & 0xFFFFFFFF, 0)
         elif code == 0x23:
             address = left + signed(word >> 25 << 5 | at, 12) & 0xFFFFFFFF
-            yield address, True
+            yield address, True, False
             memory[address] = right
         elif code == 0x63:
             target = signed(word >> 31 << 12 | (word >> 7 & 1) << 11 | (word >> 25 & 63) << 5 | (word >> 8 & 15) << 1, 13)
@@ -96,7 +133,7 @@ def used(code):
             value, after = pc + 4, left + short
         elif registers[17] == 64:
             for address in range(registers[11], registers[11] + registers[12]):
-                yield address, False
+                yield address, False, False
         else:
             return
         if value is not None and at != 0:
@@ -113,47 +150,101 @@ def calculated(kind, left, right):
     return {0: left + right, 1: left << (right & 31), 4: left ^ right, 5: left >> (right & 31), 7: left & right}[kind]
 
 
-class Accesses:
-    """What a program makes of the memory outside, at any number of levels: how many lines come in, how many of these are
-    read, and how many go out changed; and how many accesses overflows make besides."""
+class Cache:
+    """Sets of two ways, of each the least recently used first: its place, and whether it was changed."""
+
+    def __init__(self, sets):
+        self.sets = [{} for _ in range(sets)]
+
+    def set_of(self, place):
+        return self.sets[place % len(self.sets)]
+
+    def use(self, place, changed=False):
+        """Whether the place has a way, which is the most recently used one then."""
+        ways = self.set_of(place)
+        if place in ways:
+            ways[place] = ways.pop(place) or changed
+            return True
+        return False
+
+    def victim(self, place):
+        """The way that goes out for a place without one, and whether it was changed."""
+        ways = self.set_of(place)
+        return next(iter(ways.items())) if len(ways) == 2 else (None, False)
+
+    def replace(self, victim, place):
+        ways = self.set_of(place)
+        if victim is not None:
+            del ways[victim]
+        ways[place] = False
+
+
+class Program:
+    """What a program makes of the lines: which come in and which go out changed, in order; and how many instructions it
+    retires."""
 
     def __init__(self, code):
-        self.came_in, self.read, self.went_out, self.anew = 0, 0, 0, 0
-        # the lines of each set, the least recently used one first; which of them were changed; and of each line that was
-        # written its line counter
-        self.sets, self.changed, self.counters = [[] for _ in range(64)], set(), {}
-        for address, is_store in used(code):
-            self.use(address // 64)
-            if is_store:
-                self.changed.add(address // 64)
+        self.moves, self.retired = [], 0
+        lines, fetches = Cache(64), 0
+        for address, is_store, is_fetch in used(code):
+            fetches += is_fetch
+            line = address // 64
+            if not lines.use(line, is_store):
+                victim, changed = lines.victim(line)
+                if changed:
+                    self.moves.append((victim, True))
+                self.moves.append((line, False))
+                lines.replace(victim, line)
+                lines.use(line, is_store)
+        self.retired = fetches
 
-    def use(self, line):
-        held = self.sets[line % 64]
-        if line in held:
-            held.remove(line)
-        else:
-            if len(held) == 2:
-                self.go_out(held.pop(0))
-            self.came_in += 1
-            self.read += line in self.counters
-        held.append(line)
+
+class Chip:
+    """The accesses that a memory of so many levels makes for a program, and the AES blocks."""
+
+    def __init__(self, program, levels):
+        # counter blocks are the nodes of level 0; of each line that was written its line counter
+        self.accesses, self.blocks, self.counters = sum(4**level for level in range(levels + 1)), 0, {}
+        self.copies = [Cache(8 if level else 16) for level in range(levels + 1)]
+        for line, goes_out in program.moves:
+            if goes_out:
+                self.go_out(line)
+            else:
+                self.come_in(line)
+
+    def have(self, level, index, changed=False):
+        """A node is had: its copy, or the place itself, once the node above it is had. A changed one that goes out for it is
+        written first, once its own parent is had, which gets its tag."""
+        if level == len(self.copies) or self.copies[level].use(index, changed):
+            return
+        victim, is_changed = self.copies[level].victim(index)
+        if is_changed:
+            self.have(level + 1, victim // 4)
+            self.accesses += 1
+            self.copies[level + 1].use(victim // 4, True)
+        self.have(level + 1, index // 4)
+        self.accesses += 1
+        self.copies[level].replace(victim, index)
+        self.copies[level].use(index, changed)
+
+    def come_in(self, line):
+        self.have(0, line // 64)
+        self.sealed(line in self.counters)
 
     def go_out(self, line):
-        if line not in self.changed:
-            return
-        self.changed.remove(line)
-        self.went_out += 1
+        self.have(0, line // 64, True)
         if self.counters.get(line, 0) < 127:
             self.counters[line] = self.counters.get(line, 0) + 1
-        else:
-            page = range(line // 64 * 64, line // 64 * 64 + 64)
-            self.anew += sum(other in self.counters for other in page if other != line) + 63
-            self.counters.update({other: 0 for other in page})
+            self.sealed(1)
+            return
+        page = range(line // 64 * 64, line // 64 * 64 + 64)
+        self.sealed(64 + sum(other in self.counters for other in page if other != line))
+        self.counters.update({other: 0 for other in page})
 
-    def count(self, levels):
-        """Boot's, a path for each line that comes in, and what a line takes that goes out."""
-        boot = sum(4**level for level in range(levels + 1))
-        return boot + (levels + 1) * self.came_in + self.read + (4 * levels + 4) * self.went_out + self.anew
+    def sealed(self, lines):
+        """So many lines are read or written."""
+        self.accesses += lines
+        self.blocks += 4 * lines
 
 
 # --- the runs --------------------------------------------------------------------------------------------------------
@@ -177,32 +268,32 @@ def seconds(words, told, printed=None):
     return min(times)
 
 
-def table(loops, generated):
-    print("| command | levels | memory | instructions | seconds | accesses, tags | µs a tag |")
-    print("|---|---|---|---|---|---|---|")
-    for lines, path in loops.items():
-        retired, accesses = LOOPS[lines][1], Accesses(words_of(path))
-        told = ["halted 0", f"retired {retired}"]
-        for levels in LEVELS:
-            taken = seconds(["plain", path, "--levels", str(levels)], told)
-            row(f"`plain`, {lines} lines", levels, retired, taken, None)
-        for levels in LEVELS:
-            taken = seconds(["run", path, "--levels", str(levels)], told + ["lies 0"])
-            row(f"`run`, {lines} lines", levels, retired, taken, accesses.count(levels))
+def table(programs, generated):
+    print("| command | levels | memory | instructions | seconds | accesses, tags | AES blocks | µs a tag |")
+    print("|---|---|---|---|---|---|---|---|")
+    for loop in LOOPS:
+        for command in ("plain", "run"):
+            for levels in LEVELS:
+                path = programs[loop, levels]
+                program = Program(words_of(path))
+                told = ["halted 0", f"retired {program.retired}"] + (["lies 0"] if command == "run" else [])
+                taken = seconds([command, path, "--levels", str(levels)], told)
+                chip = Chip(program, levels) if command == "run" else None
+                row(f"`{command}`, {loop}", levels, program.retired, taken, chip)
     told = ["halted 3", f"retired {GENERATED_RETIRED}"]
     row("`plain`, generated", 4, GENERATED_RETIRED, seconds(["plain", generated], told), None)
     summary = "\n".join(["number 0", *told, "output 03000000", ""])
-    accesses = Accesses(words_of(generated)).count(4)
-    row("`bench 0`", 4, GENERATED_RETIRED, seconds(["bench", "0"], [], summary), accesses)
+    chip = Chip(Program(words_of(generated)), 4)
+    row("`bench 0`", 4, GENERATED_RETIRED, seconds(["bench", "0"], [], summary), chip)
 
 
-def row(command, levels, retired, taken, accesses):
+def row(command, levels, retired, taken, chip):
     kib = 16 * 4 ** (levels - 1)
     memory = f"{kib} KiB" if kib < 1024 else f"{kib // 1024} MiB"
-    tags = f"{accesses:,}" if accesses else "none"
-    # Where there are fewer accesses than instructions, the time is not the tags'.
-    each = f"{1e6 * taken / accesses:.2f}" if accesses and accesses > retired else ""
-    print(f"| {command} | {levels} | {memory} | {retired:,} | {taken:.3f} | {tags} | {each} |", flush=True)
+    counts = f"{chip.accesses:,} | {chip.blocks:,}" if chip else "none | none"
+    # Where there are fewer accesses than a quarter of the instructions, the time is not the tags'.
+    each = f"{1e6 * taken / chip.accesses:.2f}" if chip and 4 * chip.accesses > retired else ""
+    print(f"| {command} | {levels} | {memory} | {retired:,} | {taken:.3f} | {counts} | {each} |", flush=True)
 
 
 # --- the plot --------------------------------------------------------------------------------------------------------
@@ -212,7 +303,7 @@ WIDTH, HEIGHT, LEFT, BOTTOM, RIGHT, TOP = 720, 440, 64, 48, 120, 24
 
 def points(path, levels):
     """Instructions and seconds, for each budget."""
-    retired = LOOPS[192][1]
+    retired = Program(words_of(path)).retired
     for tenth in TENTHS:
         steps = retired * tenth // 10
         told = ["out of steps" if steps < retired else "halted 0", f"retired {steps}"]
@@ -276,10 +367,12 @@ def generated_text():
 
 def main():
     with tempfile.TemporaryDirectory() as folder:
-        loops = {lines: build(f"loop{lines}", text, folder) for lines, (text, _) in LOOPS.items()}
-        table(loops, build("generated", generated_text(), folder))
+        programs = {
+            (loop, levels): build(f"{loop} {levels}", text_of(loop, levels), folder) for loop in LOOPS for levels in LEVELS
+        }
+        table(programs, build("generated", generated_text(), folder))
         if "--plot" in sys.argv[1:]:
-            series = {f"{levels} levels": list(points(loops[192], levels)) for levels in LEVELS}
+            series = {f"{levels} levels": list(points(programs["192 apart", levels], levels)) for levels in LEVELS}
             with open(PLOT, "w") as file:
                 file.write(plot(series))
 

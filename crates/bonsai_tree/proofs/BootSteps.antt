@@ -9,7 +9,7 @@ use Rattle.tag_engine.specs.TagEngine.{TagEngineView, tags_of}
 use Rattle.bonsai_tree.specs.Boot.{joined, boot_block, boot_message, children_messages, children_tags, messages_from, nodes_from}
 use Rattle.bonsai_tree.specs.Node.{no_block, with_tag}
 use Rattle.bonsai_tree.specs.Writing.{WritesNodes}
-use Rattle.bonsai_tree.proofs.PathReads.{same_tags}
+use Rattle.bonsai_tree.proofs.Nodes.{same_tags}
 use Rattle.bonsai_tree.proofs.NodeWrites.{writes_after, writes_none}
 use Rattle.bonsai_tree.proofs.SlotTags.{with_tag_long}
 

@@ -19,9 +19,9 @@ use Rattle.sec_base.proofs.LastMessages.{HasPart, linked, no_part}
 use Rattle.bonsai_tree.specs.Boot.{joined, boot_block, boot_message, children_messages, messages_from, nodes_from}
 use Rattle.sec_base.specs.declared.place.Place.{Place}
 use Rattle.sec_base.proofs.Numbers.{parent_is}
-use Rattle.bonsai_tree.specs.Node.{block_or_zeros, tag_in_slot, tag_of_last}
-use Rattle.bonsai_tree.specs.Tree.{TreeView, IsTree, NodesHoldLast, kept_tag}
-use Rattle.bonsai_tree.proofs.Puts.{kept_below, kept_top}
+use Rattle.bonsai_tree.specs.Node.{CachedNode, block_or_zeros, current_of, tag_in_slot, tag_of_last}
+use Rattle.bonsai_tree.specs.Tree.{TreeView, IsTree, NodesHoldLast, cached_node, current_block, kept_tag}
+use Rattle.bonsai_tree.proofs.Nodes.{kept_below, kept_top}
 
 -- Lists one after another
 
@@ -198,18 +198,28 @@ last_of_boot tag_of levels level index node =
     by_last tag_of levels (messages_from tag_of levels levels 0) level index (last_node level index (messages_from tag_of levels levels 0)) refl
     (messages-of_boot tag_of levels levels 0) (has_all tag_of levels level index node)
 
+-- no node has a copy
+abbrev pub HasNoCopies : TreeView → Type 0
+HasNoCopies tree = (level index : ℕ) → cached_node tree level index ≡ None
+
+current_last : (tree : TreeView) (made : List Message) (level index : ℕ) → HasNoCopies tree →
+    current_block tree made level index ≡ block_or_zeros (last_node level index made)
+current_last tree made level index none = ap (λ (o : Option CachedNode). current_of o (last_node level index made)) (none level index)
+
 -- and each tag is kept
-boot_slots : (tag_of : Message → List ℕ) (tree : TreeView) (made : List Message) → ((message : Message) → length (tag_of message) ≡ 16) →
+boot_slots : (tag_of : Message → List ℕ) (tree : TreeView) (made : List Message) → HasNoCopies tree → ((message : Message) → length (tag_of message) ≡ 16) →
     tree.root ≡ tag_of (boot_message tag_of tree.levels tree.levels 0) →
     ((level index : ℕ) → IsNode tree.levels level index → last_node level index made ≡ Some (boot_block tag_of tree.levels level index)) →
     (level index : ℕ) → IsNode tree.levels level index → kept_tag tree made level index ≡ tag_of_last tag_of level index (last_node level index made)
-boot_slots tag_of tree made long root last level index node =
+boot_slots tag_of tree made none_here long root last level index node =
     elim (cases_lt level tree.levels) [
       | inl below ↦
           let parent : last_node (level + 1) (index / 4) made ≡ Some (boot_block tag_of tree.levels (level + 1) (index / 4)) =
           last (level + 1) (index / 4) (parent_is tree.levels level index node below) in
           let back : 4 * (index / 4) + index % 4 ≡ index = omega arith in
-          kept_below tree made level index below ∙ ap (λ (o : Option (List ℕ)). tag_in_slot (index % 4) (block_or_zeros o)) parent
+          kept_below tree made level index below
+          ∙ ap (λ (block : List ℕ). tag_in_slot (index % 4) block) (current_last tree made (level + 1) (index / 4) none_here)
+          ∙ ap (λ (o : Option (List ℕ)). tag_in_slot (index % 4) (block_or_zeros o)) parent
           ∙ boot_block-slot tag_of tree.levels level (index / 4) (index % 4) long (omega arith)
           ∙ ap (λ (i : ℕ). tag_of (boot_message tag_of tree.levels level i)) back
           ∙ sym (ap (λ (o : Option (List ℕ)). tag_of_last tag_of level index o) (last level index node))
@@ -225,17 +235,19 @@ boot_slots tag_of tree made long root last level index node =
     ]
 
 -- The tree of boot fits.
-pub boot_fits : (tag_of : Message → List ℕ) (tree : TreeView) (made : List Message) (written : Place → List ℕ) → ((message : Message) → length (tag_of message) ≡ 16) →
+pub boot_fits : (tag_of : Message → List ℕ) (tree : TreeView) (made : List Message) (written : Place → List ℕ) → HasNoCopies tree → ((message : Message) → length (tag_of message) ≡ 16) →
     made ≡ messages_from tag_of tree.levels tree.levels 0 → NodesHoldLast tree.levels made written → tree.root ≡ tag_of (boot_message tag_of tree.levels tree.levels 0) →
     IsTree tag_of tree made written
-boot_fits tag_of tree made written long is stored root =
+boot_fits tag_of tree made written none_here long is stored root =
     let last : (level index : ℕ) → IsNode tree.levels level index → last_node level index made ≡ Some (boot_block tag_of tree.levels level index) =
     λ level index node. ap (λ (m : List Message). last_node level index m) is ∙ last_of_boot tag_of tree.levels level index node in
     record {
-      slots = λ level index node. boot_slots tag_of tree made long root last level index node;
+      slots = λ level index node. boot_slots tag_of tree made none_here long root last level index node;
       made_all = λ level index node. last level index node ∙ sym (ap (λ (o : Option (List ℕ)). Some (block_or_zeros o)) (last level index node));
       stored = λ level index node. stored.holds level index (boot_block tag_of tree.levels level index) node (last level index node)
           ∙ sym (ap block_or_zeros (last level index node));
-      clean = λ level index copy node is. absurd (cc);
-      long = λ level index node. ap (λ (o : Option (List ℕ)). length (block_or_zeros o)) (last level index node) ∙ boot_block-long tag_of tree.levels level index long;
+      clean = λ level index copy node is. let none : None ≡ Some copy = sym (none_here level index) ∙ is in absurd (cc);
+      long = λ level index node.
+          ap (λ (block : List ℕ). length block) (current_last tree made level index none_here)
+          ∙ ap (λ (o : Option (List ℕ)). length (block_or_zeros o)) (last level index node) ∙ boot_block-long tag_of tree.levels level index long;
     }

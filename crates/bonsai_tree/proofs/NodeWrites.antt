@@ -26,8 +26,8 @@ use Rattle.bonsai_tree.specs.Tree.{NodesAreMade, NodesHoldLast, want_of}
 use Rattle.bonsai_tree.specs.Writing.{WritesNodes}
 use Rattle.checked_bus.proofs.Steps.{counted_not}
 use Rattle.checked_bus.proofs.Writes.{writes_not, writes_on}
-use Rattle.bonsai_tree.proofs.PathReads.{same_tags}
-use Rattle.bonsai_tree.proofs.Puts.{IsPut, SameNode, same_or_not}
+use Rattle.bonsai_tree.proofs.Nodes.{SameNode, same_or_not, same_tags}
+use Rattle.bonsai_tree.proofs.Puts.{IsPut}
 
 -- the node of a message has its block
 pub last_own : (made : List Message) (level index : ℕ) (block : List ℕ) → last_node level index (made ++ Node level index block ∷ []) ≡ Some block

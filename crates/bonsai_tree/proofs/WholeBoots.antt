@@ -22,8 +22,13 @@ use Rattle.bonsai_tree.specs.Node.{block_or_zeros, no_block, page_block}
 use Rattle.bonsai_tree.specs.Tree.{IsTree, NodesAreMade, NodesHoldLast, want_of}
 use Rattle.bonsai_tree.specs.Writing.{WritesNodes}
 use Rattle.bonsai_tree.proofs.BootSteps.{leaf_block}
-use Rattle.bonsai_tree.proofs.Boots.{boot_fits, last_of_boot, messages-length}
+use Rattle.bonsai_tree.proofs.Boots.{HasNoCopies, boot_fits, last_of_boot, messages-length}
 use Rattle.checked_bus.proofs.Steps.{counted_not}
+
+-- a tree without caches has no copies
+pub no_copies : (levels : ℕ) (root : List ℕ) → HasNoCopies (record { levels = levels; root = root; caches = [] })
+no_copies levels root zero index = refl
+no_copies levels root (suc level) index = refl
 
 -- each tag has 16 bytes
 pub tag_long : {T : Type 0} (d n : T → List ℕ → List ℕ) → ((tagger : T) (bytes : List ℕ) → length (d tagger bytes) ≡ 16) →
@@ -157,9 +162,9 @@ module _ {T : Type 0} (levels : ℕ) (old : BusHistory) (engine : TagEngineView 
         WritesNodes (tags_of d n) levels old taken new engine' (unwritten_in (want_of result)) →
         OnOk result (engine'.made ≡ taken.made ++ messages_from (tags_of d n taken) levels levels 0) →
         IfOk result (λ root. root ≡ tags_of d n taken (boot_message (tags_of d n taken) levels levels 0)) →
-        IfOk result (λ root. IsTree (tags_of d n engine) (record { levels = levels; root = root }) engine'.made new.written)
+        IfOk result (λ root. IsTree (tags_of d n engine) (record { levels = levels; root = root; caches = [] }) engine'.made new.written)
     whole_fits long (Ok root) wrote made root_is =
-        boot_fits (tags_of d n engine) (record { levels = levels; root = root }) engine'.made new.written long (made_all made)
+        boot_fits (tags_of d n engine) (record { levels = levels; root = root; caches = [] }) engine'.made new.written (no_copies levels root) long (made_all made)
         (wrote.last_blocks refl (first_last levels taken.made old.written (made_same ∙ nothing_made)))
         (root_is ∙ ap (λ (t : Message → List ℕ). t (boot_message t levels levels 0)) tags_same)
     whole_fits long (Err stop) wrote made root_is = tt

@@ -1,8 +1,7 @@
 pub mod Node
+pub mod NodeCache
 pub mod Tree
-pub mod Path
 pub mod Boot
-pub mod Reading
 pub mod Writing
-pub mod Updating
+pub mod Climb
 pub mod Booting

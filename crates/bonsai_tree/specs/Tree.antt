@@ -1,8 +1,8 @@
 -- The tree over the counter blocks (a Bonsai Merkle tree: Rogers et al., MICRO 2007), and when it fits the messages that
 -- were made and what stands outside.
-use Rattle.std.specs.Prelude.{◌≡◌, ◌⊎◌, ℕ, ◌+◌, ◌*◌, ◌≤◌, List, [], length, false, nat_lt, if◌then◌else◌, Option, Some, None, Contains, Result, Ok, Err}
+use Rattle.std.specs.Prelude.{◌≡◌, ◌⊎◌, ℕ, ◌+◌, ◌-◌, ◌/◌, ◌^◌, ◌≤◌, List, length, false, nat_lt, if◌then◌else◌, Option, Some, None, Contains, Result, Ok, Err}
 use Rattle.sec_base.specs.Count.{Rose, RoseBy}
-use Rattle.sec_base.specs.Geometry.{IsNode, parent, slot}
+use Rattle.sec_base.specs.Geometry.{IsNode, arity, parent, slot}
 use Rattle.sec_base.specs.LastMessage.{last_node}
 use Rattle.sec_base.specs.Place.{zeros_of}
 use Rattle.sec_base.specs.declared.message.Message.{Message}
@@ -12,23 +12,27 @@ use Rattle.sec_base.specs.declared.place.Place.TheVariants.{Line as line_place, 
 use Rattle.sec_base.specs.declared.stop.MemStop.{MemStop}
 use Rattle.sec_base.specs.declared.stop.MemStop.TheVariants.{NoMemory as no_memory}
 use Rattle.sec_base.specs.declared.stop.NoMemory.{NoMemory}
+use Rattle.cache_set.specs.declared.way.Way.{Way}
 use Rattle.bus_model.specs.BusHistory.{BusHistory}
 use Rattle.tag_engine.specs.TagEngine.{TagEngineView}
 use Rattle.bonsai_tree.specs.Node.{CachedNode, block_or_zeros, current_of, tag_in_slot, tag_of_last, path_index}
+use Rattle.bonsai_tree.specs.NodeCache.{copied_nodes, node_copy}
 
--- the levels, and the root register: the tag of the top node
+-- the levels, the root register, which is the tag of the top node, and the copies of nodes on the chip
 pub record TreeView : Type 0 where
   pub levels : ℕ
   pub root : List ℕ
+  pub caches : List (List (List Way))
 
--- the copy of a node on the chip: there is none
+-- the copy of a node on the chip: one of level 0 has none
 abbrev pub cached_node : TreeView → ℕ → ℕ → Option CachedNode
-cached_node tree level index = None
+cached_node tree level index = node_copy tree.caches level index
 
--- the nodes of a level with a copy on the chip: there are none
+-- the nodes of a level with a copy on the chip
 abbrev pub cached_nodes : TreeView → ℕ → List ℕ
-cached_nodes tree level = []
+cached_nodes tree level = copied_nodes tree.caches level
 
+-- the current block of a node: its copy on the chip, else that of its last message, else zeros
 abbrev pub current_block : TreeView → List Message → ℕ → ℕ → List ℕ
 current_block tree made level index = current_of (cached_node tree level index) (last_node level index made)
 
@@ -80,12 +84,34 @@ pub record PathWasRead (tree : TreeView) (made : List Message) (from page : ℕ)
       ⊎ Rose (old.reads (node_place level (path_index tree.levels level page)))
       (new.reads (node_place level (path_index tree.levels level page)))
 
--- a place is a node on the path of a page, from a level on
-pub record IsOnPath (levels from page : ℕ) (place : Place) : Type 0 where
+-- a node so many levels above another, on the path to the top
+abbrev pub above : ℕ → ℕ → ℕ → ℕ
+above levels index more = index / arity levels ^ more
+
+-- The nodes from a node up were read, up to the lowest one that had a copy.
+pub record WasReadUp (tree : TreeView) (level index : ℕ) (old new : BusHistory) : Type 0 where
+  pub rose : (more : ℕ) → level + more ≤ tree.levels →
+      ((lower : ℕ) → lower ≤ more → cached_node tree (level + lower) (above tree.levels index lower) ≡ None) →
+      Rose (old.reads (node_place (level + more) (above tree.levels index more)))
+      (new.reads (node_place (level + more) (above tree.levels index more)))
+
+-- a place is that of a node of this level or of one above it
+pub record IsNodeFrom (levels from : ℕ) (place : Place) : Type 0 where
   pub level : ℕ
+  pub index : ℕ
+  pub node : IsNode levels level index
   pub above : from ≤ level
-  pub inside : level ≤ levels
-  pub place_is : place ≡ node_place level (path_index levels level page)
+  pub place_is : place ≡ node_place level index
+
+-- a place that is read where a page's block is fetched: its own, or that of a node above level 0, since the path of a victim
+-- is read as well
+abbrev pub IsFetchPlace : ℕ → ℕ → Place → Type 0
+IsFetchPlace levels page place = (place ≡ node_place 0 page) ⊎ IsNodeFrom levels 1 place
+
+-- No node of level 0 was made or written.
+pub record SamePages (old : BusHistory) (made : List Message) (new : BusHistory) (made' : List Message) : Type 0 where
+  pub last : (page : ℕ) → last_node 0 page made' ≡ last_node 0 page made
+  pub written : (page : ℕ) → new.written (node_place 0 page) ≡ old.written (node_place 0 page)
 
 -- No place was read and no line's place was written; no answer was false.
 pub record OnlyWroteNodes (old new : BusHistory) : Type 0 where
@@ -101,12 +127,12 @@ abbrev pub want_of : {A : Type 0} → Result A NoMemory → Option MemStop
 want_of (Ok value) = None
 want_of (Err stop) = Some no_memory
 
--- how many accesses a fetch and an update make at most, and how many messages an update
-abbrev pub fetch_accesses : ℕ → ℕ
-fetch_accesses levels = levels + 1
+-- How many accesses it takes at most to have a node of a level on the chip: what it takes for the node above it, twice, once
+-- for that of the victim and once for its own, a write of the victim and its own read.
+abbrev pub present_accesses : ℕ → ℕ → ℕ
+present_accesses levels level = 2 ^ (levels + 2 - level) - 2
 
-abbrev pub update_accesses : ℕ → ℕ
-update_accesses levels = 2 * levels + 1
-
-abbrev pub update_messages : ℕ → ℕ
-update_messages levels = levels + 1
+-- How many accesses a fetch and an update make at most, and how many messages: what it takes for the node above the page's,
+-- and one more.
+abbrev pub path_accesses : ℕ → ℕ
+path_accesses levels = 2 ^ (levels + 1) - 1

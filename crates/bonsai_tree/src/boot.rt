@@ -100,7 +100,7 @@ pub(crate) fn boot_tree<B: Bus, T: Tagger>(
     ensures reserved { OnErr result (((B.history bus.new ≡ B.history bus.old) × (tags.new ≡ tags.old))
         ⊎ (node_count geometry ≤ length tags.new.made + tags.new.room)) }
     ensures fits { IfOk result (λ root. IsTree (tags_of T.data_tag_of T.node_tag_of tags.old)
-        (record { levels = geometry; root = root }) tags.new.made (B.history bus.new).written) }
+        (record { levels = geometry; root = root; caches = [] }) tags.new.made (B.history bus.new).written) }
     ensures moved { B.moved bus.old bus.new }
 {
     let top = geometry.levels();

@@ -1,5 +1,5 @@
 // The slots of a node's block, each with the tag of a child.
-ghost use Rattle.std.specs.Prelude.{◌≡◌, ◌<◌, length};
+ghost use Rattle.std.specs.Prelude.{◌≡◌, ◌<◌};
 ghost use Rattle.bonsai_tree.specs.Node.{tag_in_slot, with_tag};
 
 use sec_base::{TAG_LEN, put};

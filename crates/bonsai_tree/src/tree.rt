@@ -1,55 +1,62 @@
-// The tree, of which the chip keeps the root register.
-ghost use Rattle.std.specs.Prelude.{◌≡◌, ◌≢◌, ◌⊎◌, ◌+◌, ◌-◌, ◌*◌, ◌<◌, ◌≤◌, ◌++◌, ℕ, List, [], None, Some, Ok, Err, IfOk, IsOk, OnOk, OnErr, length, slice_index_or};
+// The tree, of which the chip keeps the root register and copies of nodes.
+ghost use Rattle.std.specs.Prelude.{true, ◌≡◌, ◌≢◌, ◌⊎◌, ◌+◌, ◌-◌, ◌*◌, ◌/◌, ◌<◌, ◌≤◌, ◌++◌, ℕ, List, [], None, Some, Ok, Err, IfOk, OnOk, OnErr, length};
 ghost use Rattle.sec_base.specs.Count.{Rose, more_by};
-ghost use Rattle.sec_base.specs.Geometry.{IsNode, page_count};
+ghost use Rattle.sec_base.specs.Geometry.{IsNode, page_count, parent, slot};
 ghost use Rattle.sec_base.specs.LastMessage.{last_node};
 ghost use Rattle.sec_base.specs.declared.counter.Counter.{Counter};
 ghost use Rattle.sec_base.specs.Evidence.{evidence_place};
 ghost use Rattle.sec_base.specs.declared.evidence.Evidence.{Evidence};
 ghost use Rattle.sec_base.specs.declared.evidence.Evidence.TheVariants.{Collision};
 ghost use Rattle.sec_base.specs.declared.message.Message.{Message};
+ghost use Rattle.sec_base.specs.declared.message.Message.TheVariants.{Node};
 ghost use Rattle.sec_base.specs.declared.place.Place.{Place};
 ghost use Rattle.sec_base.specs.declared.place.Place.TheVariants.{Node as node_place};
 ghost use Rattle.sec_base.specs.declared.stop.MemStop.TheVariants.{Tampered, Spent, NoMemory as no_memory};
 ghost use Rattle.bus_model.specs.BusHistory.{NothingWritten};
+ghost use Rattle.cache_set.specs.CacheSet.{HasRoom};
+ghost use Rattle.cache_set.specs.Cache.{set_at};
 ghost use Rattle.tag_engine.specs.TagEngine.{tags_of};
 ghost use Rattle.checked_bus.specs.Accesses.{WritesMessages};
 ghost use Rattle.checked_bus.specs.Steps.{IsAccounted, Moves, SameLines, stop_of, unwritten_in};
 ghost use Rattle.bonsai_tree.specs.Boot.{boot_messages, node_count};
-ghost use Rattle.bonsai_tree.specs.Node.{no_block, page_block, path_index};
-ghost use Rattle.bonsai_tree.specs.Path.{AreChecked, HasAccepted, IsBelowPath, path_tag};
-ghost use Rattle.bonsai_tree.specs.Reading.{IsPath, IsPathRead};
-ghost use Rattle.bonsai_tree.specs.Tree.{HoldsTree, IsOnPath, NodesAreMade, NodesHoldLast, OnlyWroteNodes, PathWasRead, cached_node, cached_nodes, fetch_accesses, update_accesses, update_messages, want_of};
-ghost use Rattle.bonsai_tree.specs.Updating.{IsUpdated};
-ghost use Rattle.bonsai_tree.specs.Writing.{IsBegun, WritesNodes};
+ghost use Rattle.bonsai_tree.specs.Climb.{Climbs};
+ghost use Rattle.bonsai_tree.specs.Node.{CachedNode, block_or_zeros, no_block, page_block, with_tag};
+ghost use Rattle.bonsai_tree.specs.NodeCache.{AreNodeCaches, IsLatestNode, OtherLevels, OtherNodes, level_cache, most_copies, node_way};
+ghost use Rattle.bonsai_tree.specs.Tree.{HoldsTree, IsFetchPlace, IsNodeFrom, NodesAreMade, NodesHoldLast, OnlyWroteNodes, PathWasRead, SamePages, WasReadUp, cached_node, cached_nodes, current_block, kept_tag, path_accesses, present_accesses, want_of};
 
 use crate::boot::boot_tree;
+use crate::node_cache::NodeCache;
 use crate::slots::{put_tag, slot_tag};
 use bus_model::Bus;
+use cache_set::Way;
 use checked_bus::{read_node, write_node};
-use sec_base::{ARITY, Geometry, MemStop, NoMemory, Tagger};
+use sec_base::{Geometry, MemStop, NoMemory, Tagger};
 use std::alloc::Global;
 use std::marker::Model;
 use tag_engine::TagEngine;
 
-/// The tree over the counter blocks of all pages. The chip keeps the tag of its top node.
-#[derive(Debug, Drop)]
+/// The tree over the counter blocks of all pages. The chip keeps the tag of its top node, and copies of nodes.
+#[derive(Drop)]
 pub struct Tree {
-    geometry: Geometry,
     root: [u8; 16],
+    nodes: NodeCache,
 }
 
 impl Model for Tree {
+    ghost use Rattle.bonsai_tree.specs.NodeCache.{AreNodeCaches};
     ghost use Rattle.bonsai_tree.specs.Tree.{TreeView};
 
     ghost Value = { TreeView };
 
-    ghost view = { λ tree. record { levels = tree.geometry; root = tree.root } };
+    ghost view = { λ tree. record { levels = tree.nodes.levels; root = tree.root; caches = tree.nodes.caches } };
+
+    ghost invariant = { λ tree. AreNodeCaches tree.nodes.levels tree.nodes.caches };
 }
 
 impl Tree {
-    /// A tree whose counter blocks are zeros: each node is written, its children before it, and none is read. Memory for
-    /// all messages is taken first, so that after that only the bus can be out of memory.
+    /// A tree whose counter blocks are zeros, without a copy on the chip: each node is written, its children before it, and
+    /// none is read. Memory for the copies and for all messages is taken first, so that after that only the bus can be out
+    /// of memory.
     pub fn boot<B: Bus, T: Tagger>(
         alloc: Global,
         geometry: Geometry,
@@ -86,13 +93,15 @@ impl Tree {
             WritesMessages (B.history bus.old) (B.history bus.new) (length more) (unwritten_in (want_of result)) }
         ensures moved { B.moved bus.old bus.new }
     {
-        let _ = alloc;
+        let nodes = NodeCache::new(alloc, geometry)?;
         let root = boot_tree(geometry, bus, tags)?;
-        Ok(Tree { geometry, root })
+        Ok(Tree { root, nodes })
     }
 
-    /// The counter block of a page: the nodes on its path are read from the top down, and each is checked against the tag
-    /// that its parent keeps, the top node against the root register.
+    /// The counter block of a page: the nodes above it are had from the top down, each from its copy or from its place, where
+    /// it is checked against the tag that its parent keeps, the top node against the root register. A copy that goes out for
+    /// another is written first, if it was changed, and its tag is put into its parent, which is had for that. It is refused as
+    /// tampering of the first node that has another tag, where nothing more is read, and out of memory.
     pub fn fetch<B: Bus, T: Tagger>(
         &mut self,
         bus: &mut B,
@@ -104,13 +113,14 @@ impl Tree {
         requires engine { tags.old.levels ≡ self.old.levels }
 
         ensures levels { self.new.levels ≡ self.old.levels }
+        ensures root { self.new.root ≡ self.old.root }
         ensures holds { HoldsTree (tags_of T.data_tag_of T.node_tag_of) self.old (B.history bus.old) tags.old →
             OnOk result (HoldsTree (tags_of T.data_tag_of T.node_tag_of) self.new (B.history bus.new) tags.new) }
 
-        // It is the page's last block, or there is evidence.
+        // It is the page's last block, or there is evidence. No page gets another block.
         ensures block { HoldsTree (tags_of T.data_tag_of T.node_tag_of) self.old (B.history bus.old) tags.old →
             tags.new.evidence ≡ None → IfOk result (λ block. block ≡ page_block page tags.old.made) }
-        ensures blocks { (other : ℕ) → last_node 0 other tags.new.made ≡ last_node 0 other tags.old.made }
+        ensures pages { SamePages (B.history bus.old) tags.old.made (B.history bus.new) tags.new.made }
 
         // A false answer is shown as evidence or taken for tampering.
         ensures honest { (used : List (ℕ × Counter)) →
@@ -121,35 +131,34 @@ impl Tree {
             tags.new.evidence ≡ Some (Collision 0 page made_at bytes tag) →
             result ≡ Ok bytes }
         ensures found { (evidence : Evidence) → tags.old.evidence ≡ None → tags.new.evidence ≡ Some evidence →
-            IsOnPath self.old.levels 0 page (evidence_place evidence) }
+            IsFetchPlace self.old.levels page (evidence_place evidence) }
         ensures shown { HoldsTree (tags_of T.data_tag_of T.node_tag_of) self.old (B.history bus.old) tags.old →
             tags.old.evidence ≡ None → tags.new.evidence ≢ None → Rose (B.history bus.old).lies (B.history bus.new).lies }
         ensures tampered { (place : Place) → result ≡ Err (Tampered place) →
             HoldsTree (tags_of T.data_tag_of T.node_tag_of) self.old (B.history bus.old) tags.old →
             tags.old.evidence ≡ None → Rose (B.history bus.old).lies (B.history bus.new).lies }
-        ensures on_path { (place : Place) → result ≡ Err (Tampered place) → IsOnPath self.old.levels 0 page place }
+        ensures at_place { (place : Place) → result ≡ Err (Tampered place) → IsFetchPlace self.old.levels page place }
         ensures unspent { (spent : ℕ) → result ≢ Err (Spent spent) }
 
-        // Whatever was answered, it is at the end of a path that was checked from the top down.
-        ensures checked { IfOk result (IsBelowPath (tags_of T.data_tag_of T.node_tag_of tags.old) self.old page
-            tags.old.evidence tags.new.evidence) }
+        // Whatever was answered, it has the tag that is kept of it by the node above it, which has a copy.
+        ensures checked { IfOk result (λ block. tags_of T.data_tag_of T.node_tag_of tags.old (Node 0 page block)
+            ≡ kept_tag self.new tags.new.made 0 page) }
+        ensures parent { OnOk result (cached_node self.new 1 (parent self.old.levels 0 page).1 ≢ None) }
 
         ensures read { OnOk result (PathWasRead self.old tags.old.made 0 page (B.history bus.old) (B.history bus.new)) }
-        ensures once { (B.history bus.new).accesses ≤ (B.history bus.old).accesses + fetch_accesses self.old.levels }
+        ensures once { (B.history bus.new).accesses ≤ (B.history bus.old).accesses + path_accesses self.old.levels }
+        ensures few { length tags.new.made ≤ length tags.old.made + path_accesses self.old.levels }
+        ensures room { tags.old.room ≤ tags.new.room + path_accesses self.old.levels }
         ensures moves { Moves (B.history bus.old) tags.old (B.history bus.new) tags.new }
         ensures lines { SameLines (B.history bus.old) tags.old.made (B.history bus.new) tags.new.made }
         ensures moved { B.moved bus.old bus.new }
 
-        // There is no copy on the chip that was not read.
-        ensures few_copies { (level : ℕ) → length (cached_nodes self.new level) ≤ 16 }
-        ensures new_copies { (level index : ℕ) → cached_node self.new level index ≢ None → (cached_node self.old level index ≢ None)
-            ⊎ (last_node level index tags.old.made ≡ None)
-            ⊎ Rose ((B.history bus.old).reads (node_place level index)) ((B.history bus.new).reads (node_place level index)) }
+        // What has a copy on the chip was read, with the nodes above it, unless it had one.
+        ensures few_copies { (level : ℕ) → length (cached_nodes self.new level) ≤ most_copies }
+        ensures new_copies { (level index : ℕ) → cached_node self.new level index ≢ None →
+            WasReadUp self.old level index (B.history bus.old) (B.history bus.new) }
 
-        // Nothing is made or written.
-        ensures room { tags.old.room ≤ tags.new.room }
-        ensures unmade { tags.new.made ≡ tags.old.made }
-        ensures unwritten { (B.history bus.new).written ≡ (B.history bus.old).written }
+        // What was made was written.
         ensures made_blocks { NodesAreMade self.old.levels tags.old.made (B.history bus.old).written →
             NodesAreMade self.old.levels tags.new.made (B.history bus.new).written }
         ensures last_blocks { NodesHoldLast self.old.levels tags.old.made (B.history bus.old).written →
@@ -157,14 +166,14 @@ impl Tree {
         ensures writes { (more : List Message) → tags.new.made ≡ tags.old.made ++ more →
             WritesMessages (B.history bus.old) (B.history bus.new) (length more) (unwritten_in (stop_of result)) }
     {
-        let mut path = [[0; 64]; 7];
-        self.read_path(bus, tags, page, 0, &mut path)?;
-        Ok(path[0])
+        self.parent_present(bus, tags, 0, page)?;
+        let tag = self.kept_tag(0, page);
+        read_node(bus, tags, 0, page, &tag)
     }
 
-    /// Gives a page a new counter block: the nodes above it are read and checked as in `fetch`, and then the block and each
-    /// node above it are written, from the lowest up, each with the new tag of the one below it. Memory for their messages
-    /// is taken first.
+    /// Gives a page a new counter block: the nodes above it are had as in `fetch`, then the block is written, and its tag put
+    /// into the copy of the node above it. Memory for each message is taken right before its write. It is refused as tampering
+    /// of a node above the page's, where the page keeps its block, and out of memory, where it has the old or the new one.
     pub fn update<B: Bus, T: Tagger>(
         &mut self,
         bus: &mut B,
@@ -177,45 +186,49 @@ impl Tree {
         requires engine { tags.old.levels ≡ self.old.levels }
 
         ensures levels { self.new.levels ≡ self.old.levels }
+        ensures root { self.new.root ≡ self.old.root }
         ensures holds { HoldsTree (tags_of T.data_tag_of T.node_tag_of) self.old (B.history bus.old) tags.old →
             OnOk result (HoldsTree (tags_of T.data_tag_of T.node_tag_of) self.new (B.history bus.new) tags.new) }
 
-        // The page's last block is the new one; where the call is refused, the old or the new one. All others stay.
+        // The page's last block is the new one; where the call is refused, the old or the new one. No other page gets another.
         ensures block { OnOk result (last_node 0 page tags.new.made ≡ Some block.now) }
         ensures refused { OnErr result ((last_node 0 page tags.new.made ≡ last_node 0 page tags.old.made)
             ⊎ (last_node 0 page tags.new.made ≡ Some block.now)) }
         ensures others { (other : ℕ) → other ≢ page → last_node 0 other tags.new.made ≡ last_node 0 other tags.old.made }
+        ensures beside { (other : ℕ) → other ≢ page →
+            (B.history bus.new).written (node_place 0 other) ≡ (B.history bus.old).written (node_place 0 other) }
 
-        // A false answer is shown as evidence or taken for tampering; then nothing was made or written.
+        // A false answer is shown as evidence or taken for tampering; then no page got another block.
         ensures honest { (used : List (ℕ × Counter)) →
             HoldsTree (tags_of T.data_tag_of T.node_tag_of) self.old (B.history bus.old) tags.old →
             IsAccounted (tags_of T.data_tag_of T.node_tag_of tags.old) used tags.old.made (B.history bus.old) None tags.old.evidence →
             IsAccounted (tags_of T.data_tag_of T.node_tag_of tags.old) used tags.new.made (B.history bus.new) (stop_of result) tags.new.evidence }
         ensures found { (evidence : Evidence) → tags.old.evidence ≡ None → tags.new.evidence ≡ Some evidence →
-            IsOnPath self.old.levels 1 page (evidence_place evidence) }
+            IsNodeFrom self.old.levels 1 (evidence_place evidence) }
         ensures shown { HoldsTree (tags_of T.data_tag_of T.node_tag_of) self.old (B.history bus.old) tags.old →
             tags.old.evidence ≡ None → tags.new.evidence ≢ None → Rose (B.history bus.old).lies (B.history bus.new).lies }
         ensures tampered { (place : Place) → result ≡ Err (Tampered place) →
             HoldsTree (tags_of T.data_tag_of T.node_tag_of) self.old (B.history bus.old) tags.old →
             tags.old.evidence ≡ None → Rose (B.history bus.old).lies (B.history bus.new).lies }
-        ensures on_path { (place : Place) → result ≡ Err (Tampered place) → IsOnPath self.old.levels 1 page place }
-        ensures unmade { (place : Place) → result ≡ Err (Tampered place) →
-            (tags.new.made ≡ tags.old.made) × ((B.history bus.new).written ≡ (B.history bus.old).written) }
+        ensures at_place { (place : Place) → result ≡ Err (Tampered place) → IsNodeFrom self.old.levels 1 place }
+        ensures pages { (place : Place) → result ≡ Err (Tampered place) →
+            SamePages (B.history bus.old) tags.old.made (B.history bus.new) tags.new.made }
         ensures unspent { (spent : ℕ) → result ≢ Err (Spent spent) }
 
         ensures read { OnOk result (PathWasRead self.old tags.old.made 1 page (B.history bus.old) (B.history bus.new)) }
-        ensures once { (B.history bus.new).accesses ≤ (B.history bus.old).accesses + update_accesses self.old.levels }
-        // There is no copy on the chip that was not read.
-        ensures few_copies { (level : ℕ) → length (cached_nodes self.new level) ≤ 16 }
-        ensures new_copies { (level index : ℕ) → cached_node self.new level index ≢ None → (cached_node self.old level index ≢ None)
-            ⊎ (last_node level index tags.old.made ≡ None)
-            ⊎ Rose ((B.history bus.old).reads (node_place level index)) ((B.history bus.new).reads (node_place level index)) }
-
-        ensures few { (more : List Message) → tags.new.made ≡ tags.old.made ++ more → length more ≤ update_messages self.old.levels }
-        ensures room { tags.old.room ≤ tags.new.room + update_messages self.old.levels }
+        ensures once { (B.history bus.new).accesses ≤ (B.history bus.old).accesses + path_accesses self.old.levels }
+        ensures few { length tags.new.made ≤ length tags.old.made + path_accesses self.old.levels }
+        ensures room { tags.old.room ≤ tags.new.room + path_accesses self.old.levels }
         ensures moves { Moves (B.history bus.old) tags.old (B.history bus.new) tags.new }
         ensures lines { SameLines (B.history bus.old) tags.old.made (B.history bus.new) tags.new.made }
         ensures moved { B.moved bus.old bus.new }
+
+        // What has a copy on the chip was read, with the nodes above it, unless it had one.
+        ensures few_copies { (level : ℕ) → length (cached_nodes self.new level) ≤ most_copies }
+        ensures new_copies { (level index : ℕ) → cached_node self.new level index ≢ None →
+            WasReadUp self.old level index (B.history bus.old) (B.history bus.new) }
+
+        // What was made was written.
         ensures made_blocks { NodesAreMade self.old.levels tags.old.made (B.history bus.old).written →
             NodesAreMade self.old.levels tags.new.made (B.history bus.new).written }
         ensures last_blocks { NodesHoldLast self.old.levels tags.old.made (B.history bus.old).written →
@@ -223,139 +236,236 @@ impl Tree {
         ensures writes { (more : List Message) → tags.new.made ≡ tags.old.made ++ more →
             WritesMessages (B.history bus.old) (B.history bus.new) (length more) (unwritten_in (stop_of result)) }
     {
-        self.update_path(bus, tags, page, block)
+        self.parent_present(bus, tags, 0, page)?;
+        self.write_below(bus, tags, 0, page, block)?;
+        Ok(())
     }
 
-    // Takes memory, reads the path down to level 1, and writes it with the page's new block.
-    fn update_path<B: Bus, T: Tagger>(
+    // Has a node of a level above level 0 on the chip, as the most recently used one of its set.
+    #[cycle(present)]
+    fn present<B: Bus, T: Tagger>(
         &mut self,
         bus: &mut B,
         tags: &mut TagEngine<T>,
-        page: u32,
+        level: u8,
+        index: u32,
+    ) -> Result<(), MemStop>
+        requires node { IsNode self.old.levels level index }
+        requires above { 0 < level }
+        requires bus { (B.history bus.old).levels ≡ self.old.levels }
+        requires engine { tags.old.levels ≡ self.old.levels }
+
+        ensures climbs { Climbs (tags_of T.data_tag_of T.node_tag_of) level
+            self.old (B.history bus.old) tags.old self.new (B.history bus.new) tags.new (stop_of result) }
+        ensures once { (B.history bus.new).accesses ≤ (B.history bus.old).accesses + present_accesses self.old.levels level }
+        ensures few { length tags.new.made ≤ length tags.old.made + present_accesses self.old.levels level }
+        ensures latest { OnOk result (IsLatestNode self.new.caches level index) }
+        ensures moved { B.moved bus.old bus.new }
+    {
+        if self.nodes.touch(level, index) {
+            return Ok(());
+        }
+        self.make_room(bus, tags, level, index)?;
+        self.parent_present(bus, tags, level, index)?;
+        self.read_in(bus, tags, level, index)
+    }
+
+    // Evicts the copy that goes out for that of a node, and writes it first where it was changed.
+    #[cycle(present)]
+    fn make_room<B: Bus, T: Tagger>(
+        &mut self,
+        bus: &mut B,
+        tags: &mut TagEngine<T>,
+        level: u8,
+        index: u32,
+    ) -> Result<(), MemStop>
+        requires node { IsNode self.old.levels level index }
+        requires above { 0 < level }
+        requires absent { node_way self.old.caches level index ≡ None }
+        requires bus { (B.history bus.old).levels ≡ self.old.levels }
+        requires engine { tags.old.levels ≡ self.old.levels }
+
+        ensures climbs { Climbs (tags_of T.data_tag_of T.node_tag_of) level
+            self.old (B.history bus.old) tags.old self.new (B.history bus.new) tags.new (stop_of result) }
+        ensures once { (B.history bus.new).accesses ≤ (B.history bus.old).accesses + (present_accesses self.old.levels (level + 1) + 1) }
+        ensures few { length tags.new.made ≤ length tags.old.made + (present_accesses self.old.levels (level + 1) + 1) }
+        ensures absent { OnOk result (node_way self.new.caches level index ≡ None) }
+        ensures room { OnOk result (HasRoom (set_at (level_cache self.new.caches level) index)) }
+        ensures moved { B.moved bus.old bus.new }
+    {
+        let Some(victim) = self.nodes.victim(level, index) else {
+            return Ok(());
+        };
+        self.write_back(bus, tags, level, &victim)?;
+        self.nodes.remove(level, victim.place);
+        Ok(())
+    }
+
+    // Writes a copy of a node below the top, if it was changed, and puts its tag into the node's parent, which is had for that
+    // while the copy is still there.
+    #[cycle(present)]
+    fn write_back<B: Bus, T: Tagger>(
+        &mut self,
+        bus: &mut B,
+        tags: &mut TagEngine<T>,
+        level: u8,
+        victim: &Way,
+    ) -> Result<(), MemStop>
+        requires node { IsNode self.old.levels level victim.now.place }
+        requires above { 0 < level }
+        requires below { level < self.old.levels }
+        requires held { node_way self.old.caches level victim.now.place ≡ Some victim.now }
+        requires whole { length victim.now.copy ≡ 64 }
+        requires bus { (B.history bus.old).levels ≡ self.old.levels }
+        requires engine { tags.old.levels ≡ self.old.levels }
+
+        ensures climbs { Climbs (tags_of T.data_tag_of T.node_tag_of) level
+            self.old (B.history bus.old) tags.old self.new (B.history bus.new) tags.new (stop_of result) }
+        ensures once { (B.history bus.new).accesses ≤ (B.history bus.old).accesses + (present_accesses self.old.levels (level + 1) + 1) }
+        ensures few { length tags.new.made ≤ length tags.old.made + (present_accesses self.old.levels (level + 1) + 1) }
+        ensures copies { level_cache self.new.caches level ≡ level_cache self.old.caches level }
+        ensures last { OnOk result (HoldsTree (tags_of T.data_tag_of T.node_tag_of) self.new (B.history bus.new) tags.new →
+            tags.new.evidence ≡ None → victim.now.copy ≡ block_or_zeros (last_node level victim.now.place tags.new.made)) }
+        ensures moved { B.moved bus.old bus.new }
+    {
+        if !victim.changed {
+            return Ok(());
+        }
+        self.parent_present(bus, tags, level, victim.place)?;
+        self.write_below(bus, tags, level, victim.place, &victim.copy)?;
+        Ok(())
+    }
+
+    // Has the parent of a node on the chip. The top node has none.
+    #[cycle(present)]
+    fn parent_present<B: Bus, T: Tagger>(
+        &mut self,
+        bus: &mut B,
+        tags: &mut TagEngine<T>,
+        level: u8,
+        index: u32,
+    ) -> Result<(), MemStop>
+        requires node { IsNode self.old.levels level index }
+        requires bus { (B.history bus.old).levels ≡ self.old.levels }
+        requires engine { tags.old.levels ≡ self.old.levels }
+
+        ensures climbs { Climbs (tags_of T.data_tag_of T.node_tag_of) (level + 1)
+            self.old (B.history bus.old) tags.old self.new (B.history bus.new) tags.new (stop_of result) }
+        ensures once { (B.history bus.new).accesses ≤ (B.history bus.old).accesses + present_accesses self.old.levels (level + 1) }
+        ensures few { length tags.new.made ≤ length tags.old.made + present_accesses self.old.levels (level + 1) }
+        ensures latest { level < self.old.levels → OnOk result (IsLatestNode self.new.caches (level + 1) (parent self.old.levels level index).1) }
+        ensures some { 0 < self.old.levels }
+        ensures nodes { AreNodeCaches self.new.levels self.new.caches }
+        ensures moved { B.moved bus.old bus.new }
+    {
+        let geometry = self.nodes.geometry();
+        if level == geometry.levels() {
+            return Ok(());
+        }
+        self.present(bus, tags, level + 1, geometry.parent(level, index).1)
+    }
+
+    // Reads a node whose parent is on the chip, checks it against the tag that is kept of it, and keeps a copy.
+    fn read_in<B: Bus, T: Tagger>(
+        &mut self,
+        bus: &mut B,
+        tags: &mut TagEngine<T>,
+        level: u8,
+        index: u32,
+    ) -> Result<(), MemStop>
+        requires node { IsNode self.old.levels level index }
+        requires above { 0 < level }
+        requires absent { node_way self.old.caches level index ≡ None }
+        requires room { HasRoom (set_at (level_cache self.old.caches level) index) }
+        requires parent { level < self.old.levels → IsLatestNode self.old.caches (level + 1) (parent self.old.levels level index).1 }
+        requires bus { (B.history bus.old).levels ≡ self.old.levels }
+        requires engine { tags.old.levels ≡ self.old.levels }
+
+        ensures climbs { Climbs (tags_of T.data_tag_of T.node_tag_of) level
+            self.old (B.history bus.old) tags.old self.new (B.history bus.new) tags.new (stop_of result) }
+        ensures once { (B.history bus.new).accesses ≤ (B.history bus.old).accesses + 1 }
+        ensures few { length tags.new.made ≤ length tags.old.made + 1 }
+        ensures latest { OnOk result (IsLatestNode self.new.caches level index) }
+        ensures moved { B.moved bus.old bus.new }
+    {
+        let tag = self.kept_tag(level, index);
+        let block = read_node(bus, tags, level, index, &tag)?;
+        self.nodes.put(level, index, block);
+        Ok(())
+    }
+
+    // Writes a block of a node below the top whose parent is on the chip, and puts its tag into the parent's copy.
+    fn write_below<B: Bus, T: Tagger>(
+        &mut self,
+        bus: &mut B,
+        tags: &mut TagEngine<T>,
+        level: u8,
+        index: u32,
         block: &[u8; 64],
-    ) -> Result<(), MemStop>
-        requires page { page < page_count self.old.levels }
-        requires bus { (B.history bus.old).levels ≡ self.old.levels }
-        requires engine { tags.old.levels ≡ self.old.levels }
-
-        ensures levels { self.new.levels ≡ self.old.levels }
-        ensures updated { IsUpdated (tags_of T.data_tag_of T.node_tag_of) self.old self.new page block.now
-            (B.history bus.old) tags.old (B.history bus.new) tags.new result }
-        ensures moved { B.moved bus.old bus.new }
-    {
-        tags.reserve(u64::from(self.geometry.levels()) + 1)?;
-        let mut path = [[0; 64]; 7];
-        self.read_path(bus, tags, page, 1, &mut path)?;
-        path[0] = *block;
-        self.write_path(bus, tags, page, 0, &mut path)?;
-        Ok(())
-    }
-
-    // Reads the nodes on a page's path from the top down to a level, and checks each.
-    fn read_path<B: Bus, T: Tagger>(
-        &self,
-        bus: &mut B,
-        tags: &mut TagEngine<T>,
-        page: u32,
-        level: u8,
-        path: &mut [[u8; 64]],
-    ) -> Result<(), MemStop>
-        requires page { page < page_count self.now.levels }
-        requires level { level ≤ self.now.levels + 1 }
-        requires path { length path.old ≡ 7 }
-        requires bus { (B.history bus.old).levels ≡ self.now.levels }
-        requires engine { tags.old.levels ≡ self.now.levels }
-
-        ensures read { IsPathRead (tags_of T.data_tag_of T.node_tag_of) self.now level page
-            (B.history bus.old) tags.old (B.history bus.new) tags.new (stop_of result) }
-        ensures path_blocks { HoldsTree (tags_of T.data_tag_of T.node_tag_of) self.now (B.history bus.old) tags.old →
-            tags.new.evidence ≡ None → OnOk result (IsPath self.now.levels level page tags.old.made path.new) }
-        ensures accepted { (index made_at : ℕ) (bytes tag : List ℕ) → tags.old.evidence ≡ None →
-            tags.new.evidence ≡ Some (Collision level index made_at bytes tag) →
-            IsOk result × (slice_index_or path.new level [] ≡ bytes) }
-        ensures checked { OnOk result (AreChecked (tags_of T.data_tag_of T.node_tag_of tags.old) self.now level page path.new) }
-        ensures kept { OnOk result (HasAccepted tags.old.evidence tags.new.evidence path.new) }
-        ensures moved { B.moved bus.old bus.new }
-    {
-        if level > self.geometry.levels() {
-            return Ok(());
-        }
-        self.read_path(bus, tags, page, level + 1, path)?;
-        let tag = self.path_tag(page, level, path);
-        path[level as usize] = read_node(bus, tags, level, self.path_index(page, level), &tag)?;
-        Ok(())
-    }
-
-    // Writes the block that a page's path has at a level, and each node above it with the new tag of the one below it, and
-    // sets the root register. There is memory for the messages.
-    fn write_path<B: Bus, T: Tagger>(
-        &mut self,
-        bus: &mut B,
-        tags: &mut TagEngine<T>,
-        page: u32,
-        level: u8,
-        path: &mut [[u8; 64]],
     ) -> Result<(), NoMemory>
-        requires page { page < page_count self.old.levels }
-        requires level { level ≤ self.old.levels }
-        requires path { length path.old ≡ 7 }
+        requires node { IsNode self.old.levels level index }
+        requires below { level < self.old.levels }
+        requires parent { IsLatestNode self.old.caches (level + 1) (parent self.old.levels level index).1 }
+        requires current { (level ≡ 0) ⊎ (current_block self.old tags.old.made level index ≡ block.now) }
         requires bus { (B.history bus.old).levels ≡ self.old.levels }
         requires engine { tags.old.levels ≡ self.old.levels }
-        requires room { self.old.levels + 1 ≤ tags.old.room + level }
 
-        ensures levels { self.new.levels ≡ self.old.levels }
-        ensures wrote { WritesNodes (tags_of T.data_tag_of T.node_tag_of) self.old.levels
-            (B.history bus.old) tags.old (B.history bus.new) tags.new (unwritten_in (want_of result)) }
-        ensures few { length tags.new.made + level ≤ length tags.old.made + (self.old.levels + 1) }
-        ensures own { last_node level (path_index self.old.levels level page) tags.new.made
-            ≡ Some (slice_index_or path.old level []) }
-        ensures others { (other at : ℕ) → ¬ IsOnPath self.old.levels level page (node_place other at) →
-            last_node other at tags.new.made ≡ last_node other at tags.old.made }
-        ensures holds { (tags.old.evidence ≡ None →
-            IsBegun (tags_of T.data_tag_of T.node_tag_of tags.old) self.old tags.old.made (B.history bus.old).written level page path.old) →
-            OnOk result (HoldsTree (tags_of T.data_tag_of T.node_tag_of) self.new (B.history bus.new) tags.new) }
+        ensures climbs { Climbs (tags_of T.data_tag_of T.node_tag_of) level
+            self.old (B.history bus.old) tags.old self.new (B.history bus.new) tags.new (want_of result) }
+        ensures once { (B.history bus.new).accesses ≤ (B.history bus.old).accesses + 1 }
+        ensures few { length tags.new.made ≤ length tags.old.made + 1 }
+        ensures copies { OtherLevels (level + 1) self.old.caches self.new.caches }
+        ensures own { OnOk result (last_node level index tags.new.made ≡ Some block.now) }
+        ensures refused { OnErr result ((last_node level index tags.new.made ≡ last_node level index tags.old.made)
+            ⊎ (last_node level index tags.new.made ≡ Some block.now)) }
+        ensures others { (at : ℕ) → at ≢ index → last_node level at tags.new.made ≡ last_node level at tags.old.made }
+        ensures beside { (at : ℕ) → at ≢ index →
+            (B.history bus.new).written (node_place level at) ≡ (B.history bus.old).written (node_place level at) }
+        ensures quiet { tags.new.evidence ≡ tags.old.evidence }
         ensures moved { B.moved bus.old bus.new }
     {
-        let top = self.geometry.levels();
-        let index = self.path_index(page, level);
-        let tag = write_node(bus, tags, level, index, &path[level as usize])?;
-        if level == top {
-            self.root = tag;
-            return Ok(());
-        }
-        put_tag(
-            &mut path[level as usize + 1],
-            self.geometry.slot(index),
-            &tag,
-        );
-        self.write_path(bus, tags, page, level + 1, path)
+        tags.reserve(1)?;
+        let tag = write_node(bus, tags, level, index, block)?;
+        self.keep_tag(level, index, &tag);
+        Ok(())
     }
 
-    // The tag that is kept of the node of a level on a page's path: in its parent's block, which the path has, or in the
-    // root register.
-    fn path_tag(&self, page: u32, level: u8, path: &[[u8; 64]]) -> [u8; 16]
-        requires page { page < page_count self.now.levels }
-        requires level { level ≤ self.now.levels }
-        requires path { length path.now ≡ 7 }
-        ensures { result ≡ path_tag self.now page level path.now }
+    // The tag that is kept of a node whose parent is on the chip: in the parent's copy, or of the top node in the root
+    // register.
+    fn kept_tag(&self, level: u8, index: u32) -> [u8; 16]
+        requires node { IsNode self.now.levels level index }
+        requires parent { level < self.now.levels → IsLatestNode self.now.caches (level + 1) (parent self.now.levels level index).1 }
+        ensures { (made : List Message) → result ≡ kept_tag self.now made level index }
     {
-        if level == self.geometry.levels() {
+        let geometry = self.nodes.geometry();
+        if level == geometry.levels() {
             return self.root;
         }
-        let slot = self.geometry.slot(self.path_index(page, level));
-        slot_tag(&path[level as usize + 1], slot)
+        let block = self
+            .nodes
+            .latest(level + 1, geometry.parent(level, index).1);
+        slot_tag(block, geometry.slot(index))
     }
 
-    // The index of the node of a level on a page's path.
-    #[tactic(auto, using(crate::proofs::Paths::small_power, crate::proofs::Paths::some_power, crate::proofs::Paths::is_on_path))]
-    fn path_index(&self, page: u32, level: u8) -> u32
-        requires page { page < page_count self.now.levels }
-        requires level { level ≤ self.now.levels }
-        ensures index { result ≡ path_index self.now.levels level page }
-        ensures node { IsNode self.now.levels level result }
+    // Puts a tag into its slot in the copy of a node's parent.
+    fn keep_tag(&mut self, level: u8, index: u32, tag: &[u8; 16])
+        requires node { IsNode self.old.levels level index }
+        requires below { level < self.old.levels }
+        requires parent { IsLatestNode self.old.caches (level + 1) (parent self.old.levels level index).1 }
+        ensures levels { self.new.levels ≡ self.old.levels }
+        ensures root { self.new.root ≡ self.old.root }
+        ensures nodes { AreNodeCaches self.new.levels self.new.caches }
+        ensures held { cached_node self.old (level + 1) (parent self.old.levels level index).1 ≢ None }
+        ensures put { (copy : CachedNode) → cached_node self.old (level + 1) (parent self.old.levels level index).1 ≡ Some copy →
+            cached_node self.new (level + 1) (parent self.old.levels level index).1
+            ≡ Some (record { block = with_tag (slot self.old.levels index) tag.now copy.block; changed = true }) }
+        ensures same { OtherNodes (level + 1) (parent self.old.levels level index).1 self.old.caches self.new.caches }
+        ensures others { OtherLevels (level + 1) self.old.caches self.new.caches }
     {
-        let is_inside = level <= self.geometry.levels();
-        prove!(is_inside);
-        page / ARITY.pow(u32::from(level))
+        let geometry = self.nodes.geometry();
+        let (above, at) = geometry.parent(level, index);
+        let mut block = *self.nodes.latest(above, at);
+        put_tag(&mut block, geometry.slot(index), tag);
+        self.nodes.change(above, at, block);
     }
 }

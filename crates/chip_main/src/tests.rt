@@ -1,12 +1,15 @@
 // Whole calls. Each expected text and status is worked out by hand from the words and the machine's rules.
 ghost use Rattle.std.specs.Prelude.{None};
 
+mod accesses;
 mod assembly;
 mod attacks;
+mod counted_ram;
 mod files;
 mod gallery;
 mod generated;
 mod reports;
+mod watching_bus;
 
 use super::{Done, RunBus, run_words};
 use bus_model::{Bus, HonestBus};

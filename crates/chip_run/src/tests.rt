@@ -161,10 +161,11 @@ fn outcome(
     Ok(record)
 }
 
-// The words at 0, and nothing else.
+// The words at 0, and nothing else, in a memory of one level or of four.
 fn flat(alloc: Global, words: &[u32]) -> Result<Segments, AllocError>
     requires { length words.now ≤ 16 }
-    ensures { IfOk result (λ segments. IsImage 0 16384 segments) }
+    ensures small { IfOk result (λ segments. IsImage 0 16384 segments) }
+    ensures large { IfOk result (λ segments. IsImage 0 1048576 segments) }
 {
     let bytes = code(alloc, words)?;
     let length = bytes.len() as u32;

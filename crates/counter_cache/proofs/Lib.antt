@@ -1,4 +1,5 @@
 pub mod Blocks
 pub mod Rising
-pub mod Bumps
-pub mod CheckedBumps
+pub mod BlockCopies
+pub mod Havings
+pub mod Hads

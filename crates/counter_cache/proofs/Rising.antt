@@ -1,5 +1,5 @@
 -- A bump lets no counter go down.
-use Rattle.std.proofs.Common.{◌≡◌, ◌==◌, ℕ, ◌+◌, ◌<◌, ◌≤◌, ◌⊎◌, inl, inr, Bool, true, false, cond, nat_lt, replicate, slice_index, slice_set, refl, ap, sym, ◌∙◌, subst, arith}
+use Rattle.std.proofs.Common.{◌≡◌, ◌==◌, ℕ, ◌+◌, ◌^◌, ◌<◌, ◌≤◌, inl, inr, Bool, true, false, cond, nat_lt, replicate, slice_index, slice_set, refl, ap, sym, ◌∙◌, subst, arith}
 use Rattle.std.proofs.lemmas.Bool.{cases_eq}
 use Rattle.std.proofs.lemmas.Bool.Decides.{Decides-ltb}
 use Rattle.std.proofs.lemmas.List.{get_or-set_same, get_or-set_other}
@@ -52,16 +52,24 @@ outcome_at_least place block is true false = same_at_least block block refl
 outcome_at_least place block is false below = line_at_least place block (slice_index block.lines place + 1) is (omega arith)
 
 -- what is there after a bump
-pub bump_at_least : (place limit : ℕ) (block : CounterBlockView) → IsCounterBlock block → AreAtLeast block (after_bump place limit block).1
+bump_at_least : (place limit : ℕ) (block : CounterBlockView) → IsCounterBlock block → AreAtLeast block (after_bump place limit block).1
 unfolding after_bump bumped
 bump_at_least place limit block is = outcome_at_least place block is (slice_index block.lines place == 127) (nat_lt block.page limit)
 
--- and where the counters stayed or were bumped
-pub refused_at_least : (place limit : ℕ) (block other : CounterBlockView) → IsCounterBlock block →
-    (other ≡ block) ⊎ (other ≡ (after_bump place limit block).1) → AreAtLeast block other
-refused_at_least place limit block other is (inl same) = same_at_least block other same
-refused_at_least place limit block other is (inr bumped_is) =
-    subst (λ (b : CounterBlockView). AreAtLeast block b) (sym bumped_is) (bump_at_least place limit block is)
+pub bumped_at_least : (place limit : ℕ) (block other : CounterBlockView) → IsCounterBlock block → other ≡ (after_bump place limit block).1 → AreAtLeast block other
+bumped_at_least place limit block other is bumped_is = subst (λ (b : CounterBlockView). AreAtLeast block b) (sym bumped_is) (bump_at_least place limit block is)
+
+-- the counter of a line that goes up by one under the same page counter
+pub line_within : (place : ℕ) (block after : CounterBlockView) (counter : Counter) → IsCounterBlock after → place < 64 → counter ≡ counter_of place after →
+    after.page ≡ block.page → counter_number (counter_of place after) ≡ counter_number (counter_of place block) + 1 →
+    (0 < counter.line) × (counter.line < 128) × (counter.page < 2 ^ 64)
+line_within place block after counter is inside here stays next =
+    let page : counter.page ≡ after.page = ap (λ (k : Counter). k.page) here in
+    let line : counter.line ≡ slice_index after.lines place = ap (λ (k : Counter). k.line) here in (
+      omega (arith, line, stays, next),
+      omega (arith, line, line_fits after place is inside),
+      subst (λ (n : ℕ). n < 2 ^ 64) (sym page) is.page_fits,
+    )
 
 -- the page counter that an overflow comes to
 outcome_page : (limit next : ℕ) (counter : Counter) (full below : Bool) → (below ≡ true → counter.page < limit) →

@@ -1,56 +1,119 @@
--- What contracts see of the counters of all pages, which stand in the counter blocks under the tree.
-use Rattle.std.specs.Prelude.{◌≡◌, ◌≢◌, ℕ, ◌+◌, List, [], Option, Some, None}
+-- What contracts see of the counters of all pages: the tree over their counter blocks, and the copies of counter blocks.
+use Rattle.std.specs.Prelude.{◌≡◌, ◌⊎◌, ℕ, ◌*◌, ◌<◌, ◌≤◌, List, length, false, Option, Some, None}
+use Rattle.std.specs.Option.{option_map}
+use Rattle.sec_base.specs.Count.{Rose}
+use Rattle.sec_base.specs.Geometry.{page_count}
+use Rattle.sec_base.specs.LastMessage.{last_node}
 use Rattle.sec_base.specs.declared.evidence.Evidence.{Evidence}
 use Rattle.sec_base.specs.declared.evidence.Evidence.TheVariants.{Collision}
 use Rattle.sec_base.specs.declared.message.Message.{Message}
+use Rattle.sec_base.specs.declared.message.Message.TheVariants.{Node}
+use Rattle.sec_base.specs.declared.place.Place.TheVariants.{Node as node_place}
+use Rattle.cache_set.specs.declared.way.Way.{Way}
+use Rattle.cache_set.specs.Cache.{IsCache, place_of, places, victim_for, way_at}
 use Rattle.bus_model.specs.BusHistory.{BusHistory}
 use Rattle.tag_engine.specs.TagEngine.{TagEngineView}
 use Rattle.split_counter.specs.declared.bumped.Bumped.{Bumped}
-use Rattle.split_counter.specs.declared.bumped.Bumped.TheVariants.{Spent}
 use Rattle.split_counter.specs.CounterBlock.{CounterBlockView, after_bump, block_of, bumped, counter_of}
-use Rattle.bonsai_tree.specs.Node.{page_block}
-use Rattle.bonsai_tree.specs.Path.{IsBelowPath, LeadsTo}
-use Rattle.bonsai_tree.specs.Tree.{HoldsTree, TreeView, fetch_accesses, update_accesses, update_messages}
+use Rattle.bonsai_tree.specs.Node.{CachedNode, current_of, page_block}
+use Rattle.bonsai_tree.specs.NodeCache.{copy_of, most_copies}
+use Rattle.bonsai_tree.specs.Tree.{HoldsTree, TreeView, cached_nodes, kept_tag, path_accesses}
 
--- the tree over the counter blocks
+-- how many sets of two ways there are, and how many copies at most
+abbrev pub block_sets : ℕ
+block_sets = 16
+
+abbrev pub most_blocks : ℕ
+most_blocks = 32
+
+-- the tree over the counter blocks, and the sets of ways with copies of them
 pub record CountersView : Type 0 where
   pub tree : TreeView
+  pub blocks : List (List Way)
 
--- the pages whose counter block has a copy on the chip: there is none
+-- the pages whose counter block has a copy on the chip
 abbrev pub cached_pages : CountersView → List ℕ
-cached_pages counters = []
+cached_pages counters = places counters.blocks
 
--- the current counters of a page, by the messages that were made
+-- the copy of a page's block
+abbrev pub cached_block : CountersView → ℕ → Option CachedNode
+cached_block counters page = option_map copy_of (way_at counters.blocks page)
+
+-- the current block of a page: its copy on the chip, else that of its last message, else zeros
+abbrev pub current_page : CountersView → List Message → ℕ → List ℕ
+current_page counters made page = current_of (cached_block counters page) (last_node 0 page made)
+
+-- the current counters of a page
 abbrev pub counters_in : CountersView → List Message → ℕ → CounterBlockView
-counters_in counters made page = block_of (page_block page made)
+counters_in counters made page = block_of (current_page counters made page)
 
--- There is evidence, or the tree over the counter blocks fits.
+-- The page whose copy goes out where that of another page comes: the least recently used one of its set, where both ways are in
+-- use. None does where the page has a copy.
+abbrev pub leaving : CountersView → ℕ → Option ℕ
+leaving counters page = option_map place_of (victim_for counters.blocks page)
+
+-- it was not changed, or none goes out
+abbrev pub LeavesClean : CountersView → ℕ → Type 0
+LeavesClean counters page = (other : ℕ) (copy : CachedNode) → leaving counters page ≡ Some other → cached_block counters other ≡ Some copy →
+    copy.changed ≡ false
+
+-- no level has more copies of nodes than its sets have ways
+abbrev pub HasFewNodes : TreeView → Type 0
+HasFewNodes tree = (level : ℕ) → length (cached_nodes tree level) ≤ most_copies
+
+-- Each copy is of a page's block, and whole.
+pub record AreBlocks (levels : ℕ) (blocks : List (List Way)) : Type 0 where
+  pub cache : IsCache block_sets blocks
+  pub pages : (page : ℕ) (way : Way) → way_at blocks page ≡ Some way → page < page_count levels
+  pub whole : (page : ℕ) (way : Way) → way_at blocks page ≡ Some way → length way.copy ≡ 64
+
+-- The copies of blocks are right, and there are few of nodes.
+pub record AreCopies (counters : CountersView) : Type 0 where
+  pub blocks : AreBlocks counters.tree.levels counters.blocks
+  pub few_nodes : HasFewNodes counters.tree
+
+-- There is evidence, or the tree over the counter blocks fits, and a copy that was not changed is the last block of its page.
 pub record HoldsCounters {T : Type 0} (tags : TagEngineView T → Message → List ℕ) (counters : CountersView)
     (history : BusHistory) (engine : TagEngineView T) : Type 0 where
   pub tree : HoldsTree tags counters.tree history engine
+  pub clean : engine.evidence ≡ None → (page : ℕ) (copy : CachedNode) → cached_block counters page ≡ Some copy → copy.changed ≡ false →
+      copy.block ≡ page_block page engine.made
 
--- how many accesses a bump makes at most: the page's block is read, and written again
-abbrev pub bump_accesses : ℕ → ℕ
-bump_accesses levels = fetch_accesses levels + update_accesses levels
+-- The current counters of all pages are the same.
+abbrev pub SameCounters : CountersView → List Message → CountersView → List Message → Type 0
+SameCounters counters made counters' made' = (page : ℕ) → counters_in counters' made' page ≡ counters_in counters made page
 
--- how many messages it makes at most
-abbrev pub bump_messages : ℕ → ℕ
-bump_messages levels = update_messages levels
+-- How many accesses and messages a get and a bump make at most: what it takes to write a victim, and to fetch the page's block.
+abbrev pub counter_accesses : ℕ → ℕ
+counter_accesses levels = 2 * path_accesses levels
 
--- The counters are those of a block that a path of the tree leads to.
-pub record AreBelowPath (tag_of : Message → List ℕ) (counters : CountersView) (page : ℕ) (before after : Option Evidence) (block : CounterBlockView) : Type 0 where
+-- a page's block was never made, or was read from its place
+abbrev pub CameFrom : List Message → BusHistory → BusHistory → ℕ → Type 0
+CameFrom made old new page = (last_node 0 page made ≡ None) ⊎ Rose (old.reads (node_place 0 page)) (new.reads (node_place 0 page))
+
+-- The block is the copy that a page has; where it has none, one with the tag that the tree keeps of the page's block after it.
+abbrev pub IsCopyOrTagged : Option CachedNode → (Message → List ℕ) → TreeView → List Message → ℕ → List ℕ → Type 0
+IsCopyOrTagged (Some copy) tag_of tree made page block = block ≡ copy.block
+IsCopyOrTagged None tag_of tree made page block = tag_of (Node 0 page block) ≡ kept_tag tree made 0 page
+
+-- The block of a page that a call had, as it was answered.
+pub record IsHad (tag_of : Message → List ℕ) (counters counters' : CountersView) (made' : List Message) (page : ℕ) (before after : Option Evidence)
+    (block : List ℕ) : Type 0 where
+  pub copy_or_tagged : IsCopyOrTagged (cached_block counters page) tag_of counters'.tree made' page block
+  pub accepted : before ≡ None → (made_at : ℕ) (bytes tag : List ℕ) → after ≡ Some (Collision 0 page made_at bytes tag) → block ≡ bytes
+
+-- The counters are those of a block that was had.
+pub record AreHad (tag_of : Message → List ℕ) (counters counters' : CountersView) (made' : List Message) (page : ℕ) (before after : Option Evidence)
+    (block : CounterBlockView) : Type 0 where
   pub bytes : List ℕ
-  pub below : IsBelowPath tag_of counters.tree page before after bytes
+  pub had : IsHad tag_of counters counters' made' page before after bytes
   pub spelled : block ≡ block_of bytes
 
--- A bump of the line at a place comes to this by counters that a path of the tree leads to, and unless the line is spent
--- those after it are the page's. Where a call found that the page's block passed, though it is not the last one, the
--- counters are of this block.
-pub record IsBumped (tag_of : Message → List ℕ) (counters counters' : CountersView) (page place limit : ℕ) (before after : Option Evidence)
-    (made' : List Message) (outcome : Bumped) : Type 0 where
-  pub path : List (List ℕ)
+-- A bump of the line at a place comes to this by counters of a block that was had, and those after it are the page's: the same
+-- ones where the line is spent.
+pub record IsBumped (tag_of : Message → List ℕ) (counters counters' : CountersView) (made' : List Message) (page place limit : ℕ) (before after : Option Evidence)
+    (outcome : Bumped) : Type 0 where
   pub bytes : List ℕ
-  pub leads : LeadsTo tag_of counters.tree page path bytes
-  pub accepted : before ≡ None → (made_at : ℕ) (block tag : List ℕ) → after ≡ Some (Collision 0 page made_at block tag) → bytes ≡ block
+  pub had : IsHad tag_of counters counters' made' page before after bytes
   pub comes : outcome ≡ bumped limit (counter_of place (block_of bytes))
-  pub counted : outcome ≢ Spent → counters_in counters' made' page ≡ (after_bump place limit (block_of bytes)).1
+  pub counted : counters_in counters' made' page ≡ (after_bump place limit (block_of bytes)).1

@@ -1,5 +1,5 @@
-// The counters of all pages, by the tree over their blocks.
-ghost use Rattle.std.specs.Prelude.{◌≡◌, ◌≢◌, ◌⊎◌, ◌+◌, ◌^◌, ◌<◌, ◌≤◌, ◌++◌, ℕ, List, [], None, Some, Ok, Err, IfOk, OnOk, OnErr, Contains, length};
+// The counters of all pages, by the tree over their blocks and copies of these.
+ghost use Rattle.std.specs.Prelude.{true, false, ◌≡◌, ◌≢◌, ◌⊎◌, ◌+◌, ◌^◌, ◌<◌, ◌≤◌, ◌++◌, ℕ, List, [], None, Some, Ok, Err, IfOk, IsOk, OnOk, OnErr, Contains, length};
 ghost use Rattle.sec_base.specs.Count.{Rose, more_by};
 ghost use Rattle.sec_base.specs.Geometry.{page_count};
 ghost use Rattle.sec_base.specs.LastMessage.{last_node};
@@ -9,44 +9,52 @@ ghost use Rattle.sec_base.specs.declared.evidence.Evidence.{Evidence};
 ghost use Rattle.sec_base.specs.declared.evidence.Evidence.TheVariants.{Collision};
 ghost use Rattle.sec_base.specs.declared.message.Message.{Message};
 ghost use Rattle.sec_base.specs.declared.place.Place.{Place};
-ghost use Rattle.sec_base.specs.declared.place.Place.TheVariants.{Node as node_place};
 ghost use Rattle.sec_base.specs.declared.stop.MemStop.TheVariants.{Tampered, Spent as stop_spent, NoMemory as no_memory};
 ghost use Rattle.bus_model.specs.BusHistory.{NothingWritten};
+ghost use Rattle.cache_set.specs.CacheSet.{HasRoom};
+ghost use Rattle.cache_set.specs.Cache.{IsLatest, copy_at, set_at, way_at};
 ghost use Rattle.tag_engine.specs.TagEngine.{tags_of};
-ghost use Rattle.checked_bus.specs.Steps.{IsAccounted, Moves, SameLines, stop_of};
+ghost use Rattle.checked_bus.specs.Accesses.{WritesMessages};
+ghost use Rattle.checked_bus.specs.Steps.{IsAccounted, Moves, SameLines, stop_of, unwritten_in};
 ghost use Rattle.split_counter.specs.declared.bumped.Bumped.TheVariants.{Line, Page, Spent};
 ghost use Rattle.split_counter.specs.CounterBlock.{IsCounterBlock, after_bump, block_of, bumped, counter_number, counter_of, new_block};
 ghost use Rattle.bonsai_tree.specs.Boot.{boot_messages, node_count};
-ghost use Rattle.counter_cache.specs.Counters.{AreBelowPath, HoldsCounters, IsBumped, bump_accesses, bump_messages, cached_pages, counters_in};
-ghost use Rattle.bonsai_tree.specs.Tree.{IsOnPath, NodesAreMade, NodesHoldLast, OnlyWroteNodes, PathWasRead, fetch_accesses, want_of};
-ghost use Rattle.checked_bus.specs.Accesses.{WritesMessages};
-ghost use Rattle.checked_bus.specs.Steps.{unwritten_in};
+ghost use Rattle.bonsai_tree.specs.Node.{CachedNode, page_block};
+ghost use Rattle.bonsai_tree.specs.NodeCache.{most_copies};
+ghost use Rattle.bonsai_tree.specs.Tree.{IsFetchPlace, IsNodeFrom, NodesAreMade, NodesHoldLast, OnlyWroteNodes, PathWasRead, WasReadUp, cached_node, cached_nodes, path_accesses, want_of};
+ghost use Rattle.counter_cache.specs.Counters.{AreCopies, AreHad, CameFrom, HoldsCounters, IsBumped, IsHad, LeavesClean, SameCounters, cached_block, cached_pages, counter_accesses, counters_in, leaving, most_blocks};
+ghost use Rattle.counter_cache.specs.Having.{Has};
 
 use bonsai_tree::Tree;
 use bus_model::Bus;
+use cache_set::{Cache, Way};
 use sec_base::{Geometry, MemStop, NoMemory, Tagger};
 use split_counter::{Bumped, CounterBlock};
 use std::alloc::Global;
 use std::marker::Model;
 use tag_engine::TagEngine;
 
-/// The counters of all pages. The chip keeps the tag of the tree's top node.
-#[derive(Debug, Drop)]
+/// The counters of all pages. The chip keeps copies of the most recently used counter blocks, in 16 sets of two ways, and
+/// writes one that was changed only when it goes out.
+#[derive(Drop)]
 pub struct Counters {
     tree: Tree,
+    blocks: Cache<16>,
 }
 
 impl Model for Counters {
-    ghost use Rattle.counter_cache.specs.Counters.{CountersView};
+    ghost use Rattle.counter_cache.specs.Counters.{AreCopies, CountersView};
 
     ghost Value = { CountersView };
 
-    ghost view = { λ counters. record { tree = counters.tree } };
+    ghost view = { λ counters. record { tree = counters.tree; blocks = counters.blocks } };
+
+    ghost invariant = { λ counters. AreCopies (record { tree = counters.tree; blocks = counters.blocks }) };
 }
 
 impl Counters {
-    /// Counters that are all 0: the tree is booted over blocks of zeros. Only the bus can be out of memory after the first
-    /// write.
+    /// Counters that are all 0: the tree is booted over blocks of zeros, without a copy. Only the bus can be out of memory
+    /// after the first write.
     pub fn boot<B: Bus, T: Tagger>(
         alloc: Global,
         geometry: Geometry,
@@ -62,6 +70,7 @@ impl Counters {
         ensures zeros { IfOk result (λ counters. (page : ℕ) → page < page_count geometry →
             counters_in counters tags.new.made page ≡ new_block) }
         ensures empty { IfOk result (λ counters. cached_pages counters ≡ []) }
+        ensures empty_nodes { IfOk result (λ counters. (level : ℕ) → cached_nodes counters.tree level ≡ []) }
         ensures holds { IfOk result (λ counters.
             HoldsCounters (tags_of T.data_tag_of T.node_tag_of) counters (B.history bus.new) tags.new) }
 
@@ -81,11 +90,13 @@ impl Counters {
             WritesMessages (B.history bus.old) (B.history bus.new) (length more) (unwritten_in (want_of result)) }
         ensures moved { B.moved bus.old bus.new }
     {
+        let blocks = Cache::new(alloc)?;
         let tree = Tree::boot(alloc, geometry, bus, tags)?;
-        Ok(Counters { tree })
+        Ok(Counters { tree, blocks })
     }
 
-    /// The counters of a page: its block is read, and checked up to the root register.
+    /// The counters of a page: those of its block's copy, or of the block that the tree gives for it. The block that goes out for
+    /// it is first written by the tree, if it was changed.
     pub fn get<B: Bus, T: Tagger>(
         &mut self,
         bus: &mut B,
@@ -97,69 +108,81 @@ impl Counters {
         requires engine { tags.old.levels ≡ self.old.tree.levels }
 
         ensures levels { self.new.tree.levels ≡ self.old.tree.levels }
+        ensures root { self.new.tree.root ≡ self.old.tree.root }
         ensures holds { HoldsCounters (tags_of T.data_tag_of T.node_tag_of) self.old (B.history bus.old) tags.old →
             OnOk result (HoldsCounters (tags_of T.data_tag_of T.node_tag_of) self.new (B.history bus.new) tags.new) }
 
-        // They are the page's current counters, or there is evidence. No counter changes.
+        // They are the page's current counters, or there is evidence. No counter changes, also where the call is refused.
         ensures counters { HoldsCounters (tags_of T.data_tag_of T.node_tag_of) self.old (B.history bus.old) tags.old →
             tags.new.evidence ≡ None → IfOk result (λ block. block ≡ counters_in self.old tags.old.made page) }
         ensures is_block { IfOk result IsCounterBlock }
-        ensures same { (other : ℕ) → other ≢ page →
-            counters_in self.new tags.new.made other ≡ counters_in self.old tags.old.made other }
-        ensures same_page { HoldsCounters (tags_of T.data_tag_of T.node_tag_of) self.old (B.history bus.old) tags.old →
-            tags.new.evidence ≡ None → counters_in self.new tags.new.made page ≡ counters_in self.old tags.old.made page }
+        ensures kept { IfOk result (λ block. block ≡ counters_in self.new tags.new.made page) }
+        ensures same { HoldsCounters (tags_of T.data_tag_of T.node_tag_of) self.old (B.history bus.old) tags.old →
+            tags.new.evidence ≡ None → SameCounters self.old tags.old.made self.new tags.new.made }
+        ensures hit { Contains (cached_pages self.old) page → result ≡ Ok (counters_in self.old tags.old.made page) }
 
         // A false answer is shown as evidence or taken for tampering. A block that passed is used as it was answered.
         ensures honest { (used : List (ℕ × Counter)) →
             HoldsCounters (tags_of T.data_tag_of T.node_tag_of) self.old (B.history bus.old) tags.old →
             IsAccounted (tags_of T.data_tag_of T.node_tag_of tags.old) used tags.old.made (B.history bus.old) None tags.old.evidence →
             IsAccounted (tags_of T.data_tag_of T.node_tag_of tags.old) used tags.new.made (B.history bus.new) (stop_of result) tags.new.evidence }
-        ensures accepted { (made_at : ℕ) (bytes tag : List ℕ) → tags.old.evidence ≡ None →
-            tags.new.evidence ≡ Some (Collision 0 page made_at bytes tag) → result ≡ Ok (block_of bytes) }
         ensures found { (evidence : Evidence) → tags.old.evidence ≡ None → tags.new.evidence ≡ Some evidence →
-            IsOnPath self.old.tree.levels 0 page (evidence_place evidence) }
+            IsFetchPlace self.old.tree.levels page (evidence_place evidence) }
         ensures shown { HoldsCounters (tags_of T.data_tag_of T.node_tag_of) self.old (B.history bus.old) tags.old →
             tags.old.evidence ≡ None → tags.new.evidence ≢ None → Rose (B.history bus.old).lies (B.history bus.new).lies }
-        ensures tampered { (place : Place) → result ≡ Err (Tampered place) →
+        ensures tampered { (at : Place) → result ≡ Err (Tampered at) →
             HoldsCounters (tags_of T.data_tag_of T.node_tag_of) self.old (B.history bus.old) tags.old →
             tags.old.evidence ≡ None → Rose (B.history bus.old).lies (B.history bus.new).lies }
-        ensures on_path { (place : Place) → result ≡ Err (Tampered place) → IsOnPath self.old.tree.levels 0 page place }
+        ensures at_place { (at : Place) → result ≡ Err (Tampered at) → IsFetchPlace self.old.tree.levels page at }
         ensures unspent { (spent : ℕ) → result ≢ Err (stop_spent spent) }
-
-        // Whatever was answered, they are at the end of a path that was checked from the top down.
-        ensures checked { IfOk result (AreBelowPath (tags_of T.data_tag_of T.node_tag_of tags.old) self.old page
+        ensures accepted { (made_at : ℕ) (bytes tag : List ℕ) → tags.old.evidence ≡ None →
+            tags.new.evidence ≡ Some (Collision 0 page made_at bytes tag) → result ≡ Ok (block_of bytes) }
+        ensures checked { IfOk result (AreHad (tags_of T.data_tag_of T.node_tag_of tags.old) self.old self.new tags.new.made page
             tags.old.evidence tags.new.evidence) }
 
-        // A block without a copy on the chip is read from its place, with all nodes above it.
+        // A block without a copy is read from its place, with the nodes above it that have none. A block that has one makes no
+        // access.
         ensures read { ¬ Contains (cached_pages self.old) page →
             OnOk result (PathWasRead self.old.tree tags.old.made 0 page (B.history bus.old) (B.history bus.new)) }
-        ensures once { (B.history bus.new).accesses ≤ (B.history bus.old).accesses + fetch_accesses self.old.tree.levels }
-        ensures few_copies { length (cached_pages self.new) ≤ 32 }
+        ensures idle { Contains (cached_pages self.old) page → (B.history bus.new ≡ B.history bus.old) × (tags.new ≡ tags.old) }
+        ensures cached { OnOk result (Contains (cached_pages self.new) page) }
+        ensures latest { OnOk result (IsLatest self.new.blocks page) }
+        ensures once { (B.history bus.new).accesses ≤ (B.history bus.old).accesses + counter_accesses self.old.tree.levels }
+        ensures few { length tags.new.made ≤ length tags.old.made + counter_accesses self.old.tree.levels }
+        ensures room { tags.old.room ≤ tags.new.room + counter_accesses self.old.tree.levels }
+        ensures few_copies { length (cached_pages self.new) ≤ most_blocks }
         ensures new_copies { (other : ℕ) → Contains (cached_pages self.new) other → Contains (cached_pages self.old) other
-            ⊎ (last_node 0 other tags.old.made ≡ None)
-            ⊎ Rose ((B.history bus.old).reads (node_place 0 other)) ((B.history bus.new).reads (node_place 0 other)) }
+            ⊎ ((other ≡ page) × CameFrom tags.old.made (B.history bus.old) (B.history bus.new) page) }
+        ensures few_nodes { (level : ℕ) → length (cached_nodes self.new.tree level) ≤ most_copies }
+        ensures new_nodes { (level index : ℕ) → cached_node self.new.tree level index ≢ None →
+            WasReadUp self.old.tree level index (B.history bus.old) (B.history bus.new) }
+
+        // The least recently used copy of a full set goes out for a block that comes, and is written only if it was changed. All
+        // others stay as they are.
+        ensures goes { (other : ℕ) → leaving self.old page ≡ Some other → OnOk result (cached_block self.new other ≡ None) }
+        ensures stays { (other : ℕ) (copy : CachedNode) → leaving self.old page ≢ Some other →
+            cached_block self.old other ≡ Some copy → cached_block self.new other ≡ Some copy }
+        ensures clean { ¬ Contains (cached_pages self.old) page → (copy : CachedNode) →
+            cached_block self.new page ≡ Some copy → copy.changed ≡ false }
+        ensures once_clean { LeavesClean self.old page →
+            (B.history bus.new).accesses ≤ (B.history bus.old).accesses + path_accesses self.old.tree.levels }
 
         ensures moves { Moves (B.history bus.old) tags.old (B.history bus.new) tags.new }
         ensures lines { SameLines (B.history bus.old) tags.old.made (B.history bus.new) tags.new.made }
         ensures moved { B.moved bus.old bus.new }
-        ensures room { tags.old.room ≤ tags.new.room }
         ensures made_blocks { NodesAreMade self.old.tree.levels tags.old.made (B.history bus.old).written →
             NodesAreMade self.old.tree.levels tags.new.made (B.history bus.new).written }
         ensures last_blocks { NodesHoldLast self.old.tree.levels tags.old.made (B.history bus.old).written →
             result ≢ Err no_memory → NodesHoldLast self.old.tree.levels tags.new.made (B.history bus.new).written }
         ensures writes { (more : List Message) → tags.new.made ≡ tags.old.made ++ more →
             WritesMessages (B.history bus.old) (B.history bus.new) (length more) (unwritten_in (stop_of result)) }
-
-        // Nothing is made or written.
-        ensures unmade { tags.new.made ≡ tags.old.made }
-        ensures unwritten { (B.history bus.new).written ≡ (B.history bus.old).written }
     {
-        let block = self.tree.fetch(bus, tags, page)?;
-        Ok(CounterBlock::from_bytes(&block))
+        self.bring(bus, tags, page)?;
+        Ok(CounterBlock::from_bytes(self.blocks.latest(page)))
     }
 
-    /// Counts a write of the line at a place of a page, as `CounterBlock::bump` does: the page's block is read and checked
-    /// as in `get`, and is written with its new counters, unless the line is spent.
+    /// Counts a write of the line at a place of a page, as `CounterBlock::bump` does: the page's block is had as in `get`, and its
+    /// copy gets the new counters, unless the line is spent.
     pub fn bump<B: Bus, T: Tagger>(
         &mut self,
         bus: &mut B,
@@ -174,11 +197,12 @@ impl Counters {
         requires engine { tags.old.levels ≡ self.old.tree.levels }
 
         ensures levels { self.new.tree.levels ≡ self.old.tree.levels }
+        ensures root { self.new.tree.root ≡ self.old.tree.root }
         ensures holds { HoldsCounters (tags_of T.data_tag_of T.node_tag_of) self.old (B.history bus.old) tags.old →
             OnOk result (HoldsCounters (tags_of T.data_tag_of T.node_tag_of) self.new (B.history bus.new) tags.new) }
 
         // It comes to what the page's current counters and the limit say, and the counters are those after it; or there is
-        // evidence. Where the call is refused, they are the old or the new ones. No counter goes down.
+        // evidence. Where the call is refused no counter changes, and no other page's ever does.
         ensures outcome { HoldsCounters (tags_of T.data_tag_of T.node_tag_of) self.old (B.history bus.old) tags.old →
             tags.new.evidence ≡ None → IfOk result (λ outcome.
             outcome ≡ bumped limit (counter_of place (counters_in self.old tags.old.made page))) }
@@ -186,78 +210,186 @@ impl Counters {
             tags.new.evidence ≡ None → OnOk result (counters_in self.new tags.new.made page
             ≡ (after_bump place limit (counters_in self.old tags.old.made page)).1) }
         ensures refused { HoldsCounters (tags_of T.data_tag_of T.node_tag_of) self.old (B.history bus.old) tags.old →
-            tags.new.evidence ≡ None → OnErr result (
-            (counters_in self.new tags.new.made page ≡ counters_in self.old tags.old.made page)
-            ⊎ (counters_in self.new tags.new.made page
-            ≡ (after_bump place limit (counters_in self.old tags.old.made page)).1)) }
+            tags.new.evidence ≡ None → OnErr result (SameCounters self.old tags.old.made self.new tags.new.made) }
         ensures rises { HoldsCounters (tags_of T.data_tag_of T.node_tag_of) self.old (B.history bus.old) tags.old →
             tags.new.evidence ≡ None → (at : ℕ) → at < 64 →
             counter_number (counter_of at (counters_in self.old tags.old.made page))
             ≤ counter_number (counter_of at (counters_in self.new tags.new.made page)) }
-        ensures others { (other : ℕ) → other ≢ page →
+        ensures others { HoldsCounters (tags_of T.data_tag_of T.node_tag_of) self.old (B.history bus.old) tags.old →
+            tags.new.evidence ≡ None → (other : ℕ) → other ≢ page →
             counters_in self.new tags.new.made other ≡ counters_in self.old tags.old.made other }
 
         // Whether there is evidence or not.
         ensures line { (counter : Counter) → result ≡ Ok (Line counter) →
             (0 < counter.line) × (counter.line < 128) × (counter.page < 2 ^ 64) }
         ensures overflow { (next : ℕ) → result ≡ Ok (Page next) → (0 < next) × (next ≤ limit) }
-        ensures unspent { (spent : ℕ) → result ≢ Err (stop_spent spent) }
+        ensures checked { IfOk result (IsBumped (tags_of T.data_tag_of T.node_tag_of tags.old) self.old self.new tags.new.made page place limit
+            tags.old.evidence tags.new.evidence) }
 
         // A false answer is shown as evidence or taken for tampering.
-        ensures found { (evidence : Evidence) → tags.old.evidence ≡ None → tags.new.evidence ≡ Some evidence →
-            IsOnPath self.old.tree.levels 0 page (evidence_place evidence) }
         ensures honest { (used : List (ℕ × Counter)) →
             HoldsCounters (tags_of T.data_tag_of T.node_tag_of) self.old (B.history bus.old) tags.old →
             IsAccounted (tags_of T.data_tag_of T.node_tag_of tags.old) used tags.old.made (B.history bus.old) None tags.old.evidence →
             IsAccounted (tags_of T.data_tag_of T.node_tag_of tags.old) used tags.new.made (B.history bus.new) (stop_of result) tags.new.evidence }
+        ensures found { (evidence : Evidence) → tags.old.evidence ≡ None → tags.new.evidence ≡ Some evidence →
+            IsFetchPlace self.old.tree.levels page (evidence_place evidence) }
         ensures shown { HoldsCounters (tags_of T.data_tag_of T.node_tag_of) self.old (B.history bus.old) tags.old →
             tags.old.evidence ≡ None → tags.new.evidence ≢ None → Rose (B.history bus.old).lies (B.history bus.new).lies }
         ensures tampered { (at : Place) → result ≡ Err (Tampered at) →
             HoldsCounters (tags_of T.data_tag_of T.node_tag_of) self.old (B.history bus.old) tags.old →
             tags.old.evidence ≡ None → Rose (B.history bus.old).lies (B.history bus.new).lies }
-        ensures on_path { (at : Place) → result ≡ Err (Tampered at) → IsOnPath self.old.tree.levels 0 page at }
+        ensures at_place { (at : Place) → result ≡ Err (Tampered at) → IsFetchPlace self.old.tree.levels page at }
+        ensures unspent { (spent : ℕ) → result ≢ Err (stop_spent spent) }
 
-        // Whatever was answered, what is counted up is at the end of a path that was checked from the top down.
-        ensures checked { IfOk result (IsBumped (tags_of T.data_tag_of T.node_tag_of tags.old) self.old self.new page place limit
-            tags.old.evidence tags.new.evidence tags.new.made) }
-
-        // A block without a copy on the chip is read from its place, with all nodes above it. Where the line is spent,
-        // nothing else is.
+        // A block without a copy is read from its place, with the nodes above it that have none. A block that has one makes no
+        // access.
         ensures read { ¬ Contains (cached_pages self.old) page →
             OnOk result (PathWasRead self.old.tree tags.old.made 0 page (B.history bus.old) (B.history bus.new)) }
-        ensures once { (B.history bus.new).accesses ≤ (B.history bus.old).accesses + bump_accesses self.old.tree.levels }
-        ensures spent_once { result ≡ Ok Spent →
-            (B.history bus.new).accesses ≤ (B.history bus.old).accesses + fetch_accesses self.old.tree.levels }
-        ensures few_copies { length (cached_pages self.new) ≤ 32 }
+        ensures idle { Contains (cached_pages self.old) page → (B.history bus.new ≡ B.history bus.old) × (tags.new ≡ tags.old) }
+        ensures hit { Contains (cached_pages self.old) page → IsOk result }
+        ensures cached { OnOk result (Contains (cached_pages self.new) page) }
+        ensures once { (B.history bus.new).accesses ≤ (B.history bus.old).accesses + counter_accesses self.old.tree.levels }
+        ensures few { length tags.new.made ≤ length tags.old.made + counter_accesses self.old.tree.levels }
+        ensures room { tags.old.room ≤ tags.new.room + counter_accesses self.old.tree.levels }
+        ensures few_copies { length (cached_pages self.new) ≤ most_blocks }
         ensures new_copies { (other : ℕ) → Contains (cached_pages self.new) other → Contains (cached_pages self.old) other
-            ⊎ (last_node 0 other tags.old.made ≡ None)
-            ⊎ Rose ((B.history bus.old).reads (node_place 0 other)) ((B.history bus.new).reads (node_place 0 other)) }
+            ⊎ ((other ≡ page) × CameFrom tags.old.made (B.history bus.old) (B.history bus.new) page) }
+        ensures few_nodes { (level : ℕ) → length (cached_nodes self.new.tree level) ≤ most_copies }
+        ensures new_nodes { (level index : ℕ) → cached_node self.new.tree level index ≢ None →
+            WasReadUp self.old.tree level index (B.history bus.old) (B.history bus.new) }
+
+        // Copies go and stay as in `get`, but the page's own has the new counters and is changed, unless the line is spent.
+        ensures goes { (other : ℕ) → leaving self.old page ≡ Some other → OnOk result (cached_block self.new other ≡ None) }
+        ensures stays { (other : ℕ) (copy : CachedNode) → other ≢ page → leaving self.old page ≢ Some other →
+            cached_block self.old other ≡ Some copy → cached_block self.new other ≡ Some copy }
+        ensures marked { (copy : CachedNode) → result ≢ Ok Spent → cached_block self.new page ≡ Some copy → OnOk result (copy.changed ≡ true) }
+        ensures once_clean { LeavesClean self.old page →
+            (B.history bus.new).accesses ≤ (B.history bus.old).accesses + path_accesses self.old.tree.levels }
 
         ensures moves { Moves (B.history bus.old) tags.old (B.history bus.new) tags.new }
         ensures lines { SameLines (B.history bus.old) tags.old.made (B.history bus.new) tags.new.made }
         ensures moved { B.moved bus.old bus.new }
-        ensures few { (more : List Message) → tags.new.made ≡ tags.old.made ++ more → length more ≤ bump_messages self.old.tree.levels }
-        ensures room { tags.old.room ≤ tags.new.room + bump_messages self.old.tree.levels }
         ensures made_blocks { NodesAreMade self.old.tree.levels tags.old.made (B.history bus.old).written →
             NodesAreMade self.old.tree.levels tags.new.made (B.history bus.new).written }
         ensures last_blocks { NodesHoldLast self.old.tree.levels tags.old.made (B.history bus.old).written →
             result ≢ Err no_memory → NodesHoldLast self.old.tree.levels tags.new.made (B.history bus.new).written }
         ensures writes { (more : List Message) → tags.new.made ≡ tags.old.made ++ more →
             WritesMessages (B.history bus.old) (B.history bus.new) (length more) (unwritten_in (stop_of result)) }
-
-        // Where the line is spent or tampering was met, nothing is made or written.
-        ensures spent_unmade { result ≡ Ok Spent → tags.new.made ≡ tags.old.made }
-        ensures spent_unwritten { result ≡ Ok Spent → (B.history bus.new).written ≡ (B.history bus.old).written }
-        ensures tampered_unmade { (at : Place) → result ≡ Err (Tampered at) → tags.new.made ≡ tags.old.made }
-        ensures tampered_unwritten { (at : Place) → result ≡ Err (Tampered at) →
-            (B.history bus.new).written ≡ (B.history bus.old).written }
     {
         let mut block = self.get(bus, tags, page)?;
         let outcome = block.bump(place, limit);
         if outcome == Bumped::Spent {
             return Ok(outcome);
         }
-        self.tree.update(bus, tags, page, &block.to_bytes())?;
+        self.blocks.change(page, block.to_bytes());
         Ok(outcome)
+    }
+
+    // Has a page's block on the chip, as the most recently used one of its set.
+    fn bring<B: Bus, T: Tagger>(
+        &mut self,
+        bus: &mut B,
+        tags: &mut TagEngine<T>,
+        page: u32,
+    ) -> Result<(), MemStop>
+        requires page { page < page_count self.old.tree.levels }
+        requires bus { (B.history bus.old).levels ≡ self.old.tree.levels }
+        requires engine { tags.old.levels ≡ self.old.tree.levels }
+
+        ensures has { Has (tags_of T.data_tag_of T.node_tag_of) (IsFetchPlace self.old.tree.levels page)
+            self.old (B.history bus.old) tags.old self.new (B.history bus.new) tags.new (stop_of result) }
+        ensures once { (B.history bus.new).accesses ≤ (B.history bus.old).accesses + counter_accesses self.old.tree.levels }
+        ensures few { length tags.new.made ≤ length tags.old.made + counter_accesses self.old.tree.levels }
+        ensures room { tags.old.room ≤ tags.new.room + counter_accesses self.old.tree.levels }
+        ensures latest { OnOk result (IsLatest self.new.blocks page) }
+        ensures copies { AreCopies self.new }
+        ensures had { OnOk result ((bytes : List ℕ) → copy_at self.new.blocks page ≡ Some bytes →
+            IsHad (tags_of T.data_tag_of T.node_tag_of tags.old) self.old self.new tags.new.made page tags.old.evidence tags.new.evidence bytes) }
+        ensures accepted { (made_at : ℕ) (bytes tag : List ℕ) → tags.old.evidence ≡ None →
+            tags.new.evidence ≡ Some (Collision 0 page made_at bytes tag) → IsOk result }
+        ensures hit { Contains (cached_pages self.old) page → IsOk result × (cached_block self.new page ≡ cached_block self.old page)
+            × (B.history bus.new ≡ B.history bus.old) × (tags.new ≡ tags.old) }
+        ensures read { ¬ Contains (cached_pages self.old) page →
+            OnOk result (PathWasRead self.old.tree tags.old.made 0 page (B.history bus.old) (B.history bus.new)) }
+        ensures goes { (other : ℕ) → leaving self.old page ≡ Some other → OnOk result (cached_block self.new other ≡ None) }
+        ensures stays { (other : ℕ) → other ≢ page → leaving self.old page ≢ Some other →
+            cached_block self.new other ≡ cached_block self.old other }
+        ensures clean { ¬ Contains (cached_pages self.old) page → (copy : CachedNode) →
+            cached_block self.new page ≡ Some copy → copy.changed ≡ false }
+        ensures once_clean { LeavesClean self.old page →
+            (B.history bus.new).accesses ≤ (B.history bus.old).accesses + path_accesses self.old.tree.levels }
+        ensures moved { B.moved bus.old bus.new }
+    {
+        if self.blocks.touch(page) {
+            return Ok(());
+        }
+        self.make_room(bus, tags, page)?;
+        let block = self.tree.fetch(bus, tags, page)?;
+        self.blocks.put(page, block);
+        Ok(())
+    }
+
+    // Evicts the copy that goes out for that of a page, and has it written first where it was changed.
+    fn make_room<B: Bus, T: Tagger>(
+        &mut self,
+        bus: &mut B,
+        tags: &mut TagEngine<T>,
+        page: u32,
+    ) -> Result<(), MemStop>
+        requires page { page < page_count self.old.tree.levels }
+        requires absent { way_at self.old.blocks page ≡ None }
+        requires bus { (B.history bus.old).levels ≡ self.old.tree.levels }
+        requires engine { tags.old.levels ≡ self.old.tree.levels }
+
+        ensures has { Has (tags_of T.data_tag_of T.node_tag_of) (IsNodeFrom self.old.tree.levels 1)
+            self.old (B.history bus.old) tags.old self.new (B.history bus.new) tags.new (stop_of result) }
+        ensures once { (B.history bus.new).accesses ≤ (B.history bus.old).accesses + path_accesses self.old.tree.levels }
+        ensures few { length tags.new.made ≤ length tags.old.made + path_accesses self.old.tree.levels }
+        ensures room { tags.old.room ≤ tags.new.room + path_accesses self.old.tree.levels }
+        ensures absent { way_at self.new.blocks page ≡ None }
+        ensures room_for { OnOk result (HasRoom (set_at self.new.blocks page)) }
+        ensures pages { last_node 0 page tags.new.made ≡ last_node 0 page tags.old.made }
+        ensures apart { leaving self.old page ≢ Some page }
+        ensures goes { (other : ℕ) → leaving self.old page ≡ Some other → OnOk result (cached_block self.new other ≡ None) }
+        ensures stays { (other : ℕ) → leaving self.old page ≢ Some other → cached_block self.new other ≡ cached_block self.old other }
+        ensures idle { LeavesClean self.old page → (B.history bus.new).accesses ≡ (B.history bus.old).accesses }
+        ensures moved { B.moved bus.old bus.new }
+    {
+        let Some(victim) = self.blocks.victim(page) else {
+            return Ok(());
+        };
+        self.write_back(bus, tags, &victim)?;
+        self.blocks.remove(victim.place);
+        Ok(())
+    }
+
+    // Has the tree write a copy, if it was changed.
+    fn write_back<B: Bus, T: Tagger>(
+        &mut self,
+        bus: &mut B,
+        tags: &mut TagEngine<T>,
+        victim: &Way,
+    ) -> Result<(), MemStop>
+        requires page { victim.now.place < page_count self.old.tree.levels }
+        requires held { way_at self.old.blocks victim.now.place ≡ Some victim.now }
+        requires bus { (B.history bus.old).levels ≡ self.old.tree.levels }
+        requires engine { tags.old.levels ≡ self.old.tree.levels }
+
+        ensures has { Has (tags_of T.data_tag_of T.node_tag_of) (IsNodeFrom self.old.tree.levels 1)
+            self.old (B.history bus.old) tags.old self.new (B.history bus.new) tags.new (stop_of result) }
+        ensures once { (B.history bus.new).accesses ≤ (B.history bus.old).accesses + path_accesses self.old.tree.levels }
+        ensures few { length tags.new.made ≤ length tags.old.made + path_accesses self.old.tree.levels }
+        ensures room { tags.old.room ≤ tags.new.room + path_accesses self.old.tree.levels }
+        ensures blocks { self.new.blocks ≡ self.old.blocks }
+        ensures last { OnOk result (HoldsCounters (tags_of T.data_tag_of T.node_tag_of) self.new (B.history bus.new) tags.new →
+            tags.new.evidence ≡ None → victim.now.copy ≡ page_block victim.now.place tags.new.made) }
+        ensures others { (other : ℕ) → other ≢ victim.now.place → last_node 0 other tags.new.made ≡ last_node 0 other tags.old.made }
+        ensures idle { victim.now.changed ≡ false → (B.history bus.new).accesses ≡ (B.history bus.old).accesses }
+        ensures moved { B.moved bus.old bus.new }
+    {
+        if !victim.changed {
+            return Ok(());
+        }
+        self.tree.update(bus, tags, victim.place, &victim.copy)
     }
 }

@@ -1,6 +1,6 @@
 //! The counters that the lines of all pages are encrypted under. They stand outside the chip, a block of counters for each
-//! page, under a tree that shows whether a block is the last one. None is kept on the chip: each call reads the block that
-//! it needs, and one that changes is written at once.
+//! page, under a tree that shows whether a block is the last one. The most recently used blocks are cached on the chip, and
+//! one that was changed is written only when it goes out.
 #![tactic(auto)]
 
 mod counters;

@@ -1,5 +1,6 @@
-// Each public call with ample memory, over a bus that counts, and that flips a bit at one read of one node or none.
-ghost use Rattle.std.specs.Prelude.{◌≡◌, ◌<◌, [], ◌∷◌, refl, replicate, slice_index};
+// Each public call over a bus that counts, and that flips a bit at one read of one counter block or none: the number of
+// accesses, false answers, and want of memory.
+ghost use Rattle.std.specs.Prelude.{◌≡◌, ◌<◌, ◌≤◌, [], ◌∷◌, refl, replicate, slice_index, length};
 ghost use Rattle.bus_model.specs.FlipBus.{flip_history};
 
 use crate::Counters;
@@ -60,12 +61,22 @@ impl Tagger for Zeros {
     }
 }
 
-// A bus that counts its accesses, and how many of them read a counter block.
+// A bus that counts its accesses, and how many of them read a counter block. From so many on it refuses them.
 #[derive(Drop)]
 struct CountBus {
     bus: FlipBus,
+    most: u64,
     accesses: u64,
     block_reads: u64,
+}
+
+// One more access, unless there were so many.
+fn count(accesses: &mut u64, most: u64) -> Result<(), NoMemory> {
+    if *accesses >= most {
+        return Err(NoMemory);
+    }
+    *accesses += 1;
+    Ok(())
 }
 
 impl Bus for CountBus {
@@ -78,17 +89,17 @@ impl Bus for CountBus {
     ghost moved_on = { λ _ _ _ _ _. tt };
 
     fn read_data(&mut self, line: u32) -> Result<Sealed, NoMemory> {
-        self.accesses = self.accesses.saturating_add(1);
+        count(&mut self.accesses, self.most)?;
         self.bus.read_data(line)
     }
 
     fn write_data(&mut self, line: u32, sealed: &Sealed) -> Result<(), NoMemory> {
-        self.accesses = self.accesses.saturating_add(1);
+        count(&mut self.accesses, self.most)?;
         self.bus.write_data(line, sealed)
     }
 
     fn read_node(&mut self, level: u8, index: u32) -> Result<[u8; 64], NoMemory> {
-        self.accesses = self.accesses.saturating_add(1);
+        count(&mut self.accesses, self.most)?;
         if level == 0 {
             self.block_reads = self.block_reads.saturating_add(1);
         }
@@ -96,10 +107,13 @@ impl Bus for CountBus {
     }
 
     fn write_node(&mut self, level: u8, index: u32, block: &[u8; 64]) -> Result<(), NoMemory> {
-        self.accesses = self.accesses.saturating_add(1);
+        count(&mut self.accesses, self.most)?;
         self.bus.write_node(level, index, block)
     }
 }
+
+// More accesses than any test makes.
+const MANY: u64 = 1_000_000;
 
 // Counters with their bus and their tag engine.
 #[derive(Drop)]
@@ -127,6 +141,16 @@ impl<T: Tagger> Memory<T> {
             .bump(&mut self.bus, &mut self.tags, page, place, limit)
     }
 
+    // Counts one write of the line at place 0 of a page, which was written so often by then.
+    fn write(&mut self, rt: &impl Abort, page: u32, line: u8) {
+        let counter = Counter { page: 0, line };
+        assert_eq!(rt;
+            self.bump(rt, page, 0, 0),
+            Ok(Bumped::Line(counter)),
+            "page {page}"
+        );
+    }
+
     // All 127 writes of a line up to the end of its counter.
     fn wear(&mut self, rt: &impl Abort, page: u32, place: u8)
         requires { place < 64 }
@@ -135,6 +159,13 @@ impl<T: Tagger> Memory<T> {
             let counter = Counter { page: 0, line };
             assert_eq!(rt; self.bump(rt, page, place, 0), Ok(Bumped::Line(counter)));
         }
+    }
+
+    // How many accesses there were since the last call of it.
+    fn accesses(&mut self) -> u64 {
+        let accesses = self.bus.accesses;
+        self.bus.accesses = 0;
+        accesses
     }
 
     // How many messages were made, and the evidence.
@@ -169,6 +200,7 @@ fn flipped<T: Tagger>(
     let flip = FlipBus::new(alloc, geometry, place, k, offset, 1)?;
     let mut bus = CountBus {
         bus: flip,
+        most: MANY,
         accesses: 0,
         block_reads: 0,
     };
@@ -187,11 +219,18 @@ fn honest(alloc: Global, levels: u8) -> Result<Memory<FirstBytes>, Fail> {
     flipped(alloc, FirstBytes, levels, 0, 0, 0)
 }
 
+// The counters of a page whose line at place 0 was written so often, and no other: byte 8 has the line counter of place 0.
+fn written(writes: u8) -> CounterBlock {
+    let mut bytes = [0; 64];
+    bytes[8] = writes;
+    CounterBlock::from_bytes(&bytes)
+}
+
 #[test]
 fn all_counters_are_zero_after_boot(rt: HostRuntime) -> Result<(), Fail> {
     for (levels, pages, nodes) in [(1, 4u32, 5), (2, 16, 21), (4, 256, 341)] {
         let mut memory = honest(rt.alloc(), levels)?;
-        assert_eq!(rt; memory.bus.accesses, nodes, "levels {levels}");
+        assert_eq!(rt; memory.accesses(), nodes, "levels {levels}");
         assert_eq!(rt; memory.bus.block_reads, 0, "levels {levels}");
         for page in 0..pages {
             assert_eq!(rt;
@@ -246,54 +285,183 @@ fn the_next_write_after_127_raises_the_page_counter(rt: HostRuntime) -> Result<(
     Ok(())
 }
 
-// Its page's block is read and not written. The lines beside it still serve.
+// Its page's block stays as it is. The lines beside it still serve.
 #[test]
 fn a_line_at_the_limit_is_spent(rt: HostRuntime) -> Result<(), Fail> {
     let mut memory = honest(rt.alloc(), 1)?;
     memory.wear(&rt, 3, 0);
     let block = memory.get(&rt, 3);
-    let before = memory.bus.accesses;
     assert_eq!(rt; memory.bump(&rt, 3, 0, 0), Ok(Bumped::Spent));
-    assert_eq!(rt; memory.bus.accesses.checked_sub(before), Some(2));
     assert_eq!(rt; memory.get(&rt, 3), block);
     let first = Counter { page: 0, line: 1 };
     assert_eq!(rt; memory.bump(&rt, 3, 1, 0), Ok(Bumped::Line(first)));
+    Ok(())
+}
+
+// A page's block is read once, with all nodes above it; a page beside it has its parent's copy. A block that has a copy makes no
+// access, and one that was changed makes no message.
+#[test]
+fn a_block_is_read_once(rt: HostRuntime) -> Result<(), Fail> {
+    for (levels, nodes, path) in [(1, 5, 2), (2, 21, 3), (4, 341, 5)] {
+        let mut memory = honest(rt.alloc(), levels)?;
+        assert_eq!(rt; memory.accesses(), nodes, "levels {levels}");
+        assert_eq!(rt; memory.get(&rt, 2), Ok(written(0)), "levels {levels}");
+        assert_eq!(rt; memory.accesses(), path, "levels {levels}");
+        assert_eq!(rt; memory.bus.block_reads, 1, "levels {levels}");
+        assert_eq!(rt; memory.get(&rt, 2), Ok(written(0)), "levels {levels}");
+        memory.write(&rt, 2, 1);
+        assert_eq!(rt; memory.get(&rt, 2), Ok(written(1)), "levels {levels}");
+        assert_eq!(rt; memory.accesses(), 0, "levels {levels}");
+        memory.write(&rt, 3, 1);
+        assert_eq!(rt; memory.accesses(), 1, "levels {levels}");
+        assert_eq!(rt; memory.bus.block_reads, 2, "levels {levels}");
+        let (made, evidence) = memory.finish();
+        assert_eq!(rt; made, nodes, "levels {levels}");
+        assert_eq!(rt; evidence, None, "levels {levels}");
+    }
+    Ok(())
+}
+
+// Pages 0, 16 and 32 of a tree of three levels are in one set of two ways, and have no node above them together but the top.
+// The least recently used one goes out, and is written first where it was changed.
+#[test]
+fn a_changed_block_is_written_when_it_goes_out(rt: HostRuntime) -> Result<(), Fail> {
+    let mut memory = honest(rt.alloc(), 3)?;
+    assert_eq!(rt; memory.accesses(), 85);
+    memory.write(&rt, 0, 1);
+    assert_eq!(rt; memory.accesses(), 4);
+    assert_eq!(rt; memory.get(&rt, 16), Ok(written(0)));
+    assert_eq!(rt; memory.accesses(), 3);
+    assert_eq!(rt; memory.get(&rt, 0), Ok(written(1)));
+    assert_eq!(rt; memory.accesses(), 0);
+    memory.write(&rt, 32, 1);
+    assert_eq!(rt; memory.accesses(), 3);
+    assert_eq!(rt; memory.get(&rt, 16), Ok(written(0)));
+    assert_eq!(rt; memory.accesses(), 2);
+    assert_eq!(rt; memory.get(&rt, 0), Ok(written(1)));
+    assert_eq!(rt; memory.accesses(), 2);
+    assert_eq!(rt; memory.get(&rt, 32), Ok(written(1)));
+    assert_eq!(rt; memory.accesses(), 1);
     let (made, evidence) = memory.finish();
-    assert_eq!(rt; made, 5 + 2 * 128);
+    assert_eq!(rt; made, 85 + 2);
     assert_eq!(rt; evidence, None);
     Ok(())
 }
 
-// A page's block is read once, with all nodes above it, and an update reads those alone.
+// Five gets and bumps of some pages, as the digits of a number say, are those of a list of counts.
+fn follow(rt: &impl Abort, alloc: Global, levels: u8, pages: &[u32], calls: u32) -> Result<(), Fail>
+    requires some { 0 < length pages.now }
+    requires few { length pages.now ≤ 6 }
+{
+    let mut memory = honest(alloc, levels)?;
+    let mut writes = [0u8; 6];
+    let mut left = calls;
+    for call in 0..5 {
+        let at = left as usize % pages.len();
+        let bumps = left / pages.len() as u32 % 2 == 1;
+        left = left / pages.len() as u32 / 2;
+        if bumps {
+            writes[at] = writes[at].saturating_add(1);
+            memory.write(rt, pages[at], writes[at]);
+        } else {
+            assert_eq!(rt;
+                memory.get(rt, pages[at]),
+                Ok(written(writes[at])),
+                "{levels}, {calls}, {call}"
+            );
+        }
+    }
+    for (page, writes) in pages.iter().zip(writes.iter()) {
+        assert_eq!(rt;
+            memory.get(rt, *page),
+            Ok(written(*writes)),
+            "{levels}, {calls}"
+        );
+    }
+    Ok(())
+}
+
 #[test]
-fn accesses_are_as_many_as_the_path_has_nodes(rt: HostRuntime) -> Result<(), Fail> {
-    for (levels, reads, both) in [(1, 2, 5), (2, 3, 8), (4, 5, 14)] {
+fn five_calls_in_each_order_are_those_of_a_list_of_counts(rt: HostRuntime) -> Result<(), Fail> {
+    for calls in 0..8u32.pow(5) {
+        follow(&rt, rt.alloc(), 1, &[0, 1, 2, 3], calls)?;
+    }
+    for calls in 0..12u32.pow(5) {
+        follow(&rt, rt.alloc(), 2, &[0, 1, 4, 5, 8, 15], calls)?;
+    }
+    Ok(())
+}
+
+// Three of the pages are in one set of two ways.
+#[test]
+fn five_calls_that_evict_are_those_of_a_list_of_counts(rt: HostRuntime) -> Result<(), Fail> {
+    for calls in 0..8u32.pow(5) {
+        follow(&rt, rt.alloc(), 3, &[0, 16, 32, 5], calls)?;
+    }
+    Ok(())
+}
+
+// A page that is asked for or counted in, by a number that goes on.
+fn after(number: u32) -> u32 {
+    number.wrapping_mul(1_664_525).wrapping_add(1_013_904_223)
+}
+
+// In trees of four levels and of five nodes go out as well. A call makes no more accesses than twice those of a path whose
+// nodes all go out for others.
+#[test]
+fn calls_in_no_order_are_those_of_a_list_of_counts(rt: HostRuntime) -> Result<(), Fail> {
+    for (levels, most) in [(3, 30), (4, 62), (5, 126)] {
         let mut memory = honest(rt.alloc(), levels)?;
-        let booted = memory.bus.accesses;
-        assert_eq!(rt;
-            memory.get(&rt, 2),
-            Ok(CounterBlock::new()),
-            "levels {levels}"
-        );
-        let after_get = memory.bus.accesses;
-        assert_eq!(rt;
-            after_get.checked_sub(booted),
-            Some(reads),
-            "levels {levels}"
-        );
-        assert_eq!(rt; memory.bus.block_reads, 1, "levels {levels}");
-        let first = Counter { page: 0, line: 1 };
-        assert_eq!(rt;
-            memory.bump(&rt, 2, 7, 0),
-            Ok(Bumped::Line(first)),
-            "levels {levels}"
-        );
-        assert_eq!(rt;
-            memory.bus.accesses.checked_sub(after_get),
-            Some(both),
-            "levels {levels}"
-        );
-        assert_eq!(rt; memory.bus.block_reads, 2, "levels {levels}");
+        let pages = memory.geometry.pages();
+        assert!(rt; pages > 0);
+        let mut writes = vec![in rt.alloc(); 0u8; pages as usize]?;
+        let mut number = 7;
+        for call in 0..900u32 {
+            number = after(number);
+            let page = (number >> 8) % pages;
+            assert!(rt; (page as usize) < writes.len());
+            let _ = memory.accesses();
+            if number % 3 == 0 {
+                assert_eq!(rt;
+                    memory.get(&rt, page),
+                    Ok(written(writes[page as usize])),
+                    "{levels}, {call}"
+                );
+            } else {
+                writes[page as usize] = writes[page as usize].saturating_add(1);
+                memory.write(&rt, page, writes[page as usize]);
+            }
+            assert!(rt; memory.accesses() <= most, "{levels}, {call}");
+        }
+    }
+    Ok(())
+}
+
+// Page 0 was written and page 16 read, so a call for page 32 writes one block and reads a path. Whichever access is refused, no
+// counter changes, and the next call answers.
+#[test]
+fn each_access_that_is_refused_is_want_of_memory(rt: HostRuntime) -> Result<(), Fail> {
+    for most in 0..4u64 {
+        for bumps in [false, true] {
+            let mut memory = honest(rt.alloc(), 3)?;
+            memory.write(&rt, 0, 1);
+            assert_eq!(rt; memory.get(&rt, 16), Ok(written(0)), "{most}");
+            let _ = memory.accesses();
+            memory.bus.most = most;
+            let stop = if bumps {
+                memory.bump(&rt, 32, 0, 0).err()
+            } else {
+                memory.get(&rt, 32).err()
+            };
+            assert_eq!(rt; stop, Some(MemStop::NoMemory), "{most}");
+            assert_eq!(rt; memory.get(&rt, 16), Ok(written(0)), "{most}");
+            assert_eq!(rt; memory.accesses(), most);
+            memory.bus.most = MANY;
+            assert_eq!(rt; memory.get(&rt, 0), Ok(written(1)), "{most}");
+            assert_eq!(rt; memory.get(&rt, 32), Ok(written(0)), "{most}");
+            let (_, evidence) = memory.finish();
+            assert_eq!(rt; evidence, None, "{most}");
+        }
     }
     Ok(())
 }
@@ -316,16 +484,17 @@ fn a_flipped_counter_is_tampering(rt: HostRuntime) -> Result<(), Fail> {
     Ok(())
 }
 
-// Where all tags are zeros each block passes, and is used as it was answered.
+// Where all tags are zeros each block passes, and is used as it was answered, then and from its copy.
 #[test]
 fn a_block_that_passes_is_used_and_shown(rt: HostRuntime) -> Result<(), Fail> {
     let mut memory = flipped(rt.alloc(), Zeros, 1, 1, 1, 8)?;
-    let mut bytes = [0; 64];
-    bytes[8] = 1;
-    assert_eq!(rt; memory.get(&rt, 1), Ok(CounterBlock::from_bytes(&bytes)));
+    assert_eq!(rt; memory.get(&rt, 1), Ok(written(1)));
+    assert_eq!(rt; memory.get(&rt, 1), Ok(written(1)));
     assert_eq!(rt; memory.bus.bus.lies(), 1);
     let (made, evidence) = memory.finish();
     assert_eq!(rt; made, 5);
+    let mut bytes = [0; 64];
+    bytes[8] = 1;
     let collision = Evidence::Collision {
         level: 0,
         index: 1,

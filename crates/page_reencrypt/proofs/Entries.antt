@@ -127,20 +127,6 @@ listed_page page line listed =
 pub length-page_lines : (page : ℕ) → length (page_lines page) ≡ 64
 length-page_lines page = length-range_with_len (64 * page) 64
 
--- the accesses of a write: of a line alone there is one, and of a page there are 127 at most
-pub accesses_of_write : (counter : Counter) (line before after : ℕ) → (counter.line ≢ 0 → after ≤ before + 1) → after ≤ before + 127 →
-    after + 1 ≤ before + 2 * length (lines_encrypted counter line)
-accesses_of_write counter line before after once few =
-    elim (cases_eq counter.line 0) [
-      | inl new ↦
-          let long : length (lines_encrypted counter line) ≡ 64 = ap length (encrypted_page counter line new) ∙ length-page_lines (page_of line) in
-          omega (arith, long, few)
-      | inr old ↦
-          let long : length (lines_encrypted counter line) ≡ 1 = ap length (encrypted_line counter line old) in
-          let one = once old in
-          omega (arith, long, one)
-    ]
-
 -- all that a write encrypts is of the line's page, and the line is among it
 pub encrypted_of_page : (counter : Counter) (line at : ℕ) → Contains (lines_encrypted counter line) at → page_of at ≡ page_of line
 encrypted_of_page counter line at listed =

@@ -1,5 +1,5 @@
 -- What the lines outside keep over a call, by what the memory outside keeps.
-use Rattle.std.proofs.Common.{◌≡◌, ◌≢◌, ◌⊎◌, inl, inr, ℕ, ◌<◌, ◌≤◌, List, Option, Some, None, Result, Ok, Err, refl, ap, sym, ◌∙◌, subst, arith}
+use Rattle.std.proofs.Common.{◌≡◌, ◌≢◌, ◌⊎◌, inl, inr, ℕ, ◌<◌, ◌≤◌, false, List, Option, Some, None, Result, Ok, Err, refl, ap, sym, ◌∙◌, subst, arith}
 use Rattle.std.specs.Option.{option_or}
 use Rattle.std.specs.Result.{result_err}
 use Rattle.sec_base.specs.declared.counter.Counter.{Counter}
@@ -12,14 +12,15 @@ use Rattle.bus_model.specs.BusHistory.{BusHistory}
 use Rattle.tag_engine.specs.TagEngine.{tags_of}
 use Rattle.checked_bus.specs.Steps.{IsAccounted, stop_of}
 use Rattle.checked_bus.specs.Steps.{unwritten_in}
+use Rattle.bonsai_tree.specs.Node.{CachedNode, page_block}
 use Rattle.bonsai_tree.specs.Tree.{IsTree}
-use Rattle.counter_cache.specs.Counters.{CountersView, counters_in}
+use Rattle.counter_cache.specs.Counters.{CountersView, cached_block, counters_in}
 use Rattle.page_reencrypt.specs.Consistency.{IsConsistent}
 use Rattle.page_reencrypt.specs.Contents.{HoldsLast, counter_in, never_written}
-use Rattle.page_reencrypt.specs.Outside.{AreConsistent, CountersSay, HasCounter, HaveLast, HaveLastNodes, HaveRisen, MemoryTerms, OutsideView, TreeFits, outside_of, terms_of}
-use Rattle.page_reencrypt.specs.SealedLines.{AreProtected, CountersRise, IsOfPage, IsProtected, IsWrittenThrough, SealedLinesView}
+use Rattle.page_reencrypt.specs.Outside.{AreConsistent, CountersFit, CountersSay, HaveLast, HaveLastNodes, MemoryTerms, OutsideView, outside_of, terms_of}
+use Rattle.page_reencrypt.specs.SealedLines.{AreProtected, CountersRise, FitsTogether, IsOfPage, IsProtected, SealedLinesView}
 use Rattle.page_reencrypt.specs.Stops.{lasting_stop}
-use Rattle.page_reencrypt.proofs.RisingPairs.{counter_fresh, counter_limited, has_counter}
+use Rattle.page_reencrypt.proofs.RisingPairs.{counter_fresh, counter_limited}
 use Rattle.page_reencrypt.proofs.Stops.{going_not_memory, going_not_tampered, other_stop}
 use Rattle.page_reencrypt.proofs.Unmade.{same_tags}
 
@@ -63,13 +64,15 @@ module _ (before : Option MemStop) (going : lasting_stop before ≡ None) where
   none_before tag_of used made history evidence was =
       other_stop tag_of used made history before None evidence (λ place is. going_not_tampered before place going is) (λ place is. cc) was
 
--- A memory is written through, where its tree fits and its counters say the entries.
-pub through_by : (tag_of : Message → List ℕ) (levels limit : ℕ) (counters : CountersView) (history : BusHistory) (made : List Message) (used : List (ℕ × Counter))
+-- All of it fits together, where the counters fit and say the entries.
+together_by : (tag_of : Message → List ℕ) (levels limit : ℕ) (counters : CountersView) (history : BusHistory) (made : List Message) (used : List (ℕ × Counter))
     (stopped : Option MemStop) → IsConsistent tag_of levels history made used → HoldsLast tag_of (line_count levels) made history.written →
     CountersRise levels limit used stopped → IsTree tag_of counters.tree made history.written →
-    ((page : ℕ) → page < page_count levels → IsOfPage used page (counters_in counters made page)) → IsWrittenThrough tag_of levels counters history made used
-through_by tag_of levels limit counters history made used stopped kept last rise tree say = record {
+    ((page : ℕ) (copy : CachedNode) → cached_block counters page ≡ Some copy → copy.changed ≡ false → copy.block ≡ page_block page made) →
+    ((page : ℕ) → page < page_count levels → IsOfPage used page (counters_in counters made page)) → FitsTogether tag_of levels counters history made used
+together_by tag_of levels limit counters history made used stopped kept last rise tree clean say = record {
   tree = tree;
+  clean = clean;
   current = say;
   fresh = λ line. counter_fresh limit used line rise.within;
   paired = kept.paired;
@@ -87,30 +90,8 @@ module _ {B T : Type 0} (d n : T → List ℕ → List ℕ) (history : B → Bus
   abbrev terms : MemoryTerms B
   terms = terms_of history bus_moved d n (outside_of m)
 
-  -- What a memory that goes on gives to its calls
-
+  -- the limit of a memory that goes on
   module _ (kept : AreProtected d n history m) (going : lasting_stop m.stopped ≡ None) where
-    pub kept_consistent : AreConsistent terms (outside_of m)
-    kept_consistent = kept.always.consistent
-
-    pub kept_last : HaveLast terms (outside_of m)
-    kept_last = kept.always.holds_last (going_not_memory m.stopped going)
-
-    pub kept_nodes : HaveLastNodes terms (outside_of m)
-    kept_nodes = kept.always.nodes_hold_last (going_not_memory m.stopped going)
-
-    pub kept_risen : HaveRisen terms (outside_of m)
-    kept_risen quiet = (kept.rise quiet).rising
-
-    pub kept_fits : TreeFits terms (outside_of m) m.counters
-    kept_fits quiet = (kept.through going quiet).tree
-
-    pub kept_say : CountersSay terms (outside_of m) m.counters
-    kept_say quiet = (kept.through going quiet).current
-
-    pub kept_started : m.engine.evidence ≡ None → (at : ℕ) → HasCounter m.pads.used at (counter_in m.pads.used at)
-    kept_started quiet at = has_counter m.limit m.pads.used at (kept.rise quiet).within
-
     pub kept_limited : (line : ℕ) → m.engine.evidence ≡ None → (counter_in m.pads.used line).page ≤ m.limit
     kept_limited line quiet = counter_limited m.limit m.pads.used line (kept.rise quiet).within
 
@@ -118,22 +99,22 @@ module _ {B T : Type 0} (d n : T → List ℕ → List ℕ) (history : B → Bus
   abbrev Holds : OutsideView B T → CountersView → Option MemStop → (Message → List ℕ) → ℕ → Type 0
   Holds new counters stopped tag_of levels = IsProtected tag_of levels (history new.bus) new.engine.made new.pads.used stopped
       × (new.engine.evidence ≡ None → CountersRise levels m.limit new.pads.used stopped)
-      × (lasting_stop stopped ≡ None → new.engine.evidence ≡ None → IsWrittenThrough tag_of levels counters (history new.bus) new.engine.made new.pads.used)
+      × (lasting_stop stopped ≡ None → new.engine.evidence ≡ None → FitsTogether tag_of levels counters (history new.bus) new.engine.made new.pads.used)
 
   pub protected_after : (new : OutsideView B T) (counters : CountersView) (stopped : Option MemStop) → new.engine.tagger ≡ m.engine.tagger →
       new.engine.levels ≡ m.engine.levels → counters.tree.levels ≡ m.engine.levels → AreConsistent terms new → (stopped ≢ Some NoMemory → HaveLast terms new) →
       (stopped ≢ Some NoMemory → HaveLastNodes terms new) → (new.engine.evidence ≡ None → CountersRise m.engine.levels m.limit new.pads.used stopped) →
-      (lasting_stop stopped ≡ None → TreeFits terms new counters) → (lasting_stop stopped ≡ None → CountersSay terms new counters) →
+      (lasting_stop stopped ≡ None → CountersFit terms new counters) → (lasting_stop stopped ≡ None → CountersSay terms new counters) →
       AreProtected d n history
       (record { bus = new.bus; engine = new.engine; pads = new.pads; counters = counters; limit = m.limit; stopped = stopped })
   protected_after new counters stopped tagger levels tree_levels kept last nodes rise fits say =
       let here : Holds new counters stopped terms.tag_of m.engine.levels = (
         record { consistent = kept; holds_last = last; nodes_hold_last = nodes },
         rise,
-        λ going quiet. through_by terms.tag_of m.engine.levels m.limit counters (history new.bus) new.engine.made new.pads.used stopped kept
-            (last (going_not_memory stopped going)) (rise quiet) (fits going quiet) (say going quiet),
+        λ going quiet. together_by terms.tag_of m.engine.levels m.limit counters (history new.bus) new.engine.made new.pads.used stopped kept
+            (last (going_not_memory stopped going)) (rise quiet) ((fits going).tree.fits quiet) ((fits going).clean quiet) (say going quiet),
       ) in
       let there : Holds new counters stopped (tags_of d n new.engine) new.engine.levels =
       subst (λ (l : ℕ). Holds new counters stopped (tags_of d n new.engine) l) (sym levels)
       (subst (λ (t : Message → List ℕ). Holds new counters stopped t m.engine.levels) (sym (same_tags d n m.engine new.engine tagger levels)) here) in
-      record { tree_levels = tree_levels ∙ sym levels; always = there.0; rise = there.1; through = there.2 }
+      record { tree_levels = tree_levels ∙ sym levels; always = there.0; rise = there.1; fits = there.2 }

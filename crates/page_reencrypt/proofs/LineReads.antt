@@ -16,13 +16,12 @@ use Rattle.bus_model.specs.BusHistory.{BusHistory}
 use Rattle.tag_engine.specs.TagEngine.{TagEngineView, forgery_of}
 use Rattle.pad_stream.specs.Pad.{cipher_of}
 use Rattle.pad_stream.specs.Pads.{AreRising}
-use Rattle.checked_bus.specs.Checks.{IsCheckedRead, Passed}
+use Rattle.checked_bus.specs.Checks.{IsCheckedRead}
 use Rattle.checked_bus.specs.Steps.{IsCurrent}
 use Rattle.checked_bus.proofs.Evidences.{shown_is}
 use Rattle.page_reencrypt.specs.Consistency.{IsConsistent}
 use Rattle.page_reencrypt.specs.Contents.{HoldsLast, bytes_of, line_bytes, never_written}
 use Rattle.page_reencrypt.specs.Outside.{HasCounter}
-use Rattle.page_reencrypt.specs.SealedLines.{IsReadUnder}
 use Rattle.page_reencrypt.proofs.RisingPairs.{is_current, last_none, last_under_last}
 
 -- without evidence there was none before
@@ -83,10 +82,3 @@ read_found {T} tag_of line counter history history' engine engine' (Err (Tampere
 read_found tag_of line counter history history' engine engine' (Err (Spent page)) refused evidence none shown = absurd refused
 read_found {T} tag_of line counter history history' engine engine' (Err NoMemory) refused evidence none shown =
     let same : engine'.evidence ≡ engine.evidence = ap (λ (e : TagEngineView T). e.evidence) refused.1 in absurd (cc)
-
--- it is read as its place answered
-pub read_under : {T : Type 0} (tag_of : Message → List ℕ) (key : List ℕ) (line : ℕ) (counter : Counter) (history history' : BusHistory) (engine engine' : TagEngineView T)
-    (cipher bytes : List ℕ) → Passed tag_of line counter history history' engine engine' cipher → bytes ≡ cipher_of key line counter cipher →
-    IsReadUnder tag_of key line counter history' bytes
-read_under tag_of key line counter history history' engine engine' cipher bytes passed plain =
-    inr (history, passed.sealed, passed.tagged, passed.answered, plain ∙ ap (cipher_of key line counter) passed.given)

@@ -12,8 +12,8 @@ use Rattle.pad_stream.specs.PadEngine.{PadEngineView, new_pads}
 use Rattle.checked_bus.specs.Steps.{Moves as StepMoves, SameLines}
 use Rattle.checked_bus.proofs.Steps.{counted_not}
 use Rattle.split_counter.specs.CounterBlock.{CounterBlockView, counter_of, new_block, place_of}
-use Rattle.bonsai_tree.specs.Tree.{HoldsTree, IsTree, NodesAreMade, NodesHoldLast}
-use Rattle.counter_cache.specs.Counters.{CountersView, counters_in}
+use Rattle.bonsai_tree.specs.Tree.{IsTree, NodesAreMade, NodesHoldLast}
+use Rattle.counter_cache.specs.Counters.{CountersView, HoldsCounters, counters_in}
 use Rattle.page_reencrypt.specs.Consistency.{IsConsistent}
 use Rattle.page_reencrypt.specs.Contents.{HoldsLast}
 use Rattle.page_reencrypt.specs.SealedLines.{AreProtected, CountersRise, IsOfPage, IsUnbooted, SealedLinesView}
@@ -82,7 +82,7 @@ module _ {B T : Type 0} (d n : T → List ℕ → List ℕ) (history : B → Bus
     (tree_levels : counters.tree.levels ≡ levels) (moves : StepMoves (history first) start (history bus) engine) (lines : SameLines (history first) start.made (history bus) engine.made)
     (made_blocks : NodesAreMade levels engine.made (history bus).written) (stored : NodesHoldLast levels engine.made (history bus).written)
     (quiet : engine.evidence ≡ start.evidence)
-    (holds : HoldsTree (tags_of d n) counters.tree (history bus) engine)
+    (holds : HoldsCounters (tags_of d n) counters (history bus) engine)
     (zeros : (page : ℕ) → page < page_count levels → counters_in counters engine.made page ≡ new_block) where
   abbrev begun : SealedLinesView B T
   begun = record { bus = first; engine = start; pads = pads; counters = counters; limit = limit; stopped = None }
@@ -123,7 +123,7 @@ module _ {B T : Type 0} (d n : T → List ℕ → List ℕ) (history : B → Bus
   now_tree : IsTree tag_of counters.tree engine.made (history bus).written
   now_tree =
       subst (λ (t : Message → List ℕ). IsTree t counters.tree engine.made (history bus).written) (same_tags d n start engine moves.tagger moves.levels)
-      (holds.fits (quiet ∙ no_evidence))
+      (holds.tree.fits (quiet ∙ no_evidence))
 
   now_says : (page : ℕ) → page < page_count start.levels → IsOfPage pads.used page (counters_in counters engine.made page)
   now_says page inside =
@@ -135,4 +135,4 @@ module _ {B T : Type 0} (d n : T → List ℕ → List ℕ) (history : B → Bus
       protected_after d n history bus_moved begun (record { bus = bus; engine = engine; pads = pads }) counters None moves.tagger moves.levels (tree_levels ∙ sym levels_are) now_consistent
       (λ goes_on. now_last) (λ goes_on. subst (λ (l : ℕ). NodesHoldLast l engine.made (history bus).written) (sym levels_are) stored)
       (λ still. subst (λ (u : List (ℕ × Counter)). CountersRise start.levels limit u None) (sym no_entries) (new_rise start.levels limit))
-      (λ goes_on still. now_tree) (λ goes_on still. now_says)
+      (λ goes_on. record { tree = record { fits = λ still. now_tree }; clean = holds.clean }) (λ goes_on still. now_says)

@@ -1,4 +1,4 @@
--- The steps of a write of a line: its page's counters are read, memory is taken, they are counted up, and its lines are
+-- The steps of a write of a line: its page's counters are had, memory is taken, they are counted up, and its lines are
 -- sealed.
 use Rattle.std.proofs.Common.{◌≡◌, ◌≢◌, ◌⊎◌, inl, inr, ℕ, ◌+◌, ◌<◌, ◌≤◌, max, List, [], ◌∷◌, ◌++◌, length, map, take, replicate, slice_index, slice_set, Option, Some, None, Contains, Result, Ok, Err, OnOk, refl, ap, sym, ◌∙◌, subst, arith, length-append}
 use Rattle.std.proofs.lemmas.Bool.{cases_eq}
@@ -22,16 +22,16 @@ use Rattle.split_counter.specs.declared.bumped.Bumped.{Bumped}
 use Rattle.split_counter.specs.declared.bumped.Bumped.TheVariants.{Line as line_up, Page as page_up, Spent as used_up}
 use Rattle.split_counter.specs.CounterBlock.{CounterBlockView, IsCounterBlock, after_bump, after_outcome, bumped, counter_of, last_counter, next_counter, place_of}
 use Rattle.bonsai_tree.specs.Node.{path_index}
-use Rattle.bonsai_tree.specs.Tree.{IsOnPath, PathWasRead, fetch_accesses}
-use Rattle.counter_cache.specs.Counters.{CountersView, bump_messages, counters_in}
+use Rattle.bonsai_tree.specs.Tree.{IsFetchPlace, PathWasRead}
+use Rattle.counter_cache.specs.Counters.{CountersView, SameCounters, cached_pages, counter_accesses, counters_in}
 use Rattle.page_reencrypt.specs.Contents.{counter_in, lines_encrypted, page_lines}
-use Rattle.page_reencrypt.specs.Outside.{AreConsistent, AreSealed, AreSealedInOrder, CountersSay, DiffersInRoom, HasCounter, HaveLast, HaveRisen, IsWrite, LineWrite, MemoryTerms, OutsideView, TreeFits, terms_of, with_room}
-use Rattle.page_reencrypt.specs.SealedLines.{IsOfPage}
+use Rattle.page_reencrypt.specs.Outside.{AreConsistent, AreSealed, AreSealedInOrder, CountersFit, CountersSay, DiffersInRoom, HasCounter, HaveLast, HaveLastNodes, HaveRisen, IsWrite, LineWrite, MemoryTerms, OutsideView, terms_of, with_room}
+use Rattle.page_reencrypt.specs.SealedLines.{CopiesCame, IsOfPage}
 use Rattle.page_reencrypt.specs.Stops.{lasting_stop}
 use Rattle.page_reencrypt.proofs.Consistency.{counter_in-same, counter_in-other}
 use Rattle.page_reencrypt.proofs.Entries.{counter_among, counter_beside, encrypted_line, encrypted_page, listed_page, next_after, next_line, next_page, page_listed}
 use Rattle.page_reencrypt.proofs.LineReads.{quiet_before}
-use Rattle.page_reencrypt.proofs.Reaching.{IsReached, early_write, late_counters, late_write, reached_on, reached_risen, reached_roomy, reached_spent}
+use Rattle.page_reencrypt.proofs.Reaching.{IsReached, came_on, early_write, late_counters, late_write, reached_idle, reached_on, reached_risen, reached_roomy, reached_spent}
 use Rattle.page_reencrypt.proofs.Sealing.{all_in_order, listed_one, one_sealed, one_unwritten, own_reread, same_terms}
 
 -- What a call answered
@@ -136,7 +136,7 @@ module _ {B T : Type 0} (history : B → BusHistory) (moved : B → B → Type 0
   module _ (say : CountersSay terms old counters) where
     -- the counters that say the entries still do, where both are the same
     pub say_same : (new : OutsideView B T) (counters' : CountersView) (stop : Option MemStop) → IsReached terms old counters new counters' stop →
-        (new.engine.evidence ≡ None → (page : ℕ) → counters_in counters' new.engine.made page ≡ counters_in counters old.engine.made page) →
+        (new.engine.evidence ≡ None → SameCounters counters old.engine.made counters' new.engine.made) →
         CountersSay terms new counters'
     say_same new counters' stop reached same = λ quiet page inside line of_page.
         let was_quiet = quiet_before old.engine.evidence new.engine.evidence reached.node.step.evidence quiet in
@@ -191,34 +191,36 @@ module _ {B T : Type 0} (history : B → BusHistory) (moved : B → B → Type 0
   -- it stopped before a line was sealed
   pub stopped_early : (new : OutsideView B T) (counters' : CountersView) (why : MemStop) → IsReached terms old counters new counters' (Some why) →
       (limit line : ℕ) (bytes : List ℕ) → HaveRisen terms old → ((page : ℕ) → why ≢ Spent page) →
-      (new.engine.evidence ≡ None → (page : ℕ) → counters_in counters' new.engine.made page ≡ counters_in counters old.engine.made page)
+      (new.engine.evidence ≡ None → SameCounters counters old.engine.made counters' new.engine.made)
       ⊎ ((64 ≤ new.pads.room) × (length old.engine.made + 64 ≤ length new.engine.made + new.engine.room)) →
-      ((place : Place) → why ≡ Tampered place → IsOnPath terms.levels 0 (page_of line) place
+      ((place : Place) → why ≡ Tampered place → IsFetchPlace terms.levels (page_of line) place
       × (old.engine.evidence ≡ None → Rose (history old.bus).lies (history new.bus).lies)) →
       (new.engine.evidence ≡ None → counter_in old.pads.used line ≡ last_counter limit →
-      ((page : ℕ) → counters_in counters' new.engine.made page ≡ counters_in counters old.engine.made page)
-      × ((history new.bus).accesses ≤ (history old.bus).accesses + fetch_accesses old.engine.levels)) →
+      SameCounters counters old.engine.made counters' new.engine.made
+      × ((history new.bus).accesses ≤ (history old.bus).accesses + counter_accesses old.engine.levels)) →
+      CopiesCame (page_of line) (history old.bus) old.engine.made counters (history new.bus) counters' →
       IsWrite terms limit line bytes old counters new counters' (Some why)
-  stopped_early new counters' why reached limit line bytes rose unspent reserved tampered last =
+  stopped_early new counters' why reached limit line bytes rose unspent reserved tampered last copies =
       early_write terms old counters new counters' (Some why) reached limit line bytes rose (λ is. cc)
       (λ going. absurd (lasts why unspent going)) reserved
       (λ place is. let same : why ≡ Tampered place = cc in tampered place same)
-      (λ page is. let same : why ≡ Spent page = cc in absurd (unspent page same)) last
+      (λ page is. let same : why ≡ Spent page = cc in absurd (unspent page same)) last copies
 
   -- it was spent
   pub spent_early : (new : OutsideView B T) (counters' : CountersView) (page : ℕ) → IsReached terms old counters new counters' None →
       (limit line : ℕ) (bytes : List ℕ) → HaveRisen terms old → CountersSay terms new counters' →
-      (new.engine.evidence ≡ None → (at : ℕ) → counters_in counters' new.engine.made at ≡ counters_in counters old.engine.made at)
+      (new.engine.evidence ≡ None → SameCounters counters old.engine.made counters' new.engine.made)
       ⊎ ((64 ≤ new.pads.room) × (length old.engine.made + 64 ≤ length new.engine.made + new.engine.room)) →
       page ≡ page_of line → (new.engine.evidence ≡ None → counter_in old.pads.used line ≡ last_counter limit) →
       (new.engine.evidence ≡ None → counter_in old.pads.used line ≡ last_counter limit →
-      ((page : ℕ) → counters_in counters' new.engine.made page ≡ counters_in counters old.engine.made page)
-      × ((history new.bus).accesses ≤ (history old.bus).accesses + fetch_accesses old.engine.levels)) →
+      SameCounters counters old.engine.made counters' new.engine.made
+      × ((history new.bus).accesses ≤ (history old.bus).accesses + counter_accesses old.engine.levels)) →
+      CopiesCame (page_of line) (history old.bus) old.engine.made counters (history new.bus) counters' →
       IsWrite terms limit line bytes old counters new counters' (Some (Spent page))
-  spent_early new counters' page reached limit line bytes rose say reserved page_is last alone =
+  spent_early new counters' page reached limit line bytes rose say reserved page_is last alone copies =
       early_write terms old counters new counters' (Some (Spent page)) (reached_spent terms old counters new counters' page reached) limit line bytes rose (λ is. cc)
       (λ going. say) reserved (λ place is. absurd (cc))
-      (λ other is. let same : page ≡ other = cc in (sym same ∙ page_is, last)) alone
+      (λ other is. let same : page ≡ other = cc in (sym same ∙ page_is, last)) alone copies
 
   -- Memory was taken, where the counters were had
 
@@ -233,55 +235,40 @@ module _ {B T : Type 0} (history : B → BusHistory) (moved : B → B → Type 0
         ∙ ap (λ (e : TagEngineView T). let o : OutsideView B T = record { bus = got.bus; engine = e; pads = new.pads } in o) differs.engine
         ∙ ap (λ (p : PadEngineView). let o : OutsideView B T = record { bus = got.bus; engine = tags_with_room differs.room got.engine; pads = p } in o) differs.pads))
 
-    module _ (roomy : OutsideView B T) (messages : ℕ) (taken : roomy ≡ with_room messages 64 got) where
+    module _ (roomy : OutsideView B T) (taken : roomy ≡ with_room 64 64 got) where
       pub roomy_reached : IsReached terms old counters roomy counters' None
       roomy_reached =
           reached_on terms moved_on old got roomy counters counters' counters' None a
-          (reached_roomy terms got roomy counters' None messages (pads_with_room 64 got.pads) unmoved a.node.consistent a.node.holds_last
+          (reached_roomy terms got roomy counters' None 64 (pads_with_room 64 got.pads) unmoved a.node.consistent a.node.holds_last
           (a.node.nodes_hold_last (λ is. cc)) (a.fits refl) (λ place is. cc) refl refl taken)
-
-      pub roomy_made : roomy.engine.made ≡ got.engine.made
-      roomy_made = ap (λ (o : OutsideView B T). o.engine.made) taken
 
       roomy_terms : terms_of history moved d n roomy ≡ terms
       roomy_terms = same_terms history moved d n old roomy roomy_reached.node.step.tagger roomy_reached.node.step.levels
 
-      pub roomy_fits : TreeFits (terms_of history moved d n roomy) roomy counters'
-      roomy_fits = subst (λ (t : MemoryTerms B). TreeFits t roomy counters') (sym roomy_terms) (roomy_reached.fits refl)
+      pub roomy_fits : CountersFit (terms_of history moved d n roomy) roomy counters'
+      roomy_fits = subst (λ (t : MemoryTerms B). CountersFit t roomy counters') (sym roomy_terms) (roomy_reached.fits refl)
 
-      pub roomy_room : messages ≤ roomy.engine.room
-      roomy_room = let room = ap (λ (o : OutsideView B T). o.engine.room) taken in omega (arith, room, max-right got.engine.room messages)
+      roomy_room : 64 ≤ roomy.engine.room
+      roomy_room = let room = ap (λ (o : OutsideView B T). o.engine.room) taken in omega (arith, room, max-right got.engine.room 64)
 
-      pub roomy_pads : 64 ≤ roomy.pads.room
+      roomy_pads : 64 ≤ roomy.pads.room
       roomy_pads = let room = ap (λ (o : OutsideView B T). o.pads.room) taken in omega (arith, room, max-right got.pads.room 64)
 
       -- and then the counters were counted up
-
-      module _ (mid : OutsideView B T) (counters'' : CountersView) (stop : Option MemStop)
-          (b : IsReached (terms_of history moved d n roomy) roomy counters' mid counters'' stop) where
-        pub mid_reached : IsReached terms old counters mid counters'' stop
+      module _ (mid : OutsideView B T) (counters'' : CountersView) (b : IsReached (terms_of history moved d n roomy) roomy counters' mid counters'' None) where
+        mid_reached : IsReached terms old counters mid counters'' None
         mid_reached =
-            reached_on terms moved_on old roomy mid counters counters' counters'' stop roomy_reached
-            (subst (λ (t : MemoryTerms B). IsReached t roomy counters' mid counters'' stop) roomy_terms b)
+            reached_on terms moved_on old roomy mid counters counters' counters'' None roomy_reached
+            (subst (λ (t : MemoryTerms B). IsReached t roomy counters' mid counters'' None) roomy_terms b)
 
         -- there is memory for a page
-        pub mid_room : messages ≡ 64 + bump_messages old.engine.levels → mid.pads ≡ roomy.pads → roomy.engine.room ≤ mid.engine.room + bump_messages roomy.engine.levels →
+        mid_room : mid.pads ≡ roomy.pads → mid.engine ≡ roomy.engine →
             (64 ≤ mid.pads.room) × (64 ≤ mid.engine.room) × (length old.engine.made + 64 ≤ length mid.engine.made + mid.engine.room)
-        mid_room many pads room =
-            let levels : roomy.engine.levels ≡ old.engine.levels = roomy_reached.node.step.levels in
+        mid_room pads engine =
             let same = ap (λ (p : PadEngineView). p.room) pads in
             let made = ap length mid_reached.node.step.made ∙ length-append old.engine.made mid_reached.node.step.more in
-            let enough : 64 ≤ mid.engine.room = omega (arith, many, room, levels, roomy_room) in
+            let enough : 64 ≤ mid.engine.room = omega (arith, ap (λ (e : TagEngineView T). e.room) engine, roomy_room) in
             (omega (arith, same, roomy_pads), enough, omega (arith, made, enough))
-
-        -- a false answer was taken for tampering, or shown before
-        pub mid_lied : (roomy.engine.evidence ≡ None → Rose (history roomy.bus).lies (history mid.bus).lies) → old.engine.evidence ≡ None →
-            Rose (history old.bus).lies (history mid.bus).lies
-        mid_lied rose quiet =
-            elim (roomy_reached.shows quiet) [
-              | inl still ↦ let lied = rose still in omega (arith, lied, roomy_reached.node.step.lies)
-              | inr lied ↦ omega (arith, lied, b.node.step.lies)
-            ]
 
   -- The counters of the page were had: its block says that of the line, by which a write was foreseen.
   pub record HadCounters (limit line page place : ℕ) (got : OutsideView B T) (counters' : CountersView) (block : CounterBlockView) (counter : Counter) (foreseen : Bumped) : Type 0 where
@@ -289,7 +276,8 @@ module _ {B T : Type 0} (history : B → BusHistory) (moved : B → B → Type 0
     pub inside : line < line_count old.engine.levels
     pub page_is : page ≡ page_of line
     pub place_is : place ≡ place_of line
-    pub same : got.engine.evidence ≡ None → (other : ℕ) → counters_in counters' got.engine.made other ≡ counters_in counters old.engine.made other
+    pub same : got.engine.evidence ≡ None → SameCounters counters old.engine.made counters' got.engine.made
+    pub copies : CopiesCame page (history old.bus) old.engine.made counters (history got.bus) counters'
     pub block_is : got.engine.evidence ≡ None → block ≡ counters_in counters old.engine.made page
     pub is_block : IsCounterBlock block
     pub counter_is : counter ≡ counter_of place block
@@ -313,32 +301,66 @@ module _ {B T : Type 0} (history : B → BusHistory) (moved : B → B → Type 0
         ∙ ap (counter_of (place_of line)) (sym (block_at quiet))
         ∙ ap (λ (p : ℕ). counter_of p block) (sym had.place_is) ∙ sym had.counter_is
 
-    -- where it was not foreseen as spent, that is not the last one
-    pub not_last : got.engine.evidence ≡ None → foreseen ≢ used_up → ((counter0.line ≡ 127) × (limit ≤ counter0.page) → foreseen ≡ used_up) →
-        counter_in old.pads.used line ≢ last_counter limit
-    not_last quiet not_foreseen spent last =
-        let is : counter0 ≡ last_counter limit = sym (counter_here quiet) ∙ last in
-        let page : counter0.page ≡ limit = ap (λ (c : Counter). c.page) is in
-        not_foreseen (spent (ap (λ (c : Counter). c.line) is, omega (arith, page)))
-
     -- and then they were counted up
-    pub record CountedUp (roomy mid : OutsideView B T) (counters'' : CountersView) (messages : ℕ) (outcome : Bumped) : Type 0 where
-      pub taken : roomy ≡ with_room messages 64 got
+    pub record CountedUp (roomy mid : OutsideView B T) (counters'' : CountersView) (outcome : Bumped) : Type 0 where
+      pub taken : roomy ≡ with_room 64 64 got
       pub reached : IsReached (terms_of history moved d n roomy) roomy counters' mid counters'' None
-      pub many : messages ≡ 64 + bump_messages old.engine.levels
       pub pads : mid.pads ≡ roomy.pads
-      pub room : roomy.engine.room ≤ mid.engine.room + bump_messages roomy.engine.levels
+      pub engine : mid.engine ≡ roomy.engine
+      pub copies : CopiesCame page (history old.bus) old.engine.made counters (history mid.bus) counters''
       pub outcome_is : mid.engine.evidence ≡ None → outcome ≡ bumped limit (counter_of place (counters_in counters' roomy.engine.made page))
       pub now : mid.engine.evidence ≡ None → counters_in counters'' mid.engine.made page ≡ (after_bump place limit (counters_in counters' roomy.engine.made page)).1
-      pub others : (other : ℕ) → other ≢ page → counters_in counters'' mid.engine.made other ≡ counters_in counters' roomy.engine.made other
+      pub others : mid.engine.evidence ≡ None → (other : ℕ) → other ≢ page → counters_in counters'' mid.engine.made other ≡ counters_in counters' roomy.engine.made other
 
     module _ (unmoved : moved got.bus got.bus) (moved_on : (first second third : B) → moved first second → moved second third → moved first third)
-        (roomy mid : OutsideView B T) (counters'' : CountersView) (messages : ℕ) (outcome : Bumped) (up : CountedUp roomy mid counters'' messages outcome) where
+        (roomy mid : OutsideView B T) (counters'' : CountersView) (outcome : Bumped) where
+      -- by what a bump of counters on the chip makes of the memory outside
+      pub counted_up : roomy ≡ with_room 64 64 got → moved roomy.bus mid.bus → (history mid.bus ≡ history roomy.bus) × (mid.engine ≡ roomy.engine) →
+          mid.pads ≡ roomy.pads → counters''.tree.levels ≡ counters'.tree.levels →
+          CopiesCame page (history roomy.bus) roomy.engine.made counters' (history mid.bus) counters'' →
+          (CountersFit (terms_of history moved d n roomy) roomy counters' → CountersFit (terms_of history moved d n roomy) mid counters'') →
+          (CountersFit (terms_of history moved d n roomy) roomy counters' → roomy.engine.evidence ≡ None →
+          outcome ≡ bumped limit (counter_of place (counters_in counters' roomy.engine.made page))) →
+          (CountersFit (terms_of history moved d n roomy) roomy counters' → roomy.engine.evidence ≡ None →
+          counters_in counters'' mid.engine.made page ≡ (after_bump place limit (counters_in counters' roomy.engine.made page)).1) →
+          (CountersFit (terms_of history moved d n roomy) roomy counters' → roomy.engine.evidence ≡ None → (other : ℕ) → other ≢ page →
+          counters_in counters'' mid.engine.made other ≡ counters_in counters' roomy.engine.made other) → CountedUp roomy mid counters'' outcome
+      counted_up taken went idle pads levels copies fits outcome_is now others =
+          let fit = roomy_fits got counters' had.reached unmoved moved_on roomy taken in
+          let node = (roomy_reached got counters' had.reached unmoved moved_on roomy taken).node in
+          let same_terms_now = roomy_terms got counters' had.reached unmoved moved_on roomy taken in
+          let same_history = ap (λ (o : OutsideView B T). history o.bus) taken in
+          let had_copies : CopiesCame page (history old.bus) old.engine.made counters (history roomy.bus) counters' =
+          subst (λ (h : BusHistory). CopiesCame page (history old.bus) old.engine.made counters h counters') (sym same_history) had.copies in
+          let up_idle =
+          reached_idle (terms_of history moved d n roomy) roomy counters' mid counters'' went
+          (subst (λ (t : MemoryTerms B). AreConsistent t roomy) (sym same_terms_now) node.consistent)
+          (subst (λ (t : MemoryTerms B). HaveLast t roomy) (sym same_terms_now) node.holds_last)
+          (subst (λ (t : MemoryTerms B). HaveLastNodes t roomy) (sym same_terms_now) (node.nodes_hold_last (λ is. cc)))
+          idle.0 idle.1 pads levels (fits fit) in
+          let quiet_then : mid.engine.evidence ≡ None → roomy.engine.evidence ≡ None = λ quiet. sym (ap (λ (e : TagEngineView T). e.evidence) idle.1) ∙ quiet in
+          record {
+            taken = taken;
+            reached = up_idle;
+            pads = pads;
+            engine = idle.1;
+            copies = came_on page (history old.bus) (history roomy.bus) (history mid.bus) old.engine roomy.engine mid.engine counters counters' counters''
+                had.reached.levels node.step up_idle.node.step had_copies copies;
+            outcome_is = λ quiet. outcome_is fit (quiet_then quiet);
+            now = λ quiet. now fit (quiet_then quiet);
+            others = λ quiet. others fit (quiet_then quiet);
+          }
+
+    module _ (unmoved : moved got.bus got.bus) (moved_on : (first second third : B) → moved first second → moved second third → moved first third)
+        (roomy mid : OutsideView B T) (counters'' : CountersView) (outcome : Bumped) (up : CountedUp roomy mid counters'' outcome) where
       up_reached : IsReached terms old counters mid counters'' None
-      up_reached = mid_reached got counters' had.reached unmoved moved_on roomy messages up.taken mid counters'' None up.reached
+      up_reached = mid_reached got counters' had.reached unmoved moved_on roomy up.taken mid counters'' up.reached
 
       up_room : (64 ≤ mid.pads.room) × (64 ≤ mid.engine.room) × (length old.engine.made + 64 ≤ length mid.engine.made + mid.engine.room)
-      up_room = mid_room got counters' had.reached unmoved moved_on roomy messages up.taken mid counters'' None up.reached up.many up.pads up.room
+      up_room = mid_room got counters' had.reached unmoved moved_on roomy up.taken mid counters'' up.reached up.pads up.engine
+
+      up_copies : CopiesCame (page_of line) (history old.bus) old.engine.made counters (history mid.bus) counters''
+      up_copies = subst (λ (p : ℕ). CopiesCame p (history old.bus) old.engine.made counters (history mid.bus) counters'') had.page_is up.copies
 
       mid_quiet : mid.engine.evidence ≡ None → got.engine.evidence ≡ None
       mid_quiet quiet =
@@ -367,7 +389,7 @@ module _ {B T : Type 0} (history : B → BusHistory) (moved : B → B → Type 0
 
       up_others : mid.engine.evidence ≡ None → (other : ℕ) → other ≢ page_of line →
           counters_in counters'' mid.engine.made other ≡ counters_in counters old.engine.made other
-      up_others quiet other differs = up.others other (λ same. differs (same ∙ had.page_is)) ∙ roomy_block quiet other
+      up_others quiet other differs = up.others quiet other (λ same. differs (same ∙ had.page_is)) ∙ roomy_block quiet other
 
       mid_terms : terms_of history moved d n mid ≡ terms
       mid_terms = same_terms history moved d n old mid up_reached.node.step.tagger up_reached.node.step.levels
@@ -412,17 +434,18 @@ module _ {B T : Type 0} (history : B → BusHistory) (moved : B → B → Type 0
       spent_after bytes rose spent not_foreseen =
           spent_early mid counters'' page up_reached limit line bytes rose
           (λ quiet. absurd (not_foreseen (up_foreseen quiet ∙ spent))) (inr (up_room.0, up_room.2)) had.page_is
-          (λ quiet. absurd (not_foreseen (up_foreseen quiet ∙ spent))) (λ quiet last. absurd (not_foreseen (up_foreseen quiet ∙ spent)))
+          (λ quiet. absurd (not_foreseen (up_foreseen quiet ∙ spent))) (λ quiet last. absurd (not_foreseen (up_foreseen quiet ∙ spent))) up_copies
 
       module _ (started : old.engine.evidence ≡ None → (at : ℕ) → HasCounter old.pads.used at (counter_in old.pads.used at))
-          (path : PathWasRead counters.tree old.engine.made 0 page (history old.bus) (history got.bus)) (bytes : List ℕ) where
-        path_on : PathWasRead counters.tree old.engine.made 0 (page_of line) (history old.bus) (history mid.bus)
-        path_on = record {
+          (path : ¬ Contains (cached_pages counters) page → PathWasRead counters.tree old.engine.made 0 page (history old.bus) (history got.bus)) (bytes : List ℕ) where
+        path_on : ¬ Contains (cached_pages counters) (page_of line) →
+            PathWasRead counters.tree old.engine.made 0 (page_of line) (history old.bus) (history mid.bus)
+        path_on missed = record {
           rose = λ level above inside uncached.
               let place = node_place level (path_index counters.tree.levels level (page_of line)) in
               let taken = ap (λ (o : OutsideView B T). (history o.bus).reads place) up.taken in
               let on = up.reached.node.step.reads place in
-              elim ((subst (λ (p : ℕ). PathWasRead counters.tree old.engine.made 0 p (history old.bus) (history got.bus)) had.page_is path).rose level above inside uncached) [
+              elim ((subst (λ (p : ℕ). ¬ Contains (cached_pages counters) p → PathWasRead counters.tree old.engine.made 0 p (history old.bus) (history got.bus)) had.page_is path missed).rose level above inside uncached) [
                 | inl never ↦ inl never
                 | inr rose ↦ inr (omega (arith, rose, taken, on))
               ];
@@ -477,7 +500,7 @@ module _ {B T : Type 0} (history : B → BusHistory) (moved : B → B → Type 0
               (late_counters terms old counters mid counters'' new up_reached line bytes counter stop in_order (page_of line) ∙ up_now (new_quiet quiet))
               (λ other differs. late_counters terms old counters mid counters'' new up_reached line bytes counter stop in_order other ∙ up_others (new_quiet quiet) other differs)
               (in_terms.entries ∙ ap (λ (u : List (ℕ × Counter)). u ++ (line, counter) ∷ []) up_reached.node.used) quiet)
-              up_room.0 up_room.2 path_on (λ place is. absurd (untampered place is)) going
+              up_room.0 up_room.2 path_on (λ place is. absurd (untampered place is)) going up_copies
 
           pub line_written : HaveRisen terms old →
               history new.bus ≡ after_write (line_place line) (sealed_line (tags_of d n mid.engine) line counter (cipher_of mid.pads.key line counter bytes)) (history mid.bus) →
@@ -546,4 +569,4 @@ module _ {B T : Type 0} (history : B → BusHistory) (moved : B → B → Type 0
               late_write terms old counters mid counters'' new up_reached line bytes paged stop page_order moved_on limit
               (λ quiet. (page_facts (page_quiet quiet)).2)
               (λ quiet. page_not_last limit (counter_in old.pads.used line) (page_facts (page_quiet quiet)).1) page_say
-              up_room.0 up_room.2 path_on (λ place is. refl) (going_on stop page_order.sealed.unspent)
+              up_room.0 up_room.2 path_on (λ place is. refl) (going_on stop page_order.sealed.unspent) up_copies

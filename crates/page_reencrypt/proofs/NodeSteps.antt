@@ -1,5 +1,5 @@
 -- What a step over the nodes leaves of the memory outside.
-use Rattle.std.proofs.Common.{◌≡◌, ◌≢◌, ◌⊎◌, inl, inr, ℕ, List, [], ◌∷◌, ◌++◌, length, Option, Some, None, Contains, Result, Ok, Err, OnOk, OnErr, refl, ap, sym, ◌∙◌, subst, arith, append_assoc}
+use Rattle.std.proofs.Common.{◌≡◌, ◌≢◌, ◌⊎◌, inl, inr, ℕ, List, [], ◌∷◌, ◌++◌, length, Option, Some, None, Contains, Result, Ok, Err, IsOk, OnOk, OnErr, refl, ap, sym, ◌∙◌, subst, append_assoc}
 use Rattle.std.proofs.lemmas.List.{append-nil}
 use Rattle.std.proofs.lemmas.List.Elements.{Contains-append_left}
 use Rattle.sec_base.specs.declared.counter.Counter.{Counter}
@@ -18,10 +18,11 @@ use Rattle.checked_bus.specs.Accesses.{WritesMessages}
 use Rattle.checked_bus.specs.Steps.{Moves as StepMoves, SameLines, stop_of}
 use Rattle.checked_bus.specs.Steps.{unwritten_in}
 use Rattle.checked_bus.proofs.Steps.{same_pairs}
-use Rattle.bonsai_tree.specs.Tree.{HoldsTree, IsTree, NodesAreMade, NodesHoldLast, TreeView}
+use Rattle.bonsai_tree.specs.Tree.{IsTree, NodesAreMade, NodesHoldLast, TreeView}
+use Rattle.counter_cache.specs.Counters.{CountersView, HoldsCounters}
 use Rattle.page_reencrypt.specs.Consistency.{IsConsistent}
 use Rattle.page_reencrypt.specs.Contents.{HoldsLast, HoldsSealed, IsSealed}
-use Rattle.page_reencrypt.specs.Outside.{AreConsistent, HaveLast, HaveLastNodes, IsNodeStep, MemoryTerms, OutsideView, terms_of}
+use Rattle.page_reencrypt.specs.Outside.{AreConsistent, CountersFit, HaveLast, HaveLastNodes, IsNodeStep, MemoryTerms, OutsideView, terms_of}
 use Rattle.page_reencrypt.proofs.Nodes.{line_before}
 use Rattle.page_reencrypt.proofs.Unmade.{same_tags}
 
@@ -33,9 +34,9 @@ pub err_map : {A E P Q : Type 0} (result : Result A E) → (P → Q) → OnErr r
 err_map (Ok value) follows refused = tt
 err_map (Err error) follows refused = follows refused
 
--- no page's counters are on the chip
-pub none_cached : (page : ℕ) → ¬ Contains [] page
-none_cached page listed = omega (arith, listed.1)
+pub ok_gives : {A E P : Type 0} (result : Result A E) → IsOk result → OnOk result P → P
+ok_gives (Ok value) ok holds = holds
+ok_gives (Err error) ok holds = absurd (cc)
 
 pub shows_by : {A P : Type 0} (found : Option A) → (found ≢ None → P) → (found ≡ None) ⊎ P
 shows_by None shown = inl refl
@@ -141,12 +142,17 @@ module _ {B T : Type 0} (history : B → BusHistory) (moved : B → B → Type 0
         (last_blocks (subst (λ (l : ℕ). NodesHoldLast l old.engine.made (history old.bus).written) (sym levels) nodes) goes_on);
   }
 
-  -- the tree still fits, or there is evidence
-  pub fits_before : (tree : TreeView) → (old.engine.evidence ≡ None → IsTree terms.tag_of tree old.engine.made (history old.bus).written) →
-      HoldsTree (tags_of d n) tree (history old.bus) old.engine
-  fits_before tree fits = record { fits = fits }
+  -- the counters still fit, or there is evidence
+  pub fits_before : (counters : CountersView) → CountersFit terms old counters → HoldsCounters (tags_of d n) counters (history old.bus) old.engine
+  fits_before counters was = record { tree = record { fits = was.tree.fits }; clean = was.clean }
 
-  pub fits_after : (tree : TreeView) → engine.tagger ≡ old.engine.tagger → engine.levels ≡ old.engine.levels → HoldsTree (tags_of d n) tree (history bus) engine →
-      engine.evidence ≡ None → IsTree terms.tag_of tree engine.made (history bus).written
-  fits_after tree tagger levels holds quiet =
-      subst (λ (t : Message → List ℕ). IsTree t tree engine.made (history bus).written) (same_tags d n old.engine engine tagger levels) (holds.fits quiet)
+  pub fits_after : (counters : CountersView) → engine.tagger ≡ old.engine.tagger → engine.levels ≡ old.engine.levels →
+      HoldsCounters (tags_of d n) counters (history bus) engine → CountersFit terms new counters
+  fits_after counters tagger levels holds = record {
+    tree = record {
+      fits = λ quiet.
+          subst (λ (t : Message → List ℕ). IsTree t counters.tree engine.made (history bus).written) (same_tags d n old.engine engine tagger levels)
+          (holds.tree.fits quiet);
+    };
+    clean = holds.clean;
+  }

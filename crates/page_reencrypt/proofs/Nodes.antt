@@ -1,5 +1,5 @@
 -- What holds of the nodes where lines alone are touched, and of the lines where nodes alone are.
-use Rattle.std.proofs.Common.{◌≡◌, ◌≢◌, ◌⊎◌, inl, inr, ℕ, cond, nat_lt, List, [], ◌∷◌, ◌++◌, length, Option, Some, Contains, refl, ap, sym, ◌∙◌, subst, arith}
+use Rattle.std.proofs.Common.{◌≡◌, ◌≢◌, ◌⊎◌, inl, inr, ℕ, cond, nat_lt, List, [], ◌∷◌, ◌++◌, length, Option, Some, None, Contains, refl, ap, sym, ◌∙◌, subst, arith}
 use Rattle.std.proofs.lemmas.List.Elements.{Contains-append_cases, Contains-append_left}
 use Rattle.sec_base.specs.declared.counter.Counter.{Counter}
 use Rattle.sec_base.specs.declared.message.Message.{Message}
@@ -11,8 +11,12 @@ use Rattle.sec_base.specs.LastMessage.{data_pairs, last_node, node_part}
 use Rattle.sec_base.specs.Place.{at_place, zeros_of}
 use Rattle.sec_base.proofs.LastMessages.{last_of_other}
 use Rattle.sec_base.proofs.SamePlaces.{at_place-there}
+use Rattle.bus_model.specs.BusHistory.{BusHistory}
+use Rattle.tag_engine.specs.TagEngine.{TagEngineView}
+use Rattle.split_counter.specs.CounterBlock.{block_of}
 use Rattle.bonsai_tree.specs.Node.{block_or_zeros, current_of, tag_in_slot, tag_of_last}
-use Rattle.bonsai_tree.specs.Tree.{IsTree, NodesAreMade, NodesHoldLast, TreeView, cached_node, current_block, kept_tag}
+use Rattle.bonsai_tree.specs.Tree.{IsFetchPlace, IsTree, NodesAreMade, NodesHoldLast, TreeView, cached_node, current_block, kept_tag}
+use Rattle.counter_cache.specs.Counters.{CountersView, HoldsCounters, cached_block, counters_in}
 use Rattle.page_reencrypt.proofs.RisingPairs.{pair_listed}
 
 -- A message of a line is none of a node.
@@ -70,6 +74,27 @@ module _ (tag_of : Message → List ℕ) (tree : TreeView) (made made' : List Me
     clean = λ level index copy inside is unchanged. was.clean level index copy inside is unchanged ∙ ap block_or_zeros (sym (last level index));
     long = λ level index inside. ap length (block_same level index) ∙ was.long level index inside;
   }
+
+-- So do the counters and the copies of their blocks.
+pub fits_same : {T : Type 0} (tag_of : Message → List ℕ) (counters : CountersView) (old new : BusHistory) (engine engine' : TagEngineView T) →
+    ((level index : ℕ) → new.written (node_place level index) ≡ old.written (node_place level index)) →
+    ((level index : ℕ) → last_node level index engine'.made ≡ last_node level index engine.made) → (engine'.evidence ≡ None → engine.evidence ≡ None) →
+    HoldsCounters (λ (e : TagEngineView T). tag_of) counters old engine → HoldsCounters (λ (e : TagEngineView T). tag_of) counters new engine'
+fits_same tag_of counters old new engine engine' same last before was = record {
+  tree = record {
+    fits = λ quiet. tree_same tag_of counters.tree engine.made engine'.made old.written new.written same last (was.tree.fits (before quiet));
+  };
+  clean = λ quiet page copy found unchanged. was.clean (before quiet) page copy found unchanged ∙ ap block_or_zeros (sym (last 0 page));
+}
+
+pub counters_same : (counters : CountersView) (made made' : List Message) (page : ℕ) → last_node 0 page made' ≡ last_node 0 page made →
+    counters_in counters made' page ≡ counters_in counters made page
+counters_same counters made made' page last = ap (λ (l : Option (List ℕ)). block_of (current_of (cached_block counters page) l)) last
+
+-- The place of a line is none that is read to have a page's counters.
+pub not_node : {P : Type 0} (levels page at : ℕ) → IsFetchPlace levels page (line_place at) → P
+not_node levels page at (inl own) = let here : line_place at ≡ node_place 0 page = own in absurd (cc)
+not_node levels page at (inr from) = let here : line_place at ≡ node_place from.level from.index = from.place_is in absurd (cc)
 
 -- Messages without lines
 

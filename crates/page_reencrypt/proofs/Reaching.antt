@@ -1,47 +1,41 @@
 -- What steps over the nodes reach, one after another, and what a write makes of the memory outside after them.
-use Rattle.std.proofs.Common.{◌≡◌, ◌≢◌, ◌⊎◌, inl, inr, ℕ, ◌+◌, ◌≤◌, List, [], ◌∷◌, ◌++◌, length, map, take, Option, Some, None, Contains, refl, ap, sym, ◌∙◌, subst, arith, append_assoc, length-append}
+use Rattle.std.proofs.Common.{◌≡◌, ◌≢◌, ◌⊎◌, inl, inr, ℕ, ◌+◌, ◌≤◌, List, [], ◌++◌, length, map, take, Option, Some, None, Contains, refl, ap, sym, ◌∙◌, subst, arith, append_assoc, length-append}
 use Rattle.std.proofs.lemmas.List.{append-nil, length-map, length-take}
 use Rattle.sec_base.specs.declared.counter.Counter.{Counter}
 use Rattle.sec_base.specs.declared.message.Message.{Message}
-use Rattle.sec_base.specs.declared.message.Message.TheVariants.{Line, Node}
 use Rattle.sec_base.specs.declared.place.Place.{Place}
 use Rattle.sec_base.specs.declared.place.Place.TheVariants.{Line as line_place, Node as node_place}
 use Rattle.sec_base.specs.declared.stop.MemStop.{MemStop}
 use Rattle.sec_base.specs.declared.stop.MemStop.TheVariants.{Tampered, Spent}
-use Rattle.sec_base.specs.Count.{Rose}
-use Rattle.sec_base.specs.Geometry.{page_of}
-use Rattle.sec_base.specs.LastMessage.{data_pairs, last_data, IsFresh}
+use Rattle.sec_base.specs.Count.{Rose, RoseBy}
+use Rattle.sec_base.specs.Geometry.{line_count, page_of}
+use Rattle.sec_base.specs.LastMessage.{data_pairs, last_data, last_node, node_part, IsFresh}
+use Rattle.sec_base.proofs.LastMessages.{none_front}
 use Rattle.bus_model.specs.BusHistory.{BusHistory}
-use Rattle.tag_engine.specs.TagEngine.{with_room as tags_with_room}
+use Rattle.tag_engine.specs.TagEngine.{TagEngineView, with_room as tags_with_room}
 use Rattle.pad_stream.specs.Pad.{cipher_of}
 use Rattle.pad_stream.specs.PadEngine.{PadEngineView}
 use Rattle.pad_stream.specs.Pads.{AreRising}
 use Rattle.checked_bus.specs.Accesses.{WritesMessages}
-use Rattle.checked_bus.specs.Steps.{IsAccounted, Moves as StepMoves}
+use Rattle.checked_bus.specs.Steps.{IsAccounted, Moves as StepMoves, SameLines}
 use Rattle.checked_bus.specs.Steps.{unwritten_in}
 use Rattle.checked_bus.proofs.Steps.{counted_not, data_pairs-append, moves_on as step_on, same_lines_not, same_lines_on}
-use Rattle.split_counter.specs.CounterBlock.{block_of, last_counter, next_counter}
-use Rattle.bonsai_tree.specs.Node.{block_or_zeros, path_index}
-use Rattle.bonsai_tree.specs.Tree.{IsOnPath, PathWasRead, fetch_accesses}
-use Rattle.counter_cache.specs.Counters.{CountersView, counters_in}
+use Rattle.split_counter.specs.CounterBlock.{last_counter, next_counter}
+use Rattle.bonsai_tree.specs.Node.{path_index}
+use Rattle.bonsai_tree.specs.Tree.{IsFetchPlace, NodesHoldLast, PathWasRead, TreeView, WasReadUp, above, cached_node}
+use Rattle.bonsai_tree.proofs.Climbs.{above_none, read_up_on}
+use Rattle.counter_cache.specs.Counters.{CountersView, SameCounters, cached_pages, counter_accesses, counters_in}
 use Rattle.checked_bus.proofs.Writes.{writes_on}
 use Rattle.page_reencrypt.specs.Consistency.{IsConsistent}
-use Rattle.page_reencrypt.specs.Contents.{bytes_of, counter_in, line_bytes, lines_encrypted}
-use Rattle.page_reencrypt.specs.Outside.{AreAccounted, AreConsistent, AreSealedInOrder, CountersSay, HaveLast, HaveLastNodes, HaveRisen, IsNodeStep, IsWrite, MemoryTerms, OutsideView, ShowsLies, TreeFits}
-use Rattle.page_reencrypt.specs.SealedLines.{AreReread}
+use Rattle.page_reencrypt.specs.Contents.{HoldsLast, bytes_of, counter_in, line_bytes, lines_encrypted}
+use Rattle.page_reencrypt.specs.Outside.{AreAccounted, AreConsistent, AreSealedInOrder, CountersFit, CountersSay, HaveLast, HaveLastNodes, HaveRisen, IsNodeStep, IsWrite, MemoryTerms, OutsideView, ShowsLies}
+use Rattle.page_reencrypt.specs.SealedLines.{AreReread, CopiesCame}
 use Rattle.page_reencrypt.specs.Stops.{lasting_stop}
 use Rattle.page_reencrypt.proofs.LineReads.{quiet_before}
 use Rattle.page_reencrypt.proofs.NodeSteps.{same_last_data}
-use Rattle.page_reencrypt.proofs.Nodes.{nodes_last, tree_same}
+use Rattle.page_reencrypt.proofs.Nodes.{counters_same, fits_same, nodes_last, not_node}
 use Rattle.page_reencrypt.proofs.Sealing.{listed_not}
 use Rattle.page_reencrypt.proofs.Stops.{other_stop}
-
--- as many messages as lines and counters, at least
-pub pairs_short : (made : List Message) → length (data_pairs made) ≤ length made
-unfolding data_pairs
-pairs_short [] = omega arith
-pairs_short (Line line counter cipher ∷ made) = omega (arith, pairs_short made)
-pairs_short (Node level index block ∷ made) = omega (arith, pairs_short made)
 
 no_pairs : data_pairs [] ≡ []
 unfolding data_pairs
@@ -50,12 +44,68 @@ no_pairs = refl
 writes_none : (history : BusHistory) (unwritten : ℕ) → WritesMessages history history 0 unwritten
 writes_none history unwritten = record { writes = 0; counted = counted_not history; at_most = omega arith; at_least = omega arith }
 
+-- The copies on the chip came
+
+copied_not : (tree : TreeView) (level index : ℕ) (history : BusHistory) → cached_node tree level index ≢ None → WasReadUp tree level index history history
+copied_not tree level index history copied = record {
+  rose = λ more inside none.
+      let first : cached_node tree level index ≡ None =
+      subst (λ (at : ℕ). cached_node tree at index ≡ None) (omega arith)
+      (subst (λ (at : ℕ). cached_node tree (level + 0) at ≡ None) (above_none tree.levels index) (none 0 (omega arith))) in absurd (copied first);
+}
+
+pub came_not : (page : ℕ) (history : BusHistory) (made : List Message) (counters : CountersView) → CopiesCame page history made counters history counters
+came_not page history made counters = record {
+  few_blocks = λ few. few;
+  few_nodes = λ level few. few;
+  blocks = λ other cached. inl cached;
+  nodes = λ level index copied. copied_not counters.tree level index history copied;
+}
+
+-- and more was read since
+pub came_more : (page : ℕ) (first second third : BusHistory) (made : List Message) (counters counters' : CountersView) →
+    CopiesCame page first made counters second counters' → ((place : Place) → RoseBy 0 (second.reads place) (third.reads place)) →
+    CopiesCame page first made counters third counters'
+came_more page first second third made counters counters' a more = record {
+  few_blocks = a.few_blocks;
+  few_nodes = a.few_nodes;
+  blocks = λ other cached.
+      elim (a.blocks other cached) [
+        | inl had ↦ inl had
+        | inr (own, inl never) ↦ inr (own, inl never)
+        | inr (own, inr rose) ↦ inr (own, inr (omega (arith, rose, more (node_place 0 page))))
+      ];
+  nodes = λ level index copied. record {
+    rose = λ up inside none.
+        let rose = (a.nodes level index copied).rose up inside none in
+        omega (arith, rose, more (node_place (level + up) (above counters.tree.levels index up)));
+  };
+}
+
+pub came_on : {T : Type 0} (page : ℕ) (first second third : BusHistory) (engine engine' engine'' : TagEngineView T) (counters counters' counters'' : CountersView) →
+    counters'.tree.levels ≡ counters.tree.levels → StepMoves first engine second engine' → StepMoves second engine' third engine'' →
+    CopiesCame page first engine.made counters second counters' → CopiesCame page second engine'.made counters' third counters'' →
+    CopiesCame page first engine.made counters third counters''
+came_on page first second third engine engine' engine'' counters counters' counters'' levels step more a b = record {
+  few_blocks = λ few. b.few_blocks (a.few_blocks few);
+  few_nodes = λ level few. b.few_nodes level (a.few_nodes level few);
+  blocks = λ other cached.
+      elim (b.blocks other cached) [
+        | inl had ↦ (came_more page first second third engine.made counters counters' a more.reads).blocks other had
+        | inr (own, inl never) ↦
+            inr (own, inl (none_front (node_part 0 page) engine.made step.more (subst (λ (made : List Message). last_node 0 page made ≡ None) step.made never)))
+        | inr (own, inr rose) ↦ inr (own, inr (omega (arith, rose, step.reads (node_place 0 page))))
+      ];
+  nodes = λ level index copied.
+      read_up_on counters.tree counters'.tree level index first second third levels step.reads more.reads a.nodes (b.nodes level index copied);
+}
+
 module _ {B T : Type 0} (terms : MemoryTerms B) where
   -- The memory outside after steps over the nodes, with its counters.
   pub record IsReached (old : OutsideView B T) (counters : CountersView) (new : OutsideView B T) (counters' : CountersView) (stop : Option MemStop) : Type 0 where
     pub node : IsNodeStep terms old new stop
     pub levels : counters'.tree.levels ≡ counters.tree.levels
-    pub fits : lasting_stop stop ≡ None → TreeFits terms new counters'
+    pub fits : lasting_stop stop ≡ None → CountersFit terms new counters'
     pub accounted : AreAccounted terms old None → AreAccounted terms new stop
     pub shows : ShowsLies terms old new
 
@@ -117,7 +167,7 @@ module _ {B T : Type 0} (terms : MemoryTerms B) where
 
   -- memory was taken, or some of it
   pub reached_roomy : (old new : OutsideView B T) (counters : CountersView) (stop : Option MemStop) (messages : ℕ) (pads : PadEngineView) → terms.moved old.bus old.bus →
-      AreConsistent terms old → HaveLast terms old → HaveLastNodes terms old → TreeFits terms old counters → ((place : Place) → stop ≢ Some (Tampered place)) →
+      AreConsistent terms old → HaveLast terms old → HaveLastNodes terms old → CountersFit terms old counters → ((place : Place) → stop ≢ Some (Tampered place)) →
       pads.used ≡ old.pads.used → pads.key ≡ old.pads.key →
       new ≡ record { bus = old.bus; engine = tags_with_room messages old.engine; pads = pads } → IsReached old counters new counters stop
   reached_roomy old new counters stop messages pads unmoved kept last nodes fits untampered used key is =
@@ -147,12 +197,58 @@ module _ {B T : Type 0} (terms : MemoryTerms B) where
           nodes_hold_last = λ goes_on. nodes;
         };
         levels = refl;
-        fits = λ going. fits;
+        fits = λ going. record { tree = record { fits = fits.tree.fits }; clean = fits.clean };
         accounted = λ was.
             subst (λ (u : List (ℕ × Counter)). IsAccounted terms.tag_of u old.engine.made (terms.history old.bus) stop old.engine.evidence) (sym used)
             (other_stop terms.tag_of old.pads.used old.engine.made (terms.history old.bus) None stop old.engine.evidence (λ place is. cc) untampered was);
         shows = λ quiet. inl quiet;
       })
+
+  -- counters were counted up on the chip
+  pub reached_idle : (old : OutsideView B T) (counters : CountersView) (new : OutsideView B T) (counters' : CountersView) → terms.moved old.bus new.bus →
+      AreConsistent terms old → HaveLast terms old → HaveLastNodes terms old →
+      (same : terms.history new.bus ≡ terms.history old.bus) (engine : new.engine ≡ old.engine) (pads : new.pads ≡ old.pads) →
+      counters'.tree.levels ≡ counters.tree.levels → CountersFit terms new counters' → IsReached old counters new counters' None
+  reached_idle old counters new counters' went kept last nodes same engine pads levels fits =
+      let written : (terms.history new.bus).written ≡ (terms.history old.bus).written = ap (λ (h : BusHistory). h.written) same in
+      let made : new.engine.made ≡ old.engine.made = ap (λ (e : TagEngineView T). e.made) engine in
+      let used : new.pads.used ≡ old.pads.used = ap (λ (p : PadEngineView). p.used) pads in
+      record {
+        node = record {
+          bus = went;
+          step = record {
+            bus_levels = ap (λ (h : BusHistory). h.levels) same;
+            levels = ap (λ (e : TagEngineView T). e.levels) engine;
+            tagger = ap (λ (e : TagEngineView T). e.tagger) engine;
+            more = [];
+            made = made ∙ sym (append-nil old.engine.made);
+            evidence = λ evidence is. ap (λ (e : TagEngineView T). e.evidence) engine ∙ is;
+            reads = λ place. omega (arith, ap (λ (h : BusHistory). h.reads place) same);
+            accesses = omega (arith, ap (λ (h : BusHistory). h.accesses) same);
+            lies = omega (arith, ap (λ (h : BusHistory). h.lies) same);
+          };
+          pairs = no_pairs;
+          lines = subst (λ (h : BusHistory). SameLines (terms.history old.bus) old.engine.made h new.engine.made) (sym same)
+              (subst (SameLines (terms.history old.bus) old.engine.made (terms.history old.bus)) (sym made) (same_lines_not (terms.history old.bus) old.engine.made));
+          used = used;
+          key = ap (λ (p : PadEngineView). p.key) pads;
+          writes = subst (λ (h : BusHistory). WritesMessages (terms.history old.bus) h 0 0) (sym same) (writes_none (terms.history old.bus) 0);
+          consistent = subst (λ (h : BusHistory). IsConsistent terms.tag_of terms.levels h new.engine.made new.pads.used) (sym same)
+              (subst (λ (m : List Message). IsConsistent terms.tag_of terms.levels (terms.history old.bus) m new.pads.used) (sym made)
+              (subst (IsConsistent terms.tag_of terms.levels (terms.history old.bus) old.engine.made) (sym used) kept));
+          holds_last = subst (HoldsLast terms.tag_of (line_count terms.levels) new.engine.made) (sym written)
+              (subst (λ (m : List Message). HoldsLast terms.tag_of (line_count terms.levels) m (terms.history old.bus).written) (sym made) last);
+          nodes_hold_last = λ goes_on. subst (NodesHoldLast terms.levels new.engine.made) (sym written)
+              (subst (λ (m : List Message). NodesHoldLast terms.levels m (terms.history old.bus).written) (sym made) nodes);
+        };
+        levels = levels;
+        fits = λ going. fits;
+        accounted = λ was.
+            subst (λ (h : BusHistory). IsAccounted terms.tag_of new.pads.used new.engine.made h None new.engine.evidence) (sym same)
+            (subst (λ (e : TagEngineView T). IsAccounted terms.tag_of new.pads.used e.made (terms.history old.bus) None e.evidence) (sym engine)
+            (subst (λ (u : List (ℕ × Counter)). IsAccounted terms.tag_of u old.engine.made (terms.history old.bus) None old.engine.evidence) (sym used) was));
+        shows = λ quiet. inl (ap (λ (e : TagEngineView T). e.evidence) engine ∙ quiet);
+      }
 
   -- where it stands at the same messages and entries, it stopped as spent
   pub reached_spent : (old : OutsideView B T) (counters : CountersView) (new : OutsideView B T) (counters' : CountersView) (page : ℕ) →
@@ -194,16 +290,17 @@ module _ {B T : Type 0} (terms : MemoryTerms B) where
     -- The write stopped before a line was sealed.
     pub early_write : (limit line : ℕ) (bytes : List ℕ) → HaveRisen terms old → stop ≢ None →
         (lasting_stop stop ≡ None → CountersSay terms new counters') →
-        (new.engine.evidence ≡ None → (page : ℕ) → counters_in counters' new.engine.made page ≡ counters_in counters old.engine.made page)
+        (new.engine.evidence ≡ None → SameCounters counters old.engine.made counters' new.engine.made)
         ⊎ ((64 ≤ new.pads.room) × (length old.engine.made + 64 ≤ length new.engine.made + new.engine.room)) →
-        ((place : Place) → stop ≡ Some (Tampered place) → IsOnPath terms.levels 0 (page_of line) place
+        ((place : Place) → stop ≡ Some (Tampered place) → IsFetchPlace terms.levels (page_of line) place
         × (old.engine.evidence ≡ None → Rose (terms.history old.bus).lies (terms.history new.bus).lies)) →
         ((page : ℕ) → stop ≡ Some (Spent page) → (page ≡ page_of line) × (new.engine.evidence ≡ None → counter_in old.pads.used line ≡ last_counter limit)) →
         (new.engine.evidence ≡ None → counter_in old.pads.used line ≡ last_counter limit →
-        ((page : ℕ) → counters_in counters' new.engine.made page ≡ counters_in counters old.engine.made page)
-        × ((terms.history new.bus).accesses ≤ (terms.history old.bus).accesses + fetch_accesses terms.levels)) →
+        SameCounters counters old.engine.made counters' new.engine.made
+        × ((terms.history new.bus).accesses ≤ (terms.history old.bus).accesses + counter_accesses terms.levels)) →
+        CopiesCame (page_of line) (terms.history old.bus) old.engine.made counters (terms.history new.bus) counters' →
         IsWrite terms limit line bytes old counters new counters' stop
-    early_write limit line bytes rose stopped say reserved tampered spent used_up = record {
+    early_write limit line bytes rose stopped say reserved tampered spent used_up copies = record {
       bus = reached.node.bus;
       step = reached.node.step;
       levels = reached.levels;
@@ -234,13 +331,12 @@ module _ {B T : Type 0} (terms : MemoryTerms B) where
             | inr roomy ↦ let used = ap length reached.node.used in inr (omega (arith, used, roomy.0), roomy.1)
           ];
       path = λ none. absurd (stopped none);
+      copies = copies;
       accounted = reached.accounted;
       shows = reached.shows;
       lied = λ place is quiet. (tampered place is).1 quiet;
       tampered = λ place is. inl (tampered place is).0;
-      failed = λ other is.
-          let on_path = (tampered (line_place other) is).0 in
-          let here : line_place other ≡ node_place on_path.level _ = on_path.place_is in absurd (cc);
+      failed = λ other is. not_node terms.levels (page_of line) other (tampered (line_place other) is).0;
       spent = λ page is. ((spent page is).0, refl, (spent page is).1);
       used_up = λ quiet last. (refl, stopped, (used_up quiet last).0, (used_up quiet last).1, λ place is. (tampered place is).0);
     }
@@ -284,15 +380,15 @@ module _ {B T : Type 0} (terms : MemoryTerms B) where
     late_quiet : new.engine.evidence ≡ None → mid.engine.evidence ≡ None
     late_quiet quiet = quiet_before mid.engine.evidence new.engine.evidence sealed.sealed.step.evidence quiet
 
-    -- the tree under the counters fits still
-    pub late_fits : TreeFits terms new counters'
-    late_fits quiet =
-        tree_same terms.tag_of counters'.tree mid.engine.made new.engine.made (terms.history mid.bus).written (terms.history new.bus).written
-        sealed.sealed.nodes.written sealed.sealed.nodes.last (reached.fits refl (late_quiet quiet))
+    -- the counters fit still
+    pub late_fits : CountersFit terms new counters'
+    late_fits =
+        fits_same terms.tag_of counters' (terms.history mid.bus) (terms.history new.bus) mid.engine new.engine sealed.sealed.nodes.written
+        sealed.sealed.nodes.last late_quiet (reached.fits refl)
 
-    -- and the counters are the same
+    -- and are the same
     pub late_counters : (page : ℕ) → counters_in counters' new.engine.made page ≡ counters_in counters' mid.engine.made page
-    late_counters page = ap (λ (last : Option (List ℕ)). block_of (block_or_zeros last)) (sealed.sealed.nodes.last 0 page)
+    late_counters page = counters_same counters' mid.engine.made new.engine.made page (sealed.sealed.nodes.last 0 page)
 
     late_nodes : HaveLastNodes terms new
     late_nodes =
@@ -309,10 +405,12 @@ module _ {B T : Type 0} (terms : MemoryTerms B) where
     pub late_write : ((first second third : B) → terms.moved first second → terms.moved second third → terms.moved first third) → (limit : ℕ) → (new.engine.evidence ≡ None → counter ≡ next_counter (counter_in old.pads.used line)) →
         (new.engine.evidence ≡ None → counter_in old.pads.used line ≢ last_counter limit) →
         (stop ≡ None → CountersSay terms new counters') → 64 ≤ mid.pads.room → length old.engine.made + 64 ≤ length mid.engine.made + mid.engine.room →
-        PathWasRead counters.tree old.engine.made 0 (page_of line) (terms.history old.bus) (terms.history mid.bus) →
+        (¬ Contains (cached_pages counters) (page_of line) →
+        PathWasRead counters.tree old.engine.made 0 (page_of line) (terms.history old.bus) (terms.history mid.bus)) →
         ((place : Place) → stop ≡ Some (Tampered place) → counter.line ≡ 0) → (lasting_stop stop ≡ None → stop ≡ None) →
+        CopiesCame (page_of line) (terms.history old.bus) old.engine.made counters (terms.history mid.bus) counters' →
         IsWrite terms limit line bytes old counters new counters' stop
-    late_write moved_on limit next below say entries_room room path overflow going = record {
+    late_write moved_on limit next below say entries_room room path overflow going copies = record {
       bus = moved_on old.bus mid.bus new.bus reached.node.bus sealed.sealed.bus;
       step = whole_step;
       levels = reached.levels;
@@ -352,14 +450,16 @@ module _ {B T : Type 0} (terms : MemoryTerms B) where
             omega (arith, used, mapped, before, entries_room, sealed.sealed.pads_room),
             omega (arith, made, room, sealed.sealed.room, sealed.sealed.as_many),
           );
-      path = λ none. record {
+      path = λ none missed. record {
         rose = λ level above inside uncached.
-            elim (path.rose level above inside uncached) [
+            elim ((path missed).rose level above inside uncached) [
               | inl never ↦ inl never
               | inr rose ↦
                   let on = sealed.sealed.step.reads (node_place level (path_index counters.tree.levels level (page_of line))) in inr (omega (arith, rose, on))
             ];
       };
+      copies = came_more (page_of line) (terms.history old.bus) (terms.history mid.bus) (terms.history new.bus) old.engine.made counters counters' copies
+          sealed.sealed.step.reads;
       accounted = λ was. sealed.sealed.accounted (reached.accounted was);
       shows = shows_on old mid new reached.node.step sealed.sealed.step reached.shows sealed.sealed.shows;
       lied = λ place is quiet.

@@ -7,7 +7,7 @@ use Rattle.sec_base.specs.declared.counter.Counter.{Counter}
 use Rattle.sec_base.specs.declared.message.Message.{Message}
 use Rattle.sec_base.specs.declared.stop.MemStop.{MemStop}
 use Rattle.sec_base.specs.declared.stop.MemStop.TheVariants.{NoMemory, Spent, Tampered}
-use Rattle.sec_base.specs.Geometry.{line_count}
+use Rattle.sec_base.specs.Geometry.{line_count, page_of}
 use Rattle.sec_base.specs.LastMessage.{data_pairs, last_data}
 use Rattle.sec_base.specs.Lines.{line_at}
 use Rattle.sec_base.proofs.JoinedLines.{joined_lines-same, line_at-joined_lines}
@@ -30,6 +30,7 @@ use Rattle.page_reencrypt.proofs.LineReads.{quiet_before}
 use Rattle.page_reencrypt.proofs.Moves.{moves_not}
 use Rattle.page_reencrypt.proofs.NextWrites.{stopped_by}
 use Rattle.page_reencrypt.proofs.NodeSteps.{last_data-nodes}
+use Rattle.page_reencrypt.proofs.Reaching.{came_not}
 use Rattle.page_reencrypt.proofs.RisingPairs.{last_none}
 use Rattle.page_reencrypt.proofs.Unmade.{same_tags}
 
@@ -48,7 +49,8 @@ lasting_read history bus_moved tags bus_unmoved lines line stop lasting = record
   moves = moves_not history bus_moved tags bus_unmoved lines;
   read = record { path = λ going uncached. absurd (cc); read = λ going quiet. absurd (cc) };
   stopped = lasts_itself lines.stopped stop lasting;
-  through = λ going quiet. absurd (cc);
+  copies = came_not (page_of line) (history lines.bus) lines.engine.made lines.counters;
+  fits = λ going quiet. absurd (cc);
   outside = λ going. absurd (cc);
 }
 
@@ -126,7 +128,7 @@ module _ {B T : Type 0} (d n : T → List ℕ → List ℕ) (history : B → Bus
   read_says : lasting_stop stopped ≡ None → CountersSay terms new counters
   read_says goes_on quiet page within other of_page =
       ap (λ (u : List (ℕ × Counter)). counter_in u other) same_used
-      ∙ (kept.through going (was_quiet quiet)).current page within other of_page
+      ∙ (kept.fits going (was_quiet quiet)).current page within other of_page
       ∙ ap (counter_of (place_of other)) (sym (r.same quiet page))
 
   -- what held holds after it
@@ -173,7 +175,7 @@ module _ {B T : Type 0} (d n : T → List ℕ → List ℕ) (history : B → Bus
           (r.accounted before)));
     };
     read = record {
-      path = λ goes_on uncached. r.path (not_stopped goes_on);
+      path = λ goes_on uncached. r.path (not_stopped goes_on) uncached;
       read = λ goes_on quiet.
           elim (r.rose quiet (not_stopped goes_on)) [
             | inl fresh ↦ inl (last_none (line_count m.engine.levels) m.engine.made m.pads.used line kept.always.consistent.paired inside fresh)
@@ -181,6 +183,7 @@ module _ {B T : Type 0} (d n : T → List ℕ → List ℕ) (history : B → Bus
           ];
     };
     stopped = stops;
-    through = read_kept.through;
+    copies = r.copies;
+    fits = read_kept.fits;
     outside = λ going. r;
   }

@@ -1,5 +1,5 @@
--- The steps of a read of a line: its page's counters are read, and then its place.
-use Rattle.std.proofs.Common.{◌≡◌, ◌≢◌, ◌⊎◌, inl, inr, ℕ, ◌+◌, ◌<◌, ◌≤◌, List, length, Option, Some, None, Result, Ok, Err, IfOk, IsOk, refl, ap, sym, ◌∙◌, subst, arith}
+-- The steps of a read of a line: its page's counters are had, and then its place is read.
+use Rattle.std.proofs.Common.{◌≡◌, ◌≢◌, ◌⊎◌, inl, inr, ℕ, ◌+◌, ◌<◌, ◌≤◌, List, length, Option, Some, None, Contains, Result, Ok, Err, IfOk, IsOk, refl, ap, sym, ◌∙◌, subst, arith}
 use Rattle.sec_base.specs.declared.counter.Counter.{Counter}
 use Rattle.sec_base.specs.declared.evidence.Evidence.{Evidence}
 use Rattle.sec_base.specs.declared.evidence.Evidence.TheVariants.{Collision, Forgery}
@@ -23,17 +23,17 @@ use Rattle.checked_bus.specs.Steps.{unwritten_in}
 use Rattle.checked_bus.proofs.LineMessages.{some_same}
 use Rattle.checked_bus.proofs.Steps.{moves_on as step_on}
 use Rattle.split_counter.specs.CounterBlock.{CounterBlockView, block_of, counter_of, place_of}
-use Rattle.bonsai_tree.specs.Tree.{IsOnPath, PathWasRead, fetch_accesses}
+use Rattle.bonsai_tree.specs.Tree.{IsFetchPlace, PathWasRead}
 use Rattle.bonsai_tree.specs.Node.{path_index}
-use Rattle.counter_cache.specs.Counters.{AreBelowPath, CountersView, counters_in}
+use Rattle.counter_cache.specs.Counters.{AreHad, CountersView, IsCopyOrTagged, SameCounters, cached_block, cached_pages, counter_accesses, counters_in}
 use Rattle.checked_bus.proofs.Writes.{writes_on}
 use Rattle.page_reencrypt.specs.Consistency.{IsConsistent}
 use Rattle.page_reencrypt.specs.Contents.{HoldsLast, bytes_of, line_bytes}
-use Rattle.page_reencrypt.specs.Outside.{AreAccounted, IsLineRead, MemoryTerms, OutsideView, ShowsLies, TreeFits, terms_of}
-use Rattle.page_reencrypt.specs.SealedLines.{IsReadUnder}
+use Rattle.page_reencrypt.specs.Outside.{AreAccounted, CountersFit, IsLineRead, MemoryTerms, OutsideView, ShowsLies, terms_of}
+use Rattle.page_reencrypt.specs.SealedLines.{CopiesCame, IsReadUnder}
 use Rattle.page_reencrypt.proofs.LineReads.{quiet_before}
-use Rattle.page_reencrypt.proofs.Nodes.{nodes_last, tree_same}
-use Rattle.page_reencrypt.proofs.Reaching.{IsReached, reached_data, shows_on}
+use Rattle.page_reencrypt.proofs.Nodes.{fits_same, nodes_last, not_node}
+use Rattle.page_reencrypt.proofs.Reaching.{IsReached, came_more, reached_data, shows_on}
 use Rattle.page_reencrypt.proofs.Sealing.{same_terms}
 use Rattle.page_reencrypt.proofs.Unmade.{same_consistent}
 
@@ -49,18 +49,14 @@ pub ok_same : {A E : Type 0} (x y : A) (first second : Result A E) → first ≡
 unfolding ok_value
 ok_same x y first second one two same = ap (ok_value x) (sym one ∙ same ∙ two)
 
-pub not_node : {P : Type 0} (levels page at : ℕ) → IsOnPath levels 0 page (line_place at) → P
-not_node levels page at on_path =
-    let here : line_place at ≡ node_place on_path.level (path_index levels on_path.level page) = on_path.place_is in absurd (cc)
-
 -- evidence of a line was found where a line was read
 before_line : (levels page at : ℕ) (counter : Counter) (sealed : Sealed) (made_count : ℕ) (before after : Option Evidence) →
-    ((evidence : Evidence) → before ≡ Some evidence → IsOnPath levels 0 page (evidence_place evidence)) →
+    ((evidence : Evidence) → before ≡ Some evidence → IsFetchPlace levels page (evidence_place evidence)) →
     ((evidence : Evidence) → before ≡ Some evidence → after ≡ Some evidence) → after ≡ Some (Forgery at counter sealed made_count) → before ≡ None
 before_line levels page at counter sealed made_count None after found stays is = refl
 before_line levels page at counter sealed made_count (Some evidence) after found stays is =
     let same : evidence ≡ Forgery at counter sealed made_count = some_same evidence (Forgery at counter sealed made_count) (sym (stays evidence refl) ∙ is) in
-    not_node levels page at (subst (λ (e : Evidence). IsOnPath levels 0 page (evidence_place e)) same (found evidence refl))
+    not_node levels page at (subst (λ (e : Evidence). IsFetchPlace levels page (evidence_place e)) same (found evidence refl))
 
 -- and that of a node before
 before_node : (level index made_at line : ℕ) (block tag : List ℕ) (before after : Option Evidence) →
@@ -71,17 +67,16 @@ before_node level index made_at line block tag None after found stays is =
     let here : node_place level index ≡ line_place line = found (Collision level index made_at block tag) refl is in absurd (cc)
 before_node level index made_at line block tag (Some evidence) after found stays is = sym (stays evidence refl) ∙ is
 
--- a path leads to the counters, also where more was found since
-below_on : (tag_of : Message → List ℕ) (counters : CountersView) (page : ℕ) (before mid after : Option Evidence) (block : CounterBlockView) →
-    AreBelowPath tag_of counters page before mid block →
-    ((level index made_at : ℕ) (bytes tag : List ℕ) → after ≡ Some (Collision level index made_at bytes tag) → mid ≡ Some (Collision level index made_at bytes tag)) →
-    AreBelowPath tag_of counters page before after block
-below_on tag_of counters page before mid after block was earlier = record {
+-- the counters were had, also where more was found since
+had_on : (tag_of : Message → List ℕ) (counters counters' : CountersView) (made made' : List Message) (page : ℕ) (before mid after : Option Evidence)
+    (block : CounterBlockView) → AreHad tag_of counters counters' made page before mid block → made' ≡ made →
+    ((made_at : ℕ) (bytes tag : List ℕ) → after ≡ Some (Collision 0 page made_at bytes tag) → mid ≡ Some (Collision 0 page made_at bytes tag)) →
+    AreHad tag_of counters counters' made' page before after block
+had_on tag_of counters counters' made made' page before mid after block was unmade earlier = record {
   bytes = was.bytes;
-  below = record {
-    path = was.below.path;
-    leads = was.below.leads;
-    accepted = λ none level index made_at bytes tag is. was.below.accepted none level index made_at bytes tag (earlier level index made_at bytes tag is);
+  had = record {
+    copy_or_tagged = subst (λ (m : List Message). IsCopyOrTagged (cached_block counters page) tag_of counters'.tree m page was.bytes) (sym unmade) was.had.copy_or_tagged;
+    accepted = λ none made_at bytes tag is. was.had.accepted none made_at bytes tag (earlier made_at bytes tag is);
   };
   spelled = was.spelled;
 }
@@ -93,13 +88,14 @@ module _ {B T : Type 0} (history : B → BusHistory) (moved : B → B → Type 0
 
   -- the counters were not had
   pub unread : (new : OutsideView B T) (counters' : CountersView) (why : MemStop) → IsReached terms old counters new counters' (Some why) → new.pads ≡ old.pads →
-      (history new.bus).accesses ≤ (history old.bus).accesses + fetch_accesses old.engine.levels →
-      (new.engine.evidence ≡ None → (other : ℕ) → counters_in counters' new.engine.made other ≡ counters_in counters old.engine.made other) →
-      ((evidence : Evidence) → old.engine.evidence ≡ None → new.engine.evidence ≡ Some evidence → IsOnPath old.engine.levels 0 page (evidence_place evidence)) →
-      ((place : Place) → why ≡ Tampered place → IsOnPath old.engine.levels 0 page place
+      (history new.bus).accesses ≤ (history old.bus).accesses + counter_accesses old.engine.levels →
+      (new.engine.evidence ≡ None → SameCounters counters old.engine.made counters' new.engine.made) →
+      ((evidence : Evidence) → old.engine.evidence ≡ None → new.engine.evidence ≡ Some evidence → IsFetchPlace old.engine.levels page (evidence_place evidence)) →
+      ((place : Place) → why ≡ Tampered place → IsFetchPlace old.engine.levels page place
       × (old.engine.evidence ≡ None → Rose (history old.bus).lies (history new.bus).lies)) →
-      ((spent : ℕ) → why ≢ Spent spent) → IsLineRead terms line old counters new counters' (Err why)
-  unread new counters' why reached pads once same found tampered unspent = record {
+      ((spent : ℕ) → why ≢ Spent spent) → CopiesCame page (history old.bus) old.engine.made counters (history new.bus) counters' →
+      IsLineRead terms line old counters new counters' (Err why)
+  unread new counters' why reached pads once same found tampered unspent copies = record {
     bus = reached.node.bus;
     step = reached.node.step;
     pairs = reached.node.pairs;
@@ -114,6 +110,7 @@ module _ {B T : Type 0} (history : B → BusHistory) (moved : B → B → Type 0
     nodes_hold_last = reached.node.nodes_hold_last;
     fits = λ none. absurd (cc);
     same = same;
+    copies = subst (λ (p : ℕ). CopiesCame p (history old.bus) old.engine.made counters (history new.bus) counters') page_is copies;
     value = λ quiet. tt;
     path = λ none. absurd (cc);
     rose = λ quiet none. absurd (cc);
@@ -127,7 +124,7 @@ module _ {B T : Type 0} (history : B → BusHistory) (moved : B → B → Type 0
     tampered = λ place is.
         let same_stop : why ≡ Tampered place = cc in
         let there = tampered place same_stop in
-        (inr (subst (λ (p : ℕ). IsOnPath old.engine.levels 0 p place) page_is there.0), there.1);
+        (inr (subst (λ (p : ℕ). IsFetchPlace old.engine.levels p place) page_is there.0), there.1);
     unspent = λ spent is. let same_stop : why ≡ Spent spent = cc in unspent spent same_stop;
   }
 
@@ -162,12 +159,11 @@ module _ {B T : Type 0} (history : B → BusHistory) (moved : B → B → Type 0
     all_pads : new.pads ≡ old.pads
     all_pads = pads ∙ got_pads
 
-    read_fits : TreeFits terms new counters'
-    read_fits quiet =
-        tree_same terms.tag_of counters'.tree got.engine.made new.engine.made (history got.bus).written (history new.bus).written
+    read_fits : CountersFit terms new counters'
+    read_fits =
+        fits_same terms.tag_of counters' (history got.bus) (history new.bus) got.engine new.engine
         (λ level index. ap (λ (w : Place → List ℕ). w (node_place level index)) unwritten)
-        (λ level index. ap (λ (made : List Message). last_node level index made) unmade)
-        (a.fits refl (got_quiet quiet))
+        (λ level index. ap (λ (made : List Message). last_node level index made) unmade) got_quiet (a.fits refl)
 
     read_consistent : IsConsistent terms.tag_of terms.levels (history new.bus) new.engine.made new.pads.used
     read_consistent =
@@ -180,13 +176,14 @@ module _ {B T : Type 0} (history : B → BusHistory) (moved : B → B → Type 0
         ap (λ (p : PadEngineView). line_bytes p.key got.engine.made line) got_pads
         ∙ ap (bytes_of old.pads.key line) (reached_data terms old counters got counters' None a line)
 
-    pub line_read : (history got.bus).accesses ≤ (history old.bus).accesses + fetch_accesses old.engine.levels →
-        (got.engine.evidence ≡ None → (other : ℕ) → counters_in counters' got.engine.made other ≡ counters_in counters old.engine.made other) →
-        PathWasRead counters.tree old.engine.made 0 page (history old.bus) (history got.bus) →
-        ((evidence : Evidence) → old.engine.evidence ≡ None → got.engine.evidence ≡ Some evidence → IsOnPath old.engine.levels 0 page (evidence_place evidence)) →
+    pub line_read : (history got.bus).accesses ≤ (history old.bus).accesses + counter_accesses old.engine.levels →
+        (got.engine.evidence ≡ None → SameCounters counters old.engine.made counters' got.engine.made) →
+        CopiesCame page (history old.bus) old.engine.made counters (history got.bus) counters' →
+        (¬ Contains (cached_pages counters) page → PathWasRead counters.tree old.engine.made 0 page (history old.bus) (history got.bus)) →
+        ((evidence : Evidence) → old.engine.evidence ≡ None → got.engine.evidence ≡ Some evidence → IsFetchPlace old.engine.levels page (evidence_place evidence)) →
         ((made_at : ℕ) (bytes tag : List ℕ) → old.engine.evidence ≡ None →
         got.engine.evidence ≡ Some (Collision 0 page made_at bytes tag) → block ≡ block_of bytes) →
-        AreBelowPath terms.tag_of counters page old.engine.evidence got.engine.evidence block →
+        AreHad terms.tag_of counters counters' got.engine.made page old.engine.evidence got.engine.evidence block →
         moved old.bus new.bus → AreCounted (history got.bus) (history new.bus) 0 → (history new.bus).accesses ≤ (history got.bus).accesses + 1 →
         ((other : ℕ) → other ≢ line → (history new.bus).reads (line_place other) ≡ (history got.bus).reads (line_place other)) →
         (new.engine.evidence ≡ None → IfOk result (λ bytes. bytes ≡ line_bytes got.pads.key got.engine.made line)) →
@@ -202,7 +199,7 @@ module _ {B T : Type 0} (history : B → BusHistory) (moved : B → B → Type 0
         ((place : Place) → result ≡ Err (Tampered place) → (place ≡ line_place line)
         × (got.engine.evidence ≡ None → Rose (history got.bus).lies (history new.bus).lies)) →
         ((spent : ℕ) → result ≢ Err (Spent spent)) → IsLineRead terms line old counters new counters' result
-    line_read got_once same path node_found node_accepted below went counted once alone value fresh rose accounted shows found under accepted tampered unspent = record {
+    line_read got_once same copies path node_found node_accepted had went counted once alone value fresh rose accounted shows found under accepted tampered unspent = record {
       bus = went;
       step = whole_step;
       pairs = a.node.pairs;
@@ -224,11 +221,13 @@ module _ {B T : Type 0} (history : B → BusHistory) (moved : B → B → Type 0
           (λ level index. ap (λ (made : List Message). last_node level index made) unmade);
       fits = λ none. read_fits;
       same = λ quiet other. ap (λ (made : List Message). counters_in counters' made other) unmade ∙ same (got_quiet quiet) other;
+      copies = subst (λ (p : ℕ). CopiesCame p (history old.bus) old.engine.made counters (history new.bus) counters') page_is
+          (came_more page (history old.bus) (history got.bus) (history new.bus) old.engine.made counters counters' copies r.reads);
       value = λ quiet. if_ok result (λ bytes is. is ∙ got_bytes) (value quiet);
-      path = λ none. record {
+      path = λ none missed. record {
         rose = λ level above within uncached.
             let on = r.reads (node_place level (path_index counters.tree.levels level (page_of line))) in
-            elim ((subst (λ (p : ℕ). PathWasRead counters.tree old.engine.made 0 p (history old.bus) (history got.bus)) page_is path).rose level above within uncached) [
+            elim ((subst (λ (p : ℕ). ¬ Contains (cached_pages counters) p → PathWasRead counters.tree old.engine.made 0 p (history old.bus) (history got.bus)) page_is path missed).rose level above within uncached) [
               | inl never ↦ inl never
               | inr rose ↦ inr (omega (arith, rose, on))
             ];
@@ -263,9 +262,9 @@ module _ {B T : Type 0} (history : B → BusHistory) (moved : B → B → Type 0
       checked =
           if_ok result (λ bytes read. record {
             block = block;
-            below = subst (λ (p : ℕ). AreBelowPath terms.tag_of counters p old.engine.evidence new.engine.evidence block) page_is
-                (below_on terms.tag_of counters page old.engine.evidence got.engine.evidence new.engine.evidence block below
-                (λ level index made_at block_there tag. before_node level index made_at line block_there tag got.engine.evidence new.engine.evidence found r.evidence));
+            had = subst (λ (p : ℕ). AreHad terms.tag_of counters counters' new.engine.made p old.engine.evidence new.engine.evidence block) page_is
+                (had_on terms.tag_of counters counters' got.engine.made new.engine.made page old.engine.evidence got.engine.evidence new.engine.evidence block had unmade
+                (λ made_at block_there tag. before_node 0 page made_at line block_there tag got.engine.evidence new.engine.evidence found r.evidence));
             read = subst (λ (c : Counter). IsReadUnder terms.tag_of old.pads.key line c (history new.bus) bytes)
                 (counter_is ∙ ap (λ (p : ℕ). counter_of p block) place_is) read;
           })

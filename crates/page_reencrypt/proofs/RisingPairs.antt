@@ -245,20 +245,6 @@ limit_by limit used line (Some last) within is = within.limited line last (last_
 pub counter_limited : (limit : ℕ) (used : List (ℕ × Counter)) (line : ℕ) → AreWithin limit used → (counter_in used line).page ≤ limit
 counter_limited limit used line within = limit_by limit used line (last_pair line used) within refl
 
-has_by : (limit : ℕ) (used : List (ℕ × Counter)) (line : ℕ) (last : Option Counter) → AreWithin limit used → last_pair line used ≡ last →
-    HasCounter used line (unwrap_or last never_written)
-has_by limit used line None within is = inl (is, refl)
-has_by limit used line (Some last) within is = inr (is, within.started line last (last_listed line used last is))
-
--- each line has its counter
-pub has_counter : (limit : ℕ) (used : List (ℕ × Counter)) (line : ℕ) → AreWithin limit used → HasCounter used line (counter_in used line)
-has_counter limit used line within = has_by limit used line (last_pair line used) within refl
-
--- and no other
-pub counter_had : (used : List (ℕ × Counter)) (line : ℕ) (counter : Counter) → HasCounter used line counter → counter_in used line ≡ counter
-counter_had used line counter (inl fresh) = ap (λ (last : Option Counter). unwrap_or last never_written) fresh.0 ∙ sym fresh.1
-counter_had used line counter (inr had) = ap (λ (last : Option Counter). unwrap_or last never_written) had.0
-
 fresh_by : (limit : ℕ) (used : List (ℕ × Counter)) (line : ℕ) (last : Option Counter) → AreWithin limit used → last_pair line used ≡ last →
     unwrap_or last never_written ≡ never_written → last ≡ None
 fresh_by limit used line None within is none = refl

@@ -22,8 +22,7 @@ use Rattle.tag_engine.specs.TagEngine.{TagEngineView, tags_of}
 use Rattle.checked_bus.specs.Steps.{IsAccounted, stop_of}
 use Rattle.checked_bus.specs.Steps.{unwritten_in}
 use Rattle.split_counter.specs.CounterBlock.{last_counter, next_counter, place_of}
-use Rattle.bonsai_tree.specs.Tree.{fetch_accesses}
-use Rattle.counter_cache.specs.Counters.{CountersView}
+use Rattle.counter_cache.specs.Counters.{CountersView, counter_accesses}
 use Rattle.page_reencrypt.specs.Contents.{bytes_of, contents_of, counter_in, entries_of_write, line_bytes, lines_encrypted, page_lines}
 use Rattle.page_reencrypt.specs.LineLengths.{length-line_bytes}
 use Rattle.page_reencrypt.specs.LineMoves.{WriteMoved, overflow_accesses, write_accesses}
@@ -34,8 +33,9 @@ use Rattle.page_reencrypt.proofs.Entries.{encrypted_itself, encrypted_page, leng
 use Rattle.page_reencrypt.proofs.Kept.{err_stop, none_before, protected_after, stop_accounted, stop_going, stop_lasts, stop_memory, stop_spent, stop_unwritten}
 use Rattle.page_reencrypt.proofs.LineReads.{quiet_before}
 use Rattle.page_reencrypt.proofs.Moves.{moves_not}
+use Rattle.page_reencrypt.proofs.Nodes.{not_node}
 use Rattle.page_reencrypt.proofs.ReadCalls.{contents_same, lasts_itself}
-use Rattle.page_reencrypt.proofs.ReadSteps.{not_node}
+use Rattle.page_reencrypt.proofs.Reaching.{came_not}
 use Rattle.page_reencrypt.proofs.Rises.{rises_after, used_on}
 use Rattle.page_reencrypt.proofs.Sealing.{listed_or_not}
 use Rattle.page_reencrypt.proofs.Unmade.{same_tags}
@@ -74,7 +74,8 @@ pub lasting_write : {B T : Type 0} (history : B → BusHistory) (bus_moved : B �
 lasting_write history bus_moved tags bus_unmoved lines line bytes stop lasting = record {
   moves = moves_not history bus_moved tags bus_unmoved lines;
   stopped = lasts_itself lines.stopped stop lasting;
-  through = λ going quiet. absurd (cc);
+  copies = came_not (page_of line) (history lines.bus) lines.engine.made lines.counters;
+  fits = λ going quiet. absurd (cc);
   outside = λ going. absurd (cc);
   once = λ quiet short. (omega arith, λ other. refl);
   few = omega arith;
@@ -200,7 +201,8 @@ module _ {B T : Type 0} (d n : T → List ℕ → List ℕ) (history : B → Bus
     write_moved = record {
       moves = write_moves;
       stopped = stops;
-      through = write_kept.through;
+      copies = w.copies;
+      fits = write_kept.fits;
       outside = λ going. w;
       once = once;
       few = few;
@@ -259,7 +261,7 @@ module _ {B T : Type 0} (d n : T → List ℕ → List ℕ) (history : B → Bus
 
   pub write_used_up : new.engine.evidence ≡ None → counter_in m.pads.used line ≡ last_counter m.limit →
       (stop_of result ≢ None) × IsUnsealed history m after × SameCounters m after
-      × ((history new.bus).accesses ≤ (history m.bus).accesses + fetch_accesses m.engine.levels)
+      × ((history new.bus).accesses ≤ (history m.bus).accesses + counter_accesses m.engine.levels)
   write_used_up quiet last = let none = w.used_up quiet last in (none.1, unsealed_by none.0, none.2, none.3)
 
   pub write_spent : (page : ℕ) → result ≡ Err (Spent page) → (page ≡ page_of line) × (contents after ≡ contents m) × IsUnsealed history m after

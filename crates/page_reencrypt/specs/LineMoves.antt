@@ -2,6 +2,7 @@
 use Rattle.std.specs.Prelude.{◌≡◌, ◌≢◌, ℕ, ◌+◌, ◌≤◌, List, Result, None}
 use Rattle.std.specs.Option.{option_or}
 use Rattle.std.specs.Result.{result_err}
+use Rattle.sec_base.specs.Geometry.{page_of}
 use Rattle.sec_base.specs.declared.message.Message.{Message}
 use Rattle.sec_base.specs.declared.place.Place.TheVariants.{Line as line_place}
 use Rattle.sec_base.specs.declared.stop.MemStop.{MemStop}
@@ -9,19 +10,18 @@ use Rattle.bus_model.specs.BusHistory.{BusHistory}
 use Rattle.tag_engine.specs.TagEngine.{TagEngineView}
 use Rattle.checked_bus.specs.Steps.{stop_of}
 use Rattle.split_counter.specs.CounterBlock.{next_counter}
-use Rattle.bonsai_tree.specs.Tree.{fetch_accesses}
-use Rattle.counter_cache.specs.Counters.{bump_accesses}
+use Rattle.counter_cache.specs.Counters.{counter_accesses}
 use Rattle.page_reencrypt.specs.Contents.{counter_in}
 use Rattle.page_reencrypt.specs.Outside.{IsLineRead, IsWrite, MemoryTerms, outside_of}
-use Rattle.page_reencrypt.specs.SealedLines.{IsQuiet, IsWrittenThrough, Moves, SealedLinesView, WasRead, levels, made, used}
+use Rattle.page_reencrypt.specs.SealedLines.{CopiesCame, FitsTogether, IsQuiet, Moves, SealedLinesView, WasRead, levels, made, used}
 use Rattle.page_reencrypt.specs.Stops.{lasting_stop}
 
 -- how many accesses a read of a line makes at most, and a write without an overflow and with one
 abbrev pub read_accesses : ℕ → ℕ
-read_accesses levels = fetch_accesses levels + 1
+read_accesses levels = counter_accesses levels + 1
 
 abbrev pub write_accesses : ℕ → ℕ
-write_accesses levels = fetch_accesses levels + bump_accesses levels + 1
+write_accesses levels = counter_accesses levels + 1
 
 abbrev pub overflow_accesses : ℕ → ℕ
 overflow_accesses levels = write_accesses levels + 126
@@ -30,17 +30,18 @@ module _ {B T : Type 0} (history : B → BusHistory) (bus_moved : B → B → Ty
   abbrev pub terms_in : SealedLinesView B T → MemoryTerms B
   terms_in lines = record { history = history; moved = bus_moved; tag_of = tags lines.engine; levels = levels lines }
 
-  abbrev pub IsThrough : SealedLinesView B T → Type 0
-  IsThrough lines = lasting_stop lines.stopped ≡ None → IsQuiet lines →
-      IsWrittenThrough (tags lines.engine) (levels lines) lines.counters (history lines.bus) (made lines) (used lines)
+  abbrev pub FitsUnlessStopped : SealedLinesView B T → Type 0
+  FitsUnlessStopped lines = lasting_stop lines.stopped ≡ None → IsQuiet lines →
+      FitsTogether (tags lines.engine) (levels lines) lines.counters (history lines.bus) (made lines) (used lines)
 
-  -- A read of a line, with its answer. The last stop is kept. Where none lasted before, the line was read below the path of
-  -- its page.
+  -- A read of a line, with its answer. The last stop is kept. Where none lasted before, the line was read under its page's
+  -- counters.
   pub record ReadMoved (old : SealedLinesView B T) (line : ℕ) (answer : Result (List ℕ) MemStop) (new : SealedLinesView B T) : Type 0 where
     pub moves : Moves history bus_moved tags old new
     pub read : WasRead history old line new
     pub stopped : new.stopped ≡ option_or (result_err answer) old.stopped
-    pub through : IsThrough new
+    pub copies : CopiesCame (page_of line) (history old.bus) (made old) old.counters (history new.bus) new.counters
+    pub fits : FitsUnlessStopped new
     pub outside : lasting_stop old.stopped ≡ None →
         IsLineRead (terms_in old) line (outside_of old) old.counters (outside_of new) new.counters answer
 
@@ -48,7 +49,8 @@ module _ {B T : Type 0} (history : B → BusHistory) (bus_moved : B → B → Ty
   pub record WriteMoved (old : SealedLinesView B T) (line : ℕ) (bytes : List ℕ) (answer : Result (Unit {0}) MemStop) (new : SealedLinesView B T) : Type 0 where
     pub moves : Moves history bus_moved tags old new
     pub stopped : new.stopped ≡ option_or (result_err answer) old.stopped
-    pub through : IsThrough new
+    pub copies : CopiesCame (page_of line) (history old.bus) (made old) old.counters (history new.bus) new.counters
+    pub fits : FitsUnlessStopped new
     pub outside : lasting_stop old.stopped ≡ None →
         IsWrite (terms_in old) old.limit line bytes (outside_of old) old.counters (outside_of new) new.counters (stop_of answer)
     -- without an overflow no line is read

@@ -23,11 +23,11 @@ use Rattle.checked_bus.specs.Steps.{IsAccounted, Moves as StepMoves, SameLines, 
 use Rattle.split_counter.specs.CounterBlock.{block_of, counter_of, last_counter, next_counter, place_of}
 use Rattle.checked_bus.specs.Accesses.{WritesMessages}
 use Rattle.checked_bus.specs.Steps.{unwritten_in}
-use Rattle.bonsai_tree.specs.Tree.{IsOnPath, IsTree, NodesHoldLast, PathWasRead, fetch_accesses}
-use Rattle.counter_cache.specs.Counters.{CountersView, counters_in}
+use Rattle.bonsai_tree.specs.Tree.{IsFetchPlace, NodesHoldLast, PathWasRead}
+use Rattle.counter_cache.specs.Counters.{CountersView, HoldsCounters, SameCounters, cached_pages, counter_accesses, counters_in}
 use Rattle.page_reencrypt.specs.Consistency.{IsConsistent}
 use Rattle.page_reencrypt.specs.Contents.{HoldsLast, counter_in, line_bytes, lines_encrypted, never_written}
-use Rattle.page_reencrypt.specs.SealedLines.{AreReread, IsBeside, IsOfPage, IsReadBelowPath, IsReadUnder, SealedLinesView}
+use Rattle.page_reencrypt.specs.SealedLines.{AreReread, CopiesCame, IsBeside, IsOfPage, IsReadByCounters, IsReadUnder, SealedLinesView}
 use Rattle.page_reencrypt.specs.Stops.{lasting_stop}
 
 -- the bus, the tag engine and the pads
@@ -82,10 +82,9 @@ module _ {B T : Type 0} (terms : MemoryTerms B) where
   abbrev pub HaveRisen : OutsideView B T → Type 0
   HaveRisen outside = outside.engine.evidence ≡ None → AreRising outside.pads.used
 
-  -- there is evidence, or the tree under the counters fits
-  abbrev pub TreeFits : OutsideView B T → CountersView → Type 0
-  TreeFits outside counters =
-      outside.engine.evidence ≡ None → IsTree terms.tag_of counters.tree outside.engine.made (terms.history outside.bus).written
+  -- there is evidence, or the tree under the counters and the copies of counter blocks fit
+  abbrev pub CountersFit : OutsideView B T → CountersView → Type 0
+  CountersFit outside counters = HoldsCounters (λ engine. terms.tag_of) counters (terms.history outside.bus) outside.engine
 
   -- there is evidence, or the counter blocks of all pages say the last entries of their lines
   abbrev pub CountersSay : OutsideView B T → CountersView → Type 0
@@ -107,7 +106,7 @@ module _ {B T : Type 0} (terms : MemoryTerms B) where
     pub written : (level index : ℕ) → (terms.history new.bus).written (node_place level index) ≡ (terms.history old.bus).written (node_place level index)
     pub last : (level index : ℕ) → last_node level index new.engine.made ≡ last_node level index old.engine.made
 
-  -- Counters were read or written: no line was touched, and nothing was encrypted.
+  -- Counters were had: no line was touched, and nothing was encrypted.
   pub record IsNodeStep (old new : OutsideView B T) (stop : Option MemStop) : Type 0 where
     pub bus : terms.moved old.bus new.bus
     pub step : StepMoves (terms.history old.bus) old.engine (terms.history new.bus) new.engine
@@ -120,7 +119,7 @@ module _ {B T : Type 0} (terms : MemoryTerms B) where
     pub holds_last : HaveLast new
     pub nodes_hold_last : stop ≢ Some NoMemory → HaveLastNodes new
 
-  -- A line was read under its counter, which was read along the path of its page; or what was done of it where it stopped.
+  -- A line was read under its counter, once its page's counters were had; or what was done of it where it stopped.
   pub record IsLineRead (line : ℕ) (old : OutsideView B T) (counters : CountersView) (new : OutsideView B T) (counters' : CountersView)
       (result : Result (List ℕ) MemStop) : Type 0 where
     pub bus : terms.moved old.bus new.bus
@@ -129,17 +128,19 @@ module _ {B T : Type 0} (terms : MemoryTerms B) where
     pub levels : counters'.tree.levels ≡ counters.tree.levels
     pub pads : new.pads ≡ old.pads
     pub writes : WritesMessages (terms.history old.bus) (terms.history new.bus) (length step.more) (unwritten_in (stop_of result))
-    pub once : (terms.history new.bus).accesses ≤ (terms.history old.bus).accesses + (fetch_accesses terms.levels + 1)
+    pub once : (terms.history new.bus).accesses ≤ (terms.history old.bus).accesses + (counter_accesses terms.levels + 1)
     pub written : (at : ℕ) → (terms.history new.bus).written (line_place at) ≡ (terms.history old.bus).written (line_place at)
     pub alone : (other : ℕ) → other ≢ line → (terms.history new.bus).reads (line_place other) ≡ (terms.history old.bus).reads (line_place other)
     pub consistent : AreConsistent new
     pub holds_last : HaveLast new
     pub nodes_hold_last : stop_of result ≢ Some NoMemory → HaveLastNodes new
-    pub fits : stop_of result ≡ None → TreeFits new counters'
-    pub same : new.engine.evidence ≡ None → (page : ℕ) → counters_in counters' new.engine.made page ≡ counters_in counters old.engine.made page
+    pub fits : stop_of result ≡ None → CountersFit new counters'
+    pub same : new.engine.evidence ≡ None → SameCounters counters old.engine.made counters' new.engine.made
+    pub copies : CopiesCame (page_of line) (terms.history old.bus) old.engine.made counters (terms.history new.bus) counters'
     pub value : new.engine.evidence ≡ None → IfOk result (λ bytes. bytes ≡ line_bytes old.pads.key old.engine.made line)
     -- what was read of the bus
-    pub path : stop_of result ≡ None → PathWasRead counters.tree old.engine.made 0 (page_of line) (terms.history old.bus) (terms.history new.bus)
+    pub path : stop_of result ≡ None → ¬ Contains (cached_pages counters) (page_of line) →
+        PathWasRead counters.tree old.engine.made 0 (page_of line) (terms.history old.bus) (terms.history new.bus)
     pub rose : new.engine.evidence ≡ None → stop_of result ≡ None → IsFresh line old.pads.used
         ⊎ Rose ((terms.history old.bus).reads (line_place line)) ((terms.history new.bus).reads (line_place line))
     pub fresh : new.engine.evidence ≡ None → IsFresh line old.pads.used →
@@ -153,9 +154,10 @@ module _ {B T : Type 0} (terms : MemoryTerms B) where
     pub accepted_counters : (made_at : ℕ) (block tag : List ℕ) → old.engine.evidence ≡ None →
         new.engine.evidence ≡ Some (Collision 0 (page_of line) made_at block tag) →
         IfOk result (IsReadUnder terms.tag_of old.pads.key line (counter_of (place_of line) (block_of block)) (terms.history new.bus))
-    -- whatever was answered, the counters were at the end of a checked path
-    pub checked : IfOk result (IsReadBelowPath terms.tag_of old.pads.key counters line old.engine.evidence new.engine.evidence (terms.history new.bus))
-    pub tampered : (place : Place) → result ≡ Err (Tampered place) → ((place ≡ line_place line) ⊎ IsOnPath terms.levels 0 (page_of line) place)
+    -- whatever was answered, the counters were those of a copy, or of a block that was checked
+    pub checked : IfOk result (IsReadByCounters terms.tag_of old.pads.key counters counters' new.engine.made line old.engine.evidence new.engine.evidence
+        (terms.history new.bus))
+    pub tampered : (place : Place) → result ≡ Err (Tampered place) → ((place ≡ line_place line) ⊎ IsFetchPlace terms.levels (page_of line) place)
         × (old.engine.evidence ≡ None → Rose (terms.history old.bus).lies (terms.history new.bus).lies)
     pub unspent : (page : ℕ) → result ≢ Err (Spent page)
 
@@ -209,7 +211,7 @@ module _ {B T : Type 0} (terms : MemoryTerms B) where
     -- the line that failed is the next one
     pub failed : (other : ℕ) → stop ≡ Some (Tampered (line_place other)) → slice_get lines count ≡ Some other
 
-  -- A write of a line: its page's counters are read and counted up, and then its lines are sealed; or what was done of it
+  -- A write of a line: its page's counters are had and counted up, and then its lines are sealed; or what was done of it
   -- where it stopped.
   pub record IsWrite (limit line : ℕ) (bytes : List ℕ) (old : OutsideView B T) (counters : CountersView) (new : OutsideView B T)
       (counters' : CountersView) (stop : Option MemStop) : Type 0 where
@@ -240,32 +242,33 @@ module _ {B T : Type 0} (terms : MemoryTerms B) where
     pub reread : new.engine.evidence ≡ None →
         AreReread line (take count (lines_encrypted counter line)) old.pads.used (terms.history old.bus) (terms.history new.bus)
     -- the counters fit what was used, unless a stop lasts
-    pub fits : lasting_stop stop ≡ None → TreeFits new counters'
+    pub fits : lasting_stop stop ≡ None → CountersFit new counters'
     pub current : lasting_stop stop ≡ None → CountersSay new counters'
     -- a counter changes only where there was memory for the entries and the messages of a whole page
-    pub reserved : ((count ≡ 0) × (new.engine.evidence ≡ None → (page : ℕ) →
-        counters_in counters' new.engine.made page ≡ counters_in counters old.engine.made page))
+    pub reserved : ((count ≡ 0) × (new.engine.evidence ≡ None → SameCounters counters old.engine.made counters' new.engine.made))
         ⊎ ((length old.pads.used + LINES_PER_PAGE ≤ length new.pads.used + new.pads.room)
         × (length old.engine.made + LINES_PER_PAGE ≤ length new.engine.made + new.engine.room))
-    -- the path of its page was read
-    pub path : stop ≡ None → PathWasRead counters.tree old.engine.made 0 (page_of line) (terms.history old.bus) (terms.history new.bus)
-    -- false answers are accounted for, and tampering is of a node on the path or, with an overflow, of another line of
-    -- the page
+    -- the path of its page was read, unless its counters were on the chip
+    pub path : stop ≡ None → ¬ Contains (cached_pages counters) (page_of line) →
+        PathWasRead counters.tree old.engine.made 0 (page_of line) (terms.history old.bus) (terms.history new.bus)
+    pub copies : CopiesCame (page_of line) (terms.history old.bus) old.engine.made counters (terms.history new.bus) counters'
+    -- false answers are accounted for, and tampering is of a node that was read to have the counters or, with an overflow, of
+    -- another line of the page
     pub accounted : AreAccounted old None → AreAccounted new stop
     pub shows : ShowsLies old new
     pub lied : (place : Place) → stop ≡ Some (Tampered place) → old.engine.evidence ≡ None →
         Rose (terms.history old.bus).lies (terms.history new.bus).lies
     pub tampered : (place : Place) → stop ≡ Some (Tampered place) →
-        IsOnPath terms.levels 0 (page_of line) place ⊎ (IsBeside line place × (counter.line ≡ 0))
+        IsFetchPlace terms.levels (page_of line) place ⊎ (IsBeside line place × (counter.line ≡ 0))
     pub failed : (other : ℕ) → stop ≡ Some (Tampered (line_place other)) → slice_get (lines_encrypted counter line) count ≡ Some other
-    -- it is spent only where the line has the last counter; and where it has, no line is sealed, and its counters alone
-    -- were read, so that tampering is of a node on the path
+    -- it is spent only where the line has the last counter; and where it has, no line is sealed, and its counters alone were
+    -- had, so that tampering is of a node
     pub spent : (page : ℕ) → stop ≡ Some (Spent page) → (page ≡ page_of line) × (count ≡ 0)
         × (new.engine.evidence ≡ None → counter_in old.pads.used line ≡ last_counter limit)
     pub used_up : new.engine.evidence ≡ None → counter_in old.pads.used line ≡ last_counter limit → (count ≡ 0) × (stop ≢ None)
-        × ((page : ℕ) → counters_in counters' new.engine.made page ≡ counters_in counters old.engine.made page)
-        × ((terms.history new.bus).accesses ≤ (terms.history old.bus).accesses + fetch_accesses terms.levels)
-        × ((place : Place) → stop ≡ Some (Tampered place) → IsOnPath terms.levels 0 (page_of line) place)
+        × SameCounters counters old.engine.made counters' new.engine.made
+        × ((terms.history new.bus).accesses ≤ (terms.history old.bus).accesses + counter_accesses terms.levels)
+        × ((place : Place) → stop ≡ Some (Tampered place) → IsFetchPlace terms.levels (page_of line) place)
 
 -- there is memory for so many messages and so many entries
 abbrev pub with_room : {B T : Type 0} → ℕ → ℕ → OutsideView B T → OutsideView B T

@@ -1,6 +1,6 @@
 // The lines of the protected memory: they stand outside the chip, encrypted, each with a tag beside it. Their counters
-// stand outside too, below a tree whose root the chip keeps.
-ghost use Rattle.std.specs.Prelude.{◌≡◌, ◌≢◌, ◌+◌, ◌^◌, ◌<◌, ◌≤◌, ◌⊎◌, ◌++◌, ℕ, List, None, Some, Ok, Err, IfOk, IfErr, OnOk, OnErr, IfSome, length, take};
+// stand outside too, below a tree whose root the chip keeps, and it keeps copies of those that were used last.
+ghost use Rattle.std.specs.Prelude.{◌≡◌, ◌≢◌, ◌+◌, ◌^◌, ◌<◌, ◌≤◌, ◌⊎◌, ◌++◌, ℕ, List, None, Some, Ok, Err, IfOk, IfErr, OnOk, OnErr, IfSome, Contains, length, take};
 ghost use Rattle.sec_base.specs.Count.{Rose};
 ghost use Rattle.sec_base.specs.Evidence.{IsEvidence};
 ghost use Rattle.sec_base.specs.Geometry.{line_count, page_of};
@@ -19,11 +19,12 @@ ghost use Rattle.pad_stream.specs.Pad.{cipher_of};
 ghost use Rattle.pad_stream.specs.PadBlocks.{ShareNoBlock};
 ghost use Rattle.checked_bus.specs.Steps.{stop_of};
 ghost use Rattle.split_counter.specs.CounterBlock.{block_of, counter_of, last_counter, next_counter, place_of};
-ghost use Rattle.bonsai_tree.specs.Tree.{IsOnPath, PathWasRead, fetch_accesses};
+ghost use Rattle.bonsai_tree.specs.Tree.{IsFetchPlace, PathWasRead};
+ghost use Rattle.counter_cache.specs.Counters.{cached_pages, counter_accesses};
 ghost use Rattle.page_reencrypt.specs.Contents.{counter_in, entries_of_write};
-ghost use Rattle.page_reencrypt.specs.Outside.{AreConsistent, CountersSay, HasCounter, HaveLast, HaveLastNodes, HaveRisen, IsLineRead, IsWrite, TreeFits, terms_of};
+ghost use Rattle.page_reencrypt.specs.Outside.{AreConsistent, CountersFit, CountersSay, HasCounter, HaveLast, HaveLastNodes, HaveRisen, IsLineRead, IsWrite, terms_of};
 ghost use Rattle.page_reencrypt.specs.LineMoves.{ReadMoved, WriteMoved, read_accesses, write_accesses, overflow_accesses};
-ghost use Rattle.page_reencrypt.specs.SealedLines.{AreNew, AreProtected, AreReread, AreWrittenThrough, HadMemory, IsReadBelowPath, IsReadUnder, IsSealedAnew, IsSealedInPart, IsTamperedInWrite, IsUnbooted, IsQuiet, IsUnsealed, SameCounters, contents, enc_key, evidence, levels, lines_of, lines_of_write, made, tag_in, used};
+ghost use Rattle.page_reencrypt.specs.SealedLines.{AreNew, AreProtected, AreReread, CopiesCame, HadMemory, IsReadByCounters, IsReadUnder, IsSealedAnew, IsSealedInPart, IsTamperedInWrite, IsUnbooted, IsQuiet, IsUnsealed, LinesFit, SameCounters, contents, enc_key, evidence, levels, lines_of, lines_of_write, made, tag_in, used};
 ghost use Rattle.page_reencrypt.specs.Stops.{lasting_stop};
 
 use crate::account::Account;
@@ -38,8 +39,8 @@ use std::marker::Model;
 use tag_engine::TagEngine;
 
 /// A memory of lines that stand outside the chip, each encrypted under a counter of its own. The counters of a page are a
-/// block that stands outside too: the chip reads it along its path in the tree, each time that a line of the page is read
-/// or written.
+/// block that stands outside too, below the tree. The chip keeps copies of the blocks and of the nodes above them that were
+/// used last: a line whose page has one is read and written without a read of its counters.
 #[derive(Drop)]
 pub struct SealedLines<B: Bus, T: Tagger> {
     outside: Outside<B, T>,
@@ -78,7 +79,7 @@ impl<B: Bus, T: Tagger> SealedLines<B, T> {
         requires nothing_written { NothingWritten (B.history bus) }
 
         ensures new { IfOk result (AreNew B.history B.moved (tags_of T.data_tag_of T.node_tag_of) bus tagger enc_key.now geometry page_limit) }
-        ensures through { IfOk result (AreWrittenThrough T.data_tag_of T.node_tag_of B.history) }
+        ensures fits { IfOk result (LinesFit T.data_tag_of T.node_tag_of B.history) }
         ensures refused { IfErr result (λ refusal. IsUnbooted geometry (B.history bus) (B.history refusal.0) × B.moved bus refusal.0) }
     {
         let Ok(mut tags) = TagEngine::new(alloc, tagger, geometry) else {
@@ -181,17 +182,17 @@ impl<B: Bus, T: Tagger> LineStore for SealedLines<B, T> {
         ensures kept { (stop : MemStop) → lasting_stop self.old.stopped ≡ Some stop →
             (result ≡ Err stop) × (self.new ≡ self.old) }
 
-        // It is one access for each level and one for the line at most, no line is encrypted, tagged or written, and no
-        // counter changes.
+        // It is what it takes to have the counters and one access for the line at most, no line is encrypted, tagged or
+        // written, and no counter changes.
         ensures once { (B.history self.new.bus).accesses ≤ (B.history self.old.bus).accesses + read_accesses (levels self.old) }
         ensures unsealed { IsUnsealed B.history self.old self.new }
         ensures same_counters { lasting_stop self.old.stopped ≡ None → IsQuiet self.new → SameCounters self.old self.new }
         ensures alone { (other : ℕ) → other ≢ line →
             (B.history self.new.bus).reads (line_place other) ≡ (B.history self.old.bus).reads (line_place other) }
 
-        // The memory is written through before and after the call.
-        ensures through { lasting_stop self.new.stopped ≡ None → IsQuiet self.new →
-            AreWrittenThrough T.data_tag_of T.node_tag_of B.history self.new }
+        // The counters, the entries, the messages and what stands outside fit together before and after the call.
+        ensures fits { lasting_stop self.new.stopped ≡ None → IsQuiet self.new →
+            LinesFit T.data_tag_of T.node_tag_of B.history self.new }
 
         // What passed though it was never tagged is answered as it was decrypted. Counters that passed so are used as they
         // were answered.
@@ -203,9 +204,13 @@ impl<B: Bus, T: Tagger> LineStore for SealedLines<B, T> {
             IfOk result (IsReadUnder (tag_in T.data_tag_of T.node_tag_of self.old) (enc_key self.old) line
             (counter_of (place_of line) (block_of block)) (B.history self.new.bus)) }
 
-        // Whatever was answered, the counters were at the end of a path that was checked from the top down.
-        ensures checked { lasting_stop self.old.stopped ≡ None → IfOk result (IsReadBelowPath (tag_in T.data_tag_of T.node_tag_of self.old)
-            (enc_key self.old) self.old.counters line (evidence self.old) (evidence self.new) (B.history self.new.bus)) }
+        // Whatever was answered, the counters were those of the page's copy, or of a block with the tag that the tree keeps.
+        ensures checked { lasting_stop self.old.stopped ≡ None → IfOk result (IsReadByCounters (tag_in T.data_tag_of T.node_tag_of self.old)
+            (enc_key self.old) self.old.counters self.new.counters (made self.new) line (evidence self.old) (evidence self.new)
+            (B.history self.new.bus)) }
+
+        // What has a copy on the chip had one before, or was read.
+        ensures copies { CopiesCame (page_of line) (B.history self.old.bus) (made self.old) self.old.counters (B.history self.new.bus) self.new.counters }
 
         // Evidence comes only of a false answer.
         ensures shown { lasting_stop self.old.stopped ≡ None → IsQuiet self.old →
@@ -215,10 +220,10 @@ impl<B: Bus, T: Tagger> LineStore for SealedLines<B, T> {
         ensures fresh { lasting_stop self.old.stopped ≡ None → IsQuiet self.new → IsFresh line (used self.old) →
             (B.history self.new.bus).reads (line_place line) ≡ (B.history self.old.bus).reads (line_place line) }
 
-        // Tampering comes only of this line or of a node on the path of its page, and where an answer was false or there
-        // was evidence before.
+        // Tampering comes only of this line or of a node that is read to have its counters, and where an answer was false or
+        // there was evidence before.
         ensures tampered { (place : Place) → lasting_stop self.old.stopped ≡ None → result ≡ Err (Tampered place) →
-            ((place ≡ line_place line) ⊎ IsOnPath (levels self.old) 0 (page_of line) place)
+            ((place ≡ line_place line) ⊎ IsFetchPlace (levels self.old) (page_of line) place)
             × (IsQuiet self.old → Rose (B.history self.old.bus).lies (B.history self.new.bus).lies) }
         ensures unspent { (page : ℕ) → result ≢ Err (Spent page) }
     {
@@ -256,41 +261,42 @@ impl<B: Bus, T: Tagger> LineStore for SealedLines<B, T> {
         ensures sealed { OnOk result (IsSealedAnew line bytes.now self.old self.new) }
         ensures sealed_in_part { OnErr result (IsSealedInPart line bytes.now self.old self.new) }
 
-        // The memory is written through before and after the call.
-        ensures through { lasting_stop self.new.stopped ≡ None → IsQuiet self.new →
-            AreWrittenThrough T.data_tag_of T.node_tag_of B.history self.new }
+        // The counters, the entries, the messages and what stands outside fit together before and after the call.
+        ensures fits { lasting_stop self.new.stopped ≡ None → IsQuiet self.new →
+            LinesFit T.data_tag_of T.node_tag_of B.history self.new }
 
-        // The path of the page is read. With an overflow each other line of the page that was written before is read from
-        // its place.
-        ensures path { lasting_stop self.old.stopped ≡ None →
+        // The path of the page is read, unless its counters were on the chip. With an overflow each other line of the page that
+        // was written before is read from its place.
+        ensures path { lasting_stop self.old.stopped ≡ None → ¬ Contains (cached_pages self.old.counters) (page_of line) →
             OnOk result (PathWasRead self.old.counters.tree (made self.old) 0 (page_of line) (B.history self.old.bus) (B.history self.new.bus)) }
         ensures reread { IsQuiet self.new → OnOk result (AreReread line (lines_of_write line self.old) (used self.old)
             (B.history self.old.bus) (B.history self.new.bus)) }
+        ensures copies { CopiesCame (page_of line) (B.history self.old.bus) (made self.old) self.old.counters (B.history self.new.bus) self.new.counters }
 
         // A counter changes only where there was memory for all lines of the page.
         ensures reserved { OnErr result (((used self.new ≡ used self.old) × (IsQuiet self.new → SameCounters self.old self.new))
             ⊎ HadMemory self.old self.new) }
 
-        // The path is read twice and written once. A line is written without a read of any line and by one access; with an
-        // overflow there are two accesses a line at most, and one of the written line.
+        // The counters are had once. A line is written without a read of any line and by one access; with an overflow there are
+        // two accesses a line at most, and one of the written line.
         ensures once { IsQuiet self.new → (next_counter (counter_in (used self.old) line)).line ≢ 0 →
             ((B.history self.new.bus).accesses ≤ (B.history self.old.bus).accesses + write_accesses (levels self.old))
             × ((other : ℕ) → (B.history self.new.bus).reads (line_place other) ≡ (B.history self.old.bus).reads (line_place other)) }
         ensures few { (B.history self.new.bus).accesses ≤ (B.history self.old.bus).accesses + overflow_accesses (levels self.old) }
 
         // Only a line with the last counter that the limit allows is spent, and such a line is not written again: its
-        // counters are read, and where the answer is another one, they could not be had. Nothing but nodes changes.
+        // counters are had, and where the answer is another one, they could not be. Nothing but nodes changes.
         ensures spent { lasting_stop self.old.stopped ≡ None → IsQuiet self.new → result ≡ Err (Spent (page_of line)) →
             counter_in (used self.old) line ≡ last_counter self.old.limit }
         ensures used_up { lasting_stop self.old.stopped ≡ None → IsQuiet self.new →
             counter_in (used self.old) line ≡ last_counter self.old.limit →
             (stop_of result ≢ None) × IsUnsealed B.history self.old self.new × SameCounters self.old self.new
-            × ((B.history self.new.bus).accesses ≤ (B.history self.old.bus).accesses + fetch_accesses (levels self.old)) }
+            × ((B.history self.new.bus).accesses ≤ (B.history self.old.bus).accesses + counter_accesses (levels self.old)) }
         ensures spent_stays { (page : ℕ) → result ≡ Err (Spent page) → (page ≡ page_of line)
             × (contents self.new ≡ contents self.old) × IsUnsealed B.history self.old self.new }
 
-        // Tampering comes only of a node on the path of the page or, with an overflow, of another line of the page, and
-        // where an answer was false or there was evidence before.
+        // Tampering comes only of a node that is read to have the page's counters or, with an overflow, of another line of the
+        // page, and where an answer was false or there was evidence before.
         ensures tampered { (place : Place) → lasting_stop self.old.stopped ≡ None → result ≡ Err (Tampered place) →
             IsTamperedInWrite B.history line place self.old self.new }
         ensures untampered { (other : ℕ) → lasting_stop self.old.stopped ≡ None → IsQuiet self.new →
@@ -309,7 +315,6 @@ impl<B: Bus, T: Tagger> LineStore for SealedLines<B, T> {
         let written = write_next(
             &mut self.outside,
             &mut self.counters,
-            self.geometry.levels(),
             self.page_limit,
             line,
             bytes,
@@ -332,7 +337,7 @@ fn lasting(stopped: Option<MemStop>) -> Option<MemStop>
     }
 }
 
-// Reads a line under its counter, which is read along the path of its page. It keeps no stop.
+// Reads a line under its counter, once its page's counters are had. It keeps no stop.
 fn read_at<B: Bus, T: Tagger>(
     outside: &mut Outside<B, T>,
     counters: &mut Counters,
@@ -344,7 +349,7 @@ fn read_at<B: Bus, T: Tagger>(
     requires holds_last { HaveLast (terms_of B.history B.moved T.data_tag_of T.node_tag_of outside.old) outside.old }
     requires nodes_hold_last { HaveLastNodes (terms_of B.history B.moved T.data_tag_of T.node_tag_of outside.old) outside.old }
     requires risen { HaveRisen (terms_of B.history B.moved T.data_tag_of T.node_tag_of outside.old) outside.old }
-    requires fits { TreeFits (terms_of B.history B.moved T.data_tag_of T.node_tag_of outside.old) outside.old counters.old }
+    requires fits { CountersFit (terms_of B.history B.moved T.data_tag_of T.node_tag_of outside.old) outside.old counters.old }
     requires current { CountersSay (terms_of B.history B.moved T.data_tag_of T.node_tag_of outside.old) outside.old counters.old }
     requires started { outside.old.engine.evidence ≡ None → (at : ℕ) → HasCounter outside.old.pads.used at (counter_in outside.old.pads.used at) }
 
@@ -360,19 +365,17 @@ fn read_at<B: Bus, T: Tagger>(
 fn write_next<B: Bus, T: Tagger>(
     outside: &mut Outside<B, T>,
     counters: &mut Counters,
-    levels: u8,
     limit: u64,
     line: u32,
     bytes: &[u8; 64],
 ) -> Result<(), MemStop>
     requires inside { line < line_count outside.old.engine.levels }
-    requires levels { levels ≡ outside.old.engine.levels }
-    requires tree_levels { counters.old.tree.levels ≡ outside.old.engine.levels }
+    requires levels { counters.old.tree.levels ≡ outside.old.engine.levels }
     requires consistent { AreConsistent (terms_of B.history B.moved T.data_tag_of T.node_tag_of outside.old) outside.old }
     requires holds_last { HaveLast (terms_of B.history B.moved T.data_tag_of T.node_tag_of outside.old) outside.old }
     requires nodes_hold_last { HaveLastNodes (terms_of B.history B.moved T.data_tag_of T.node_tag_of outside.old) outside.old }
     requires risen { HaveRisen (terms_of B.history B.moved T.data_tag_of T.node_tag_of outside.old) outside.old }
-    requires fits { TreeFits (terms_of B.history B.moved T.data_tag_of T.node_tag_of outside.old) outside.old counters.old }
+    requires fits { CountersFit (terms_of B.history B.moved T.data_tag_of T.node_tag_of outside.old) outside.old counters.old }
     requires current { CountersSay (terms_of B.history B.moved T.data_tag_of T.node_tag_of outside.old) outside.old counters.old }
     requires started { outside.old.engine.evidence ≡ None → (at : ℕ) → HasCounter outside.old.pads.used at (counter_in outside.old.pads.used at) }
     requires limited { outside.old.engine.evidence ≡ None → (counter_in outside.old.pads.used line).page ≤ limit }
@@ -390,7 +393,7 @@ fn write_next<B: Bus, T: Tagger>(
     if let Bumped::Spent = Bumped::of(block.get(place), limit) {
         return Err(MemStop::Spent(page));
     }
-    outside.reserve(levels)?;
+    outside.reserve()?;
     match outside.bump(counters, page, place, limit)? {
         Bumped::Line(counter) => {
             outside.seal(line, counter, bytes)?;

@@ -7,6 +7,7 @@ ghost use Rattle.bus_model.specs.FlipBus.{flip_history};
 
 mod accesses;
 mod count_bus;
+mod evictions;
 mod flips;
 mod overflow;
 mod replay_bus;
@@ -125,7 +126,7 @@ fn what_was_written_last_is_read(rt: HostRuntime) -> Result<(), Fail> {
     let again = (64, Counter { page: 0, line: 2 });
     let wanted = [once(64), again, once(255)];
     assert_eq!(rt; account.used.as_slice(), wanted.as_slice());
-    assert_eq!(rt; account.made.len(), 5 + 3 * 3);
+    assert_eq!(rt; account.made.len(), 5 + 3);
     assert_eq!(rt; account.evidence, None);
     Ok(())
 }

@@ -6,7 +6,7 @@ use Rattle.std.proofs.Math.Nat.{div-one, pow-zero}
 use Rattle.std.proofs.lemmas.Bool.{true≢false}
 use Rattle.std.proofs.lemmas.List.{append-nil, take_all}
 use Rattle.std.proofs.lemmas.Option.{same_Some}
-use Rattle.sec_base.specs.Count.{Rose}
+use Rattle.sec_base.specs.Count.{Rose, RoseBy}
 use Rattle.sec_base.specs.Geometry.{arity, line_count, page_of}
 use Rattle.sec_base.specs.LastMessage.{data_pairs, last_data, last_node}
 use Rattle.sec_base.specs.Width.{number_at}
@@ -28,18 +28,20 @@ use Rattle.pad_stream.specs.Pad.{cipher_of}
 use Rattle.pad_stream.specs.PadEngine.{PadEngineView}
 use Rattle.checked_bus.specs.Steps.{stop_of}
 use Rattle.bonsai_tree.specs.Node.{path_index}
-use Rattle.bonsai_tree.specs.Tree.{IsOnPath, PathWasRead}
+use Rattle.bonsai_tree.specs.Tree.{IsFetchPlace, PathWasRead, TreeView}
 use Rattle.page_reencrypt.specs.Contents.{lines_encrypted}
-use Rattle.page_reencrypt.specs.LineMoves.{IsThrough, ReadMoved, WriteMoved, overflow_accesses, read_accesses, terms_in, write_accesses}
+use Rattle.page_reencrypt.specs.LineMoves.{FitsUnlessStopped, ReadMoved, WriteMoved, overflow_accesses, read_accesses, terms_in, write_accesses}
 use Rattle.page_reencrypt.specs.Outside.{IsLineRead, IsWrite, outside_of}
-use Rattle.page_reencrypt.specs.SealedLines.{IsUnsealed, Moves, SameCounters, SealedLinesView, made, page_counters, used}
+use Rattle.page_reencrypt.specs.SealedLines.{CopiesCame, IsUnsealed, Moves, SameCounters, SealedLinesView, made, page_counters, used}
 use Rattle.page_reencrypt.specs.SealedLines.{contents as line_contents, levels as levels_of}
 use Rattle.page_reencrypt.specs.SealedLines as lines
+use Rattle.counter_cache.specs.Counters.{cached_pages as lines_cached}
 use Rattle.page_reencrypt.specs.Stops.{lasting_stop}
+use Rattle.counter_cache.proofs.Havings.{no_copy_below, path_on}
 use Rattle.page_reencrypt.proofs.LineReads.{quiet_before}
 use Rattle.page_reencrypt.proofs.Moves.{moves_not, moves_on}
 use Rattle.page_reencrypt.proofs.ReadCalls.{contents_same}
-use Rattle.page_reencrypt.proofs.ReadSteps.{not_node}
+use Rattle.page_reencrypt.proofs.Nodes.{not_node}
 use Rattle.page_reencrypt.proofs.Sealing.{listed_or_not}
 use Rattle.cache_set.specs.declared.way.Way.{Way}
 use Rattle.cache_set.specs.Cache.{copy_at, places, way_at}
@@ -47,9 +49,9 @@ use Rattle.cache_set.proofs.Listed.{listed_at}
 use Rattle.line_cache.specs.LineCache.{IsMiss, IsMissed, IsStep, IsStoppedMiss, LineCacheView, contents_over, leaving, most_held}
 use Rattle.line_cache.specs.LineCache.{IsMoved as IsChain}
 use Rattle.line_cache.proofs.Steps.{way_of_copy}
-use Rattle.secure_memory.specs.LineCall.{IsLineCall, IsWrittenAnew, IsWrittenInPart}
-use Rattle.secure_memory.specs.SecureRam.{SecureRamView, IsMoved, IsQuiet, LineHad, PageHad, cached_pages, held_lines, stopped}
-use Rattle.secure_memory.specs.Moving.{on_chip_of_line}
+use Rattle.secure_memory.specs.LineCall.{IsLineCall, IsWrittenAnew, IsWrittenInPart, leaving_accesses}
+use Rattle.secure_memory.specs.SecureRam.{SecureRamView, CopiesHad, IsMoved, IsQuiet, LineHad, PageHad, PageRead, cached_pages, held_lines, levels, memory_accesses, stopped}
+use Rattle.secure_memory.specs.Moving.{copies_not, copies_on, on_chip_of_line, on_chip_of_page}
 
 -- Answers and stops
 
@@ -60,9 +62,6 @@ err_is (Err why) stop is = let same : why ≡ stop = cc in ap (λ (s : MemStop).
 ok_stays : {A : Type 0} (answer : Result A MemStop) (before : Option MemStop) → result_err answer ≡ None → before ≡ None → option_or (result_err answer) before ≡ None
 ok_stays answer before ok none = ap (λ (o : Option MemStop). option_or o before) ok ∙ none
 
-none_contained : (x : ℕ) → Contains [] x → ⊥
-none_contained x (k, below, at) = omega (arith, below)
-
 only_line : (line other : ℕ) → Contains (line ∷ []) other → other ≡ line
 only_line line other (zero, below, at) = sym at
 only_line line other (suc k, below, at) = absurd (omega (arith, below))
@@ -72,7 +71,7 @@ page_on_path : (levels page : ℕ) → path_index levels 0 page ≡ page
 page_on_path levels page = ap (λ (n : ℕ). page / n) (pow-zero (arity levels)) ∙ div-one page
 
 -- the place of another line is none that a read of the line names
-not_beside : (levels line other : ℕ) → other ≢ line → ¬ ((line_place other ≡ line_place line) ⊎ IsOnPath levels 0 (page_of line) (line_place other))
+not_beside : (levels line other : ℕ) → other ≢ line → ¬ ((line_place other ≡ line_place line) ⊎ IsFetchPlace levels (page_of line) (line_place other))
 not_beside levels line other differs (inl own) = differs cc
 not_beside levels line other differs (inr node) = not_node levels (page_of line) other node
 
@@ -97,19 +96,22 @@ module _ {B T : Type 0} (history : B → BusHistory) where
         Rose ((history first.bus).reads place) ((history third.bus).reads place)
     rose_before place rose = let on = moves.step.reads place in omega (arith, rose, on)
 
-    path_before : second.counters.tree.levels ≡ first.counters.tree.levels → (page : ℕ) →
-        PathWasRead second.counters.tree (made second) 0 page (history second.bus) (history third.bus) →
-        PathWasRead first.counters.tree (made first) 0 page (history first.bus) (history third.bus)
-    path_before same page path = record {
-      rose = λ level above inside none.
-          subst (λ (levels : ℕ). (last_node level (path_index levels level page) (made first) ≡ None)
-          ⊎ Rose ((history first.bus).reads (node_place level (path_index levels level page))) ((history third.bus).reads (node_place level (path_index levels level page))))
-          same
-          (elim (path.rose level above (subst (λ (levels : ℕ). level ≤ levels) (sym same) inside) (λ lower low high. refl)) [
-            | inl never ↦ inl (unmade_before level (path_index second.counters.tree.levels level page) never)
-            | inr rose ↦ inr (rose_before (node_place level (path_index second.counters.tree.levels level page)) rose)
-          ]);
-    }
+-- a path that was read still was after further calls
+path_later : (tree : TreeView) (page : ℕ) (made : List Message) (first second third : BusHistory) → ((place : Place) → RoseBy 0 (second.reads place) (third.reads place)) →
+    PathWasRead tree made 0 page first second → PathWasRead tree made 0 page first third
+path_later tree page made first second third after path = record {
+  rose = λ level low high none. elim (path.rose level low high none) [
+    | inl never ↦ inl never
+    | inr rose ↦ inr (omega (arith, rose, after (node_place level (path_index tree.levels level page))))
+  ];
+}
+
+-- the page's own node was read
+own_was_read : {B T : Type 0} (history : B → BusHistory) (old new : SecureRamView B T) (page : ℕ) →
+    PathWasRead old.lines.counters.tree (made old.lines) 0 page (history old.lines.bus) (history new.lines.bus) → PageRead history old new page
+own_was_read history old new page path =
+    subst (PageRead history old new) (page_on_path old.lines.counters.tree.levels page)
+    (path.rose 0 (omega arith) (omega arith) (λ lower from within. no_copy_below old.lines.counters.tree lower page within))
 
 module _ {B T : Type 0} (history : B → BusHistory) (bus_moved : B → B → Type 0) (tags : TagEngineView T → Message → List ℕ) where
   -- A write of the line that goes out
@@ -175,7 +177,7 @@ module _ {B T : Type 0} (history : B → BusHistory) (bus_moved : B → B → Ty
               once = λ quiet short. omega (arith, once);
               alone = λ quiet short. seen.alone;
               read = λ quiet ok. inr (r.read.read (goes_on ok) quiet);
-              path = λ ok free. r.read.path (goes_on ok);
+              path = λ ok free uncached. r.read.path (goes_on ok) uncached;
               unsealed = λ none. (
                 record { unused = ap (λ (p : PadEngineView). p.used) seen.pads; more = seen.step.more; messages = seen.step.made; untagged = seen.pairs; unwritten_to = seen.written },
                 seen.same,
@@ -269,17 +271,29 @@ module _ {B T : Type 0} (history : B → BusHistory) (bus_moved : B → B → Ty
                   ∙ ap (λ (xs : List ℕ). used old.lines ++ map (λ at. (at, left.counter)) xs) (take_all left.count (lines_encrypted left.counter way.place) (omega (arith, whole)));
             }
 
+        -- where the write brought in the counters of the line's page, it was the page's own path that it read
+        path_written : ¬ Contains (cached_pages old) (page_of line) → Contains (lines_cached mid.counters) (page_of line) →
+            PathWasRead old.lines.counters.tree (made old.lines) 0 (page_of line) (history old.lines.bus) (history new.lines.bus)
+        path_written uncached there = elim (w.copies.blocks (page_of line) there) [
+          | inl was ↦ absurd (uncached was)
+          | inr came ↦
+              let path = left.path refl (λ cached. uncached (subst (Contains (cached_pages old)) (sym came.0) cached)) in
+              subst (λ (page : ℕ). PathWasRead old.lines.counters.tree (made old.lines) 0 page (history old.lines.bus) (history new.lines.bus)) (sym came.0)
+              (path_later old.lines.counters.tree (page_of way.place) (made old.lines) (history old.lines.bus) (history mid.bus) (history new.lines.bus) r.moves.step.reads path)
+        ]
+
         both_call : IsLineCall history old line (Some way) (result_err answer) new
         both_call =
             let most : (history mid.bus).accesses ≤ (history old.lines.bus).accesses + overflow_accesses (lines.levels old.lines) = w.few in
-            let then : (history new.lines.bus).accesses ≤ (history mid.bus).accesses + read_accesses (lines.levels mid) = came.once in
+            let then : (history new.lines.bus).accesses ≤ (history mid.bus).accesses + read_accesses (lines.levels old.lines) =
+            subst (λ (n : ℕ). (history new.lines.bus).accesses ≤ (history mid.bus).accesses + read_accesses n) same_levels came.once in
             record {
               hit = λ there. absurd (unheld there);
               held = held;
-              few = omega (arith, most, then, same_levels);
+              few = omega (arith, most, then);
               once = λ quiet short.
                   let once : (history mid.bus).accesses ≤ (history old.lines.bus).accesses + write_accesses (lines.levels old.lines) = (w.once (mid_quiet quiet) short).0 in
-                  omega (arith, once, then, same_levels);
+                  omega (arith, once, then);
               alone = λ quiet short other differs. came.alone other differs ∙ (w.once (mid_quiet quiet) short).1 other;
               read = λ quiet ok.
                   elim (r.read.read (then_goes_on ok) quiet) [
@@ -287,8 +301,14 @@ module _ {B T : Type 0} (history : B → BusHistory) (bus_moved : B → B → Ty
                     | inr rose ↦ inr (inr (rose_before history old.lines mid new.lines bus_moved tags w.moves (line_place line) rose))
                   ];
               path = λ ok free uncached.
-                  path_before history old.lines mid new.lines bus_moved tags w.moves left.levels (page_of line)
-                  (r.read.path (then_goes_on ok) (λ cached. none_contained (page_of line) cached));
+                  elim (listed_or_not (lines_cached mid.counters) (page_of line)) [
+                    | inl there ↦ path_written uncached there
+                    | inr out ↦
+                        path_on old.lines.counters.tree mid.counters.tree (page_of line) (made old.lines) (made mid) (history old.lines.bus) (history mid.bus) (history new.lines.bus)
+                        left.levels w.moves.step.reads r.moves.step.reads w.copies.nodes
+                        (λ level index. unmade_before history old.lines mid new.lines bus_moved tags w.moves level index)
+                        (r.read.path (then_goes_on ok) out)
+                  ];
               unsealed = λ none. absurd (cc);
               fresh = λ none. absurd (cc);
               sealed = λ other is. (
@@ -297,7 +317,7 @@ module _ {B T : Type 0} (history : B → BusHistory) (bus_moved : B → B → Ty
               );
               tampered = λ place is.
                   let named = came.tampered place (err_is answer (Tampered place) is) in (
-                    inl (subst (λ (levels : ℕ). (place ≡ line_place line) ⊎ IsOnPath levels 0 (page_of line) place) same_levels named.0),
+                    inl (subst (λ (levels : ℕ). (place ≡ line_place line) ⊎ IsFetchPlace levels (page_of line) place) same_levels named.0),
                     λ quiet. elim (left.shows quiet) [
                       | inl still ↦ let rose = named.1 still in omega (arith, rose, w.moves.step.lies)
                       | inr rose ↦ omega (arith, rose, r.moves.step.lies)
@@ -338,35 +358,66 @@ module _ {B T : Type 0} (history : B → BusHistory) (bus_moved : B → B → Ty
     missed_stops (Some way) answer (inl (stop, is, w)) = w.stopped ∙ sym (ap result_err is)
     missed_stops (Some way) answer (inr (mid, w, r)) = r.stopped ∙ stop_kept answer mid.stopped (w.stopped ∙ going)
 
-    -- it is written through
-    pub missed_through : (out : Option Way) (answer : Result (List ℕ) MemStop) →
-        IsMiss (ReadMoved history bus_moved tags) (WriteMoved history bus_moved tags) out old.lines line answer new.lines → IsThrough history bus_moved tags new.lines
-    missed_through None answer r = r.through
-    missed_through (Some way) answer (inl (stop, is, w)) = w.through
-    missed_through (Some way) answer (inr (mid, w, r)) = r.through
+    -- The blocks and nodes that have copies
+
+    came_so : (first second : SecureRamView B T) (page : ℕ) → second.lines.counters.tree.levels ≡ first.lines.counters.tree.levels →
+        CopiesCame page (history first.lines.bus) (made first.lines) first.lines.counters (history second.lines.bus) second.lines.counters →
+        CopiesHad history first second
+    came_so first second page same came = record {
+      tree_levels = same;
+      few_blocks = came.few_blocks;
+      few_nodes = came.few_nodes;
+      blocks = λ other cached. elim (came.blocks other cached) [
+        | inl was ↦ inl was
+        | inr own ↦ inr (subst (PageRead history first second) (sym own.0) own.1)
+      ];
+      nodes = came.nodes;
+    }
+
+    read_copies : (first : SecureRamView B T) (answer : Result (List ℕ) MemStop) → first.lines.stopped ≡ None →
+        ReadMoved history bus_moved tags first.lines line answer new.lines → CopiesHad history first new
+    read_copies first answer goes r = came_so first new (page_of line) (r.outside (ap lasting_stop goes)).levels r.copies
+
+    written_copies : (second : SecureRamView B T) (way : Way) (answer : Result (Unit {0}) MemStop) →
+        WriteMoved history bus_moved tags old.lines way.place way.copy answer second.lines → CopiesHad history old second
+    written_copies second way answer w = came_so old second (page_of way.place) (w.outside (ap lasting_stop going)).levels w.copies
+
+    pub missed_copies : (out : Option Way) (answer : Result (List ℕ) MemStop) →
+        IsMiss (ReadMoved history bus_moved tags) (WriteMoved history bus_moved tags) out old.lines line answer new.lines → CopiesHad history old new
+    missed_copies None answer r = read_copies old answer going r
+    missed_copies (Some way) answer (inl (stop, is, w)) = written_copies new way (Err stop) w
+    missed_copies (Some way) answer (inr (mid, w, r)) =
+        let between : SecureRamView B T = record { lines = mid; ways = old.ways } in
+        copies_on history bus_moved tags old between new w.moves r.moves (written_copies between way (Ok tt) w) (read_copies between answer (w.stopped ∙ going) r)
+
+    -- it fits what the chip has of it
+    pub missed_fits : (out : Option Way) (answer : Result (List ℕ) MemStop) →
+        IsMiss (ReadMoved history bus_moved tags) (WriteMoved history bus_moved tags) out old.lines line answer new.lines → FitsUnlessStopped history bus_moved tags new.lines
+    missed_fits None answer r = r.fits
+    missed_fits (Some way) answer (inl (stop, is, w)) = w.fits
+    missed_fits (Some way) answer (inr (mid, w, r)) = r.fits
 
     module _ (out : Option Way) (stop : Option MemStop) (called : IsLineCall history old line out stop new) (stops : stopped new ≡ stop) where
       page_had : stopped new ≡ None → PageHad history old new (page_of line)
       page_had still =
           elim (listed_or_not (held_lines old) line) [
             | inl listed ↦ inl (on_chip_of_line (held_lines old) (cached_pages old) line listed)
-            | inr free ↦
-                let tree = old.lines.counters.tree in
-                let path = called.path (sym stops ∙ still) free (λ cached. none_contained (page_of line) cached) in
-                inr (subst (λ (page : ℕ). (last_node 0 page (made old.lines) ≡ None)
-                ⊎ Rose ((history old.lines.bus).reads (node_place 0 page)) ((history new.lines.bus).reads (node_place 0 page)))
-                (page_on_path tree.levels (page_of line)) (path.rose 0 (omega arith) (omega arith) (λ lower above below. refl)))
+            | inr free ↦ elim (listed_or_not (cached_pages old) (page_of line)) [
+              | inl cached ↦ inl (on_chip_of_page (held_lines old) (cached_pages old) (page_of line) cached)
+              | inr uncached ↦ inr (own_was_read history old new (page_of line) (called.path (sym stops ∙ still) free uncached))
+            ]
           ]
 
       line_had : stopped new ≡ None → IsQuiet new → LineHad history old new line × PageHad history old new (page_of line)
       line_had still quiet = (called.read quiet (sym stops ∙ still), page_had still)
 
-      pub call_moved : Moves history bus_moved tags old.lines new.lines → length (held_lines new) ≤ most_held → IsMoved history bus_moved tags old (line ∷ []) new
-      call_moved moves few = record {
+      pub call_moved : Moves history bus_moved tags old.lines new.lines → CopiesHad history old new → length (held_lines new) ≤ most_held →
+          IsMoved history bus_moved tags old (line ∷ []) new
+      call_moved moves copies few = record {
         moves = moves;
         stays = λ stop is. absurd (cc);
         few = λ was. few;
-        few_cached = λ was. omega arith;
+        copies = copies;
         had = λ still quiet. record {
           touched = λ other listed. subst (λ (l : ℕ). LineHad history old new l × PageHad history old new (page_of l)) (sym (only_line line other listed)) (line_had still quiet);
           held = λ other there.
@@ -374,7 +425,6 @@ module _ {B T : Type 0} (history : B → BusHistory) (bus_moved : B → B → Ty
                 | inl was ↦ (inl was, inl (on_chip_of_line (held_lines old) (cached_pages old) other was))
                 | inr same ↦ subst (λ (l : ℕ). LineHad history old new l × PageHad history old new (page_of l)) (sym same) (line_had still quiet)
               ];
-          cached = λ page cached. absurd (none_contained page cached);
         };
       }
 
@@ -385,9 +435,14 @@ module _ {B T : Type 0} (history : B → BusHistory) (bus_moved : B → B → Ty
     moves = moves_not history bus_moved tags bus_unmoved memory.lines;
     stays = λ other was. was;
     few = λ few. few;
-    few_cached = λ few. few;
+    copies = copies_not history memory memory.ways;
     had = λ going quiet. absurd (cc);
   }
+
+-- what goes out takes no more accesses than an overflow
+leaves_few : (levels : ℕ) (out : Option Way) → leaving_accesses levels out ≤ overflow_accesses levels
+leaves_few levels None = omega arith
+leaves_few levels (Some way) = omega arith
 
 -- What is seen of a cache of the lines outside
 abbrev pub memory_of : {B T : Type 0} → LineCacheView (SealedLinesView B T) → SecureRamView B T
@@ -438,15 +493,22 @@ module _ {B T : Type 0} (history : B → BusHistory) (bus_moved : B → B → Ty
         | inl there ↦ subst (λ (l : SealedLinesView B T). Moves history bus_moved tags cache.store l) (sym (step.hit there).0) (moves_not history bus_moved tags unmoved cache.store)
         | inr out ↦ let m = missed out in missed_moves history bus_moved tags old new line going step.held moved_on (leaving cache.lines line) m.answer m.miss
       ])
+      (elim (listed_or_not (places cache.lines) line) [
+        | inl there ↦ subst (λ (l : SealedLinesView B T). CopiesHad history old (record { lines = l; ways = cache'.lines })) (sym (step.hit there).0) (copies_not history old cache'.lines)
+        | inr out ↦ let m = missed out in missed_copies history bus_moved tags old new line going step.held (leaving cache.lines line) m.answer m.miss
+      ])
       step.few
 
   pub few_so : length (held_lines new) ≤ most_held
   few_so = step.few
 
-  pub through_so : IsThrough history bus_moved tags cache.store → IsThrough history bus_moved tags cache'.store
-  through_so was = elim (listed_or_not (places cache.lines) line) [
-    | inl there ↦ subst (λ (l : SealedLinesView B T). IsThrough history bus_moved tags l) (sym (step.hit there).0) was
-    | inr out ↦ let m = missed out in missed_through history bus_moved tags old new line going step.held (leaving cache.lines line) m.answer m.miss
+  pub once_so : (history new.lines.bus).accesses ≤ (history old.lines.bus).accesses + memory_accesses (levels old)
+  once_so = let out = leaves_few (levels old) (leaving cache.lines line) in omega (arith, out, called.few)
+
+  pub fits_so : FitsUnlessStopped history bus_moved tags cache.store → FitsUnlessStopped history bus_moved tags cache'.store
+  fits_so was = elim (listed_or_not (places cache.lines) line) [
+    | inl there ↦ subst (λ (l : SealedLinesView B T). FitsUnlessStopped history bus_moved tags l) (sym (step.hit there).0) was
+    | inr out ↦ let m = missed out in missed_fits history bus_moved tags old new line going step.held (leaving cache.lines line) m.answer m.miss
   ]
 
 -- What passed its check where nothing goes out

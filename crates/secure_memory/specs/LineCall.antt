@@ -11,23 +11,23 @@ use Rattle.sec_base.specs.Geometry.{page_of}
 use Rattle.sec_base.specs.LastMessage.{IsFresh}
 use Rattle.bus_model.specs.BusHistory.{BusHistory}
 use Rattle.split_counter.specs.CounterBlock.{last_counter, next_counter}
-use Rattle.bonsai_tree.specs.Tree.{IsOnPath}
+use Rattle.bonsai_tree.specs.Tree.{IsFetchPlace}
 use Rattle.page_reencrypt.specs.Contents.{counter_in, lines_encrypted}
 use Rattle.page_reencrypt.specs.LineMoves.{overflow_accesses, read_accesses, write_accesses}
 use Rattle.page_reencrypt.specs.SealedLines.{IsBeside, IsUnsealed, SameCounters}
 use Rattle.cache_set.specs.declared.way.Way.{Way}
 use Rattle.secure_memory.specs.SecureRam.{IsQuiet, LineHad, PathHad, SecureRamView, held_lines, levels, used}
 
--- the place of the line, or of a node on the path of its page
+-- the place of the line, or of a node that is read to have its page's counters
 abbrev pub IsOfLine : {B T : Type 0} → SecureRamView B T → ℕ → Place → Type 0
-IsOfLine memory line place = (place ≡ line_place line) ⊎ IsOnPath (levels memory) 0 (page_of line) place
+IsOfLine memory line place = (place ≡ line_place line) ⊎ IsFetchPlace (levels memory) (page_of line) place
 
 -- The changed line that goes out, if one does:
 
--- a place that its write may name is that of a node on the path of its page, or of another line of the page
+-- a place that its write may name is that of a node that is read to have its page's counters, or of another line of the page
 abbrev pub IsOfLeaving : {B T : Type 0} → SecureRamView B T → Option Way → Place → Type 0
 IsOfLeaving memory None place = ⊥
-IsOfLeaving memory (Some way) place = IsOnPath (levels memory) 0 (page_of way.place) place ⊎ IsBeside way.place place
+IsOfLeaving memory (Some way) place = IsFetchPlace (levels memory) (page_of way.place) place ⊎ IsBeside way.place place
 
 -- its write is no overflow
 abbrev pub HasNoOverflow : {B T : Type 0} → SecureRamView B T → Option Way → Type 0
@@ -73,15 +73,15 @@ pub record IsLineCall {B T : Type 0} (history : B → BusHistory) (old : SecureR
   -- a line that is held is not looked up outside, and no line goes out for it
   pub hit : Contains (held_lines old) line → (stop ≡ None) × (new.lines ≡ old.lines) × (out ≡ None)
   pub held : (other : ℕ) → Contains (held_lines new) other → Contains (held_lines old) other ⊎ (other ≡ line)
-  -- the path of the page and the line are read at most, and of the line that goes out what its write takes; where that is
-  -- no overflow, no other line is read
+  -- it is what it takes to have the page's counters and to read the line at most, and of the line that goes out what its write
+  -- takes; where that is no overflow, no other line is read
   pub few : (history new.lines.bus).accesses ≤ (history old.lines.bus).accesses + (leaving_accesses (levels old) out + read_accesses (levels old))
   pub once : IsQuiet new → HasNoOverflow old out →
       (history new.lines.bus).accesses ≤ (history old.lines.bus).accesses + (short_accesses (levels old) out + read_accesses (levels old))
   pub alone : IsQuiet new → HasNoOverflow old out → (other : ℕ) → other ≢ line →
       (history new.lines.bus).reads (line_place other) ≡ (history old.lines.bus).reads (line_place other)
   -- the line was held, or never tagged, or was read from its place, where the call neither stops nor finds evidence; the
-  -- path of its page was read, where the call does not stop
+  -- path of its page was read, where its counters were not on the chip and the call does not stop
   pub read : IsQuiet new → stop ≡ None → LineHad history old new line
   pub path : stop ≡ None → PathHad history old new line
   -- where no changed line goes out, no line is encrypted, tagged or written, no counter changes, and a line that was never
@@ -92,8 +92,8 @@ pub record IsLineCall {B T : Type 0} (history : B → BusHistory) (old : SecureR
   -- else what was used grows by the entries of one write of the line that goes out, or where the call stops by a front part
   -- of them
   pub sealed : (way : Way) → out ≡ Some way → IsWrittenInPart way.place old new × (stop ≡ None → IsWrittenAnew way.place old new)
-  -- tampering comes only of the line, of a node on the path of its page, or of a place that the write of the line that goes
-  -- out may name, and where an answer was false or there was evidence before
+  -- tampering comes only of the line, of a node that is read to have its page's counters, or of a place that the write of the
+  -- line that goes out may name, and where an answer was false or there was evidence before
   pub tampered : (place : Place) → stop ≡ Some (Tampered place) →
       (IsOfLine old line place ⊎ IsOfLeaving old out place)
       × (IsQuiet old → Rose (history old.lines.bus).lies (history new.lines.bus).lies)

@@ -9,9 +9,11 @@ use Rattle.sec_base.specs.declared.place.Place.TheVariants.{Line as line_place, 
 use Rattle.sec_base.proofs.LastMessages.{none_front}
 use Rattle.bus_model.specs.BusHistory.{BusHistory}
 use Rattle.tag_engine.specs.TagEngine.{TagEngineView}
+use Rattle.cache_set.specs.declared.way.Way.{Way}
 use Rattle.page_reencrypt.specs.SealedLines.{Moves}
 use Rattle.page_reencrypt.proofs.Moves.{moves_not, moves_on}
-use Rattle.secure_memory.specs.SecureRam.{SecureRamView, IsMoved, LineHad, PageHad, PageRead, WereHad, cached_pages, evidence, held_lines, made, pages_on_chip, stopped}
+use Rattle.bonsai_tree.proofs.Climbs.{read_up_held, read_up_on}
+use Rattle.secure_memory.specs.SecureRam.{SecureRamView, CopiesHad, IsMoved, LineHad, PageHad, PageRead, WereHad, cached_pages, evidence, held_lines, made, pages_on_chip, stopped}
 
 none_contained : {A : Type 0} (x : A) → Contains [] x → ⊥
 none_contained x (k, below, at) = omega arith
@@ -35,8 +37,19 @@ mapped_there f items x (k, below, at) =
 pub on_chip_of_line : (held cached : List ℕ) (line : ℕ) → Contains held line → Contains (map page_of held ++ cached) (page_of line)
 on_chip_of_line held cached line within = Contains-append_left (map page_of held) cached (page_of line) (mapped_there page_of held line within)
 
-on_chip_of_page : (held cached : List ℕ) (page : ℕ) → Contains cached page → Contains (map page_of held ++ cached) page
+pub on_chip_of_page : (held cached : List ℕ) (page : ℕ) → Contains cached page → Contains (map page_of held ++ cached) page
 on_chip_of_page held cached page within = Contains-append_right (map page_of held) cached page within
+
+-- no copy comes where nothing is done outside
+pub copies_not : {B T : Type 0} (history : B → BusHistory) (memory : SecureRamView B T) (ways : List (List Way)) →
+    CopiesHad history memory (record { lines = memory.lines; ways = ways })
+copies_not history memory ways = record {
+  tree_levels = refl;
+  few_blocks = λ few. few;
+  few_nodes = λ level few. few;
+  blocks = λ page cached. inl cached;
+  nodes = λ level index cached. read_up_held memory.lines.counters.tree level index (history memory.lines.bus) (history memory.lines.bus) cached;
+}
 
 module _ {B T : Type 0} (history : B → BusHistory) (bus_moved : B → B → Type 0) (tags : TagEngineView T → Message → List ℕ) where
   module _ (first second third : SecureRamView B T) where
@@ -58,12 +71,13 @@ module _ {B T : Type 0} (history : B → BusHistory) (bus_moved : B → B → Ty
     page_sooner page moves (inr read) = inr (read_sooner page moves read)
 
     -- A page of which something is on the chip was had by the calls before
-    on_chip_had : (lines : List ℕ) → WereHad history first lines second → (page : ℕ) → Contains (pages_on_chip second) page → PageHad history first second page
-    on_chip_had lines had page on_chip = elim (Contains-append_cases (map page_of (held_lines second)) (cached_pages second) page on_chip) [
+    on_chip_had : (lines : List ℕ) → WereHad history first lines second → CopiesHad history first second → (page : ℕ) → Contains (pages_on_chip second) page →
+        PageHad history first second page
+    on_chip_had lines had came page on_chip = elim (Contains-append_cases (map page_of (held_lines second)) (cached_pages second) page on_chip) [
       | inl of_line ↦
           let from : (line : ℕ) × Contains (held_lines second) line × (page_of line ≡ page) = mapped_from page_of (held_lines second) page of_line in
           subst (PageHad history first second) from.2 (had.held from.0 from.1).1
-      | inr cached ↦ elim (had.cached page cached) [
+      | inr cached ↦ elim (came.blocks page cached) [
         | inl was ↦ inl (on_chip_of_page (held_lines first) (cached_pages first) page was)
         | inr read ↦ inr read
       ]
@@ -83,30 +97,42 @@ module _ {B T : Type 0} (history : B → BusHistory) (bus_moved : B → B → Ty
     read_later page moves (inr rose) = inr (omega (arith, rose, moves.step.reads (Node 0 page)))
 
     page_later : (lines : List ℕ) (page : ℕ) → Moves history bus_moved tags first.lines second.lines → Moves history bus_moved tags second.lines third.lines →
-        WereHad history first lines second → PageHad history second third page → PageHad history first third page
-    page_later lines page moves more had (inl on_chip) = page_sooner page more (on_chip_had lines had page on_chip)
-    page_later lines page moves more had (inr read) = inr (read_later page moves read)
+        WereHad history first lines second → CopiesHad history first second → PageHad history second third page → PageHad history first third page
+    page_later lines page moves more had came (inl on_chip) = page_sooner page more (on_chip_had lines had came page on_chip)
+    page_later lines page moves more had came (inr read) = inr (read_later page moves read)
 
-    -- and so is a cached one
-    cached_later : (lines : List ℕ) (page : ℕ) → Moves history bus_moved tags first.lines second.lines → Moves history bus_moved tags second.lines third.lines →
-        WereHad history first lines second → Contains (cached_pages second) page ⊎ PageRead history second third page →
+    -- and so are the blocks and nodes that have copies
+    block_on : (page : ℕ) → Moves history bus_moved tags first.lines second.lines → Moves history bus_moved tags second.lines third.lines →
+        CopiesHad history first second → Contains (cached_pages second) page ⊎ PageRead history second third page →
         Contains (cached_pages first) page ⊎ PageRead history first third page
-    cached_later lines page moves more had (inl cached) = elim (had.cached page cached) [
+    block_on page moves more came (inl cached) = elim (came.blocks page cached) [
       | inl was ↦ inl was
       | inr read ↦ inr (read_sooner page more read)
     ]
-    cached_later lines page moves more had (inr read) = inr (read_later page moves read)
+    block_on page moves more came (inr read) = inr (read_later page moves read)
+
+    pub copies_on : Moves history bus_moved tags first.lines second.lines → Moves history bus_moved tags second.lines third.lines →
+        CopiesHad history first second → CopiesHad history second third → CopiesHad history first third
+    copies_on moves more came later = record {
+      tree_levels = later.tree_levels ∙ came.tree_levels;
+      few_blocks = λ few. later.few_blocks (came.few_blocks few);
+      few_nodes = λ level few. later.few_nodes level (came.few_nodes level few);
+      blocks = λ page cached. block_on page moves more came (later.blocks page cached);
+      nodes = λ level index cached.
+          read_up_on first.lines.counters.tree second.lines.counters.tree level index (history first.lines.bus) (history second.lines.bus) (history third.lines.bus)
+          came.tree_levels moves.step.reads more.step.reads came.nodes (later.nodes level index cached);
+    }
 
     -- The lines of all calls were had
     had_on : (before after : List ℕ) → Moves history bus_moved tags first.lines second.lines → Moves history bus_moved tags second.lines third.lines →
-        WereHad history first before second → WereHad history second after third → WereHad history first (before ++ after) third
-    had_on before after moves more had later = record {
+        CopiesHad history first second → WereHad history first before second → WereHad history second after third →
+        WereHad history first (before ++ after) third
+    had_on before after moves more came had later = record {
       touched = λ line listed. elim (Contains-append_cases before after line listed) [
         | inl early ↦ (line_sooner line more (had.touched line early).0, page_sooner (page_of line) more (had.touched line early).1)
-        | inr late ↦ (line_later before line moves more had (later.touched line late).0, page_later before (page_of line) moves more had (later.touched line late).1)
+        | inr late ↦ (line_later before line moves more had (later.touched line late).0, page_later before (page_of line) moves more had came (later.touched line late).1)
       ];
-      held = λ line held. (line_later before line moves more had (later.held line held).0, page_later before (page_of line) moves more had (later.held line held).1);
-      cached = λ page cached. cached_later before page moves more had (later.cached page cached);
+      held = λ line held. (line_later before line moves more had (later.held line held).0, page_later before (page_of line) moves more had came (later.held line held).1);
     }
 
   -- What calls make after others, they make together
@@ -118,11 +144,11 @@ module _ {B T : Type 0} (history : B → BusHistory) (bus_moved : B → B → Ty
     moves = moves_on history bus_moved tags bus_moved_on first.lines second.lines third.lines a.moves b.moves;
     stays = λ stop is. b.stays stop (a.stays stop is);
     few = λ few. b.few (a.few few);
-    few_cached = λ few. b.few_cached (a.few_cached few);
+    copies = copies_on first second third a.moves b.moves a.copies b.copies;
     had = λ going quiet.
         let was_going = was_none (stopped second) (stopped third) b.stays going in
         let was_quiet = was_none (evidence second) (evidence third) b.moves.step.evidence quiet in
-        had_on first second third before after a.moves b.moves (a.had was_going was_quiet) (b.had going quiet);
+        had_on first second third before after a.moves b.moves a.copies (a.had was_going was_quiet) (b.had going quiet);
   }
 
   -- No call makes nothing of a memory
@@ -131,10 +157,9 @@ module _ {B T : Type 0} (history : B → BusHistory) (bus_moved : B → B → Ty
     moves = moves_not history bus_moved tags bus_unmoved memory.lines;
     stays = λ stop is. is;
     few = λ few. few;
-    few_cached = λ few. few;
+    copies = copies_not history memory memory.ways;
     had = λ going quiet. record {
       touched = λ line listed. absurd (none_contained line listed);
       held = λ line held. (inl held, inl (on_chip_of_line (held_lines memory) (cached_pages memory) line held));
-      cached = λ page cached. inl cached;
     };
   }

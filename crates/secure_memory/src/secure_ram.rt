@@ -15,10 +15,10 @@ ghost use Rattle.pad_stream.specs.Pad.{cipher_of};
 ghost use Rattle.pad_stream.specs.PadBlocks.{ShareNoBlock};
 ghost use Rattle.split_counter.specs.CounterBlock.{block_of, counter_of, place_of};
 ghost use Rattle.page_reencrypt.specs.LineMoves.{ReadMoved, WriteMoved};
-ghost use Rattle.page_reencrypt.specs.SealedLines.{AreNew, AreProtected, AreWrittenThrough, IsUnbooted, enc_key, tag_in};
+ghost use Rattle.page_reencrypt.specs.SealedLines.{AreNew, AreProtected, IsUnbooted, LinesFit, enc_key, tag_in};
 ghost use Rattle.cache_set.specs.Cache.{AreApart, copy_at, new_cache};
 ghost use Rattle.line_cache.specs.LineCache.{IsMissed, IsStoppedMiss, brought, leaving, line_sets, most_held, with_changed};
-ghost use Rattle.secure_memory.specs.SecureRam.{IsMoved, IsNumberBelowPath, IsNumberUnder, IsQuiet, cached_pages, contents, evidence, held_lines, lines_of, made, stopped, used};
+ghost use Rattle.secure_memory.specs.SecureRam.{IsMoved, IsNumberByCounters, IsNumberUnder, IsQuiet, cached_nodes, cached_pages, contents, evidence, held_lines, levels, lines_of, made, memory_accesses, stopped, used};
 ghost use Rattle.secure_memory.specs.LineCall.{IsLineCall};
 
 use bus_model::Bus;
@@ -40,7 +40,7 @@ pub struct SecureRam<B: Bus, T: Tagger> {
 impl<B: Bus, T: Tagger> Model for SecureRam<B, T> {
     ghost use Rattle.std.specs.Prelude.{◌≡◌, ◌≤◌, None, length};
     ghost use Rattle.line_cache.specs.LineCache.{most_held};
-    ghost use Rattle.page_reencrypt.specs.SealedLines.{AreWrittenThrough};
+    ghost use Rattle.page_reencrypt.specs.SealedLines.{LinesFit};
     ghost use Rattle.secure_memory.specs.SecureRam.{SecureRamView, IsQuiet, held_lines, stopped};
 
     ghost Value = { SecureRamView B T };
@@ -50,7 +50,7 @@ impl<B: Bus, T: Tagger> Model for SecureRam<B, T> {
     ghost invariant = { λ memory. (memory.lines.stop ≡ memory.lines.store.stopped)
         × (length (held_lines (record { lines = memory.lines.store; ways = memory.lines.lines })) ≤ most_held)
         × (memory.lines.store.stopped ≡ None → memory.lines.store.engine.evidence ≡ None →
-        AreWrittenThrough T.data_tag_of T.node_tag_of B.history memory.lines.store) };
+        LinesFit T.data_tag_of T.node_tag_of B.history memory.lines.store) };
 }
 
 impl<B: Bus, T: Tagger> SecureRam<B, T> {
@@ -69,10 +69,11 @@ impl<B: Bus, T: Tagger> SecureRam<B, T> {
 
         ensures new { IfOk result (λ memory. AreNew B.history B.moved (tags_of T.data_tag_of T.node_tag_of)
             bus tagger keys.now.enc_key geometry page_limit memory.lines) }
-        ensures through { IfOk result (λ memory. AreWrittenThrough T.data_tag_of T.node_tag_of B.history memory.lines) }
+        ensures lines_fit { IfOk result (λ memory. LinesFit T.data_tag_of T.node_tag_of B.history memory.lines) }
         ensures empty { IfOk result (λ memory. memory.ways ≡ new_cache line_sets) }
         ensures none_held { IfOk result (λ memory. held_lines memory ≡ []) }
         ensures none_cached { IfOk result (λ memory. cached_pages memory ≡ []) }
+        ensures no_nodes { IfOk result (λ memory. (level : ℕ) → cached_nodes memory level ≡ []) }
         ensures refused { IfErr result (λ refusal. IsUnbooted geometry (B.history bus) (B.history refusal.0) × B.moved bus refusal.0) }
     {
         let lines = SealedLines::boot(alloc, bus, tagger, &keys.enc_key, geometry, page_limit)?;
@@ -170,6 +171,10 @@ impl<B: Bus, T: Tagger> Ram for SecureRam<B, T> {
         // The first stop is answered again, and nothing is done.
         ensures latched { (stop : MemStop) → stopped self.old ≡ Some stop → (result ≡ Err stop) × (self.new ≡ self.old) }
 
+        // So many accesses at most, also where it stops. An instruction fetch is a load.
+        ensures once { (B.history self.new.lines.bus).accesses
+            ≤ (B.history self.old.lines.bus).accesses + memory_accesses (levels self.old) }
+
         // What it costs, reads and encrypts, and when it stops.
         ensures call { stopped self.old ≡ None → IsLineCall B.history self.old (line_of addr)
             (leaving self.old.ways (line_of addr)) (result_err result) self.new }
@@ -192,9 +197,9 @@ impl<B: Bus, T: Tagger> Ram for SecureRam<B, T> {
         // A page that is spent changes no byte, with evidence too.
         ensures spent_stays { (page : ℕ) → stopped self.old ≡ None → result ≡ Err (Spent page) → contents self.new ≡ contents self.old }
 
-        // The memory outside is written through.
-        ensures through { stopped self.new ≡ None → IsQuiet self.new →
-            AreWrittenThrough T.data_tag_of T.node_tag_of B.history self.new.lines }
+        // What stands outside fits what the chip has of it.
+        ensures lines_fit { stopped self.new ≡ None → IsQuiet self.new →
+            LinesFit T.data_tag_of T.node_tag_of B.history self.new.lines }
 
         // Sound or not, a line that is held is answered from its copy.
         ensures held_copy { stopped self.old ≡ None → (copy : List ℕ) → copy_at self.old.ways (line_of addr) ≡ Some copy →
@@ -214,13 +219,13 @@ impl<B: Bus, T: Tagger> Ram for SecureRam<B, T> {
             IfOk result (IsNumberUnder (tag_in T.data_tag_of T.node_tag_of self.old.lines) (enc_key self.old.lines) (line_of addr)
             (counter_of (place_of (line_of addr)) (block_of block)) (B.history self.new.lines.bus) (addr % 64) width) }
 
-        // Whatever was answered, the counters of a line that is read were at the end of a path that was checked from the top
-        // down.
+        // Whatever was answered, the counters of a line that is read were those of its page's copy, or of a block with the tag
+        // that the tree keeps.
         ensures checked { stopped self.old ≡ None → ¬ Contains (held_lines self.old) (line_of addr) →
             leaving self.old.ways (line_of addr) ≡ None →
-            IfOk result (IsNumberBelowPath (tag_in T.data_tag_of T.node_tag_of self.old.lines)
-            (enc_key self.old.lines) self.old.lines.counters (line_of addr) (evidence self.old) (evidence self.new)
-            (B.history self.new.lines.bus) (addr % 64) width) }
+            IfOk result (IsNumberByCounters (tag_in T.data_tag_of T.node_tag_of self.old.lines)
+            (enc_key self.old.lines) self.old.lines.counters self.new.lines.counters (made self.new) (line_of addr)
+            (evidence self.old) (evidence self.new) (B.history self.new.lines.bus) (addr % 64) width) }
     {
         if let Some(stop) = self.lines.stopped() {
             return Err(stop);
@@ -251,6 +256,10 @@ impl<B: Bus, T: Tagger> Ram for SecureRam<B, T> {
         // The first stop is answered again, and nothing is done.
         ensures latched { (stop : MemStop) → stopped self.old ≡ Some stop → (result ≡ Err stop) × (self.new ≡ self.old) }
 
+        // So many accesses at most, also where it stops.
+        ensures once { (B.history self.new.lines.bus).accesses
+            ≤ (B.history self.old.lines.bus).accesses + memory_accesses (levels self.old) }
+
         // What it costs, reads and encrypts, and when it stops.
         ensures call { stopped self.old ≡ None → IsLineCall B.history self.old (line_of addr)
             (leaving self.old.ways (line_of addr)) (result_err result) self.new }
@@ -273,9 +282,9 @@ impl<B: Bus, T: Tagger> Ram for SecureRam<B, T> {
         // A page that is spent changes no byte, with evidence too.
         ensures spent_stays { (page : ℕ) → stopped self.old ≡ None → result ≡ Err (Spent page) → contents self.new ≡ contents self.old }
 
-        // The memory outside is written through.
-        ensures through { stopped self.new ≡ None → IsQuiet self.new →
-            AreWrittenThrough T.data_tag_of T.node_tag_of B.history self.new.lines }
+        // What stands outside fits what the chip has of it.
+        ensures lines_fit { stopped self.new ≡ None → IsQuiet self.new →
+            LinesFit T.data_tag_of T.node_tag_of B.history self.new.lines }
 
         // A line that is held gets the number in its copy.
         ensures held_copy { stopped self.old ≡ None → (copy : List ℕ) → copy_at self.old.ways (line_of addr) ≡ Some copy →

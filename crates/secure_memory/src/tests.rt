@@ -1,5 +1,6 @@
 // The memory over a bus that tells the truth and over one that does not.
-ghost use Rattle.std.specs.Prelude.{◌≡◌, ◌+◌, ◌*◌, ◌^◌, ◌<◌, ◌≤◌, IfOk};
+ghost use Rattle.std.specs.Prelude.{◌≡◌, ◌+◌, ◌*◌, ◌%◌, ◌^◌, ◌<◌, ◌≤◌, IfOk};
+ghost use Rattle.sec_base.specs.Place.{place_size};
 ghost use Rattle.bus_model.specs.BusHistory.{new_history};
 ghost use Rattle.secure_memory.specs.SecureRam.{lines_of};
 
@@ -11,6 +12,7 @@ use counting_bus::CountingBus;
 use hmac_tag::{HmacTagger, derive};
 use sec_base::{Geometry, MemStop, Place, Ram, Width};
 use std::alloc::Global;
+use std::process::Abort;
 use std::test::Fail;
 
 // The smallest memory, of 256 lines.
@@ -109,10 +111,10 @@ impl Worn {
     }
 }
 
-// Boot tags five nodes, and each write of a line two.
+// Boot tags five nodes. The page's counters and the node above them stay on the chip, so a write of a line tags none.
 #[test]
 fn a_page_that_is_encrypted_anew_keeps_its_numbers(rt: HostRuntime) -> Result<(), Fail> {
-    for (last, entries, nodes) in [(126, 128, 261), (127, 192, 263), (128, 193, 265)] {
+    for (last, entries) in [(126, 128), (127, 192), (128, 193)] {
         let mut worn = Worn::new(rt.alloc(), u64::MAX, 0, 0)?;
         assert_eq!(rt;
             worn.memory.store(252, Width::Four, 4),
@@ -138,7 +140,7 @@ fn a_page_that_is_encrypted_anew_keeps_its_numbers(rt: HostRuntime) -> Result<()
         assert_eq!(rt; worn.memory.stopped(), None, "up to {last}");
         let (account, _bus) = worn.memory.finish();
         assert_eq!(rt; account.used.len(), entries, "up to {last}");
-        assert_eq!(rt; account.made.len(), entries + nodes, "up to {last}");
+        assert_eq!(rt; account.made.len(), 5 + entries, "up to {last}");
     }
     Ok(())
 }
@@ -172,30 +174,71 @@ fn the_first_stop_is_answered_again(rt: HostRuntime) -> Result<(), Fail> {
     Ok(())
 }
 
-// Until the line has gone out, its page's counters were read three times and the top node six times; the load reads each of
-// them once more.
+// A memory of four levels over a bus that flips a bit at the `k`-th read of a place.
+#[derive(Drop)]
+struct Flipped {
+    memory: SecureRam<FlipBus, HmacTagger>,
+    ghost large: { 1048576 ≤ 64 * lines_of memory },
+}
+
+impl Flipped {
+    fn new(alloc: Global, place: Place, k: u64) -> Result<Flipped, Fail>
+        requires place { 0 < place_size place }
+    {
+        let geometry = Geometry::new(4).ok_or("no geometry")?;
+        let bus = FlipBus::new(alloc, geometry, place, k, 0, 1)?;
+        let keys = derive(&[0; 32]);
+        let tagger = HmacTagger::new(&keys);
+        let Ok(memory) = SecureRam::boot(alloc, bus, tagger, &keys, geometry, u64::MAX) else {
+            return Err(Fail::from("no memory"));
+        };
+        if memory.size() < 1048576 {
+            return Err(Fail::from("small"));
+        }
+        Ok(Flipped { memory })
+    }
+
+    // Loads from lines of pages 32, 64, 96 and 128. They share a set with line 1, their counter blocks with that of page 0, and
+    // the nodes above these with (1, 0). So all three go out, one after another.
+    fn send_out(&mut self) -> Result<(), MemStop> {
+        self.memory.load(64 * 2049, Width::Four)?;
+        self.memory.load(64 * 4097, Width::Four)?;
+        self.memory.load(64 * 6145, Width::Four)?;
+        self.memory.load(64 * 8193, Width::Four)?;
+        Ok(())
+    }
+}
+
+// Until the line has gone out with its counters and the node above them, the counters were read once, as the line came in. The
+// node was read twice, the second time as its counters went out. The last load reads each of the three.
 #[test]
 fn a_flipped_bit_is_tampering(rt: HostRuntime) -> Result<(), Fail> {
     let rows = [
         (Place::Line(1), 1),
-        (Place::Node { level: 0, index: 0 }, 4),
-        (Place::Node { level: 1, index: 0 }, 7),
+        (Place::Node { level: 0, index: 0 }, 2),
+        (Place::Node { level: 1, index: 0 }, 3),
     ];
     for (place, k) in rows {
-        let geometry = smallest()?;
-        let bus = FlipBus::new(rt.alloc(), geometry, place, k, 0, 1)?;
-        let mut memory = over(rt.alloc(), bus, geometry, u64::MAX)?;
-        assert_eq!(rt; memory.store(64, Width::Four, 7), Ok(()), "{place}");
-        assert!(rt; memory.held(1), "{place}");
-        assert_eq!(rt; memory.held_count(), 1, "{place}");
-        assert_eq!(rt; memory.load(64, Width::Four), Ok(7), "{place}");
-        assert_eq!(rt; send_out(&mut memory, 1), Ok(()), "{place}");
-        assert!(rt; !memory.held(1), "{place}");
-        assert_eq!(rt; memory.held_count(), 2, "{place}");
+        let mut flipped = Flipped::new(rt.alloc(), place, k)?;
+        assert_eq!(rt; flipped.memory.store(64, Width::Four, 7), Ok(()), "{place}");
+        assert!(rt; flipped.memory.held(1), "{place}");
+        assert_eq!(rt; flipped.memory.held_count(), 1, "{place}");
+        assert_eq!(rt; flipped.memory.load(64, Width::Four), Ok(7), "{place}");
+        assert_eq!(rt; flipped.send_out(), Ok(()), "{place}");
+        assert!(rt; !flipped.memory.held(1), "{place}");
+        assert_eq!(rt; flipped.memory.held_count(), 2, "{place}");
         let tampered = MemStop::Tampered(place);
-        assert_eq!(rt; memory.load(64, Width::Four), Err(tampered), "{place}");
-        assert_eq!(rt; memory.load(0, Width::Four), Err(tampered), "{place}");
-        let (account, bus) = memory.finish();
+        assert_eq!(rt;
+            flipped.memory.load(64, Width::Four),
+            Err(tampered),
+            "{place}"
+        );
+        assert_eq!(rt;
+            flipped.memory.load(0, Width::Four),
+            Err(tampered),
+            "{place}"
+        );
+        let (account, bus) = flipped.memory.finish();
         assert_eq!(rt; account.evidence, None, "{place}");
         assert_eq!(rt; bus.lies(), 1, "{place}");
     }
@@ -237,6 +280,42 @@ impl Counted {
     fn load(&mut self) -> Result<u32, MemStop> {
         self.memory.load(320, Width::Four)
     }
+
+    // The address of the line at place 5 of a page.
+    fn line_at(&self, rt: &impl Abort, page: u32) -> u32
+        ensures inside { result + 4 ≤ 64 * lines_of self.now.memory }
+        ensures aligned { result % 4 ≡ 0 }
+    {
+        assert!(rt; page < 4096);
+        let addr = 4096 * page + 320;
+        assert!(rt; addr % 4 == 0);
+        assert!(rt; addr + 4 <= self.memory.size());
+        addr
+    }
+
+    // So often a number is stored at four places, and then so often the four are loaded. Their pages are so many apart.
+    fn go_round(
+        &mut self,
+        rt: &impl Abort,
+        apart: u32,
+        stores: u32,
+        loads: u32,
+    ) -> Result<(), MemStop> {
+        assert!(rt; apart <= 1024);
+        for value in 0..stores {
+            for at in 0..4 {
+                let addr = self.line_at(rt, apart * at);
+                self.memory.store(addr, Width::Four, value)?;
+            }
+        }
+        for _ in 0..loads {
+            for at in 0..4 {
+                let addr = self.line_at(rt, apart * at);
+                self.memory.load(addr, Width::Four)?;
+            }
+        }
+        Ok(())
+    }
 }
 
 // How many accesses boot, so many stores and a load make in all.
@@ -249,23 +328,23 @@ fn accesses(alloc: Global, levels: u8, stores: u32) -> Result<u64, Fail> {
     Ok(bus.asked())
 }
 
-// A line comes in by a read of the path of its page, L + 1 nodes, and of the line, if it was written. It goes out by three
-// reads of the path, the third without the page's counters, and a write of the path and the line. In an overflow the other 63
-// lines, which were never written, are written too.
+// The first line comes in by a read of the path of its page, L + 1 nodes, and those of two more pages below the same node by one
+// read of their counters each. From then on these stay on the chip: a line comes in by its own read, if it was written, and
+// goes out by its own write. In an overflow the other 63 lines, which were never written, are written too.
 #[test]
 fn calls_make_so_many_accesses_at_each_level(rt: HostRuntime) -> Result<(), Fail> {
     let nodes = [5, 21, 85, 341, 1365, 5461];
     for (at, boot) in nodes.iter().enumerate() {
         let levels = at as u8 + 1;
         let path = u64::from(levels) + 1;
-        let first = 7 * path;
-        let next = first + 1;
+        let first = path + 3;
+        let next = 2;
         let rows = [
             (0, path),
-            (1, first + path + 1),
-            (2, first + next + path + 1),
-            (127, first + 126 * next + path + 1),
-            (128, first + 127 * next + 63 + path + 1),
+            (1, first + 1),
+            (2, first + next + 1),
+            (127, first + 126 * next + 1),
+            (128, first + 127 * next + 63 + 1),
         ];
         for (stores, more) in rows {
             let made = accesses(rt.alloc(), levels, stores)?;
@@ -275,15 +354,58 @@ fn calls_make_so_many_accesses_at_each_level(rt: HostRuntime) -> Result<(), Fail
     Ok(())
 }
 
-// At one level boot makes 5 accesses, the first round 14 and the second one 15: of these the eleventh and the twelfth write
-// nodes, and the thirteenth the line.
+// How many accesses boot and so many rounds over four pages make, a quarter of the memory apart.
+fn rounds(
+    rt: &impl Abort,
+    alloc: Global,
+    levels: u8,
+    apart: u32,
+    stores: u32,
+    loads: u32,
+) -> Result<u64, Fail> {
+    let mut counted = Counted::new(alloc, levels, 0)?.ok_or("no memory")?;
+    counted
+        .go_round(rt, apart, stores, loads)
+        .ok()
+        .ok_or("a call is refused")?;
+    let Counted { memory } = counted;
+    let (_account, bus) = memory.finish();
+    Ok(bus.asked())
+}
+
+// Each of the four lines pushes out another one, and with it the counter block of that line's page and the nodes above it, but
+// for those of the three highest levels, which have room for all. Where all of them are changed, a call writes and reads as many
+// as it must; where none is, it reads the path as far as it is gone, and the line.
+#[test]
+fn calls_over_distant_pages_make_so_many_accesses(rt: HostRuntime) -> Result<(), Fail> {
+    let rows = [
+        (1, 1, 2, 1),
+        (2, 4, 2, 1),
+        (3, 16, 5, 2),
+        (4, 64, 8, 3),
+        (5, 256, 12, 4),
+        (6, 1024, 16, 5),
+    ];
+    for (levels, apart, store, load) in rows {
+        let stored = rounds(&rt, rt.alloc(), levels, apart, 3, 0)?;
+        let once_more = rounds(&rt, rt.alloc(), levels, apart, 4, 0)?;
+        assert_eq!(rt; stored.saturating_add(4 * store), once_more, "{levels}");
+        let loaded = rounds(&rt, rt.alloc(), levels, apart, 4, 3)?;
+        let once_more = rounds(&rt, rt.alloc(), levels, apart, 4, 4)?;
+        assert_eq!(rt; loaded.saturating_add(4 * load), once_more, "{levels}");
+    }
+    Ok(())
+}
+
+// At one level boot makes 5 accesses, the first round 5, and the second one 2: the first of them reads the line, and the second
+// writes it.
 #[test]
 fn out_of_memory_a_line_is_written_in_part(rt: HostRuntime) -> Result<(), Fail> {
     for refused in 1..6u64 {
         let counted = Counted::new(rt.alloc(), 1, refused)?;
         assert!(rt; counted.is_none(), "access {refused}");
     }
-    for refused in 20..35u64 {
+    for refused in 11..13u64 {
         let mut counted = Counted::new(rt.alloc(), 1, refused)?.ok_or("no memory")?;
         assert_eq!(rt; counted.store(1), Ok(()), "access {refused}");
         assert_eq!(rt;
@@ -294,9 +416,8 @@ fn out_of_memory_a_line_is_written_in_part(rt: HostRuntime) -> Result<(), Fail> 
         assert_eq!(rt; counted.load(), Err(MemStop::NoMemory), "access {refused}");
         let Counted { memory } = counted;
         let (account, bus) = memory.finish();
-        let messages = 5 + 3 + refused.saturating_sub(29).min(3);
-        assert_eq!(rt; account.made.len(), messages, "access {refused}");
-        let entries = if refused < 32 { 1 } else { 2 };
+        let entries = if refused < 12 { 1 } else { 2 };
+        assert_eq!(rt; account.made.len(), 5 + entries, "access {refused}");
         assert_eq!(rt; account.used.len(), entries, "access {refused}");
         assert_eq!(rt; account.evidence, None, "access {refused}");
         assert_eq!(rt; bus.asked(), refused, "access {refused}");

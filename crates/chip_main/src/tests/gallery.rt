@@ -37,6 +37,23 @@ const READ_AGAIN: &[u8] = b"_start: li   t0, 0x140
         ecall
 ";
 
+// It stores into three lines whose counter blocks share a set, and so do the nodes above them.
+const STORE_FAR_APART: &[u8] = b"_start: lui  t0, 0x20
+        lui  t1, 0x40
+        lui  t2, 0x60
+        li   t3, 65
+        li   t4, 3
+again:  sb   t3, 320(t0)
+        sb   t3, 320(t1)
+        sb   t3, 320(t2)
+        addi t3, t3, 1
+        addi t4, t4, -1
+        bnez t4, again
+        lbu  a0, 320(t0)
+        li   a7, 93
+        ecall
+";
+
 const PATCH_CODE: &[u8] = b"# Changes an instruction of cold_exit7 as it is fetched.
 #
 # The first word is `li a0, 7`, bytes 13 05 70 00. In counter mode a bit that is
@@ -61,60 +78,57 @@ read data 5 1: swap data 5 data 6
 ";
 
 const SPLICE_NODES: &[u8] =
-    b"# Swaps two neighbours in the tree: the node with the tags of counter blocks 0 to
-# 3 and the one with those of blocks 4 to 7.
-write data 5 1: swap node 1 0 node 1 1
+    b"# Swaps two neighbours in the tree while the chip has a copy of neither: the node
+# with the tags of counter blocks 32 to 35 and the one with those of blocks 36 to
+# 39.
+write data 6149 1: swap node 1 8 node 1 9
 ";
 
 const FORGET_PAGE: &[u8] =
-    b"# Clears the counters of page 1 in store_twice, so that its line 69 would count as
-# never written and be read as zeros. The block is read once as the line comes in
-# and twice as it goes out; this is the read for its second store.
-read node 0 1 4: put node 0 1 00000000000000000000000000000000000000000000000000000000000000000000000000000000000000000000000000000000000000000000000000000000
+    b"# Clears the counters of page 32 in store_far_apart, so that its line 2053 would
+# count as never written and be read as zeros. The block is read as the line comes
+# in for its first store; this is the read for its second.
+read node 0 32 2: put node 0 32 00000000000000000000000000000000000000000000000000000000000000000000000000000000000000000000000000000000000000000000000000000000
 ";
 
 const TRUE_THEN_FALSE: &[u8] =
-    b"# Answers truly when store_twice asks for the counters of page 1 to read line 69,
-# and falsely when it asks again, as the line goes out (time of check, time of
-# use).
-read node 0 1 5: flip node 0 1 12 18
+    b"# Answers truly when store_far_apart asks for the counters of page 32 to read line
+# 2053, and falsely when it asks again, as the line goes out (time of check, time
+# of use).
+read node 0 32 3: flip node 0 32 12 18
 ";
 
 const REPLAY_LINE: &[u8] =
-    b"# Gives store_twice line 5 as it was written first: the letter A, with the tag that
-# the chip made for it.
-write data 5 2: save 0 data 5
-read data 5 2: restore 0 data 5
+    b"# Gives store_far_apart line 2053 as it was written first: the letter A, with the
+# tag that the chip made for it. It is put back after its second write, as line
+# 4101 goes out for its third store.
+write data 6149 1: save 0 data 2053
+write data 4101 2: restore 0 data 2053
 ";
 
 const REPLAY_LINE_AND_COUNTER: &[u8] =
-    b"# The same with the counter block of page 0, as it was when line 5 was read for its
-# second store. They are put back after its second write, as line 69 goes out for
-# the last load.
-read data 5 1: save 0 data 5
-read data 5 1: save 1 node 0 0
-write data 69 2: restore 0 data 5
-write data 69 2: restore 1 node 0 0
+    b"# The same with the counter block of page 32, as it was written first.
+write data 6149 1: save 0 data 2053
+write data 6149 1: save 1 node 0 32
+write data 4101 2: restore 0 data 2053
+write data 4101 2: restore 1 node 0 32
 ";
 
 const REPLAY_BRANCH: &[u8] =
-    b"# The same with the whole branch of page 0, up to the child of the top node.
-read data 5 1: save 0 data 5
-read data 5 1: save 1 node 0 0
-read data 5 1: save 2 node 1 0
-read data 5 1: save 3 node 2 0
-read data 5 1: save 4 node 3 0
-write data 69 2: restore 0 data 5
-write data 69 2: restore 1 node 0 0
-write data 69 2: restore 2 node 1 0
-write data 69 2: restore 3 node 2 0
-write data 69 2: restore 4 node 3 0
+    b"# The same with the node above the block. They are put back once that node was
+# written twice since boot, as line 6149 goes out for its third store.
+write data 6149 1: save 0 data 2053
+write data 6149 1: save 1 node 0 32
+write data 6149 1: save 2 node 1 8
+write data 6149 2: restore 0 data 2053
+write data 6149 2: restore 1 node 0 32
+write data 6149 2: restore 2 node 1 8
 ";
 
 const REPLAY_EVERYTHING: &[u8] =
     b"# The same with all of the memory: lines, tags, counter blocks and tree.
-read data 5 1: saveall 0
-write data 69 2: restoreall 0
+write data 6149 1: saveall 0
+write data 6149 2: restoreall 0
 ";
 
 const ATTACK_THAT_WAITS: &[u8] =
@@ -143,9 +157,9 @@ write data 69 1: flip data 6 0 01
 ";
 
 const SWAP_OF_EQUALS: &[u8] =
-    b"# Swaps the counter blocks of pages 1 and 2 in store_twice, when one line of each
-# has gone out once: that at place 5.
-read node 0 1 4: swap node 0 1 node 0 2
+    b"# Swaps the counter blocks of pages 32 and 64 in store_far_apart, when one line of
+# each has gone out once, that at place 5, and then the block.
+read node 0 32 3: swap node 0 32 node 0 64
 ";
 
 const COLLISION: &[u8] =
@@ -157,13 +171,13 @@ read node 0 0 1: flip node 0 0 16 01
 ";
 
 const REPEAT_A_PAD: &[u8] =
-    b"# Sets the counter of line 69 in store_twice from 1 back to 0, as the line comes in
-# for its second store. When it goes out, the chip would count up to 1 again and
-# encrypt under a pad that was used. The counter is bits 35 to 41 behind the page
-# counter: bit 3 of byte 12 is its lowest. Byte 28 is for the tags `xor`, as 16
-# bytes on; it makes the counter of line 87 a 4, which is never asked for.
-read node 0 1 4: flip node 0 1 12 08
-read node 0 1 4: flip node 0 1 28 08
+    b"# Sets the counter of line 2053 in store_far_apart from 1 back to 0, as the line
+# comes in for its second store. When it goes out, the chip would count up to 1
+# again and encrypt under a pad that was used. The counter is bits 35 to 41 behind
+# the page counter: bit 3 of byte 12 is its lowest. Byte 28 is for the tags `xor`,
+# as 16 bytes on; it makes the counter of line 2071 a 4, which is never asked for.
+read node 0 32 2: flip node 0 32 12 08
+read node 0 32 2: flip node 0 32 28 08
 ";
 
 const CAUGHT: [Attack<'static>; 9] = [
@@ -200,27 +214,27 @@ const CAUGHT: [Attack<'static>; 9] = [
         status: 5,
     },
     Attack {
-        text: STORE_AND_PRINT,
+        text: STORE_FAR_APART,
         tags: "hmac",
         script: SPLICE_NODES,
         printed: b"",
-        told: b"tampered node 1 0\nretired 10\nlies 1\n",
+        told: b"tampered node 1 8\nretired 13\nlies 1\n",
         status: 5,
     },
     Attack {
-        text: STORE_TWICE,
+        text: STORE_FAR_APART,
         tags: "hmac",
         script: FORGET_PAGE,
         printed: b"",
-        told: b"tampered node 0 1\nretired 14\nlies 1\n",
+        told: b"tampered node 0 32\nretired 11\nlies 1\n",
         status: 5,
     },
     Attack {
-        text: STORE_TWICE,
+        text: STORE_FAR_APART,
         tags: "hmac",
         script: TRUE_THEN_FALSE,
         printed: b"",
-        told: b"tampered node 0 1\nretired 19\nlies 1\n",
+        told: b"tampered node 0 32\nretired 13\nlies 1\n",
         status: 5,
     },
     Attack {
@@ -232,46 +246,46 @@ const CAUGHT: [Attack<'static>; 9] = [
         status: 5,
     },
     Attack {
-        text: STORE_TWICE,
+        text: STORE_FAR_APART,
         tags: "hmac",
         script: REPEAT_A_PAD,
         printed: b"",
-        told: b"tampered node 0 1\nretired 14\nlies 1\n",
+        told: b"tampered node 0 32\nretired 11\nlies 1\n",
         status: 5,
     },
 ];
 
 const REPLAYS: [Attack<'static>; 4] = [
     Attack {
-        text: STORE_TWICE,
+        text: STORE_FAR_APART,
         tags: "hmac",
         script: REPLAY_LINE,
         printed: b"",
-        told: b"tampered data 5\nretired 19\nlies 1\n",
+        told: b"tampered data 2053\nretired 17\nlies 1\n",
         status: 5,
     },
     Attack {
-        text: STORE_TWICE,
+        text: STORE_FAR_APART,
         tags: "hmac",
         script: REPLAY_LINE_AND_COUNTER,
         printed: b"",
-        told: b"tampered node 0 0\nretired 19\nlies 1\n",
+        told: b"tampered node 0 32\nretired 17\nlies 1\n",
         status: 5,
     },
     Attack {
-        text: STORE_TWICE,
+        text: STORE_FAR_APART,
         tags: "hmac",
         script: REPLAY_BRANCH,
         printed: b"",
-        told: b"tampered node 3 0\nretired 19\nlies 1\n",
+        told: b"tampered node 1 8\nretired 19\nlies 1\n",
         status: 5,
     },
     Attack {
-        text: STORE_TWICE,
+        text: STORE_FAR_APART,
         tags: "hmac",
         script: REPLAY_EVERYTHING,
         printed: b"",
-        told: b"tampered node 4 0\nretired 19\nlies 1\n",
+        told: b"tampered node 0 64\nretired 18\nlies 1\n",
         status: 5,
     },
 ];
@@ -302,11 +316,11 @@ const UNSEEN: [Attack<'static>; 4] = [
         status: 0,
     },
     Attack {
-        text: STORE_TWICE,
+        text: STORE_FAR_APART,
         tags: "hmac",
         script: SWAP_OF_EQUALS,
         printed: b"",
-        told: b"halted 66\nretired 22\nlies 0\n",
+        told: b"halted 67\nretired 26\nlies 0\n",
         status: 0,
     },
 ];
@@ -343,17 +357,17 @@ tag cdd9bd2ef93fe00084eb9f1953edd103
         status: 7,
     },
     Attack {
-        text: STORE_TWICE,
+        text: STORE_FAR_APART,
         tags: "xor",
         script: REPEAT_A_PAD,
         printed: b"",
-        told: b"halted 66
-retired 22
-lies 3
-evidence collision node 0 1
+        told: b"halted 67
+retired 26
+lies 2
+evidence collision node 0 32
 made 00000000000000000000000008000000000000000000000000000000000000000000000000000000000000000000000000000000000000000000000000000000
 accepted 00000000000000000000000000000000000000000000000000000000080000000000000000000000000000000000000000000000000000000000000000000000
-tag cdd9b42ef93fe00084eb9f1953edd103
+tag cdd9952ef93fe00084eb9f1953edd103
 ",
         status: 7,
     },

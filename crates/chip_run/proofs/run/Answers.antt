@@ -14,8 +14,10 @@ use Rattle.rv32_core.specs.Outcome.{prints_of}
 use Rattle.rv32_core.specs.Turnover.{page_turnover, turnover}
 use Rattle.rv32_run.specs.Session.{CarriesEnding, FollowsWith, IsStop, Reaches}
 use Rattle.rv32_run.proofs.Runs.{opening_begins, opening_follows}
+use Rattle.counter_cache.specs.Counters.{most_blocks}
+use Rattle.line_cache.specs.LineCache.{most_held}
 use Rattle.page_reencrypt.specs.SealedLines.{Moves}
-use Rattle.secure_memory.specs.SecureRam.{IsQuiet, contents, held_lines, made, stopped}
+use Rattle.secure_memory.specs.SecureRam.{IsQuiet, cached_pages, contents, held_lines, made, stopped}
 use Rattle.chip_run.specs.Report.{signed_report}
 use Rattle.chip_run.proofs.Booted.{has_message}
 use Rattle.chip_run.proofs.Closing.{ends_as_stop, going_on_fault}
@@ -114,8 +116,10 @@ begun_booted g c =
     let storing = c.in_default.ensures.moved.moved.moves in
     record {
       levels_are = ap (λ memory. memory.lines.engine.levels) began ∙ storing.step.levels ∙ booted.depth_is;
-      few = few_begun (held_lines c.in-Ok.memory) (held_lines c.store_image.new.ram) (held_lines c.new-session.result.memory) c.in-Ok.ensures.none_held
+      few = few_begun most_held (held_lines c.in-Ok.memory) (held_lines c.store_image.new.ram) (held_lines c.new-session.result.memory) c.in-Ok.ensures.none_held
           c.in_default.ensures.moved.moved.few (ap (λ memory. held_lines memory) began);
+      few_blocks = few_begun most_blocks (cached_pages c.in-Ok.memory) (cached_pages c.store_image.new.ram) (cached_pages c.new-session.result.memory)
+          c.in-Ok.ensures.none_cached c.in_default.ensures.moved.moved.copies.few_blocks (ap (λ memory. cached_pages memory) began);
       tagged = λ page below.
           has_message _ c.args.setup.now.geometry page _ (made c.new-session.result.memory) storing.step.more booted.made_is
           (ap (λ memory. made memory) began ∙ storing.step.made) below;

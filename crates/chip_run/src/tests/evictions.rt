@@ -20,8 +20,9 @@ fn what_is_held_is_not_tagged(rt: HostRuntime) -> Result<(), Fail> {
     Ok(())
 }
 
-// The five nodes of the tree are tagged first. Then line 64 goes out twice, and each time its page's counters, the node
-// above them and the line are tagged. Line 0 has the code, and stays; line 128 goes out unchanged.
+// The five nodes of the tree are tagged first. Then line 64 goes out twice, and is tagged each time. Its page's counters and
+// the node above them stay on the chip, so they are not tagged again. Line 0 has the code, and stays; line 128 goes out
+// unchanged.
 #[test]
 fn each_write_is_tagged(rt: HostRuntime) -> Result<(), Fail> {
     let mut out = MemorySink::new(rt.alloc(), &[])?;
@@ -35,10 +36,6 @@ fn each_write_is_tagged(rt: HostRuntime) -> Result<(), Fail> {
         (2, (0, 2)),
         (3, (0, 3)),
         (4, (1, 0)),
-        (5, (0, 1)),
-        (6, (1, 0)),
-        (8, (0, 1)),
-        (9, (1, 0)),
     ];
     for (at, node) in nodes {
         let Some(Message::Node { level, index, .. }) = done.made.get(at) else {
@@ -51,14 +48,14 @@ fn each_write_is_tagged(rt: HostRuntime) -> Result<(), Fail> {
         counter: written(1),
         cipher: CIPHER_65,
     };
-    assert_eq!(rt; done.made.get(7), Some(first));
+    assert_eq!(rt; done.made.get(5), Some(first));
     let second = Message::Line {
         line: 64,
         counter: written(2),
         cipher: CIPHER_65_AGAIN,
     };
-    assert_eq!(rt; done.made.get(10), Some(second));
-    assert_eq!(rt; done.made.len(), 11);
+    assert_eq!(rt; done.made.get(6), Some(second));
+    assert_eq!(rt; done.made.len(), 7);
     Ok(())
 }
 
@@ -133,22 +130,21 @@ fn lines_past_what_a_chip_may_hold_are_read_again(rt: HostRuntime) -> Result<(),
 }
 
 // Line 64 goes out behind each store. The 128th write encrypts its page, and 72 more follow; or it is refused while line 128
-// is loaded, and 127 are done. Each write that is done tags two nodes.
+// is loaded, and 127 are done. No node is tagged but by boot.
 #[test]
 fn a_line_is_written_as_often_as_the_limit_allows(rt: HostRuntime) -> Result<(), Fail> {
     let rows = [
-        (0, 512, Ending::Spent(1), 127, 127),
-        (1, 805, Ending::Halted(0), 127 + 64 + 72, 200),
-        (u64::MAX, 805, Ending::Halted(0), 127 + 64 + 72, 200),
+        (0, 512, Ending::Spent(1), 127),
+        (1, 805, Ending::Halted(0), 127 + 64 + 72),
+        (u64::MAX, 805, Ending::Halted(0), 127 + 64 + 72),
     ];
-    for (page_limit, retired, ending, entries, writes) in rows {
+    for (page_limit, retired, ending, entries) in rows {
         let mut out = MemorySink::new(rt.alloc(), &[])?;
         let (done, _) = honest(rt.alloc(), &WEAR_LINE_64, page_limit, &mut out)?;
         assert_eq!(rt; done.ending, ending, "limit {page_limit}");
         assert_eq!(rt; done.retired, retired, "limit {page_limit}");
         assert_eq!(rt; done.used.len(), entries, "limit {page_limit}");
-        let messages = 5 + 2 * writes + entries;
-        assert_eq!(rt; done.made.len(), messages, "limit {page_limit}");
+        assert_eq!(rt; done.made.len(), 5 + entries, "limit {page_limit}");
         assert_eq!(rt; done.evidence, None, "limit {page_limit}");
     }
     Ok(())

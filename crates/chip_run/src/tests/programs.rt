@@ -7,6 +7,25 @@ pub(super) const EXIT_WITH_FIRST: [u32; 4] = [0x0000_12b7, 0x0002_a503, 0x05d0_0
 
 pub(super) const EXIT_WITH_SECOND: [u32; 4] = [0x0000_12b7, 0x0042_a503, 0x05d0_0893, 0x0000_0073];
 
+// Stores 65 in lines 2053, 4101 and 6149, then 66 and then 67, and exits with the byte of line 2053. These lines share a set,
+// and so do the counter blocks of their pages, 32, 64 and 96, and the nodes above those.
+pub(super) const STORE_FAR_APART: [u32; 14] = [
+    0x0002_02b7,
+    0x0004_0337,
+    0x0006_03b7,
+    0x0410_0e13,
+    0x0030_0e93,
+    0x15c2_8023,
+    0x15c3_0023,
+    0x15c3_8023,
+    0x001e_0e13,
+    0xfffe_8e93,
+    0xfe0e_96e3,
+    0x1402_c503,
+    0x05d0_0893,
+    0x0000_0073,
+];
+
 // Prints the 8 bytes from 0xffc on, and exits with 8.
 pub(super) const PRINT_8: [u32; 8] = [
     0x0000_15b7,

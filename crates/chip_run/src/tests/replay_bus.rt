@@ -44,31 +44,32 @@ impl Lies {
     }
 }
 
-// What stood at the places of line 64 and of the nodes on its path after the first write of the line, in a memory of one
-// level; from then on it is replayed.
+// What stood at the places of line 2053, of its counter block (0, 32) and of the node (1, 8) above that as the node went out
+// for the first time; from the second time on it is replayed. The node's writes are counted from boot on.
 #[derive(Clone, Copy, Debug)]
 struct Stale {
     line: Sealed,
     counters: [u8; 64],
-    top: [u8; 64],
+    node: [u8; 64],
+    writes: u64,
     is_replayed: bool,
 }
 
 impl Stale {
     fn keep_line(&mut self, line: u32, sealed: &Sealed) {
-        if line == 64 && !self.is_replayed {
+        if line == 2053 && self.writes < 2 {
             self.line = *sealed;
-            self.is_replayed = true;
         }
     }
 
     fn keep_node(&mut self, level: u8, index: u32, block: &[u8; 64]) {
-        if self.is_replayed {
-            return;
-        }
-        match (level, index) {
-            (0, 1) => self.counters = *block,
-            (1, 0) => self.top = *block,
+        match (level, index, self.writes) {
+            (0, 32, 0..=1) => self.counters = *block,
+            (1, 8, 0..=1) => {
+                self.node = *block;
+                self.writes = self.writes.saturating_add(1);
+            }
+            (1, 8, _) => self.is_replayed = true,
             _ => {}
         }
     }
@@ -76,14 +77,14 @@ impl Stale {
     // What is replayed of a node, if it is one that is.
     fn node(&self, level: u8, index: u32) -> Option<[u8; 64]> {
         match (self.is_replayed, level, index) {
-            (true, 0, 1) => Some(self.counters),
-            (true, 1, 0) => Some(self.top),
+            (true, 0, 32) => Some(self.counters),
+            (true, 1, 8) => Some(self.node),
             _ => None,
         }
     }
 }
 
-// It replays line 64 and the nodes on its path below a level.
+// It replays line 2053, and the nodes on its path below a level.
 #[derive(Drop)]
 pub(crate) struct ReplayBus {
     bus: HonestBus,
@@ -113,7 +114,8 @@ impl ReplayBus {
             stale: Stale {
                 line,
                 counters: [0; 64],
-                top: [0; 64],
+                node: [0; 64],
+                writes: 0,
                 is_replayed: false,
             },
             accesses: 0,
@@ -148,7 +150,7 @@ impl Bus for ReplayBus {
         let bytes = bytes_of(self.alloc, &answer)?;
         let sealed = self.bus.read_data(line)?;
         self.accesses = self.accesses.saturating_add(1);
-        if !self.stale.is_replayed || line != 64 {
+        if !self.stale.is_replayed || line != 2053 {
             return Ok(sealed);
         }
         if !differs(answer, sealed) {

@@ -1,5 +1,7 @@
 // False answers: one bit is flipped, or what stood there before is answered.
-use super::programs::{EXIT_7, EXIT_65, EXIT_WITH_65_AGAIN, PRINT_8, STORE_65_TWICE};
+use super::programs::{
+    EXIT_7, EXIT_65, EXIT_WITH_65_AGAIN, PRINT_8, STORE_65_TWICE, STORE_FAR_APART,
+};
 use super::replay_bus::ReplayBus;
 use super::zeros::Zeros;
 use super::{CIPHER_65, LINE_64, flat, flipped, image, keys, setup, written};
@@ -53,7 +55,7 @@ fn a_false_answer_that_passes_its_check_is_shown(rt: HostRuntime) -> Result<(), 
             cipher,
             tag: [0; 16],
         },
-        made_count: 5 + 3,
+        made_count: 5 + 1,
     };
     assert_eq!(rt; done.evidence, Some(shown));
     assert_eq!(rt; lies, 1);
@@ -74,37 +76,23 @@ fn a_node_that_fails_its_check_ends_the_run(rt: HostRuntime) -> Result<(), Fail>
     Ok(())
 }
 
-// A line that comes in reads the top node once, and one that goes out three times before. So read 1 is that of line 0, as
-// the program is stored; 2 that of line 64; 3 to 6 and 8 to 11 are those of line 128, for which line 64 goes out; and 7 and 12
-// those of line 64 again.
+// A node or a counter block is read when a line first wants it, and stays on the chip: a second answer would be false, and
+// there is none.
 #[test]
-fn each_read_of_the_top_node_is_checked(rt: HostRuntime) -> Result<(), Fail> {
-    let top = Place::Node { level: 1, index: 0 };
-    let rows = [
-        (1, 0),
-        (2, 3),
-        (3, 4),
-        (4, 4),
-        (5, 4),
-        (6, 4),
-        (7, 5),
-        (8, 6),
-        (9, 6),
-        (10, 6),
-        (11, 6),
-        (12, 7),
-    ];
-    for (k, retired) in rows {
+fn a_node_that_is_held_is_not_read(rt: HostRuntime) -> Result<(), Fail> {
+    let rows = [((1, 0), 0), ((0, 0), 0), ((0, 1), 3), ((0, 2), 4)];
+    for ((level, index), retired) in rows {
+        let place = Place::Node { level, index };
         let tagger = HmacTagger::new(&keys());
-        let (done, lies) = flipped(rt.alloc(), &STORE_65_TWICE, top, k, tagger)?;
-        assert_eq!(rt; done.ending, Ending::Tampered(top), "read {k}");
-        assert_eq!(rt; done.retired, retired, "read {k}");
-        assert_eq!(rt; lies, 1, "read {k}");
+        let (done, lies) = flipped(rt.alloc(), &STORE_65_TWICE, place, 1, tagger)?;
+        assert_eq!(rt; done.ending, Ending::Tampered(place), "{place}");
+        assert_eq!(rt; done.retired, retired, "{place}");
+        assert_eq!(rt; lies, 1, "{place}");
+        let tagger = HmacTagger::new(&keys());
+        let (done, lies) = flipped(rt.alloc(), &STORE_65_TWICE, place, 2, tagger)?;
+        assert_eq!(rt; done.ending, Ending::Halted(65), "{place}");
+        assert_eq!(rt; lies, 0, "{place}");
     }
-    let tagger = HmacTagger::new(&keys());
-    let (done, lies) = flipped(rt.alloc(), &STORE_65_TWICE, top, 13, tagger)?;
-    assert_eq!(rt; done.ending, Ending::Halted(65));
-    assert_eq!(rt; lies, 0);
     Ok(())
 }
 
@@ -140,22 +128,25 @@ fn each_place_is_checked_or_never_read(rt: HostRuntime) -> Result<(), Fail> {
     Ok(())
 }
 
-// Once line 64 has gone out twice, its place as it was after the first time fails its check; so do its counters, if they
-// are replayed too. Both are read by the last load. If all is replayed, the top node fails first: line 128, for which the
-// line goes out, comes in by it.
+// Once the node above the counters of line 2053 has gone out twice, what stood outside after the first time fails its check:
+// the line as the last load reads it, its counters as it goes out for the third time, and the node as these counters want it.
 #[test]
 fn what_stood_there_before_fails_its_check(rt: HostRuntime) -> Result<(), Fail> {
-    let geometry = Geometry::new(1).ok_or("no geometry")?;
+    let geometry = Geometry::new(4).ok_or("no geometry")?;
+    let counters = Place::Node {
+        level: 0,
+        index: 32,
+    };
     let rows = [
-        (0, LINE_64, 7),
-        (1, Place::Node { level: 0, index: 1 }, 7),
-        (2, Place::Node { level: 1, index: 0 }, 6),
+        (0, Place::Line(2053), 23),
+        (1, counters, 19),
+        (2, Place::Node { level: 1, index: 8 }, 19),
     ];
     for (below, place, retired) in rows {
         let image = Image {
             entry: 0,
-            size: 16384,
-            segments: flat(rt.alloc(), &STORE_65_TWICE)?,
+            size: 1048576,
+            segments: flat(rt.alloc(), &STORE_FAR_APART)?,
         };
         let setup = setup(geometry, 2000, u64::MAX);
         let tagger = HmacTagger::new(&setup.keys);

@@ -8,16 +8,16 @@ use sec_base::{Ending, Geometry, Image, MemorySink};
 use std::test::Fail;
 
 // How a run ends whose bus refuses this access, and how many instructions it retired. Boot makes 5 accesses, and line 0 comes
-// in by 2; line 64 comes in by 2, and goes out by 8 for line 128, which comes in by 2; line 64 comes in again by 3, and goes
-// out by 8 for line 128, which comes in by 2; and line 64 comes in by 3.
+// in by 2, the top node and its counters; line 64 comes in by 1, its counters, and goes out by 1 for line 128, which comes in
+// by 1; line 64 comes in again by 1, and goes out by 1 for line 128, which was never written; and line 64 comes in by 1.
 fn refused_at(access: u64) -> (Ending, u64) {
     match access {
         0..=7 => (Ending::NoMemory, 0),
-        8..=9 => (Ending::NoMemory, 3),
-        10..=19 => (Ending::NoMemory, 4),
-        20..=22 => (Ending::NoMemory, 5),
-        23..=32 => (Ending::NoMemory, 6),
-        33..=35 => (Ending::NoMemory, 7),
+        8 => (Ending::NoMemory, 3),
+        9..=10 => (Ending::NoMemory, 4),
+        11 => (Ending::NoMemory, 5),
+        12 => (Ending::NoMemory, 6),
+        13 => (Ending::NoMemory, 7),
         _ => (Ending::Halted(65), 10),
     }
 }
@@ -25,7 +25,7 @@ fn refused_at(access: u64) -> (Ending, u64) {
 #[test]
 fn a_run_ends_where_the_bus_is_out_of_memory(rt: HostRuntime) -> Result<(), Fail> {
     let geometry = Geometry::new(1).ok_or("no geometry")?;
-    for refused in 1..37u64 {
+    for refused in 1..15u64 {
         let image = Image {
             entry: 0,
             size: 16384,
@@ -40,7 +40,7 @@ fn a_run_ends_where_the_bus_is_out_of_memory(rt: HostRuntime) -> Result<(), Fail
         assert_eq!(rt; done.ending, ending, "access {refused}");
         assert_eq!(rt; done.retired, retired, "access {refused}");
         assert_eq!(rt; done.evidence, None, "access {refused}");
-        assert_eq!(rt; done.report.is_some(), refused == 36, "access {refused}");
+        assert_eq!(rt; done.report.is_some(), refused == 14, "access {refused}");
         assert_eq!(rt; done.made.is_empty(), refused < 6, "access {refused}");
     }
     Ok(())

@@ -23,25 +23,26 @@ fn made_and_accesses(
     Ok((account.made.len(), bus.asked()))
 }
 
-// A tree of L levels has a node for the top and four below each: boot writes 5, 21 or 341. A read of a line that was never
-// written reads the path of L + 1 nodes. A write reads that path twice and, but for the counter block, again, and it writes
-// the path and the line: 4 L + 4 accesses and L + 2 messages.
+// A tree of L levels has a node for the top and four below each: boot writes 5, 21 or 341. The first call on a page reads the
+// path of L + 1 nodes, which have copies from then on. A line is read by one access, unless it was never written, and written
+// by one, with one message.
 #[test]
 fn accesses_are_those_of_paths_and_lines(rt: HostRuntime) -> Result<(), Fail> {
     let rows = [
         (1, 0, 0, 5, 5),
         (1, 0, 1, 5, 5 + 2),
-        (1, 1, 0, 5 + 3, 5 + 8),
-        (1, 1, 1, 5 + 3, 5 + 8 + 3),
-        (1, 2, 2, 5 + 6, 5 + 16 + 6),
+        (1, 0, 2, 5, 5 + 2),
+        (1, 1, 0, 5 + 1, 5 + 2 + 1),
+        (1, 1, 1, 5 + 1, 5 + 2 + 2),
+        (1, 2, 2, 5 + 2, 5 + 2 + 4),
         (2, 0, 0, 21, 21),
         (2, 0, 1, 21, 21 + 3),
-        (2, 1, 0, 21 + 4, 21 + 12),
-        (2, 1, 1, 21 + 4, 21 + 12 + 4),
+        (2, 1, 0, 21 + 1, 21 + 3 + 1),
+        (2, 1, 1, 21 + 1, 21 + 3 + 2),
         (4, 0, 0, 341, 341),
         (4, 0, 1, 341, 341 + 5),
-        (4, 1, 0, 341 + 6, 341 + 20),
-        (4, 1, 1, 341 + 6, 341 + 20 + 6),
+        (4, 1, 0, 341 + 1, 341 + 5 + 1),
+        (4, 1, 1, 341 + 1, 341 + 5 + 2),
     ];
     for (levels, writes, reads, made, accesses) in rows {
         assert_eq!(rt;
@@ -57,9 +58,9 @@ fn accesses_are_those_of_paths_and_lines(rt: HostRuntime) -> Result<(), Fail> {
 #[test]
 fn an_overflow_reads_a_line_once_at_most(rt: HostRuntime) -> Result<(), Fail> {
     let rows = [
-        (127, 5 + 127 * 3, 5 + 127 * 8),
-        (128, 5 + 127 * 3 + 66, 5 + 127 * 8 + 7 + 64),
-        (256, 5 + 254 * 3 + 2 * 66, 5 + 254 * 8 + 7 + 64 + 7 + 127),
+        (127, 5 + 127, 5 + 2 + 127),
+        (128, 5 + 127 + 64, 5 + 2 + 127 + 64),
+        (256, 5 + 254 + 2 * 64, 5 + 2 + 254 + 64 + 127),
     ];
     for (writes, made, accesses) in rows {
         assert_eq!(rt;

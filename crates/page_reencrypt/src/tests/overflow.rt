@@ -38,7 +38,7 @@ fn a_page_is_encrypted_in_the_order_of_its_places(rt: HostRuntime) -> Result<(),
         add_page(&mut wanted, first, 1)?;
         assert_eq!(rt; wanted.len(), 191, "line {line}");
         assert_eq!(rt; account.used.as_slice(), wanted.as_slice(), "line {line}");
-        assert_eq!(rt; account.made.len(), 5 + 191 + 2 * 128, "line {line}");
+        assert_eq!(rt; account.made.len(), 5 + 191, "line {line}");
         assert_eq!(rt; account.evidence, None, "line {line}");
     }
     Ok(())
@@ -111,7 +111,7 @@ fn a_page_is_encrypted_under_its_new_counter(rt: HostRuntime) -> Result<(), Fail
             cipher,
         };
         assert_eq!(rt;
-            account.made.get(5 + 128 * 3 + 2 + u64::from(line)),
+            account.made.get(5 + 128 + u64::from(line)),
             Some(wanted),
             "line {line}"
         );
@@ -179,7 +179,7 @@ fn a_page_that_is_worn_out_again_and_again_keeps_its_lines(rt: HostRuntime) -> R
     let (account, _bus) = memory.finish();
     assert_eq!(rt; wanted.len(), 514);
     assert_eq!(rt; account.used.as_slice(), wanted.as_slice());
-    assert_eq!(rt; account.made.len(), 5 + 514 + 2 * (5 + 3 * 127 + 2));
+    assert_eq!(rt; account.made.len(), 5 + 514);
     assert_eq!(rt; account.evidence, None);
     Ok(())
 }
@@ -248,10 +248,10 @@ fn assert_page_held(rt: &impl Abort, memory: &mut Memory<SomeBytes>, first: u32,
 #[test]
 fn at_each_level_a_page_is_encrypted_anew(rt: HostRuntime) -> Result<(), Fail> {
     let rows = [
-        (1, 192, 5 + 255 + 2 * 192),
-        (2, 576, 21 + 255 + 3 * 192),
-        (4, 12_800, 341 + 255 + 5 * 192),
-        (6, 256_064, 5461 + 255 + 7 * 192),
+        (1, 192, 5 + 255),
+        (2, 576, 21 + 255),
+        (4, 12_800, 341 + 255),
+        (6, 256_064, 5461 + 255),
     ];
     for (levels, first, made) in rows {
         let mut memory = worn_page(&rt, rt.alloc(), levels, first, 1)?;
@@ -281,7 +281,7 @@ fn a_page_other_than_the_first_is_spent(rt: HostRuntime) -> Result<(), Fail> {
     assert_eq!(rt; memory.lines.stopped(), spent.err());
     let (account, _bus) = memory.finish();
     let counts = (account.used.len(), account.made.len());
-    assert_eq!(rt; counts, (191, 21 + 191 + 3 * 191));
+    assert_eq!(rt; counts, (191, 21 + 191));
     assert_eq!(rt; account.evidence, None);
     Ok(())
 }

@@ -22,12 +22,13 @@ fn worn(
     Ok(memory)
 }
 
-// It reads the path of the page and the line. All calls that follow are refused.
+// It reads the path of the page, or where the counters are on the chip the line. All calls that follow are refused.
 #[test]
 fn a_read_that_is_refused_changes_nothing(rt: HostRuntime) -> Result<(), Fail> {
-    for (levels, before, accesses) in [(1, 13, 3), (2, 33, 4u64)] {
+    let rows = [(1, 0, 5, 2), (2, 0, 21, 3), (1, 1, 8, 1), (2, 1, 25, 1u64)];
+    for (levels, writes, before, accesses) in rows {
         for refused in before + 1..=before + accesses {
-            let mut memory = worn(&rt, rt.alloc(), levels, 1, refused)?;
+            let mut memory = worn(&rt, rt.alloc(), levels, writes, refused)?;
             let stops = [
                 memory.read(&rt, 5).err(),
                 memory.read(&rt, 5).err(),
@@ -37,23 +38,24 @@ fn a_read_that_is_refused_changes_nothing(rt: HostRuntime) -> Result<(), Fail> {
             assert_eq!(rt; stops, [Some(MemStop::NoMemory); 4], "access {refused}");
             let (account, bus) = memory.finish();
             let counts = (account.used.len(), bus.asked());
-            assert_eq!(rt; counts, (1, refused), "access {refused}");
+            assert_eq!(rt; counts, (u64::from(writes), refused), "access {refused}");
         }
     }
     Ok(())
 }
 
-// A write reads nodes, writes nodes and then lines: one, or at the end of its counter the 64 of the page. The message of a
-// write that is refused was made.
+// A write reads the path of the page, unless its counters are on the chip, and then writes lines: one, or at the end of its
+// counter the 64 of the page. The message of a write that is refused was made.
 #[test]
 fn a_write_that_is_refused_was_done_in_part(rt: HostRuntime) -> Result<(), Fail> {
-    // levels, writes and messages and accesses before, accesses that read nodes, those and the ones that write them, all
+    // levels, writes and messages and accesses before, accesses that read nodes, all
     let rows = [
-        (1, 1, 8, 13, 5, 7, 8u64),
-        (2, 1, 25, 33, 8, 11, 12),
-        (1, 127, 386, 1021, 5, 7, 71),
+        (1, 0, 5, 5, 2, 3u64),
+        (2, 0, 21, 21, 3, 4),
+        (1, 1, 6, 8, 0, 1),
+        (1, 127, 132, 134, 0, 64),
     ];
-    for (levels, writes, made, before, reads, nodes, accesses) in rows {
+    for (levels, writes, made, before, reads, accesses) in rows {
         for at in 1..=accesses {
             let refused = before + at;
             let mut memory = worn(&rt, rt.alloc(), levels, writes, refused)?;
@@ -66,8 +68,8 @@ fn a_write_that_is_refused_was_done_in_part(rt: HostRuntime) -> Result<(), Fail>
             assert_eq!(rt; stops, [Some(MemStop::NoMemory); 4], "access {refused}");
             let (account, bus) = memory.finish();
             let counts = (account.used.len(), account.made.len(), bus.asked());
-            let entries = u64::from(writes) + at.saturating_sub(nodes);
-            let wanted = (entries, made + at.saturating_sub(reads), refused);
+            let sealed = at.saturating_sub(reads);
+            let wanted = (u64::from(writes) + sealed, made + sealed, refused);
             assert_eq!(rt; counts, wanted, "access {refused}");
         }
     }

@@ -11,8 +11,8 @@ use Rattle.bonsai_tree.specs.Tree.{want_of}
 use Rattle.bonsai_tree.specs.Writing.{WritesNodes}
 use Rattle.bonsai_tree.proofs.BootSteps.{IsPartly, inner_made, inner_tag, leaf_made, leaf_nodes, leaf_tag, nodes_above, partly_more, partly_none, whole_block}
 use Rattle.bonsai_tree.proofs.NodeWrites.{NodeWritten, writes_after, written_or_not}
-use Rattle.bonsai_tree.proofs.PathReads.{same_tags}
-use Rattle.bonsai_tree.proofs.Trees.{if_ok, on_ok}
+use Rattle.bonsai_tree.proofs.Nodes.{same_tags}
+use Rattle.bonsai_tree.proofs.Nodes.{if_ok, on_ok}
 use Rattle.bonsai_tree.proofs.boot.+boot.Goals as goal
 
 pub boot_children-loop-slot-init : goal.boot_children-loop-slot-init

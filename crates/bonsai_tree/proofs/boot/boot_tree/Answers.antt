@@ -9,7 +9,7 @@ use Rattle.bonsai_tree.specs.Booting.{IsBooting}
 use Rattle.bonsai_tree.specs.Tree.{want_of}
 use Rattle.bonsai_tree.proofs.WholeBoots.{booting, booting_not, tag_long, room_for_all, whole_accesses, whole_fits, whole_made, whole_stored}
 use Rattle.bonsai_tree.proofs.Boots.{few_nodes}
-use Rattle.bonsai_tree.proofs.Trees.{on_err}
+use Rattle.bonsai_tree.proofs.Nodes.{on_err}
 use Rattle.bonsai_tree.proofs.boot.boot_tree.Goals as goal
 
 pub returns-in_err-reserve-clause-booting : goal.returns-in_err-reserve-clause-booting

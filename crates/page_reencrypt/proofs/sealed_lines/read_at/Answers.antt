@@ -32,7 +32,7 @@ returns-in_err-block g c =
           (unread h m d n old counters c.args.line c.page_of.result c.page_of.ensures.page c.get.new.self c.get.new.counters why reached e.pads e.once (e.same c.requires.fits) e.found
           (λ place same.
           let there = e.tampered place (ap (λ (s : MemStop). Err s) same) in (there.0, there.1 c.requires.fits))
-          (λ page same. e.unspent page (ap (λ (s : MemStop). Err s) same)));
+          (λ page same. e.unspent page (ap (λ (s : MemStop). Err s) same)) e.copies);
     }
 
 pub read-requires-clause-counter : goal.read-requires-clause-counter
@@ -58,6 +58,7 @@ read-requires-clause-counter g c = λ quiet.
       page_is = c.page_of.ensures.page;
       place_is = c.place_of.ensures.place;
       same = e.same c.requires.fits;
+      copies = e.copies;
       block_is = e.block c.requires.fits;
       is_block = e.is_block;
       counter_is = c.get-2.ensures.counter;
@@ -89,7 +90,7 @@ returns g c =
     record {
       read = line_read h m d n old counters c.args.line c.page_of.result c.page_of.ensures.page c.get.new.self c.get.new.counters c.place_of.result
           c.in_ok-block.block got e.pads c.place_of.ensures.place c.requires.inside c.read.new.self c.get-2.result c.read.result c.get-2.ensures.counter
-          r.moves r.unmade r.pads r.unwritten e.once (e.same c.requires.fits) e.read e.found
+          r.moves r.unmade r.pads r.unwritten e.once (e.same c.requires.fits) e.copies e.read e.found
           (λ made_at bytes tag quiet is. ok_same c.in_ok-block.block (block_of bytes) (Ok c.in_ok-block.block) (Ok (block_of bytes)) refl refl (e.accepted made_at bytes tag quiet is))
           (e.checked c.in_ok-block.block refl)
           (g.met.B.Bus.moved_on old.bus c.get.new.self.bus c.read.new.self.bus e.step.bus r.moved) r.counted r.once r.alone r.value r.fresh r.rose

@@ -1,4 +1,5 @@
-use Rattle.std.proofs.Common.{◌≡◌, ◌≤◌, ◌+◌, ℕ, inl, inr, Option, Some, None, Ok, Err, ap, sym, ◌∙◌, subst, arith, rules}
+use Rattle.std.proofs.Common.{◌≡◌, ◌≤◌, ℕ, inl, Option, Some, None, Ok, Err, ap, sym, ◌∙◌, subst, arith, rules}
+use Rattle.sec_base.specs.Geometry.{page_of}
 use Rattle.sec_base.specs.declared.counter.Counter.{Counter}
 use Rattle.sec_base.specs.declared.place.Place.{Place}
 use Rattle.sec_base.specs.declared.place.Place.TheVariants.{Line as line_place}
@@ -10,10 +11,11 @@ use Rattle.pad_stream.specs.Pad.{cipher_of}
 use Rattle.checked_bus.specs.SealedLine.{sealed_line}
 use Rattle.checked_bus.specs.Steps.{stop_of}
 use Rattle.checked_bus.proofs.TaggedWrites.{wrote_once}
-use Rattle.counter_cache.specs.Counters.{bump_messages, counters_in}
+use Rattle.counter_cache.specs.Counters.{counters_in}
 use Rattle.page_reencrypt.specs.Outside.{IsWrite, OutsideView, terms_of}
+use Rattle.page_reencrypt.specs.SealedLines.{CopiesCame}
 use Rattle.page_reencrypt.proofs.LineReads.{quiet_before}
-use Rattle.page_reencrypt.proofs.NextWrites.{CountedUp, HadCounters, counter_here, is_last, line_unwritten, line_written, mid_counters, mid_inside, mid_kept, mid_last, mid_later, mid_lied, mid_reached, mid_room, mid_rooms, mid_rose, not_last, ok_where, page_overflows, page_written, refused_reached, roomy_fits, say_same, spent_after, spent_early, stopped_early}
+use Rattle.page_reencrypt.proofs.NextWrites.{HadCounters, counted_up, counter_here, is_last, line_unwritten, line_written, mid_counters, mid_inside, mid_kept, mid_last, mid_later, mid_rooms, mid_rose, ok_where, page_overflows, page_written, refused_reached, say_same, spent_after, spent_early, stopped_early}
 use Rattle.page_reencrypt.proofs.Reaching.{IsReached}
 use Rattle.page_reencrypt.proofs.Reencrypting.{one_access}
 use Rattle.page_reencrypt.proofs.sealed_lines.write_next.Goals as goal
@@ -36,13 +38,15 @@ returns-in_err-block-clause-written g c =
       accounted = e.accounted c.requires.fits;
       shows = e.shows c.requires.fits;
     } in
+    let copies : CopiesCame (page_of c.args.line) (h old.bus) old.engine.made counters (h c.get.new.self.bus) c.get.new.counters =
+    subst (λ (p : ℕ). CopiesCame p (h old.bus) old.engine.made counters (h c.get.new.self.bus) c.get.new.counters) c.page_of-page.ensures.page e.copies in
     subst (λ (s : Option MemStop). IsWrite (terms_of h m d n old) c.args.limit c.args.line c.args.bytes.now old counters c.get.new.self c.get.new.counters s) (sym stop)
     (stopped_early h m d n old counters c.get.new.self c.get.new.counters why reached c.args.limit c.args.line c.args.bytes.now c.requires.risen
     (λ page is. e.unspent page (ap (λ (s : MemStop). Err s) is)) (inl (e.same c.requires.fits))
     (λ place is.
     let there = e.tampered place (ap (λ (s : MemStop). Err s) is) in
     (rw (← c.page_of-page.ensures.page) there.0, there.1 c.requires.fits))
-    (λ quiet last. (e.same c.requires.fits quiet, e.once)))
+    (λ quiet last. (e.same c.requires.fits quiet, e.once)) copies)
 
 pub returns-in-Spent-clause-written : goal.returns-in-Spent-clause-written
 returns-in-Spent-clause-written g c =
@@ -67,11 +71,14 @@ returns-in-Spent-clause-written g c =
       page_is = c.page_of-page.ensures.page;
       place_is = c.place_of-place.ensures.place;
       same = e.same c.requires.fits;
+      copies = e.copies;
       block_is = e.block c.requires.fits;
       is_block = e.is_block;
       counter_is = c.get-2.ensures.counter;
       foreseen_is = c.of.ensures.outcome;
     } in
+    let copies : CopiesCame (page_of c.args.line) (h old.bus) old.engine.made counters (h c.get.new.self.bus) c.get.new.counters =
+    subst (λ (p : ℕ). CopiesCame p (h old.bus) old.engine.made counters (h c.get.new.self.bus) c.get.new.counters) c.page_of-page.ensures.page e.copies in
     spent_early h m d n old counters c.get.new.self c.get.new.counters c.page_of-page.result got c.args.limit c.args.line c.args.bytes.now c.requires.risen
     (say_same h m d n old counters c.requires.current c.get.new.self c.get.new.counters None got (e.same c.requires.fits)) (inl (e.same c.requires.fits)) c.page_of-page.ensures.page
     (λ quiet.
@@ -80,7 +87,7 @@ returns-in-Spent-clause-written g c =
     let full = c.of.ensures.spent.0 c.in-Spent.is in
     let was_quiet = quiet_before old.engine.evidence c.get.new.self.engine.evidence e.step.step.evidence quiet in
     here ∙ is_last c.args.limit c.get-2.result full.0 full.1 (subst (λ (k : Counter). k.page ≤ c.args.limit) here (c.requires.limited was_quiet)))
-    (λ quiet last. (e.same c.requires.fits quiet, e.once))
+    (λ quiet last. (e.same c.requires.fits quiet, e.once)) copies
 
 pub returns-in_err-reserve : goal.returns-in_err-reserve
 returns-in_err-reserve g c =
@@ -105,6 +112,7 @@ returns-in_err-reserve g c =
       page_is = c.page_of-page.ensures.page;
       place_is = c.place_of-place.ensures.place;
       same = e.same c.requires.fits;
+      copies = e.copies;
       block_is = e.block c.requires.fits;
       is_block = e.is_block;
       counter_is = c.get-2.ensures.counter;
@@ -113,6 +121,8 @@ returns-in_err-reserve g c =
     let differs = c.in_err-reserve.ensures.refused in
     let same_bus : h c.reserve.new.self.bus ≡ h c.get.new.self.bus = ap h differs.bus in
     let same_accesses = ap (λ (t : BusHistory). t.accesses) same_bus in
+    let copies : CopiesCame (page_of c.args.line) (h old.bus) old.engine.made counters (h c.get.new.self.bus) c.get.new.counters =
+    subst (λ (p : ℕ). CopiesCame p (h old.bus) old.engine.made counters (h c.get.new.self.bus) c.get.new.counters) c.page_of-page.ensures.page e.copies in
     let stop : stop_of c.from_residual-in_err-reserve.result ≡ Some NoMemory = search rules in
     record {
       written = subst (λ (s : Option MemStop). IsWrite (terms_of h m d n old) c.args.limit c.args.line c.args.bytes.now old counters c.reserve.new.self c.get.new.counters s) (sym stop)
@@ -125,7 +135,8 @@ returns-in_err-reserve g c =
             λ page. ap (λ e. counters_in c.get.new.counters e.made page) differs.engine
                 ∙ e.same c.requires.fits (sym (ap (λ e. e.evidence) differs.engine) ∙ quiet) page,
             omega (arith, e.once, same_accesses),
-          )));
+          ))
+          (subst (λ (t : BusHistory). CopiesCame (page_of c.args.line) (h old.bus) old.engine.made counters t c.get.new.counters) (sym same_bus) copies));
       once = λ quiet short. (
         omega (arith, e.once, same_accesses),
         λ other. ap (λ (t : BusHistory). t.reads (line_place other)) same_bus ∙ e.step.lines.reads other,
@@ -134,77 +145,7 @@ returns-in_err-reserve g c =
     }
 
 pub returns-in_err-counter : goal.returns-in_err-counter
-returns-in_err-counter g c =
-    let h = g.B.Bus.history in
-    let m = g.B.Bus.moved in
-    let d = g.T.Tagger.data_tag_of in
-    let n = g.T.Tagger.node_tag_of in
-    let old = c.args.outside.now in
-    let counters = c.args.counters.now in
-    let e = c.in_ok-block.ensures in
-    let got : IsReached (terms_of h m d n old) old counters c.get.new.self c.get.new.counters None = record {
-      node = e.step;
-      levels = e.levels;
-      fits = λ going. e.fits c.requires.fits;
-      accounted = e.accounted c.requires.fits;
-      shows = e.shows c.requires.fits;
-    } in
-    let had : HadCounters h m d n old counters c.args.limit c.args.line c.page_of-page.result c.place_of-place.result c.get.new.self c.get.new.counters
-    c.in_ok-block.block c.get-2.result c.of.result = record {
-      reached = got;
-      inside = c.requires.inside;
-      page_is = c.page_of-page.ensures.page;
-      place_is = c.place_of-place.ensures.place;
-      same = e.same c.requires.fits;
-      block_is = e.block c.requires.fits;
-      is_block = e.is_block;
-      counter_is = c.get-2.ensures.counter;
-      foreseen_is = c.of.ensures.outcome;
-    } in
-    let many : ℕ = 64 + bump_messages c.args.levels in
-    let up_fits = roomy_fits h m d n old counters c.get.new.self c.get.new.counters got (g.met.B.Bus.unmoved c.get.new.self.bus) g.met.B.Bus.moved_on
-    c.reserve.new.self many c.in_ok-reserve.ensures.taken in
-    let same_bus : h c.reserve.new.self.bus ≡ h c.get.new.self.bus =
-    ap (λ (o : OutsideView g.row.B.Denot g.row.T.Denot). h o.bus) c.in_ok-reserve.ensures.taken in
-    let same_levels : c.reserve.new.self.engine.levels ≡ old.engine.levels =
-    ap (λ (o : OutsideView g.row.B.Denot g.row.T.Denot). o.engine.levels) c.in_ok-reserve.ensures.taken ∙ e.step.step.levels in
-    let same_accesses = ap (λ (t : BusHistory). t.accesses) same_bus in
-    let why = c.in_err-counter.field-0.0 in
-    let u = c.in_err-counter.ensures in
-    let stop : stop_of c.from_residual-in_err-counter.result ≡ Some why = search rules in
-    let up : IsReached (terms_of h m d n c.reserve.new.self) c.reserve.new.self c.get.new.counters c.bump.new.self c.bump.new.counters (Some why) = record {
-      node = u.step;
-      levels = u.levels;
-      fits = ok_where (Err why) tt u.unspent;
-      accounted = u.accounted up_fits;
-      shows = u.shows up_fits;
-    } in
-    let room = mid_room h m d n old counters c.get.new.self c.get.new.counters got (g.met.B.Bus.unmoved c.get.new.self.bus) g.met.B.Bus.moved_on
-    c.reserve.new.self many c.in_ok-reserve.ensures.taken c.bump.new.self c.bump.new.counters (Some why) up (ap (λ (l : ℕ). 64 + bump_messages l) c.requires.levels) u.pads u.room in
-    record {
-      written = subst (λ (s : Option MemStop). IsWrite (terms_of h m d n old) c.args.limit c.args.line c.args.bytes.now old counters c.bump.new.self c.bump.new.counters s) (sym stop)
-          (stopped_early h m d n old counters c.bump.new.self c.bump.new.counters why
-          (mid_reached h m d n old counters c.get.new.self c.get.new.counters got (g.met.B.Bus.unmoved c.get.new.self.bus) g.met.B.Bus.moved_on
-          c.reserve.new.self many c.in_ok-reserve.ensures.taken c.bump.new.self c.bump.new.counters (Some why) up)
-          c.args.limit c.args.line c.args.bytes.now c.requires.risen (λ page is. u.unspent page (ap (λ (s : MemStop). Err s) is)) (inr (room.0, room.2))
-          (λ place is.
-          let there = u.tampered place (ap (λ (s : MemStop). Err s) is) in (
-            rw (← c.page_of-page.ensures.page, ← same_levels) there.0,
-            mid_lied h m d n old counters c.get.new.self c.get.new.counters got (g.met.B.Bus.unmoved c.get.new.self.bus) g.met.B.Bus.moved_on
-                c.reserve.new.self many c.in_ok-reserve.ensures.taken c.bump.new.self c.bump.new.counters (Some why) up (there.1 up_fits),
-          ))
-          (λ quiet last.
-          let before = quiet_before c.reserve.new.self.engine.evidence c.bump.new.self.engine.evidence u.step.step.evidence quiet in
-          let got_quiet : c.get.new.self.engine.evidence ≡ None =
-          sym (ap (λ (o : OutsideView g.row.B.Denot g.row.T.Denot). o.engine.evidence) c.in_ok-reserve.ensures.taken) ∙ before in
-          absurd (not_last h m d n old counters c.requires.current c.args.limit c.args.line c.page_of-page.result c.place_of-place.result c.get.new.self c.get.new.counters
-          c.in_ok-block.block c.get-2.result c.of.result had got_quiet c.in_default.not-Spent c.of.ensures.spent.1 last)));
-      once = λ quiet short. (
-        omega (arith, e.once, same_accesses, u.once, same_levels),
-        λ other. u.step.lines.reads other ∙ ap (λ (t : BusHistory). t.reads (line_place other)) same_bus ∙ e.step.lines.reads other,
-      );
-      few = omega (arith, e.once, same_accesses, u.once, same_levels);
-    }
+returns-in_err-counter g c = let refused = c.in_err-counter.ensures.ok in absurd (cc)
 
 pub returns-in-Spent-2 : goal.returns-in-Spent-2
 returns-in-Spent-2 g c =
@@ -229,46 +170,31 @@ returns-in-Spent-2 g c =
       page_is = c.page_of-page.ensures.page;
       place_is = c.place_of-place.ensures.place;
       same = e.same c.requires.fits;
+      copies = e.copies;
       block_is = e.block c.requires.fits;
       is_block = e.is_block;
       counter_is = c.get-2.ensures.counter;
       foreseen_is = c.of.ensures.outcome;
     } in
-    let many : ℕ = 64 + bump_messages c.args.levels in
-    let up_fits = roomy_fits h m d n old counters c.get.new.self c.get.new.counters got (g.met.B.Bus.unmoved c.get.new.self.bus) g.met.B.Bus.moved_on
-    c.reserve.new.self many c.in_ok-reserve.ensures.taken in
     let same_bus : h c.reserve.new.self.bus ≡ h c.get.new.self.bus =
     ap (λ (o : OutsideView g.row.B.Denot g.row.T.Denot). h o.bus) c.in_ok-reserve.ensures.taken in
     let same_levels : c.reserve.new.self.engine.levels ≡ old.engine.levels =
     ap (λ (o : OutsideView g.row.B.Denot g.row.T.Denot). o.engine.levels) c.in_ok-reserve.ensures.taken ∙ e.step.step.levels in
     let same_accesses = ap (λ (t : BusHistory). t.accesses) same_bus in
     let u = c.in_ok-counter.ensures in
-    let up : CountedUp h m d n old counters c.requires.current c.args.limit c.args.line c.page_of-page.result c.place_of-place.result c.get.new.self c.get.new.counters
-    c.in_ok-block.block c.get-2.result c.of.result had c.reserve.new.self c.bump.new.self c.bump.new.counters many c.in_ok-counter.field-0 = record {
-      taken = c.in_ok-reserve.ensures.taken;
-      reached = record {
-        node = u.step;
-        levels = u.levels;
-        fits = λ going. u.fits up_fits;
-        accounted = u.accounted up_fits;
-        shows = u.shows up_fits;
-      };
-      many = ap (λ (l : ℕ). 64 + bump_messages l) c.requires.levels;
-      pads = u.pads;
-      room = u.room;
-      outcome_is = u.outcome up_fits;
-      now = u.block up_fits;
-      others = u.others;
-    } in
+    let bumped_accesses = ap (λ (t : BusHistory). t.accesses) u.idle.0 in
+    let up = counted_up h m d n old counters c.requires.current c.args.limit c.args.line c.page_of-page.result c.place_of-place.result c.get.new.self c.get.new.counters
+    c.in_ok-block.block c.get-2.result c.of.result had (g.met.B.Bus.unmoved c.get.new.self.bus) g.met.B.Bus.moved_on c.reserve.new.self c.bump.new.self c.bump.new.counters
+    c.in_ok-counter.field-0 c.in_ok-reserve.ensures.taken u.moved u.idle u.pads u.levels u.copies u.fits u.outcome u.block u.others in
     record {
       written = spent_after h m d n old counters c.requires.current c.args.limit c.args.line c.page_of-page.result c.place_of-place.result c.get.new.self c.get.new.counters
           c.in_ok-block.block c.get-2.result c.of.result had (g.met.B.Bus.unmoved c.get.new.self.bus) g.met.B.Bus.moved_on c.reserve.new.self c.bump.new.self c.bump.new.counters
-          many c.in_ok-counter.field-0 up c.args.bytes.now c.requires.risen c.in-Spent-2.is c.in_default.not-Spent;
+          c.in_ok-counter.field-0 up c.args.bytes.now c.requires.risen c.in-Spent-2.is c.in_default.not-Spent;
       once = λ quiet short. (
-        omega (arith, e.once, same_accesses, u.once, same_levels),
-        λ other. u.step.lines.reads other ∙ ap (λ (t : BusHistory). t.reads (line_place other)) same_bus ∙ e.step.lines.reads other,
+        omega (arith, e.once, same_accesses, bumped_accesses, same_levels),
+        λ other. ap (λ (t : BusHistory). t.reads (line_place other)) u.idle.0 ∙ ap (λ (t : BusHistory). t.reads (line_place other)) same_bus ∙ e.step.lines.reads other,
       );
-      few = omega (arith, e.once, same_accesses, u.once, same_levels);
+      few = omega (arith, e.once, same_accesses, bumped_accesses, same_levels);
     }
 
 pub returns-in_err-seal-in-Line : goal.returns-in_err-seal-in-Line
@@ -294,37 +220,22 @@ returns-in_err-seal-in-Line g c =
       page_is = c.page_of-page.ensures.page;
       place_is = c.place_of-place.ensures.place;
       same = e.same c.requires.fits;
+      copies = e.copies;
       block_is = e.block c.requires.fits;
       is_block = e.is_block;
       counter_is = c.get-2.ensures.counter;
       foreseen_is = c.of.ensures.outcome;
     } in
-    let many : ℕ = 64 + bump_messages c.args.levels in
-    let up_fits = roomy_fits h m d n old counters c.get.new.self c.get.new.counters got (g.met.B.Bus.unmoved c.get.new.self.bus) g.met.B.Bus.moved_on
-    c.reserve.new.self many c.in_ok-reserve.ensures.taken in
     let same_bus : h c.reserve.new.self.bus ≡ h c.get.new.self.bus =
     ap (λ (o : OutsideView g.row.B.Denot g.row.T.Denot). h o.bus) c.in_ok-reserve.ensures.taken in
     let same_levels : c.reserve.new.self.engine.levels ≡ old.engine.levels =
     ap (λ (o : OutsideView g.row.B.Denot g.row.T.Denot). o.engine.levels) c.in_ok-reserve.ensures.taken ∙ e.step.step.levels in
     let same_accesses = ap (λ (t : BusHistory). t.accesses) same_bus in
     let u = c.in_ok-counter.ensures in
-    let up : CountedUp h m d n old counters c.requires.current c.args.limit c.args.line c.page_of-page.result c.place_of-place.result c.get.new.self c.get.new.counters
-    c.in_ok-block.block c.get-2.result c.of.result had c.reserve.new.self c.bump.new.self c.bump.new.counters many c.in_ok-counter.field-0 = record {
-      taken = c.in_ok-reserve.ensures.taken;
-      reached = record {
-        node = u.step;
-        levels = u.levels;
-        fits = λ going. u.fits up_fits;
-        accounted = u.accounted up_fits;
-        shows = u.shows up_fits;
-      };
-      many = ap (λ (l : ℕ). 64 + bump_messages l) c.requires.levels;
-      pads = u.pads;
-      room = u.room;
-      outcome_is = u.outcome up_fits;
-      now = u.block up_fits;
-      others = u.others;
-    } in
+    let bumped_accesses = ap (λ (t : BusHistory). t.accesses) u.idle.0 in
+    let up = counted_up h m d n old counters c.requires.current c.args.limit c.args.line c.page_of-page.result c.place_of-place.result c.get.new.self c.get.new.counters
+    c.in_ok-block.block c.get-2.result c.of.result had (g.met.B.Bus.unmoved c.get.new.self.bus) g.met.B.Bus.moved_on c.reserve.new.self c.bump.new.self c.bump.new.counters
+    c.in_ok-counter.field-0 c.in_ok-reserve.ensures.taken u.moved u.idle u.pads u.levels u.copies u.fits u.outcome u.block u.others in
     let stop : stop_of c.from_residual-in_err-seal-in-Line.result ≡ Some NoMemory = search rules in
     let s = c.seal.ensures in
     let same_last : h c.seal.new.self.bus ≡ h c.bump.new.self.bus = c.in_err-seal-in-Line.ensures.err in
@@ -333,15 +244,15 @@ returns-in_err-seal-in-Line g c =
       written = subst (λ (s : Option MemStop). IsWrite (terms_of h m d n old) c.args.limit c.args.line c.args.bytes.now old counters c.seal.new.self c.bump.new.counters s) (sym stop)
           (line_unwritten h m d n old counters c.requires.current c.args.limit c.args.line c.page_of-page.result c.place_of-place.result c.get.new.self c.get.new.counters
           c.in_ok-block.block c.get-2.result c.of.result had (g.met.B.Bus.unmoved c.get.new.self.bus) g.met.B.Bus.moved_on c.reserve.new.self c.bump.new.self c.bump.new.counters
-          many c.in_ok-counter.field-0 up c.requires.started e.read c.args.bytes.now c.in-Line.counter c.in-Line.is
+          c.in_ok-counter.field-0 up c.requires.started e.read c.args.bytes.now c.in-Line.counter c.in-Line.is
           (u.is_line c.in-Line.counter (ap (λ o. Ok o) c.in-Line.is)) c.of.ensures.line c.seal.new.self s.used s.made s.undone s.moves s.moved s.honest
           c.requires.risen same_last);
       once = λ quiet short. (
-        omega (arith, e.once, same_accesses, u.once, same_levels, last_accesses),
-        λ other. ap (λ (t : BusHistory). t.reads (line_place other)) same_last ∙ u.step.lines.reads other
+        omega (arith, e.once, same_accesses, bumped_accesses, same_levels, last_accesses),
+        λ other. ap (λ (t : BusHistory). t.reads (line_place other)) same_last ∙ ap (λ (t : BusHistory). t.reads (line_place other)) u.idle.0
             ∙ ap (λ (t : BusHistory). t.reads (line_place other)) same_bus ∙ e.step.lines.reads other,
       );
-      few = omega (arith, e.once, same_accesses, u.once, same_levels, last_accesses);
+      few = omega (arith, e.once, same_accesses, bumped_accesses, same_levels, last_accesses);
     }
 
 pub returns-in_ok-seal-in-Line : goal.returns-in_ok-seal-in-Line
@@ -367,37 +278,22 @@ returns-in_ok-seal-in-Line g c =
       page_is = c.page_of-page.ensures.page;
       place_is = c.place_of-place.ensures.place;
       same = e.same c.requires.fits;
+      copies = e.copies;
       block_is = e.block c.requires.fits;
       is_block = e.is_block;
       counter_is = c.get-2.ensures.counter;
       foreseen_is = c.of.ensures.outcome;
     } in
-    let many : ℕ = 64 + bump_messages c.args.levels in
-    let up_fits = roomy_fits h m d n old counters c.get.new.self c.get.new.counters got (g.met.B.Bus.unmoved c.get.new.self.bus) g.met.B.Bus.moved_on
-    c.reserve.new.self many c.in_ok-reserve.ensures.taken in
     let same_bus : h c.reserve.new.self.bus ≡ h c.get.new.self.bus =
     ap (λ (o : OutsideView g.row.B.Denot g.row.T.Denot). h o.bus) c.in_ok-reserve.ensures.taken in
     let same_levels : c.reserve.new.self.engine.levels ≡ old.engine.levels =
     ap (λ (o : OutsideView g.row.B.Denot g.row.T.Denot). o.engine.levels) c.in_ok-reserve.ensures.taken ∙ e.step.step.levels in
     let same_accesses = ap (λ (t : BusHistory). t.accesses) same_bus in
     let u = c.in_ok-counter.ensures in
-    let up : CountedUp h m d n old counters c.requires.current c.args.limit c.args.line c.page_of-page.result c.place_of-place.result c.get.new.self c.get.new.counters
-    c.in_ok-block.block c.get-2.result c.of.result had c.reserve.new.self c.bump.new.self c.bump.new.counters many c.in_ok-counter.field-0 = record {
-      taken = c.in_ok-reserve.ensures.taken;
-      reached = record {
-        node = u.step;
-        levels = u.levels;
-        fits = λ going. u.fits up_fits;
-        accounted = u.accounted up_fits;
-        shows = u.shows up_fits;
-      };
-      many = ap (λ (l : ℕ). 64 + bump_messages l) c.requires.levels;
-      pads = u.pads;
-      room = u.room;
-      outcome_is = u.outcome up_fits;
-      now = u.block up_fits;
-      others = u.others;
-    } in
+    let bumped_accesses = ap (λ (t : BusHistory). t.accesses) u.idle.0 in
+    let up = counted_up h m d n old counters c.requires.current c.args.limit c.args.line c.page_of-page.result c.place_of-place.result c.get.new.self c.get.new.counters
+    c.in_ok-block.block c.get-2.result c.of.result had (g.met.B.Bus.unmoved c.get.new.self.bus) g.met.B.Bus.moved_on c.reserve.new.self c.bump.new.self c.bump.new.counters
+    c.in_ok-counter.field-0 c.in_ok-reserve.ensures.taken u.moved u.idle u.pads u.levels u.copies u.fits u.outcome u.block u.others in
     let s = c.seal.ensures in
     let wrote = c.in_ok-seal-in-Line.ensures.ok in
     let put = sealed_line (tags_of d n c.bump.new.self.engine) c.args.line c.in-Line.counter
@@ -407,15 +303,15 @@ returns-in_ok-seal-in-Line g c =
     record {
       written = line_written h m d n old counters c.requires.current c.args.limit c.args.line c.page_of-page.result c.place_of-place.result c.get.new.self c.get.new.counters
           c.in_ok-block.block c.get-2.result c.of.result had (g.met.B.Bus.unmoved c.get.new.self.bus) g.met.B.Bus.moved_on c.reserve.new.self c.bump.new.self c.bump.new.counters
-          many c.in_ok-counter.field-0 up c.requires.started e.read c.args.bytes.now c.in-Line.counter c.in-Line.is
+          c.in_ok-counter.field-0 up c.requires.started e.read c.args.bytes.now c.in-Line.counter c.in-Line.is
           (u.is_line c.in-Line.counter (ap (λ o. Ok o) c.in-Line.is)) c.of.ensures.line c.seal.new.self s.used s.made s.undone s.moves s.moved s.honest
           c.requires.risen wrote;
       once = λ quiet short. (
-        omega (arith, e.once, same_accesses, u.once, same_levels, last_accesses),
-        λ other. ap (λ (f : Place → ℕ). f (line_place other)) one.reads ∙ u.step.lines.reads other
+        omega (arith, e.once, same_accesses, bumped_accesses, same_levels, last_accesses),
+        λ other. ap (λ (f : Place → ℕ). f (line_place other)) one.reads ∙ ap (λ (t : BusHistory). t.reads (line_place other)) u.idle.0
             ∙ ap (λ (t : BusHistory). t.reads (line_place other)) same_bus ∙ e.step.lines.reads other,
       );
-      few = omega (arith, e.once, same_accesses, u.once, same_levels, last_accesses);
+      few = omega (arith, e.once, same_accesses, bumped_accesses, same_levels, last_accesses);
     }
 
 pub reencrypt_page-requires : goal.reencrypt_page-requires
@@ -441,59 +337,44 @@ reencrypt_page-requires g c =
       page_is = c.page_of-page.ensures.page;
       place_is = c.place_of-place.ensures.place;
       same = e.same c.requires.fits;
+      copies = e.copies;
       block_is = e.block c.requires.fits;
       is_block = e.is_block;
       counter_is = c.get-2.ensures.counter;
       foreseen_is = c.of.ensures.outcome;
     } in
-    let many : ℕ = 64 + bump_messages c.args.levels in
-    let up_fits = roomy_fits h m d n old counters c.get.new.self c.get.new.counters got (g.met.B.Bus.unmoved c.get.new.self.bus) g.met.B.Bus.moved_on
-    c.reserve.new.self many c.in_ok-reserve.ensures.taken in
     let same_bus : h c.reserve.new.self.bus ≡ h c.get.new.self.bus =
     ap (λ (o : OutsideView g.row.B.Denot g.row.T.Denot). h o.bus) c.in_ok-reserve.ensures.taken in
     let same_levels : c.reserve.new.self.engine.levels ≡ old.engine.levels =
     ap (λ (o : OutsideView g.row.B.Denot g.row.T.Denot). o.engine.levels) c.in_ok-reserve.ensures.taken ∙ e.step.step.levels in
     let same_accesses = ap (λ (t : BusHistory). t.accesses) same_bus in
     let u = c.in_ok-counter.ensures in
-    let up : CountedUp h m d n old counters c.requires.current c.args.limit c.args.line c.page_of-page.result c.place_of-place.result c.get.new.self c.get.new.counters
-    c.in_ok-block.block c.get-2.result c.of.result had c.reserve.new.self c.bump.new.self c.bump.new.counters many c.in_ok-counter.field-0 = record {
-      taken = c.in_ok-reserve.ensures.taken;
-      reached = record {
-        node = u.step;
-        levels = u.levels;
-        fits = λ going. u.fits up_fits;
-        accounted = u.accounted up_fits;
-        shows = u.shows up_fits;
-      };
-      many = ap (λ (l : ℕ). 64 + bump_messages l) c.requires.levels;
-      pads = u.pads;
-      room = u.room;
-      outcome_is = u.outcome up_fits;
-      now = u.block up_fits;
-      others = u.others;
-    } in
+    let bumped_accesses = ap (λ (t : BusHistory). t.accesses) u.idle.0 in
+    let up = counted_up h m d n old counters c.requires.current c.args.limit c.args.line c.page_of-page.result c.place_of-place.result c.get.new.self c.get.new.counters
+    c.in_ok-block.block c.get-2.result c.of.result had (g.met.B.Bus.unmoved c.get.new.self.bus) g.met.B.Bus.moved_on c.reserve.new.self c.bump.new.self c.bump.new.counters
+    c.in_ok-counter.field-0 c.in_ok-reserve.ensures.taken u.moved u.idle u.pads u.levels u.copies u.fits u.outcome u.block u.others in
     let rooms = mid_rooms h m d n old counters c.requires.current c.args.limit c.args.line c.page_of-page.result c.place_of-place.result c.get.new.self c.get.new.counters
     c.in_ok-block.block c.get-2.result c.of.result had (g.met.B.Bus.unmoved c.get.new.self.bus) g.met.B.Bus.moved_on c.reserve.new.self c.bump.new.self c.bump.new.counters
-    many c.in_ok-counter.field-0 up in
+    c.in_ok-counter.field-0 up in
     record {
       inside = mid_inside h m d n old counters c.requires.current c.args.limit c.args.line c.page_of-page.result c.place_of-place.result c.get.new.self c.get.new.counters
           c.in_ok-block.block c.get-2.result c.of.result had (g.met.B.Bus.unmoved c.get.new.self.bus) g.met.B.Bus.moved_on c.reserve.new.self c.bump.new.self c.bump.new.counters
-          many c.in_ok-counter.field-0 up;
+          c.in_ok-counter.field-0 up;
       consistent = mid_kept h m d n old counters c.requires.current c.args.limit c.args.line c.page_of-page.result c.place_of-place.result c.get.new.self c.get.new.counters
           c.in_ok-block.block c.get-2.result c.of.result had (g.met.B.Bus.unmoved c.get.new.self.bus) g.met.B.Bus.moved_on c.reserve.new.self c.bump.new.self c.bump.new.counters
-          many c.in_ok-counter.field-0 up;
+          c.in_ok-counter.field-0 up;
       holds_last = mid_last h m d n old counters c.requires.current c.args.limit c.args.line c.page_of-page.result c.place_of-place.result c.get.new.self c.get.new.counters
           c.in_ok-block.block c.get-2.result c.of.result had (g.met.B.Bus.unmoved c.get.new.self.bus) g.met.B.Bus.moved_on c.reserve.new.self c.bump.new.self c.bump.new.counters
-          many c.in_ok-counter.field-0 up;
+          c.in_ok-counter.field-0 up;
       risen = mid_rose h m d n old counters c.requires.current c.args.limit c.args.line c.page_of-page.result c.place_of-place.result c.get.new.self c.get.new.counters
           c.in_ok-block.block c.get-2.result c.of.result had (g.met.B.Bus.unmoved c.get.new.self.bus) g.met.B.Bus.moved_on c.reserve.new.self c.bump.new.self c.bump.new.counters
-          many c.in_ok-counter.field-0 up c.requires.risen;
+          c.in_ok-counter.field-0 up c.requires.risen;
       counters = mid_counters h m d n old counters c.requires.current c.args.limit c.args.line c.page_of-page.result c.place_of-place.result c.get.new.self c.get.new.counters
           c.in_ok-block.block c.get-2.result c.of.result had (g.met.B.Bus.unmoved c.get.new.self.bus) g.met.B.Bus.moved_on c.reserve.new.self c.bump.new.self c.bump.new.counters
-          many c.in_ok-counter.field-0 up c.requires.started;
+          c.in_ok-counter.field-0 up c.requires.started;
       later = mid_later h m d n old counters c.requires.current c.args.limit c.args.line c.page_of-page.result c.place_of-place.result c.get.new.self c.get.new.counters
           c.in_ok-block.block c.get-2.result c.of.result had (g.met.B.Bus.unmoved c.get.new.self.bus) g.met.B.Bus.moved_on c.reserve.new.self c.bump.new.self c.bump.new.counters
-          many c.in_ok-counter.field-0 up c.in-Page.raised c.in-Page.is c.of.ensures.overflow;
+          c.in_ok-counter.field-0 up c.in-Page.raised c.in-Page.is c.of.ensures.overflow;
       room = rooms.1;
       pads_room = rooms.0;
     }
@@ -521,46 +402,31 @@ returns-in-Page g c =
       page_is = c.page_of-page.ensures.page;
       place_is = c.place_of-place.ensures.place;
       same = e.same c.requires.fits;
+      copies = e.copies;
       block_is = e.block c.requires.fits;
       is_block = e.is_block;
       counter_is = c.get-2.ensures.counter;
       foreseen_is = c.of.ensures.outcome;
     } in
-    let many : ℕ = 64 + bump_messages c.args.levels in
-    let up_fits = roomy_fits h m d n old counters c.get.new.self c.get.new.counters got (g.met.B.Bus.unmoved c.get.new.self.bus) g.met.B.Bus.moved_on
-    c.reserve.new.self many c.in_ok-reserve.ensures.taken in
     let same_bus : h c.reserve.new.self.bus ≡ h c.get.new.self.bus =
     ap (λ (o : OutsideView g.row.B.Denot g.row.T.Denot). h o.bus) c.in_ok-reserve.ensures.taken in
     let same_levels : c.reserve.new.self.engine.levels ≡ old.engine.levels =
     ap (λ (o : OutsideView g.row.B.Denot g.row.T.Denot). o.engine.levels) c.in_ok-reserve.ensures.taken ∙ e.step.step.levels in
     let same_accesses = ap (λ (t : BusHistory). t.accesses) same_bus in
     let u = c.in_ok-counter.ensures in
-    let up : CountedUp h m d n old counters c.requires.current c.args.limit c.args.line c.page_of-page.result c.place_of-place.result c.get.new.self c.get.new.counters
-    c.in_ok-block.block c.get-2.result c.of.result had c.reserve.new.self c.bump.new.self c.bump.new.counters many c.in_ok-counter.field-0 = record {
-      taken = c.in_ok-reserve.ensures.taken;
-      reached = record {
-        node = u.step;
-        levels = u.levels;
-        fits = λ going. u.fits up_fits;
-        accounted = u.accounted up_fits;
-        shows = u.shows up_fits;
-      };
-      many = ap (λ (l : ℕ). 64 + bump_messages l) c.requires.levels;
-      pads = u.pads;
-      room = u.room;
-      outcome_is = u.outcome up_fits;
-      now = u.block up_fits;
-      others = u.others;
-    } in
+    let bumped_accesses = ap (λ (t : BusHistory). t.accesses) u.idle.0 in
+    let up = counted_up h m d n old counters c.requires.current c.args.limit c.args.line c.page_of-page.result c.place_of-place.result c.get.new.self c.get.new.counters
+    c.in_ok-block.block c.get-2.result c.of.result had (g.met.B.Bus.unmoved c.get.new.self.bus) g.met.B.Bus.moved_on c.reserve.new.self c.bump.new.self c.bump.new.counters
+    c.in_ok-counter.field-0 c.in_ok-reserve.ensures.taken u.moved u.idle u.pads u.levels u.copies u.fits u.outcome u.block u.others in
     let p = c.reencrypt_page.ensures in
     record {
       written = page_written h m d n old counters c.requires.current c.args.limit c.args.line c.page_of-page.result c.place_of-place.result c.get.new.self c.get.new.counters
           c.in_ok-block.block c.get-2.result c.of.result had (g.met.B.Bus.unmoved c.get.new.self.bus) g.met.B.Bus.moved_on c.reserve.new.self c.bump.new.self c.bump.new.counters
-          many c.in_ok-counter.field-0 up c.requires.started e.read c.args.bytes.now c.in-Page.raised c.in-Page.is c.of.ensures.overflow
+          c.in_ok-counter.field-0 up c.requires.started e.read c.args.bytes.now c.in-Page.raised c.in-Page.is c.of.ensures.overflow
           c.reencrypt_page.new.self (stop_of c.reencrypt_page.result) p.sealed;
       once = λ quiet short. absurd (short (page_overflows h m d n old counters c.requires.current c.args.limit c.args.line c.page_of-page.result c.place_of-place.result c.get.new.self c.get.new.counters
           c.in_ok-block.block c.get-2.result c.of.result had (g.met.B.Bus.unmoved c.get.new.self.bus) g.met.B.Bus.moved_on c.reserve.new.self c.bump.new.self c.bump.new.counters
-          many c.in_ok-counter.field-0 up c.requires.started e.read c.args.bytes.now c.in-Page.raised c.in-Page.is c.of.ensures.overflow
+          c.in_ok-counter.field-0 up c.requires.started e.read c.args.bytes.now c.in-Page.raised c.in-Page.is c.of.ensures.overflow
           c.reencrypt_page.new.self (stop_of c.reencrypt_page.result) p.sealed quiet));
-      few = omega (arith, e.once, same_accesses, u.once, same_levels, p.once);
+      few = omega (arith, e.once, same_accesses, bumped_accesses, same_levels, p.once);
     }

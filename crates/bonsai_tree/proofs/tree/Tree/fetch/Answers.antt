@@ -1,30 +1,125 @@
-use Rattle.std.proofs.Common.{◌≡◌, ℕ, ap, ◌∙◌, arith, rules, slice_index_or, []}
-use Rattle.sec_base.specs.LastMessage.{last_node}
-use Rattle.bonsai_tree.specs.Node.{block_or_zeros, path_index}
-use Rattle.bonsai_tree.proofs.Paths.{path_first}
+use Rattle.std.proofs.Common.{◌≡◌, ◌+◌, ◌/◌, ◌≤◌, length, Option, Some, refl, ap, sym, subst, arith, rules}
+use Rattle.sec_base.specs.Geometry.{IsNode}
+use Rattle.sec_base.specs.declared.evidence.Evidence.TheVariants.{Collision}
+use Rattle.sec_base.specs.declared.place.Place.TheVariants.{Node as node_place}
+use Rattle.sec_base.specs.declared.stop.MemStop.{MemStop}
+use Rattle.sec_base.specs.declared.stop.MemStop.TheVariants.{Tampered}
+use Rattle.tag_engine.specs.TagEngine.{tags_of}
+use Rattle.checked_bus.specs.Accesses.{WritesMessages}
 use Rattle.checked_bus.specs.Steps.{stop_of, unwritten_in}
-use Rattle.checked_bus.proofs.Writes.{reads_alone}
+use Rattle.bonsai_tree.specs.Climb.{Climbs}
+use Rattle.bonsai_tree.specs.Tree.{path_accesses}
+use Rattle.bonsai_tree.proofs.Copies.{few_copies}
+use Rattle.bonsai_tree.proofs.Nodes.{NodeRead, node_found}
+use Rattle.bonsai_tree.proofs.PathCalls.{climb_room, climb_writes, fetched, fetched_accepted, fetched_block, fetched_checked, fetched_found, fetched_pages, fetched_read, not_from_one, ok_of, page_node, path_more, read_most, stop_of_err}
+use Rattle.bonsai_tree.proofs.Views.{latest_cached}
+use Rattle.bonsai_tree.proofs.tree.Tree.fetch.Given.{Over}
 use Rattle.bonsai_tree.proofs.tree.Tree.fetch.Goals as goal
 
-pub returns-in_err-read_path-clause-writes : goal.returns-in_err-read_path-clause-writes
-returns-in_err-read_path-clause-writes g c = λ more is.
-    reads_alone (g.B.Bus.history c.args.bus.now) (g.B.Bus.history c.read_path.new.bus) c.args.tags.now.made c.read_path.new.tags.made more
-    (unwritten_in (stop_of c.from_residual.result)) c.read_path.ensures.read.made c.read_path.ensures.read.counted is
+own_node : (g : Over) (c : goal.After-read_node g) → IsNode c.args.self.now.levels 0 c.args.page
+own_node g c = page_node c.args.self.now.levels c.args.page c.requires.page
+
+-- the read of the page's own node
+own_read : (g : Over) (c : goal.After-read_node g) → NodeRead (tags_of g.T.Tagger.data_tag_of g.T.Tagger.node_tag_of) 0 c.args.page c.kept_tag-tag.result (g.B.Bus.history c.parent_present.new.bus) c.parent_present.new.tags (g.B.Bus.history c.read_node.new.bus) c.read_node.new.tags c.read_node.result
+own_read g c = record {
+  moves = c.read_node.ensures.moves;
+  once = c.read_node.ensures.once;
+  lines = c.read_node.ensures.lines;
+  honest = c.read_node.ensures.honest;
+  shown = c.read_node.ensures.shown;
+  found = node_found (tags_of g.T.Tagger.data_tag_of g.T.Tagger.node_tag_of c.parent_present.new.tags) 0 c.args.page c.kept_tag-tag.result (g.B.Bus.history c.parent_present.new.bus) (g.B.Bus.history c.read_node.new.bus) c.parent_present.new.tags c.read_node.new.tags c.read_node.result c.read_node.ensures.read;
+  tampered = c.read_node.ensures.tampered;
+  unspent = c.read_node.ensures.unspent;
+}
+
+-- the whole call
+whole : (g : Over) (c : goal.After-read_node g) → Climbs (tags_of g.T.Tagger.data_tag_of g.T.Tagger.node_tag_of) 0 c.args.self.now (g.B.Bus.history c.args.bus.now) c.args.tags.now c.parent_present.new.self (g.B.Bus.history c.read_node.new.bus) c.read_node.new.tags (stop_of c.read_node.result)
+whole g c =
+    fetched g.T.Tagger.data_tag_of g.T.Tagger.node_tag_of c.args.self.now c.parent_present.new.self c.args.page c.kept_tag-tag.result (g.B.Bus.history c.args.bus.now) (g.B.Bus.history c.parent_present.new.bus) (g.B.Bus.history c.read_node.new.bus) c.args.tags.now c.parent_present.new.tags c.read_node.new.tags c.read_node.result (own_node g c) c.in_ok-parent_present.ensures.climbs c.kept_tag-tag.ensures (own_read g c)
+
+pub returns-in_err-parent_present-clause-accepted : goal.returns-in_err-parent_present-clause-accepted
+returns-in_err-parent_present-clause-accepted g c = λ made_at bytes tag quiet is.
+    absurd (not_from_one c.args.self.now.levels c.args.page (node_place 0 c.args.page) refl (c.in_err-parent_present.ensures.climbs.found quiet (Collision 0 c.args.page made_at bytes tag) is))
+
+pub returns-in_err-parent_present-clause-few_copies : goal.returns-in_err-parent_present-clause-few_copies
+returns-in_err-parent_present-clause-few_copies g c = λ level. few_copies c.parent_present.new.self.levels c.parent_present.new.self.caches level c.in_err-parent_present.ensures.nodes
+
+pub returns-in_err-parent_present-clause-new_copies : goal.returns-in_err-parent_present-clause-new_copies
+returns-in_err-parent_present-clause-new_copies g c = c.in_err-parent_present.ensures.climbs.read
+
+pub returns-in_err-parent_present-clause-writes : goal.returns-in_err-parent_present-clause-writes
+returns-in_err-parent_present-clause-writes g c = λ more is.
+    let why = c.in_err-parent_present.field-0.0 in
+    let stop : stop_of c.from_residual.result ≡ Some why = search rules in
+    subst (λ (s : Option MemStop). WritesMessages (g.B.Bus.history c.args.bus.now) (g.B.Bus.history c.parent_present.new.bus) (length more) (unwritten_in s)) (sym stop)
+    (climb_writes g.T.Tagger.data_tag_of g.T.Tagger.node_tag_of (0 + 1) c.args.self.now c.parent_present.new.self (g.B.Bus.history c.args.bus.now) (g.B.Bus.history c.parent_present.new.bus) c.args.tags.now c.parent_present.new.tags (Some why) c.in_err-parent_present.ensures.climbs more is)
+
+pub returns-clause-holds : goal.returns-clause-holds
+returns-clause-holds g c = λ holds.
+    ok_of c.read_node.result (λ going. (whole g c).holds holds going)
+
+pub returns-clause-block : goal.returns-clause-block
+returns-clause-block g c =
+    fetched_block g.T.Tagger.data_tag_of g.T.Tagger.node_tag_of c.args.self.now c.parent_present.new.self c.args.page c.kept_tag-tag.result (g.B.Bus.history c.args.bus.now) (g.B.Bus.history c.parent_present.new.bus) (g.B.Bus.history c.read_node.new.bus) c.args.tags.now c.parent_present.new.tags c.read_node.new.tags c.read_node.result (own_node g c) c.in_ok-parent_present.ensures.climbs c.kept_tag-tag.ensures (own_read g c) c.read_node.ensures.known
+
+pub returns-clause-pages : goal.returns-clause-pages
+returns-clause-pages g c =
+    fetched_pages g.T.Tagger.data_tag_of g.T.Tagger.node_tag_of c.args.self.now c.parent_present.new.self c.args.page c.kept_tag-tag.result (g.B.Bus.history c.args.bus.now) (g.B.Bus.history c.parent_present.new.bus) (g.B.Bus.history c.read_node.new.bus) c.args.tags.now c.parent_present.new.tags c.read_node.new.tags c.read_node.result (own_node g c) c.in_ok-parent_present.ensures.climbs c.kept_tag-tag.ensures (own_read g c)
+
+pub returns-clause-honest : goal.returns-clause-honest
+returns-clause-honest g c = λ used holds was.
+    (whole g c).honest holds used was
+
+pub returns-clause-accepted : goal.returns-clause-accepted
+returns-clause-accepted g c =
+    fetched_accepted g.T.Tagger.data_tag_of g.T.Tagger.node_tag_of c.args.self.now c.parent_present.new.self c.args.page c.kept_tag-tag.result (g.B.Bus.history c.args.bus.now) (g.B.Bus.history c.parent_present.new.bus) (g.B.Bus.history c.read_node.new.bus) c.args.tags.now c.parent_present.new.tags c.read_node.new.tags c.read_node.result (own_node g c) c.in_ok-parent_present.ensures.climbs c.kept_tag-tag.ensures (own_read g c) (λ made_at bytes under still is. (c.read_node.ensures.accepted 0 c.args.page made_at bytes under still is).3)
+
+pub returns-clause-found : goal.returns-clause-found
+returns-clause-found g c =
+    fetched_found g.T.Tagger.data_tag_of g.T.Tagger.node_tag_of c.args.self.now c.parent_present.new.self c.args.page c.kept_tag-tag.result (g.B.Bus.history c.args.bus.now) (g.B.Bus.history c.parent_present.new.bus) (g.B.Bus.history c.read_node.new.bus) c.args.tags.now c.parent_present.new.tags c.read_node.new.tags c.read_node.result (own_node g c) c.in_ok-parent_present.ensures.climbs c.kept_tag-tag.ensures (own_read g c)
+
+pub returns-clause-shown : goal.returns-clause-shown
+returns-clause-shown g c =
+    (whole g c).shown
+
+pub returns-clause-tampered : goal.returns-clause-tampered
+returns-clause-tampered g c = λ place is holds quiet.
+    (whole g c).lied holds quiet place (stop_of_err c.read_node.result (Tampered place) is)
+
+pub returns-clause-checked : goal.returns-clause-checked
+returns-clause-checked g c =
+    fetched_checked g.T.Tagger.data_tag_of g.T.Tagger.node_tag_of c.args.self.now c.parent_present.new.self c.args.page c.kept_tag-tag.result (g.B.Bus.history c.args.bus.now) (g.B.Bus.history c.parent_present.new.bus) (g.B.Bus.history c.read_node.new.bus) c.args.tags.now c.parent_present.new.tags c.read_node.new.tags c.read_node.result (own_node g c) c.in_ok-parent_present.ensures.climbs c.kept_tag-tag.ensures (own_read g c) c.read_node.ensures.read
+
+pub returns-clause-parent : goal.returns-clause-parent
+returns-clause-parent g c =
+    ok_of c.read_node.result (λ going.
+    let inside : 1 ≤ c.parent_present.new.self.levels = omega (arith, c.in_ok-parent_present.ensures.climbs.levels, c.in_ok-parent_present.ensures.some) in
+    latest_cached c.parent_present.new.self 1 (c.args.page / 4) c.in_ok-parent_present.ensures.nodes (omega arith) inside
+    (c.in_ok-parent_present.ensures.latest c.in_ok-parent_present.ensures.some))
+
+pub returns-clause-read : goal.returns-clause-read
+returns-clause-read g c =
+    let inside : 1 ≤ c.parent_present.new.self.levels = omega (arith, c.in_ok-parent_present.ensures.climbs.levels, c.in_ok-parent_present.ensures.some) in
+    ok_of c.read_node.result (λ going. fetched_read g.T.Tagger.data_tag_of g.T.Tagger.node_tag_of c.args.self.now c.parent_present.new.self c.args.page c.kept_tag-tag.result (g.B.Bus.history c.args.bus.now) (g.B.Bus.history c.parent_present.new.bus) (g.B.Bus.history c.read_node.new.bus) c.args.tags.now c.parent_present.new.tags c.read_node.new.tags c.read_node.result (own_node g c) c.in_ok-parent_present.ensures.climbs c.kept_tag-tag.ensures (own_read g c) going
+    (latest_cached c.parent_present.new.self 1 (c.args.page / 4) c.in_ok-parent_present.ensures.nodes (omega arith) inside
+    (c.in_ok-parent_present.ensures.latest c.in_ok-parent_present.ensures.some)))
+
+pub returns-clause-once : goal.returns-clause-once
+returns-clause-once g c =
+    omega (arith, c.in_ok-parent_present.ensures.once, path_more c.args.self.now.levels, read_most (g.B.Bus.history c.parent_present.new.bus) (g.B.Bus.history c.read_node.new.bus) c.parent_present.new.tags c.read_node.new.tags (node_place 0 c.args.page) (stop_of c.read_node.result) c.read_node.ensures.once)
+
+pub returns-clause-few_copies : goal.returns-clause-few_copies
+returns-clause-few_copies g c = λ level. few_copies c.parent_present.new.self.levels c.parent_present.new.self.caches level c.in_ok-parent_present.ensures.nodes
+
+pub returns-clause-new_copies : goal.returns-clause-new_copies
+returns-clause-new_copies g c =
+    (whole g c).read
+
+pub returns-clause-room : goal.returns-clause-room
+returns-clause-room g c =
+    climb_room g.T.Tagger.data_tag_of g.T.Tagger.node_tag_of 0 (path_accesses c.args.self.now.levels) c.args.self.now c.parent_present.new.self (g.B.Bus.history c.args.bus.now) (g.B.Bus.history c.read_node.new.bus) c.args.tags.now c.read_node.new.tags (stop_of c.read_node.result) (whole g c)
+    (omega (arith, c.in_ok-parent_present.ensures.few, path_more c.args.self.now.levels, ap length c.read_node.ensures.once.made))
 
 pub returns-clause-writes : goal.returns-clause-writes
 returns-clause-writes g c = λ more is.
-    reads_alone (g.B.Bus.history c.args.bus.now) (g.B.Bus.history c.read_path.new.bus) c.args.tags.now.made c.read_path.new.tags.made more
-    0 c.read_path.ensures.read.made c.read_path.ensures.read.counted is
-
-pub returns-clause-checked : goal.returns-clause-checked
-returns-clause-checked g c = record {
-  path = c.read_path.new.path;
-  leads = record { checked = c.in_ok-read_path.ensures.checked; last = search rules };
-  accepted = c.in_ok-read_path.ensures.kept;
-}
-
-pub returns-clause-block : goal.returns-clause-block
-returns-clause-block g c = λ holds none.
-    let first : slice_index_or c.read_path.new.path 0 [] ≡ block_or_zeros (last_node 0 (path_index c.args.self.now.levels 0 c.args.page) c.args.tags.now.made) =
-    (c.in_ok-read_path.ensures.path_blocks holds none).blocks 0 (omega arith) (omega arith) in
-    first ∙ ap (λ (at : ℕ). block_or_zeros (last_node 0 at c.args.tags.now.made)) (path_first c.args.page)
+    climb_writes g.T.Tagger.data_tag_of g.T.Tagger.node_tag_of 0 c.args.self.now c.parent_present.new.self (g.B.Bus.history c.args.bus.now) (g.B.Bus.history c.read_node.new.bus) c.args.tags.now c.read_node.new.tags (stop_of c.read_node.result) (whole g c) more is

@@ -1,8 +1,6 @@
-use Rattle.std.proofs.Common.{◌≡◌, inl, inr, ℕ, subst, sym}
-use Rattle.std.proofs.lemmas.Bool.{cases_eq}
-use Rattle.counter_cache.specs.Counters.{counters_in}
+use Rattle.std.proofs.Common.{◌≡◌}
 use Rattle.page_reencrypt.specs.Outside.{AreConsistent, HaveLast, HaveLastNodes, OutsideView, terms_of}
-use Rattle.page_reencrypt.proofs.NodeSteps.{fits_after, node_step, none_cached, not_refused, ok_map, shows_by}
+use Rattle.page_reencrypt.proofs.NodeSteps.{fits_after, fits_before, node_step, not_refused, ok_map, shows_by}
 use Rattle.page_reencrypt.proofs.outside.Outside.get.Goals as goal
 
 pub returns-clause-step : goal.returns-clause-step
@@ -23,48 +21,77 @@ returns-clause-step g c =
 
 pub returns-clause-block : goal.returns-clause-block
 returns-clause-block g c = λ fits quiet.
-    rw (← c.self.view_is) (c.get.ensures.counters (record { tree = record { fits = rw (← c.self.view_is) at fits } }) quiet)
+    let old : OutsideView g.row.B.Denot g.row.T.Denot = record { bus = c.self.inside.bus; engine = c.self.inside.tags; pads = c.self.inside.pads } in
+    let was = fits_before g.B.Bus.history g.B.Bus.moved g.T.Tagger.data_tag_of g.T.Tagger.node_tag_of old c.get.new.bus c.get.new.tags c.args.counters.now
+    (rw (← c.self.view_is) at fits) in
+    rw (← c.self.view_is) (c.get.ensures.counters was quiet)
 
 pub returns-clause-same : goal.returns-clause-same
-returns-clause-same g c = λ fits quiet other.
-    let e = c.get.ensures in
-    rw (← c.self.view_is)
-    (elim (cases_eq other c.args.page) [
-      | inl here ↦
-          subst (λ (at : ℕ). counters_in c.get.new.self c.get.new.tags.made at ≡ counters_in c.args.counters.now c.self.inside.tags.made at) (sym here)
-          (e.same_page (record { tree = record { fits = rw (← c.self.view_is) at fits } }) quiet)
-      | inr differs ↦ e.same other differs
-    ])
+returns-clause-same g c = λ fits quiet.
+    let old : OutsideView g.row.B.Denot g.row.T.Denot = record { bus = c.self.inside.bus; engine = c.self.inside.tags; pads = c.self.inside.pads } in
+    let was = fits_before g.B.Bus.history g.B.Bus.moved g.T.Tagger.data_tag_of g.T.Tagger.node_tag_of old c.get.new.bus c.get.new.tags c.args.counters.now
+    (rw (← c.self.view_is) at fits) in
+    rw (← c.self.view_is) (c.get.ensures.same was quiet)
 
 pub returns-clause-fits : goal.returns-clause-fits
 returns-clause-fits g c = λ fits.
     let old : OutsideView g.row.B.Denot g.row.T.Denot = record { bus = c.self.inside.bus; engine = c.self.inside.tags; pads = c.self.inside.pads } in
+    let was = fits_before g.B.Bus.history g.B.Bus.moved g.T.Tagger.data_tag_of g.T.Tagger.node_tag_of old c.get.new.bus c.get.new.tags c.args.counters.now
+    (rw (← c.self.view_is) at fits) in
     let step = c.get.ensures in
     rw (← c.self.view_is)
     (ok_map c.get.result
-    (λ holds. fits_after g.B.Bus.history g.B.Bus.moved g.T.Tagger.data_tag_of g.T.Tagger.node_tag_of old c.get.new.bus c.get.new.tags c.get.new.self.tree
-    step.moves.tagger step.moves.levels holds.tree)
-    (step.holds (record { tree = record { fits = rw (← c.self.view_is) at fits } })))
+    (fits_after g.B.Bus.history g.B.Bus.moved g.T.Tagger.data_tag_of g.T.Tagger.node_tag_of old c.get.new.bus c.get.new.tags c.get.new.self
+    step.moves.tagger step.moves.levels)
+    (step.holds was))
 
 pub returns-clause-shows : goal.returns-clause-shows
 returns-clause-shows g c = λ fits quiet.
-    rw (← c.self.view_is)
-    (shows_by c.get.new.tags.evidence
-    (c.get.ensures.shown (record { tree = record { fits = rw (← c.self.view_is) at fits } }) (rw (← c.self.view_is) at quiet)))
+    let old : OutsideView g.row.B.Denot g.row.T.Denot = record { bus = c.self.inside.bus; engine = c.self.inside.tags; pads = c.self.inside.pads } in
+    let was = fits_before g.B.Bus.history g.B.Bus.moved g.T.Tagger.data_tag_of g.T.Tagger.node_tag_of old c.get.new.bus c.get.new.tags c.args.counters.now
+    (rw (← c.self.view_is) at fits) in
+    rw (← c.self.view_is) (shows_by c.get.new.tags.evidence (c.get.ensures.shown was (rw (← c.self.view_is) at quiet)))
 
 pub returns-clause-accounted : goal.returns-clause-accounted
-returns-clause-accounted g c = λ fits was.
-    rw (← c.self.view_is) (c.get.ensures.honest c.self.inside.pads.used (record { tree = record { fits = rw (← c.self.view_is) at fits } }) (rw (← c.self.view_is) at was))
+returns-clause-accounted g c = λ fits used.
+    let old : OutsideView g.row.B.Denot g.row.T.Denot = record { bus = c.self.inside.bus; engine = c.self.inside.tags; pads = c.self.inside.pads } in
+    let was = fits_before g.B.Bus.history g.B.Bus.moved g.T.Tagger.data_tag_of g.T.Tagger.node_tag_of old c.get.new.bus c.get.new.tags c.args.counters.now
+    (rw (← c.self.view_is) at fits) in
+    rw (← c.self.view_is) (c.get.ensures.honest c.self.inside.pads.used was (rw (← c.self.view_is) at used))
 
 pub returns-clause-accepted : goal.returns-clause-accepted
-returns-clause-accepted g c = λ made_at bytes tag quiet shown. c.get.ensures.accepted made_at bytes tag (rw (← c.self.view_is) at quiet) shown
+returns-clause-accepted g c = λ made_at bytes tag quiet shown.
+    c.get.ensures.accepted made_at bytes tag (rw (← c.self.view_is) at quiet) shown
+
+pub returns-clause-found : goal.returns-clause-found
+returns-clause-found g c = λ evidence quiet shown.
+    rw (← c.requires.levels) (c.get.ensures.found evidence (rw (← c.self.view_is) at quiet) shown)
 
 pub returns-clause-tampered : goal.returns-clause-tampered
 returns-clause-tampered g c = λ place is. (
-  rw (← c.requires.levels) (c.get.ensures.on_path place is),
-  λ fits quiet. rw (← c.self.view_is)
-      (c.get.ensures.tampered place is (record { tree = record { fits = rw (← c.self.view_is) at fits } }) (rw (← c.self.view_is) at quiet)),
+  rw (← c.requires.levels) (c.get.ensures.at_place place is),
+  λ fits quiet.
+      let old : OutsideView g.row.B.Denot g.row.T.Denot = record { bus = c.self.inside.bus; engine = c.self.inside.tags; pads = c.self.inside.pads } in
+      let was = fits_before g.B.Bus.history g.B.Bus.moved g.T.Tagger.data_tag_of g.T.Tagger.node_tag_of old c.get.new.bus c.get.new.tags c.args.counters.now
+      (rw (← c.self.view_is) at fits) in
+      rw (← c.self.view_is) (c.get.ensures.tampered place is was (rw (← c.self.view_is) at quiet)),
 )
 
 pub returns-clause-read : goal.returns-clause-read
-returns-clause-read g c = rw (← c.self.view_is) (c.get.ensures.read (none_cached c.args.page))
+returns-clause-read g c = λ missed.
+    rw (← c.self.view_is) (c.get.ensures.read missed)
+
+pub returns-clause-idle : goal.returns-clause-idle
+returns-clause-idle g c = λ cached.
+    rw (← c.self.view_is) (c.get.ensures.idle cached)
+
+pub returns-clause-copies : goal.returns-clause-copies
+returns-clause-copies g c =
+    let e = c.get.ensures in
+    rw (← c.self.view_is)
+    (record {
+      few_blocks = λ few. e.few_copies;
+      few_nodes = λ level few. e.few_nodes level;
+      blocks = e.new_copies;
+      nodes = e.new_nodes;
+    })

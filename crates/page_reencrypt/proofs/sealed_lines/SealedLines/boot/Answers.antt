@@ -10,15 +10,15 @@ invariant_of-result g c =
       sym levels,
       boot_protected g.T.Tagger.data_tag_of g.T.Tagger.node_tag_of g.B.Bus.history g.B.Bus.moved c.args.bus c.boot.new.bus c.args.tagger c.args.enc_key.now
           c.args.geometry c.args.page_limit c.in-Ok.tags c.boot.new.tags c.in-Ok-new.pads c.in-Ok-boot.counters c.in-Ok.ensures c.in-Ok-new.ensures.fresh
-          c.requires.levels c.requires.nothing_written b.levels b.moves b.lines b.made_blocks b.stored b.quiet b.holds.tree b.zeros,
+          c.requires.levels c.requires.nothing_written b.levels b.moves b.lines b.made_blocks b.stored b.quiet b.holds b.zeros,
     )
 
-pub returns-clause-through : goal.returns-clause-through
-returns-clause-through g c =
+pub returns-clause-fits : goal.returns-clause-fits
+returns-clause-fits g c =
     let b = c.in-Ok-boot.ensures in
     (boot_protected g.T.Tagger.data_tag_of g.T.Tagger.node_tag_of g.B.Bus.history g.B.Bus.moved c.args.bus c.boot.new.bus c.args.tagger c.args.enc_key.now
     c.args.geometry c.args.page_limit c.in-Ok.tags c.boot.new.tags c.in-Ok-new.pads c.in-Ok-boot.counters c.in-Ok.ensures c.in-Ok-new.ensures.fresh
-    c.requires.levels c.requires.nothing_written b.levels b.moves b.lines b.made_blocks b.stored b.quiet b.holds.tree b.zeros).through refl
+    c.requires.levels c.requires.nothing_written b.levels b.moves b.lines b.made_blocks b.stored b.quiet b.holds b.zeros).fits refl
     (b.quiet ∙ ap (λ (e : TagEngineView g.row.T.Denot). e.evidence) c.in-Ok.ensures)
 
 pub returns-in_default-clause-refused : goal.returns-in_default-clause-refused

@@ -1,7 +1,7 @@
 use Rattle.std.proofs.Common.{◌≡◌, ◌<◌, Option, None, Err, ap, sym, ◌∙◌, subst}
 use Rattle.std.specs.Option.{option_or}
 use Rattle.std.specs.Result.{result_err}
-use Rattle.sec_base.specs.Geometry.{line_count}
+use Rattle.sec_base.specs.Geometry.{line_count, page_of}
 use Rattle.sec_base.specs.declared.stop.MemStop.{MemStop}
 use Rattle.tag_engine.specs.TagEngine.{tags_of}
 use Rattle.page_reencrypt.specs.LineMoves.{ReadMoved}
@@ -10,6 +10,7 @@ use Rattle.page_reencrypt.specs.SealedLinesInside.{sealed_lines_view}
 use Rattle.page_reencrypt.specs.Stops.{lasting_stop}
 use Rattle.page_reencrypt.proofs.LineReads.{quiet_before}
 use Rattle.page_reencrypt.proofs.ReadCalls.{lasting_read, read_contents, read_kept, read_moved, read_unsealed, read_value, unsealed_not}
+use Rattle.page_reencrypt.proofs.Reaching.{came_not}
 use Rattle.page_reencrypt.proofs.sealed_lines.SealedLinesLineStore.read_line.Goals as goal
 
 pub returns-in-Some-clause-moved : goal.returns-in-Some-clause-moved
@@ -21,6 +22,11 @@ returns-in-Some-clause-moved g c =
 
 pub returns-in-Some-clause-unsealed : goal.returns-in-Some-clause-unsealed
 returns-in-Some-clause-unsealed g c = unsealed_not g.B.Bus.history c.args.self.now
+
+pub returns-in-Some-clause-copies : goal.returns-in-Some-clause-copies
+returns-in-Some-clause-copies g c =
+    let lines = c.args.self.now in
+    came_not (page_of c.args.line) (g.B.Bus.history lines.bus) lines.engine.made lines.counters
 
 pub invariant_of-self : goal.invariant_of-self
 invariant_of-self g c =
@@ -88,8 +94,8 @@ returns-clause-unsealed g c =
 pub returns-clause-same_counters : goal.returns-clause-same_counters
 returns-clause-same_counters g c = λ _ quiet page. rw (← c.self.view_is) (c.read_at-read.ensures.read.same quiet page)
 
-pub returns-clause-through : goal.returns-clause-through
-returns-clause-through g c =
+pub returns-clause-fits : goal.returns-clause-fits
+returns-clause-fits g c =
     let lines = sealed_lines_view c.self.inside in
     let new = c.read_at-read.new.outside in
     let counters = c.read_at-read.new.counters in
@@ -98,7 +104,7 @@ returns-clause-through g c =
     let stops : c.or-self-inside.result ≡ option_or (result_err c.read_at-read.result) lines.stopped =
     c.or-self-inside.ensures ∙ ap (λ (o : Option MemStop). option_or o lines.stopped) c.err.ensures.value in
     (read_kept g.T.Tagger.data_tag_of g.T.Tagger.node_tag_of g.B.Bus.history g.B.Bus.moved lines c.args.line c.self.invariant.1 going inside new counters
-    c.read_at-read.result c.read_at-read.ensures.read c.or-self-inside.result stops).through
+    c.read_at-read.result c.read_at-read.ensures.read c.or-self-inside.result stops).fits
 
 pub returns-clause-accepted : goal.returns-clause-accepted
 returns-clause-accepted g c = λ at counter sealed made_count _ quiet found.

@@ -1,7 +1,7 @@
 use Rattle.std.proofs.Common.{◌≡◌, ◌<◌, Option, None, Err, ap, sym, ◌∙◌, subst}
 use Rattle.std.specs.Option.{option_or}
 use Rattle.std.specs.Result.{result_err}
-use Rattle.sec_base.specs.Geometry.{line_count}
+use Rattle.sec_base.specs.Geometry.{line_count, page_of}
 use Rattle.sec_base.specs.declared.stop.MemStop.{MemStop}
 use Rattle.tag_engine.specs.TagEngine.{tags_of}
 use Rattle.page_reencrypt.specs.LineMoves.{WriteMoved}
@@ -9,6 +9,7 @@ use Rattle.page_reencrypt.specs.SealedLines.{SealedLinesView}
 use Rattle.page_reencrypt.specs.SealedLinesInside.{sealed_lines_view}
 use Rattle.page_reencrypt.specs.Stops.{lasting_stop}
 use Rattle.page_reencrypt.proofs.Kept.{kept_limited}
+use Rattle.page_reencrypt.proofs.Reaching.{came_not}
 use Rattle.page_reencrypt.proofs.WriteCalls.{lasting_write, on_ok, sealed_none, write_failed, write_kept, write_last_untampered, write_moved, write_refused, write_reread, write_reserved, write_sealed, write_sealed_in_part, write_spent, write_spent_last, write_stored, write_tampered, write_untampered, write_used_up}
 use Rattle.page_reencrypt.proofs.sealed_lines.SealedLinesLineStore.write_line.Goals as goal
 
@@ -22,6 +23,11 @@ returns-in-Some-clause-moved g c =
 
 pub returns-in-Some-clause-sealed_in_part : goal.returns-in-Some-clause-sealed_in_part
 returns-in-Some-clause-sealed_in_part g c = sealed_none c.args.line c.args.bytes.now c.args.self.now
+
+pub returns-in-Some-clause-copies : goal.returns-in-Some-clause-copies
+returns-in-Some-clause-copies g c =
+    let lines = c.args.self.now in
+    came_not (page_of c.args.line) (g.B.Bus.history lines.bus) lines.engine.made lines.counters
 
 pub invariant_of-self : goal.invariant_of-self
 invariant_of-self g c =
@@ -38,8 +44,8 @@ invariant_of-self g c =
           c.write_next-written.result c.write_next-written.ensures.written c.or-self-inside.result stops,
     )
 
-pub returns-clause-through : goal.returns-clause-through
-returns-clause-through g c =
+pub returns-clause-fits : goal.returns-clause-fits
+returns-clause-fits g c =
     let lines = sealed_lines_view c.self.inside in
     let new = c.write_next-written.new.outside in
     let counters = c.write_next-written.new.counters in
@@ -48,7 +54,7 @@ returns-clause-through g c =
     let stops : c.or-self-inside.result ≡ option_or (result_err c.write_next-written.result) lines.stopped =
     c.or-self-inside.ensures ∙ ap (λ (o : Option MemStop). option_or o lines.stopped) c.err.ensures.value in
     (write_kept g.T.Tagger.data_tag_of g.T.Tagger.node_tag_of g.B.Bus.history g.B.Bus.moved lines c.args.line c.args.bytes.now c.self.invariant.1 going inside new counters
-    c.write_next-written.result c.write_next-written.ensures.written c.or-self-inside.result stops).through
+    c.write_next-written.result c.write_next-written.ensures.written c.or-self-inside.result stops).fits
 
 pub returns-clause-stored : goal.returns-clause-stored
 returns-clause-stored g c = λ _ quiet.
@@ -135,7 +141,8 @@ returns-clause-reserved g c =
     c.write_next-written.result c.write_next-written.ensures.written c.or-self-inside.result stops)
 
 pub returns-clause-path : goal.returns-clause-path
-returns-clause-path g c = λ _. rw (← c.self.view_is) (on_ok c.write_next-written.result c.write_next-written.ensures.written.path)
+returns-clause-path g c = λ _ missed.
+    rw (← c.self.view_is) (on_ok c.write_next-written.result (λ none. c.write_next-written.ensures.written.path none (rw (← c.self.view_is) at missed)))
 
 pub returns-clause-spent : goal.returns-clause-spent
 returns-clause-spent g c = λ _ quiet is.

@@ -1,4 +1,4 @@
-use Rattle.std.proofs.Common.{◌≡◌, ◌%◌, ◌∷◌, [], ℕ, List, Option, Some, None, IfOk, Contains, inl, inr, ap, sym, ◌∙◌, subst, Result, IfErr, OnOk, refl}
+use Rattle.std.proofs.Common.{◌≡◌, ◌+◌, ◌%◌, ◌≤◌, ◌∷◌, [], ℕ, List, Option, Some, None, IfOk, Contains, inl, inr, ap, sym, ◌∙◌, subst, Result, IfErr, OnOk, refl}
 use Rattle.std.specs.Option.{option_map, option_or}
 use Rattle.std.specs.Result.{result_err}
 use Rattle.std.proofs.lemmas.Result.{IfOk-weaker}
@@ -18,8 +18,8 @@ use Rattle.cache_set.specs.declared.way.Way.{Way}
 use Rattle.cache_set.specs.Cache.{copy_at, places}
 use Rattle.line_cache.specs.LineCache.{IsMissed, IsStoppedMiss, LineCacheView, brought, leaving}
 use Rattle.secure_memory.specs.LineCall.{IsLineCall}
-use Rattle.secure_memory.specs.SecureRam.{SecureRamView, IsMoved, IsNumberBelowPath, IsNumberUnder, contents, evidence, stopped}
-use Rattle.secure_memory.proofs.LineCalls.{accepted_copy, alone_read, called, copy_held, few_so, found_outside, memory_of, moved_so, ok_goes, spent_contents, stands_in, stopped_unmoved, stops_so, through_so}
+use Rattle.secure_memory.specs.SecureRam.{SecureRamView, IsMoved, IsNumberByCounters, IsNumberUnder, contents, evidence, levels, memory_accesses, stopped}
+use Rattle.secure_memory.proofs.LineCalls.{accepted_copy, alone_read, called, copy_held, few_so, fits_so, found_outside, memory_of, moved_so, ok_goes, once_so, spent_contents, stands_in, stopped_unmoved, stops_so}
 use Rattle.secure_memory.proofs.secure_ram.SecureRamRam.load.Given.{Over}
 use Rattle.secure_memory.proofs.secure_ram.SecureRamRam.load.Goals as goal
 
@@ -52,13 +52,13 @@ invariant_of-self g c =
       c.load.ensures.kept ∙ ap (λ (o : Option MemStop). option_or o (result_err c.load.result)) (none_stopped g c) ∙ sym stops,
       few_so g.B.Bus.history g.B.Bus.moved tags cache c.load.new.self (line_of c.args.addr) (result_err c.load.result) (λ bytes. bytes)
           (going g c) c.load.ensures.moved (hit g c) c.load.ensures.missed,
-      λ still. through_so g.B.Bus.history g.B.Bus.moved tags cache c.load.new.self (line_of c.args.addr) (result_err c.load.result) (λ bytes. bytes)
+      λ still. fits_so g.B.Bus.history g.B.Bus.moved tags cache c.load.new.self (line_of c.args.addr) (result_err c.load.result) (λ bytes. bytes)
           (going g c) c.load.ensures.moved (hit g c) c.load.ensures.missed (λ lasting. c.self.invariant.2 (going g c)) (ap lasting_stop still),
     )
 
-pub returns-clause-through : goal.returns-clause-through
-returns-clause-through g c = λ still.
-    through_so g.B.Bus.history g.B.Bus.moved (tags_of g.T.Tagger.data_tag_of g.T.Tagger.node_tag_of) c.self.inside.lines c.load.new.self
+pub returns-clause-lines_fit : goal.returns-clause-lines_fit
+returns-clause-lines_fit g c = λ still.
+    fits_so g.B.Bus.history g.B.Bus.moved (tags_of g.T.Tagger.data_tag_of g.T.Tagger.node_tag_of) c.self.inside.lines c.load.new.self
     (line_of c.args.addr) (result_err c.load.result) (λ bytes. bytes)
     (going g c) c.load.ensures.moved (hit g c) c.load.ensures.missed (λ lasting. c.self.invariant.2 (going g c)) (ap lasting_stop still)
 
@@ -68,6 +68,14 @@ returns-clause-moved g c =
     subst (λ (m : SecureRamView g.row.B.Denot g.row.T.Denot). IsMoved g.B.Bus.history g.B.Bus.moved tags m (line_of c.args.addr ∷ []) (memory_of c.load.new.self)) c.self.view_is
     (moved_so g.B.Bus.history g.B.Bus.moved tags c.self.inside.lines c.load.new.self (line_of c.args.addr) (result_err c.load.result) (λ bytes. bytes)
     (going g c) c.load.ensures.moved (hit g c) c.load.ensures.missed g.met.B.Bus.unmoved g.met.B.Bus.moved_on)
+
+pub returns-clause-once : goal.returns-clause-once
+returns-clause-once g c =
+    let tags = tags_of g.T.Tagger.data_tag_of g.T.Tagger.node_tag_of in
+    subst (λ (m : SecureRamView g.row.B.Denot g.row.T.Denot). (g.B.Bus.history c.load.new.self.store.bus).accesses
+    ≤ (g.B.Bus.history m.lines.bus).accesses + memory_accesses (levels m)) c.self.view_is
+    (once_so g.B.Bus.history g.B.Bus.moved tags c.self.inside.lines c.load.new.self (line_of c.args.addr) (result_err c.load.result) (λ bytes. bytes)
+    (going g c) c.load.ensures.moved (hit g c) c.load.ensures.missed)
 
 pub returns-clause-call : goal.returns-clause-call
 returns-clause-call g c = λ _.
@@ -163,8 +171,8 @@ returns-clause-checked g c = λ _.
     let cache : LineCacheView (SealedLinesView g.row.B.Denot g.row.T.Denot) = c.self.inside.lines in
     let line = line_of c.args.addr in
     subst (λ (m : SecureRamView g.row.B.Denot g.row.T.Denot). ¬ Contains (places m.ways) line → leaving m.ways line ≡ None →
-    IfOk c.load.result (IsNumberBelowPath (tag_in g.T.Tagger.data_tag_of g.T.Tagger.node_tag_of m.lines) (enc_key m.lines) m.lines.counters line
-    (evidence m) c.load.new.self.store.engine.evidence (g.B.Bus.history c.load.new.self.store.bus) (c.args.addr % 64) c.args.width)) c.self.view_is
+    IfOk c.load.result (IsNumberByCounters (tag_in g.T.Tagger.data_tag_of g.T.Tagger.node_tag_of m.lines) (enc_key m.lines) m.lines.counters c.load.new.self.store.counters
+    c.load.new.self.store.engine.made line (evidence m) c.load.new.self.store.engine.evidence (g.B.Bus.history c.load.new.self.store.bus) (c.args.addr % 64) c.args.width)) c.self.view_is
     (λ out stays.
     let m = c.load.ensures.missed out in
     let read = alone_read g.B.Bus.history g.B.Bus.moved tags cache c.load.new.self.store c.load.new.self.lines line (result_err c.load.result) (λ bytes. bytes) (going g c) stays m in

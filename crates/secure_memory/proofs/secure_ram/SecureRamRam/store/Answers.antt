@@ -1,4 +1,4 @@
-use Rattle.std.proofs.Common.{◌≡◌, ◌%◌, ◌∷◌, [], ℕ, List, Option, Some, None, OnOk, Contains, inl, inr, ap, sym, ◌∙◌, subst, Result, IfErr, refl}
+use Rattle.std.proofs.Common.{◌≡◌, ◌+◌, ◌%◌, ◌≤◌, ◌∷◌, [], ℕ, List, Option, Some, None, OnOk, Contains, inl, inr, ap, sym, ◌∙◌, subst, Result, IfErr, refl}
 use Rattle.std.specs.Option.{option_or}
 use Rattle.std.specs.Result.{result_err}
 use Rattle.sec_base.specs.Geometry.{line_of}
@@ -16,8 +16,8 @@ use Rattle.cache_set.specs.Cache.{copy_at, places}
 use Rattle.line_cache.proofs.Steps.{on_ok}
 use Rattle.line_cache.specs.LineCache.{IsMissed, IsStoppedMiss, LineCacheView, brought, leaving, with_changed}
 use Rattle.secure_memory.specs.LineCall.{IsLineCall}
-use Rattle.secure_memory.specs.SecureRam.{SecureRamView, IsMoved, stopped, contents}
-use Rattle.secure_memory.proofs.LineCalls.{accepted_copy, called, copy_held, few_so, found_outside, memory_of, moved_so, ok_goes, spent_contents, stopped_unmoved, stops_so, through_so}
+use Rattle.secure_memory.specs.SecureRam.{SecureRamView, IsMoved, contents, levels, memory_accesses, stopped}
+use Rattle.secure_memory.proofs.LineCalls.{accepted_copy, called, copy_held, few_so, fits_so, found_outside, memory_of, moved_so, ok_goes, once_so, spent_contents, stopped_unmoved, stops_so}
 use Rattle.secure_memory.proofs.secure_ram.SecureRamRam.store.Given.{Over}
 use Rattle.secure_memory.proofs.secure_ram.SecureRamRam.store.Goals as goal
 
@@ -50,13 +50,13 @@ invariant_of-self g c =
       c.store.ensures.kept ∙ ap (λ (o : Option MemStop). option_or o (result_err c.store.result)) (none_stopped g c) ∙ sym stops,
       few_so g.B.Bus.history g.B.Bus.moved tags cache c.store.new.self (line_of c.args.addr) (result_err c.store.result) (λ bytes. with_number bytes (c.args.addr % 64) c.args.width c.args.value)
           (going g c) c.store.ensures.moved (hit g c) c.store.ensures.missed,
-      λ still. through_so g.B.Bus.history g.B.Bus.moved tags cache c.store.new.self (line_of c.args.addr) (result_err c.store.result) (λ bytes. with_number bytes (c.args.addr % 64) c.args.width c.args.value)
+      λ still. fits_so g.B.Bus.history g.B.Bus.moved tags cache c.store.new.self (line_of c.args.addr) (result_err c.store.result) (λ bytes. with_number bytes (c.args.addr % 64) c.args.width c.args.value)
           (going g c) c.store.ensures.moved (hit g c) c.store.ensures.missed (λ lasting. c.self.invariant.2 (going g c)) (ap lasting_stop still),
     )
 
-pub returns-clause-through : goal.returns-clause-through
-returns-clause-through g c = λ still.
-    through_so g.B.Bus.history g.B.Bus.moved (tags_of g.T.Tagger.data_tag_of g.T.Tagger.node_tag_of) c.self.inside.lines c.store.new.self
+pub returns-clause-lines_fit : goal.returns-clause-lines_fit
+returns-clause-lines_fit g c = λ still.
+    fits_so g.B.Bus.history g.B.Bus.moved (tags_of g.T.Tagger.data_tag_of g.T.Tagger.node_tag_of) c.self.inside.lines c.store.new.self
     (line_of c.args.addr) (result_err c.store.result) (λ bytes. with_number bytes (c.args.addr % 64) c.args.width c.args.value)
     (going g c) c.store.ensures.moved (hit g c) c.store.ensures.missed (λ lasting. c.self.invariant.2 (going g c)) (ap lasting_stop still)
 
@@ -66,6 +66,14 @@ returns-clause-moved g c =
     subst (λ (m : SecureRamView g.row.B.Denot g.row.T.Denot). IsMoved g.B.Bus.history g.B.Bus.moved tags m (line_of c.args.addr ∷ []) (memory_of c.store.new.self)) c.self.view_is
     (moved_so g.B.Bus.history g.B.Bus.moved tags c.self.inside.lines c.store.new.self (line_of c.args.addr) (result_err c.store.result) (λ bytes. with_number bytes (c.args.addr % 64) c.args.width c.args.value)
     (going g c) c.store.ensures.moved (hit g c) c.store.ensures.missed g.met.B.Bus.unmoved g.met.B.Bus.moved_on)
+
+pub returns-clause-once : goal.returns-clause-once
+returns-clause-once g c =
+    let tags = tags_of g.T.Tagger.data_tag_of g.T.Tagger.node_tag_of in
+    subst (λ (m : SecureRamView g.row.B.Denot g.row.T.Denot). (g.B.Bus.history c.store.new.self.store.bus).accesses
+    ≤ (g.B.Bus.history m.lines.bus).accesses + memory_accesses (levels m)) c.self.view_is
+    (once_so g.B.Bus.history g.B.Bus.moved tags c.self.inside.lines c.store.new.self (line_of c.args.addr) (result_err c.store.result) (λ bytes. with_number bytes (c.args.addr % 64) c.args.width c.args.value)
+    (going g c) c.store.ensures.moved (hit g c) c.store.ensures.missed)
 
 pub returns-clause-call : goal.returns-clause-call
 returns-clause-call g c = λ _.

@@ -1,0 +1,296 @@
+-- Calls that read and write nodes of a level and of those above it, one after another.
+use Rattle.std.proofs.Common.{◌≡◌, ◌≢◌, ◌⊎◌, inl, inr, ℕ, zero, suc, ◌+◌, ◌-◌, ◌/◌, ◌^◌, ◌<◌, ◌≤◌, List, length, Option, Some, None, refl, ap, sym, ◌∙◌, subst, arith, length-append}
+use Rattle.std.proofs.lemmas.Bool.{cases_lt}
+use Rattle.std.proofs.lemmas.Nat.{pow-add}
+use Rattle.std.proofs.Math.Nat.{div-div-eq-div-mul}
+use Rattle.sec_base.specs.Count.{Rose, RoseBy}
+use Rattle.sec_base.specs.Evidence.{evidence_place}
+use Rattle.sec_base.specs.declared.evidence.Evidence.{Evidence}
+use Rattle.sec_base.specs.declared.message.Message.{Message}
+use Rattle.sec_base.specs.declared.place.Place.{Place}
+use Rattle.sec_base.specs.declared.place.Place.TheVariants.{Node as node_place}
+use Rattle.sec_base.specs.declared.stop.MemStop.{MemStop}
+use Rattle.sec_base.specs.declared.stop.MemStop.TheVariants.{NoMemory}
+use Rattle.bus_model.specs.BusHistory.{BusHistory}
+use Rattle.tag_engine.specs.TagEngine.{TagEngineView, tags_of}
+use Rattle.checked_bus.specs.Accesses.{WritesMessages}
+use Rattle.checked_bus.specs.Steps.{IsAccounted, Moves, unwritten_in}
+use Rattle.checked_bus.proofs.CheckedReads.{ended_accounted}
+use Rattle.checked_bus.proofs.Steps.{moves_not, moves_on, same_lines_not, same_lines_on}
+use Rattle.checked_bus.proofs.Writes.{none_more, writes_not, writes_on}
+use Rattle.bonsai_tree.specs.Climb.{Climbs}
+use Rattle.bonsai_tree.specs.Node.{CachedNode}
+use Rattle.bonsai_tree.specs.NodeCache.{AreNodeCaches, level_cache}
+use Rattle.bonsai_tree.specs.Tree.{TreeView, HoldsTree, IsNodeFrom, NodesAreMade, NodesHoldLast, WasReadUp, above, cached_node}
+use Rattle.bonsai_tree.proofs.Nodes.{same_tags, some_not_none, some_or_none}
+
+-- Which nodes were read
+
+copy_or_not : (found : Option CachedNode) → (found ≡ None) ⊎ (found ≢ None)
+copy_or_not None = inl refl
+copy_or_not (Some copy) = inr (λ (none : Some copy ≡ None). cc)
+
+-- the nodes from a node up have no copy, up to so many levels above it
+abbrev pub HasNoneUp : TreeView → ℕ → ℕ → ℕ → Type 0
+HasNoneUp tree level index more = (lower : ℕ) → lower ≤ more → cached_node tree (level + lower) (above tree.levels index lower) ≡ None
+
+-- the lowest one that has a copy, or none
+pub record LowestCopy (tree : TreeView) (level index more : ℕ) : Type 0 where
+  pub lower : ℕ
+  pub within : lower ≤ more
+  pub copied : cached_node tree (level + lower) (above tree.levels index lower) ≢ None
+
+pub above_none : (levels index : ℕ) → above levels index 0 ≡ index
+above_none levels index = omega arith
+
+pub find_copy : (tree : TreeView) (level index more : ℕ) → HasNoneUp tree level index more ⊎ LowestCopy tree level index more
+find_copy tree level index zero =
+    elim (copy_or_not (cached_node tree (level + 0) (above tree.levels index 0))) [
+      | inl none ↦ inl (λ lower few. let first : 0 ≡ lower = omega arith in
+          subst (λ (k : ℕ). cached_node tree (level + k) (above tree.levels index k) ≡ None) first none)
+      | inr some ↦ inr (record { lower = 0; within = omega arith; copied = some })
+    ]
+find_copy tree level index (suc more) =
+    elim (find_copy tree level index more) [
+      | inr found ↦ inr (record { lower = found.lower; within = omega (arith, found.within); copied = found.copied })
+      | inl none ↦ elim (copy_or_not (cached_node tree (level + suc more) (above tree.levels index (suc more)))) [
+        | inr some ↦ inr (record { lower = suc more; within = omega arith; copied = some })
+        | inl last ↦ inl (λ lower few. elim (cases_lt lower (suc more)) [
+          | inl less ↦ none lower (omega arith)
+          | inr here ↦ let same : suc more ≡ lower = omega arith in
+              subst (λ (k : ℕ). cached_node tree (level + k) (above tree.levels index k) ≡ None) same last
+        ])
+      ]
+    ]
+
+pub above_on : (levels index lower more : ℕ) → above levels (above levels index lower) more ≡ above levels index (lower + more)
+above_on levels index lower more =
+    div-div-eq-div-mul index (4 ^ lower) (4 ^ more) ∙ sym (ap (λ (n : ℕ). index / n) (pow-add 4 lower more))
+
+pub read_up_on : (tree mid : TreeView) (level index : ℕ) (first second third : BusHistory) → mid.levels ≡ tree.levels →
+    ((place : Place) → RoseBy 0 (first.reads place) (second.reads place)) → ((place : Place) → RoseBy 0 (second.reads place) (third.reads place)) →
+    ((at_level at : ℕ) → cached_node mid at_level at ≢ None → WasReadUp tree at_level at first second) →
+    WasReadUp mid level index second third → WasReadUp tree level index first third
+read_up_on tree mid level index first second third levels before after read more_read = record {
+  rose = λ more inside none.
+      let same_above : (k : ℕ) → above mid.levels index k ≡ above tree.levels index k = λ k. refl in
+      elim (find_copy mid level index more) [
+        | inl none_mid ↦
+            let rose : Rose (second.reads (node_place (level + more) (above mid.levels index more))) (third.reads (node_place (level + more) (above mid.levels index more))) =
+            more_read.rose more (omega (arith, levels)) none_mid in
+            omega (arith, rose, before (node_place (level + more) (above tree.levels index more)))
+        | inr found ↦
+            let back : found.lower + (more - found.lower) ≡ more = omega (arith, found.within) in
+            let level_is : level + found.lower + (more - found.lower) ≡ level + more = omega (arith, found.within) in
+            let index_is : above tree.levels (above tree.levels index found.lower) (more - found.lower) ≡ above tree.levels index more =
+            above_on tree.levels index found.lower (more - found.lower) ∙ ap (λ (k : ℕ). above tree.levels index k) back in
+            let up : WasReadUp tree (level + found.lower) (above tree.levels index found.lower) first second =
+            read (level + found.lower) (above tree.levels index found.lower) found.copied in
+            let none_up : (lower : ℕ) → lower ≤ more - found.lower →
+            cached_node tree (level + found.lower + lower) (above tree.levels (above tree.levels index found.lower) lower) ≡ None =
+            λ lower few.
+            let sum : level + found.lower + lower ≡ level + (found.lower + lower) = omega arith in
+            ap (λ (k : ℕ). cached_node tree k (above tree.levels (above tree.levels index found.lower) lower)) sum
+            ∙ ap (λ (i : ℕ). cached_node tree (level + (found.lower + lower)) i) (above_on tree.levels index found.lower lower)
+            ∙ none (found.lower + lower) (omega (arith, found.within)) in
+            let rose : Rose (first.reads (node_place (level + found.lower + (more - found.lower)) (above tree.levels (above tree.levels index found.lower) (more - found.lower))))
+            (second.reads (node_place (level + found.lower + (more - found.lower)) (above tree.levels (above tree.levels index found.lower) (more - found.lower)))) =
+            up.rose (more - found.lower) (omega (arith, level_is)) none_up in
+            let here : Rose (first.reads (node_place (level + more) (above tree.levels index more))) (second.reads (node_place (level + more) (above tree.levels index more))) =
+            subst (λ (k : ℕ). Rose (first.reads (node_place k (above tree.levels index more))) (second.reads (node_place k (above tree.levels index more)))) level_is
+            (subst (λ (i : ℕ). Rose (first.reads (node_place (level + found.lower + (more - found.lower)) i)) (second.reads (node_place (level + found.lower + (more - found.lower)) i))) index_is rose) in
+            omega (arith, here, after (node_place (level + more) (above tree.levels index more)))
+      ];
+}
+
+-- a node that had a copy
+pub read_up_held : (tree : TreeView) (level index : ℕ) (old new : BusHistory) → cached_node tree level index ≢ None → WasReadUp tree level index old new
+read_up_held tree level index old new held = record {
+  rose = λ more inside none.
+      let first : cached_node tree (level + 0) (above tree.levels index 0) ≡ None = none 0 (omega arith) in
+      let level_is : level + 0 ≡ level = omega arith in
+      let here : cached_node tree level index ≡ None =
+      sym (ap (λ (k : ℕ). cached_node tree k (above tree.levels index 0)) level_is
+      ∙ ap (λ (i : ℕ). cached_node tree level i) (above_none tree.levels index)) ∙ first in
+      absurd (held here);
+}
+
+-- a place of a node so far up
+node_up : (levels from more_from : ℕ) (place : Place) → from ≤ more_from → IsNodeFrom levels more_from place → IsNodeFrom levels from place
+node_up levels from more_from place up is = record {
+  level = is.level;
+  index = is.index;
+  node = is.node;
+  above = omega (arith, is.above);
+  place_is = is.place_is;
+}
+
+pub unchanged_writes : {T : Type 0} (history : BusHistory) (engine : TagEngineView T) → WritesMessages history history (length (moves_not history engine).more) 0
+unchanged_writes history engine =
+    let none : length (moves_not history engine).more ≡ 0 = none_more engine.made engine.made (moves_not history engine).more refl (moves_not history engine).made in
+    subst (λ (k : ℕ). WritesMessages history history k 0) (sym none) (writes_not history)
+
+module _ {T : Type 0} (d n : T → List ℕ → List ℕ) where
+  -- copies alone changed
+  pub climbs_recached : (from : ℕ) (tree tree' : TreeView) (history : BusHistory) (engine : TagEngineView T) → tree'.levels ≡ tree.levels → tree'.root ≡ tree.root →
+      (AreNodeCaches tree.levels tree.caches → AreNodeCaches tree'.levels tree'.caches) →
+      ((level : ℕ) → level < from → level_cache tree'.caches level ≡ level_cache tree.caches level) →
+      (HoldsTree (tags_of d n) tree history engine → HoldsTree (tags_of d n) tree' history engine) →
+      ((level index : ℕ) → cached_node tree' level index ≢ None → cached_node tree level index ≢ None) →
+      Climbs (tags_of d n) from tree history engine tree' history engine None
+  climbs_recached from tree tree' history engine levels root nodes copies holds held = record {
+    moves = moves_not history engine;
+    lines = same_lines_not history engine.made;
+    levels = levels;
+    root = root;
+    nodes = nodes;
+    copies = copies;
+    last = λ level index low. refl;
+    written = λ level index low. refl;
+    holds = λ was none. holds was;
+    honest = λ was used accounted. accounted;
+    lied = λ was quiet place is. absurd (cc);
+    shown = λ was quiet some. absurd (some quiet);
+    tampered = λ place is. absurd (cc);
+    found = λ quiet evidence is. absurd (cc);
+    unspent = λ spent is. absurd (cc);
+    room = omega arith;
+    writes = unchanged_writes history engine;
+    made_blocks = λ was. was;
+    last_blocks = λ remembered was. was;
+    read = λ level index copied. read_up_held tree level index history history (held level index copied);
+  }
+
+  -- nothing was done
+  pub climbs_not : (from : ℕ) (tree : TreeView) (history : BusHistory) (engine : TagEngineView T) →
+      Climbs (tags_of d n) from tree history engine tree history engine None
+  climbs_not from tree history engine =
+      climbs_recached from tree tree history engine refl refl (λ are. are) (λ level low. refl) (λ was. was) (λ level index held. held)
+
+  -- nor where there was no memory
+  pub climbs_refused : (from : ℕ) (tree : TreeView) (history : BusHistory) (engine : TagEngineView T) →
+      Climbs (tags_of d n) from tree history engine tree history engine (Some NoMemory)
+  climbs_refused from tree history engine = record {
+    moves = moves_not history engine;
+    lines = same_lines_not history engine.made;
+    levels = refl;
+    root = refl;
+    nodes = λ are. are;
+    copies = λ level low. refl;
+    last = λ level index low. refl;
+    written = λ level index low. refl;
+    holds = λ holds none. absurd (cc);
+    honest = λ holds used was. ended_accounted (tags_of d n engine) used engine.made history NoMemory engine.evidence (λ place is. cc) was;
+    lied = λ holds quiet place is. absurd (cc);
+    shown = λ holds quiet some. absurd (some quiet);
+    tampered = λ place is. absurd (cc);
+    found = λ quiet evidence is. absurd (cc);
+    unspent = λ spent is. absurd (cc);
+    room = omega arith;
+    writes =
+        let writes : WritesMessages history history (length (moves_not history engine).more) 0 = unchanged_writes history engine in
+        record { writes = writes.writes; counted = writes.counted; at_most = writes.at_most; at_least = omega (arith, writes.at_least) };
+    made_blocks = λ was. was;
+    last_blocks = λ remembered was. absurd (remembered refl);
+    read = λ level index held. read_up_held tree level index history history held;
+  }
+
+  -- and of a level above
+  pub climbs_up : (from more_from : ℕ) (tree tree' : TreeView) (old new : BusHistory) (engine engine' : TagEngineView T) (stop : Option MemStop) → from ≤ more_from →
+      Climbs (tags_of d n) more_from tree old engine tree' new engine' stop → Climbs (tags_of d n) from tree old engine tree' new engine' stop
+  climbs_up from more_from tree tree' old new engine engine' stop up climbs = record {
+    moves = climbs.moves;
+    lines = climbs.lines;
+    levels = climbs.levels;
+    root = climbs.root;
+    nodes = climbs.nodes;
+    copies = λ level low. climbs.copies level (omega arith);
+    last = λ level index low. climbs.last level index (omega arith);
+    written = λ level index low. climbs.written level index (omega arith);
+    holds = climbs.holds;
+    honest = climbs.honest;
+    lied = climbs.lied;
+    shown = climbs.shown;
+    tampered = λ place is. node_up tree.levels from more_from place up (climbs.tampered place is);
+    found = λ quiet evidence is. node_up tree.levels from more_from (evidence_place evidence) up (climbs.found quiet evidence is);
+    unspent = climbs.unspent;
+    room = climbs.room;
+    writes = climbs.writes;
+    made_blocks = climbs.made_blocks;
+    last_blocks = climbs.last_blocks;
+    read = climbs.read;
+  }
+
+  -- one call after another
+  pub climbs_on : (from : ℕ) (tree mid tree' : TreeView) (first second third : BusHistory) (engine engine' engine'' : TagEngineView T) (stop : Option MemStop) →
+      Climbs (tags_of d n) from tree first engine mid second engine' None → Climbs (tags_of d n) from mid second engine' tree' third engine'' stop →
+      Climbs (tags_of d n) from tree first engine tree' third engine'' stop
+  climbs_on from tree mid tree' first second third engine engine' engine'' stop climbs more =
+      let tags : tags_of d n engine' ≡ tags_of d n engine = same_tags d n first second engine engine' climbs.moves in
+      let moves : Moves first engine third engine'' = moves_on first second third engine engine' engine'' climbs.moves more.moves in
+      let long : length moves.more ≡ length climbs.moves.more + length more.moves.more =
+      omega (
+        arith,
+        ap length moves.made,
+        ap length climbs.moves.made,
+        ap length more.moves.made,
+        length-append engine.made moves.more,
+        length-append engine.made climbs.moves.more,
+        length-append engine'.made more.moves.more,
+      ) in
+      let going : None ≢ Some NoMemory = λ (e : None ≡ Some NoMemory). cc in
+      record {
+        moves = moves;
+        lines = same_lines_on first second third engine.made engine'.made engine''.made climbs.lines more.lines;
+        levels = more.levels ∙ climbs.levels;
+        root = more.root ∙ climbs.root;
+        nodes = λ are. more.nodes (climbs.nodes are);
+        copies = λ level low. more.copies level low ∙ climbs.copies level low;
+        last = λ level index low. more.last level index low ∙ climbs.last level index low;
+        written = λ level index low. more.written level index low ∙ climbs.written level index low;
+        holds = λ holds none. more.holds (climbs.holds holds refl) none;
+        honest = λ holds used was.
+            subst (λ (t : Message → List ℕ). IsAccounted t used engine''.made third stop engine''.evidence) tags
+            (more.honest (climbs.holds holds refl) used
+            (subst (λ (t : Message → List ℕ). IsAccounted t used engine'.made second None engine'.evidence) (sym tags) (climbs.honest holds used was)));
+        lied = λ holds quiet place is.
+            elim (some_or_none engine'.evidence) [
+              | inl still ↦
+                  let rose : Rose second.lies third.lies = more.lied (climbs.holds holds refl) still place is in
+                  omega (arith, rose, climbs.moves.lies)
+              | inr shown ↦
+                  let rose : Rose first.lies second.lies = climbs.shown holds quiet (some_not_none engine'.evidence shown.0 shown.1) in
+                  omega (arith, rose, more.moves.lies)
+            ];
+        shown = λ holds quiet some.
+            elim (some_or_none engine'.evidence) [
+              | inl still ↦
+                  let rose : Rose second.lies third.lies = more.shown (climbs.holds holds refl) still some in
+                  omega (arith, rose, climbs.moves.lies)
+              | inr shown ↦
+                  let rose : Rose first.lies second.lies = climbs.shown holds quiet (some_not_none engine'.evidence shown.0 shown.1) in
+                  omega (arith, rose, more.moves.lies)
+            ];
+        tampered = λ place is. subst (λ (k : ℕ). IsNodeFrom k from place) climbs.levels (more.tampered place is);
+        found = λ quiet evidence is.
+            elim (some_or_none engine'.evidence) [
+              | inl still ↦ subst (λ (k : ℕ). IsNodeFrom k from (evidence_place evidence)) climbs.levels (more.found still evidence is)
+              | inr shown ↦
+                  let kept : engine''.evidence ≡ Some shown.0 = more.moves.evidence shown.0 shown.1 in
+                  let same : shown.0 ≡ evidence = cc in
+                  subst (λ (e : Evidence). IsNodeFrom tree.levels from (evidence_place e)) same (climbs.found quiet shown.0 shown.1)
+            ];
+        unspent = more.unspent;
+        room = omega (arith, climbs.room, more.room, long);
+        writes = subst (λ (k : ℕ). WritesMessages first third k (unwritten_in stop)) (sym long)
+            (writes_on first second third (length climbs.moves.more) (length more.moves.more) (unwritten_in stop)
+            more.moves.bus_levels more.moves.reads more.moves.accesses climbs.writes more.writes);
+        made_blocks = λ was.
+            subst (λ (k : ℕ). NodesAreMade k engine''.made third.written) climbs.levels
+            (more.made_blocks (subst (λ (k : ℕ). NodesAreMade k engine'.made second.written) (sym climbs.levels) (climbs.made_blocks was)));
+        last_blocks = λ remembered was.
+            subst (λ (k : ℕ). NodesHoldLast k engine''.made third.written) climbs.levels
+            (more.last_blocks remembered (subst (λ (k : ℕ). NodesHoldLast k engine'.made second.written) (sym climbs.levels) (climbs.last_blocks going was)));
+        read = λ level index held.
+            read_up_on tree mid level index first second third climbs.levels climbs.moves.reads more.moves.reads climbs.read (more.read level index held);
+      }

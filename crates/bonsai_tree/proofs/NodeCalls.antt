@@ -1,0 +1,369 @@
+-- One read, one write, and a change of copies, as what calls make of the tree.
+use Rattle.std.proofs.Common.{◌≡◌, ◌≢◌, ◌⊎◌, inl, inr, ℕ, ◌+◌, ◌/◌, ◌<◌, ◌≤◌, false, max, List, length, Option, Some, None, Result, refl, ap, sym, ◌∙◌, subst, arith}
+use Rattle.std.proofs.lemmas.Bool.{cases_lt}
+use Rattle.sec_base.specs.Count.{Rose}
+use Rattle.sec_base.specs.Evidence.{evidence_place}
+use Rattle.sec_base.specs.Geometry.{IsNode}
+use Rattle.sec_base.specs.LastMessage.{last_node}
+use Rattle.sec_base.specs.declared.counter.Counter.{Counter}
+use Rattle.sec_base.specs.declared.evidence.Evidence.{Evidence}
+use Rattle.sec_base.specs.declared.message.Message.{Message}
+use Rattle.sec_base.specs.declared.message.Message.TheVariants.{Node}
+use Rattle.sec_base.specs.declared.place.Place.{Place}
+use Rattle.sec_base.specs.declared.place.Place.TheVariants.{Node as node_place}
+use Rattle.sec_base.specs.declared.stop.MemStop.{MemStop}
+use Rattle.sec_base.specs.declared.stop.MemStop.TheVariants.{Tampered, Spent, NoMemory}
+use Rattle.bus_model.specs.BusHistory.{BusHistory}
+use Rattle.tag_engine.specs.TagEngine.{TagEngineView, tags_of, with_room}
+use Rattle.checked_bus.specs.Steps.{IsAccounted, IsCurrentNode, WritesOnce, stop_of, unwritten_in}
+use Rattle.checked_bus.proofs.CheckedReads.{ended_accounted}
+use Rattle.checked_bus.proofs.Writes.{none_more}
+use Rattle.bonsai_tree.specs.Climb.{Climbs}
+use Rattle.bonsai_tree.specs.Node.{CachedNode, block_or_zeros, current_of}
+use Rattle.bonsai_tree.specs.NodeCache.{AreNodeCaches, OtherLevels, level_cache}
+use Rattle.bonsai_tree.specs.Tree.{TreeView, HoldsTree, IsNodeFrom, IsTree, NodesAreMade, NodesHoldLast, WasReadUp, above, cached_node, current_block, kept_tag}
+use Rattle.bonsai_tree.specs.Writing.{WritesNodes}
+use Rattle.bonsai_tree.proofs.Climbs.{climbs_recached, read_up_held}
+use Rattle.bonsai_tree.proofs.Nodes.{NodeRead, SameNode, is_current, same_or_not, same_tags, stop_is, was_none}
+use Rattle.bonsai_tree.proofs.NodeWrites.{NodeWritten, is_put}
+use Rattle.bonsai_tree.proofs.Puts.{IsPut, PutsTag, tree_put, tree_recached}
+
+here_from : (levels level index : ℕ) (place : Place) → IsNode levels level index → place ≡ node_place level index → IsNodeFrom levels level place
+here_from levels level index place node is = record { level = level; index = index; node = node; above = omega arith; place_is = is }
+
+module _ {T : Type 0} (d n : T → List ℕ → List ℕ) where
+  -- all copies are the same
+  pub climbs_touched : (level : ℕ) (tree tree' : TreeView) (history : BusHistory) (engine : TagEngineView T) → tree'.levels ≡ tree.levels → tree'.root ≡ tree.root →
+      AreNodeCaches tree'.levels tree'.caches → OtherLevels level tree.caches tree'.caches → ((other at : ℕ) → cached_node tree' other at ≡ cached_node tree other at) →
+      Climbs (tags_of d n) level tree history engine tree' history engine None
+  climbs_touched level tree tree' history engine levels root nodes others same =
+      climbs_recached d n level tree tree' history engine levels root (λ are. nodes)
+      (λ other low. others other (λ (e : other ≡ level). absurd (omega (arith, e, low))))
+      (λ was. record {
+        fits = λ quiet.
+            tree_recached (tags_of d n engine) tree tree' engine.made history.written (was.fits quiet) levels root
+            (λ other at node. ap (λ (o : Option CachedNode). current_of o (last_node other at engine.made)) (same other at))
+            (λ other at copy node found unchanged. (was.fits quiet).clean other at copy node (sym (same other at) ∙ found) unchanged);
+      })
+      (λ other at copied none. copied (same other at ∙ none))
+
+  -- a copy is gone that was the node's last block
+  pub climbs_dropped : (level index : ℕ) (tree tree' : TreeView) (history : BusHistory) (engine : TagEngineView T) (copy : CachedNode) →
+      tree'.levels ≡ tree.levels → tree'.root ≡ tree.root → AreNodeCaches tree'.levels tree'.caches → OtherLevels level tree.caches tree'.caches →
+      cached_node tree level index ≡ Some copy → cached_node tree' level index ≡ None →
+      ((other at : ℕ) → ¬ (SameNode level index other at) → cached_node tree' other at ≡ cached_node tree other at) →
+      (HoldsTree (tags_of d n) tree history engine → engine.evidence ≡ None → copy.block ≡ block_or_zeros (last_node level index engine.made)) →
+      Climbs (tags_of d n) level tree history engine tree' history engine None
+  climbs_dropped level index tree tree' history engine copy levels root nodes others held gone same is_last =
+      climbs_recached d n level tree tree' history engine levels root (λ are. nodes)
+      (λ other low. others other (λ (e : other ≡ level). absurd (omega (arith, e, low))))
+      (λ was. record {
+        fits = λ quiet.
+            tree_recached (tags_of d n engine) tree tree' engine.made history.written (was.fits quiet) levels root
+            (λ other at node. elim (same_or_not level index other at) [
+              | inr apart ↦ ap (λ (o : Option CachedNode). current_of o (last_node other at engine.made)) (same other at apart)
+              | inl here ↦
+                  subst (λ (k : ℕ). current_block tree' engine.made k at ≡ current_block tree engine.made k at) (sym here.0)
+                  (subst (λ (i : ℕ). current_block tree' engine.made level i ≡ current_block tree engine.made level i) (sym here.1)
+                  (ap (λ (o : Option CachedNode). current_of o (last_node level index engine.made)) gone
+                  ∙ sym (is_last was quiet)
+                  ∙ sym (ap (λ (o : Option CachedNode). current_of o (last_node level index engine.made)) held)))
+            ])
+            (λ other at kept node found unchanged. elim (same_or_not level index other at) [
+              | inr apart ↦ (was.fits quiet).clean other at kept node (sym (same other at apart) ∙ found) unchanged
+              | inl here ↦
+                  let none : None ≡ Some kept =
+                  sym (ap (λ (k : ℕ). cached_node tree' k at) here.0 ∙ ap (λ (i : ℕ). cached_node tree' level i) here.1 ∙ gone) ∙ found in
+                  absurd (cc)
+            ]);
+      })
+      (λ other at copied none. elim (same_or_not level index other at) [
+        | inr apart ↦ copied (same other at apart ∙ none)
+        | inl here ↦ copied (ap (λ (k : ℕ). cached_node tree' k at) here.0 ∙ ap (λ (i : ℕ). cached_node tree' level i) here.1 ∙ gone)
+      ])
+
+  -- A read of a node
+
+  module _ (tree : TreeView) (level index : ℕ) (tag : List ℕ) (old new : BusHistory) (engine engine' : TagEngineView T) (result : Result (List ℕ) MemStop)
+      (node : IsNode tree.levels level index) (is_tag : tag ≡ kept_tag tree engine.made level index)
+      (read : NodeRead (tags_of d n) level index tag old engine new engine' result) where
+    tags_same : tags_of d n engine' ≡ tags_of d n engine
+    tags_same = same_tags d n old new engine engine' read.moves
+
+    pub read_current : HoldsTree (tags_of d n) tree old engine → engine.evidence ≡ None → IsCurrentNode (tags_of d n engine) engine.made old.written level index tag
+    read_current holds quiet =
+        subst (λ (t : List ℕ). IsCurrentNode (tags_of d n engine) engine.made old.written level index t) (sym is_tag)
+        (is_current (tags_of d n engine) tree engine.made old.written level index node (holds.fits quiet))
+
+    read_fits : HoldsTree (tags_of d n) tree old engine → engine'.evidence ≡ None → IsTree (tags_of d n engine') tree engine'.made new.written
+    read_fits holds quiet =
+        let was : engine.evidence ≡ None = was_none engine.evidence engine'.evidence read.moves.evidence quiet in
+        subst (λ (t : Message → List ℕ). IsTree t tree engine'.made new.written) (sym tags_same)
+        (subst (λ (m : List Message). IsTree (tags_of d n engine) tree m new.written) (sym read.once.made)
+        (subst (λ (w : Place → List ℕ). IsTree (tags_of d n engine) tree engine.made w) (sym read.once.written) (holds.fits was)))
+
+    pub climbs_read : Climbs (tags_of d n) level tree old engine tree new engine' (stop_of result)
+    climbs_read =
+        let none : length read.moves.more ≡ 0 = none_more engine.made engine'.made read.moves.more read.once.made read.moves.made in
+        record {
+          moves = read.moves;
+          lines = read.lines;
+          levels = refl;
+          root = refl;
+          nodes = λ are. are;
+          copies = λ other low. refl;
+          last = λ other at low. ap (λ (m : List Message). last_node other at m) read.once.made;
+          written = λ other at low. ap (λ (w : Place → List ℕ). w (node_place other at)) read.once.written;
+          holds = λ holds going. record { fits = λ quiet. read_fits holds quiet };
+          honest = λ holds used was. read.honest used (λ quiet. read_current holds quiet) was;
+          lied = λ holds quiet place is. (read.tampered place (stop_is result (Tampered place) is)).1 (read_current holds quiet);
+          shown = λ holds quiet some. read.shown (read_current holds quiet) quiet some;
+          tampered = λ place is. here_from tree.levels level index place node (read.tampered place (stop_is result (Tampered place) is)).0;
+          found = λ quiet evidence is. here_from tree.levels level index (evidence_place evidence) node (read.found evidence quiet is);
+          unspent = λ spent is. read.unspent spent (stop_is result (Spent spent) is);
+          room = omega (arith, read.once.room);
+          writes = record { writes = 0; counted = read.once.counted; at_most = omega arith; at_least = omega (arith, none) };
+          made_blocks = λ was.
+              subst (λ (m : List Message). NodesAreMade tree.levels m new.written) (sym read.once.made)
+              (subst (λ (w : Place → List ℕ). NodesAreMade tree.levels engine.made w) (sym read.once.written) was);
+          last_blocks = λ remembered was.
+              subst (λ (m : List Message). NodesHoldLast tree.levels m new.written) (sym read.once.made)
+              (subst (λ (w : Place → List ℕ). NodesHoldLast tree.levels engine.made w) (sym read.once.written) was);
+          read = λ other at held. read_up_held tree other at old new held;
+        }
+
+    -- and its block is kept as a copy
+    module _ (tree' : TreeView) (block : List ℕ) (is_ok : stop_of result ≡ None) (levels : tree'.levels ≡ tree.levels) (root : tree'.root ≡ tree.root)
+        (nodes : AreNodeCaches tree'.levels tree'.caches) (others : OtherLevels level tree.caches tree'.caches) (absent : cached_node tree level index ≡ None)
+        (put : cached_node tree' level index ≡ Some (record { block = block; changed = false }))
+        (same : (other at : ℕ) → ¬ (SameNode level index other at) → cached_node tree' other at ≡ cached_node tree other at)
+        (parent : level < tree.levels → cached_node tree (level + 1) (index / 4) ≢ None)
+        (known : IsCurrentNode (tags_of d n engine) engine.made old.written level index tag → engine'.evidence ≡ None → last_node level index engine.made ≡ Some block) where
+      block_last : HoldsTree (tags_of d n) tree old engine → engine'.evidence ≡ None → block_or_zeros (last_node level index engine'.made) ≡ block
+      block_last holds quiet =
+          let was : engine.evidence ≡ None = was_none engine.evidence engine'.evidence read.moves.evidence quiet in
+          ap (λ (m : List Message). block_or_zeros (last_node level index m)) read.once.made
+          ∙ ap (λ (o : Option (List ℕ)). block_or_zeros o) (known (read_current holds was) quiet)
+
+      put_fits : HoldsTree (tags_of d n) tree old engine → engine'.evidence ≡ None → IsTree (tags_of d n engine') tree' engine'.made new.written
+      put_fits holds quiet =
+          let fits : IsTree (tags_of d n engine') tree engine'.made new.written = read_fits holds quiet in
+          tree_recached (tags_of d n engine') tree tree' engine'.made new.written fits levels root
+          (λ other at inside. elim (same_or_not level index other at) [
+            | inr apart ↦ ap (λ (o : Option CachedNode). current_of o (last_node other at engine'.made)) (same other at apart)
+            | inl here ↦
+                subst (λ (k : ℕ). current_block tree' engine'.made k at ≡ current_block tree engine'.made k at) (sym here.0)
+                (subst (λ (i : ℕ). current_block tree' engine'.made level i ≡ current_block tree engine'.made level i) (sym here.1)
+                (ap (λ (o : Option CachedNode). current_of o (last_node level index engine'.made)) put
+                ∙ sym (block_last holds quiet)
+                ∙ sym (ap (λ (o : Option CachedNode). current_of o (last_node level index engine'.made)) absent)))
+          ])
+          (λ other at copy inside found unchanged. elim (same_or_not level index other at) [
+            | inr apart ↦ fits.clean other at copy inside (sym (same other at apart) ∙ found) unchanged
+            | inl here ↦
+                let is : Some (record { block = block; changed = false }) ≡ Some copy =
+                sym (ap (λ (k : ℕ). cached_node tree' k at) here.0 ∙ ap (λ (i : ℕ). cached_node tree' level i) here.1 ∙ put) ∙ found in
+                let same_block : copy.block ≡ block = cc in
+                same_block ∙ sym (block_last holds quiet)
+                ∙ sym (ap (λ (k : ℕ). block_or_zeros (last_node k at engine'.made)) here.0 ∙ ap (λ (i : ℕ). block_or_zeros (last_node level i engine'.made)) here.1)
+          ])
+
+      read_here : WasReadUp tree level index old new
+      read_here = record {
+        rose = λ more inside none. elim (cases_lt 0 more) [
+          | inl some ↦
+              let first : cached_node tree (level + 1) (index / 4) ≡ None =
+              ap (λ (i : ℕ). cached_node tree (level + 1) i) (sym (ap (λ (k : ℕ). index / k) refl)) ∙ none 1 (omega arith) in
+              absurd (parent (omega (arith, inside, some)) first)
+          | inr zero_more ↦
+              let going : stop_of result ≢ Some NoMemory = λ (e : stop_of result ≡ Some NoMemory). cc in
+              let rose : Rose (old.reads (node_place level index)) (new.reads (node_place level index)) = read.once.rose going in
+              let level_is : level ≡ level + more = omega (arith, zero_more) in
+              let none_more_is : 0 ≡ more = omega (arith, zero_more) in
+              let index_is : index ≡ above tree.levels index more =
+              subst (λ (k : ℕ). index ≡ above tree.levels index k) none_more_is (omega arith) in
+              subst (λ (k : ℕ). Rose (old.reads (node_place k (above tree.levels index more))) (new.reads (node_place k (above tree.levels index more)))) level_is
+              (subst (λ (i : ℕ). Rose (old.reads (node_place level i)) (new.reads (node_place level i))) index_is rose)
+        ];
+      }
+
+      pub climbs_put : Climbs (tags_of d n) level tree old engine tree' new engine' None
+      climbs_put =
+          let climbs : Climbs (tags_of d n) level tree old engine tree new engine' None =
+          subst (λ (s : Option MemStop). Climbs (tags_of d n) level tree old engine tree new engine' s) is_ok climbs_read in
+          record {
+            moves = climbs.moves;
+            lines = climbs.lines;
+            levels = levels;
+            root = root;
+            nodes = λ are. nodes;
+            copies = λ other low. others other (λ (e : other ≡ level). absurd (omega (arith, e, low)));
+            last = climbs.last;
+            written = climbs.written;
+            holds = λ holds going. record { fits = λ quiet. put_fits holds quiet };
+            honest = climbs.honest;
+            lied = climbs.lied;
+            shown = climbs.shown;
+            tampered = climbs.tampered;
+            found = climbs.found;
+            unspent = climbs.unspent;
+            room = climbs.room;
+            writes = climbs.writes;
+            made_blocks = climbs.made_blocks;
+            last_blocks = climbs.last_blocks;
+            read = λ other at held. elim (same_or_not level index other at) [
+              | inr apart ↦ read_up_held tree other at old new (λ none. held (same other at apart ∙ none))
+              | inl here ↦
+                  subst (λ (k : ℕ). WasReadUp tree k at old new) (sym here.0)
+                  (subst (λ (i : ℕ). WasReadUp tree level i old new) (sym here.1) read_here)
+            ];
+          }
+
+  -- Writes of a node
+
+  -- where room was taken for its message first
+  pub writes_taken : (levels : ℕ) (old new : BusHistory) (engine taken engine' : TagEngineView T) (unwritten : ℕ) → taken ≡ with_room 1 engine →
+      WritesNodes (tags_of d n) levels old taken new engine' unwritten → WritesNodes (tags_of d n) levels old engine new engine' unwritten
+  writes_taken levels old new engine taken engine' unwritten taken_is wrote_taken =
+      let wrote : WritesNodes (tags_of d n) levels old (with_room 1 engine) new engine' unwritten =
+      subst (λ (e : TagEngineView T). WritesNodes (tags_of d n) levels old e new engine' unwritten) taken_is wrote_taken in
+      record {
+        moves = record {
+          bus_levels = wrote.moves.bus_levels;
+          levels = wrote.moves.levels;
+          tagger = wrote.moves.tagger;
+          more = wrote.moves.more;
+          made = wrote.moves.made;
+          evidence = wrote.moves.evidence;
+          reads = wrote.moves.reads;
+          accesses = wrote.moves.accesses;
+          lies = wrote.moves.lies;
+        };
+        lines = wrote.lines;
+        evidence = wrote.evidence;
+        room = let room : max engine.room 1 ≤ engine'.room + length wrote.moves.more = wrote.room in omega (arith, room);
+        reads = wrote.reads;
+        lies = wrote.lies;
+        lie = wrote.lie;
+        most = wrote.most;
+        idle = wrote.idle;
+        exact = wrote.exact;
+        writes = wrote.writes;
+        made_blocks = wrote.made_blocks;
+        last_blocks = wrote.last_blocks;
+        honest = wrote.honest;
+      }
+
+  -- the first evidence stays, and it is none where there was none
+  no_evidence : (engine engine' : TagEngineView T) (evidence : Evidence) → engine'.evidence ≡ engine.evidence → engine.evidence ≡ None → engine'.evidence ≡ Some evidence → ⊥
+  no_evidence engine engine' evidence same quiet is = absurd (cc)
+
+  -- how a write stops
+  abbrev pub CanStop : Option MemStop → Type 0
+  CanStop stop = (stop ≡ None) ⊎ (stop ≡ Some NoMemory)
+
+  not_tampered : (stop : Option MemStop) (place : Place) → CanStop stop → stop ≡ Some (Tampered place) → ⊥
+  not_tampered stop place (inl going) is = absurd (cc)
+  not_tampered stop place (inr want) is = absurd (cc)
+
+  not_spent : (stop : Option MemStop) (page : ℕ) → CanStop stop → stop ≡ Some (Spent page) → ⊥
+  not_spent stop page (inl going) is = absurd (cc)
+  not_spent stop page (inr want) is = absurd (cc)
+
+  accounted_so : (stop : Option MemStop) (tag_of : Message → List ℕ) (used : List (ℕ × Counter)) (made : List Message) (history : BusHistory) (evidence : Option Evidence) →
+      CanStop stop → IsAccounted tag_of used made history None evidence → IsAccounted tag_of used made history stop evidence
+  accounted_so stop tag_of used made history evidence (inl going) was = subst (λ (s : Option MemStop). IsAccounted tag_of used made history s evidence) (sym going) was
+  accounted_so stop tag_of used made history evidence (inr want) was =
+      subst (λ (s : Option MemStop). IsAccounted tag_of used made history s evidence) (sym want)
+      (ended_accounted tag_of used made history NoMemory evidence (λ place is. cc) was)
+
+  none_unwritten : (stop : Option MemStop) → CanStop stop → stop ≢ Some NoMemory → unwritten_in stop ≡ 0
+  none_unwritten stop (inl going) remembered = ap unwritten_in going
+  none_unwritten stop (inr want) remembered = absurd (remembered want)
+
+  pub climbs_wrote : (tree tree' : TreeView) (level : ℕ) (old new : BusHistory) (engine engine' : TagEngineView T) (stop : Option MemStop) → CanStop stop →
+      WritesNodes (tags_of d n) tree.levels old engine new engine' (unwritten_in stop) → tree'.levels ≡ tree.levels → tree'.root ≡ tree.root →
+      (AreNodeCaches tree.levels tree.caches → AreNodeCaches tree'.levels tree'.caches) →
+      ((other : ℕ) → other < level → level_cache tree'.caches other ≡ level_cache tree.caches other) →
+      ((other at : ℕ) → other < level → last_node other at engine'.made ≡ last_node other at engine.made) →
+      ((other at : ℕ) → other < level → new.written (node_place other at) ≡ old.written (node_place other at)) →
+      (HoldsTree (tags_of d n) tree old engine → stop ≡ None → HoldsTree (tags_of d n) tree' new engine') →
+      ((other at : ℕ) → cached_node tree' other at ≢ None → cached_node tree other at ≢ None) →
+      Climbs (tags_of d n) level tree old engine tree' new engine' stop
+  climbs_wrote tree tree' level old new engine engine' stop can wrote levels root nodes copies last written holds held = record {
+    moves = wrote.moves;
+    lines = wrote.lines;
+    levels = levels;
+    root = root;
+    nodes = nodes;
+    copies = copies;
+    last = last;
+    written = written;
+    holds = holds;
+    honest = λ was used accounted.
+        let tags : tags_of d n engine' ≡ tags_of d n engine = same_tags d n old new engine engine' wrote.moves in
+        accounted_so stop (tags_of d n engine) used engine'.made new engine'.evidence can (wrote.honest used used accounted);
+    lied = λ was quiet place is. absurd (not_tampered stop place can is);
+    shown = λ was quiet some. absurd (some (wrote.evidence ∙ quiet));
+    tampered = λ place is. absurd (not_tampered stop place can is);
+    found = λ quiet evidence is. absurd (no_evidence engine engine' evidence wrote.evidence quiet is);
+    unspent = λ spent is. not_spent stop spent can is;
+    room = wrote.room;
+    writes = wrote.writes;
+    made_blocks = wrote.made_blocks;
+    last_blocks = λ remembered was. wrote.last_blocks (none_unwritten stop can remembered) was;
+    read = λ other at copied. read_up_held tree other at old new (held other at copied);
+  }
+
+  -- a node was written whose parent has a copy, and its tag put into that
+  module _ (tree tree' : TreeView) (level index : ℕ) (block tag : List ℕ) (old new : BusHistory) (engine taken engine' : TagEngineView T) (taken_is : taken ≡ with_room 1 engine)
+      (write : NodeWritten (tags_of d n) level index block old taken new engine') where
+    made_before : taken.made ≡ engine.made
+    made_before = ap (λ (e : TagEngineView T). e.made) taken_is
+
+    pub last_apart : (other at : ℕ) → ¬ (SameNode level index other at) → last_node other at engine'.made ≡ last_node other at engine.made
+    last_apart other at apart =
+        (write.others (node_place other at) (λ (same : node_place other at ≡ node_place level index).
+        let level_same : other ≡ level = cc in let index_same : at ≡ index = cc in apart (level_same, index_same))).last
+        ∙ ap (λ (m : List Message). last_node other at m) made_before
+
+    pub written_apart : (other at : ℕ) → ¬ (SameNode level index other at) → new.written (node_place other at) ≡ old.written (node_place other at)
+    written_apart other at apart =
+        (write.others (node_place other at) (λ (same : node_place other at ≡ node_place level index).
+        let level_same : other ≡ level = cc in let index_same : at ≡ index = cc in apart (level_same, index_same))).written
+
+    pub put_holds : WritesOnce (node_place level index) block old new → PutsTag tree tree' level index tag → level < tree.levels → IsNode tree.levels level index →
+        tag ≡ tags_of d n taken (Node level index block) → length tag ≡ 16 → length block ≡ 64 →
+        (level ≡ 0) ⊎ (current_block tree engine.made level index ≡ block) →
+        HoldsTree (tags_of d n) tree old engine → HoldsTree (tags_of d n) tree' new engine'
+    put_holds once puts below node is_tag tag_long long is_current_block holds = record {
+      fits = λ quiet.
+          let same_evidence : engine'.evidence ≡ engine.evidence =
+          ap (λ (e : TagEngineView T). e.evidence) write.made ∙ ap (λ (e : TagEngineView T). e.evidence) taken_is in
+          let was : engine.evidence ≡ None = sym same_evidence ∙ quiet in
+          let tags_taken : tags_of d n taken ≡ tags_of d n engine = ap (λ (e : TagEngineView T). tags_of d n e) taken_is in
+          let tags : tags_of d n engine' ≡ tags_of d n engine = same_tags d n old new taken engine' write.moves ∙ tags_taken in
+          let put : IsPut level index block engine.made engine'.made old.written new.written =
+          subst (λ (m : List Message). IsPut level index block m engine'.made old.written new.written) made_before
+          (is_put d n level index block old new taken engine' write once) in
+          subst (λ (t : Message → List ℕ). IsTree t tree' engine'.made new.written) (sym tags)
+          (tree_put (tags_of d n engine) tree tree' engine.made engine'.made old.written new.written level index block tag (holds.fits was) puts put
+          below node (is_tag ∙ ap (λ (t : Message → List ℕ). t (Node level index block)) tags_taken) tag_long long is_current_block);
+    }
+
+-- a copy that there is
+pub held_copy : (found : Option CachedNode) → found ≢ None → (copy : CachedNode) × (found ≡ Some copy)
+held_copy None held = absurd (held refl)
+held_copy (Some copy) held = (copy, refl)
+
+-- what had a copy before a tag was put into one
+pub puts_held : (tree tree' : TreeView) (level index : ℕ) (tag : List ℕ) → PutsTag tree tree' level index tag → (other at : ℕ) →
+    cached_node tree' other at ≢ None → cached_node tree other at ≢ None
+puts_held tree tree' level index tag puts other at held none =
+    elim (same_or_not (level + 1) (index / 4) other at) [
+      | inr apart ↦ held (puts.same other at apart ∙ none)
+      | inl here ↦
+          let some : cached_node tree other at ≡ Some puts.copy =
+          ap (λ (k : ℕ). cached_node tree k at) here.0 ∙ ap (λ (i : ℕ). cached_node tree (level + 1) i) here.1 ∙ puts.held in
+          absurd (cc)
+    ]

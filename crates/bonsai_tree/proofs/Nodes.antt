@@ -1,0 +1,138 @@
+-- What is read of the tree, and what is not changed.
+use Rattle.std.proofs.Common.{◌≡◌, ◌≢◌, ◌⊎◌, inl, inr, ℕ, ◌+◌, ◌/◌, ◌%◌, ◌<◌, ◌≤◌, Bool, true, false, cond, nat_lt, List, Option, Some, None, Result, Ok, Err, refl, ap, sym, ◌∙◌, arith}
+use Rattle.std.specs.Option.{option_or}
+use Rattle.std.specs.Prelude.{IfOk, OnErr, OnOk}
+use Rattle.std.proofs.lemmas.Bool.{cases_eq}
+use Rattle.std.proofs.lemmas.Bool.Decides.{Decides-ltb}
+use Rattle.sec_base.specs.Count.{Rose}
+use Rattle.sec_base.specs.Evidence.{evidence_place}
+use Rattle.sec_base.specs.Geometry.{IsNode}
+use Rattle.sec_base.specs.LastMessage.{last_node}
+use Rattle.sec_base.specs.declared.counter.Counter.{Counter}
+use Rattle.sec_base.specs.declared.evidence.Evidence.{Evidence}
+use Rattle.sec_base.specs.declared.message.Message.{Message}
+use Rattle.sec_base.specs.declared.place.Place.{Place}
+use Rattle.sec_base.specs.declared.place.Place.TheVariants.{Node as node_place}
+use Rattle.sec_base.specs.declared.stop.MemStop.{MemStop}
+use Rattle.sec_base.specs.declared.stop.MemStop.TheVariants.{Tampered, Spent, NoMemory}
+use Rattle.bus_model.specs.BusHistory.{BusHistory}
+use Rattle.tag_engine.specs.TagEngine.{TagEngineView, collision_of, tags_of}
+use Rattle.tag_engine.proofs.Collisions.{collides}
+use Rattle.checked_bus.specs.Checks.{IsCheckedNode}
+use Rattle.checked_bus.specs.Steps.{IsAccounted, IsCurrentNode, Moves, ReadsOnce, SameLines, stop_of}
+use Rattle.bonsai_tree.specs.Node.{block_or_zeros, tag_in_slot, tag_of_last}
+use Rattle.bonsai_tree.specs.Tree.{TreeView, IsTree, current_block, kept_tag}
+
+-- Two nodes are the same
+abbrev pub SameNode : ℕ → ℕ → ℕ → ℕ → Type 0
+SameNode level index other at = (other ≡ level) × (at ≡ index)
+
+pub same_or_not : (level index other at : ℕ) → SameNode level index other at ⊎ ¬ (SameNode level index other at)
+same_or_not level index other at =
+    elim (cases_eq other level) [
+      | inr differs ↦ inr (λ (same : SameNode level index other at). differs same.0)
+      | inl level_same ↦ elim (cases_eq at index) [
+        | inr differs ↦ inr (λ (same : SameNode level index other at). differs same.1)
+        | inl index_same ↦ inl (level_same, index_same)
+      ]
+    ]
+
+-- below the top a tag is kept in the parent's current block, and at the top in the root register
+pub kept_below : (tree : TreeView) (made : List Message) (lower at : ℕ) → lower < tree.levels →
+    kept_tag tree made lower at ≡ tag_in_slot (at % 4) (current_block tree made (lower + 1) (at / 4))
+kept_below tree made lower at below =
+    let test : nat_lt lower tree.levels ≡ true = (Decides-ltb lower tree.levels).1 below in
+    ap (λ (b : Bool). cond b (tag_in_slot (at % 4) (current_block tree made (lower + 1) (at / 4))) tree.root) test
+
+not_below : (b : Bool) (x y : List ℕ) → (b ≡ true → ⊥) → cond b x y ≡ y
+not_below true x y no_way = absurd (no_way refl)
+not_below false x y no_way = refl
+
+pub kept_top : (tree : TreeView) (made : List Message) (lower at : ℕ) → tree.levels ≤ lower → kept_tag tree made lower at ≡ tree.root
+kept_top tree made lower at top =
+    not_below (nat_lt lower tree.levels) _ tree.root
+    (λ (below : nat_lt lower tree.levels ≡ true). let less : lower < tree.levels = (Decides-ltb lower tree.levels).0 below in absurd (omega arith))
+
+-- Results
+
+pub was_none : (old new : Option Evidence) → ((evidence : Evidence) → old ≡ Some evidence → new ≡ Some evidence) → new ≡ None → old ≡ None
+was_none None new stays none = refl
+was_none (Some evidence) new stays none = let some : new ≡ Some evidence = stays evidence refl in absurd (cc)
+
+pub some_or_none : (evidence : Option Evidence) → (evidence ≡ None) ⊎ ((shown : Evidence) × (evidence ≡ Some shown))
+some_or_none None = inl refl
+some_or_none (Some evidence) = inr (evidence, refl)
+
+pub some_not_none : (evidence : Option Evidence) (shown : Evidence) → evidence ≡ Some shown → evidence ≢ None
+some_not_none evidence shown some none = cc
+
+pub stop_is : {A : Type 0} (result : Result A MemStop) (stop : MemStop) → stop_of result ≡ Some stop → result ≡ Err stop
+stop_is (Ok value) stop is = absurd (cc)
+stop_is (Err other) stop is = cc
+
+-- what holds in any case
+pub on_ok : {A E P : Type 0} (result : Result A E) → P → OnOk result P
+on_ok (Ok value) fact = fact
+on_ok (Err stop) fact = tt
+
+pub on_err : {A E P : Type 0} (result : Result A E) → P → OnErr result P
+on_err (Ok value) fact = tt
+on_err (Err stop) fact = fact
+
+pub if_ok : {A E : Type 0} (P Q : A → Type 0) (result : Result A E) → ((value : A) → P value → Q value) → IfOk result P → IfOk result Q
+if_ok P Q (Ok value) follows fact = follows value fact
+if_ok P Q (Err stop) follows fact = tt
+
+-- A read of a node
+
+pub record NodeRead {T : Type 0} (tags : TagEngineView T → Message → List ℕ) (level index : ℕ) (tag : List ℕ) (old : BusHistory) (engine : TagEngineView T)
+    (new : BusHistory) (engine' : TagEngineView T) (result : Result (List ℕ) MemStop) : Type 0 where
+  pub moves : Moves old engine new engine'
+  pub once : ReadsOnce (node_place level index) old engine new engine' (stop_of result)
+  pub lines : SameLines old engine.made new engine'.made
+  pub honest : (used : List (ℕ × Counter)) → (engine.evidence ≡ None → IsCurrentNode (tags engine) engine.made old.written level index tag) →
+      IsAccounted (tags engine) used engine.made old None engine.evidence → IsAccounted (tags engine) used engine'.made new (stop_of result) engine'.evidence
+  pub shown : IsCurrentNode (tags engine) engine.made old.written level index tag → engine.evidence ≡ None →
+      engine'.evidence ≢ None → Rose old.lies new.lies
+  pub found : (evidence : Evidence) → engine.evidence ≡ None → engine'.evidence ≡ Some evidence → evidence_place evidence ≡ node_place level index
+  pub tampered : (place : Place) → result ≡ Err (Tampered place) → (place ≡ node_place level index)
+      × (IsCurrentNode (tags engine) engine.made old.written level index tag → Rose old.lies new.lies)
+  pub unspent : (page : ℕ) → result ≢ Err (Spent page)
+
+found_by : (tag_of : Message → List ℕ) (made : List Message) (level index : ℕ) (block tag : List ℕ) (before : Option Evidence) (evidence : Evidence) → before ≡ None →
+    option_or before (collision_of tag_of made level index block tag true) ≡ Some evidence → evidence_place evidence ≡ node_place level index
+found_by tag_of made level index block tag None evidence none shown =
+    ap evidence_place (collides tag_of made level index block tag evidence shown).is
+found_by tag_of made level index block tag (Some first) evidence none shown = absurd (cc)
+
+-- what a read of a node finds is of the node
+pub node_found : {T : Type 0} (tag_of : Message → List ℕ) (level index : ℕ) (tag : List ℕ) (history history' : BusHistory) (engine engine' : TagEngineView T)
+    (result : Result (List ℕ) MemStop) → IsCheckedNode tag_of level index tag history history' engine engine' result →
+    (evidence : Evidence) → engine.evidence ≡ None → engine'.evidence ≡ Some evidence → evidence_place evidence ≡ node_place level index
+node_found {T} tag_of level index tag history history' engine engine' (Ok answer) passed evidence none shown =
+    found_by tag_of engine.made level index passed.block tag engine.evidence evidence none
+    (sym (ap (λ (e : TagEngineView T). e.evidence) passed.checked) ∙ shown)
+node_found {T} tag_of level index tag history history' engine engine' (Err (Tampered place)) failed evidence none shown =
+    let same : engine'.evidence ≡ engine.evidence = ap (λ (e : TagEngineView T). e.evidence) failed.1.unchanged in absurd (cc)
+node_found tag_of level index tag history history' engine engine' (Err (Spent page)) refused evidence none shown = absurd refused
+node_found {T} tag_of level index tag history history' engine engine' (Err NoMemory) refused evidence none shown =
+    let same : engine'.evidence ≡ engine.evidence = ap (λ (e : TagEngineView T). e.evidence) refused.1 in absurd (cc)
+
+-- moves leave the tags
+pub same_tags : {T : Type 0} (d n : T → List ℕ → List ℕ) (old new : BusHistory) (engine engine' : TagEngineView T) → Moves old engine new engine' →
+    tags_of d n engine' ≡ tags_of d n engine
+same_tags {T} d n old new engine engine' moves =
+    ap (λ (tagger : T). tags_of d n (record engine' { tagger = tagger })) moves.tagger
+    ∙ ap (λ (levels : ℕ). tags_of d n (record engine { levels = levels })) moves.levels
+
+-- where the tree fits, the tag that is kept of a node is that of its last block
+pub is_current : (tag_of : Message → List ℕ) (tree : TreeView) (made : List Message) (written : Place → List ℕ) (level index : ℕ) →
+    IsNode tree.levels level index → IsTree tag_of tree made written → IsCurrentNode tag_of made written level index (kept_tag tree made level index)
+is_current tag_of tree made written level index node fits =
+    let last : last_node level index made ≡ Some (block_or_zeros (last_node level index made)) = fits.made_all level index node in
+    record {
+      block = block_or_zeros (last_node level index made);
+      last = last;
+      tagged = fits.slots level index node ∙ ap (λ (o : Option (List ℕ)). tag_of_last tag_of level index o) last;
+      stored = fits.stored level index node;
+    }

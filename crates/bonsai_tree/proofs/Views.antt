@@ -1,0 +1,40 @@
+-- What becomes of the tree that contracts see, by what becomes of the caches of its nodes.
+use Rattle.std.proofs.Common.{◌≡◌, ◌≢◌, ℕ, ◌<◌, ◌≤◌, List, Option, Some, None, IsSome, ap, ◌∙◌}
+use Rattle.std.specs.Option.{option_map}
+use Rattle.cache_set.specs.declared.way.Way.{Way}
+use Rattle.bonsai_tree.specs.NodeCache.{AreNodeCaches, IsLatestNode, NodeCacheView, OtherLevels, OtherNodes, copy_of, level_cache, node_way}
+use Rattle.bonsai_tree.specs.Tree.{TreeView, cached_node}
+use Rattle.bonsai_tree.proofs.Copies.{latest_held}
+use Rattle.bonsai_tree.proofs.Nodes.{SameNode}
+
+-- the tree over caches of nodes
+abbrev pub tree_of : List ℕ → NodeCacheView → TreeView
+tree_of root nodes = record { levels = nodes.levels; root = root; caches = nodes.caches }
+
+some_copy : (found : Option Way) → IsSome found → option_map copy_of found ≢ None
+some_copy None some none = absurd (cc)
+some_copy (Some way) some none = absurd (cc)
+
+-- a node whose copy is the most recently used one has a copy
+pub latest_cached : (tree : TreeView) (level index : ℕ) → AreNodeCaches tree.levels tree.caches → 0 < level → level ≤ tree.levels →
+    IsLatestNode tree.caches level index → cached_node tree level index ≢ None
+latest_cached tree level index are some inside latest =
+    some_copy (node_way tree.caches level index) (latest_held tree.levels tree.caches level index are some inside latest)
+
+module _ (tree : TreeView) (root : List ℕ) (nodes nodes' : NodeCacheView) (view_is : tree_of root nodes ≡ tree) where
+  pub levels_as : nodes'.levels ≡ nodes.levels → nodes'.levels ≡ tree.levels
+  levels_as same = same ∙ ap (λ (v : TreeView). v.levels) view_is
+
+  pub root_as : root ≡ tree.root
+  root_as = ap (λ (v : TreeView). v.root) view_is
+
+  pub others_as : (level : ℕ) → OtherLevels level nodes.caches nodes'.caches → OtherLevels level tree.caches nodes'.caches
+  others_as level others other apart = others other apart ∙ ap (λ (v : TreeView). level_cache v.caches other) view_is
+
+  pub same_as : (level index : ℕ) → OtherNodes level index nodes.caches nodes'.caches → (other at : ℕ) → ¬ (SameNode level index other at) →
+      cached_node (tree_of root nodes') other at ≡ cached_node tree other at
+  same_as level index same other at apart = ap (option_map copy_of) (same other at apart) ∙ ap (λ (v : TreeView). cached_node v other at) view_is
+
+  pub all_as : ((other at : ℕ) → node_way nodes'.caches other at ≡ node_way nodes.caches other at) → (other at : ℕ) →
+      cached_node (tree_of root nodes') other at ≡ cached_node tree other at
+  all_as same other at = ap (option_map copy_of) (same other at) ∙ ap (λ (v : TreeView). cached_node v other at) view_is

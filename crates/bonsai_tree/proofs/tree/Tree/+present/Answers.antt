@@ -1,0 +1,177 @@
+use Rattle.std.proofs.Common.{◌≡◌, ◌+◌, ℕ, List, length, Option, Some, None, ap, sym, ◌∙◌, subst, arith, rules}
+use Rattle.std.specs.Option.{option_map}
+use Rattle.sec_base.specs.declared.stop.MemStop.{MemStop}
+use Rattle.sec_base.specs.declared.stop.MemStop.TheVariants.{NoMemory}
+use Rattle.cache_set.specs.declared.way.Way.{Way}
+use Rattle.cache_set.specs.Cache.{way_at}
+use Rattle.tag_engine.specs.TagEngine.{tags_of}
+use Rattle.checked_bus.specs.Steps.{stop_of}
+use Rattle.bonsai_tree.specs.Climb.{Climbs}
+use Rattle.bonsai_tree.specs.NodeCache.{AreNodeCaches, copy_of, node_way}
+use Rattle.bonsai_tree.specs.Tree.{TreeView}
+use Rattle.bonsai_tree.proofs.Climbs.{climbs_not, climbs_on, climbs_up}
+use Rattle.bonsai_tree.proofs.NodeCalls.{climbs_dropped, climbs_touched}
+use Rattle.bonsai_tree.proofs.Accesses.{present_first, present_second}
+use Rattle.bonsai_tree.proofs.Views.{all_as, levels_as, others_as, root_as, same_as, tree_of}
+use Rattle.bonsai_tree.proofs.tree.Tree.+present.Goals as goal
+
+pub parent_present-returns-then-level-levels-clause-climbs : goal.parent_present-returns-then-level-levels-clause-climbs
+parent_present-returns-then-level-levels-clause-climbs g t c = climbs_not g.T.Tagger.data_tag_of g.T.Tagger.node_tag_of (c.args.level + 1) c.args.self.now (g.B.Bus.history c.args.bus.now) c.args.tags.now
+
+pub write_back-returns-in_err-parent_present-clause-climbs : goal.write_back-returns-in_err-parent_present-clause-climbs
+write_back-returns-in_err-parent_present-clause-climbs g t c =
+    let why = c.in_err-parent_present.field-0.0 in
+    let stop : stop_of c.from_residual.result ≡ Some why = search rules in
+    subst (λ (s : Option MemStop). Climbs (tags_of g.T.Tagger.data_tag_of g.T.Tagger.node_tag_of) c.args.level c.args.self.now
+    (g.B.Bus.history c.args.bus.now) c.args.tags.now c.parent_present.new.self (g.B.Bus.history c.parent_present.new.bus) c.parent_present.new.tags s) (sym stop)
+    (climbs_up g.T.Tagger.data_tag_of g.T.Tagger.node_tag_of c.args.level (c.args.level + 1) c.args.self.now c.parent_present.new.self (g.B.Bus.history c.args.bus.now) (g.B.Bus.history c.parent_present.new.bus) c.args.tags.now c.parent_present.new.tags (Some why) (omega arith) c.in_err-parent_present.ensures.climbs)
+
+pub write_back-returns-in_err-write_below-clause-climbs : goal.write_back-returns-in_err-write_below-clause-climbs
+write_back-returns-in_err-write_below-clause-climbs g t c =
+    let stop : stop_of c.from_residual-in_err-write_below.result ≡ Some NoMemory = search rules in
+    subst (λ (s : Option MemStop). Climbs (tags_of g.T.Tagger.data_tag_of g.T.Tagger.node_tag_of) c.args.level c.args.self.now
+    (g.B.Bus.history c.args.bus.now) c.args.tags.now c.write_below.new.self (g.B.Bus.history c.write_below.new.bus) c.write_below.new.tags s) (sym stop)
+    (climbs_on g.T.Tagger.data_tag_of g.T.Tagger.node_tag_of c.args.level c.args.self.now c.parent_present.new.self c.write_below.new.self (g.B.Bus.history c.args.bus.now) (g.B.Bus.history c.parent_present.new.bus) (g.B.Bus.history c.write_below.new.bus) c.args.tags.now c.parent_present.new.tags c.write_below.new.tags (Some NoMemory)
+    (climbs_up g.T.Tagger.data_tag_of g.T.Tagger.node_tag_of c.args.level (c.args.level + 1) c.args.self.now c.parent_present.new.self (g.B.Bus.history c.args.bus.now) (g.B.Bus.history c.parent_present.new.bus) c.args.tags.now c.parent_present.new.tags None (omega arith) c.in_ok-parent_present.ensures.climbs)
+    c.in_err-write_below.ensures.climbs)
+
+pub write_back-returns-clause-climbs : goal.write_back-returns-clause-climbs
+write_back-returns-clause-climbs g t c =
+    climbs_on g.T.Tagger.data_tag_of g.T.Tagger.node_tag_of c.args.level c.args.self.now c.parent_present.new.self c.write_below.new.self (g.B.Bus.history c.args.bus.now) (g.B.Bus.history c.parent_present.new.bus) (g.B.Bus.history c.write_below.new.bus) c.args.tags.now c.parent_present.new.tags c.write_below.new.tags None
+    (climbs_up g.T.Tagger.data_tag_of g.T.Tagger.node_tag_of c.args.level (c.args.level + 1) c.args.self.now c.parent_present.new.self (g.B.Bus.history c.args.bus.now) (g.B.Bus.history c.parent_present.new.bus) c.args.tags.now c.parent_present.new.tags None (omega arith) c.in_ok-parent_present.ensures.climbs)
+    (c.in_ok-write_below.ensures.climbs)
+
+pub make_room-returns-in_default-clause-climbs : goal.make_room-returns-in_default-clause-climbs
+make_room-returns-in_default-clause-climbs g t c = climbs_not g.T.Tagger.data_tag_of g.T.Tagger.node_tag_of c.args.level c.args.self.now (g.B.Bus.history c.args.bus.now) c.args.tags.now
+
+pub make_room-returns-in_err-write_back-clause-climbs : goal.make_room-returns-in_err-write_back-clause-climbs
+make_room-returns-in_err-write_back-clause-climbs g t c =
+    let why = c.in_err-write_back.field-0.0 in
+    let stop : stop_of c.from_residual.result ≡ Some why = search rules in
+    subst (λ (s : Option MemStop). Climbs (tags_of g.T.Tagger.data_tag_of g.T.Tagger.node_tag_of) c.args.level c.args.self.now
+    (g.B.Bus.history c.args.bus.now) c.args.tags.now c.write_back.new.self (g.B.Bus.history c.write_back.new.bus) c.write_back.new.tags s) (sym stop)
+    (c.in_err-write_back.ensures.climbs)
+
+pub present-returns-then-touch-clause-climbs : goal.present-returns-then-touch-clause-climbs
+present-returns-then-touch-clause-climbs g t c =
+    climbs_touched g.T.Tagger.data_tag_of g.T.Tagger.node_tag_of c.args.level c.args.self.now (tree_of c.self.inside.root c.touch.new.self) (g.B.Bus.history c.args.bus.now) c.args.tags.now
+    (levels_as c.args.self.now c.self.inside.root c.self.inside.nodes c.touch.new.self c.self.view_is c.if-touch.ensures.levels)
+    (root_as c.args.self.now c.self.inside.root c.self.inside.nodes c.touch.new.self c.self.view_is) c.if-touch.ensures.nodes
+    (others_as c.args.self.now c.self.inside.root c.self.inside.nodes c.touch.new.self c.self.view_is c.args.level c.if-touch.ensures.others)
+    (all_as c.args.self.now c.self.inside.root c.self.inside.nodes c.touch.new.self c.self.view_is c.if-touch.ensures.same)
+
+pub present-returns-in_err-make_room-clause-climbs : goal.present-returns-in_err-make_room-clause-climbs
+present-returns-in_err-make_room-clause-climbs g t c =
+    let why = c.in_err-make_room.field-0.0 in
+    let stop : stop_of c.from_residual.result ≡ Some why = search rules in
+    subst (λ (s : Option MemStop). Climbs (tags_of g.T.Tagger.data_tag_of g.T.Tagger.node_tag_of) c.args.level c.args.self.now
+    (g.B.Bus.history c.args.bus.now) c.args.tags.now c.make_room.new.self (g.B.Bus.history c.make_room.new.bus) c.make_room.new.tags s) (sym stop)
+    (climbs_on g.T.Tagger.data_tag_of g.T.Tagger.node_tag_of c.args.level c.args.self.now (tree_of c.self.inside.root c.touch.new.self) c.make_room.new.self (g.B.Bus.history c.args.bus.now) (g.B.Bus.history c.args.bus.now) (g.B.Bus.history c.make_room.new.bus) c.args.tags.now c.args.tags.now c.make_room.new.tags (Some why)
+    (climbs_touched g.T.Tagger.data_tag_of g.T.Tagger.node_tag_of c.args.level c.args.self.now (tree_of c.self.inside.root c.touch.new.self) (g.B.Bus.history c.args.bus.now) c.args.tags.now
+    (levels_as c.args.self.now c.self.inside.root c.self.inside.nodes c.touch.new.self c.self.view_is c.if-touch.ensures.levels) (root_as c.args.self.now c.self.inside.root c.self.inside.nodes c.touch.new.self c.self.view_is) c.if-touch.ensures.nodes
+    (others_as c.args.self.now c.self.inside.root c.self.inside.nodes c.touch.new.self c.self.view_is c.args.level c.if-touch.ensures.others) (all_as c.args.self.now c.self.inside.root c.self.inside.nodes c.touch.new.self c.self.view_is c.if-touch.ensures.same))
+    c.in_err-make_room.ensures.climbs)
+
+pub present-returns-in_err-parent_present-clause-climbs : goal.present-returns-in_err-parent_present-clause-climbs
+present-returns-in_err-parent_present-clause-climbs g t c =
+    let why = c.in_err-parent_present.field-0.0 in
+    let stop : stop_of c.from_residual-in_err-parent_present.result ≡ Some why = search rules in
+    subst (λ (s : Option MemStop). Climbs (tags_of g.T.Tagger.data_tag_of g.T.Tagger.node_tag_of) c.args.level c.args.self.now
+    (g.B.Bus.history c.args.bus.now) c.args.tags.now c.parent_present.new.self (g.B.Bus.history c.parent_present.new.bus) c.parent_present.new.tags s) (sym stop)
+    (climbs_on g.T.Tagger.data_tag_of g.T.Tagger.node_tag_of c.args.level c.args.self.now c.make_room.new.self c.parent_present.new.self (g.B.Bus.history c.args.bus.now) (g.B.Bus.history c.make_room.new.bus) (g.B.Bus.history c.parent_present.new.bus) c.args.tags.now c.make_room.new.tags c.parent_present.new.tags (Some why)
+    (climbs_on g.T.Tagger.data_tag_of g.T.Tagger.node_tag_of c.args.level c.args.self.now (tree_of c.self.inside.root c.touch.new.self) c.make_room.new.self (g.B.Bus.history c.args.bus.now) (g.B.Bus.history c.args.bus.now) (g.B.Bus.history c.make_room.new.bus) c.args.tags.now c.args.tags.now c.make_room.new.tags None
+    (climbs_touched g.T.Tagger.data_tag_of g.T.Tagger.node_tag_of c.args.level c.args.self.now (tree_of c.self.inside.root c.touch.new.self) (g.B.Bus.history c.args.bus.now) c.args.tags.now
+    (levels_as c.args.self.now c.self.inside.root c.self.inside.nodes c.touch.new.self c.self.view_is c.if-touch.ensures.levels) (root_as c.args.self.now c.self.inside.root c.self.inside.nodes c.touch.new.self c.self.view_is) c.if-touch.ensures.nodes
+    (others_as c.args.self.now c.self.inside.root c.self.inside.nodes c.touch.new.self c.self.view_is c.args.level c.if-touch.ensures.others) (all_as c.args.self.now c.self.inside.root c.self.inside.nodes c.touch.new.self c.self.view_is c.if-touch.ensures.same))
+    c.in_ok-make_room.ensures.climbs)
+    (climbs_up g.T.Tagger.data_tag_of g.T.Tagger.node_tag_of c.args.level (c.args.level + 1) c.make_room.new.self c.parent_present.new.self (g.B.Bus.history c.make_room.new.bus) (g.B.Bus.history c.parent_present.new.bus) c.make_room.new.tags c.parent_present.new.tags (Some why) (omega arith) c.in_err-parent_present.ensures.climbs))
+
+pub present-returns-clause-climbs : goal.present-returns-clause-climbs
+present-returns-clause-climbs g t c =
+    climbs_on g.T.Tagger.data_tag_of g.T.Tagger.node_tag_of c.args.level c.args.self.now c.parent_present.new.self c.read_in.new.self (g.B.Bus.history c.args.bus.now) (g.B.Bus.history c.parent_present.new.bus) (g.B.Bus.history c.read_in.new.bus) c.args.tags.now c.parent_present.new.tags c.read_in.new.tags (stop_of c.read_in.result)
+    (climbs_on g.T.Tagger.data_tag_of g.T.Tagger.node_tag_of c.args.level c.args.self.now c.make_room.new.self c.parent_present.new.self (g.B.Bus.history c.args.bus.now) (g.B.Bus.history c.make_room.new.bus) (g.B.Bus.history c.parent_present.new.bus) c.args.tags.now c.make_room.new.tags c.parent_present.new.tags None
+    (climbs_on g.T.Tagger.data_tag_of g.T.Tagger.node_tag_of c.args.level c.args.self.now (tree_of c.self.inside.root c.touch.new.self) c.make_room.new.self (g.B.Bus.history c.args.bus.now) (g.B.Bus.history c.args.bus.now) (g.B.Bus.history c.make_room.new.bus) c.args.tags.now c.args.tags.now c.make_room.new.tags None
+    (climbs_touched g.T.Tagger.data_tag_of g.T.Tagger.node_tag_of c.args.level c.args.self.now (tree_of c.self.inside.root c.touch.new.self) (g.B.Bus.history c.args.bus.now) c.args.tags.now
+    (levels_as c.args.self.now c.self.inside.root c.self.inside.nodes c.touch.new.self c.self.view_is c.if-touch.ensures.levels) (root_as c.args.self.now c.self.inside.root c.self.inside.nodes c.touch.new.self c.self.view_is) c.if-touch.ensures.nodes
+    (others_as c.args.self.now c.self.inside.root c.self.inside.nodes c.touch.new.self c.self.view_is c.args.level c.if-touch.ensures.others) (all_as c.args.self.now c.self.inside.root c.self.inside.nodes c.touch.new.self c.self.view_is c.if-touch.ensures.same))
+    c.in_ok-make_room.ensures.climbs)
+    (climbs_up g.T.Tagger.data_tag_of g.T.Tagger.node_tag_of c.args.level (c.args.level + 1) c.make_room.new.self c.parent_present.new.self (g.B.Bus.history c.make_room.new.bus) (g.B.Bus.history c.parent_present.new.bus) c.make_room.new.tags c.parent_present.new.tags None (omega arith) c.in_ok-parent_present.ensures.climbs))
+    c.read_in.ensures.climbs
+
+pub present-returns-in_err-make_room-clause-once : goal.present-returns-in_err-make_room-clause-once
+present-returns-in_err-make_room-clause-once g t c =
+    present_first c.args.self.now.levels c.touch.new.self.levels c.args.level (g.B.Bus.history c.args.bus.now).accesses (g.B.Bus.history c.make_room.new.bus).accesses c.requires.node.0
+    (levels_as c.args.self.now c.self.inside.root c.self.inside.nodes c.touch.new.self c.self.view_is c.if-touch.ensures.levels) c.in_err-make_room.ensures.once
+
+pub present-returns-in_err-parent_present-clause-once : goal.present-returns-in_err-parent_present-clause-once
+present-returns-in_err-parent_present-clause-once g t c =
+    present_second c.args.self.now.levels c.touch.new.self.levels c.make_room.new.self.levels c.args.level (g.B.Bus.history c.args.bus.now).accesses (g.B.Bus.history c.make_room.new.bus).accesses (g.B.Bus.history c.parent_present.new.bus).accesses (g.B.Bus.history c.parent_present.new.bus).accesses c.requires.node.0
+    (levels_as c.args.self.now c.self.inside.root c.self.inside.nodes c.touch.new.self c.self.view_is c.if-touch.ensures.levels) (c.in_ok-make_room.ensures.climbs.levels ∙ (levels_as c.args.self.now c.self.inside.root c.self.inside.nodes c.touch.new.self c.self.view_is c.if-touch.ensures.levels)) c.in_ok-make_room.ensures.once c.in_err-parent_present.ensures.once (omega arith)
+
+pub present-returns-clause-once : goal.present-returns-clause-once
+present-returns-clause-once g t c =
+    present_second c.args.self.now.levels c.touch.new.self.levels c.make_room.new.self.levels c.args.level (g.B.Bus.history c.args.bus.now).accesses (g.B.Bus.history c.make_room.new.bus).accesses (g.B.Bus.history c.parent_present.new.bus).accesses (g.B.Bus.history c.read_in.new.bus).accesses c.requires.node.0
+    (levels_as c.args.self.now c.self.inside.root c.self.inside.nodes c.touch.new.self c.self.view_is c.if-touch.ensures.levels) (c.in_ok-make_room.ensures.climbs.levels ∙ (levels_as c.args.self.now c.self.inside.root c.self.inside.nodes c.touch.new.self c.self.view_is c.if-touch.ensures.levels)) c.in_ok-make_room.ensures.once c.in_ok-parent_present.ensures.once c.read_in.ensures.once
+
+pub present-returns-in_err-make_room-clause-few : goal.present-returns-in_err-make_room-clause-few
+present-returns-in_err-make_room-clause-few g t c =
+    present_first c.args.self.now.levels c.touch.new.self.levels c.args.level (length c.args.tags.now.made) (length c.make_room.new.tags.made) c.requires.node.0
+    (levels_as c.args.self.now c.self.inside.root c.self.inside.nodes c.touch.new.self c.self.view_is c.if-touch.ensures.levels) c.in_err-make_room.ensures.few
+
+pub present-returns-in_err-parent_present-clause-few : goal.present-returns-in_err-parent_present-clause-few
+present-returns-in_err-parent_present-clause-few g t c =
+    present_second c.args.self.now.levels c.touch.new.self.levels c.make_room.new.self.levels c.args.level (length c.args.tags.now.made) (length c.make_room.new.tags.made) (length c.parent_present.new.tags.made) (length c.parent_present.new.tags.made) c.requires.node.0
+    (levels_as c.args.self.now c.self.inside.root c.self.inside.nodes c.touch.new.self c.self.view_is c.if-touch.ensures.levels) (c.in_ok-make_room.ensures.climbs.levels ∙ (levels_as c.args.self.now c.self.inside.root c.self.inside.nodes c.touch.new.self c.self.view_is c.if-touch.ensures.levels)) c.in_ok-make_room.ensures.few c.in_err-parent_present.ensures.few (omega arith)
+
+pub present-returns-clause-few : goal.present-returns-clause-few
+present-returns-clause-few g t c =
+    present_second c.args.self.now.levels c.touch.new.self.levels c.make_room.new.self.levels c.args.level (length c.args.tags.now.made) (length c.make_room.new.tags.made) (length c.parent_present.new.tags.made) (length c.read_in.new.tags.made) c.requires.node.0
+    (levels_as c.args.self.now c.self.inside.root c.self.inside.nodes c.touch.new.self c.self.view_is c.if-touch.ensures.levels) (c.in_ok-make_room.ensures.climbs.levels ∙ (levels_as c.args.self.now c.self.inside.root c.self.inside.nodes c.touch.new.self c.self.view_is c.if-touch.ensures.levels)) c.in_ok-make_room.ensures.few c.in_ok-parent_present.ensures.few c.read_in.ensures.few
+
+pub present-returns-clause-moved : goal.present-returns-clause-moved
+present-returns-clause-moved g t c =
+    g.met.B.Bus.moved_on c.args.bus.now c.make_room.new.bus c.read_in.new.bus c.in_ok-make_room.ensures.moved
+    (g.met.B.Bus.moved_on c.make_room.new.bus c.parent_present.new.bus c.read_in.new.bus c.in_ok-parent_present.ensures.moved c.read_in.ensures.moved)
+
+pub write_back-returns-then-not-victim-clause-climbs : goal.write_back-returns-then-not-victim-clause-climbs
+write_back-returns-then-not-victim-clause-climbs g t c = climbs_not g.T.Tagger.data_tag_of g.T.Tagger.node_tag_of c.args.level c.args.self.now (g.B.Bus.history c.args.bus.now) c.args.tags.now
+
+pub write_back-returns-in_err-write_below-clause-moved : goal.write_back-returns-in_err-write_below-clause-moved
+write_back-returns-in_err-write_below-clause-moved g t c =
+    g.met.B.Bus.moved_on c.args.bus.now c.parent_present.new.bus c.write_below.new.bus c.in_ok-parent_present.ensures.moved c.in_err-write_below.ensures.moved
+
+pub write_back-returns-clause-moved : goal.write_back-returns-clause-moved
+write_back-returns-clause-moved g t c =
+    g.met.B.Bus.moved_on c.args.bus.now c.parent_present.new.bus c.write_below.new.bus c.in_ok-parent_present.ensures.moved c.in_ok-write_below.ensures.moved
+
+pub make_room-returns-clause-climbs : goal.make_room-returns-clause-climbs
+make_room-returns-clause-climbs g t c =
+    let way : node_way c.args.self.now.caches c.args.level c.in-Some.victim.place ≡ Some c.in-Some.victim =
+    sym (ap (λ (v : TreeView). node_way v.caches c.args.level c.in-Some.victim.place) c.self.view_is) ∙ c.in-Some.ensures.way in
+    let here : node_way c.write_back.new.self.caches c.args.level c.in-Some.victim.place ≡ Some c.in-Some.victim =
+    ap (λ (cache : List (List Way)). way_at cache c.in-Some.victim.place) c.in_ok-write_back.ensures.copies ∙ way in
+    climbs_on g.T.Tagger.data_tag_of g.T.Tagger.node_tag_of c.args.level c.args.self.now c.write_back.new.self (tree_of c.self-2.inside.root c.remove.new.self) (g.B.Bus.history c.args.bus.now) (g.B.Bus.history c.write_back.new.bus) (g.B.Bus.history c.write_back.new.bus) c.args.tags.now c.write_back.new.tags c.write_back.new.tags None
+    c.in_ok-write_back.ensures.climbs
+    (climbs_dropped g.T.Tagger.data_tag_of g.T.Tagger.node_tag_of c.args.level c.in-Some.victim.place c.write_back.new.self (tree_of c.self-2.inside.root c.remove.new.self) (g.B.Bus.history c.write_back.new.bus) c.write_back.new.tags (copy_of c.in-Some.victim)
+    (levels_as c.write_back.new.self c.self-2.inside.root c.self-2.inside.nodes c.remove.new.self c.self-2.view_is c.remove.ensures.levels) (root_as c.write_back.new.self c.self-2.inside.root c.self-2.inside.nodes c.remove.new.self c.self-2.view_is) c.remove.ensures.nodes
+    (others_as c.write_back.new.self c.self-2.inside.root c.self-2.inside.nodes c.remove.new.self c.self-2.view_is c.args.level c.remove.ensures.others)
+    (ap (option_map copy_of) here) (ap (option_map copy_of) c.remove.ensures.removed)
+    (same_as c.write_back.new.self c.self-2.inside.root c.self-2.inside.nodes c.remove.new.self c.self-2.view_is c.args.level c.in-Some.victim.place c.remove.ensures.same)
+    c.in_ok-write_back.ensures.last)
+
+pub make_room-returns-clause-absent : goal.make_room-returns-clause-absent
+make_room-returns-clause-absent g t c =
+    let way : node_way c.args.self.now.caches c.args.level c.in-Some.victim.place ≡ Some c.in-Some.victim =
+    sym (ap (λ (v : TreeView). node_way v.caches c.args.level c.in-Some.victim.place) c.self.view_is) ∙ c.in-Some.ensures.way in
+    let apart : ¬ ((c.args.level ≡ c.args.level) × (c.args.index ≡ c.in-Some.victim.place)) =
+    λ same. let none : None ≡ Some c.in-Some.victim = sym c.requires.absent ∙ ap (λ (i : ℕ). node_way c.args.self.now.caches c.args.level i) same.1 ∙ way in absurd (cc) in
+    c.remove.ensures.same c.args.level c.args.index apart
+    ∙ ap (λ (v : TreeView). node_way v.caches c.args.level c.args.index) c.self-2.view_is
+    ∙ ap (λ (cache : List (List Way)). way_at cache c.args.index) c.in_ok-write_back.ensures.copies ∙ c.requires.absent
+
+pub make_room-returns-clause-room : goal.make_room-returns-clause-room
+make_room-returns-clause-room g t c = c.remove.ensures.room c.args.index c.in-Some.ensures.beside
+
+pub parent_present-returns-clause-nodes : goal.parent_present-returns-clause-nodes
+parent_present-returns-clause-nodes g t c =
+    c.present.ensures.climbs.nodes (subst (λ (v : TreeView). AreNodeCaches v.levels v.caches) c.self.view_is c.self.invariant)

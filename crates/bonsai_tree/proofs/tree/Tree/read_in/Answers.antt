@@ -1,0 +1,61 @@
+use Rattle.std.proofs.Common.{◌≡◌, ◌+◌, ◌/◌, Option, Some, Ok, Err, refl, ap, sym, subst, arith, rules}
+use Rattle.std.specs.Option.{option_map}
+use Rattle.sec_base.specs.declared.stop.MemStop.{MemStop}
+use Rattle.tag_engine.specs.TagEngine.{tags_of}
+use Rattle.checked_bus.specs.Steps.{stop_of}
+use Rattle.bonsai_tree.specs.Climb.{Climbs}
+use Rattle.bonsai_tree.specs.NodeCache.{AreNodeCaches, copy_of}
+use Rattle.bonsai_tree.specs.Tree.{TreeView}
+use Rattle.bonsai_tree.proofs.Nodes.{node_found}
+use Rattle.bonsai_tree.proofs.NodeCalls.{climbs_put, climbs_read}
+use Rattle.bonsai_tree.proofs.Views.{latest_cached, levels_as, others_as, root_as, same_as, tree_of}
+use Rattle.bonsai_tree.proofs.tree.Tree.read_in.Goals as goal
+
+pub returns-in_err-block-clause-climbs : goal.returns-in_err-block-clause-climbs
+returns-in_err-block-clause-climbs g c =
+    let why = c.in_err-block.field-0.0 in
+    let stop : stop_of c.from_residual.result ≡ Some why = search rules in
+    subst (λ (s : Option MemStop). Climbs (tags_of g.T.Tagger.data_tag_of g.T.Tagger.node_tag_of) c.args.level c.args.self.now
+    (g.B.Bus.history c.args.bus.now) c.args.tags.now c.args.self.now (g.B.Bus.history c.read_node.new.bus) c.read_node.new.tags s) (sym stop)
+    (climbs_read g.T.Tagger.data_tag_of g.T.Tagger.node_tag_of c.args.self.now c.args.level c.args.index c.kept_tag-tag.result
+    (g.B.Bus.history c.args.bus.now) (g.B.Bus.history c.read_node.new.bus) c.args.tags.now c.read_node.new.tags (Err why) c.requires.node
+    (c.kept_tag-tag.ensures c.args.tags.now.made)
+    (record {
+      moves = c.in_err-block.ensures.moves;
+      once = c.in_err-block.ensures.once;
+      lines = c.in_err-block.ensures.lines;
+      honest = c.in_err-block.ensures.honest;
+      shown = c.in_err-block.ensures.shown;
+      found = node_found (tags_of g.T.Tagger.data_tag_of g.T.Tagger.node_tag_of c.args.tags.now) c.args.level c.args.index c.kept_tag-tag.result
+          (g.B.Bus.history c.args.bus.now) (g.B.Bus.history c.read_node.new.bus) c.args.tags.now c.read_node.new.tags c.read_node.result c.read_node.ensures.read;
+      tampered = c.in_err-block.ensures.tampered;
+      unspent = c.in_err-block.ensures.unspent;
+    }))
+
+pub returns-clause-climbs : goal.returns-clause-climbs
+returns-clause-climbs g c =
+    let are : AreNodeCaches c.args.self.now.levels c.args.self.now.caches =
+    subst (λ (v : TreeView). AreNodeCaches v.levels v.caches) c.self.view_is c.self.invariant in
+    climbs_put g.T.Tagger.data_tag_of g.T.Tagger.node_tag_of c.args.self.now c.args.level c.args.index c.kept_tag-tag.result
+    (g.B.Bus.history c.args.bus.now) (g.B.Bus.history c.read_node.new.bus) c.args.tags.now c.read_node.new.tags (Ok c.in_ok-block.block) c.requires.node
+    (c.kept_tag-tag.ensures c.args.tags.now.made)
+    (record {
+      moves = c.in_ok-block.ensures.moves;
+      once = c.in_ok-block.ensures.once;
+      lines = c.in_ok-block.ensures.lines;
+      honest = c.in_ok-block.ensures.honest;
+      shown = c.in_ok-block.ensures.shown;
+      found = node_found (tags_of g.T.Tagger.data_tag_of g.T.Tagger.node_tag_of c.args.tags.now) c.args.level c.args.index c.kept_tag-tag.result
+          (g.B.Bus.history c.args.bus.now) (g.B.Bus.history c.read_node.new.bus) c.args.tags.now c.read_node.new.tags c.read_node.result c.read_node.ensures.read;
+      tampered = c.in_ok-block.ensures.tampered;
+      unspent = c.in_ok-block.ensures.unspent;
+    })
+    (tree_of c.self.inside.root c.put.new.self) c.in_ok-block.block refl
+    (levels_as c.args.self.now c.self.inside.root c.self.inside.nodes c.put.new.self c.self.view_is c.put.ensures.levels)
+    (root_as c.args.self.now c.self.inside.root c.self.inside.nodes c.put.new.self c.self.view_is) c.put.ensures.nodes
+    (others_as c.args.self.now c.self.inside.root c.self.inside.nodes c.put.new.self c.self.view_is c.args.level c.put.ensures.others)
+    (ap (λ o. option_map copy_of o) c.requires.absent)
+    (ap (λ o. option_map copy_of o) c.put.ensures.put)
+    (same_as c.args.self.now c.self.inside.root c.self.inside.nodes c.put.new.self c.self.view_is c.args.level c.args.index c.put.ensures.same)
+    (λ below. latest_cached c.args.self.now (c.args.level + 1) (c.args.index / 4) are (omega arith) (omega arith) (c.requires.parent below))
+    c.in_ok-block.ensures.known

@@ -1,0 +1,232 @@
+use Rattle.std.proofs.Common.{◌≡◌, inl, inr, ◌+◌, ◌/◌, ◌≤◌, length, Option, Some, None, refl, sym, ◌∙◌, subst, arith, rules}
+use Rattle.sec_base.specs.declared.stop.MemStop.{MemStop}
+use Rattle.sec_base.specs.declared.stop.MemStop.TheVariants.{Tampered, NoMemory}
+use Rattle.tag_engine.specs.TagEngine.{tags_of}
+use Rattle.checked_bus.specs.Accesses.{WritesMessages}
+use Rattle.checked_bus.specs.Steps.{IsAccounted, stop_of, unwritten_in}
+use Rattle.bonsai_tree.specs.Climb.{Climbs}
+use Rattle.bonsai_tree.specs.Tree.{path_accesses}
+use Rattle.bonsai_tree.proofs.Climbs.{climbs_on, climbs_up}
+use Rattle.bonsai_tree.proofs.Copies.{few_copies}
+use Rattle.bonsai_tree.proofs.Nodes.{on_err, stop_is}
+use Rattle.bonsai_tree.proofs.PathCalls.{climb_room, climb_writes, path_more, stop_of_err, updated_read}
+use Rattle.bonsai_tree.proofs.Views.{latest_cached}
+use Rattle.bonsai_tree.proofs.tree.Tree.update.Given.{Over}
+use Rattle.bonsai_tree.proofs.tree.Tree.update.Goals as goal
+
+-- the whole call, where the block was written
+whole : (g : Over) (c : goal.In_ok-write_below g) → Climbs (tags_of g.T.Tagger.data_tag_of g.T.Tagger.node_tag_of) 0 c.args.self.now (g.B.Bus.history c.args.bus.now) c.args.tags.now c.write_below.new.self (g.B.Bus.history c.write_below.new.bus) c.write_below.new.tags None
+whole g c =
+    climbs_on g.T.Tagger.data_tag_of g.T.Tagger.node_tag_of 0 c.args.self.now c.parent_present.new.self c.write_below.new.self (g.B.Bus.history c.args.bus.now) (g.B.Bus.history c.parent_present.new.bus) (g.B.Bus.history c.write_below.new.bus) c.args.tags.now c.parent_present.new.tags c.write_below.new.tags None
+    (climbs_up g.T.Tagger.data_tag_of g.T.Tagger.node_tag_of 0 1 c.args.self.now c.parent_present.new.self (g.B.Bus.history c.args.bus.now) (g.B.Bus.history c.parent_present.new.bus) c.args.tags.now c.parent_present.new.tags None (omega arith) c.in_ok-parent_present.ensures.climbs) c.in_ok-write_below.ensures.climbs
+
+-- and where there was no memory for that
+whole_refused : (g : Over) (c : goal.After-from_residual-in_err-write_below g) → Climbs (tags_of g.T.Tagger.data_tag_of g.T.Tagger.node_tag_of) 0 c.args.self.now (g.B.Bus.history c.args.bus.now) c.args.tags.now c.write_below.new.self (g.B.Bus.history c.write_below.new.bus) c.write_below.new.tags (Some NoMemory)
+whole_refused g c =
+    climbs_on g.T.Tagger.data_tag_of g.T.Tagger.node_tag_of 0 c.args.self.now c.parent_present.new.self c.write_below.new.self (g.B.Bus.history c.args.bus.now) (g.B.Bus.history c.parent_present.new.bus) (g.B.Bus.history c.write_below.new.bus) c.args.tags.now c.parent_present.new.tags c.write_below.new.tags (Some NoMemory)
+    (climbs_up g.T.Tagger.data_tag_of g.T.Tagger.node_tag_of 0 1 c.args.self.now c.parent_present.new.self (g.B.Bus.history c.args.bus.now) (g.B.Bus.history c.parent_present.new.bus) c.args.tags.now c.parent_present.new.tags None (omega arith) c.in_ok-parent_present.ensures.climbs) c.in_err-write_below.ensures.climbs
+
+pub returns-in_err-parent_present-clause-refused : goal.returns-in_err-parent_present-clause-refused
+returns-in_err-parent_present-clause-refused g c =
+    on_err c.from_residual.result (inl (c.in_err-parent_present.ensures.climbs.last 0 c.args.page (omega arith)))
+
+pub returns-in_err-parent_present-clause-others : goal.returns-in_err-parent_present-clause-others
+returns-in_err-parent_present-clause-others g c = λ other apart. c.in_err-parent_present.ensures.climbs.last 0 other (omega arith)
+
+pub returns-in_err-parent_present-clause-beside : goal.returns-in_err-parent_present-clause-beside
+returns-in_err-parent_present-clause-beside g c = λ other apart. c.in_err-parent_present.ensures.climbs.written 0 other (omega arith)
+
+pub returns-in_err-parent_present-clause-pages : goal.returns-in_err-parent_present-clause-pages
+returns-in_err-parent_present-clause-pages g c = λ place is. record {
+  last = λ other. c.in_err-parent_present.ensures.climbs.last 0 other (omega arith);
+  written = λ other. c.in_err-parent_present.ensures.climbs.written 0 other (omega arith);
+}
+
+pub returns-in_err-parent_present-clause-few_copies : goal.returns-in_err-parent_present-clause-few_copies
+returns-in_err-parent_present-clause-few_copies g c = λ level. few_copies c.parent_present.new.self.levels c.parent_present.new.self.caches level c.in_err-parent_present.ensures.nodes
+
+pub returns-in_err-parent_present-clause-new_copies : goal.returns-in_err-parent_present-clause-new_copies
+returns-in_err-parent_present-clause-new_copies g c = c.in_err-parent_present.ensures.climbs.read
+
+pub returns-in_err-parent_present-clause-writes : goal.returns-in_err-parent_present-clause-writes
+returns-in_err-parent_present-clause-writes g c = λ more is.
+    let why = c.in_err-parent_present.field-0.0 in
+    let stop : stop_of c.from_residual.result ≡ Some why = search rules in
+    subst (λ (s : Option MemStop). WritesMessages (g.B.Bus.history c.args.bus.now) (g.B.Bus.history c.parent_present.new.bus) (length more) (unwritten_in s)) (sym stop)
+    (climb_writes g.T.Tagger.data_tag_of g.T.Tagger.node_tag_of (0 + 1) c.args.self.now c.parent_present.new.self (g.B.Bus.history c.args.bus.now) (g.B.Bus.history c.parent_present.new.bus) c.args.tags.now c.parent_present.new.tags (Some why) c.in_err-parent_present.ensures.climbs more is)
+
+pub returns-in_err-write_below-clause-others : goal.returns-in_err-write_below-clause-others
+returns-in_err-write_below-clause-others g c = λ other apart. c.in_err-write_below.ensures.others other apart ∙ c.in_ok-parent_present.ensures.climbs.last 0 other (omega arith)
+
+pub returns-in_err-write_below-clause-beside : goal.returns-in_err-write_below-clause-beside
+returns-in_err-write_below-clause-beside g c = λ other apart. c.in_err-write_below.ensures.beside other apart ∙ c.in_ok-parent_present.ensures.climbs.written 0 other (omega arith)
+
+pub returns-in_err-write_below-clause-found : goal.returns-in_err-write_below-clause-found
+returns-in_err-write_below-clause-found g c = λ evidence quiet is.
+    c.in_ok-parent_present.ensures.climbs.found quiet evidence (sym c.in_err-write_below.ensures.quiet ∙ is)
+
+pub returns-in_err-write_below-clause-shown : goal.returns-in_err-write_below-clause-shown
+returns-in_err-write_below-clause-shown g c =
+    (whole_refused g c).shown
+
+pub returns-in_err-write_below-clause-once : goal.returns-in_err-write_below-clause-once
+returns-in_err-write_below-clause-once g c = omega (arith, c.in_ok-parent_present.ensures.once, c.in_err-write_below.ensures.once, path_more c.args.self.now.levels)
+
+pub returns-in_err-write_below-clause-few : goal.returns-in_err-write_below-clause-few
+returns-in_err-write_below-clause-few g c = omega (arith, c.in_ok-parent_present.ensures.few, c.in_err-write_below.ensures.few, path_more c.args.self.now.levels)
+
+pub returns-in_err-write_below-clause-few_copies : goal.returns-in_err-write_below-clause-few_copies
+returns-in_err-write_below-clause-few_copies g c = λ level. few_copies c.write_below.new.self.levels c.write_below.new.self.caches level (c.in_err-write_below.ensures.climbs.nodes c.in_ok-parent_present.ensures.nodes)
+
+pub returns-in_err-write_below-clause-new_copies : goal.returns-in_err-write_below-clause-new_copies
+returns-in_err-write_below-clause-new_copies g c =
+    (whole_refused g c).read
+
+pub returns-in_err-write_below-clause-room : goal.returns-in_err-write_below-clause-room
+returns-in_err-write_below-clause-room g c =
+    climb_room g.T.Tagger.data_tag_of g.T.Tagger.node_tag_of 0 (path_accesses c.args.self.now.levels) c.args.self.now c.write_below.new.self (g.B.Bus.history c.args.bus.now) (g.B.Bus.history c.write_below.new.bus) c.args.tags.now c.write_below.new.tags (Some NoMemory) (whole_refused g c)
+    (omega (arith, c.in_ok-parent_present.ensures.few, c.in_err-write_below.ensures.few, path_more c.args.self.now.levels))
+
+pub returns-in_err-write_below-clause-moves : goal.returns-in_err-write_below-clause-moves
+returns-in_err-write_below-clause-moves g c =
+    (whole_refused g c).moves
+
+pub returns-in_err-write_below-clause-lines : goal.returns-in_err-write_below-clause-lines
+returns-in_err-write_below-clause-lines g c =
+    (whole_refused g c).lines
+
+pub returns-in_err-write_below-clause-made_blocks : goal.returns-in_err-write_below-clause-made_blocks
+returns-in_err-write_below-clause-made_blocks g c =
+    (whole_refused g c).made_blocks
+
+pub returns-in_err-write_below-clause-moved : goal.returns-in_err-write_below-clause-moved
+returns-in_err-write_below-clause-moved g c =
+    g.met.B.Bus.moved_on c.args.bus.now c.parent_present.new.bus c.write_below.new.bus c.in_ok-parent_present.ensures.moved c.in_err-write_below.ensures.moved
+
+pub returns-in_err-write_below-clause-levels : goal.returns-in_err-write_below-clause-levels
+returns-in_err-write_below-clause-levels g c =
+    (whole_refused g c).levels
+
+pub returns-in_err-write_below-clause-root : goal.returns-in_err-write_below-clause-root
+returns-in_err-write_below-clause-root g c =
+    (whole_refused g c).root
+
+pub returns-in_err-write_below-clause-refused : goal.returns-in_err-write_below-clause-refused
+returns-in_err-write_below-clause-refused g c =
+    on_err c.from_residual-in_err-write_below.result (elim c.in_err-write_below.ensures.refused [
+      | inl same ↦ inl (same ∙ c.in_ok-parent_present.ensures.climbs.last 0 c.args.page (omega arith))
+      | inr own ↦ inr own
+    ])
+
+pub returns-in_err-write_below-clause-honest : goal.returns-in_err-write_below-clause-honest
+returns-in_err-write_below-clause-honest g c = λ used holds was.
+    let stop : stop_of c.from_residual-in_err-write_below.result ≡ Some NoMemory = search rules in
+    subst (λ (s : Option MemStop). IsAccounted (tags_of g.T.Tagger.data_tag_of g.T.Tagger.node_tag_of c.args.tags.now) used c.write_below.new.tags.made (g.B.Bus.history c.write_below.new.bus) s c.write_below.new.tags.evidence) (sym stop) ((whole_refused g c).honest holds used was)
+
+pub returns-in_err-write_below-clause-writes : goal.returns-in_err-write_below-clause-writes
+returns-in_err-write_below-clause-writes g c = λ more is.
+    let stop : stop_of c.from_residual-in_err-write_below.result ≡ Some NoMemory = search rules in
+    subst (λ (s : Option MemStop). WritesMessages (g.B.Bus.history c.args.bus.now) (g.B.Bus.history c.write_below.new.bus) (length more) (unwritten_in s)) (sym stop)
+    (climb_writes g.T.Tagger.data_tag_of g.T.Tagger.node_tag_of 0 c.args.self.now c.write_below.new.self (g.B.Bus.history c.args.bus.now) (g.B.Bus.history c.write_below.new.bus) c.args.tags.now c.write_below.new.tags (Some NoMemory) (whole_refused g c) more is)
+
+pub returns-clause-others : goal.returns-clause-others
+returns-clause-others g c = λ other apart. c.in_ok-write_below.ensures.others other apart ∙ c.in_ok-parent_present.ensures.climbs.last 0 other (omega arith)
+
+pub returns-clause-beside : goal.returns-clause-beside
+returns-clause-beside g c = λ other apart. c.in_ok-write_below.ensures.beside other apart ∙ c.in_ok-parent_present.ensures.climbs.written 0 other (omega arith)
+
+pub returns-clause-found : goal.returns-clause-found
+returns-clause-found g c = λ evidence quiet is.
+    c.in_ok-parent_present.ensures.climbs.found quiet evidence (sym c.in_ok-write_below.ensures.quiet ∙ is)
+
+pub returns-clause-shown : goal.returns-clause-shown
+returns-clause-shown g c =
+    (whole g c).shown
+
+pub returns-clause-once : goal.returns-clause-once
+returns-clause-once g c = omega (arith, c.in_ok-parent_present.ensures.once, c.in_ok-write_below.ensures.once, path_more c.args.self.now.levels)
+
+pub returns-clause-few : goal.returns-clause-few
+returns-clause-few g c = omega (arith, c.in_ok-parent_present.ensures.few, c.in_ok-write_below.ensures.few, path_more c.args.self.now.levels)
+
+pub returns-clause-few_copies : goal.returns-clause-few_copies
+returns-clause-few_copies g c = λ level. few_copies c.write_below.new.self.levels c.write_below.new.self.caches level (c.in_ok-write_below.ensures.climbs.nodes c.in_ok-parent_present.ensures.nodes)
+
+pub returns-clause-new_copies : goal.returns-clause-new_copies
+returns-clause-new_copies g c =
+    (whole g c).read
+
+pub returns-clause-room : goal.returns-clause-room
+returns-clause-room g c =
+    climb_room g.T.Tagger.data_tag_of g.T.Tagger.node_tag_of 0 (path_accesses c.args.self.now.levels) c.args.self.now c.write_below.new.self (g.B.Bus.history c.args.bus.now) (g.B.Bus.history c.write_below.new.bus) c.args.tags.now c.write_below.new.tags None (whole g c)
+    (omega (arith, c.in_ok-parent_present.ensures.few, c.in_ok-write_below.ensures.few, path_more c.args.self.now.levels))
+
+pub returns-clause-moves : goal.returns-clause-moves
+returns-clause-moves g c =
+    (whole g c).moves
+
+pub returns-clause-lines : goal.returns-clause-lines
+returns-clause-lines g c =
+    (whole g c).lines
+
+pub returns-clause-made_blocks : goal.returns-clause-made_blocks
+returns-clause-made_blocks g c =
+    (whole g c).made_blocks
+
+pub returns-clause-moved : goal.returns-clause-moved
+returns-clause-moved g c =
+    g.met.B.Bus.moved_on c.args.bus.now c.parent_present.new.bus c.write_below.new.bus c.in_ok-parent_present.ensures.moved c.in_ok-write_below.ensures.moved
+
+pub returns-clause-levels : goal.returns-clause-levels
+returns-clause-levels g c =
+    (whole g c).levels
+
+pub returns-clause-root : goal.returns-clause-root
+returns-clause-root g c =
+    (whole g c).root
+
+pub returns-clause-holds : goal.returns-clause-holds
+returns-clause-holds g c = λ holds.
+    (whole g c).holds holds refl
+
+pub returns-clause-honest : goal.returns-clause-honest
+returns-clause-honest g c = λ used holds was.
+    (whole g c).honest holds used was
+
+pub returns-clause-writes : goal.returns-clause-writes
+returns-clause-writes g c = λ more is.
+    climb_writes g.T.Tagger.data_tag_of g.T.Tagger.node_tag_of 0 c.args.self.now c.write_below.new.self (g.B.Bus.history c.args.bus.now) (g.B.Bus.history c.write_below.new.bus) c.args.tags.now c.write_below.new.tags None (whole g c) more is
+
+pub returns-clause-last_blocks : goal.returns-clause-last_blocks
+returns-clause-last_blocks g c = λ was remembered.
+    (whole g c).last_blocks (λ none. cc) was
+
+pub returns-clause-read : goal.returns-clause-read
+returns-clause-read g c =
+    let inside : 1 ≤ c.parent_present.new.self.levels = omega (arith, c.in_ok-parent_present.ensures.climbs.levels, c.in_ok-parent_present.ensures.some) in
+    updated_read g.T.Tagger.data_tag_of g.T.Tagger.node_tag_of c.args.self.now c.parent_present.new.self c.args.page (g.B.Bus.history c.args.bus.now) (g.B.Bus.history c.parent_present.new.bus) (g.B.Bus.history c.write_below.new.bus) c.args.tags.now c.parent_present.new.tags c.in_ok-parent_present.ensures.climbs c.in_ok-write_below.ensures.climbs.moves.reads
+    (latest_cached c.parent_present.new.self 1 (c.args.page / 4) c.in_ok-parent_present.ensures.nodes (omega arith) inside
+    (c.in_ok-parent_present.ensures.latest c.in_ok-parent_present.ensures.some))
+
+pub returns-in_err-write_below-clause-tampered : goal.returns-in_err-write_below-clause-tampered
+returns-in_err-write_below-clause-tampered g c = λ place is holds quiet.
+    let stop : stop_of c.from_residual-in_err-write_below.result ≡ Some NoMemory = search rules in
+    let other : stop_of c.from_residual-in_err-write_below.result ≡ Some (Tampered place) = stop_of_err c.from_residual-in_err-write_below.result (Tampered place) is in
+    absurd (cc)
+
+pub returns-in_err-write_below-clause-at_place : goal.returns-in_err-write_below-clause-at_place
+returns-in_err-write_below-clause-at_place g c = λ place is.
+    let stop : stop_of c.from_residual-in_err-write_below.result ≡ Some NoMemory = search rules in
+    let other : stop_of c.from_residual-in_err-write_below.result ≡ Some (Tampered place) = stop_of_err c.from_residual-in_err-write_below.result (Tampered place) is in
+    absurd (cc)
+
+pub returns-in_err-write_below-clause-pages : goal.returns-in_err-write_below-clause-pages
+returns-in_err-write_below-clause-pages g c = λ place is.
+    let stop : stop_of c.from_residual-in_err-write_below.result ≡ Some NoMemory = search rules in
+    let other : stop_of c.from_residual-in_err-write_below.result ≡ Some (Tampered place) = stop_of_err c.from_residual-in_err-write_below.result (Tampered place) is in
+    absurd (cc)
+
+pub returns-in_err-write_below-clause-last_blocks : goal.returns-in_err-write_below-clause-last_blocks
+returns-in_err-write_below-clause-last_blocks g c = λ was remembered.
+    let stop : stop_of c.from_residual-in_err-write_below.result ≡ Some NoMemory = search rules in
+    absurd (remembered (stop_is c.from_residual-in_err-write_below.result NoMemory stop))

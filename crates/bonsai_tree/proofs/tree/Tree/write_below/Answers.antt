@@ -1,0 +1,91 @@
+use Rattle.std.proofs.Common.{◌≡◌, inl, inr, ◌+◌, ◌/◌, [], Option, Some, None, refl, ap, sym, subst, arith, rules}
+use Rattle.std.specs.Option.{option_map}
+use Rattle.sec_base.specs.declared.stop.MemStop.{MemStop}
+use Rattle.sec_base.specs.declared.stop.MemStop.TheVariants.{NoMemory}
+use Rattle.tag_engine.specs.TagEngine.{TagEngineView, tags_of}
+use Rattle.bonsai_tree.specs.Climb.{Climbs}
+use Rattle.bonsai_tree.specs.Node.{CachedNode}
+use Rattle.bonsai_tree.specs.NodeCache.{copy_of}
+use Rattle.bonsai_tree.specs.Tree.{cached_node, want_of}
+use Rattle.bonsai_tree.proofs.Climbs.{climbs_refused}
+use Rattle.bonsai_tree.proofs.Nodes.{on_err}
+use Rattle.bonsai_tree.proofs.NodeCalls.{climbs_wrote, held_copy, last_apart, put_holds, puts_held, writes_taken, written_apart}
+use Rattle.bonsai_tree.proofs.NodeWrites.{NodeWritten, own, written_not, written_once}
+use Rattle.bonsai_tree.proofs.Puts.{PutsTag}
+use Rattle.bonsai_tree.proofs.tree.Tree.write_below.Goals as goal
+
+pub returns-in_err-reserve-clause-climbs : goal.returns-in_err-reserve-clause-climbs
+returns-in_err-reserve-clause-climbs g c =
+    let stop : want_of c.from_residual.result ≡ Some NoMemory = search rules in
+    subst (λ (s : Option MemStop). Climbs (tags_of g.T.Tagger.data_tag_of g.T.Tagger.node_tag_of) c.args.level c.args.self.now
+    (g.B.Bus.history c.args.bus.now) c.args.tags.now c.args.self.now (g.B.Bus.history c.args.bus.now) c.reserve.new.self s) (sym stop)
+    (subst (λ (e : TagEngineView g.row.T.Denot). Climbs (tags_of g.T.Tagger.data_tag_of g.T.Tagger.node_tag_of) c.args.level c.args.self.now
+    (g.B.Bus.history c.args.bus.now) c.args.tags.now c.args.self.now (g.B.Bus.history c.args.bus.now) e (Some NoMemory)) (sym c.in_err-reserve.ensures.refused)
+    (climbs_refused g.T.Tagger.data_tag_of g.T.Tagger.node_tag_of c.args.level c.args.self.now (g.B.Bus.history c.args.bus.now) c.args.tags.now))
+
+pub returns-in_err-tag-clause-climbs : goal.returns-in_err-tag-clause-climbs
+returns-in_err-tag-clause-climbs g c =
+    let write : NodeWritten (tags_of g.T.Tagger.data_tag_of g.T.Tagger.node_tag_of) c.args.level c.args.index c.args.block.now (g.B.Bus.history c.args.bus.now) c.reserve.new.self (g.B.Bus.history c.write_node.new.bus) c.write_node.new.tags =
+    record { made = c.in_err-tag.ensures.made; moves = c.in_err-tag.ensures.moves; lines = c.in_err-tag.ensures.lines; others = c.in_err-tag.ensures.others; honest = c.in_err-tag.ensures.honest } in
+    let stop : want_of c.from_residual-in_err-tag.result ≡ Some NoMemory = search rules in
+    subst (λ (s : Option MemStop). Climbs (tags_of g.T.Tagger.data_tag_of g.T.Tagger.node_tag_of) c.args.level c.args.self.now
+    (g.B.Bus.history c.args.bus.now) c.args.tags.now c.args.self.now (g.B.Bus.history c.write_node.new.bus) c.write_node.new.tags s) (sym stop)
+    (climbs_wrote g.T.Tagger.data_tag_of g.T.Tagger.node_tag_of c.args.self.now c.args.self.now c.args.level (g.B.Bus.history c.args.bus.now) (g.B.Bus.history c.write_node.new.bus) c.args.tags.now c.write_node.new.tags
+    (Some NoMemory) (inr refl)
+    (writes_taken g.T.Tagger.data_tag_of g.T.Tagger.node_tag_of c.args.self.now.levels (g.B.Bus.history c.args.bus.now) (g.B.Bus.history c.write_node.new.bus) c.args.tags.now c.reserve.new.self c.write_node.new.tags 1 c.in_ok-reserve.ensures.taken
+    (written_not g.T.Tagger.data_tag_of g.T.Tagger.node_tag_of c.args.level c.args.index c.args.block.now (g.B.Bus.history c.args.bus.now) (g.B.Bus.history c.write_node.new.bus) c.reserve.new.self c.write_node.new.tags write c.args.self.now.levels c.in_err-tag.ensures.err))
+    refl refl (λ are. are) (λ other low. refl)
+    (λ other at low. last_apart g.T.Tagger.data_tag_of g.T.Tagger.node_tag_of c.args.self.now c.args.self.now c.args.level c.args.index c.args.block.now [] (g.B.Bus.history c.args.bus.now) (g.B.Bus.history c.write_node.new.bus) c.args.tags.now c.reserve.new.self c.write_node.new.tags c.in_ok-reserve.ensures.taken write other at (λ same. absurd (omega (arith, same.0, low))))
+    (λ other at low. written_apart g.T.Tagger.data_tag_of g.T.Tagger.node_tag_of c.args.self.now c.args.self.now c.args.level c.args.index c.args.block.now [] (g.B.Bus.history c.args.bus.now) (g.B.Bus.history c.write_node.new.bus) c.args.tags.now c.reserve.new.self c.write_node.new.tags c.in_ok-reserve.ensures.taken write other at (λ same. absurd (omega (arith, same.0, low))))
+    (λ holds none. absurd (cc)) (λ other at held. held))
+
+pub returns-in_err-tag-clause-refused : goal.returns-in_err-tag-clause-refused
+returns-in_err-tag-clause-refused g c =
+    let write : NodeWritten (tags_of g.T.Tagger.data_tag_of g.T.Tagger.node_tag_of) c.args.level c.args.index c.args.block.now (g.B.Bus.history c.args.bus.now) c.reserve.new.self (g.B.Bus.history c.write_node.new.bus) c.write_node.new.tags =
+    record { made = c.in_err-tag.ensures.made; moves = c.in_err-tag.ensures.moves; lines = c.in_err-tag.ensures.lines; others = c.in_err-tag.ensures.others; honest = c.in_err-tag.ensures.honest } in
+    on_err c.from_residual-in_err-tag.result (inr (own g.T.Tagger.data_tag_of g.T.Tagger.node_tag_of c.args.level c.args.index c.args.block.now (g.B.Bus.history c.args.bus.now) (g.B.Bus.history c.write_node.new.bus) c.reserve.new.self c.write_node.new.tags write))
+
+pub returns-in_err-tag-clause-others : goal.returns-in_err-tag-clause-others
+returns-in_err-tag-clause-others g c = λ at differs.
+    let write : NodeWritten (tags_of g.T.Tagger.data_tag_of g.T.Tagger.node_tag_of) c.args.level c.args.index c.args.block.now (g.B.Bus.history c.args.bus.now) c.reserve.new.self (g.B.Bus.history c.write_node.new.bus) c.write_node.new.tags =
+    record { made = c.in_err-tag.ensures.made; moves = c.in_err-tag.ensures.moves; lines = c.in_err-tag.ensures.lines; others = c.in_err-tag.ensures.others; honest = c.in_err-tag.ensures.honest } in
+    last_apart g.T.Tagger.data_tag_of g.T.Tagger.node_tag_of c.args.self.now c.args.self.now c.args.level c.args.index c.args.block.now [] (g.B.Bus.history c.args.bus.now) (g.B.Bus.history c.write_node.new.bus) c.args.tags.now c.reserve.new.self c.write_node.new.tags c.in_ok-reserve.ensures.taken write c.args.level at (λ same. differs same.1)
+
+pub returns-clause-own : goal.returns-clause-own
+returns-clause-own g c =
+    let write : NodeWritten (tags_of g.T.Tagger.data_tag_of g.T.Tagger.node_tag_of) c.args.level c.args.index c.args.block.now (g.B.Bus.history c.args.bus.now) c.reserve.new.self (g.B.Bus.history c.write_node.new.bus) c.write_node.new.tags =
+    record { made = c.in_ok-tag.ensures.made; moves = c.in_ok-tag.ensures.moves; lines = c.in_ok-tag.ensures.lines; others = c.in_ok-tag.ensures.others; honest = c.in_ok-tag.ensures.honest } in
+    own g.T.Tagger.data_tag_of g.T.Tagger.node_tag_of c.args.level c.args.index c.args.block.now (g.B.Bus.history c.args.bus.now) (g.B.Bus.history c.write_node.new.bus) c.reserve.new.self c.write_node.new.tags write
+
+pub returns-clause-others : goal.returns-clause-others
+returns-clause-others g c = λ at differs.
+    let write : NodeWritten (tags_of g.T.Tagger.data_tag_of g.T.Tagger.node_tag_of) c.args.level c.args.index c.args.block.now (g.B.Bus.history c.args.bus.now) c.reserve.new.self (g.B.Bus.history c.write_node.new.bus) c.write_node.new.tags =
+    record { made = c.in_ok-tag.ensures.made; moves = c.in_ok-tag.ensures.moves; lines = c.in_ok-tag.ensures.lines; others = c.in_ok-tag.ensures.others; honest = c.in_ok-tag.ensures.honest } in
+    last_apart g.T.Tagger.data_tag_of g.T.Tagger.node_tag_of c.args.self.now c.args.self.now c.args.level c.args.index c.args.block.now [] (g.B.Bus.history c.args.bus.now) (g.B.Bus.history c.write_node.new.bus) c.args.tags.now c.reserve.new.self c.write_node.new.tags c.in_ok-reserve.ensures.taken write c.args.level at (λ same. differs same.1)
+
+pub returns-clause-climbs : goal.returns-clause-climbs
+returns-clause-climbs g c =
+    let write : NodeWritten (tags_of g.T.Tagger.data_tag_of g.T.Tagger.node_tag_of) c.args.level c.args.index c.args.block.now (g.B.Bus.history c.args.bus.now) c.reserve.new.self (g.B.Bus.history c.write_node.new.bus) c.write_node.new.tags =
+    record { made = c.in_ok-tag.ensures.made; moves = c.in_ok-tag.ensures.moves; lines = c.in_ok-tag.ensures.lines; others = c.in_ok-tag.ensures.others; honest = c.in_ok-tag.ensures.honest } in
+    let found : (copy : CachedNode) × (cached_node c.args.self.now (c.args.level + 1) (c.args.index / 4) ≡ Some copy) =
+    held_copy (cached_node c.args.self.now (c.args.level + 1) (c.args.index / 4)) c.keep_tag.ensures.held in
+    let puts : PutsTag c.args.self.now c.keep_tag.new.self c.args.level c.args.index c.in_ok-tag.tag =
+    record {
+      levels = c.keep_tag.ensures.levels;
+      root = c.keep_tag.ensures.root;
+      copy = found.0;
+      held = found.1;
+      put = c.keep_tag.ensures.put found.0 found.1;
+      same = λ other at apart. ap (option_map copy_of) (c.keep_tag.ensures.same other at apart);
+    } in
+    climbs_wrote g.T.Tagger.data_tag_of g.T.Tagger.node_tag_of c.args.self.now c.keep_tag.new.self c.args.level (g.B.Bus.history c.args.bus.now) (g.B.Bus.history c.write_node.new.bus) c.args.tags.now c.write_node.new.tags
+    None (inl refl)
+    (writes_taken g.T.Tagger.data_tag_of g.T.Tagger.node_tag_of c.args.self.now.levels (g.B.Bus.history c.args.bus.now) (g.B.Bus.history c.write_node.new.bus) c.args.tags.now c.reserve.new.self c.write_node.new.tags 0 c.in_ok-reserve.ensures.taken
+    (written_once g.T.Tagger.data_tag_of g.T.Tagger.node_tag_of c.args.level c.args.index c.args.block.now (g.B.Bus.history c.args.bus.now) (g.B.Bus.history c.write_node.new.bus) c.reserve.new.self c.write_node.new.tags write c.args.self.now.levels c.in_ok-tag.ensures.once))
+    c.keep_tag.ensures.levels c.keep_tag.ensures.root (λ are. c.keep_tag.ensures.nodes)
+    (λ other low. c.keep_tag.ensures.others other (λ (same : other ≡ c.args.level + 1). absurd (omega (arith, same, low))))
+    (λ other at low. last_apart g.T.Tagger.data_tag_of g.T.Tagger.node_tag_of c.args.self.now c.keep_tag.new.self c.args.level c.args.index c.args.block.now c.in_ok-tag.tag (g.B.Bus.history c.args.bus.now) (g.B.Bus.history c.write_node.new.bus) c.args.tags.now c.reserve.new.self c.write_node.new.tags c.in_ok-reserve.ensures.taken write other at (λ same. absurd (omega (arith, same.0, low))))
+    (λ other at low. written_apart g.T.Tagger.data_tag_of g.T.Tagger.node_tag_of c.args.self.now c.keep_tag.new.self c.args.level c.args.index c.args.block.now c.in_ok-tag.tag (g.B.Bus.history c.args.bus.now) (g.B.Bus.history c.write_node.new.bus) c.args.tags.now c.reserve.new.self c.write_node.new.tags c.in_ok-reserve.ensures.taken write other at (λ same. absurd (omega (arith, same.0, low))))
+    (λ holds none. put_holds g.T.Tagger.data_tag_of g.T.Tagger.node_tag_of c.args.self.now c.keep_tag.new.self c.args.level c.args.index c.args.block.now c.in_ok-tag.tag (g.B.Bus.history c.args.bus.now) (g.B.Bus.history c.write_node.new.bus) c.args.tags.now c.reserve.new.self c.write_node.new.tags c.in_ok-reserve.ensures.taken write c.in_ok-tag.ensures.once puts c.requires.below c.requires.node
+    c.in_ok-tag.ensures.tag.0 c.in_ok-tag.ensures.tag.1 (search rules) c.requires.current holds)
+    (puts_held c.args.self.now c.keep_tag.new.self c.args.level c.args.index c.in_ok-tag.tag puts)

@@ -1,0 +1,50 @@
+-- What a call makes of the tree, the bus and the tag engine that reads and writes nodes of a level and of those above it
+-- alone. It serves private contracts alone.
+use Rattle.std.specs.Prelude.{◌≡◌, ◌≢◌, ℕ, ◌+◌, ◌<◌, ◌≤◌, List, length, Option, Some, None}
+use Rattle.sec_base.specs.Count.{Rose}
+use Rattle.sec_base.specs.Evidence.{evidence_place}
+use Rattle.sec_base.specs.LastMessage.{last_node}
+use Rattle.sec_base.specs.declared.counter.Counter.{Counter}
+use Rattle.sec_base.specs.declared.evidence.Evidence.{Evidence}
+use Rattle.sec_base.specs.declared.message.Message.{Message}
+use Rattle.sec_base.specs.declared.place.Place.{Place}
+use Rattle.sec_base.specs.declared.place.Place.TheVariants.{Node as node_place}
+use Rattle.sec_base.specs.declared.stop.MemStop.{MemStop}
+use Rattle.sec_base.specs.declared.stop.MemStop.TheVariants.{Tampered, Spent, NoMemory}
+use Rattle.bus_model.specs.BusHistory.{BusHistory}
+use Rattle.tag_engine.specs.TagEngine.{TagEngineView}
+use Rattle.checked_bus.specs.Accesses.{WritesMessages}
+use Rattle.checked_bus.specs.Steps.{IsAccounted, Moves, SameLines, unwritten_in}
+use Rattle.bonsai_tree.specs.NodeCache.{AreNodeCaches, level_cache}
+use Rattle.bonsai_tree.specs.Tree.{TreeView, HoldsTree, IsNodeFrom, NodesAreMade, NodesHoldLast, WasReadUp, cached_node}
+
+pub record Climbs {T : Type 0} (tags : TagEngineView T → Message → List ℕ) (from : ℕ) (tree : TreeView) (old : BusHistory)
+    (engine : TagEngineView T) (tree' : TreeView) (new : BusHistory) (engine' : TagEngineView T) (stop : Option MemStop) : Type 0 where
+  pub moves : Moves old engine new engine'
+  pub lines : SameLines old engine.made new engine'.made
+  pub levels : tree'.levels ≡ tree.levels
+  pub root : tree'.root ≡ tree.root
+  pub nodes : AreNodeCaches tree.levels tree.caches → AreNodeCaches tree'.levels tree'.caches
+  -- levels below are left alone
+  pub copies : (level : ℕ) → level < from → level_cache tree'.caches level ≡ level_cache tree.caches level
+  pub last : (level index : ℕ) → level < from → last_node level index engine'.made ≡ last_node level index engine.made
+  pub written : (level index : ℕ) → level < from → new.written (node_place level index) ≡ old.written (node_place level index)
+  -- the tree fits still; false answers are accounted for, and both tampering and evidence come only where one was
+  pub holds : HoldsTree tags tree old engine → stop ≡ None → HoldsTree tags tree' new engine'
+  pub honest : HoldsTree tags tree old engine → (used : List (ℕ × Counter)) →
+      IsAccounted (tags engine) used engine.made old None engine.evidence →
+      IsAccounted (tags engine) used engine'.made new stop engine'.evidence
+  pub lied : HoldsTree tags tree old engine → engine.evidence ≡ None → (place : Place) → stop ≡ Some (Tampered place) →
+      Rose old.lies new.lies
+  pub shown : HoldsTree tags tree old engine → engine.evidence ≡ None → engine'.evidence ≢ None → Rose old.lies new.lies
+  pub tampered : (place : Place) → stop ≡ Some (Tampered place) → IsNodeFrom tree.levels from place
+  pub found : engine.evidence ≡ None → (evidence : Evidence) → engine'.evidence ≡ Some evidence →
+      IsNodeFrom tree.levels from (evidence_place evidence)
+  pub unspent : (spent : ℕ) → stop ≢ Some (Spent spent)
+  -- what was made was written
+  pub room : engine.room ≤ engine'.room + length moves.more
+  pub writes : WritesMessages old new (length moves.more) (unwritten_in stop)
+  pub made_blocks : NodesAreMade tree.levels engine.made old.written → NodesAreMade tree.levels engine'.made new.written
+  pub last_blocks : stop ≢ Some NoMemory → NodesHoldLast tree.levels engine.made old.written → NodesHoldLast tree.levels engine'.made new.written
+  -- what has a copy was read, or had one
+  pub read : (level index : ℕ) → cached_node tree' level index ≢ None → WasReadUp tree level index old new

@@ -1,0 +1,78 @@
+// An honest bus that counts its accesses where others see the count, and the reads of nodes of level 1 that were written since
+// boot, in a memory of four levels.
+ghost use Rattle.std.specs.Prelude.{◌≡◌, IfOk};
+ghost use Rattle.bus_model.specs.BusHistory.{new_history};
+ghost use Rattle.bus_model.specs.HonestBus.{honest_history};
+
+use bus_model::{Bus, HonestBus};
+use sec_base::{Geometry, NoMemory, Sealed};
+use std::alloc::Global;
+use std::cell::Cell;
+
+// Boot writes so many nodes, and reads none.
+const BOOT: u64 = 341;
+
+#[derive(Drop)]
+pub(super) struct WatchingBus<'a> {
+    bus: HonestBus,
+    accesses: &'a Cell<u64>,
+    written: [bool; 64],
+    pub(super) read_again: u64,
+}
+
+impl<'a> WatchingBus<'a> {
+    pub(super) fn new(
+        alloc: Global,
+        geometry: Geometry,
+        accesses: &'a Cell<u64>,
+    ) -> Result<WatchingBus<'a>, NoMemory>
+        ensures { IfOk result (λ bus. honest_history bus.bus ≡ new_history geometry) }
+    {
+        Ok(WatchingBus {
+            bus: HonestBus::new(alloc, geometry)?,
+            accesses,
+            written: [false; 64],
+            read_again: 0,
+        })
+    }
+
+    fn count(&self) {
+        self.accesses.set(self.accesses.get().saturating_add(1));
+    }
+}
+
+impl<'a> Bus for WatchingBus<'a> {
+    ghost history = { λ bus. honest_history bus.bus };
+
+    ghost moved = { λ _ _. Unit {0} };
+
+    ghost unmoved = { λ _. tt };
+
+    ghost moved_on = { λ _ _ _ _ _. tt };
+
+    fn read_data(&mut self, line: u32) -> Result<Sealed, NoMemory> {
+        self.count();
+        self.bus.read_data(line)
+    }
+
+    fn write_data(&mut self, line: u32, sealed: &Sealed) -> Result<(), NoMemory> {
+        self.count();
+        self.bus.write_data(line, sealed)
+    }
+
+    fn read_node(&mut self, level: u8, index: u32) -> Result<[u8; 64], NoMemory> {
+        self.count();
+        if level == 1 && index < 64 && self.written[index as usize] {
+            self.read_again = self.read_again.saturating_add(1);
+        }
+        self.bus.read_node(level, index)
+    }
+
+    fn write_node(&mut self, level: u8, index: u32, block: &[u8; 64]) -> Result<(), NoMemory> {
+        self.count();
+        if level == 1 && index < 64 && self.accesses.get() > BOOT {
+            self.written[index as usize] = true;
+        }
+        self.bus.write_node(level, index, block)
+    }
+}

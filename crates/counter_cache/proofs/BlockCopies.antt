@@ -1,0 +1,103 @@
+-- The copies of counter blocks, where one comes or goes.
+use Rattle.std.proofs.Common.{◌≡◌, ◌≢◌, inl, inr, ℕ, ◌<◌, ◌≤◌, List, length, Option, Some, None, IsSome, Bool, refl, ap, sym, ◌∙◌, subst, arith}
+use Rattle.std.specs.List.{Contains}
+use Rattle.std.specs.Option.{option_map}
+use Rattle.std.proofs.lemmas.Bool.{cases_eq}
+use Rattle.sec_base.specs.Geometry.{page_count}
+use Rattle.cache_set.specs.declared.way.Way.{Way}
+use Rattle.cache_set.specs.Cache.{IsCache, IsLatest, places, set_at, way_at}
+use Rattle.cache_set.proofs.Listed.{found_at, listed_at}
+use Rattle.cache_set.proofs.Ways.{latest_found}
+use Rattle.bonsai_tree.specs.Node.{CachedNode}
+use Rattle.bonsai_tree.specs.NodeCache.{copy_of}
+use Rattle.bonsai_tree.proofs.Copies.{few_in}
+use Rattle.counter_cache.specs.Counters.{AreBlocks, CountersView, block_sets, cached_block, cached_pages, leaving, most_blocks}
+
+module _ (levels : ℕ) (blocks blocks' : List (List Way)) (are : AreBlocks levels blocks) (cache : IsCache block_sets blocks') where
+  pub blocks_same : ((page : ℕ) → way_at blocks' page ≡ way_at blocks page) → AreBlocks levels blocks'
+  blocks_same same = record {
+    cache = cache;
+    pages = λ page way found. are.pages page way (sym (same page) ∙ found);
+    whole = λ page way found. are.whole page way (sym (same page) ∙ found);
+  }
+
+  pub blocks_put : (page : ℕ) (block : List ℕ) (changed : Bool) → page < page_count levels → length block ≡ 64 →
+      way_at blocks' page ≡ Some (record { place = page; changed = changed; copy = block }) →
+      ((other : ℕ) → other ≢ page → way_at blocks' other ≡ way_at blocks other) → AreBlocks levels blocks'
+  blocks_put page block changed inside long here same = record {
+    cache = cache;
+    pages = λ other way found. elim (cases_eq other page) [
+      | inr apart ↦ are.pages other way (sym (same other apart) ∙ found)
+      | inl e ↦ subst (λ (p : ℕ). p < page_count levels) (sym e) inside
+    ];
+    whole = λ other way found. elim (cases_eq other page) [
+      | inr apart ↦ are.whole other way (sym (same other apart) ∙ found)
+      | inl e ↦
+          let is : Some way ≡ Some (record { place = page; changed = changed; copy = block }) = sym found ∙ ap (λ (p : ℕ). way_at blocks' p) e ∙ here in
+          let copy : way.copy ≡ block = cc in
+          ap (λ (b : List ℕ). length b) copy ∙ long
+    ];
+  }
+
+pub blocks_left : (levels : ℕ) (blocks blocks' : List (List Way)) (page : ℕ) → AreBlocks levels blocks → IsCache block_sets blocks' → way_at blocks' page ≡ None →
+    ((other : ℕ) → other ≢ page → way_at blocks' other ≡ way_at blocks other) → AreBlocks levels blocks'
+blocks_left levels blocks blocks' page are cache gone same = record {
+  cache = cache;
+  pages = λ other way found. elim (cases_eq other page) [
+    | inr apart ↦ are.pages other way (sym (same other apart) ∙ found)
+    | inl e ↦ let none : None ≡ Some way = sym gone ∙ ap (λ (p : ℕ). way_at blocks' p) (sym e) ∙ found in absurd (cc)
+  ];
+  whole = λ other way found. elim (cases_eq other page) [
+    | inr apart ↦ are.whole other way (sym (same other apart) ∙ found)
+    | inl e ↦ let none : None ≡ Some way = sym gone ∙ ap (λ (p : ℕ). way_at blocks' p) (sym e) ∙ found in absurd (cc)
+  ];
+}
+
+-- a place without a way is not one that has a way
+pub apart_from : (blocks : List (List Way)) (page other : ℕ) (way : Way) → way_at blocks page ≡ None → way_at blocks other ≡ Some way → page ≢ other
+apart_from blocks page other way none some same =
+    let both : None ≡ Some way = sym none ∙ ap (λ (p : ℕ). way_at blocks p) same ∙ some in absurd (cc)
+
+-- The pages that have a copy
+
+some_copied : (found : Option Way) → IsSome found → option_map copy_of found ≢ None
+some_copied None some = absurd (cc)
+some_copied (Some way) some = λ (none : option_map copy_of (Some way) ≡ None). absurd (cc)
+
+copied_some : (found : Option Way) → option_map copy_of found ≢ None → IsSome found
+copied_some None held = absurd (held refl)
+copied_some (Some way) held = refl
+
+pub cached_held : (counters : CountersView) (page : ℕ) → IsCache block_sets counters.blocks → Contains (cached_pages counters) page →
+    cached_block counters page ≢ None
+cached_held counters page is cached = some_copied (way_at counters.blocks page) (found_at block_sets counters.blocks page is cached)
+
+pub held_cached : (counters : CountersView) (page : ℕ) → cached_block counters page ≢ None → Contains (cached_pages counters) page
+held_cached counters page held = listed_at counters.blocks page (copied_some (way_at counters.blocks page) held)
+
+pub latest_cached : (counters : CountersView) (page : ℕ) → IsLatest counters.blocks page → Contains (cached_pages counters) page
+latest_cached counters page latest = listed_at counters.blocks page (latest_found page (set_at counters.blocks page) latest)
+
+-- a copy that changes is of a page that had one
+pub same_pages : (blocks blocks' : List (List Way)) (page : ℕ) → IsCache block_sets blocks' → Contains (places blocks) page →
+    ((other : ℕ) → other ≢ page → way_at blocks' other ≡ way_at blocks other) → (other : ℕ) → Contains (places blocks') other → Contains (places blocks) other
+same_pages blocks blocks' page cache there same other listed = elim (cases_eq other page) [
+  | inl here ↦ subst (λ (p : ℕ). Contains (places blocks) p) (sym here) there
+  | inr apart ↦ listed_at blocks other (subst (λ (o : Option Way). IsSome o) (same other apart) (found_at block_sets blocks' other cache listed))
+]
+
+pub few_blocks : (levels : ℕ) (blocks : List (List Way)) → AreBlocks levels blocks → length (places blocks) ≤ most_blocks
+few_blocks levels blocks are = omega (arith, few_in block_sets 0 blocks are.cache.sets_are, are.cache.counted)
+
+-- where a page's own copy stays, and those of all others
+pub stays_all : (counters counters' : CountersView) (page : ℕ) →
+    (Contains (cached_pages counters) page → cached_block counters' page ≡ cached_block counters page) →
+    ((other : ℕ) → other ≢ page → leaving counters page ≢ Some other → cached_block counters' other ≡ cached_block counters other) →
+    (other : ℕ) (copy : CachedNode) → leaving counters page ≢ Some other → cached_block counters other ≡ Some copy → cached_block counters' other ≡ Some copy
+stays_all counters counters' page hit same other copy stays found = elim (cases_eq other page) [
+  | inr apart ↦ same other apart stays ∙ found
+  | inl here ↦
+      let held : cached_block counters page ≡ Some copy = ap (λ (p : ℕ). cached_block counters p) (sym here) ∙ found in
+      let some : cached_block counters page ≢ None = λ none. let both : None ≡ Some copy = sym none ∙ held in absurd (cc) in
+      ap (λ (p : ℕ). cached_block counters' p) here ∙ hit (held_cached counters page some) ∙ held
+]

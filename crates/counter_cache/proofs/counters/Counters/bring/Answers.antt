@@ -1,0 +1,275 @@
+use Rattle.std.proofs.Common.{◌≡◌, ◌≢◌, inl, ◌+◌, ◌<◌, ◌≤◌, ℕ, List, Option, Some, None, Ok, Err, false, refl, ap, sym, ◌∙◌, subst, arith, rules}
+use Rattle.std.specs.List.{Contains}
+use Rattle.std.specs.Option.{option_map}
+use Rattle.sec_base.specs.Evidence.{evidence_place}
+use Rattle.sec_base.specs.Geometry.{page_count}
+use Rattle.sec_base.specs.declared.evidence.Evidence.TheVariants.{Collision}
+use Rattle.sec_base.specs.declared.message.Message.{Message}
+use Rattle.sec_base.specs.declared.message.Message.TheVariants.{Node}
+use Rattle.sec_base.specs.declared.place.Place.{Place}
+use Rattle.sec_base.specs.declared.place.Place.TheVariants.{Node as node_place}
+use Rattle.sec_base.specs.declared.stop.MemStop.{MemStop}
+use Rattle.sec_base.specs.declared.stop.MemStop.TheVariants.{Tampered, Spent}
+use Rattle.cache_set.specs.declared.way.Way.{Way}
+use Rattle.cache_set.specs.Cache.{way_at}
+use Rattle.cache_set.proofs.Listed.{listed_at}
+use Rattle.tag_engine.specs.TagEngine.{tags_of}
+use Rattle.checked_bus.specs.Steps.{stop_of}
+use Rattle.bonsai_tree.specs.NodeCache.{copy_of}
+use Rattle.bonsai_tree.specs.Tree.{IsFetchPlace, PathWasRead, TreeView, path_accesses}
+use Rattle.bonsai_tree.proofs.Climbs.{above_none}
+use Rattle.bonsai_tree.proofs.Nodes.{same_tags, stop_is}
+use Rattle.bonsai_tree.proofs.PathCalls.{not_from_one}
+use Rattle.counter_cache.specs.Counters.{AreBlocks, CameFrom, CountersView, IsHad, LeavesClean, cached_block, cached_pages, leaving}
+use Rattle.counter_cache.specs.Having.{Has}
+use Rattle.counter_cache.proofs.BlockCopies.{blocks_put, blocks_same, cached_held}
+use Rattle.counter_cache.proofs.Hads.{had_tagged, quiet_before}
+use Rattle.counter_cache.proofs.Havings.{TreeCall, has_on, has_put, has_room, has_touched, has_tree, no_copy_below, ok_at, over, path_on, unmade_before}
+use Rattle.counter_cache.proofs.counters.Counters.bring.Goals as goal
+
+-- where it has a copy
+pub returns-then-touch-clause-has : goal.returns-then-touch-clause-has
+returns-then-touch-clause-has g c =
+    let same : (page : ℕ) → way_at c.touch.new.self page ≡ way_at c.args.self.now.blocks page =
+    λ page. c.if-touch.ensures.same page ∙ ap (λ (v : CountersView). way_at v.blocks page) c.self.view_is in
+    let are : AreBlocks c.args.self.now.tree.levels c.args.self.now.blocks = subst (λ (v : CountersView). AreBlocks v.tree.levels v.blocks) c.self.view_is c.self.invariant.blocks in
+    has_touched g.T.Tagger.data_tag_of g.T.Tagger.node_tag_of (IsFetchPlace c.args.self.now.tree.levels c.args.page) c.args.self.now (record { tree = c.self.inside.tree; blocks = c.touch.new.self }) (g.B.Bus.history c.args.bus.now) c.args.tags.now (ap (λ (v : CountersView). v.tree) c.self.view_is)
+    (blocks_same c.args.self.now.tree.levels c.args.self.now.blocks c.touch.new.self are c.if-touch.ensures.cache same)
+    (λ page. ap (option_map copy_of) (same page))
+
+pub returns-then-touch-clause-read : goal.returns-then-touch-clause-read
+returns-then-touch-clause-read g c = λ uncached.
+    absurd (uncached (subst (λ (v : CountersView). Contains (cached_pages v) c.args.page) c.self.view_is
+    (listed_at c.self.inside.blocks c.args.page (c.if-touch.ensures.held.0 refl))))
+
+pub returns-then-touch-clause-clean : goal.returns-then-touch-clause-clean
+returns-then-touch-clause-clean g c = λ uncached.
+    absurd (uncached (subst (λ (v : CountersView). Contains (cached_pages v) c.args.page) c.self.view_is
+    (listed_at c.self.inside.blocks c.args.page (c.if-touch.ensures.held.0 refl))))
+
+-- where no room is made
+pub returns-in_err-make_room-clause-has : goal.returns-in_err-make_room-clause-has
+returns-in_err-make_room-clause-has g c =
+    let why = c.in_err-make_room.field-0.0 in
+    let stop : stop_of c.from_residual.result ≡ Some why = search rules in
+    let same : (record { tree = c.self.inside.tree; blocks = c.touch.new.self }) ≡ c.args.self.now =
+    ap (λ (b : List (List Way)). record { tree = c.self.inside.tree; blocks = b }) (c.if-touch.ensures.unchanged refl) ∙ c.self.view_is in
+    let room : Has (tags_of g.T.Tagger.data_tag_of g.T.Tagger.node_tag_of) (IsFetchPlace c.args.self.now.tree.levels c.args.page) c.args.self.now (g.B.Bus.history c.args.bus.now) c.args.tags.now c.make_room.new.self (g.B.Bus.history c.make_room.new.bus) c.make_room.new.tags (Some why) =
+    has_room g.T.Tagger.data_tag_of g.T.Tagger.node_tag_of c.args.page c.args.self.now (record { tree = c.self.inside.tree; blocks = c.touch.new.self }) c.make_room.new.self (g.B.Bus.history c.args.bus.now) (g.B.Bus.history c.make_room.new.bus)
+    c.args.tags.now c.make_room.new.tags (Some why) same c.in_err-make_room.ensures.has in
+    subst (λ (s : Option MemStop). Has (tags_of g.T.Tagger.data_tag_of g.T.Tagger.node_tag_of) (IsFetchPlace c.args.self.now.tree.levels c.args.page) c.args.self.now (g.B.Bus.history c.args.bus.now) c.args.tags.now c.make_room.new.self (g.B.Bus.history c.make_room.new.bus) c.make_room.new.tags s) (sym stop) room
+
+pub returns-in_err-make_room-clause-accepted : goal.returns-in_err-make_room-clause-accepted
+returns-in_err-make_room-clause-accepted g c = λ made_at bytes tag quiet is.
+    absurd (not_from_one c.self.inside.tree.levels c.args.page (node_place 0 c.args.page) refl
+    (c.in_err-make_room.ensures.has.found quiet (Collision 0 c.args.page made_at bytes tag) is))
+
+pub returns-in_err-make_room-clause-hit : goal.returns-in_err-make_room-clause-hit
+returns-in_err-make_room-clause-hit g c = λ cached.
+    let same : (record { tree = c.self.inside.tree; blocks = c.touch.new.self }) ≡ c.args.self.now =
+    ap (λ (b : List (List Way)). record { tree = c.self.inside.tree; blocks = b }) (c.if-touch.ensures.unchanged refl) ∙ c.self.view_is in
+    let absent : cached_block c.args.self.now c.args.page ≡ None =
+    ap (λ (v : CountersView). cached_block v c.args.page) (sym same) ∙ ap (option_map copy_of) (c.if-touch.ensures.absent refl) in
+    let are : AreBlocks c.args.self.now.tree.levels c.args.self.now.blocks = subst (λ (v : CountersView). AreBlocks v.tree.levels v.blocks) c.self.view_is c.self.invariant.blocks in
+    absurd (cached_held c.args.self.now c.args.page are.cache cached absent)
+
+-- where its block can't be fetched
+pub returns-in_err-block-clause-has : goal.returns-in_err-block-clause-has
+returns-in_err-block-clause-has g c =
+    let same : (record { tree = c.self.inside.tree; blocks = c.touch.new.self }) ≡ c.args.self.now =
+    ap (λ (b : List (List Way)). record { tree = c.self.inside.tree; blocks = b }) (c.if-touch.ensures.unchanged refl) ∙ c.self.view_is in
+    let room : Has (tags_of g.T.Tagger.data_tag_of g.T.Tagger.node_tag_of) (IsFetchPlace c.args.self.now.tree.levels c.args.page) c.args.self.now (g.B.Bus.history c.args.bus.now) c.args.tags.now c.make_room.new.self (g.B.Bus.history c.make_room.new.bus) c.make_room.new.tags None =
+    has_room g.T.Tagger.data_tag_of g.T.Tagger.node_tag_of c.args.page c.args.self.now (record { tree = c.self.inside.tree; blocks = c.touch.new.self }) c.make_room.new.self (g.B.Bus.history c.args.bus.now) (g.B.Bus.history c.make_room.new.bus)
+    c.args.tags.now c.make_room.new.tags None same c.in_ok-make_room.ensures.has in
+    let tree_is : c.self-2.inside.tree ≡ c.make_room.new.self.tree = ap (λ (v : CountersView). v.tree) c.self-2.view_is in
+    let levels : c.self-2.inside.tree.levels ≡ c.args.self.now.tree.levels = ap (λ (t : TreeView). t.levels) tree_is ∙ room.levels in
+    let at_levels : (place : Place) → IsFetchPlace c.self-2.inside.tree.levels c.args.page place → IsFetchPlace c.args.self.now.tree.levels c.args.page place =
+    λ place is. subst (λ (k : ℕ). IsFetchPlace k c.args.page place) levels is in
+    let why = c.in_err-block.field-0.0 in
+    let stop : stop_of c.from_residual-in_err-block.result ≡ Some why = search rules in
+    let is : c.fetch.result ≡ Err why = c.in_err-block.was in
+    subst (λ (s : Option MemStop). Has (tags_of g.T.Tagger.data_tag_of g.T.Tagger.node_tag_of) (IsFetchPlace c.args.self.now.tree.levels c.args.page) c.args.self.now (g.B.Bus.history c.args.bus.now) c.args.tags.now (record { tree = c.fetch.new.self; blocks = c.self-2.inside.blocks }) (g.B.Bus.history c.fetch.new.bus) c.fetch.new.tags s)
+    (ap stop_of is ∙ sym stop)
+    (has_on g.T.Tagger.data_tag_of g.T.Tagger.node_tag_of (IsFetchPlace c.args.self.now.tree.levels c.args.page) c.args.self.now c.make_room.new.self (record { tree = c.fetch.new.self; blocks = c.self-2.inside.blocks }) (g.B.Bus.history c.args.bus.now) (g.B.Bus.history c.make_room.new.bus) (g.B.Bus.history c.fetch.new.bus) c.args.tags.now c.make_room.new.tags c.fetch.new.tags (stop_of c.fetch.result) room
+    (subst (λ (v : CountersView). Has (tags_of g.T.Tagger.data_tag_of g.T.Tagger.node_tag_of) (IsFetchPlace c.args.self.now.tree.levels c.args.page) v (g.B.Bus.history c.make_room.new.bus) c.make_room.new.tags (over c.fetch.new.self (record { tree = c.self-2.inside.tree; blocks = c.self-2.inside.blocks })) (g.B.Bus.history c.fetch.new.bus) c.fetch.new.tags (stop_of c.fetch.result)) c.self-2.view_is
+    (has_tree g.T.Tagger.data_tag_of g.T.Tagger.node_tag_of (IsFetchPlace c.args.self.now.tree.levels c.args.page) (record { tree = c.self-2.inside.tree; blocks = c.self-2.inside.blocks }) c.fetch.new.self (g.B.Bus.history c.make_room.new.bus) (g.B.Bus.history c.fetch.new.bus) c.make_room.new.tags c.fetch.new.tags (stop_of c.fetch.result)
+    (record {
+      moves = c.fetch.ensures.moves;
+      lines = c.fetch.ensures.lines;
+      levels = c.fetch.ensures.levels;
+      root = c.fetch.ensures.root;
+      few_nodes = c.fetch.ensures.few_copies;
+      holds = λ holds going. ok_at c.fetch.result going (c.fetch.ensures.holds holds);
+      honest = λ holds used was. c.fetch.ensures.honest used holds was;
+      lied = λ holds quiet place is. c.fetch.ensures.tampered place (stop_is c.fetch.result (Tampered place) is) holds quiet;
+      shown = c.fetch.ensures.shown;
+      tampered = λ place is. at_levels place (c.fetch.ensures.at_place place (stop_is c.fetch.result (Tampered place) is));
+      found = λ quiet evidence is. at_levels (evidence_place evidence) (c.fetch.ensures.found evidence quiet is);
+      unspent = λ spent is. c.fetch.ensures.unspent spent (stop_is c.fetch.result (Spent spent) is);
+      writes = c.fetch.ensures.writes;
+      made_blocks = c.fetch.ensures.made_blocks;
+      last_blocks = λ remembered was. c.fetch.ensures.last_blocks was (λ is. remembered (ap stop_of is));
+      read = c.fetch.ensures.new_copies;
+    })
+    (λ page unchanged. c.fetch.ensures.pages.last page))))
+
+pub returns-in_err-block-clause-accepted : goal.returns-in_err-block-clause-accepted
+returns-in_err-block-clause-accepted g c = λ made_at bytes tag quiet is.
+    let mid : c.make_room.new.tags.evidence ≡ None =
+    quiet_before c.self.inside.tree.levels c.args.page c.make_room.new.tags.evidence c.fetch.new.tags.evidence (c.in_ok-make_room.ensures.has.found quiet)
+    c.fetch.ensures.moves.evidence made_at bytes tag is in
+    let both : Ok bytes ≡ Err c.in_err-block.field-0.0 = sym (c.fetch.ensures.accepted made_at bytes tag mid is) ∙ c.in_err-block.was in
+    absurd (cc)
+
+pub returns-in_err-block-clause-hit : goal.returns-in_err-block-clause-hit
+returns-in_err-block-clause-hit g c = λ cached.
+    let same : (record { tree = c.self.inside.tree; blocks = c.touch.new.self }) ≡ c.args.self.now =
+    ap (λ (b : List (List Way)). record { tree = c.self.inside.tree; blocks = b }) (c.if-touch.ensures.unchanged refl) ∙ c.self.view_is in
+    let absent : cached_block c.args.self.now c.args.page ≡ None =
+    ap (λ (v : CountersView). cached_block v c.args.page) (sym same) ∙ ap (option_map copy_of) (c.if-touch.ensures.absent refl) in
+    let are : AreBlocks c.args.self.now.tree.levels c.args.self.now.blocks = subst (λ (v : CountersView). AreBlocks v.tree.levels v.blocks) c.self.view_is c.self.invariant.blocks in
+    absurd (cached_held c.args.self.now c.args.page are.cache cached absent)
+
+pub returns-in_err-block-clause-once_clean : goal.returns-in_err-block-clause-once_clean
+returns-in_err-block-clause-once_clean g c = λ clean.
+    let same : (record { tree = c.self.inside.tree; blocks = c.touch.new.self }) ≡ c.args.self.now =
+    ap (λ (b : List (List Way)). record { tree = c.self.inside.tree; blocks = b }) (c.if-touch.ensures.unchanged refl) ∙ c.self.view_is in
+    let idle : (g.B.Bus.history c.make_room.new.bus).accesses ≡ (g.B.Bus.history c.args.bus.now).accesses =
+    subst (λ (v : CountersView). LeavesClean v c.args.page → (g.B.Bus.history c.make_room.new.bus).accesses ≡ (g.B.Bus.history c.args.bus.now).accesses) same
+    c.make_room.ensures.idle clean in
+    let levels : c.self-2.inside.tree.levels ≡ c.args.self.now.tree.levels =
+    ap (λ (v : CountersView). v.tree.levels) c.self-2.view_is ∙ c.in_ok-make_room.ensures.has.levels ∙ ap (λ (v : CountersView). v.tree.levels) c.self.view_is in
+    subst (λ (k : ℕ). (g.B.Bus.history c.fetch.new.bus).accesses ≤ (g.B.Bus.history c.args.bus.now).accesses + path_accesses k) levels
+    (subst (λ (n : ℕ). (g.B.Bus.history c.fetch.new.bus).accesses ≤ n + path_accesses c.self-2.inside.tree.levels) idle c.fetch.ensures.once)
+
+-- where its block is fetched
+pub invariant_of-self-3 : goal.invariant_of-self-3
+invariant_of-self-3 g c =
+    let levels : c.self-2.inside.tree.levels ≡ c.args.self.now.tree.levels =
+    ap (λ (v : CountersView). v.tree.levels) c.self-2.view_is ∙ c.in_ok-make_room.ensures.has.levels ∙ ap (λ (v : CountersView). v.tree.levels) c.self.view_is in
+    record {
+      blocks = blocks_put c.fetch.new.self.levels c.self-2.inside.blocks c.put.new.self
+          (subst (λ (k : ℕ). AreBlocks k c.self-2.inside.blocks) (sym c.fetch.ensures.levels) c.self-2.invariant.blocks) c.put.ensures.cache c.args.page c.in_ok-block.block false
+          (subst (λ (k : ℕ). c.args.page < page_count k) (sym (c.fetch.ensures.levels ∙ levels)) c.requires.page) (search rules) c.put.ensures.put c.put.ensures.same;
+      few_nodes = c.fetch.ensures.few_copies;
+    }
+
+pub returns-clause-copies : goal.returns-clause-copies
+returns-clause-copies g c = invariant_of-self-3 g c
+
+pub returns-clause-has : goal.returns-clause-has
+returns-clause-has g c =
+    let same : (record { tree = c.self.inside.tree; blocks = c.touch.new.self }) ≡ c.args.self.now =
+    ap (λ (b : List (List Way)). record { tree = c.self.inside.tree; blocks = b }) (c.if-touch.ensures.unchanged refl) ∙ c.self.view_is in
+    let room : Has (tags_of g.T.Tagger.data_tag_of g.T.Tagger.node_tag_of) (IsFetchPlace c.args.self.now.tree.levels c.args.page) c.args.self.now (g.B.Bus.history c.args.bus.now) c.args.tags.now c.make_room.new.self (g.B.Bus.history c.make_room.new.bus) c.make_room.new.tags None =
+    has_room g.T.Tagger.data_tag_of g.T.Tagger.node_tag_of c.args.page c.args.self.now (record { tree = c.self.inside.tree; blocks = c.touch.new.self }) c.make_room.new.self (g.B.Bus.history c.args.bus.now) (g.B.Bus.history c.make_room.new.bus)
+    c.args.tags.now c.make_room.new.tags None same c.in_ok-make_room.ensures.has in
+    let tree_is : c.self-2.inside.tree ≡ c.make_room.new.self.tree = ap (λ (v : CountersView). v.tree) c.self-2.view_is in
+    let levels : c.self-2.inside.tree.levels ≡ c.args.self.now.tree.levels = ap (λ (t : TreeView). t.levels) tree_is ∙ room.levels in
+    let at_levels : (place : Place) → IsFetchPlace c.self-2.inside.tree.levels c.args.page place → IsFetchPlace c.args.self.now.tree.levels c.args.page place =
+    λ place is. subst (λ (k : ℕ). IsFetchPlace k c.args.page place) levels is in
+    let is : c.fetch.result ≡ Ok c.in_ok-block.block = c.in_ok-block.was in
+    let empty : way_at c.self-2.inside.blocks c.args.page ≡ None =
+    ap (λ (v : CountersView). way_at v.blocks c.args.page) c.self-2.view_is ∙ c.in_ok-make_room.ensures.absent in
+    has_on g.T.Tagger.data_tag_of g.T.Tagger.node_tag_of (IsFetchPlace c.args.self.now.tree.levels c.args.page) c.args.self.now c.make_room.new.self (record { tree = c.fetch.new.self; blocks = c.put.new.self }) (g.B.Bus.history c.args.bus.now) (g.B.Bus.history c.make_room.new.bus) (g.B.Bus.history c.fetch.new.bus) c.args.tags.now c.make_room.new.tags c.fetch.new.tags None room
+    (subst (λ (v : CountersView). Has (tags_of g.T.Tagger.data_tag_of g.T.Tagger.node_tag_of) (IsFetchPlace c.args.self.now.tree.levels c.args.page) v (g.B.Bus.history c.make_room.new.bus) c.make_room.new.tags (record { tree = c.fetch.new.self; blocks = c.put.new.self }) (g.B.Bus.history c.fetch.new.bus) c.fetch.new.tags None) c.self-2.view_is
+    (has_put g.T.Tagger.data_tag_of g.T.Tagger.node_tag_of (IsFetchPlace c.args.self.now.tree.levels c.args.page) c.args.page (record { tree = c.self-2.inside.tree; blocks = c.self-2.inside.blocks }) c.fetch.new.self (record { tree = c.fetch.new.self; blocks = c.put.new.self }) (g.B.Bus.history c.make_room.new.bus) (g.B.Bus.history c.fetch.new.bus) c.make_room.new.tags c.fetch.new.tags c.in_ok-block.block
+    (subst (λ (s : Option MemStop). TreeCall (tags_of g.T.Tagger.data_tag_of g.T.Tagger.node_tag_of) (IsFetchPlace c.args.self.now.tree.levels c.args.page) c.self-2.inside.tree (g.B.Bus.history c.make_room.new.bus) c.make_room.new.tags c.fetch.new.self (g.B.Bus.history c.fetch.new.bus) c.fetch.new.tags s) (ap stop_of is)
+    (record {
+      moves = c.fetch.ensures.moves;
+      lines = c.fetch.ensures.lines;
+      levels = c.fetch.ensures.levels;
+      root = c.fetch.ensures.root;
+      few_nodes = c.fetch.ensures.few_copies;
+      holds = λ holds going. ok_at c.fetch.result going (c.fetch.ensures.holds holds);
+      honest = λ holds used was. c.fetch.ensures.honest used holds was;
+      lied = λ holds quiet place is. c.fetch.ensures.tampered place (stop_is c.fetch.result (Tampered place) is) holds quiet;
+      shown = c.fetch.ensures.shown;
+      tampered = λ place is. at_levels place (c.fetch.ensures.at_place place (stop_is c.fetch.result (Tampered place) is));
+      found = λ quiet evidence is. at_levels (evidence_place evidence) (c.fetch.ensures.found evidence quiet is);
+      unspent = λ spent is. c.fetch.ensures.unspent spent (stop_is c.fetch.result (Spent spent) is);
+      writes = c.fetch.ensures.writes;
+      made_blocks = c.fetch.ensures.made_blocks;
+      last_blocks = λ remembered was. c.fetch.ensures.last_blocks was (λ is. remembered (ap stop_of is));
+      read = c.fetch.ensures.new_copies;
+    }))
+    c.fetch.ensures.pages.last
+    c.in_ok-block.ensures.block (inl refl)
+    (subst (λ (page : ℕ). CameFrom c.make_room.new.tags.made (g.B.Bus.history c.make_room.new.bus) (g.B.Bus.history c.fetch.new.bus) page) (above_none 0 c.args.page)
+    (c.in_ok-block.ensures.read.rose 0 (omega arith) (omega arith) (λ lower from_zero few. no_copy_below c.self-2.inside.tree lower c.args.page few))) refl
+    (invariant_of-self-3 g c).blocks
+    (ap (option_map copy_of) empty) (ap (option_map copy_of) c.put.ensures.put)
+    (λ other apart. ap (option_map copy_of) (c.put.ensures.same other apart))))
+
+pub returns-clause-had : goal.returns-clause-had
+returns-clause-had g c = λ bytes copied.
+    let same : (record { tree = c.self.inside.tree; blocks = c.touch.new.self }) ≡ c.args.self.now =
+    ap (λ (b : List (List Way)). record { tree = c.self.inside.tree; blocks = b }) (c.if-touch.ensures.unchanged refl) ∙ c.self.view_is in
+    let absent : cached_block c.args.self.now c.args.page ≡ None =
+    ap (λ (v : CountersView). cached_block v c.args.page) (sym same) ∙ ap (option_map copy_of) (c.if-touch.ensures.absent refl) in
+    let some : Some c.in_ok-block.block ≡ Some bytes = sym (ap (option_map (λ (way : Way). way.copy)) c.put.ensures.put) ∙ copied in
+    let block_is : c.in_ok-block.block ≡ bytes = cc in
+    subst (λ (b : List ℕ). IsHad (tags_of g.T.Tagger.data_tag_of g.T.Tagger.node_tag_of c.args.tags.now) c.args.self.now (record { tree = c.fetch.new.self; blocks = c.put.new.self }) c.fetch.new.tags.made c.args.page c.args.tags.now.evidence c.fetch.new.tags.evidence b) block_is
+    (had_tagged (tags_of g.T.Tagger.data_tag_of g.T.Tagger.node_tag_of c.args.tags.now) c.args.self.now (record { tree = c.fetch.new.self; blocks = c.put.new.self }) c.fetch.new.tags.made c.args.page c.args.tags.now.evidence c.fetch.new.tags.evidence c.in_ok-block.block absent
+    (sym (ap (λ (t : Message → List ℕ). t (Node 0 c.args.page c.in_ok-block.block))
+    (same_tags g.T.Tagger.data_tag_of g.T.Tagger.node_tag_of (g.B.Bus.history c.args.bus.now) (g.B.Bus.history c.make_room.new.bus) c.args.tags.now c.make_room.new.tags c.in_ok-make_room.ensures.has.moves))
+    ∙ c.in_ok-block.ensures.checked)
+    (λ quiet made_at shown tag is.
+    let mid : c.make_room.new.tags.evidence ≡ None =
+    quiet_before c.self.inside.tree.levels c.args.page c.make_room.new.tags.evidence c.fetch.new.tags.evidence (c.in_ok-make_room.ensures.has.found quiet)
+    c.fetch.ensures.moves.evidence made_at shown tag is in
+    let both : Ok c.in_ok-block.block ≡ Ok shown = sym c.in_ok-block.was ∙ c.fetch.ensures.accepted made_at shown tag mid is in
+    let same_block : c.in_ok-block.block ≡ shown = cc in same_block))
+
+pub returns-clause-hit : goal.returns-clause-hit
+returns-clause-hit g c = λ cached.
+    let same : (record { tree = c.self.inside.tree; blocks = c.touch.new.self }) ≡ c.args.self.now =
+    ap (λ (b : List (List Way)). record { tree = c.self.inside.tree; blocks = b }) (c.if-touch.ensures.unchanged refl) ∙ c.self.view_is in
+    let absent : cached_block c.args.self.now c.args.page ≡ None =
+    ap (λ (v : CountersView). cached_block v c.args.page) (sym same) ∙ ap (option_map copy_of) (c.if-touch.ensures.absent refl) in
+    let are : AreBlocks c.args.self.now.tree.levels c.args.self.now.blocks = subst (λ (v : CountersView). AreBlocks v.tree.levels v.blocks) c.self.view_is c.self.invariant.blocks in
+    absurd (cached_held c.args.self.now c.args.page are.cache cached absent)
+
+pub returns-clause-read : goal.returns-clause-read
+returns-clause-read g c = λ uncached.
+    let same : (record { tree = c.self.inside.tree; blocks = c.touch.new.self }) ≡ c.args.self.now =
+    ap (λ (b : List (List Way)). record { tree = c.self.inside.tree; blocks = b }) (c.if-touch.ensures.unchanged refl) ∙ c.self.view_is in
+    let room : Has (tags_of g.T.Tagger.data_tag_of g.T.Tagger.node_tag_of) (IsFetchPlace c.args.self.now.tree.levels c.args.page) c.args.self.now (g.B.Bus.history c.args.bus.now) c.args.tags.now c.make_room.new.self (g.B.Bus.history c.make_room.new.bus) c.make_room.new.tags None =
+    has_room g.T.Tagger.data_tag_of g.T.Tagger.node_tag_of c.args.page c.args.self.now (record { tree = c.self.inside.tree; blocks = c.touch.new.self }) c.make_room.new.self (g.B.Bus.history c.args.bus.now) (g.B.Bus.history c.make_room.new.bus)
+    c.args.tags.now c.make_room.new.tags None same c.in_ok-make_room.ensures.has in
+    path_on c.args.self.now.tree c.make_room.new.self.tree c.args.page c.args.tags.now.made c.make_room.new.tags.made (g.B.Bus.history c.args.bus.now) (g.B.Bus.history c.make_room.new.bus) (g.B.Bus.history c.fetch.new.bus) room.levels room.moves.reads
+    c.fetch.ensures.moves.reads room.read (unmade_before c.args.tags.now.made c.make_room.new.tags.made room.moves.more room.moves.made)
+    (subst (λ (v : CountersView). PathWasRead v.tree c.make_room.new.tags.made 0 c.args.page (g.B.Bus.history c.make_room.new.bus) (g.B.Bus.history c.fetch.new.bus)) c.self-2.view_is c.in_ok-block.ensures.read)
+
+pub returns-clause-moved : goal.returns-clause-moved
+returns-clause-moved g c =
+    g.met.B.Bus.moved_on c.args.bus.now c.make_room.new.bus c.fetch.new.bus c.make_room.ensures.moved c.fetch.ensures.moved
+
+pub returns-clause-goes : goal.returns-clause-goes
+returns-clause-goes g c = λ other goes.
+    let same : (record { tree = c.self.inside.tree; blocks = c.touch.new.self }) ≡ c.args.self.now =
+    ap (λ (b : List (List Way)). record { tree = c.self.inside.tree; blocks = b }) (c.if-touch.ensures.unchanged refl) ∙ c.self.view_is in
+    let apart : other ≢ c.args.page = λ here.
+    subst (λ (v : CountersView). leaving v c.args.page ≢ Some c.args.page) same c.make_room.ensures.apart (goes ∙ ap Some here) in
+    ap (option_map copy_of) (c.put.ensures.same other apart) ∙ ap (λ (v : CountersView). cached_block v other) c.self-2.view_is
+    ∙ subst (λ (v : CountersView). leaving v c.args.page ≡ Some other → cached_block c.make_room.new.self other ≡ None) same (c.in_ok-make_room.ensures.goes other) goes
+
+pub returns-clause-stays : goal.returns-clause-stays
+returns-clause-stays g c = λ other apart stays.
+    let same : (record { tree = c.self.inside.tree; blocks = c.touch.new.self }) ≡ c.args.self.now =
+    ap (λ (b : List (List Way)). record { tree = c.self.inside.tree; blocks = b }) (c.if-touch.ensures.unchanged refl) ∙ c.self.view_is in
+    ap (option_map copy_of) (c.put.ensures.same other apart) ∙ ap (λ (v : CountersView). cached_block v other) c.self-2.view_is
+    ∙ subst (λ (v : CountersView). leaving v c.args.page ≢ Some other → cached_block c.make_room.new.self other ≡ cached_block v other) same
+    (c.make_room.ensures.stays other) stays
+
+pub returns-clause-once_clean : goal.returns-clause-once_clean
+returns-clause-once_clean g c = λ clean.
+    let same : (record { tree = c.self.inside.tree; blocks = c.touch.new.self }) ≡ c.args.self.now =
+    ap (λ (b : List (List Way)). record { tree = c.self.inside.tree; blocks = b }) (c.if-touch.ensures.unchanged refl) ∙ c.self.view_is in
+    let idle : (g.B.Bus.history c.make_room.new.bus).accesses ≡ (g.B.Bus.history c.args.bus.now).accesses =
+    subst (λ (v : CountersView). LeavesClean v c.args.page → (g.B.Bus.history c.make_room.new.bus).accesses ≡ (g.B.Bus.history c.args.bus.now).accesses) same
+    c.make_room.ensures.idle clean in
+    let levels : c.self-2.inside.tree.levels ≡ c.args.self.now.tree.levels =
+    ap (λ (v : CountersView). v.tree.levels) c.self-2.view_is ∙ c.in_ok-make_room.ensures.has.levels ∙ ap (λ (v : CountersView). v.tree.levels) c.self.view_is in
+    subst (λ (k : ℕ). (g.B.Bus.history c.fetch.new.bus).accesses ≤ (g.B.Bus.history c.args.bus.now).accesses + path_accesses k) levels
+    (subst (λ (n : ℕ). (g.B.Bus.history c.fetch.new.bus).accesses ≤ n + path_accesses c.self-2.inside.tree.levels) idle c.fetch.ensures.once)

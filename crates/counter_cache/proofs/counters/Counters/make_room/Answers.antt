@@ -1,0 +1,81 @@
+use Rattle.std.proofs.Common.{◌≡◌, List, Option, Some, None, ap, sym, ◌∙◌, subst, rules}
+use Rattle.std.specs.Option.{option_map}
+use Rattle.sec_base.specs.declared.stop.MemStop.{MemStop}
+use Rattle.cache_set.specs.declared.way.Way.{Way}
+use Rattle.cache_set.specs.Cache.{place_of, way_at}
+use Rattle.tag_engine.specs.TagEngine.{tags_of}
+use Rattle.checked_bus.specs.Steps.{stop_of}
+use Rattle.bonsai_tree.specs.NodeCache.{copy_of}
+use Rattle.bonsai_tree.specs.Tree.{IsNodeFrom}
+use Rattle.counter_cache.specs.Counters.{AreBlocks, CountersView, leaving}
+use Rattle.counter_cache.specs.Having.{Has}
+use Rattle.counter_cache.proofs.BlockCopies.{apart_from, blocks_left}
+use Rattle.counter_cache.proofs.Havings.{has_dropped, has_not, has_on}
+use Rattle.counter_cache.proofs.counters.Counters.make_room.Goals as goal
+
+pub returns-in_default-clause-has : goal.returns-in_default-clause-has
+returns-in_default-clause-has g c = has_not g.T.Tagger.data_tag_of g.T.Tagger.node_tag_of (IsNodeFrom c.args.self.now.tree.levels 1) c.args.self.now (g.B.Bus.history c.args.bus.now) c.args.tags.now
+
+pub returns-in_err-write_back-clause-has : goal.returns-in_err-write_back-clause-has
+returns-in_err-write_back-clause-has g c =
+    let why = c.in_err-write_back.field-0.0 in
+    let stop : stop_of c.from_residual.result ≡ Some why = search rules in
+    subst (λ (s : Option MemStop). Has (tags_of g.T.Tagger.data_tag_of g.T.Tagger.node_tag_of) (IsNodeFrom c.args.self.now.tree.levels 1) c.args.self.now (g.B.Bus.history c.args.bus.now) c.args.tags.now c.write_back.new.self
+    (g.B.Bus.history c.write_back.new.bus) c.write_back.new.tags s) (sym stop) c.in_err-write_back.ensures.has
+
+pub returns-clause-has : goal.returns-clause-has
+returns-clause-has g c =
+    let way : way_at c.args.self.now.blocks c.in-Some.victim.place ≡ Some c.in-Some.victim =
+    sym (ap (λ (v : CountersView). way_at v.blocks c.in-Some.victim.place) c.self.view_is) ∙ c.in-Some.ensures.way in
+    let here : way_at c.write_back.new.self.blocks c.in-Some.victim.place ≡ Some c.in-Some.victim =
+    ap (λ (blocks : List (List Way)). way_at blocks c.in-Some.victim.place) c.in_ok-write_back.ensures.blocks ∙ way in
+    has_on g.T.Tagger.data_tag_of g.T.Tagger.node_tag_of (IsNodeFrom c.args.self.now.tree.levels 1) c.args.self.now c.write_back.new.self (record { tree = c.self-2.inside.tree; blocks = c.remove.new.self })
+    (g.B.Bus.history c.args.bus.now) (g.B.Bus.history c.write_back.new.bus) (g.B.Bus.history c.write_back.new.bus) c.args.tags.now c.write_back.new.tags c.write_back.new.tags None
+    c.in_ok-write_back.ensures.has
+    (has_dropped g.T.Tagger.data_tag_of g.T.Tagger.node_tag_of (IsNodeFrom c.args.self.now.tree.levels 1) c.in-Some.victim.place c.write_back.new.self (record { tree = c.self-2.inside.tree; blocks = c.remove.new.self })
+    (g.B.Bus.history c.write_back.new.bus) c.write_back.new.tags (copy_of c.in-Some.victim) (ap (λ (v : CountersView). v.tree) c.self-2.view_is)
+    (blocks_left c.write_back.new.self.tree.levels c.write_back.new.self.blocks c.remove.new.self c.in-Some.victim.place
+    (subst (λ (v : CountersView). AreBlocks v.tree.levels v.blocks) c.self-2.view_is c.self-2.invariant.blocks) c.remove.ensures.cache c.remove.ensures.removed
+    (λ other apart. c.remove.ensures.same other apart ∙ ap (λ (v : CountersView). way_at v.blocks other) c.self-2.view_is))
+    (ap (option_map copy_of) here) (ap (option_map copy_of) c.remove.ensures.removed)
+    (λ other apart. ap (option_map copy_of) (c.remove.ensures.same other apart ∙ ap (λ (v : CountersView). way_at v.blocks other) c.self-2.view_is))
+    c.in_ok-write_back.ensures.last)
+
+pub returns-clause-room_for : goal.returns-clause-room_for
+returns-clause-room_for g c = c.remove.ensures.room c.args.page c.in-Some.ensures.beside
+
+pub returns-in_err-write_back-clause-pages : goal.returns-in_err-write_back-clause-pages
+returns-in_err-write_back-clause-pages g c =
+    c.write_back.ensures.others c.args.page
+    (apart_from c.self.inside.blocks c.args.page c.in-Some.victim.place c.in-Some.victim
+    (ap (λ (v : CountersView). way_at v.blocks c.args.page) c.self.view_is ∙ c.requires.absent) c.in-Some.ensures.way)
+
+pub invariant_of-self : goal.invariant_of-self
+invariant_of-self g c =
+    record {
+      blocks = blocks_left c.self-2.inside.tree.levels c.self-2.inside.blocks c.remove.new.self c.in-Some.victim.place c.self-2.invariant.blocks c.remove.ensures.cache
+          c.remove.ensures.removed c.remove.ensures.same;
+      few_nodes = c.self-2.invariant.few_nodes;
+    }
+
+pub returns-clause-pages : goal.returns-clause-pages
+returns-clause-pages g c =
+    c.write_back.ensures.others c.args.page
+    (apart_from c.self.inside.blocks c.args.page c.in-Some.victim.place c.in-Some.victim
+    (ap (λ (v : CountersView). way_at v.blocks c.args.page) c.self.view_is ∙ c.requires.absent) c.in-Some.ensures.way)
+
+pub returns-in_err-write_back-clause-idle : goal.returns-in_err-write_back-clause-idle
+returns-in_err-write_back-clause-idle g c = λ clean.
+    let goes : leaving c.args.self.now c.args.page ≡ Some c.in-Some.victim.place =
+    ap (λ (v : CountersView). leaving v c.args.page) (sym c.self.view_is) ∙ ap (option_map place_of) (sym c.in-Some.ensures.victim) in
+    let way : way_at c.args.self.now.blocks c.in-Some.victim.place ≡ Some c.in-Some.victim =
+    sym (ap (λ (v : CountersView). way_at v.blocks c.in-Some.victim.place) c.self.view_is) ∙ c.in-Some.ensures.way in
+    c.write_back.ensures.idle (clean c.in-Some.victim.place (copy_of c.in-Some.victim) goes (ap (option_map copy_of) way))
+
+pub returns-clause-idle : goal.returns-clause-idle
+returns-clause-idle g c = λ clean.
+    let goes : leaving c.args.self.now c.args.page ≡ Some c.in-Some.victim.place =
+    ap (λ (v : CountersView). leaving v c.args.page) (sym c.self.view_is) ∙ ap (option_map place_of) (sym c.in-Some.ensures.victim) in
+    let way : way_at c.args.self.now.blocks c.in-Some.victim.place ≡ Some c.in-Some.victim =
+    sym (ap (λ (v : CountersView). way_at v.blocks c.in-Some.victim.place) c.self.view_is) ∙ c.in-Some.ensures.way in
+    c.write_back.ensures.idle (clean c.in-Some.victim.place (copy_of c.in-Some.victim) goes (ap (option_map copy_of) way))

@@ -1,0 +1,56 @@
+use Rattle.std.proofs.Common.{◌≡◌, inl, inr, ℕ, Some, true, false, ap, ◌∙◌, subst, rules}
+use Rattle.std.specs.Option.{option_map}
+use Rattle.std.proofs.lemmas.Bool.{cases_eq}
+use Rattle.sec_base.specs.declared.stop.MemStop.TheVariants.{Tampered, Spent}
+use Rattle.cache_set.specs.Cache.{way_at}
+use Rattle.tag_engine.specs.TagEngine.{tags_of}
+use Rattle.checked_bus.specs.Steps.{stop_of}
+use Rattle.bonsai_tree.specs.NodeCache.{copy_of}
+use Rattle.bonsai_tree.specs.Tree.{IsNodeFrom}
+use Rattle.counter_cache.specs.Counters.{CountersView, cached_block}
+use Rattle.counter_cache.specs.Having.{Has}
+use Rattle.bonsai_tree.proofs.Nodes.{stop_is}
+use Rattle.counter_cache.proofs.Havings.{has_not, has_tree, ok_at, over}
+use Rattle.counter_cache.proofs.counters.Counters.write_back.Goals as goal
+
+pub returns-then-not-victim-clause-has : goal.returns-then-not-victim-clause-has
+returns-then-not-victim-clause-has g c = has_not g.T.Tagger.data_tag_of g.T.Tagger.node_tag_of (IsNodeFrom c.args.self.now.tree.levels 1) c.args.self.now (g.B.Bus.history c.args.bus.now) c.args.tags.now
+
+pub returns-clause-has : goal.returns-clause-has
+returns-clause-has g c =
+    subst (λ (v : CountersView). Has (tags_of g.T.Tagger.data_tag_of g.T.Tagger.node_tag_of) (IsNodeFrom v.tree.levels 1) v (g.B.Bus.history c.args.bus.now) c.args.tags.now (over c.update.new.self (record { tree = c.self.inside.tree; blocks = c.self.inside.blocks }))
+    (g.B.Bus.history c.update.new.bus) c.update.new.tags (stop_of c.update.result)) c.self.view_is
+    (has_tree g.T.Tagger.data_tag_of g.T.Tagger.node_tag_of (IsNodeFrom c.self.inside.tree.levels 1) (record { tree = c.self.inside.tree; blocks = c.self.inside.blocks }) c.update.new.self (g.B.Bus.history c.args.bus.now) (g.B.Bus.history c.update.new.bus) c.args.tags.now c.update.new.tags (stop_of c.update.result)
+    (record {
+      moves = c.update.ensures.moves;
+      lines = c.update.ensures.lines;
+      levels = c.update.ensures.levels;
+      root = c.update.ensures.root;
+      few_nodes = c.update.ensures.few_copies;
+      holds = λ holds going. ok_at c.update.result going (c.update.ensures.holds holds);
+      honest = λ holds used was. c.update.ensures.honest used holds was;
+      lied = λ holds quiet place is. c.update.ensures.tampered place (stop_is c.update.result (Tampered place) is) holds quiet;
+      shown = c.update.ensures.shown;
+      tampered = λ place is. c.update.ensures.at_place place (stop_is c.update.result (Tampered place) is);
+      found = λ quiet evidence is. c.update.ensures.found evidence quiet is;
+      unspent = λ spent is. c.update.ensures.unspent spent (stop_is c.update.result (Spent spent) is);
+      writes = c.update.ensures.writes;
+      made_blocks = c.update.ensures.made_blocks;
+      last_blocks = λ remembered was. c.update.ensures.last_blocks was (λ is. remembered (ap stop_of is));
+      read = c.update.ensures.new_copies;
+    })
+    (λ page unchanged. elim (cases_eq page c.args.victim.now.place) [
+      | inr apart ↦ c.update.ensures.others page apart
+      | inl here ↦
+          let held : way_at c.self.inside.blocks c.args.victim.now.place ≡ Some c.args.victim.now =
+          ap (λ (v : CountersView). way_at v.blocks c.args.victim.now.place) c.self.view_is ∙ c.requires.held in
+          let still : c.args.victim.now.changed ≡ false =
+          unchanged (copy_of c.args.victim.now) (ap (λ (p : ℕ). cached_block (record { tree = c.self.inside.tree; blocks = c.self.inside.blocks }) p) here ∙ ap (option_map copy_of) held) in
+          let changed : c.args.victim.now.changed ≡ true = search rules in
+          absurd (cc)
+    ]))
+
+pub returns-then-not-victim-clause-last : goal.returns-then-not-victim-clause-last
+returns-then-not-victim-clause-last g c = λ holds quiet.
+    let unchanged : c.args.victim.now.changed ≡ false = search rules in
+    holds.clean quiet c.args.victim.now.place (copy_of c.args.victim.now) (ap (option_map copy_of) c.requires.held) unchanged

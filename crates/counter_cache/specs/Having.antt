@@ -1,0 +1,50 @@
+-- What a call makes of the counters, the bus and the tag engine that has a page's block on the chip, or makes room for one: no
+-- counter changes. It serves private contracts alone.
+use Rattle.std.specs.Prelude.{◌≡◌, ◌≢◌, ◌⊎◌, ℕ, List, length, Option, Some, None}
+use Rattle.sec_base.specs.Count.{Rose}
+use Rattle.sec_base.specs.Evidence.{evidence_place}
+use Rattle.sec_base.specs.declared.counter.Counter.{Counter}
+use Rattle.sec_base.specs.declared.evidence.Evidence.{Evidence}
+use Rattle.sec_base.specs.declared.message.Message.{Message}
+use Rattle.sec_base.specs.declared.place.Place.{Place}
+use Rattle.sec_base.specs.declared.place.Place.TheVariants.{Node as node_place}
+use Rattle.sec_base.specs.declared.stop.MemStop.{MemStop}
+use Rattle.sec_base.specs.declared.stop.MemStop.TheVariants.{Tampered, Spent, NoMemory}
+use Rattle.bus_model.specs.BusHistory.{BusHistory}
+use Rattle.tag_engine.specs.TagEngine.{TagEngineView}
+use Rattle.checked_bus.specs.Accesses.{WritesMessages}
+use Rattle.checked_bus.specs.Steps.{IsAccounted, Moves, SameLines, unwritten_in}
+use Rattle.bonsai_tree.specs.Tree.{NodesAreMade, NodesHoldLast, WasReadUp, cached_node}
+use Rattle.counter_cache.specs.Counters.{AreBlocks, CameFrom, CountersView, HasFewNodes, HoldsCounters, SameCounters, cached_block}
+
+-- The places that are read are among these.
+pub record Has {T : Type 0} (tags : TagEngineView T → Message → List ℕ) (Where : Place → Type 0) (counters : CountersView) (old : BusHistory)
+    (engine : TagEngineView T) (counters' : CountersView) (new : BusHistory) (engine' : TagEngineView T) (stop : Option MemStop) : Type 0 where
+  pub moves : Moves old engine new engine'
+  pub lines : SameLines old engine.made new engine'.made
+  pub levels : counters'.tree.levels ≡ counters.tree.levels
+  pub root : counters'.tree.root ≡ counters.tree.root
+  pub blocks : AreBlocks counters.tree.levels counters.blocks → AreBlocks counters'.tree.levels counters'.blocks
+  pub few_nodes : HasFewNodes counters.tree → HasFewNodes counters'.tree
+  -- what holds, holds still, and no counter changes
+  pub holds : HoldsCounters tags counters old engine → stop ≡ None → HoldsCounters tags counters' new engine'
+  pub same : HoldsCounters tags counters old engine → engine'.evidence ≡ None → SameCounters counters engine.made counters' engine'.made
+  -- false answers are accounted for, and both tampering and evidence come only where one was
+  pub honest : HoldsCounters tags counters old engine → (used : List (ℕ × Counter)) →
+      IsAccounted (tags engine) used engine.made old None engine.evidence →
+      IsAccounted (tags engine) used engine'.made new stop engine'.evidence
+  pub lied : HoldsCounters tags counters old engine → engine.evidence ≡ None → (place : Place) → stop ≡ Some (Tampered place) →
+      Rose old.lies new.lies
+  pub shown : HoldsCounters tags counters old engine → engine.evidence ≡ None → engine'.evidence ≢ None → Rose old.lies new.lies
+  pub tampered : (place : Place) → stop ≡ Some (Tampered place) → Where place
+  pub found : engine.evidence ≡ None → (evidence : Evidence) → engine'.evidence ≡ Some evidence → Where (evidence_place evidence)
+  pub unspent : (spent : ℕ) → stop ≢ Some (Spent spent)
+  -- what was made was written
+  pub writes : WritesMessages old new (length moves.more) (unwritten_in stop)
+  pub made_blocks : NodesAreMade counters.tree.levels engine.made old.written → NodesAreMade counters.tree.levels engine'.made new.written
+  pub last_blocks : stop ≢ Some NoMemory → NodesHoldLast counters.tree.levels engine.made old.written →
+      NodesHoldLast counters.tree.levels engine'.made new.written
+  -- what has a copy was read, or had one
+  pub read : (level index : ℕ) → cached_node counters'.tree level index ≢ None → WasReadUp counters.tree level index old new
+  pub copied : (page : ℕ) → cached_block counters' page ≢ None →
+      (cached_block counters page ≢ None) ⊎ (Where (node_place 0 page) × CameFrom engine.made old new page)
