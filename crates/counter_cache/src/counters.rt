@@ -157,8 +157,8 @@ impl Counters {
         ensures new_nodes { (level index : ℕ) → cached_node self.new.tree level index ≢ None →
             WasReadUp self.old.tree level index (B.history bus.old) (B.history bus.new) }
 
-        // The least recently used copy of a full set goes out for a block that comes, and is written only if it was changed. All
-        // others stay as they are.
+        // The least recently used copy of a full set goes out for a block that comes. Where it was not changed, there are no more
+        // accesses than a fetch may make. All others stay as they are.
         ensures goes { (other : ℕ) → leaving self.old page ≡ Some other → OnOk result (cached_block self.new other ≡ None) }
         ensures stays { (other : ℕ) (copy : CachedNode) → leaving self.old page ≢ Some other →
             cached_block self.old other ≡ Some copy → cached_block self.new other ≡ Some copy }
