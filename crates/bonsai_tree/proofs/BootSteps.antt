@@ -41,6 +41,11 @@ pub one_node : (levels : ℕ) → nodes_from levels 0 ≡ 1
 unfolding nodes_from
 one_node levels = refl
 
+pub nodes_some : (levels level : ℕ) → 0 < nodes_from levels level
+unfolding nodes_from
+nodes_some levels zero = omega arith
+nodes_some levels (suc level) = omega arith
+
 pub leaf_block : (tag_of : Message → List ℕ) (levels index : ℕ) → boot_block tag_of levels 0 index ≡ no_block
 unfolding boot_block
 leaf_block tag_of levels index = refl
@@ -64,12 +69,21 @@ room_next (suc (suc zero)) each before after less enough left = omega (arith, en
 room_next (suc (suc (suc zero))) each before after less enough left = omega (arith, enough, left)
 room_next (suc (suc (suc (suc slot)))) each before after less enough left = absurd (omega arith)
 
+-- where the next child was not written whole, fewer accesses were made than all children have nodes
+pub children_fewer : (slot each before mid after : ℕ) → slot < 4 → mid ≤ before + slot * each → after < mid + each → after < before + 4 * each
+children_fewer zero each before mid after less most fewer = omega (arith, most, fewer)
+children_fewer (suc zero) each before mid after less most fewer = omega (arith, most, fewer)
+children_fewer (suc (suc zero)) each before mid after less most fewer = omega (arith, most, fewer)
+children_fewer (suc (suc (suc zero))) each before mid after less most fewer = omega (arith, most, fewer)
+children_fewer (suc (suc (suc (suc slot)))) each before mid after less most fewer = absurd (omega arith)
+
 -- What the first children of a node came to: their messages were made and written, and their tags are in the slots.
 pub record IsPartly {B T : Type 0} (moved : B → B → Type 0) (history : B → BusHistory) (d n : T → List ℕ → List ℕ) (levels level index slot : ℕ)
     (bus : B) (engine : TagEngineView T) (bus' : B) (engine' : TagEngineView T) (block : List ℕ) : Type 0 where
   pub wrote : WritesNodes (tags_of d n) levels (history bus) engine (history bus') engine' 0
   pub made : engine'.made ≡ engine.made ++ children_messages (tags_of d n engine) levels level index slot
   pub room : engine.room ≤ engine'.room + slot * nodes_from levels level
+  pub most : (history bus').accesses ≤ (history bus).accesses + slot * nodes_from levels level
   -- there is memory for the next one
   pub next : slot < 4 → nodes_from levels level ≤ engine'.room
   pub front : take (16 * slot) block ≡ children_tags (tags_of d n engine) levels level index slot
@@ -82,6 +96,7 @@ module _ {B T : Type 0} (moved : B → B → Type 0) (history : B → BusHistory
     wrote = writes_none d n levels (history bus) engine;
     made = sym (append-nil engine.made) ∙ ap (λ (xs : List Message). engine.made ++ xs) (sym (joined_none (λ slot. messages_from (tags_of d n engine) levels level (child levels index slot))));
     room = omega arith;
+    most = omega arith;
     next = λ some. omega (arith, enough);
     front = sym (joined_none (λ slot. tags_of d n engine (boot_message (tags_of d n engine) levels level (child levels index slot))));
     long = long;
@@ -95,10 +110,11 @@ module _ {B T : Type 0} (moved : B → B → Type 0) (history : B → BusHistory
       WritesNodes (tags_of d n) levels (history bus') engine' (history bus'') engine'' 0 →
       engine''.made ≡ engine'.made ++ messages_from (tags_of d n engine') levels level (child levels index slot) →
       engine'.room ≤ engine''.room + nodes_from levels level →
+      (history bus'').accesses ≤ (history bus').accesses + nodes_from levels level →
       tag ≡ tags_of d n engine' (boot_message (tags_of d n engine') levels level (child levels index slot)) →
       moved bus' bus'' →
       IsPartly moved history d n levels level index (slot + 1) bus engine bus'' engine'' (with_tag slot tag block)
-  partly_more slot bus' bus'' engine' engine'' block tag moved_on enough inside tag_long was wrote made room tag_is led =
+  partly_more slot bus' bus'' engine' engine'' block tag moved_on enough inside tag_long was wrote made room most tag_is led =
       let tags : tags_of d n engine' ≡ tags_of d n engine = same_tags d n (history bus) (history bus') engine engine' was.wrote.moves in
       let before : length (take (16 * slot) block) ≡ 16 * slot = length-take-le (16 * slot) block (omega (arith, was.long)) in
       let messages : ℕ → List Message = λ s. messages_from (tags_of d n engine) levels level (child levels index s) in
@@ -110,6 +126,7 @@ module _ {B T : Type 0} (moved : B → B → Type 0) (history : B → BusHistory
             ∙ ap (λ (xs : List Message). xs ++ messages slot) was.made ∙ append_assoc engine.made (joined messages slot) (messages slot)
             ∙ ap (λ (xs : List Message). engine.made ++ xs) (sym (joined_more messages slot));
         room = omega (arith, was.room, room, product);
+        most = omega (arith, was.most, most, product);
         next = λ some. room_next (slot + 1) (nodes_from levels level) engine.room engine''.room some enough (omega (arith, was.room, room, product));
         front =
             take_at (take (16 * slot) block ++ tag) (drop (16 * slot + 16) block) (16 * (slot + 1))

@@ -33,12 +33,12 @@ length-joined f (suc n) each long =
     let product : suc n * each ≡ n * each + each = omega arith in
     omega (arith, length-append (joined f n) (f n), before, long n, product)
 
-All-joined : {A : Type 0} (P : A → Type 0) (f : ℕ → List A) (n : ℕ) → ((k : ℕ) → All P (f k)) → All P (joined f n)
+pub All-joined : {A : Type 0} (P : A → Type 0) (f : ℕ → List A) (n : ℕ) → ((k : ℕ) → All P (f k)) → All P (joined f n)
 unfolding joined
 All-joined P f zero all = All-nil P
 All-joined P f (suc n) all = All-append P (joined f n) (f n) (All-joined P f n all) (all n)
 
-Contains-joined : {A : Type 0} (f : ℕ → List A) (n k : ℕ) (x : A) → k < n → Contains (f k) x → Contains (joined f n) x
+pub Contains-joined : {A : Type 0} (f : ℕ → List A) (n k : ℕ) (x : A) → k < n → Contains (f k) x → Contains (joined f n) x
 unfolding joined
 Contains-joined f zero k x below has = absurd (omega arith)
 Contains-joined {A} f (suc n) k x below has =
@@ -113,7 +113,7 @@ messages-of_boot tag_of levels (suc level) index =
     (All-joined (IsOfBoot tag_of levels) (λ slot. messages_from tag_of levels level (4 * index + slot)) 4
     (λ slot. messages-of_boot tag_of levels level (4 * index + slot))) refl
 
-own_message : (tag_of : Message → List ℕ) (levels level index : ℕ) → Contains (messages_from tag_of levels level index) (boot_message tag_of levels level index)
+pub own_message : (tag_of : Message → List ℕ) (levels level index : ℕ) → Contains (messages_from tag_of levels level index) (boot_message tag_of levels level index)
 unfolding messages_from
 own_message tag_of levels zero index = (0, omega arith, refl)
 own_message tag_of levels (suc level) index =

@@ -21,12 +21,12 @@ use Rattle.checked_bus.proofs.Writes.{none_more, writes_not, writes_on}
 use Rattle.bonsai_tree.specs.Climb.{Climbs}
 use Rattle.bonsai_tree.specs.Node.{CachedNode}
 use Rattle.bonsai_tree.specs.NodeCache.{AreNodeCaches, level_cache}
-use Rattle.bonsai_tree.specs.Tree.{TreeView, HoldsTree, IsNodeFrom, NodesAreMade, NodesHoldLast, WasReadUp, above, cached_node}
-use Rattle.bonsai_tree.proofs.Nodes.{same_tags, some_not_none, some_or_none}
+use Rattle.bonsai_tree.specs.Tree.{HoldsTree, IsNodeFrom, NodesAreMade, NodesHoldLast, SlotsAreTags, TreeView, WasReadUp, above, cached_node}
+use Rattle.bonsai_tree.proofs.Nodes.{same_tags, some_not_none, some_or_none, was_none}
 
 -- Which nodes were read
 
-copy_or_not : (found : Option CachedNode) → (found ≡ None) ⊎ (found ≢ None)
+pub copy_or_not : (found : Option CachedNode) → (found ≡ None) ⊎ (found ≢ None)
 copy_or_not None = inl refl
 copy_or_not (Some copy) = inr (λ (none : Some copy ≡ None). cc)
 
@@ -146,8 +146,9 @@ module _ {T : Type 0} (d n : T → List ℕ → List ℕ) where
     nodes = nodes;
     copies = copies;
     last = λ level index low. refl;
+    blocks = λ level low. refl;
     written = λ level index low. refl;
-    holds = λ was none. holds was;
+    holds = λ was remembered. holds was;
     honest = λ was used accounted. accounted;
     lied = λ was quiet place is. absurd (cc);
     shown = λ was quiet some. absurd (some quiet);
@@ -155,9 +156,11 @@ module _ {T : Type 0} (d n : T → List ℕ → List ℕ) where
     found = λ quiet evidence is. absurd (cc);
     unspent = λ spent is. absurd (cc);
     room = omega arith;
+    no_rise = omega arith;
     writes = unchanged_writes history engine;
     made_blocks = λ was. was;
     last_blocks = λ remembered was. was;
+    slots = λ was quiet tagged. tagged;
     read = λ level index copied. read_up_held tree level index history history (held level index copied);
   }
 
@@ -178,8 +181,9 @@ module _ {T : Type 0} (d n : T → List ℕ → List ℕ) where
     nodes = λ are. are;
     copies = λ level low. refl;
     last = λ level index low. refl;
+    blocks = λ level low. refl;
     written = λ level index low. refl;
-    holds = λ holds none. absurd (cc);
+    holds = λ holds remembered. absurd (remembered refl);
     honest = λ holds used was. ended_accounted (tags_of d n engine) used engine.made history NoMemory engine.evidence (λ place is. cc) was;
     lied = λ holds quiet place is. absurd (cc);
     shown = λ holds quiet some. absurd (some quiet);
@@ -187,11 +191,13 @@ module _ {T : Type 0} (d n : T → List ℕ → List ℕ) where
     found = λ quiet evidence is. absurd (cc);
     unspent = λ spent is. absurd (cc);
     room = omega arith;
+    no_rise = omega arith;
     writes =
         let writes : WritesMessages history history (length (moves_not history engine).more) 0 = unchanged_writes history engine in
         record { writes = writes.writes; counted = writes.counted; at_most = writes.at_most; at_least = omega (arith, writes.at_least) };
     made_blocks = λ was. was;
     last_blocks = λ remembered was. absurd (remembered refl);
+    slots = λ was quiet tagged. tagged;
     read = λ level index held. read_up_held tree level index history history held;
   }
 
@@ -206,6 +212,7 @@ module _ {T : Type 0} (d n : T → List ℕ → List ℕ) where
     nodes = climbs.nodes;
     copies = λ level low. climbs.copies level (omega arith);
     last = λ level index low. climbs.last level index (omega arith);
+    blocks = λ level low. climbs.blocks level (omega arith);
     written = λ level index low. climbs.written level index (omega arith);
     holds = climbs.holds;
     honest = climbs.honest;
@@ -215,9 +222,11 @@ module _ {T : Type 0} (d n : T → List ℕ → List ℕ) where
     found = λ quiet evidence is. node_up tree.levels from more_from (evidence_place evidence) up (climbs.found quiet evidence is);
     unspent = climbs.unspent;
     room = climbs.room;
+    no_rise = climbs.no_rise;
     writes = climbs.writes;
     made_blocks = climbs.made_blocks;
     last_blocks = climbs.last_blocks;
+    slots = climbs.slots;
     read = climbs.read;
   }
 
@@ -247,16 +256,17 @@ module _ {T : Type 0} (d n : T → List ℕ → List ℕ) where
         nodes = λ are. more.nodes (climbs.nodes are);
         copies = λ level low. more.copies level low ∙ climbs.copies level low;
         last = λ level index low. more.last level index low ∙ climbs.last level index low;
+        blocks = λ level low. more.blocks level low ∙ climbs.blocks level low;
         written = λ level index low. more.written level index low ∙ climbs.written level index low;
-        holds = λ holds none. more.holds (climbs.holds holds refl) none;
+        holds = λ holds remembered. more.holds (climbs.holds holds going) remembered;
         honest = λ holds used was.
             subst (λ (t : Message → List ℕ). IsAccounted t used engine''.made third stop engine''.evidence) tags
-            (more.honest (climbs.holds holds refl) used
+            (more.honest (climbs.holds holds going) used
             (subst (λ (t : Message → List ℕ). IsAccounted t used engine'.made second None engine'.evidence) (sym tags) (climbs.honest holds used was)));
         lied = λ holds quiet place is.
             elim (some_or_none engine'.evidence) [
               | inl still ↦
-                  let rose : Rose second.lies third.lies = more.lied (climbs.holds holds refl) still place is in
+                  let rose : Rose second.lies third.lies = more.lied (climbs.holds holds going) still place is in
                   omega (arith, rose, climbs.moves.lies)
               | inr shown ↦
                   let rose : Rose first.lies second.lies = climbs.shown holds quiet (some_not_none engine'.evidence shown.0 shown.1) in
@@ -265,7 +275,7 @@ module _ {T : Type 0} (d n : T → List ℕ → List ℕ) where
         shown = λ holds quiet some.
             elim (some_or_none engine'.evidence) [
               | inl still ↦
-                  let rose : Rose second.lies third.lies = more.shown (climbs.holds holds refl) still some in
+                  let rose : Rose second.lies third.lies = more.shown (climbs.holds holds going) still some in
                   omega (arith, rose, climbs.moves.lies)
               | inr shown ↦
                   let rose : Rose first.lies second.lies = climbs.shown holds quiet (some_not_none engine'.evidence shown.0 shown.1) in
@@ -282,6 +292,7 @@ module _ {T : Type 0} (d n : T → List ℕ → List ℕ) where
             ];
         unspent = more.unspent;
         room = omega (arith, climbs.room, more.room, long);
+        no_rise = omega (arith, climbs.no_rise, more.no_rise);
         writes = subst (λ (k : ℕ). WritesMessages first third k (unwritten_in stop)) (sym long)
             (writes_on first second third (length climbs.moves.more) (length more.moves.more) (unwritten_in stop)
             more.moves.bus_levels more.moves.reads more.moves.accesses climbs.writes more.writes);
@@ -291,6 +302,13 @@ module _ {T : Type 0} (d n : T → List ℕ → List ℕ) where
         last_blocks = λ remembered was.
             subst (λ (k : ℕ). NodesHoldLast k engine''.made third.written) climbs.levels
             (more.last_blocks remembered (subst (λ (k : ℕ). NodesHoldLast k engine'.made second.written) (sym climbs.levels) (climbs.last_blocks going was)));
+        slots = λ holds quiet tagged.
+            let still : engine'.evidence ≡ None = was_none engine'.evidence engine''.evidence more.moves.evidence quiet in
+            subst (λ (t : Message → List ℕ). SlotsAreTags t tree.levels engine''.made) tags
+            (subst (λ (k : ℕ). SlotsAreTags (tags_of d n engine') k engine''.made) climbs.levels
+            (more.slots (climbs.holds holds going) quiet
+            (subst (λ (k : ℕ). SlotsAreTags (tags_of d n engine') k engine'.made) (sym climbs.levels)
+            (subst (λ (t : Message → List ℕ). SlotsAreTags t tree.levels engine'.made) (sym tags) (climbs.slots holds still tagged)))));
         read = λ level index held.
             read_up_on tree mid level index first second third climbs.levels climbs.moves.reads more.moves.reads climbs.read (more.read level index held);
       }

@@ -1,5 +1,5 @@
 -- One read, one write, and a change of copies, as what calls make of the tree.
-use Rattle.std.proofs.Common.{◌≡◌, ◌≢◌, ◌⊎◌, inl, inr, ℕ, ◌+◌, ◌/◌, ◌<◌, ◌≤◌, false, max, List, length, Option, Some, None, Result, refl, ap, sym, ◌∙◌, subst, arith}
+use Rattle.std.proofs.Common.{◌≡◌, ◌≢◌, ◌⊎◌, inl, inr, ℕ, ◌+◌, ◌*◌, ◌/◌, ◌<◌, ◌≤◌, false, max, List, [], ◌∷◌, ◌++◌, length, Option, Some, None, Result, refl, ap, sym, ◌∙◌, subst, arith, ◌-◌}
 use Rattle.std.proofs.lemmas.Bool.{cases_lt}
 use Rattle.sec_base.specs.Count.{Rose}
 use Rattle.sec_base.specs.Evidence.{evidence_place}
@@ -19,11 +19,13 @@ use Rattle.checked_bus.specs.Steps.{IsAccounted, IsCurrentNode, WritesOnce, stop
 use Rattle.checked_bus.proofs.CheckedReads.{ended_accounted}
 use Rattle.checked_bus.proofs.Writes.{none_more}
 use Rattle.bonsai_tree.specs.Climb.{Climbs}
-use Rattle.bonsai_tree.specs.Node.{CachedNode, block_or_zeros, current_of}
+use Rattle.bonsai_tree.specs.Node.{CachedNode, block_or_zeros, current_of, level_blocks, tag_in_slot}
 use Rattle.bonsai_tree.specs.NodeCache.{AreNodeCaches, OtherLevels, level_cache}
-use Rattle.bonsai_tree.specs.Tree.{TreeView, HoldsTree, IsNodeFrom, IsTree, NodesAreMade, NodesHoldLast, WasReadUp, above, cached_node, current_block, kept_tag}
+use Rattle.bonsai_tree.specs.Tree.{HoldsTree, IsNodeFrom, IsTagOfMade, IsTree, NodesAreMade, NodesHoldLast, SlotsAreTags, TreeView, WasReadUp, above, cached_node, current_block, kept_tag}
 use Rattle.bonsai_tree.specs.Writing.{WritesNodes}
 use Rattle.bonsai_tree.proofs.Climbs.{climbs_recached, read_up_held}
+use Rattle.bonsai_tree.proofs.MadeSlots.{current_slots, slots_more}
+use Rattle.bonsai_tree.proofs.LevelBlocks.{blocks_other}
 use Rattle.bonsai_tree.proofs.Nodes.{NodeRead, SameNode, is_current, same_or_not, same_tags, stop_is, was_none}
 use Rattle.bonsai_tree.proofs.NodeWrites.{NodeWritten, is_put}
 use Rattle.bonsai_tree.proofs.Puts.{IsPut, PutsTag, tree_put, tree_recached}
@@ -113,6 +115,7 @@ module _ {T : Type 0} (d n : T → List ℕ → List ℕ) where
           nodes = λ are. are;
           copies = λ other low. refl;
           last = λ other at low. ap (λ (m : List Message). last_node other at m) read.once.made;
+          blocks = λ other low. ap (λ (m : List Message). level_blocks other m) read.once.made;
           written = λ other at low. ap (λ (w : Place → List ℕ). w (node_place other at)) read.once.written;
           holds = λ holds going. record { fits = λ quiet. read_fits holds quiet };
           honest = λ holds used was. read.honest used (λ quiet. read_current holds quiet) was;
@@ -122,6 +125,7 @@ module _ {T : Type 0} (d n : T → List ℕ → List ℕ) where
           found = λ quiet evidence is. here_from tree.levels level index (evidence_place evidence) node (read.found evidence quiet is);
           unspent = λ spent is. read.unspent spent (stop_is result (Spent spent) is);
           room = omega (arith, read.once.room);
+          no_rise = omega (arith, read.once.room);
           writes = record { writes = 0; counted = read.once.counted; at_most = omega arith; at_least = omega (arith, none) };
           made_blocks = λ was.
               subst (λ (m : List Message). NodesAreMade tree.levels m new.written) (sym read.once.made)
@@ -129,6 +133,7 @@ module _ {T : Type 0} (d n : T → List ℕ → List ℕ) where
           last_blocks = λ remembered was.
               subst (λ (m : List Message). NodesHoldLast tree.levels m new.written) (sym read.once.made)
               (subst (λ (w : Place → List ℕ). NodesHoldLast tree.levels engine.made w) (sym read.once.written) was);
+          slots = λ holds quiet tagged. subst (λ (m : List Message). SlotsAreTags (tags_of d n engine) tree.levels m) (sym read.once.made) tagged;
           read = λ other at held. read_up_held tree other at old new held;
         }
 
@@ -199,6 +204,7 @@ module _ {T : Type 0} (d n : T → List ℕ → List ℕ) where
             nodes = λ are. nodes;
             copies = λ other low. others other (λ (e : other ≡ level). absurd (omega (arith, e, low)));
             last = climbs.last;
+            blocks = climbs.blocks;
             written = climbs.written;
             holds = λ holds going. record { fits = λ quiet. put_fits holds quiet };
             honest = climbs.honest;
@@ -208,9 +214,11 @@ module _ {T : Type 0} (d n : T → List ℕ → List ℕ) where
             found = climbs.found;
             unspent = climbs.unspent;
             room = climbs.room;
+            no_rise = climbs.no_rise;
             writes = climbs.writes;
             made_blocks = climbs.made_blocks;
             last_blocks = climbs.last_blocks;
+            slots = climbs.slots;
             read = λ other at held. elim (same_or_not level index other at) [
               | inr apart ↦ read_up_held tree other at old new (λ none. held (same other at apart ∙ none))
               | inl here ↦
@@ -282,15 +290,18 @@ module _ {T : Type 0} (d n : T → List ℕ → List ℕ) where
   none_unwritten stop (inr want) remembered = absurd (remembered want)
 
   pub climbs_wrote : (tree tree' : TreeView) (level : ℕ) (old new : BusHistory) (engine engine' : TagEngineView T) (stop : Option MemStop) → CanStop stop →
-      WritesNodes (tags_of d n) tree.levels old engine new engine' (unwritten_in stop) → tree'.levels ≡ tree.levels → tree'.root ≡ tree.root →
+      WritesNodes (tags_of d n) tree.levels old engine new engine' (unwritten_in stop) → engine'.room ≤ engine.room → tree'.levels ≡ tree.levels → tree'.root ≡ tree.root →
       (AreNodeCaches tree.levels tree.caches → AreNodeCaches tree'.levels tree'.caches) →
       ((other : ℕ) → other < level → level_cache tree'.caches other ≡ level_cache tree.caches other) →
       ((other at : ℕ) → other < level → last_node other at engine'.made ≡ last_node other at engine.made) →
+      ((other : ℕ) → other < level → level_blocks other engine'.made ≡ level_blocks other engine.made) →
       ((other at : ℕ) → other < level → new.written (node_place other at) ≡ old.written (node_place other at)) →
-      (HoldsTree (tags_of d n) tree old engine → stop ≡ None → HoldsTree (tags_of d n) tree' new engine') →
+      (HoldsTree (tags_of d n) tree old engine → stop ≢ Some NoMemory → HoldsTree (tags_of d n) tree' new engine') →
+      (HoldsTree (tags_of d n) tree old engine → engine'.evidence ≡ None → SlotsAreTags (tags_of d n engine) tree.levels engine.made →
+      SlotsAreTags (tags_of d n engine) tree.levels engine'.made) →
       ((other at : ℕ) → cached_node tree' other at ≢ None → cached_node tree other at ≢ None) →
       Climbs (tags_of d n) level tree old engine tree' new engine' stop
-  climbs_wrote tree tree' level old new engine engine' stop can wrote levels root nodes copies last written holds held = record {
+  climbs_wrote tree tree' level old new engine engine' stop can wrote no_rise levels root nodes copies last blocks written holds slots held = record {
     moves = wrote.moves;
     lines = wrote.lines;
     levels = levels;
@@ -298,6 +309,7 @@ module _ {T : Type 0} (d n : T → List ℕ → List ℕ) where
     nodes = nodes;
     copies = copies;
     last = last;
+    blocks = blocks;
     written = written;
     holds = holds;
     honest = λ was used accounted.
@@ -309,9 +321,11 @@ module _ {T : Type 0} (d n : T → List ℕ → List ℕ) where
     found = λ quiet evidence is. absurd (no_evidence engine engine' evidence wrote.evidence quiet is);
     unspent = λ spent is. not_spent stop spent can is;
     room = wrote.room;
+    no_rise = no_rise;
     writes = wrote.writes;
     made_blocks = wrote.made_blocks;
     last_blocks = λ remembered was. wrote.last_blocks (none_unwritten stop can remembered) was;
+    slots = slots;
     read = λ other at copied. read_up_held tree other at old new (held other at copied);
   }
 
@@ -327,10 +341,43 @@ module _ {T : Type 0} (d n : T → List ℕ → List ℕ) where
         let level_same : other ≡ level = cc in let index_same : at ≡ index = cc in apart (level_same, index_same))).last
         ∙ ap (λ (m : List Message). last_node other at m) made_before
 
+    pub made_one : engine'.made ≡ engine.made ++ Node level index block ∷ []
+    made_one = ap (λ (e : TagEngineView T). e.made) write.made ∙ ap (λ (m : List Message). m ++ Node level index block ∷ []) made_before
+
+    pub no_rise_one : engine'.room ≤ engine.room
+    no_rise_one =
+        let after : engine'.room ≡ taken.room - 1 = ap (λ (e : TagEngineView T). e.room) write.made in
+        let before : taken.room ≡ max engine.room 1 = ap (λ (e : TagEngineView T). e.room) taken_is in
+        omega (arith, after, before)
+
+    pub blocks_apart : (other : ℕ) → level ≢ other → level_blocks other engine'.made ≡ level_blocks other engine.made
+    blocks_apart other apart = ap (λ (m : List Message). level_blocks other m) made_one ∙ blocks_other other level index block engine.made apart
+
     pub written_apart : (other at : ℕ) → ¬ (SameNode level index other at) → new.written (node_place other at) ≡ old.written (node_place other at)
     written_apart other at apart =
         (write.others (node_place other at) (λ (same : node_place other at ≡ node_place level index).
         let level_same : other ≡ level = cc in let index_same : at ≡ index = cc in apart (level_same, index_same))).written
+
+    -- each slot of a block that is the node's current one has the tag of a message
+    pub put_slots : IsNode tree.levels level index → (level ≡ 0) ⊎ (current_block tree engine.made level index ≡ block) →
+        HoldsTree (tags_of d n) tree old engine → engine'.evidence ≡ None → SlotsAreTags (tags_of d n engine) tree.levels engine.made →
+        SlotsAreTags (tags_of d n engine) tree.levels engine'.made
+    put_slots node is_current_block holds quiet tagged =
+        let same_evidence : engine'.evidence ≡ engine.evidence =
+        ap (λ (e : TagEngineView T). e.evidence) write.made ∙ ap (λ (e : TagEngineView T). e.evidence) taken_is in
+        let was : engine.evidence ≡ None = sym same_evidence ∙ quiet in
+        let made_is : engine'.made ≡ engine.made ++ Node level index block ∷ [] =
+        ap (λ (e : TagEngineView T). e.made) write.made ∙ ap (λ (m : List Message). m ++ Node level index block ∷ []) made_before in
+        subst (λ (m : List Message). SlotsAreTags (tags_of d n engine) tree.levels m) (sym made_is)
+        (slots_more (tags_of d n engine) tree.levels engine.made level index block tagged
+        (λ lower at above inside. elim is_current_block [
+          | inl first ↦ absurd (omega (arith, first, above))
+          | inr is ↦
+              subst (λ (b : List ℕ). IsTagOfMade (tags_of d n engine) engine.made lower (4 * index + at) (tag_in_slot at b)) is
+              (subst (λ (k : ℕ). IsTagOfMade (tags_of d n engine) engine.made lower (4 * index + at) (tag_in_slot at (current_block tree engine.made k index))) (sym above)
+              (current_slots (tags_of d n engine) tree engine.made old.written lower index at (holds.fits was)
+              (subst (λ (k : ℕ). IsNode tree.levels k index) above node) inside))
+        ]))
 
     pub put_holds : WritesOnce (node_place level index) block old new → PutsTag tree tree' level index tag → level < tree.levels → IsNode tree.levels level index →
         tag ≡ tags_of d n taken (Node level index block) → length tag ≡ 16 → length block ≡ 64 →

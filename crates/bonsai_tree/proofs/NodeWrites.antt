@@ -178,6 +178,19 @@ written_or_not d n level index block old new engine engine' (Ok tag) levels writ
 written_or_not d n level index block old new engine engine' (Err stop) levels write once same =
     written_not d n level index block old new engine engine' write levels same
 
+-- a write makes one access, or none where it is refused
+pub write_most : (place : Place) (bytes : List ℕ) (old new : BusHistory) (result : Result (List ℕ) NoMemory) → OnOk result (WritesOnce place bytes old new) →
+    OnErr result (new ≡ old) → new.accesses ≤ old.accesses + 1
+write_most place bytes old new (Ok tag) once same = omega (arith, once.once)
+write_most place bytes old new (Err stop) once same =
+    let is : new.accesses ≡ old.accesses = ap (λ (t : BusHistory). t.accesses) same in omega (arith, is)
+
+pub write_fewer : (first mid new : BusHistory) (before all : ℕ) (result : Result (List ℕ) NoMemory) → mid.accesses ≤ first.accesses + before → all ≡ before + 1 →
+    OnErr result (new ≡ mid) → OnErr result (new.accesses < first.accesses + all)
+write_fewer first mid new before all (Ok tag) most sum same = tt
+write_fewer first mid new before all (Err stop) most sum same =
+    let is : new.accesses ≡ mid.accesses = ap (λ (t : BusHistory). t.accesses) same in omega (arith, is, most, sum)
+
 counts_after : (first more all before between after : ℕ) → all ≡ first + more → 0 < all →
     (first ≡ 0 → between ≡ before) → (0 < first → between ≡ more_by first before) →
     (more ≡ 0 → after ≡ between) → (0 < more → after ≡ more_by more between) → after ≡ more_by all before

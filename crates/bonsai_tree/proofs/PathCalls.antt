@@ -134,7 +134,7 @@ module _ {T : Type 0} (d n : T → List ℕ → List ℕ) where
         HoldsTree (tags_of d n) tree old engine → engine''.evidence ≡ None → IfOk result (λ block. block ≡ page_block page engine.made)
     fetched_block known holds quiet =
         let still : engine'.evidence ≡ None = was_none engine'.evidence engine''.evidence read.moves.evidence quiet in
-        block_by result (known (read_current d n tree' 0 page tag mid new engine' engine'' result node_here (is_tag engine'.made) read (climbs.holds holds refl) still) quiet)
+        block_by result (known (read_current d n tree' 0 page tag mid new engine' engine'' result node_here (is_tag engine'.made) read (climbs.holds holds (λ (e : None ≡ Some NoMemory). cc)) still) quiet)
 
     pub fetched_found : (evidence : Evidence) → engine.evidence ≡ None → engine''.evidence ≡ Some evidence → IsFetchPlace tree.levels page (evidence_place evidence)
     fetched_found evidence quiet is =

@@ -1,5 +1,5 @@
 -- What becomes of the tree that contracts see, by what becomes of the caches of its nodes.
-use Rattle.std.proofs.Common.{◌≡◌, ◌≢◌, ℕ, ◌<◌, ◌≤◌, List, Option, Some, None, IsSome, ap, ◌∙◌}
+use Rattle.std.proofs.Common.{◌≡◌, ◌≢◌, ℕ, ◌<◌, ◌≤◌, List, Option, Some, None, IsSome, ap, sym, ◌∙◌}
 use Rattle.std.specs.Option.{option_map}
 use Rattle.cache_set.specs.declared.way.Way.{Way}
 use Rattle.bonsai_tree.specs.NodeCache.{AreNodeCaches, IsLatestNode, NodeCacheView, OtherLevels, OtherNodes, copy_of, level_cache, node_way}
@@ -38,3 +38,9 @@ module _ (tree : TreeView) (root : List ℕ) (nodes nodes' : NodeCacheView) (vie
   pub all_as : ((other at : ℕ) → node_way nodes'.caches other at ≡ node_way nodes.caches other at) → (other at : ℕ) →
       cached_node (tree_of root nodes') other at ≡ cached_node tree other at
   all_as same other at = ap (option_map copy_of) (same other at) ∙ ap (λ (v : TreeView). cached_node v other at) view_is
+
+-- a node that has no way in the caches has no copy
+pub not_held : (tree : TreeView) (root : List ℕ) (nodes : NodeCacheView) (level index : ℕ) → tree_of root nodes ≡ tree →
+    node_way nodes.caches level index ≡ None → cached_node tree level index ≡ None
+not_held tree root nodes level index view_is none =
+    sym (ap (λ (v : TreeView). cached_node v level index) view_is) ∙ ap (option_map copy_of) none

@@ -1,8 +1,11 @@
 -- What boot makes: a node's children by slot, each with what is below it, and then the node itself.
-use Rattle.std.specs.Prelude.{ℕ, zero, suc, ◌+◌, ◌*◌, List, [], ◌∷◌, ◌++◌}
-use Rattle.sec_base.specs.Geometry.{arity, child}
+use Rattle.std.specs.Prelude.{◌≡◌, ◌⊎◌, ℕ, zero, suc, ◌+◌, ◌*◌, List, [], ◌∷◌, ◌++◌, Contains}
+use Rattle.sec_base.specs.Geometry.{IsNode, arity, child}
+use Rattle.sec_base.specs.Place.{zeros_of}
 use Rattle.sec_base.specs.declared.message.Message.{Message}
 use Rattle.sec_base.specs.declared.message.Message.TheVariants.{Node}
+use Rattle.sec_base.specs.declared.place.Place.{Place}
+use Rattle.sec_base.specs.declared.place.Place.TheVariants.{Node as node_place}
 use Rattle.bonsai_tree.specs.Node.{no_block}
 
 -- the lists that f gives, from the first on, one after another
@@ -44,3 +47,13 @@ children_messages tag_of levels level index slots = joined (λ slot. messages_fr
 
 abbrev pub children_tags : (Message → List ℕ) → ℕ → ℕ → ℕ → ℕ → List ℕ
 children_tags tag_of levels level index slots = joined (λ slot. tag_of (boot_message tag_of levels level (child levels index slot))) slots
+
+-- Each message of a node that was made is that of boot.
+pub record AreOfBoot (tag_of : Message → List ℕ) (levels : ℕ) (made : List Message) : Type 0 where
+  pub of_boot : (level index : ℕ) (block : List ℕ) → Contains made (Node level index block) → block ≡ boot_block tag_of levels level index
+
+-- Each node's place holds zeros or the node's block of boot.
+pub record NodesAreBooted (tag_of : Message → List ℕ) (levels : ℕ) (written : Place → List ℕ) : Type 0 where
+  pub holds : (level index : ℕ) → IsNode levels level index →
+      (written (node_place level index) ≡ zeros_of (node_place level index))
+      ⊎ (written (node_place level index) ≡ boot_block tag_of levels level index)

@@ -1,22 +1,25 @@
 -- What a call makes of the tree, the bus and the tag engine that reads and writes nodes of a level and of those above it
 -- alone. It serves private contracts alone.
-use Rattle.std.specs.Prelude.{◌≡◌, ◌≢◌, ℕ, ◌+◌, ◌<◌, ◌≤◌, List, length, Option, Some, None}
+use Rattle.std.specs.Prelude.{◌≡◌, ◌≢◌, ◌⊎◌, ℕ, ◌+◌, ◌<◌, ◌≤◌, List, ◌++◌, length, true, Option, Some, None, Contains}
 use Rattle.sec_base.specs.Count.{Rose}
 use Rattle.sec_base.specs.Evidence.{evidence_place}
 use Rattle.sec_base.specs.LastMessage.{last_node}
 use Rattle.sec_base.specs.declared.counter.Counter.{Counter}
 use Rattle.sec_base.specs.declared.evidence.Evidence.{Evidence}
 use Rattle.sec_base.specs.declared.message.Message.{Message}
+use Rattle.sec_base.specs.declared.message.Message.TheVariants.{Node}
 use Rattle.sec_base.specs.declared.place.Place.{Place}
 use Rattle.sec_base.specs.declared.place.Place.TheVariants.{Node as node_place}
 use Rattle.sec_base.specs.declared.stop.MemStop.{MemStop}
 use Rattle.sec_base.specs.declared.stop.MemStop.TheVariants.{Tampered, Spent, NoMemory}
+use Rattle.cache_set.specs.declared.way.Way.{Way}
 use Rattle.bus_model.specs.BusHistory.{BusHistory}
 use Rattle.tag_engine.specs.TagEngine.{TagEngineView}
 use Rattle.checked_bus.specs.Accesses.{WritesMessages}
 use Rattle.checked_bus.specs.Steps.{IsAccounted, Moves, SameLines, unwritten_in}
+use Rattle.bonsai_tree.specs.Node.{CachedNode, level_blocks}
 use Rattle.bonsai_tree.specs.NodeCache.{AreNodeCaches, level_cache}
-use Rattle.bonsai_tree.specs.Tree.{TreeView, HoldsTree, IsNodeFrom, NodesAreMade, NodesHoldLast, WasReadUp, cached_node}
+use Rattle.bonsai_tree.specs.Tree.{HasChild, HoldsTree, IsCopyAfter, IsNodeFrom, NodesAreMade, NodesHoldLast, SlotsAreTags, TreeView, WasReadUp, cached_node}
 
 pub record Climbs {T : Type 0} (tags : TagEngineView T → Message → List ℕ) (from : ℕ) (tree : TreeView) (old : BusHistory)
     (engine : TagEngineView T) (tree' : TreeView) (new : BusHistory) (engine' : TagEngineView T) (stop : Option MemStop) : Type 0 where
@@ -28,9 +31,10 @@ pub record Climbs {T : Type 0} (tags : TagEngineView T → Message → List ℕ)
   -- levels below are left alone
   pub copies : (level : ℕ) → level < from → level_cache tree'.caches level ≡ level_cache tree.caches level
   pub last : (level index : ℕ) → level < from → last_node level index engine'.made ≡ last_node level index engine.made
+  pub blocks : (level : ℕ) → level < from → level_blocks level engine'.made ≡ level_blocks level engine.made
   pub written : (level index : ℕ) → level < from → new.written (node_place level index) ≡ old.written (node_place level index)
   -- the tree fits still; false answers are accounted for, and both tampering and evidence come only where one was
-  pub holds : HoldsTree tags tree old engine → stop ≡ None → HoldsTree tags tree' new engine'
+  pub holds : HoldsTree tags tree old engine → stop ≢ Some NoMemory → HoldsTree tags tree' new engine'
   pub honest : HoldsTree tags tree old engine → (used : List (ℕ × Counter)) →
       IsAccounted (tags engine) used engine.made old None engine.evidence →
       IsAccounted (tags engine) used engine'.made new stop engine'.evidence
@@ -43,8 +47,39 @@ pub record Climbs {T : Type 0} (tags : TagEngineView T → Message → List ℕ)
   pub unspent : (spent : ℕ) → stop ≢ Some (Spent spent)
   -- what was made was written
   pub room : engine.room ≤ engine'.room + length moves.more
+  pub no_rise : engine'.room ≤ engine.room
   pub writes : WritesMessages old new (length moves.more) (unwritten_in stop)
   pub made_blocks : NodesAreMade tree.levels engine.made old.written → NodesAreMade tree.levels engine'.made new.written
   pub last_blocks : stop ≢ Some NoMemory → NodesHoldLast tree.levels engine.made old.written → NodesHoldLast tree.levels engine'.made new.written
+  -- slots of nodes that were made have tags of messages
+  pub slots : HoldsTree tags tree old engine → engine'.evidence ≡ None → SlotsAreTags (tags engine) tree.levels engine.made →
+      SlotsAreTags (tags engine) tree.levels engine'.made
   -- what has a copy was read, or had one
   pub read : (level index : ℕ) → cached_node tree' level index ≢ None → WasReadUp tree level index old new
+
+-- no node
+abbrev pub NoNode : ℕ → ℕ → List ℕ → Type 0
+NoNode level index block = ⊥
+
+-- a node with its block
+abbrev pub IsBlockOf : ℕ → ℕ → List ℕ → ℕ → ℕ → List ℕ → Type 0
+IsBlockOf level index block other at bytes = (other ≡ level) × (at ≡ index) × (bytes ≡ block)
+
+-- the node of a changed way with its copy, where it was made and perhaps written
+abbrev pub IsVictim : ℕ → Way → Option MemStop → ℕ → ℕ → List ℕ → Type 0
+IsVictim level way stop other at bytes =
+    IsBlockOf level way.place way.copy other at bytes × (way.changed ≡ true) × ((stop ≡ None) ⊎ (stop ≡ Some NoMemory))
+
+-- What was made from a level up went out, and what was made below it is as said.
+pub record WritesUp (from : ℕ) (Own : ℕ → ℕ → List ℕ → Type 0) (tree : TreeView) (old : BusHistory) (made : List Message) (tree' : TreeView)
+    (new : BusHistory) (made' : List Message) (stop : Option MemStop) : Type 0 where
+  pub more : List Message
+  pub made_more : made' ≡ made ++ more
+  pub own : (level index : ℕ) (block : List ℕ) → level < from → Contains more (Node level index block) → Own level index block
+  pub changed : (level index : ℕ) (block : List ℕ) → from ≤ level → Contains more (Node level index block) →
+      (cached_node tree level index ≡ Some (record { block = block; changed = true })) ⊎ HasChild tree.levels more level index
+  pub gone : stop ≢ Some NoMemory → (level index : ℕ) (block : List ℕ) → from ≤ level → Contains more (Node level index block) →
+      (cached_node tree' level index ≡ None) ⊎ Rose (old.reads (node_place level index)) (new.reads (node_place level index))
+  pub copies : (level index : ℕ) (copy : CachedNode) → cached_node tree' level index ≡ Some copy → IsCopyAfter tree old new more level index copy
+  pub came : (level index : ℕ) → cached_node tree' level index ≢ None → cached_node tree level index ≡ None →
+      Rose (old.reads (node_place level index)) (new.reads (node_place level index))

@@ -1,12 +1,13 @@
 -- Blocks of nodes: a node's current block, and the tags of its children, each in a slot of 16 bytes.
-use Rattle.std.specs.Prelude.{ℕ, ◌+◌, ◌*◌, ◌/◌, ◌^◌, List, ◌++◌, take, drop, replicate, Bool, Option, Some, None, unwrap_or}
+use Rattle.std.specs.Prelude.{◌==◌, ℕ, ◌+◌, ◌*◌, ◌/◌, ◌^◌, List, ◌++◌, take, drop, replicate, Bool, Option, Some, None, unwrap_or, if◌then◌else◌}
+use Rattle.std.specs.List.{filter_map}
 use Rattle.sec_base.specs.declared.message.Message.{Message}
-use Rattle.sec_base.specs.declared.message.Message.TheVariants.{Node}
+use Rattle.sec_base.specs.declared.message.Message.TheVariants.{Line, Node}
 use Rattle.sec_base.specs.declared.sealed.TheConstants.{TAG_LEN}
 use Rattle.sec_base.specs.Geometry.{arity}
 use Rattle.sec_base.specs.LastMessage.{last_node}
 
--- a node's copy on the chip: its block, and whether that differs from what was written last
+-- a node's copy on the chip: its block, and whether it was changed since it was read or written last
 pub record CachedNode : Type 0 where
   pub block : List ℕ
   pub changed : Bool
@@ -42,3 +43,12 @@ path_index levels level page = page / arity levels ^ level
 -- the block of a page: that of its last message, zeros where it has none
 abbrev pub page_block : ℕ → List Message → List ℕ
 page_block page made = block_or_zeros (last_node 0 page made)
+
+-- the index and the block of a message of a node of a level
+abbrev pub level_part : ℕ → Message → Option (ℕ × List ℕ)
+level_part level (Line line counter cipher) = None
+level_part level (Node at index block) = if at == level then Some (index, block) else None
+
+-- the nodes of a level that were made, in order, each with its block
+unfoldable pub level_blocks : ℕ → List Message → List (ℕ × List ℕ)
+level_blocks level made = filter_map (level_part level) made

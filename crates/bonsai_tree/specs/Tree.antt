@@ -1,8 +1,8 @@
 -- The tree over the counter blocks (a Bonsai Merkle tree: Rogers et al., MICRO 2007), and when it fits the messages that
 -- were made and what stands outside.
-use Rattle.std.specs.Prelude.{◌≡◌, ◌⊎◌, ℕ, ◌+◌, ◌-◌, ◌/◌, ◌^◌, ◌≤◌, List, length, false, nat_lt, if◌then◌else◌, Option, Some, None, Contains, Result, Ok, Err}
+use Rattle.std.specs.Prelude.{◌≡◌, ◌⊎◌, ℕ, ◌+◌, ◌-◌, ◌/◌, ◌^◌, ◌<◌, ◌≤◌, List, length, false, nat_lt, if◌then◌else◌, Option, Some, None, Contains, Result, Ok, Err, ◌≢◌, ◌++◌, true}
 use Rattle.sec_base.specs.Count.{Rose, RoseBy}
-use Rattle.sec_base.specs.Geometry.{IsNode, arity, parent, slot}
+use Rattle.sec_base.specs.Geometry.{IsNode, arity, child, parent, slot}
 use Rattle.sec_base.specs.LastMessage.{last_node}
 use Rattle.sec_base.specs.Place.{zeros_of}
 use Rattle.sec_base.specs.declared.message.Message.{Message}
@@ -75,6 +75,17 @@ pub record NodesHoldLast (levels : ℕ) (made : List Message) (written : Place �
   pub holds : (level index : ℕ) (block : List ℕ) → IsNode levels level index → last_node level index made ≡ Some block →
       written (node_place level index) ≡ block
 
+-- a tag is that of a message that was made of this node
+pub record IsTagOfMade (tag_of : Message → List ℕ) (made : List Message) (level index : ℕ) (tag : List ℕ) : Type 0 where
+  pub block : List ℕ
+  pub made_there : Contains made (Node level index block)
+  pub tag_is : tag ≡ tag_of (Node level index block)
+
+-- Each node above level 0 that was made has in each slot the tag of a message that was made of that child.
+pub record SlotsAreTags (tag_of : Message → List ℕ) (levels : ℕ) (made : List Message) : Type 0 where
+  pub tagged : (level index at : ℕ) (block : List ℕ) → Contains made (Node (level + 1) index block) → at < arity levels →
+      IsTagOfMade tag_of made level (child levels index at) (tag_in_slot at block)
+
 -- The nodes on a page's path were read from a level on, up to the lowest one with a copy on the chip; where none has one,
 -- all of them. A node that was never made is not read.
 pub record PathWasRead (tree : TreeView) (made : List Message) (from page : ℕ) (old new : BusHistory) : Type 0 where
@@ -121,6 +132,34 @@ pub record OnlyWroteNodes (old new : BusHistory) : Type 0 where
   pub reads : new.reads ≡ old.reads
   pub lines : (line : ℕ) → new.written (line_place line) ≡ old.written (line_place line)
   pub accesses : RoseBy 0 old.accesses new.accesses
+
+-- a node of which a child has one of these messages
+pub record HasChild (levels : ℕ) (more : List Message) (level index : ℕ) : Type 0 where
+  pub below : ℕ
+  pub child : ℕ
+  pub block : List ℕ
+  pub listed : Contains more (Node below child block)
+  pub parent_is : parent levels below child ≡ (level, index)
+
+-- a copy that is as it was, or was read and is not changed, or is of a node of which a child has one of these messages
+abbrev pub IsCopyAfter : TreeView → BusHistory → BusHistory → List Message → ℕ → ℕ → CachedNode → Type 0
+IsCopyAfter tree old new more level index copy =
+    (cached_node tree level index ≡ Some copy)
+    ⊎ (((copy.changed ≡ false) × Rose (old.reads (node_place level index)) (new.reads (node_place level index)))
+    ⊎ HasChild tree.levels more level index)
+
+-- Nodes above level 0 are made only as they go out, and their copies change only as children of theirs do.
+pub record WritesBack (tree : TreeView) (old : BusHistory) (made : List Message) (tree' : TreeView) (new : BusHistory) (made' : List Message)
+    (stop : Option MemStop) : Type 0 where
+  pub more : List Message
+  pub made_more : made' ≡ made ++ more
+  -- what was made of a node is a copy that was changed, unless a child of it was made
+  pub changed : (level index : ℕ) (block : List ℕ) → 0 < level → Contains more (Node level index block) →
+      (cached_node tree level index ≡ Some (record { block = block; changed = true })) ⊎ HasChild tree.levels more level index
+  -- the node has no copy then, unless it was read again
+  pub gone : stop ≢ Some no_memory → (level index : ℕ) (block : List ℕ) → 0 < level → Contains more (Node level index block) →
+      (cached_node tree' level index ≡ None) ⊎ Rose (old.reads (node_place level index)) (new.reads (node_place level index))
+  pub copies : (level index : ℕ) (copy : CachedNode) → cached_node tree' level index ≡ Some copy → IsCopyAfter tree old new more level index copy
 
 -- the stop of a call that can only find no memory
 abbrev pub want_of : {A : Type 0} → Result A NoMemory → Option MemStop

@@ -5,7 +5,7 @@ ghost use Rattle.sec_base.specs.Geometry.{IsNode, arity};
 ghost use Rattle.bus_model.specs.BusHistory.{NothingWritten};
 ghost use Rattle.tag_engine.specs.TagEngine.{tags_of};
 ghost use Rattle.checked_bus.specs.Steps.{unwritten_in};
-ghost use Rattle.bonsai_tree.specs.Boot.{boot_message, boot_messages, children_messages, children_tags, messages_from, node_count, nodes_from};
+ghost use Rattle.bonsai_tree.specs.Boot.{AreOfBoot, NodesAreBooted, boot_message, boot_messages, children_messages, children_tags, messages_from, node_count, nodes_from};
 ghost use Rattle.bonsai_tree.specs.Booting.{IsBooting};
 ghost use Rattle.bonsai_tree.specs.Tree.{IsTree, NodesHoldLast, want_of};
 ghost use Rattle.bonsai_tree.specs.Writing.{WritesNodes};
@@ -36,7 +36,11 @@ pub(crate) fn boot_node<B: Bus, T: Tagger>(
         (B.history bus.old) tags.old (B.history bus.new) tags.new (unwritten_in (want_of result)) }
     ensures made { OnOk result (tags.new.made ≡ tags.old.made
         ++ messages_from (tags_of T.data_tag_of T.node_tag_of tags.old) geometry level index) }
+    ensures of_boot { AreOfBoot (tags_of T.data_tag_of T.node_tag_of tags.old) geometry tags.old.made →
+        AreOfBoot (tags_of T.data_tag_of T.node_tag_of tags.old) geometry tags.new.made }
     ensures room { OnOk result (tags.old.room ≤ tags.new.room + nodes_from geometry level) }
+    ensures most { (B.history bus.new).accesses ≤ (B.history bus.old).accesses + nodes_from geometry level }
+    ensures fewer { OnErr result ((B.history bus.new).accesses < (B.history bus.old).accesses + nodes_from geometry level) }
     ensures tag { IfOk result (λ tag. tag ≡ tags_of T.data_tag_of T.node_tag_of tags.old
         (boot_message (tags_of T.data_tag_of T.node_tag_of tags.old) geometry level index)) }
     ensures moved { B.moved bus.old bus.new }
@@ -67,7 +71,11 @@ fn boot_children<B: Bus, T: Tagger>(
         (B.history bus.old) tags.old (B.history bus.new) tags.new (unwritten_in (want_of result)) }
     ensures made { OnOk result (tags.new.made ≡ tags.old.made
         ++ children_messages (tags_of T.data_tag_of T.node_tag_of tags.old) geometry (level - 1) index (arity geometry)) }
+    ensures of_boot { AreOfBoot (tags_of T.data_tag_of T.node_tag_of tags.old) geometry tags.old.made →
+        AreOfBoot (tags_of T.data_tag_of T.node_tag_of tags.old) geometry tags.new.made }
     ensures room { OnOk result (tags.old.room ≤ tags.new.room + arity geometry * nodes_from geometry (level - 1)) }
+    ensures most { (B.history bus.new).accesses ≤ (B.history bus.old).accesses + arity geometry * nodes_from geometry (level - 1) }
+    ensures fewer { OnErr result ((B.history bus.new).accesses < (B.history bus.old).accesses + arity geometry * nodes_from geometry (level - 1)) }
     ensures block { IfOk result (λ block. block
         ≡ children_tags (tags_of T.data_tag_of T.node_tag_of tags.old) geometry (level - 1) index (arity geometry)) }
     ensures moved { B.moved bus.old bus.new }
@@ -94,8 +102,11 @@ pub(crate) fn boot_tree<B: Bus, T: Tagger>(
     requires nothing_made { tags.old.made ≡ [] }
 
     ensures booting { IsBooting geometry (B.history bus.old) tags.old (B.history bus.new) tags.new (unwritten_in (want_of result)) }
+    ensures of_boot { AreOfBoot (tags_of T.data_tag_of T.node_tag_of tags.old) geometry tags.new.made }
+    ensures booted { NodesAreBooted (tags_of T.data_tag_of T.node_tag_of tags.old) geometry (B.history bus.new).written }
     ensures made { OnOk result (tags.new.made ≡ boot_messages (tags_of T.data_tag_of T.node_tag_of tags.old) geometry) }
     ensures accesses { OnOk result ((B.history bus.new).accesses ≡ more_by (node_count geometry) (B.history bus.old).accesses) }
+    ensures fewer { OnErr result ((B.history bus.new).accesses < (B.history bus.old).accesses + node_count geometry) }
     ensures stored { OnOk result (NodesHoldLast geometry tags.new.made (B.history bus.new).written) }
     ensures reserved { OnErr result (((B.history bus.new ≡ B.history bus.old) × (tags.new ≡ tags.old))
         ⊎ (node_count geometry ≤ length tags.new.made + tags.new.room)) }

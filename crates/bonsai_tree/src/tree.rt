@@ -1,5 +1,5 @@
 // The tree, of which the chip keeps the root register and copies of nodes.
-ghost use Rattle.std.specs.Prelude.{true, ◌≡◌, ◌≢◌, ◌⊎◌, ◌+◌, ◌-◌, ◌*◌, ◌/◌, ◌<◌, ◌≤◌, ◌++◌, ℕ, List, [], None, Some, Ok, Err, IfOk, OnOk, OnErr, length};
+ghost use Rattle.std.specs.Prelude.{true, ◌≡◌, ◌≢◌, ◌⊎◌, ◌+◌, ◌-◌, ◌*◌, ◌/◌, ◌<◌, ◌≤◌, ◌++◌, ◌∷◌, ℕ, List, [], None, Some, Ok, Err, IfOk, OnOk, OnErr, length};
 ghost use Rattle.sec_base.specs.Count.{Rose, more_by};
 ghost use Rattle.sec_base.specs.Geometry.{IsNode, page_count, parent, slot};
 ghost use Rattle.sec_base.specs.LastMessage.{last_node};
@@ -18,11 +18,11 @@ ghost use Rattle.cache_set.specs.Cache.{set_at};
 ghost use Rattle.tag_engine.specs.TagEngine.{tags_of};
 ghost use Rattle.checked_bus.specs.Accesses.{WritesMessages};
 ghost use Rattle.checked_bus.specs.Steps.{IsAccounted, Moves, SameLines, stop_of, unwritten_in};
-ghost use Rattle.bonsai_tree.specs.Boot.{boot_messages, node_count};
-ghost use Rattle.bonsai_tree.specs.Climb.{Climbs};
-ghost use Rattle.bonsai_tree.specs.Node.{CachedNode, block_or_zeros, no_block, page_block, with_tag};
+ghost use Rattle.bonsai_tree.specs.Boot.{AreOfBoot, NodesAreBooted, boot_messages, node_count};
+ghost use Rattle.bonsai_tree.specs.Climb.{Climbs, IsBlockOf, IsVictim, NoNode, WritesUp};
+ghost use Rattle.bonsai_tree.specs.Node.{CachedNode, block_or_zeros, level_blocks, no_block, page_block, with_tag};
 ghost use Rattle.bonsai_tree.specs.NodeCache.{AreNodeCaches, IsLatestNode, OtherLevels, OtherNodes, level_cache, most_copies, node_way};
-ghost use Rattle.bonsai_tree.specs.Tree.{HoldsTree, IsFetchPlace, IsNodeFrom, NodesAreMade, NodesHoldLast, OnlyWroteNodes, PathWasRead, SamePages, WasReadUp, cached_node, cached_nodes, current_block, kept_tag, path_accesses, present_accesses, want_of};
+ghost use Rattle.bonsai_tree.specs.Tree.{HoldsTree, IsFetchPlace, IsNodeFrom, NodesAreMade, NodesHoldLast, OnlyWroteNodes, PathWasRead, SamePages, SlotsAreTags, WasReadUp, WritesBack, cached_node, cached_nodes, current_block, kept_tag, path_accesses, present_accesses, want_of};
 
 use crate::boot::boot_tree;
 use crate::node_cache::NodeCache;
@@ -75,6 +75,7 @@ impl Tree {
         ensures count { OnOk result (length tags.new.made ≡ node_count geometry) }
         ensures accesses { OnOk result ((B.history bus.new).accesses ≡ more_by (node_count geometry) (B.history bus.old).accesses) }
         ensures stored { OnOk result (NodesHoldLast geometry tags.new.made (B.history bus.new).written) }
+        ensures slots { OnOk result (SlotsAreTags (tags_of T.data_tag_of T.node_tag_of tags.old) geometry tags.new.made) }
         ensures zeros { OnOk result ((page : ℕ) → page < page_count geometry → page_block page tags.new.made ≡ no_block) }
         ensures holds { IfOk result (λ tree. HoldsTree (tags_of T.data_tag_of T.node_tag_of) tree (B.history bus.new) tags.new) }
         ensures empty { IfOk result (λ tree. (level : ℕ) → cached_nodes tree level ≡ []) }
@@ -82,6 +83,7 @@ impl Tree {
         // A refusal comes before anything was done, or there was memory for the messages of all nodes.
         ensures reserved { OnErr result (((B.history bus.new ≡ B.history bus.old) × (tags.new ≡ tags.old))
             ⊎ (node_count geometry ≤ length tags.new.made + tags.new.room)) }
+        ensures fewer { OnErr result ((B.history bus.new).accesses < (B.history bus.old).accesses + node_count geometry) }
 
         // Whether memory was there or not.
         ensures quiet { tags.new.evidence ≡ tags.old.evidence }
@@ -89,6 +91,8 @@ impl Tree {
         ensures moves { Moves (B.history bus.old) tags.old (B.history bus.new) tags.new }
         ensures lines { SameLines (B.history bus.old) tags.old.made (B.history bus.new) tags.new.made }
         ensures made_blocks { NodesAreMade geometry tags.new.made (B.history bus.new).written }
+        ensures of_boot { AreOfBoot (tags_of T.data_tag_of T.node_tag_of tags.old) geometry tags.new.made }
+        ensures booted { NodesAreBooted (tags_of T.data_tag_of T.node_tag_of tags.old) geometry (B.history bus.new).written }
         ensures writes { (more : List Message) → tags.new.made ≡ tags.old.made ++ more →
             WritesMessages (B.history bus.old) (B.history bus.new) (length more) (unwritten_in (want_of result)) }
         ensures moved { B.moved bus.old bus.new }
@@ -115,12 +119,13 @@ impl Tree {
         ensures levels { self.new.levels ≡ self.old.levels }
         ensures root { self.new.root ≡ self.old.root }
         ensures holds { HoldsTree (tags_of T.data_tag_of T.node_tag_of) self.old (B.history bus.old) tags.old →
-            OnOk result (HoldsTree (tags_of T.data_tag_of T.node_tag_of) self.new (B.history bus.new) tags.new) }
+            result ≢ Err no_memory → HoldsTree (tags_of T.data_tag_of T.node_tag_of) self.new (B.history bus.new) tags.new }
 
         // It is the page's last block, or there is evidence. No page gets another block.
         ensures block { HoldsTree (tags_of T.data_tag_of T.node_tag_of) self.old (B.history bus.old) tags.old →
             tags.new.evidence ≡ None → IfOk result (λ block. block ≡ page_block page tags.old.made) }
         ensures pages { SamePages (B.history bus.old) tags.old.made (B.history bus.new) tags.new.made }
+        ensures no_page { level_blocks 0 tags.new.made ≡ level_blocks 0 tags.old.made }
 
         // A false answer is shown as evidence or taken for tampering.
         ensures honest { (used : List (ℕ × Counter)) →
@@ -146,9 +151,13 @@ impl Tree {
         ensures parent { OnOk result (cached_node self.new 1 (parent self.old.levels 0 page).1 ≢ None) }
 
         ensures read { OnOk result (PathWasRead self.old tags.old.made 0 page (B.history bus.old) (B.history bus.new)) }
+        ensures hit { cached_node self.old 1 (parent self.old.levels 0 page).1 ≢ None →
+            (B.history bus.new).accesses ≤ (B.history bus.old).accesses + 1 }
+        ensures hit_made { cached_node self.old 1 (parent self.old.levels 0 page).1 ≢ None → tags.new.made ≡ tags.old.made }
         ensures once { (B.history bus.new).accesses ≤ (B.history bus.old).accesses + path_accesses self.old.levels }
         ensures few { length tags.new.made ≤ length tags.old.made + path_accesses self.old.levels }
         ensures room { tags.old.room ≤ tags.new.room + path_accesses self.old.levels }
+        ensures no_rise { tags.new.room ≤ tags.old.room }
         ensures moves { Moves (B.history bus.old) tags.old (B.history bus.new) tags.new }
         ensures lines { SameLines (B.history bus.old) tags.old.made (B.history bus.new) tags.new.made }
         ensures moved { B.moved bus.old bus.new }
@@ -157,6 +166,13 @@ impl Tree {
         ensures few_copies { (level : ℕ) → length (cached_nodes self.new level) ≤ most_copies }
         ensures new_copies { (level index : ℕ) → cached_node self.new level index ≢ None →
             WasReadUp self.old level index (B.history bus.old) (B.history bus.new) }
+
+        // A node above level 0 that was made has the tags of its children in its slots.
+        ensures slots { HoldsTree (tags_of T.data_tag_of T.node_tag_of) self.old (B.history bus.old) tags.old →
+            tags.new.evidence ≡ None → SlotsAreTags (tags_of T.data_tag_of T.node_tag_of tags.old) self.old.levels tags.old.made →
+            SlotsAreTags (tags_of T.data_tag_of T.node_tag_of tags.old) self.old.levels tags.new.made }
+        // Nodes above the counter blocks are made as they go out, changed, and never before.
+        ensures written_back { WritesBack self.old (B.history bus.old) tags.old.made self.new (B.history bus.new) tags.new.made (stop_of result) }
 
         // What was made was written.
         ensures made_blocks { NodesAreMade self.old.levels tags.old.made (B.history bus.old).written →
@@ -188,7 +204,7 @@ impl Tree {
         ensures levels { self.new.levels ≡ self.old.levels }
         ensures root { self.new.root ≡ self.old.root }
         ensures holds { HoldsTree (tags_of T.data_tag_of T.node_tag_of) self.old (B.history bus.old) tags.old →
-            OnOk result (HoldsTree (tags_of T.data_tag_of T.node_tag_of) self.new (B.history bus.new) tags.new) }
+            result ≢ Err no_memory → HoldsTree (tags_of T.data_tag_of T.node_tag_of) self.new (B.history bus.new) tags.new }
 
         // The page's last block is the new one; where the call is refused, the old or the new one. No other page gets another.
         ensures block { OnOk result (last_node 0 page tags.new.made ≡ Some block.now) }
@@ -197,6 +213,9 @@ impl Tree {
         ensures others { (other : ℕ) → other ≢ page → last_node 0 other tags.new.made ≡ last_node 0 other tags.old.made }
         ensures beside { (other : ℕ) → other ≢ page →
             (B.history bus.new).written (node_place 0 other) ≡ (B.history bus.old).written (node_place 0 other) }
+        ensures one_page { OnOk result (level_blocks 0 tags.new.made ≡ level_blocks 0 tags.old.made ++ (page, block.now) ∷ []) }
+        ensures one_at_most { (level_blocks 0 tags.new.made ≡ level_blocks 0 tags.old.made)
+            ⊎ (level_blocks 0 tags.new.made ≡ level_blocks 0 tags.old.made ++ (page, block.now) ∷ []) }
 
         // A false answer is shown as evidence or taken for tampering; then no page got another block.
         ensures honest { (used : List (ℕ × Counter)) →
@@ -216,9 +235,14 @@ impl Tree {
         ensures unspent { (spent : ℕ) → result ≢ Err (Spent spent) }
 
         ensures read { OnOk result (PathWasRead self.old tags.old.made 1 page (B.history bus.old) (B.history bus.new)) }
+        ensures hit { cached_node self.old 1 (parent self.old.levels 0 page).1 ≢ None →
+            (B.history bus.new).accesses ≤ (B.history bus.old).accesses + 1 }
+        ensures hit_made { cached_node self.old 1 (parent self.old.levels 0 page).1 ≢ None →
+            (tags.new.made ≡ tags.old.made) ⊎ (tags.new.made ≡ tags.old.made ++ Node 0 page block.now ∷ []) }
         ensures once { (B.history bus.new).accesses ≤ (B.history bus.old).accesses + path_accesses self.old.levels }
         ensures few { length tags.new.made ≤ length tags.old.made + path_accesses self.old.levels }
         ensures room { tags.old.room ≤ tags.new.room + path_accesses self.old.levels }
+        ensures no_rise { tags.new.room ≤ tags.old.room }
         ensures moves { Moves (B.history bus.old) tags.old (B.history bus.new) tags.new }
         ensures lines { SameLines (B.history bus.old) tags.old.made (B.history bus.new) tags.new.made }
         ensures moved { B.moved bus.old bus.new }
@@ -227,6 +251,13 @@ impl Tree {
         ensures few_copies { (level : ℕ) → length (cached_nodes self.new level) ≤ most_copies }
         ensures new_copies { (level index : ℕ) → cached_node self.new level index ≢ None →
             WasReadUp self.old level index (B.history bus.old) (B.history bus.new) }
+
+        // A node above level 0 that was made has the tags of its children in its slots.
+        ensures slots { HoldsTree (tags_of T.data_tag_of T.node_tag_of) self.old (B.history bus.old) tags.old →
+            tags.new.evidence ≡ None → SlotsAreTags (tags_of T.data_tag_of T.node_tag_of tags.old) self.old.levels tags.old.made →
+            SlotsAreTags (tags_of T.data_tag_of T.node_tag_of tags.old) self.old.levels tags.new.made }
+        // Nodes above the counter blocks are made as they go out, changed, and never before.
+        ensures written_back { WritesBack self.old (B.history bus.old) tags.old.made self.new (B.history bus.new) tags.new.made (stop_of result) }
 
         // What was made was written.
         ensures made_blocks { NodesAreMade self.old.levels tags.old.made (B.history bus.old).written →
@@ -257,8 +288,11 @@ impl Tree {
 
         ensures climbs { Climbs (tags_of T.data_tag_of T.node_tag_of) level
             self.old (B.history bus.old) tags.old self.new (B.history bus.new) tags.new (stop_of result) }
+        ensures back { WritesUp level NoNode
+            self.old (B.history bus.old) tags.old.made self.new (B.history bus.new) tags.new.made (stop_of result) }
         ensures once { (B.history bus.new).accesses ≤ (B.history bus.old).accesses + present_accesses self.old.levels level }
         ensures few { length tags.new.made ≤ length tags.old.made + present_accesses self.old.levels level }
+        ensures hit { cached_node self.old level index ≢ None → (B.history bus.new ≡ B.history bus.old) × (tags.new ≡ tags.old) }
         ensures latest { OnOk result (IsLatestNode self.new.caches level index) }
         ensures moved { B.moved bus.old bus.new }
     {
@@ -287,6 +321,8 @@ impl Tree {
 
         ensures climbs { Climbs (tags_of T.data_tag_of T.node_tag_of) level
             self.old (B.history bus.old) tags.old self.new (B.history bus.new) tags.new (stop_of result) }
+        ensures back { WritesUp level NoNode
+            self.old (B.history bus.old) tags.old.made self.new (B.history bus.new) tags.new.made (stop_of result) }
         ensures once { (B.history bus.new).accesses ≤ (B.history bus.old).accesses + (present_accesses self.old.levels (level + 1) + 1) }
         ensures few { length tags.new.made ≤ length tags.old.made + (present_accesses self.old.levels (level + 1) + 1) }
         ensures absent { OnOk result (node_way self.new.caches level index ≡ None) }
@@ -321,6 +357,8 @@ impl Tree {
 
         ensures climbs { Climbs (tags_of T.data_tag_of T.node_tag_of) level
             self.old (B.history bus.old) tags.old self.new (B.history bus.new) tags.new (stop_of result) }
+        ensures back { WritesUp (level + 1) (IsVictim level victim.now (stop_of result))
+            self.old (B.history bus.old) tags.old.made self.new (B.history bus.new) tags.new.made (stop_of result) }
         ensures once { (B.history bus.new).accesses ≤ (B.history bus.old).accesses + (present_accesses self.old.levels (level + 1) + 1) }
         ensures few { length tags.new.made ≤ length tags.old.made + (present_accesses self.old.levels (level + 1) + 1) }
         ensures copies { level_cache self.new.caches level ≡ level_cache self.old.caches level }
@@ -351,8 +389,12 @@ impl Tree {
 
         ensures climbs { Climbs (tags_of T.data_tag_of T.node_tag_of) (level + 1)
             self.old (B.history bus.old) tags.old self.new (B.history bus.new) tags.new (stop_of result) }
+        ensures back { WritesUp (level + 1) NoNode
+            self.old (B.history bus.old) tags.old.made self.new (B.history bus.new) tags.new.made (stop_of result) }
         ensures once { (B.history bus.new).accesses ≤ (B.history bus.old).accesses + present_accesses self.old.levels (level + 1) }
         ensures few { length tags.new.made ≤ length tags.old.made + present_accesses self.old.levels (level + 1) }
+        ensures hit { cached_node self.old (level + 1) (parent self.old.levels level index).1 ≢ None →
+            (B.history bus.new ≡ B.history bus.old) × (tags.new ≡ tags.old) }
         ensures latest { level < self.old.levels → OnOk result (IsLatestNode self.new.caches (level + 1) (parent self.old.levels level index).1) }
         ensures some { 0 < self.old.levels }
         ensures nodes { AreNodeCaches self.new.levels self.new.caches }
@@ -383,6 +425,8 @@ impl Tree {
 
         ensures climbs { Climbs (tags_of T.data_tag_of T.node_tag_of) level
             self.old (B.history bus.old) tags.old self.new (B.history bus.new) tags.new (stop_of result) }
+        ensures back { WritesUp level NoNode
+            self.old (B.history bus.old) tags.old.made self.new (B.history bus.new) tags.new.made (stop_of result) }
         ensures once { (B.history bus.new).accesses ≤ (B.history bus.old).accesses + 1 }
         ensures few { length tags.new.made ≤ length tags.old.made + 1 }
         ensures latest { OnOk result (IsLatestNode self.new.caches level index) }
@@ -412,9 +456,13 @@ impl Tree {
 
         ensures climbs { Climbs (tags_of T.data_tag_of T.node_tag_of) level
             self.old (B.history bus.old) tags.old self.new (B.history bus.new) tags.new (want_of result) }
+        ensures back { WritesUp (level + 1) (IsBlockOf level index block.now)
+            self.old (B.history bus.old) tags.old.made self.new (B.history bus.new) tags.new.made (want_of result) }
         ensures once { (B.history bus.new).accesses ≤ (B.history bus.old).accesses + 1 }
         ensures few { length tags.new.made ≤ length tags.old.made + 1 }
         ensures copies { OtherLevels (level + 1) self.old.caches self.new.caches }
+        ensures made { OnOk result (tags.new.made ≡ tags.old.made ++ Node level index block.now ∷ []) }
+        ensures one_at_most { (tags.new.made ≡ tags.old.made) ⊎ (tags.new.made ≡ tags.old.made ++ Node level index block.now ∷ []) }
         ensures own { OnOk result (last_node level index tags.new.made ≡ Some block.now) }
         ensures refused { OnErr result ((last_node level index tags.new.made ≡ last_node level index tags.old.made)
             ⊎ (last_node level index tags.new.made ≡ Some block.now)) }

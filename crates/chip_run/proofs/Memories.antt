@@ -23,7 +23,7 @@ use Rattle.checked_bus.specs.Accesses.{AreCounted, WritesMessages}
 use Rattle.checked_bus.specs.Steps.{IsAccounted, unwritten_in}
 use Rattle.pad_stream.specs.PadBlocks.{ShareNoBlock}
 use Rattle.pad_stream.specs.Pads.{of_lines}
-use Rattle.page_reencrypt.specs.Contents.{AreUnskipped, AreWithin, HoldsSealed, contents_of}
+use Rattle.page_reencrypt.specs.Contents.{AreUnskipped, AreWithin, HoldsSealed, NodesSay, contents_of}
 use Rattle.page_reencrypt.specs.SealedLines.{AccountsForAll, AreNew, AreProtected, CountersRise, IsQuiet, IsUnbooted, Moves, SealedLinesView, contents, enc_key, evidence, levels, lines_of, made, used}
 use Rattle.cache_set.specs.declared.way.Way.{Way}
 use Rattle.line_cache.specs.LineCache.{contents_over}
@@ -84,12 +84,18 @@ nothing_risen levels limit = record {
   spent = λ page is. absurd (cc);
 }
 
+nothing_said : (tag_of : Message → List ℕ) (levels : ℕ) → NodesSay tag_of levels [] []
+nothing_said tag_of levels = record {
+  slots = record { tagged = λ level index at block listed inside. absurd (omega (arith, listed.1)) };
+  blocks = record { said = λ page line block listed of_page. absurd (omega (arith, listed.1)) };
+}
+
 -- a run's record by its fields
 abbrev run_of : ℕ → Ending → Option Evidence → List Message → List (ℕ × Counter) → Option (List ℕ) → RunRecord
 run_of retired ending evidence made used report =
     record { retired = retired; ending = ending; evidence = evidence; made = made; used = used; report = report }
 
-pub unbooted_memory : (terms : Terms) (before after : BusHistory) (run : RunRecord) → before.levels ≡ terms.levels → before.lies ≡ 0 → NothingWritten before → IsUnbooted terms.levels before after →
+pub unbooted_memory : (terms : Terms) (before after : BusHistory) (run : RunRecord) → before.levels ≡ terms.levels → before.lies ≡ 0 → NothingWritten before → IsUnbooted terms.tag_of terms.levels before after →
     run.retired ≡ 0 → run.ending ≡ NoMemory → run.made ≡ [] → run.used ≡ [] → run.evidence ≡ None → OfMemory terms before after run
 unbooted_memory terms before after run as_many honest empty booting none_retired ended none_made none_used none =
     let same : run_of run.retired NoMemory None [] [] run.report ≡ run =
@@ -97,7 +103,7 @@ unbooted_memory terms before after run as_many honest empty booting none_retired
     ∙ ap (λ (evidence : Option Evidence). run_of run.retired run.ending evidence [] [] run.report) (sym none)
     ∙ ap (λ (made : List Message). run_of run.retired run.ending run.evidence made [] run.report) (sym none_made)
     ∙ ap (λ (used : List (ℕ × Counter)). run_of run.retired run.ending run.evidence run.made used run.report) (sym none_used) in
-    let nothing : EndedAtBoot terms.levels before after (run_of run.retired NoMemory None [] [] run.report) =
+    let nothing : EndedAtBoot terms.tag_of terms.levels before after (run_of run.retired NoMemory None [] [] run.report) =
     record { ended = refl; none_retired = none_retired; unmade = refl; unused = refl; booting = booting } in
     subst (λ (r : RunRecord). OfMemory terms before after r) same (record {
       stopped = Some no_memory;
@@ -109,6 +115,7 @@ unbooted_memory terms before after run as_many honest empty booting none_retired
       holds_last = λ some. absurd (some refl);
       nodes_hold_last = λ some. absurd (some refl);
       rise = λ quiet. nothing_risen terms.levels terms.page_limit;
+      made_nodes = λ quiet. nothing_said terms.tag_of terms.levels;
       few = omega arith;
       apart = λ quiet. record { apart = λ first second line other counter later block another here there low high same. absurd (cc) };
       accounted = begins_accounted terms.tag_of [] [] after (Some no_memory) None (booting.wrote.lies ∙ honest) refl (λ place is. cc);
@@ -193,6 +200,7 @@ module _ {B T : Type 0} (d n : T → List ℕ → List ℕ) (history : B → Bus
         holds_last = protected.always.holds_last;
         nodes_hold_last = protected.always.nodes_hold_last;
         rise = protected.rise;
+        made_nodes = protected.nodes;
         few = few;
         apart = λ quiet. subst (λ (k : List ℕ). ShareNoBlock k run.used) (moves.key ∙ new.key_is) (apart (sym evidence_is ∙ quiet));
         accounted = subst (λ (m : SealedLinesView B T). AccountsForAll (tags_of d n) history m) same (moves.accounted (new_accounted honest));

@@ -27,7 +27,7 @@ use Rattle.rv32_core.specs.Turnover.{page_turnover, turnover}
 use Rattle.rv32_run.specs.Session.{IsMemoryEnding, IsStop}
 use Rattle.checked_bus.specs.Accesses.{WritesMessages}
 use Rattle.bonsai_tree.specs.Tree.{NodesAreMade, NodesHoldLast}
-use Rattle.page_reencrypt.specs.Contents.{ArePaged, AreUnskipped, AreWithin, HoldsLast, HoldsSealed, IsSpent, line_bytes}
+use Rattle.page_reencrypt.specs.Contents.{ArePaged, AreUnskipped, AreWithin, HoldsLast, HoldsSealed, IsSpent, NodesSay, line_bytes}
 use Rattle.page_reencrypt.specs.SealedLines.{IsUnbooted}
 use Rattle.chip_run.specs.Report.{ReportTerms, signed_report}
 use Rattle.chip_run.specs.declared.record.RunRecord.{RunRecord}
@@ -72,14 +72,14 @@ EndsAnywhere ending = ((place : Place) × (ending ≡ Tampered place)) ⊎ (endi
 abbrev pub default_page_limit : ℕ
 default_page_limit = 2 ^ 64 - 1
 
--- It found no memory to boot, retired nothing and lists nothing. Nodes may stand on its bus, each with a message that was
--- made for it; no place was read, no line's place was written, and no answer was false.
-pub record EndedAtBoot (levels : ℕ) (before after : BusHistory) (run : RunRecord) : Type 0 where
+-- It found no memory to boot, retired nothing and lists nothing. Nodes may stand on its bus, each with the block that boot
+-- gives it; no place was read, no line's place was written, and no answer was false.
+pub record EndedAtBoot (tag_of : Message → List ℕ) (levels : ℕ) (before after : BusHistory) (run : RunRecord) : Type 0 where
   pub ended : run.ending ≡ NoMemory
   pub none_retired : run.retired ≡ 0
   pub unmade : run.made ≡ []
   pub unused : run.used ≡ []
-  pub booting : IsUnbooted levels before after
+  pub booting : IsUnbooted tag_of levels before after
 
 -- Whatever the bus answered.
 pub record HoldsAlways (terms : Terms) (out out' : SinkState) (before after : BusHistory) (run : RunRecord) : Type 0 where
@@ -100,12 +100,12 @@ pub record HoldsAlways (terms : Terms) (out out' : SinkState) (before after : Bu
   -- each line's place that isn't zeros holds what was encrypted and tagged for it, each node's place that isn't zeros a
   -- block that was made for it, and the last that was, unless the run ended out of memory
   pub sealed : HoldsSealed terms.tag_of (line_count terms.levels) run.made run.used after.written
-  pub nodes : NodesAreMade terms.levels run.made after.written ⊎ EndedAtBoot terms.levels before after run
+  pub nodes : NodesAreMade terms.levels run.made after.written ⊎ EndedAtBoot terms.tag_of terms.levels before after run
   pub holds_last : run.ending ≢ NoMemory → HoldsLast terms.tag_of (line_count terms.levels) run.made after.written
   pub nodes_hold_last : run.ending ≢ NoMemory → NodesHoldLast terms.levels run.made after.written
   -- there were as many accesses as reads and messages, but for one message where the run ended out of memory, as far as
   -- counts that stand still at their ends can tell; no count of reads fell, and the bus fits the memory
-  pub accesses : WritesMessages before after (length run.made) (unwritten_at run.ending) ⊎ EndedAtBoot terms.levels before after run
+  pub accesses : WritesMessages before after (length run.made) (unwritten_at run.ending) ⊎ EndedAtBoot terms.tag_of terms.levels before after run
   pub reads : (place : Place) → RoseBy 0 (before.reads place) (after.reads place)
   pub levels_are : after.levels ≡ terms.levels
   -- where no answer was false and the sink had no fault, it is the plain machine's run over the whole budget, or a page
@@ -134,6 +134,9 @@ pub record HoldsWithoutEvidence (terms : Terms) (printed : List ℕ) (before aft
   pub unskipped : AreUnskipped (line_count terms.levels) run.used
   pub paged : ¬ EndsAnywhere run.ending → ArePaged (line_count terms.levels) run.used
   pub unspent : terms.page_limit ≡ default_page_limit → (page : ℕ) → run.ending ≢ Spent page
+  -- each slot of a node that was made above level 0 is the tag of a message that was made of that child, and each counter
+  -- block that was made says counters that its lines were encrypted under, or that of a line that was never written
+  pub made_nodes : NodesSay terms.tag_of terms.levels run.used run.made
   -- where the memory did not end it, the last messages are the plain machine's memory
   pub written_out : ¬ IsMemoryEnding run.ending →
       IsWrittenOut terms.enc_key (line_count terms.levels) run.made (plain terms.start run.retired).state.memory

@@ -1,17 +1,18 @@
 -- The copies of counter blocks, where one comes or goes.
-use Rattle.std.proofs.Common.{◌≡◌, ◌≢◌, inl, inr, ℕ, ◌<◌, ◌≤◌, List, length, Option, Some, None, IsSome, Bool, refl, ap, sym, ◌∙◌, subst, arith}
+use Rattle.std.proofs.Common.{◌≡◌, ◌≢◌, ◌⊎◌, inl, inr, ℕ, ◌<◌, ◌≤◌, List, [], ◌∷◌, ◌++◌, length, Option, Some, None, IsSome, Bool, true, refl, ap, sym, ◌∙◌, subst, arith}
 use Rattle.std.specs.List.{Contains}
 use Rattle.std.specs.Option.{option_map}
 use Rattle.std.proofs.lemmas.Bool.{cases_eq}
 use Rattle.sec_base.specs.Geometry.{page_count}
+use Rattle.sec_base.specs.declared.message.Message.{Message}
 use Rattle.cache_set.specs.declared.way.Way.{Way}
 use Rattle.cache_set.specs.Cache.{IsCache, IsLatest, places, set_at, way_at}
 use Rattle.cache_set.proofs.Listed.{found_at, listed_at}
 use Rattle.cache_set.proofs.Ways.{latest_found}
-use Rattle.bonsai_tree.specs.Node.{CachedNode}
+use Rattle.bonsai_tree.specs.Node.{CachedNode, level_blocks}
 use Rattle.bonsai_tree.specs.NodeCache.{copy_of}
 use Rattle.bonsai_tree.proofs.Copies.{few_in}
-use Rattle.counter_cache.specs.Counters.{AreBlocks, CountersView, block_sets, cached_block, cached_pages, leaving, most_blocks}
+use Rattle.counter_cache.specs.Counters.{AreBlocks, CountersView, OnlyLeavingIsMade, block_sets, cached_block, cached_pages, leaving, most_blocks}
 
 module _ (levels : ℕ) (blocks blocks' : List (List Way)) (are : AreBlocks levels blocks) (cache : IsCache block_sets blocks') where
   pub blocks_same : ((page : ℕ) → way_at blocks' page ≡ way_at blocks page) → AreBlocks levels blocks'
@@ -101,3 +102,22 @@ stays_all counters counters' page hit same other copy stays found = elim (cases_
       let some : cached_block counters page ≢ None = λ none. let both : None ≡ Some copy = sym none ∙ held in absurd (cc) in
       ap (λ (p : ℕ). cached_block counters' p) here ∙ hit (held_cached counters page some) ∙ held
 ]
+
+-- Which blocks were made
+
+-- the block of the way that goes out, or none
+pub victim_made : (counters : CountersView) (page : ℕ) (way : Way) (made made' : List Message) → leaving counters page ≡ Some way.place →
+    way_at counters.blocks way.place ≡ Some way →
+    (level_blocks 0 made' ≡ level_blocks 0 made) ⊎ ((way.changed ≡ true) × (level_blocks 0 made' ≡ level_blocks 0 made ++ (way.place, way.copy) ∷ [])) →
+    OnlyLeavingIsMade counters page made made'
+victim_made counters page way made made' leaves held (inl same) = inl same
+victim_made counters page way made made' leaves held (inr one) =
+    let copy : Bool → Option CachedNode = λ mark. Some (record { block = way.copy; changed = mark }) in
+    inr (record { other = way.place; block = way.copy; leaves = leaves; changed = ap (option_map copy_of) held ∙ ap (λ (mark : Bool). copy mark) one.0; one = one.1 })
+
+-- and then none
+pub none_made_on : (counters : CountersView) (page : ℕ) (made made' made'' : List Message) → level_blocks 0 made'' ≡ level_blocks 0 made' →
+    OnlyLeavingIsMade counters page made made' → OnlyLeavingIsMade counters page made made''
+none_made_on counters page made made' made'' same (inl none) = inl (same ∙ none)
+none_made_on counters page made made' made'' same (inr one) =
+    inr (record { other = one.other; block = one.block; leaves = one.leaves; changed = one.changed; one = same ∙ one.one })

@@ -1,5 +1,5 @@
 -- Calls that have a block on the chip, one after another, and how they are made of calls of the tree and of changes of copies.
-use Rattle.std.proofs.Common.{◌≡◌, ◌≢◌, ◌⊎◌, inl, inr, ℕ, ◌+◌, ◌-◌, ◌/◌, ◌^◌, ◌≤◌, false, List, ◌++◌, length, Option, Some, None, Result, Ok, Err, OnOk, refl, ap, sym, ◌∙◌, subst, arith, length-append}
+use Rattle.std.proofs.Common.{◌≡◌, ◌≢◌, ◌⊎◌, inl, inr, ℕ, ◌+◌, ◌-◌, ◌/◌, ◌^◌, ◌≤◌, false, List, ◌++◌, length, Option, Some, None, Result, Err, refl, ap, sym, ◌∙◌, subst, arith, length-append}
 use Rattle.std.specs.List.{Contains}
 use Rattle.std.proofs.lemmas.Bool.{cases_eq}
 use Rattle.sec_base.specs.Count.{Rose, RoseBy}
@@ -21,7 +21,7 @@ use Rattle.checked_bus.proofs.Steps.{moves_not, moves_on, same_lines_not, same_l
 use Rattle.checked_bus.proofs.Writes.{writes_on}
 use Rattle.split_counter.specs.CounterBlock.{block_of}
 use Rattle.bonsai_tree.specs.Node.{CachedNode, block_or_zeros, current_of, page_block}
-use Rattle.bonsai_tree.specs.Tree.{TreeView, HoldsTree, IsFetchPlace, IsNodeFrom, NodesAreMade, NodesHoldLast, PathWasRead, WasReadUp, above, cached_node}
+use Rattle.bonsai_tree.specs.Tree.{HoldsTree, IsFetchPlace, IsNodeFrom, NodesAreMade, NodesHoldLast, PathWasRead, SlotsAreTags, TreeView, WasReadUp, above, cached_node}
 use Rattle.bonsai_tree.proofs.Climbs.{above_on, find_copy, read_up_held, read_up_on, unchanged_writes}
 use Rattle.bonsai_tree.proofs.Nodes.{same_tags, some_not_none, some_or_none, was_none}
 use Rattle.bonsai_tree.proofs.PathCalls.{not_from_one}
@@ -49,6 +49,8 @@ pub record TreeCall {T : Type 0} (tags : TagEngineView T → Message → List �
   pub writes : (more : List Message) → engine'.made ≡ engine.made ++ more → WritesMessages old new (length more) (unwritten_in stop)
   pub made_blocks : NodesAreMade tree.levels engine.made old.written → NodesAreMade tree.levels engine'.made new.written
   pub last_blocks : stop ≢ Some NoMemory → NodesHoldLast tree.levels engine.made old.written → NodesHoldLast tree.levels engine'.made new.written
+  pub slots : HoldsTree tags tree old engine → engine'.evidence ≡ None → SlotsAreTags (tags engine) tree.levels engine.made →
+      SlotsAreTags (tags engine) tree.levels engine'.made
   pub read : (level index : ℕ) → cached_node tree' level index ≢ None → WasReadUp tree level index old new
 
 -- the page has no copy that was changed
@@ -107,6 +109,7 @@ module _ {T : Type 0} (d n : T → List ℕ → List ℕ) (Where : Place → Typ
     writes = unchanged_writes history engine;
     made_blocks = λ was. was;
     last_blocks = λ remembered was. was;
+    slots = λ holds quiet tagged. tagged;
     read = λ level index held. read_up_held counters.tree level index history history held;
     copied = λ page held. inl held;
   }
@@ -181,6 +184,13 @@ module _ {T : Type 0} (d n : T → List ℕ → List ℕ) (Where : Place → Typ
         last_blocks = λ remembered was.
             subst (λ (k : ℕ). NodesHoldLast k engine''.made third.written) has.levels
             (more.last_blocks remembered (subst (λ (k : ℕ). NodesHoldLast k engine'.made second.written) (sym has.levels) (has.last_blocks going was)));
+        slots = λ holds quiet tagged.
+            let still : engine'.evidence ≡ None = was_none engine'.evidence engine''.evidence more.moves.evidence quiet in
+            subst (λ (t : Message → List ℕ). SlotsAreTags t counters.tree.levels engine''.made) tags
+            (subst (λ (k : ℕ). SlotsAreTags (tags_of d n engine') k engine''.made) has.levels
+            (more.slots (has.holds holds refl) quiet
+            (subst (λ (k : ℕ). SlotsAreTags (tags_of d n engine') k engine'.made) (sym has.levels)
+            (subst (λ (t : Message → List ℕ). SlotsAreTags t counters.tree.levels engine'.made) (sym tags) (has.slots holds still tagged)))));
         read = λ level index held.
             read_up_on counters.tree mid.tree level index first second third has.levels has.moves.reads more.moves.reads has.read (more.read level index held);
         copied = λ page held.
@@ -229,6 +239,7 @@ module _ {T : Type 0} (d n : T → List ℕ → List ℕ) (Where : Place → Typ
     writes = call.writes call.moves.more call.moves.made;
     made_blocks = call.made_blocks;
     last_blocks = call.last_blocks;
+    slots = λ holds. call.slots holds.tree;
     read = call.read;
     copied = λ page held. inl held;
   }
@@ -261,6 +272,7 @@ module _ {T : Type 0} (d n : T → List ℕ → List ℕ) (Where : Place → Typ
     writes = unchanged_writes history engine;
     made_blocks = λ was. was;
     last_blocks = λ remembered was. was;
+    slots = λ holds quiet tagged. tagged;
     read = λ level index held.
         read_up_held counters.tree level index history history (subst (λ (t : TreeView). cached_node t level index ≢ None) tree held);
     copied = λ page held. inl (held_before (cached_block counters' page) (cached_block counters page) held (fewer page));
@@ -354,6 +366,7 @@ module _ {T : Type 0} (d n : T → List ℕ → List ℕ) (Where : Place → Typ
       writes = before.writes;
       made_blocks = before.made_blocks;
       last_blocks = before.last_blocks;
+      slots = before.slots;
       read = λ level index held. call.read level index (subst (λ (t : TreeView). cached_node t level index ≢ None) tree_is held);
       copied = λ other held. elim (cases_eq other page) [
         | inr apart ↦ inl (λ none. held (same other apart ∙ none))
@@ -383,6 +396,7 @@ has_as d n Some_of All_of counters counters' old new engine engine' stop wider h
   writes = has.writes;
   made_blocks = has.made_blocks;
   last_blocks = has.last_blocks;
+  slots = has.slots;
   read = has.read;
   copied = λ page held. elim (has.copied page held) [
     | inl before ↦ inl before
@@ -422,11 +436,9 @@ module _ {T : Type 0} (d n : T → List ℕ → List ℕ) (page : ℕ) (counters
         inr (is, subst (λ (p : ℕ). CameFrom engine.made old new p) is came.1)
   ]
 
--- Results
-
-pub ok_at : {A P : Type 0} (result : Result A MemStop) → stop_of result ≡ None → OnOk result P → P
-ok_at (Ok value) going fact = fact
-ok_at (Err stop) going fact = absurd (cc)
+-- a call that did not stop found memory
+pub no_want : {A : Type 0} (result : Result A MemStop) → stop_of result ≡ None → result ≢ Err NoMemory
+no_want result going is = let stop : stop_of result ≡ Some NoMemory = ap stop_of is in cc
 
 zero_more : (lower : ℕ) → lower ≡ 0 + lower
 zero_more lower = omega arith

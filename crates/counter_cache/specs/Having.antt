@@ -14,7 +14,7 @@ use Rattle.bus_model.specs.BusHistory.{BusHistory}
 use Rattle.tag_engine.specs.TagEngine.{TagEngineView}
 use Rattle.checked_bus.specs.Accesses.{WritesMessages}
 use Rattle.checked_bus.specs.Steps.{IsAccounted, Moves, SameLines, unwritten_in}
-use Rattle.bonsai_tree.specs.Tree.{NodesAreMade, NodesHoldLast, WasReadUp, cached_node}
+use Rattle.bonsai_tree.specs.Tree.{NodesAreMade, NodesHoldLast, SlotsAreTags, WasReadUp, cached_node}
 use Rattle.counter_cache.specs.Counters.{AreBlocks, CameFrom, CountersView, HasFewNodes, HoldsCounters, SameCounters, cached_block}
 
 -- The places that are read are among these.
@@ -44,6 +44,9 @@ pub record Has {T : Type 0} (tags : TagEngineView T → Message → List ℕ) (W
   pub made_blocks : NodesAreMade counters.tree.levels engine.made old.written → NodesAreMade counters.tree.levels engine'.made new.written
   pub last_blocks : stop ≢ Some NoMemory → NodesHoldLast counters.tree.levels engine.made old.written →
       NodesHoldLast counters.tree.levels engine'.made new.written
+  -- slots of nodes that were made have tags of messages
+  pub slots : HoldsCounters tags counters old engine → engine'.evidence ≡ None → SlotsAreTags (tags engine) counters.tree.levels engine.made →
+      SlotsAreTags (tags engine) counters.tree.levels engine'.made
   -- what has a copy was read, or had one
   pub read : (level index : ℕ) → cached_node counters'.tree level index ≢ None → WasReadUp counters.tree level index old new
   pub copied : (page : ℕ) → cached_block counters' page ≢ None →

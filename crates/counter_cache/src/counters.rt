@@ -1,5 +1,5 @@
 // The counters of all pages, by the tree over their blocks and copies of these.
-ghost use Rattle.std.specs.Prelude.{true, false, ◌≡◌, ◌≢◌, ◌⊎◌, ◌+◌, ◌^◌, ◌<◌, ◌≤◌, ◌++◌, ℕ, List, [], None, Some, Ok, Err, IfOk, IsOk, OnOk, OnErr, Contains, length};
+ghost use Rattle.std.specs.Prelude.{true, false, ◌≡◌, ◌≢◌, ◌⊎◌, ◌+◌, ◌^◌, ◌<◌, ◌≤◌, ◌++◌, ◌∷◌, ℕ, List, [], None, Some, Ok, Err, IfOk, IsOk, OnOk, OnErr, Contains, length};
 ghost use Rattle.sec_base.specs.Count.{Rose, more_by};
 ghost use Rattle.sec_base.specs.Geometry.{page_count};
 ghost use Rattle.sec_base.specs.LastMessage.{last_node};
@@ -18,11 +18,11 @@ ghost use Rattle.checked_bus.specs.Accesses.{WritesMessages};
 ghost use Rattle.checked_bus.specs.Steps.{IsAccounted, Moves, SameLines, stop_of, unwritten_in};
 ghost use Rattle.split_counter.specs.declared.bumped.Bumped.TheVariants.{Line, Page, Spent};
 ghost use Rattle.split_counter.specs.CounterBlock.{IsCounterBlock, after_bump, block_of, bumped, counter_number, counter_of, new_block};
-ghost use Rattle.bonsai_tree.specs.Boot.{boot_messages, node_count};
-ghost use Rattle.bonsai_tree.specs.Node.{CachedNode, page_block};
+ghost use Rattle.bonsai_tree.specs.Boot.{AreOfBoot, NodesAreBooted, boot_messages, node_count};
+ghost use Rattle.bonsai_tree.specs.Node.{CachedNode, level_blocks, page_block};
 ghost use Rattle.bonsai_tree.specs.NodeCache.{most_copies};
-ghost use Rattle.bonsai_tree.specs.Tree.{IsFetchPlace, IsNodeFrom, NodesAreMade, NodesHoldLast, OnlyWroteNodes, PathWasRead, WasReadUp, cached_node, cached_nodes, path_accesses, want_of};
-ghost use Rattle.counter_cache.specs.Counters.{AreCopies, AreHad, CameFrom, HoldsCounters, IsBumped, IsHad, LeavesClean, SameCounters, cached_block, cached_pages, counter_accesses, counters_in, leaving, most_blocks};
+ghost use Rattle.bonsai_tree.specs.Tree.{IsFetchPlace, IsNodeFrom, NodesAreMade, NodesHoldLast, OnlyWroteNodes, PathWasRead, SlotsAreTags, WasReadUp, cached_node, cached_nodes, path_accesses, want_of};
+ghost use Rattle.counter_cache.specs.Counters.{AreCopies, AreHad, CameFrom, HoldsCounters, IsBumped, IsHad, LeavesClean, OnlyLeavingIsMade, SameCounters, cached_block, cached_pages, counter_accesses, counters_in, leaving, most_blocks};
 ghost use Rattle.counter_cache.specs.Having.{Has};
 
 use bonsai_tree::Tree;
@@ -77,8 +77,10 @@ impl Counters {
         // All nodes are made and written, each once and in order.
         ensures made { OnOk result (tags.new.made ≡ boot_messages (tags_of T.data_tag_of T.node_tag_of tags.old) geometry) }
         ensures count { OnOk result (length tags.new.made ≡ node_count geometry) }
+        ensures slots { OnOk result (SlotsAreTags (tags_of T.data_tag_of T.node_tag_of tags.old) geometry tags.new.made) }
         ensures accesses { OnOk result ((B.history bus.new).accesses ≡ more_by (node_count geometry) (B.history bus.old).accesses) }
         ensures stored { OnOk result (NodesHoldLast geometry tags.new.made (B.history bus.new).written) }
+        ensures fewer { OnErr result ((B.history bus.new).accesses < (B.history bus.old).accesses + node_count geometry) }
 
         // Whether memory was there or not.
         ensures quiet { tags.new.evidence ≡ tags.old.evidence }
@@ -86,6 +88,8 @@ impl Counters {
         ensures moves { Moves (B.history bus.old) tags.old (B.history bus.new) tags.new }
         ensures lines { SameLines (B.history bus.old) tags.old.made (B.history bus.new) tags.new.made }
         ensures made_blocks { NodesAreMade geometry tags.new.made (B.history bus.new).written }
+        ensures of_boot { AreOfBoot (tags_of T.data_tag_of T.node_tag_of tags.old) geometry tags.new.made }
+        ensures booted { NodesAreBooted (tags_of T.data_tag_of T.node_tag_of tags.old) geometry (B.history bus.new).written }
         ensures writes { (more : List Message) → tags.new.made ≡ tags.old.made ++ more →
             WritesMessages (B.history bus.old) (B.history bus.new) (length more) (unwritten_in (want_of result)) }
         ensures moved { B.moved bus.old bus.new }
@@ -140,8 +144,8 @@ impl Counters {
         ensures checked { IfOk result (AreHad (tags_of T.data_tag_of T.node_tag_of tags.old) self.old self.new tags.new.made page
             tags.old.evidence tags.new.evidence) }
 
-        // A block without a copy is read from its place, with the nodes above it that have none. A block that has one makes no
-        // access.
+        // A block without a copy is read from its place, after the nodes above it up to the lowest one that has a copy. A block
+        // that has one makes no access.
         ensures read { ¬ Contains (cached_pages self.old) page →
             OnOk result (PathWasRead self.old.tree tags.old.made 0 page (B.history bus.old) (B.history bus.new)) }
         ensures idle { Contains (cached_pages self.old) page → (B.history bus.new ≡ B.history bus.old) × (tags.new ≡ tags.old) }
@@ -150,6 +154,7 @@ impl Counters {
         ensures once { (B.history bus.new).accesses ≤ (B.history bus.old).accesses + counter_accesses self.old.tree.levels }
         ensures few { length tags.new.made ≤ length tags.old.made + counter_accesses self.old.tree.levels }
         ensures room { tags.old.room ≤ tags.new.room + counter_accesses self.old.tree.levels }
+        ensures no_rise { tags.new.room ≤ tags.old.room }
         ensures few_copies { length (cached_pages self.new) ≤ most_blocks }
         ensures new_copies { (other : ℕ) → Contains (cached_pages self.new) other → Contains (cached_pages self.old) other
             ⊎ ((other ≡ page) × CameFrom tags.old.made (B.history bus.old) (B.history bus.new) page) }
@@ -164,12 +169,18 @@ impl Counters {
             cached_block self.old other ≡ Some copy → cached_block self.new other ≡ Some copy }
         ensures clean { ¬ Contains (cached_pages self.old) page → (copy : CachedNode) →
             cached_block self.new page ≡ Some copy → copy.changed ≡ false }
+        ensures unmarked { (copy : CachedNode) → cached_block self.new page ≡ Some copy → copy.changed ≡ true →
+            cached_block self.old page ≡ Some copy }
         ensures once_clean { LeavesClean self.old page →
             (B.history bus.new).accesses ≤ (B.history bus.old).accesses + path_accesses self.old.tree.levels }
+        ensures written { OnlyLeavingIsMade self.old page tags.old.made tags.new.made }
 
         ensures moves { Moves (B.history bus.old) tags.old (B.history bus.new) tags.new }
         ensures lines { SameLines (B.history bus.old) tags.old.made (B.history bus.new) tags.new.made }
         ensures moved { B.moved bus.old bus.new }
+        ensures slots { HoldsCounters (tags_of T.data_tag_of T.node_tag_of) self.old (B.history bus.old) tags.old →
+            tags.new.evidence ≡ None → SlotsAreTags (tags_of T.data_tag_of T.node_tag_of tags.old) self.old.tree.levels tags.old.made →
+            SlotsAreTags (tags_of T.data_tag_of T.node_tag_of tags.old) self.old.tree.levels tags.new.made }
         ensures made_blocks { NodesAreMade self.old.tree.levels tags.old.made (B.history bus.old).written →
             NodesAreMade self.old.tree.levels tags.new.made (B.history bus.new).written }
         ensures last_blocks { NodesHoldLast self.old.tree.levels tags.old.made (B.history bus.old).written →
@@ -241,8 +252,8 @@ impl Counters {
         ensures at_place { (at : Place) → result ≡ Err (Tampered at) → IsFetchPlace self.old.tree.levels page at }
         ensures unspent { (spent : ℕ) → result ≢ Err (stop_spent spent) }
 
-        // A block without a copy is read from its place, with the nodes above it that have none. A block that has one makes no
-        // access.
+        // A block without a copy is read from its place, after the nodes above it up to the lowest one that has a copy. A block
+        // that has one makes no access.
         ensures read { ¬ Contains (cached_pages self.old) page →
             OnOk result (PathWasRead self.old.tree tags.old.made 0 page (B.history bus.old) (B.history bus.new)) }
         ensures idle { Contains (cached_pages self.old) page → (B.history bus.new ≡ B.history bus.old) × (tags.new ≡ tags.old) }
@@ -251,6 +262,7 @@ impl Counters {
         ensures once { (B.history bus.new).accesses ≤ (B.history bus.old).accesses + counter_accesses self.old.tree.levels }
         ensures few { length tags.new.made ≤ length tags.old.made + counter_accesses self.old.tree.levels }
         ensures room { tags.old.room ≤ tags.new.room + counter_accesses self.old.tree.levels }
+        ensures no_rise { tags.new.room ≤ tags.old.room }
         ensures few_copies { length (cached_pages self.new) ≤ most_blocks }
         ensures new_copies { (other : ℕ) → Contains (cached_pages self.new) other → Contains (cached_pages self.old) other
             ⊎ ((other ≡ page) × CameFrom tags.old.made (B.history bus.old) (B.history bus.new) page) }
@@ -263,12 +275,18 @@ impl Counters {
         ensures stays { (other : ℕ) (copy : CachedNode) → other ≢ page → leaving self.old page ≢ Some other →
             cached_block self.old other ≡ Some copy → cached_block self.new other ≡ Some copy }
         ensures marked { (copy : CachedNode) → result ≢ Ok Spent → cached_block self.new page ≡ Some copy → OnOk result (copy.changed ≡ true) }
+        ensures unmarked { (copy : CachedNode) → result ≡ Ok Spent → cached_block self.new page ≡ Some copy → copy.changed ≡ true →
+            cached_block self.old page ≡ Some copy }
         ensures once_clean { LeavesClean self.old page →
             (B.history bus.new).accesses ≤ (B.history bus.old).accesses + path_accesses self.old.tree.levels }
+        ensures written { OnlyLeavingIsMade self.old page tags.old.made tags.new.made }
 
         ensures moves { Moves (B.history bus.old) tags.old (B.history bus.new) tags.new }
         ensures lines { SameLines (B.history bus.old) tags.old.made (B.history bus.new) tags.new.made }
         ensures moved { B.moved bus.old bus.new }
+        ensures slots { HoldsCounters (tags_of T.data_tag_of T.node_tag_of) self.old (B.history bus.old) tags.old →
+            tags.new.evidence ≡ None → SlotsAreTags (tags_of T.data_tag_of T.node_tag_of tags.old) self.old.tree.levels tags.old.made →
+            SlotsAreTags (tags_of T.data_tag_of T.node_tag_of tags.old) self.old.tree.levels tags.new.made }
         ensures made_blocks { NodesAreMade self.old.tree.levels tags.old.made (B.history bus.old).written →
             NodesAreMade self.old.tree.levels tags.new.made (B.history bus.new).written }
         ensures last_blocks { NodesHoldLast self.old.tree.levels tags.old.made (B.history bus.old).written →
@@ -301,6 +319,7 @@ impl Counters {
         ensures once { (B.history bus.new).accesses ≤ (B.history bus.old).accesses + counter_accesses self.old.tree.levels }
         ensures few { length tags.new.made ≤ length tags.old.made + counter_accesses self.old.tree.levels }
         ensures room { tags.old.room ≤ tags.new.room + counter_accesses self.old.tree.levels }
+        ensures no_rise { tags.new.room ≤ tags.old.room }
         ensures latest { OnOk result (IsLatest self.new.blocks page) }
         ensures copies { AreCopies self.new }
         ensures had { OnOk result ((bytes : List ℕ) → copy_at self.new.blocks page ≡ Some bytes →
@@ -316,8 +335,11 @@ impl Counters {
             cached_block self.new other ≡ cached_block self.old other }
         ensures clean { ¬ Contains (cached_pages self.old) page → (copy : CachedNode) →
             cached_block self.new page ≡ Some copy → copy.changed ≡ false }
+        ensures unmarked { (copy : CachedNode) → cached_block self.new page ≡ Some copy → copy.changed ≡ true →
+            cached_block self.old page ≡ Some copy }
         ensures once_clean { LeavesClean self.old page →
             (B.history bus.new).accesses ≤ (B.history bus.old).accesses + path_accesses self.old.tree.levels }
+        ensures written { OnlyLeavingIsMade self.old page tags.old.made tags.new.made }
         ensures moved { B.moved bus.old bus.new }
     {
         if self.blocks.touch(page) {
@@ -346,6 +368,7 @@ impl Counters {
         ensures once { (B.history bus.new).accesses ≤ (B.history bus.old).accesses + path_accesses self.old.tree.levels }
         ensures few { length tags.new.made ≤ length tags.old.made + path_accesses self.old.tree.levels }
         ensures room { tags.old.room ≤ tags.new.room + path_accesses self.old.tree.levels }
+        ensures no_rise { tags.new.room ≤ tags.old.room }
         ensures absent { way_at self.new.blocks page ≡ None }
         ensures room_for { OnOk result (HasRoom (set_at self.new.blocks page)) }
         ensures pages { last_node 0 page tags.new.made ≡ last_node 0 page tags.old.made }
@@ -353,6 +376,7 @@ impl Counters {
         ensures goes { (other : ℕ) → leaving self.old page ≡ Some other → OnOk result (cached_block self.new other ≡ None) }
         ensures stays { (other : ℕ) → leaving self.old page ≢ Some other → cached_block self.new other ≡ cached_block self.old other }
         ensures idle { LeavesClean self.old page → (B.history bus.new).accesses ≡ (B.history bus.old).accesses }
+        ensures written { OnlyLeavingIsMade self.old page tags.old.made tags.new.made }
         ensures moved { B.moved bus.old bus.new }
     {
         let Some(victim) = self.blocks.victim(page) else {
@@ -380,11 +404,14 @@ impl Counters {
         ensures once { (B.history bus.new).accesses ≤ (B.history bus.old).accesses + path_accesses self.old.tree.levels }
         ensures few { length tags.new.made ≤ length tags.old.made + path_accesses self.old.tree.levels }
         ensures room { tags.old.room ≤ tags.new.room + path_accesses self.old.tree.levels }
+        ensures no_rise { tags.new.room ≤ tags.old.room }
         ensures blocks { self.new.blocks ≡ self.old.blocks }
         ensures last { OnOk result (HoldsCounters (tags_of T.data_tag_of T.node_tag_of) self.new (B.history bus.new) tags.new →
             tags.new.evidence ≡ None → victim.now.copy ≡ page_block victim.now.place tags.new.made) }
         ensures others { (other : ℕ) → other ≢ victim.now.place → last_node 0 other tags.new.made ≡ last_node 0 other tags.old.made }
         ensures idle { victim.now.changed ≡ false → (B.history bus.new).accesses ≡ (B.history bus.old).accesses }
+        ensures written { (level_blocks 0 tags.new.made ≡ level_blocks 0 tags.old.made) ⊎ ((victim.now.changed ≡ true)
+            × (level_blocks 0 tags.new.made ≡ level_blocks 0 tags.old.made ++ (victim.now.place, victim.now.copy) ∷ [])) }
         ensures moved { B.moved bus.old bus.new }
     {
         if !victim.changed {

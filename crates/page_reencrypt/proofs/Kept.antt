@@ -7,7 +7,7 @@ use Rattle.sec_base.specs.declared.evidence.Evidence.{Evidence}
 use Rattle.sec_base.specs.declared.message.Message.{Message}
 use Rattle.sec_base.specs.declared.stop.MemStop.{MemStop}
 use Rattle.sec_base.specs.declared.stop.MemStop.TheVariants.{Tampered, Spent, NoMemory}
-use Rattle.sec_base.specs.Geometry.{line_count, page_count}
+use Rattle.sec_base.specs.Geometry.{line_count, page_count, page_of}
 use Rattle.bus_model.specs.BusHistory.{BusHistory}
 use Rattle.tag_engine.specs.TagEngine.{tags_of}
 use Rattle.checked_bus.specs.Steps.{IsAccounted, stop_of}
@@ -16,10 +16,11 @@ use Rattle.bonsai_tree.specs.Node.{CachedNode, page_block}
 use Rattle.bonsai_tree.specs.Tree.{IsTree}
 use Rattle.counter_cache.specs.Counters.{CountersView, cached_block, counters_in}
 use Rattle.page_reencrypt.specs.Consistency.{IsConsistent}
-use Rattle.page_reencrypt.specs.Contents.{HoldsLast, counter_in, never_written}
+use Rattle.page_reencrypt.specs.Contents.{HoldsLast, NodesSay, counter_in, never_written}
 use Rattle.page_reencrypt.specs.Outside.{AreConsistent, CountersFit, CountersSay, HaveLast, HaveLastNodes, MemoryTerms, OutsideView, outside_of, terms_of}
-use Rattle.page_reencrypt.specs.SealedLines.{AreProtected, CountersRise, FitsTogether, IsOfPage, IsProtected, SealedLinesView}
+use Rattle.page_reencrypt.specs.SealedLines.{AreOfPages, AreProtected, CopiesCame, CountersRise, FitsTogether, IsOfPage, IsProtected, SealedLinesView}
 use Rattle.page_reencrypt.specs.Stops.{lasting_stop}
+use Rattle.page_reencrypt.proofs.LineReads.{page_inside}
 use Rattle.page_reencrypt.proofs.RisingPairs.{counter_fresh, counter_limited}
 use Rattle.page_reencrypt.proofs.Stops.{going_not_memory, going_not_tampered, other_stop}
 use Rattle.page_reencrypt.proofs.Unmade.{same_tags}
@@ -64,6 +65,15 @@ module _ (before : Option MemStop) (going : lasting_stop before ≡ None) where
   none_before tag_of used made history evidence was =
       other_stop tag_of used made history before None evidence (λ place is. going_not_tampered before place going is) (λ place is. cc) was
 
+-- The copies that came on a call on a line of the memory are of a page of the memory.
+pub pages_kept : (levels line : ℕ) (old new : BusHistory) (made : List Message) (counters counters' : CountersView) → line < line_count levels →
+    CopiesCame (page_of line) old made counters new counters' → AreOfPages levels counters → AreOfPages levels counters'
+pages_kept levels line old new made counters counters' inside came were = λ page cached.
+    elim (came.blocks page cached) [
+      | inl had ↦ were page had
+      | inr own ↦ subst (λ (p : ℕ). p < page_count levels) (sym own.0) (page_inside levels line inside)
+    ]
+
 -- All of it fits together, where the counters fit and say the entries.
 together_by : (tag_of : Message → List ℕ) (levels limit : ℕ) (counters : CountersView) (history : BusHistory) (made : List Message) (used : List (ℕ × Counter))
     (stopped : Option MemStop) → IsConsistent tag_of levels history made used → HoldsLast tag_of (line_count levels) made history.written →
@@ -97,24 +107,29 @@ module _ {B T : Type 0} (d n : T → List ℕ → List ℕ) (history : B → Bus
 
   -- what holds between calls, by the tags and the levels
   abbrev Holds : OutsideView B T → CountersView → Option MemStop → (Message → List ℕ) → ℕ → Type 0
-  Holds new counters stopped tag_of levels = IsProtected tag_of levels (history new.bus) new.engine.made new.pads.used stopped
+  Holds new counters stopped tag_of levels = AreOfPages levels counters
+      × IsProtected tag_of levels (history new.bus) new.engine.made new.pads.used stopped
       × (new.engine.evidence ≡ None → CountersRise levels m.limit new.pads.used stopped)
+      × (new.engine.evidence ≡ None → NodesSay tag_of levels new.pads.used new.engine.made)
       × (lasting_stop stopped ≡ None → new.engine.evidence ≡ None → FitsTogether tag_of levels counters (history new.bus) new.engine.made new.pads.used)
 
   pub protected_after : (new : OutsideView B T) (counters : CountersView) (stopped : Option MemStop) → new.engine.tagger ≡ m.engine.tagger →
-      new.engine.levels ≡ m.engine.levels → counters.tree.levels ≡ m.engine.levels → AreConsistent terms new → (stopped ≢ Some NoMemory → HaveLast terms new) →
+      new.engine.levels ≡ m.engine.levels → counters.tree.levels ≡ m.engine.levels → AreOfPages m.engine.levels counters → AreConsistent terms new → (stopped ≢ Some NoMemory → HaveLast terms new) →
       (stopped ≢ Some NoMemory → HaveLastNodes terms new) → (new.engine.evidence ≡ None → CountersRise m.engine.levels m.limit new.pads.used stopped) →
+      (new.engine.evidence ≡ None → NodesSay terms.tag_of m.engine.levels new.pads.used new.engine.made) →
       (lasting_stop stopped ≡ None → CountersFit terms new counters) → (lasting_stop stopped ≡ None → CountersSay terms new counters) →
       AreProtected d n history
       (record { bus = new.bus; engine = new.engine; pads = new.pads; counters = counters; limit = m.limit; stopped = stopped })
-  protected_after new counters stopped tagger levels tree_levels kept last nodes rise fits say =
+  protected_after new counters stopped tagger levels tree_levels pages kept last nodes rise said fits say =
       let here : Holds new counters stopped terms.tag_of m.engine.levels = (
+        pages,
         record { consistent = kept; holds_last = last; nodes_hold_last = nodes },
         rise,
+        said,
         λ going quiet. together_by terms.tag_of m.engine.levels m.limit counters (history new.bus) new.engine.made new.pads.used stopped kept
             (last (going_not_memory stopped going)) (rise quiet) ((fits going).tree.fits quiet) ((fits going).clean quiet) (say going quiet),
       ) in
       let there : Holds new counters stopped (tags_of d n new.engine) new.engine.levels =
       subst (λ (l : ℕ). Holds new counters stopped (tags_of d n new.engine) l) (sym levels)
       (subst (λ (t : Message → List ℕ). Holds new counters stopped t m.engine.levels) (sym (same_tags d n m.engine new.engine tagger levels)) here) in
-      record { tree_levels = tree_levels ∙ sym levels; always = there.0; rise = there.1; fits = there.2 }
+      record { tree_levels = tree_levels ∙ sym levels; pages = there.0; always = there.1; rise = there.2; nodes = there.3; fits = there.4 }

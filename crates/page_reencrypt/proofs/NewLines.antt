@@ -1,5 +1,5 @@
 -- A memory of which no line was written.
-use Rattle.std.proofs.Common.{◌≡◌, ℕ, ◌<◌, inl, List, [], slice_index, None, refl, ap, sym, ◌∙◌, subst, arith}
+use Rattle.std.proofs.Common.{◌≡◌, ℕ, ◌<◌, inl, List, [], slice_index, None, Contains, refl, ap, sym, ◌∙◌, subst, arith}
 use Rattle.std.proofs.lemmas.List.{get_or-replicate}
 use Rattle.sec_base.specs.Geometry.{IsNode, line_count, page_count}
 use Rattle.sec_base.specs.LastMessage.{last_at, data_pairs}
@@ -10,15 +10,16 @@ use Rattle.bus_model.specs.BusHistory.{BusHistory, NothingWritten}
 use Rattle.tag_engine.specs.TagEngine.{TagEngineView, new_engine, tags_of}
 use Rattle.pad_stream.specs.PadEngine.{PadEngineView, new_pads}
 use Rattle.checked_bus.specs.Steps.{Moves as StepMoves, SameLines}
-use Rattle.checked_bus.proofs.Steps.{counted_not}
 use Rattle.split_counter.specs.CounterBlock.{CounterBlockView, counter_of, new_block, place_of}
-use Rattle.bonsai_tree.specs.Tree.{IsTree, NodesAreMade, NodesHoldLast}
-use Rattle.counter_cache.specs.Counters.{CountersView, HoldsCounters, counters_in}
+use Rattle.bonsai_tree.specs.Boot.{boot_messages}
+use Rattle.bonsai_tree.specs.Tree.{IsTree, NodesAreMade, NodesHoldLast, SlotsAreTags}
+use Rattle.counter_cache.specs.Counters.{CountersView, HoldsCounters, cached_pages, counters_in}
 use Rattle.page_reencrypt.specs.Consistency.{IsConsistent}
-use Rattle.page_reencrypt.specs.Contents.{HoldsLast}
-use Rattle.page_reencrypt.specs.SealedLines.{AreProtected, CountersRise, IsOfPage, IsUnbooted, SealedLinesView}
+use Rattle.page_reencrypt.specs.Contents.{HoldsLast, NodesSay}
+use Rattle.page_reencrypt.specs.SealedLines.{AreOfPages, AreProtected, CountersRise, IsOfPage, SealedLinesView}
 use Rattle.page_reencrypt.proofs.Kept.{protected_after}
 use Rattle.page_reencrypt.proofs.NodeSteps.{lines_last, nodes_consistent}
+use Rattle.page_reencrypt.proofs.SayingNodes.{boot_says}
 use Rattle.page_reencrypt.proofs.Unmade.{same_tags}
 
 no_pairs : data_pairs [] ≡ []
@@ -66,16 +67,6 @@ empty_nodes levels history same empty = record {
   holds = λ level index inside. inl (empty.zeros (node_place level index) (subst (λ (l : ℕ). IsNode l level index) (sym same) inside));
 }
 
--- A boot that was refused before it wrote anything.
-pub unbooted_not : (levels : ℕ) (history : BusHistory) → history.levels ≡ levels → NothingWritten history → IsUnbooted levels history history
-unbooted_not levels history same empty = record {
-  wrote = record { levels = refl; lies = refl; lie = refl; reads = refl; lines = λ line. refl; accesses = omega arith };
-  made = [];
-  untagged = no_pairs;
-  writes = record { writes = 0; counted = counted_not history; at_most = omega arith; at_least = omega arith };
-  nodes = empty_nodes levels history same empty;
-}
-
 module _ {B T : Type 0} (d n : T → List ℕ → List ℕ) (history : B → BusHistory) (bus_moved : B → B → Type 0) (first bus : B) (tagger : T) (key : List ℕ) (levels limit : ℕ)
     (start engine : TagEngineView T) (pads : PadEngineView) (counters : CountersView) (new : start ≡ new_engine tagger levels) (unused : pads ≡ new_pads key)
     (same : (history first).levels ≡ levels) (empty : NothingWritten (history first))
@@ -83,7 +74,9 @@ module _ {B T : Type 0} (d n : T → List ℕ → List ℕ) (history : B → Bus
     (made_blocks : NodesAreMade levels engine.made (history bus).written) (stored : NodesHoldLast levels engine.made (history bus).written)
     (quiet : engine.evidence ≡ start.evidence)
     (holds : HoldsCounters (tags_of d n) counters (history bus) engine)
-    (zeros : (page : ℕ) → page < page_count levels → counters_in counters engine.made page ≡ new_block) where
+    (zeros : (page : ℕ) → page < page_count levels → counters_in counters engine.made page ≡ new_block)
+    (uncached : cached_pages counters ≡ []) (slots : SlotsAreTags (tags_of d n start) levels engine.made)
+    (made_is : engine.made ≡ boot_messages (tags_of d n start) levels) where
   abbrev begun : SealedLinesView B T
   begun = record { bus = first; engine = start; pads = pads; counters = counters; limit = limit; stopped = None }
 
@@ -130,9 +123,21 @@ module _ {B T : Type 0} (d n : T → List ℕ → List ℕ) (history : B → Bus
       subst (λ (u : List (ℕ × Counter)). IsOfPage u page (counters_in counters engine.made page)) (sym no_entries)
       (new_says (counters_in counters engine.made page) page (zeros page (subst (λ (l : ℕ). page < page_count l) levels_are inside)))
 
+  no_pages : AreOfPages start.levels counters
+  no_pages = λ page cached.
+      let listed : Contains [] page = subst (λ (pages : List ℕ). Contains pages page) uncached cached in
+      absurd (omega (arith, listed.1))
+
+  now_said : NodesSay tag_of start.levels pads.used engine.made
+  now_said =
+      subst (λ (l : ℕ). NodesSay tag_of l pads.used engine.made) (sym levels_are)
+      (record { slots = slots; blocks = boot_says tag_of levels pads.used engine.made made_is })
+
   pub boot_protected : AreProtected d n history (record { bus = bus; engine = engine; pads = pads; counters = counters; limit = limit; stopped = None })
   boot_protected =
-      protected_after d n history bus_moved begun (record { bus = bus; engine = engine; pads = pads }) counters None moves.tagger moves.levels (tree_levels ∙ sym levels_are) now_consistent
+      protected_after d n history bus_moved begun (record { bus = bus; engine = engine; pads = pads }) counters None moves.tagger moves.levels (tree_levels ∙ sym levels_are)
+      no_pages now_consistent
       (λ goes_on. now_last) (λ goes_on. subst (λ (l : ℕ). NodesHoldLast l engine.made (history bus).written) (sym levels_are) stored)
       (λ still. subst (λ (u : List (ℕ × Counter)). CountersRise start.levels limit u None) (sym no_entries) (new_rise start.levels limit))
+      (λ still. now_said)
       (λ goes_on. record { tree = record { fits = λ still. now_tree }; clean = holds.clean }) (λ goes_on still. now_says)

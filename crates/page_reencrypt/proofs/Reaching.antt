@@ -27,13 +27,14 @@ use Rattle.bonsai_tree.proofs.Climbs.{above_none, read_up_on}
 use Rattle.counter_cache.specs.Counters.{CountersView, SameCounters, cached_pages, counter_accesses, counters_in}
 use Rattle.checked_bus.proofs.Writes.{writes_on}
 use Rattle.page_reencrypt.specs.Consistency.{IsConsistent}
-use Rattle.page_reencrypt.specs.Contents.{HoldsLast, bytes_of, counter_in, line_bytes, lines_encrypted}
-use Rattle.page_reencrypt.specs.Outside.{AreAccounted, AreConsistent, AreSealedInOrder, CountersFit, CountersSay, HaveLast, HaveLastNodes, HaveRisen, IsNodeStep, IsWrite, MemoryTerms, OutsideView, ShowsLies}
+use Rattle.page_reencrypt.specs.Contents.{HoldsLast, NodesSay, bytes_of, counter_in, line_bytes, lines_encrypted}
+use Rattle.page_reencrypt.specs.Outside.{AreAccounted, AreConsistent, AreSealedInOrder, CountersFit, CountersSay, HaveLast, HaveLastNodes, HaveRisen, IsNodeStep, IsWrite, MemoryTerms, NodesSayStill, OutsideView, ShowsLies}
 use Rattle.page_reencrypt.specs.SealedLines.{AreReread, CopiesCame}
 use Rattle.page_reencrypt.specs.Stops.{lasting_stop}
 use Rattle.page_reencrypt.proofs.LineReads.{quiet_before}
 use Rattle.page_reencrypt.proofs.NodeSteps.{same_last_data}
 use Rattle.page_reencrypt.proofs.Nodes.{counters_same, fits_same, nodes_last, not_node}
+use Rattle.page_reencrypt.proofs.SayingNodes.{say_on}
 use Rattle.page_reencrypt.proofs.Sealing.{listed_not}
 use Rattle.page_reencrypt.proofs.Stops.{other_stop}
 
@@ -108,6 +109,7 @@ module _ {B T : Type 0} (terms : MemoryTerms B) where
     pub fits : lasting_stop stop ≡ None → CountersFit terms new counters'
     pub accounted : AreAccounted terms old None → AreAccounted terms new stop
     pub shows : ShowsLies terms old new
+    pub nodes : NodesSayStill terms old new
 
   pub node_step_on : ((first second third : B) → terms.moved first second → terms.moved second third → terms.moved first third) →
       (first second third : OutsideView B T) (stop : Option MemStop) → IsNodeStep terms first second None → IsNodeStep terms second third stop →
@@ -163,6 +165,7 @@ module _ {B T : Type 0} (terms : MemoryTerms B) where
     fits = b.fits;
     accounted = λ was. b.accounted (a.accounted was);
     shows = shows_on first second third a.node.step b.node.step a.shows b.shows;
+    nodes = λ quiet was. b.nodes quiet (a.nodes (quiet_before second.engine.evidence third.engine.evidence b.node.step.evidence quiet) was);
   }
 
   -- memory was taken, or some of it
@@ -202,6 +205,7 @@ module _ {B T : Type 0} (terms : MemoryTerms B) where
             subst (λ (u : List (ℕ × Counter)). IsAccounted terms.tag_of u old.engine.made (terms.history old.bus) stop old.engine.evidence) (sym used)
             (other_stop terms.tag_of old.pads.used old.engine.made (terms.history old.bus) None stop old.engine.evidence (λ place is. cc) untampered was);
         shows = λ quiet. inl quiet;
+        nodes = λ quiet was. subst (λ (u : List (ℕ × Counter)). NodesSay terms.tag_of terms.levels u old.engine.made) (sym used) was;
       })
 
   -- counters were counted up on the chip
@@ -248,6 +252,9 @@ module _ {B T : Type 0} (terms : MemoryTerms B) where
             (subst (λ (e : TagEngineView T). IsAccounted terms.tag_of new.pads.used e.made (terms.history old.bus) None e.evidence) (sym engine)
             (subst (λ (u : List (ℕ × Counter)). IsAccounted terms.tag_of u old.engine.made (terms.history old.bus) None old.engine.evidence) (sym used) was));
         shows = λ quiet. inl (ap (λ (e : TagEngineView T). e.evidence) engine ∙ quiet);
+        nodes = λ quiet was.
+            subst (NodesSay terms.tag_of terms.levels new.pads.used) (sym made)
+            (subst (λ (u : List (ℕ × Counter)). NodesSay terms.tag_of terms.levels u old.engine.made) (sym used) was);
       }
 
   -- where it stands at the same messages and entries, it stopped as spent
@@ -272,6 +279,7 @@ module _ {B T : Type 0} (terms : MemoryTerms B) where
         other_stop terms.tag_of new.pads.used new.engine.made (terms.history new.bus) None (Some (Spent page)) new.engine.evidence (λ place is. cc) (λ place is. cc)
         (is.accounted was);
     shows = is.shows;
+    nodes = is.nodes;
   }
 
   module _ (old : OutsideView B T) (counters : CountersView) (new : OutsideView B T) (counters' : CountersView) (stop : Option MemStop)
@@ -334,6 +342,7 @@ module _ {B T : Type 0} (terms : MemoryTerms B) where
       copies = copies;
       accounted = reached.accounted;
       shows = reached.shows;
+      nodes = reached.nodes;
       lied = λ place is quiet. (tampered place is).1 quiet;
       tampered = λ place is. inl (tampered place is).0;
       failed = λ other is. not_node terms.levels (page_of line) other (tampered (line_place other) is).0;
@@ -394,6 +403,18 @@ module _ {B T : Type 0} (terms : MemoryTerms B) where
     late_nodes =
         nodes_last terms.levels mid.engine.made new.engine.made (terms.history mid.bus).written (terms.history new.bus).written
         (reached.node.nodes_hold_last (λ is. cc)) sealed.sealed.nodes.written sealed.sealed.nodes.last
+
+    -- messages of lines alone were made since
+    late_nodes_say : NodesSayStill terms old new
+    late_nodes_say quiet was =
+        let lines_alone : length sealed.sealed.step.more ≤ length (data_pairs sealed.sealed.step.more) =
+        let pairs = ap length sealed.sealed.pairs in
+        let mapped = length-map {A = ℕ} {B = ℕ × Counter} in
+        omega (arith, pairs, mapped, sealed.sealed.as_many) in
+        subst (λ (u : List (ℕ × Counter)). NodesSay terms.tag_of terms.levels u new.engine.made) (sym sealed.sealed.entries)
+        (subst (NodesSay terms.tag_of terms.levels (mid.pads.used ++ map (λ at. (at, counter)) part)) (sym sealed.sealed.step.made)
+        (say_on terms.tag_of terms.levels mid.pads.used (map (λ at. (at, counter)) part) mid.engine.made sealed.sealed.step.more lines_alone
+        (reached.nodes (late_quiet quiet) was)))
 
     late_reread : new.engine.evidence ≡ None → AreReread line part old.pads.used (terms.history old.bus) (terms.history new.bus)
     late_reread quiet = λ other listed differs.
@@ -462,6 +483,7 @@ module _ {B T : Type 0} (terms : MemoryTerms B) where
           sealed.sealed.step.reads;
       accounted = λ was. sealed.sealed.accounted (reached.accounted was);
       shows = shows_on old mid new reached.node.step sealed.sealed.step reached.shows sealed.sealed.shows;
+      nodes = late_nodes_say;
       lied = λ place is quiet.
           elim (reached.shows quiet) [
             | inl still ↦ let rose = sealed.sealed.lied place is still in omega (arith, rose, reached.node.step.lies)

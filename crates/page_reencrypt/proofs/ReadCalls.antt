@@ -25,7 +25,7 @@ use Rattle.page_reencrypt.specs.LineMoves.{ReadMoved}
 use Rattle.page_reencrypt.specs.Outside.{CountersSay, IsLineRead, MemoryTerms, OutsideView, outside_of, terms_of}
 use Rattle.page_reencrypt.specs.SealedLines.{AreProtected, CountersRise, IsUnsealed, SealedLinesView, contents}
 use Rattle.page_reencrypt.specs.Stops.{lasting_stop}
-use Rattle.page_reencrypt.proofs.Kept.{err_stop, none_before, protected_after, stop_accounted, stop_lasts, stop_memory, stop_spent, stop_unwritten}
+use Rattle.page_reencrypt.proofs.Kept.{err_stop, none_before, pages_kept, protected_after, stop_accounted, stop_lasts, stop_memory, stop_spent, stop_unwritten}
 use Rattle.page_reencrypt.proofs.LineReads.{quiet_before}
 use Rattle.page_reencrypt.proofs.Moves.{moves_not}
 use Rattle.page_reencrypt.proofs.NextWrites.{stopped_by}
@@ -134,8 +134,10 @@ module _ {B T : Type 0} (d n : T → List ℕ → List ℕ) (history : B → Bus
   -- what held holds after it
   pub read_kept : AreProtected d n history after
   read_kept =
-      protected_after d n history bus_moved m new counters stopped r.step.tagger r.step.levels (r.levels ∙ kept.tree_levels) r.consistent (λ goes_on. r.holds_last)
+      protected_after d n history bus_moved m new counters stopped r.step.tagger r.step.levels (r.levels ∙ kept.tree_levels)
+      (pages_kept m.engine.levels line (history m.bus) (history new.bus) m.engine.made m.counters counters inside r.copies kept.pages) r.consistent (λ goes_on. r.holds_last)
       (λ goes_on. r.nodes_hold_last (stop_memory m.stopped going (stop_of result) (λ is. goes_on (is_stop ∙ is)))) read_rises
+      (λ quiet. r.nodes quiet (kept.nodes (was_quiet quiet)))
       (λ goes_on. r.fits (not_stopped goes_on)) read_says
 
   pub read_contents : contents after ≡ contents m

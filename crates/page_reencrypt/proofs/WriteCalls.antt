@@ -30,7 +30,7 @@ use Rattle.page_reencrypt.specs.Outside.{IsWrite, OutsideView, outside_of, terms
 use Rattle.page_reencrypt.specs.SealedLines.{AreProtected, AreReread, AreSealedUnder, CountersRise, HadMemory, IsSealedAnew, IsSealedInPart, IsTamperedInWrite, IsUnsealed, Moves, SameCounters, SealedLinesView, contents, lines_of_write}
 use Rattle.page_reencrypt.specs.Stops.{lasting_stop}
 use Rattle.page_reencrypt.proofs.Entries.{encrypted_itself, encrypted_page, length-page_lines}
-use Rattle.page_reencrypt.proofs.Kept.{err_stop, none_before, protected_after, stop_accounted, stop_going, stop_lasts, stop_memory, stop_spent, stop_unwritten}
+use Rattle.page_reencrypt.proofs.Kept.{err_stop, none_before, pages_kept, protected_after, stop_accounted, stop_going, stop_lasts, stop_memory, stop_spent, stop_unwritten}
 use Rattle.page_reencrypt.proofs.LineReads.{quiet_before}
 use Rattle.page_reencrypt.proofs.Moves.{moves_not}
 use Rattle.page_reencrypt.proofs.Nodes.{not_node}
@@ -126,8 +126,10 @@ module _ {B T : Type 0} (d n : T → List ℕ → List ℕ) (history : B → Bus
   -- what held holds after it
   pub write_kept : AreProtected d n history after
   write_kept =
-      protected_after d n history bus_moved m new counters stopped w.step.tagger w.step.levels (w.levels ∙ kept.tree_levels) w.consistent (λ goes_on. w.holds_last (had_memory goes_on))
-      (λ goes_on. w.nodes_hold_last (had_memory goes_on)) write_rises (λ goes_on. w.fits (still_going goes_on)) (λ goes_on. w.current (still_going goes_on))
+      protected_after d n history bus_moved m new counters stopped w.step.tagger w.step.levels (w.levels ∙ kept.tree_levels)
+      (pages_kept m.engine.levels line (history m.bus) (history new.bus) m.engine.made m.counters counters inside w.copies kept.pages) w.consistent (λ goes_on. w.holds_last (had_memory goes_on))
+      (λ goes_on. w.nodes_hold_last (had_memory goes_on)) write_rises
+      (λ quiet. w.nodes quiet (kept.nodes (was_quiet quiet))) (λ goes_on. w.fits (still_going goes_on)) (λ goes_on. w.current (still_going goes_on))
 
   contents_by : contents after ≡ contents_of m.pads.key (line_count m.engine.levels) new.engine.made
   contents_by =

@@ -5,7 +5,7 @@ use Rattle.sec_base.specs.declared.place.Place.{Place}
 use Rattle.sec_base.specs.declared.place.Place.TheVariants.{Line as line_place}
 use Rattle.sec_base.specs.declared.counter.Counter.{Counter}
 use Rattle.sec_base.specs.declared.message.Message.{Message}
-use Rattle.sec_base.specs.declared.message.Message.TheVariants.{Line}
+use Rattle.sec_base.specs.declared.message.Message.TheVariants.{Line, Node}
 use Rattle.sec_base.specs.LastMessage.{last_data, last_pair}
 use Rattle.sec_base.specs.Geometry.{page_of}
 use Rattle.sec_base.specs.declared.geometry.TheConstants.{LINES_PER_PAGE}
@@ -13,7 +13,8 @@ use Rattle.sec_base.specs.Place.{zeros_of}
 use Rattle.sec_base.specs.Lines.{joined_lines}
 use Rattle.pad_stream.specs.Pad.{cipher_of}
 use Rattle.checked_bus.specs.SealedLine.{sealed_line}
-use Rattle.split_counter.specs.CounterBlock.{last_counter, next_counter}
+use Rattle.split_counter.specs.CounterBlock.{block_of, counter_of, last_counter, next_counter, place_of}
+use Rattle.bonsai_tree.specs.Tree.{SlotsAreTags}
 
 -- the bytes of a line, by its last message: its ciphertext, decrypted under its counter; zeros where it has none
 abbrev pub bytes_of : List ℕ → ℕ → Option (Counter × List ℕ) → List ℕ
@@ -71,6 +72,18 @@ pub record AreWithin (limit : ℕ) (used : List (ℕ × Counter)) : Type 0 where
   pub started : (line : ℕ) (counter : Counter) → Contains used (line, counter) → counter ≢ never_written
   pub limited : (line : ℕ) (counter : Counter) → Contains used (line, counter) → counter.page ≤ limit
   pub seven_bits : (line : ℕ) (counter : Counter) → Contains used (line, counter) → counter.line < 128
+
+-- A counter block that was made says of each line of its page the counter of a line that was never written, or one that the
+-- line was encrypted under.
+pub record BlocksSayEntries (used : List (ℕ × Counter)) (made : List Message) : Type 0 where
+  pub said : (page line : ℕ) (block : List ℕ) → Contains made (Node 0 page block) → page_of line ≡ page →
+      (counter_of (place_of line) (block_of block) ≡ never_written) ⊎ Contains used (line, counter_of (place_of line) (block_of block))
+
+-- What was made of nodes says tags and counters alone: each slot the tag of a message of that child, and each counter block
+-- counters of its lines.
+pub record NodesSay (tag_of : Message → List ℕ) (levels : ℕ) (used : List (ℕ × Counter)) (made : List Message) : Type 0 where
+  pub slots : SlotsAreTags tag_of levels made
+  pub blocks : BlocksSayEntries used made
 
 -- some line of the page has the last counter that the limit allows
 pub record IsSpent (lines limit : ℕ) (used : List (ℕ × Counter)) (page : ℕ) : Type 0 where

@@ -26,7 +26,7 @@ use Rattle.checked_bus.specs.Steps.{unwritten_in}
 use Rattle.bonsai_tree.specs.Tree.{IsFetchPlace, NodesHoldLast, PathWasRead}
 use Rattle.counter_cache.specs.Counters.{CountersView, HoldsCounters, SameCounters, cached_pages, counter_accesses, counters_in}
 use Rattle.page_reencrypt.specs.Consistency.{IsConsistent}
-use Rattle.page_reencrypt.specs.Contents.{HoldsLast, counter_in, line_bytes, lines_encrypted, never_written}
+use Rattle.page_reencrypt.specs.Contents.{HoldsLast, NodesSay, counter_in, line_bytes, lines_encrypted, never_written}
 use Rattle.page_reencrypt.specs.SealedLines.{AreReread, CopiesCame, IsBeside, IsOfPage, IsReadByCounters, IsReadUnder, SealedLinesView}
 use Rattle.page_reencrypt.specs.Stops.{lasting_stop}
 
@@ -91,6 +91,11 @@ module _ {B T : Type 0} (terms : MemoryTerms B) where
   CountersSay outside counters = outside.engine.evidence ≡ None → (page : ℕ) → page < page_count terms.levels →
       IsOfPage outside.pads.used page (counters_in counters outside.engine.made page)
 
+  -- there is evidence, or what was made of nodes says tags and counters alone still
+  abbrev pub NodesSayStill : OutsideView B T → OutsideView B T → Type 0
+  NodesSayStill old new = new.engine.evidence ≡ None → NodesSay terms.tag_of terms.levels old.pads.used old.engine.made →
+      NodesSay terms.tag_of terms.levels new.pads.used new.engine.made
+
   -- the false answers are accounted for, where a call stopped so
   abbrev pub AreAccounted : OutsideView B T → Option MemStop → Type 0
   AreAccounted outside stop =
@@ -137,6 +142,7 @@ module _ {B T : Type 0} (terms : MemoryTerms B) where
     pub fits : stop_of result ≡ None → CountersFit new counters'
     pub same : new.engine.evidence ≡ None → SameCounters counters old.engine.made counters' new.engine.made
     pub copies : CopiesCame (page_of line) (terms.history old.bus) old.engine.made counters (terms.history new.bus) counters'
+    pub nodes : NodesSayStill old new
     pub value : new.engine.evidence ≡ None → IfOk result (λ bytes. bytes ≡ line_bytes old.pads.key old.engine.made line)
     -- what was read of the bus
     pub path : stop_of result ≡ None → ¬ Contains (cached_pages counters) (page_of line) →
@@ -244,6 +250,7 @@ module _ {B T : Type 0} (terms : MemoryTerms B) where
     -- the counters fit what was used, unless a stop lasts
     pub fits : lasting_stop stop ≡ None → CountersFit new counters'
     pub current : lasting_stop stop ≡ None → CountersSay new counters'
+    pub nodes : NodesSayStill old new
     -- a counter changes only where there was memory for the entries and the messages of a whole page
     pub reserved : ((count ≡ 0) × (new.engine.evidence ≡ None → SameCounters counters old.engine.made counters' new.engine.made))
         ⊎ ((length old.pads.used + LINES_PER_PAGE ≤ length new.pads.used + new.pads.room)

@@ -22,7 +22,7 @@ use Rattle.pad_stream.specs.Pads.{AreRising, of_lines}
 use Rattle.checked_bus.specs.Accesses.{AreCounted}
 use Rattle.checked_bus.specs.Steps.{IsAccounted, Moves as StepMoves}
 use Rattle.split_counter.specs.CounterBlock.{CounterBlockView, counter_of, new_block, next_counter, place_of}
-use Rattle.bonsai_tree.specs.Boot.{boot_messages, node_count}
+use Rattle.bonsai_tree.specs.Boot.{AreOfBoot, NodesAreBooted, boot_messages, node_count}
 use Rattle.checked_bus.specs.Accesses.{WritesMessages}
 use Rattle.checked_bus.specs.Steps.{unwritten_in}
 use Rattle.bonsai_tree.specs.Node.{CachedNode, page_block}
@@ -30,7 +30,7 @@ use Rattle.bonsai_tree.specs.NodeCache.{most_copies}
 use Rattle.bonsai_tree.specs.Tree.{IsFetchPlace, IsTree, NodesAreMade, NodesHoldLast, OnlyWroteNodes, PathWasRead, WasReadUp, cached_node, cached_nodes}
 use Rattle.counter_cache.specs.Counters.{AreHad, CameFrom, CountersView, cached_block, cached_pages, counters_in, most_blocks}
 use Rattle.page_reencrypt.specs.Consistency.{IsConsistent}
-use Rattle.page_reencrypt.specs.Contents.{ArePaged, AreUnskipped, AreWithin, HoldsLast, IsSpent, contents_of, counter_in, lines_encrypted, never_written}
+use Rattle.page_reencrypt.specs.Contents.{ArePaged, AreUnskipped, AreWithin, HoldsLast, IsSpent, NodesSay, contents_of, counter_in, lines_encrypted, never_written}
 use Rattle.page_reencrypt.specs.Stops.{lasting_stop}
 
 -- the bus, the tag engine, the pads, the counters of the pages, how high a page counter may rise, and the stop that was
@@ -129,12 +129,19 @@ abbrev pub LinesFit : {B T : Type 0} → (T → List ℕ → List ℕ) → (T �
 LinesFit data_tag_of node_tag_of history lines =
     FitsTogether (tag_in data_tag_of node_tag_of lines) (levels lines) lines.counters (history lines.bus) (made lines) (used lines)
 
+-- only pages of the memory have a copy of their counter block
+abbrev pub AreOfPages : ℕ → CountersView → Type 0
+AreOfPages levels counters = (page : ℕ) → Contains (cached_pages counters) page → page < page_count levels
+
 -- What holds between calls: at all times, where there is no evidence, and where there is also no stop that lasts.
 pub record AreProtected {B T : Type 0} (data_tag_of node_tag_of : T → List ℕ → List ℕ) (history : B → BusHistory) (lines : SealedLinesView B T) : Type 0 where
   -- the tree over the counters is that of the memory
   pub tree_levels : lines.counters.tree.levels ≡ levels lines
+  pub pages : AreOfPages (levels lines) lines.counters
   pub always : IsProtected (tag_in data_tag_of node_tag_of lines) (levels lines) (history lines.bus) (made lines) (used lines) lines.stopped
   pub rise : IsQuiet lines → CountersRise (levels lines) lines.limit (used lines) lines.stopped
+  -- what was made of nodes says tags of its children and counters of its lines, and nothing else
+  pub nodes : IsQuiet lines → NodesSay (tag_in data_tag_of node_tag_of lines) (levels lines) (used lines) (made lines)
   pub fits : lasting_stop lines.stopped ≡ None → IsQuiet lines → LinesFit data_tag_of node_tag_of history lines
 
 -- the false answers of the bus are accounted for
@@ -142,13 +149,16 @@ abbrev pub AccountsForAll : {B T : Type 0} → (TagEngineView T → Message → 
 AccountsForAll tags history lines =
     IsAccounted (tags lines.engine) (used lines) (made lines) (history lines.bus) lines.stopped (evidence lines)
 
--- What a boot that was refused leaves of a bus: nodes alone were written, each with a message that was made.
-pub record IsUnbooted (levels : ℕ) (old new : BusHistory) : Type 0 where
+-- What a boot that was refused leaves of a bus: nodes alone were written, each with a message that was made, which is that of
+-- boot; so each node's place holds zeros or its block of boot.
+pub record IsUnbooted (tag_of : Message → List ℕ) (levels : ℕ) (old new : BusHistory) : Type 0 where
   pub wrote : OnlyWroteNodes old new
   pub made : List Message
   pub untagged : data_pairs made ≡ []
+  pub of_boot : AreOfBoot tag_of levels made
   pub writes : WritesMessages old new (length made) 1
   pub nodes : NodesAreMade levels made new.written
+  pub booted : NodesAreBooted tag_of levels new.written
 
 -- A memory over this bus of which no line was written: each node was made and written once, and no place was read.
 pub record AreNew {B T : Type 0} (history : B → BusHistory) (bus_moved : B → B → Type 0) (tags : TagEngineView T → Message → List ℕ)

@@ -27,8 +27,8 @@ ghost use Rattle.split_counter.specs.declared.bumped.Bumped.TheVariants.{Line as
 ghost use Rattle.bonsai_tree.specs.Tree.{IsFetchPlace, PathWasRead};
 ghost use Rattle.counter_cache.specs.Counters.{AreHad, SameCounters, cached_pages, counter_accesses, counters_in};
 ghost use Rattle.page_reencrypt.specs.Contents.{line_bytes, page_lines};
-ghost use Rattle.page_reencrypt.specs.Outside.{AreAccounted, AreConsistent, AreSealedInOrder, CountersFit, DiffersInRoom, HasCounter, HaveLast, HaveLastNodes, HaveRisen, IsNodeStep, ShowsLies, terms_of, with_room};
-ghost use Rattle.page_reencrypt.specs.SealedLines.{CopiesCame, IsReadUnder};
+ghost use Rattle.page_reencrypt.specs.Outside.{AreAccounted, AreConsistent, AreSealedInOrder, CountersFit, CountersSay, DiffersInRoom, HasCounter, HaveLast, HaveLastNodes, HaveRisen, IsNodeStep, NodesSayStill, ShowsLies, terms_of, with_room};
+ghost use Rattle.page_reencrypt.specs.SealedLines.{AreOfPages, CopiesCame, IsReadUnder};
 
 use bus_model::Bus;
 use checked_bus::{read_line, write_line};
@@ -94,8 +94,14 @@ impl<B: Bus, T: Tagger> Outside<B, T> {
         ensures same { CountersFit (terms_of B.history B.moved T.data_tag_of T.node_tag_of self.old) self.old counters.old →
             self.new.engine.evidence ≡ None → SameCounters counters.old self.old.engine.made counters.new self.new.engine.made }
 
-        // A page without a copy has its block read from its place, with the nodes above it that have none, and has a copy then.
-        // One with a copy makes no access.
+        // A counter block that goes out is made with the counters of its page's lines.
+        ensures nodes { AreOfPages self.old.engine.levels counters.old →
+            CountersFit (terms_of B.history B.moved T.data_tag_of T.node_tag_of self.old) self.old counters.old →
+            CountersSay (terms_of B.history B.moved T.data_tag_of T.node_tag_of self.old) self.old counters.old →
+            NodesSayStill (terms_of B.history B.moved T.data_tag_of T.node_tag_of self.old) self.old self.new }
+
+        // A page without a copy has its block read from its place, after the nodes above it up to the lowest one that has a copy,
+        // and has a copy then. One with a copy makes no access.
         ensures read { ¬ Contains (cached_pages counters.old) page →
             OnOk result (PathWasRead counters.old.tree self.old.engine.made 0 page (B.history self.old.bus) (B.history self.new.bus)) }
         ensures idle { Contains (cached_pages counters.old) page →

@@ -14,6 +14,7 @@ ghost use Rattle.sec_base.specs.declared.sealed.Sealed.{Sealed};
 ghost use Rattle.sec_base.specs.declared.stop.MemStop.{MemStop};
 ghost use Rattle.sec_base.specs.declared.stop.MemStop.TheVariants.{Tampered, Spent};
 ghost use Rattle.bus_model.specs.BusHistory.{NothingWritten};
+ghost use Rattle.tag_engine.specs.Tag.{engine_tag};
 ghost use Rattle.tag_engine.specs.TagEngine.{tags_of};
 ghost use Rattle.pad_stream.specs.Pad.{cipher_of};
 ghost use Rattle.pad_stream.specs.PadBlocks.{ShareNoBlock};
@@ -24,7 +25,7 @@ ghost use Rattle.counter_cache.specs.Counters.{cached_pages, counter_accesses};
 ghost use Rattle.page_reencrypt.specs.Contents.{counter_in, entries_of_write};
 ghost use Rattle.page_reencrypt.specs.Outside.{AreConsistent, CountersFit, CountersSay, HasCounter, HaveLast, HaveLastNodes, HaveRisen, IsLineRead, IsWrite, terms_of};
 ghost use Rattle.page_reencrypt.specs.LineMoves.{ReadMoved, WriteMoved, read_accesses, write_accesses, overflow_accesses};
-ghost use Rattle.page_reencrypt.specs.SealedLines.{AreNew, AreProtected, AreReread, CopiesCame, HadMemory, IsReadByCounters, IsReadUnder, IsSealedAnew, IsSealedInPart, IsTamperedInWrite, IsUnbooted, IsQuiet, IsUnsealed, LinesFit, SameCounters, contents, enc_key, evidence, levels, lines_of, lines_of_write, made, tag_in, used};
+ghost use Rattle.page_reencrypt.specs.SealedLines.{AreNew, AreOfPages, AreProtected, AreReread, CopiesCame, HadMemory, IsQuiet, IsReadByCounters, IsReadUnder, IsSealedAnew, IsSealedInPart, IsTamperedInWrite, IsUnbooted, IsUnsealed, LinesFit, SameCounters, contents, enc_key, evidence, levels, lines_of, lines_of_write, made, tag_in, used};
 ghost use Rattle.page_reencrypt.specs.Stops.{lasting_stop};
 
 use crate::account::Account;
@@ -80,7 +81,8 @@ impl<B: Bus, T: Tagger> SealedLines<B, T> {
 
         ensures new { IfOk result (AreNew B.history B.moved (tags_of T.data_tag_of T.node_tag_of) bus tagger enc_key.now geometry page_limit) }
         ensures fits { IfOk result (LinesFit T.data_tag_of T.node_tag_of B.history) }
-        ensures refused { IfErr result (λ refusal. IsUnbooted geometry (B.history bus) (B.history refusal.0) × B.moved bus refusal.0) }
+        ensures refused { IfErr result (λ refusal. IsUnbooted (engine_tag (T.data_tag_of tagger) (T.node_tag_of tagger) geometry) geometry
+            (B.history bus) (B.history refusal.0) × B.moved bus refusal.0) }
     {
         let Ok(mut tags) = TagEngine::new(alloc, tagger, geometry) else {
             return Err(NoMemoryWith(bus));
@@ -345,6 +347,7 @@ fn read_at<B: Bus, T: Tagger>(
 ) -> Result<[u8; 64], MemStop>
     requires inside { line < line_count outside.old.engine.levels }
     requires levels { counters.old.tree.levels ≡ outside.old.engine.levels }
+    requires pages { AreOfPages outside.old.engine.levels counters.old }
     requires consistent { AreConsistent (terms_of B.history B.moved T.data_tag_of T.node_tag_of outside.old) outside.old }
     requires holds_last { HaveLast (terms_of B.history B.moved T.data_tag_of T.node_tag_of outside.old) outside.old }
     requires nodes_hold_last { HaveLastNodes (terms_of B.history B.moved T.data_tag_of T.node_tag_of outside.old) outside.old }
@@ -371,6 +374,7 @@ fn write_next<B: Bus, T: Tagger>(
 ) -> Result<(), MemStop>
     requires inside { line < line_count outside.old.engine.levels }
     requires levels { counters.old.tree.levels ≡ outside.old.engine.levels }
+    requires pages { AreOfPages outside.old.engine.levels counters.old }
     requires consistent { AreConsistent (terms_of B.history B.moved T.data_tag_of T.node_tag_of outside.old) outside.old }
     requires holds_last { HaveLast (terms_of B.history B.moved T.data_tag_of T.node_tag_of outside.old) outside.old }
     requires nodes_hold_last { HaveLastNodes (terms_of B.history B.moved T.data_tag_of T.node_tag_of outside.old) outside.old }

@@ -10,6 +10,7 @@ ghost use Rattle.sec_base.specs.declared.sealed.Sealed.{Sealed};
 ghost use Rattle.sec_base.specs.declared.stop.MemStop.{MemStop};
 ghost use Rattle.sec_base.specs.declared.stop.MemStop.TheVariants.{Spent};
 ghost use Rattle.bus_model.specs.BusHistory.{NothingWritten};
+ghost use Rattle.tag_engine.specs.Tag.{engine_tag};
 ghost use Rattle.tag_engine.specs.TagEngine.{tags_of};
 ghost use Rattle.pad_stream.specs.Pad.{cipher_of};
 ghost use Rattle.pad_stream.specs.PadBlocks.{ShareNoBlock};
@@ -74,7 +75,8 @@ impl<B: Bus, T: Tagger> SecureRam<B, T> {
         ensures none_held { IfOk result (λ memory. held_lines memory ≡ []) }
         ensures none_cached { IfOk result (λ memory. cached_pages memory ≡ []) }
         ensures no_nodes { IfOk result (λ memory. (level : ℕ) → cached_nodes memory level ≡ []) }
-        ensures refused { IfErr result (λ refusal. IsUnbooted geometry (B.history bus) (B.history refusal.0) × B.moved bus refusal.0) }
+        ensures refused { IfErr result (λ refusal. IsUnbooted (engine_tag (T.data_tag_of tagger) (T.node_tag_of tagger) geometry) geometry
+            (B.history bus) (B.history refusal.0) × B.moved bus refusal.0) }
     {
         let lines = SealedLines::boot(alloc, bus, tagger, &keys.enc_key, geometry, page_limit)?;
         match LineCache::new(alloc, lines) {

@@ -26,6 +26,7 @@ returns-in_err-block g c =
       fits = ok_where (Err why) tt e.unspent;
       accounted = e.accounted c.requires.fits;
       shows = e.shows c.requires.fits;
+      nodes = e.nodes c.requires.pages c.requires.fits c.requires.current;
     } in
     record {
       read = subst (λ (r : Result (List ℕ) MemStop). IsLineRead (terms_of h m d n old) c.args.line old counters c.get.new.self c.get.new.counters r) (sym is)
@@ -50,6 +51,7 @@ read-requires-clause-counter g c = λ quiet.
       fits = λ going. e.fits c.requires.fits;
       accounted = e.accounted c.requires.fits;
       shows = e.shows c.requires.fits;
+      nodes = e.nodes c.requires.pages c.requires.fits c.requires.current;
     } in
     let had : HadCounters h m d n old counters 0 c.args.line c.page_of.result c.place_of.result c.get.new.self c.get.new.counters
     c.in_ok-block.block c.get-2.result (bumped 0 c.get-2.result) = record {
@@ -86,6 +88,7 @@ returns g c =
       fits = λ going. e.fits c.requires.fits;
       accounted = e.accounted c.requires.fits;
       shows = e.shows c.requires.fits;
+      nodes = e.nodes c.requires.pages c.requires.fits c.requires.current;
     } in
     record {
       read = line_read h m d n old counters c.args.line c.page_of.result c.page_of.ensures.page c.get.new.self c.get.new.counters c.place_of.result

@@ -37,6 +37,7 @@ returns-in_err-block-clause-written g c =
       fits = ok_where (Err why) tt e.unspent;
       accounted = e.accounted c.requires.fits;
       shows = e.shows c.requires.fits;
+      nodes = e.nodes c.requires.pages c.requires.fits c.requires.current;
     } in
     let copies : CopiesCame (page_of c.args.line) (h old.bus) old.engine.made counters (h c.get.new.self.bus) c.get.new.counters =
     subst (λ (p : ℕ). CopiesCame p (h old.bus) old.engine.made counters (h c.get.new.self.bus) c.get.new.counters) c.page_of-page.ensures.page e.copies in
@@ -63,6 +64,7 @@ returns-in-Spent-clause-written g c =
       fits = λ going. e.fits c.requires.fits;
       accounted = e.accounted c.requires.fits;
       shows = e.shows c.requires.fits;
+      nodes = e.nodes c.requires.pages c.requires.fits c.requires.current;
     } in
     let had : HadCounters h m d n old counters c.args.limit c.args.line c.page_of-page.result c.place_of-place.result c.get.new.self c.get.new.counters
     c.in_ok-block.block c.get-2.result c.of.result = record {
@@ -104,6 +106,7 @@ returns-in_err-reserve g c =
       fits = λ going. e.fits c.requires.fits;
       accounted = e.accounted c.requires.fits;
       shows = e.shows c.requires.fits;
+      nodes = e.nodes c.requires.pages c.requires.fits c.requires.current;
     } in
     let had : HadCounters h m d n old counters c.args.limit c.args.line c.page_of-page.result c.place_of-place.result c.get.new.self c.get.new.counters
     c.in_ok-block.block c.get-2.result c.of.result = record {
@@ -162,6 +165,7 @@ returns-in-Spent-2 g c =
       fits = λ going. e.fits c.requires.fits;
       accounted = e.accounted c.requires.fits;
       shows = e.shows c.requires.fits;
+      nodes = e.nodes c.requires.pages c.requires.fits c.requires.current;
     } in
     let had : HadCounters h m d n old counters c.args.limit c.args.line c.page_of-page.result c.place_of-place.result c.get.new.self c.get.new.counters
     c.in_ok-block.block c.get-2.result c.of.result = record {
@@ -212,6 +216,7 @@ returns-in_err-seal-in-Line g c =
       fits = λ going. e.fits c.requires.fits;
       accounted = e.accounted c.requires.fits;
       shows = e.shows c.requires.fits;
+      nodes = e.nodes c.requires.pages c.requires.fits c.requires.current;
     } in
     let had : HadCounters h m d n old counters c.args.limit c.args.line c.page_of-page.result c.place_of-place.result c.get.new.self c.get.new.counters
     c.in_ok-block.block c.get-2.result c.of.result = record {
@@ -270,6 +275,7 @@ returns-in_ok-seal-in-Line g c =
       fits = λ going. e.fits c.requires.fits;
       accounted = e.accounted c.requires.fits;
       shows = e.shows c.requires.fits;
+      nodes = e.nodes c.requires.pages c.requires.fits c.requires.current;
     } in
     let had : HadCounters h m d n old counters c.args.limit c.args.line c.page_of-page.result c.place_of-place.result c.get.new.self c.get.new.counters
     c.in_ok-block.block c.get-2.result c.of.result = record {
@@ -329,6 +335,7 @@ reencrypt_page-requires g c =
       fits = λ going. e.fits c.requires.fits;
       accounted = e.accounted c.requires.fits;
       shows = e.shows c.requires.fits;
+      nodes = e.nodes c.requires.pages c.requires.fits c.requires.current;
     } in
     let had : HadCounters h m d n old counters c.args.limit c.args.line c.page_of-page.result c.place_of-place.result c.get.new.self c.get.new.counters
     c.in_ok-block.block c.get-2.result c.of.result = record {
@@ -394,6 +401,7 @@ returns-in-Page g c =
       fits = λ going. e.fits c.requires.fits;
       accounted = e.accounted c.requires.fits;
       shows = e.shows c.requires.fits;
+      nodes = e.nodes c.requires.pages c.requires.fits c.requires.current;
     } in
     let had : HadCounters h m d n old counters c.args.limit c.args.line c.page_of-page.result c.place_of-place.result c.get.new.self c.get.new.counters
     c.in_ok-block.block c.get-2.result c.of.result = record {

@@ -1,4 +1,4 @@
-use Rattle.std.proofs.Common.{◌≡◌, ◌+◌, ℕ, List, length, Option, Some, None, ap, sym, ◌∙◌, subst, arith, rules}
+use Rattle.std.proofs.Common.{◌≡◌, inl, inr, ◌+◌, ℕ, true, List, length, Option, Some, None, refl, ap, sym, ◌∙◌, subst, arith, rules}
 use Rattle.std.specs.Option.{option_map}
 use Rattle.sec_base.specs.declared.stop.MemStop.{MemStop}
 use Rattle.sec_base.specs.declared.stop.MemStop.TheVariants.{NoMemory}
@@ -6,13 +6,14 @@ use Rattle.cache_set.specs.declared.way.Way.{Way}
 use Rattle.cache_set.specs.Cache.{way_at}
 use Rattle.tag_engine.specs.TagEngine.{tags_of}
 use Rattle.checked_bus.specs.Steps.{stop_of}
-use Rattle.bonsai_tree.specs.Climb.{Climbs}
+use Rattle.bonsai_tree.specs.Climb.{Climbs, IsBlockOf, IsVictim, NoNode, WritesUp}
 use Rattle.bonsai_tree.specs.NodeCache.{AreNodeCaches, copy_of, node_way}
 use Rattle.bonsai_tree.specs.Tree.{TreeView}
 use Rattle.bonsai_tree.proofs.Climbs.{climbs_not, climbs_on, climbs_up}
 use Rattle.bonsai_tree.proofs.NodeCalls.{climbs_dropped, climbs_touched}
 use Rattle.bonsai_tree.proofs.Accesses.{present_first, present_second}
-use Rattle.bonsai_tree.proofs.Views.{all_as, levels_as, others_as, root_as, same_as, tree_of}
+use Rattle.bonsai_tree.proofs.Views.{all_as, levels_as, not_held, others_as, root_as, same_as, tree_of}
+use Rattle.bonsai_tree.proofs.WrittenBack.{up_as, up_on, up_same, up_victim, up_wider}
 use Rattle.bonsai_tree.proofs.tree.Tree.+present.Goals as goal
 
 pub parent_present-returns-then-level-levels-clause-climbs : goal.parent_present-returns-then-level-levels-clause-climbs
@@ -175,3 +176,126 @@ make_room-returns-clause-room g t c = c.remove.ensures.room c.args.index c.in-So
 pub parent_present-returns-clause-nodes : goal.parent_present-returns-clause-nodes
 parent_present-returns-clause-nodes g t c =
     c.present.ensures.climbs.nodes (subst (λ (v : TreeView). AreNodeCaches v.levels v.caches) c.self.view_is c.self.invariant)
+
+pub present-returns-in_err-make_room-clause-hit : goal.present-returns-in_err-make_room-clause-hit
+present-returns-in_err-make_room-clause-hit g t c = λ held.
+    absurd (held (not_held c.args.self.now c.self.inside.root c.self.inside.nodes c.args.level c.args.index c.self.view_is (c.if-touch.ensures.absent refl)))
+
+pub present-returns-in_err-parent_present-clause-hit : goal.present-returns-in_err-parent_present-clause-hit
+present-returns-in_err-parent_present-clause-hit g t c = λ held.
+    absurd (held (not_held c.args.self.now c.self.inside.root c.self.inside.nodes c.args.level c.args.index c.self.view_is (c.if-touch.ensures.absent refl)))
+
+pub present-returns-clause-hit : goal.present-returns-clause-hit
+present-returns-clause-hit g t c = λ held.
+    absurd (held (not_held c.args.self.now c.self.inside.root c.self.inside.nodes c.args.level c.args.index c.self.view_is (c.if-touch.ensures.absent refl)))
+
+-- Which nodes were made, and which copies changed
+
+pub parent_present-returns-then-level-levels-clause-back : goal.parent_present-returns-then-level-levels-clause-back
+parent_present-returns-then-level-levels-clause-back g t c =
+    up_same (c.args.level + 1) NoNode c.args.self.now c.args.self.now (g.B.Bus.history c.args.bus.now) (g.B.Bus.history c.args.bus.now) c.args.tags.now.made c.args.tags.now.made None refl (λ level index. refl)
+
+pub write_back-returns-then-not-victim-clause-back : goal.write_back-returns-then-not-victim-clause-back
+write_back-returns-then-not-victim-clause-back g t c =
+    up_same (c.args.level + 1) (IsVictim c.args.level c.args.victim.now None) c.args.self.now c.args.self.now (g.B.Bus.history c.args.bus.now) (g.B.Bus.history c.args.bus.now) c.args.tags.now.made c.args.tags.now.made None refl (λ level index. refl)
+
+pub write_back-returns-in_err-parent_present-clause-back : goal.write_back-returns-in_err-parent_present-clause-back
+write_back-returns-in_err-parent_present-clause-back g t c =
+    let why = c.in_err-parent_present.field-0.0 in
+    let stop : stop_of c.from_residual.result ≡ Some why = search rules in
+    subst (λ (s : Option MemStop). WritesUp (c.args.level + 1) (IsVictim c.args.level c.args.victim.now s) c.args.self.now (g.B.Bus.history c.args.bus.now) c.args.tags.now.made c.parent_present.new.self (g.B.Bus.history c.parent_present.new.bus) c.parent_present.new.tags.made s) (sym stop)
+    (up_wider (c.args.level + 1) (c.args.level + 1) (IsVictim c.args.level c.args.victim.now (Some why)) c.args.self.now c.parent_present.new.self (g.B.Bus.history c.args.bus.now) (g.B.Bus.history c.parent_present.new.bus) c.args.tags.now.made c.parent_present.new.tags.made (Some why) (omega arith)
+    c.in_err-parent_present.ensures.back)
+
+pub write_back-returns-in_err-write_below-clause-back : goal.write_back-returns-in_err-write_below-clause-back
+write_back-returns-in_err-write_below-clause-back g t c =
+    let stop : stop_of c.from_residual-in_err-write_below.result ≡ Some NoMemory = search rules in
+    let changed : c.args.victim.now.changed ≡ true = search rules in
+    subst (λ (s : Option MemStop). WritesUp (c.args.level + 1) (IsVictim c.args.level c.args.victim.now s) c.args.self.now (g.B.Bus.history c.args.bus.now) c.args.tags.now.made c.write_below.new.self (g.B.Bus.history c.write_below.new.bus) c.write_below.new.tags.made s) (sym stop)
+    (up_on (c.args.level + 1) (IsVictim c.args.level c.args.victim.now (Some NoMemory)) c.args.self.now c.parent_present.new.self c.write_below.new.self (g.B.Bus.history c.args.bus.now) (g.B.Bus.history c.parent_present.new.bus) (g.B.Bus.history c.write_below.new.bus) c.args.tags.now.made c.parent_present.new.tags.made c.write_below.new.tags.made (Some NoMemory)
+    c.in_ok-parent_present.ensures.climbs.moves.reads c.in_err-write_below.ensures.climbs.moves.reads
+    (up_wider (c.args.level + 1) (c.args.level + 1) (IsVictim c.args.level c.args.victim.now (Some NoMemory)) c.args.self.now c.parent_present.new.self (g.B.Bus.history c.args.bus.now) (g.B.Bus.history c.parent_present.new.bus) c.args.tags.now.made c.parent_present.new.tags.made None (omega arith) c.in_ok-parent_present.ensures.back)
+    (up_as (c.args.level + 1) (IsBlockOf c.args.level c.args.victim.now.place c.args.victim.now.copy) (IsVictim c.args.level c.args.victim.now (Some NoMemory)) c.parent_present.new.self c.write_below.new.self (g.B.Bus.history c.parent_present.new.bus) (g.B.Bus.history c.write_below.new.bus) c.parent_present.new.tags.made c.write_below.new.tags.made (Some NoMemory)
+    (λ other at bytes is. (is, changed, inr refl)) c.in_err-write_below.ensures.back))
+
+pub write_back-returns-clause-back : goal.write_back-returns-clause-back
+write_back-returns-clause-back g t c =
+    let changed : c.args.victim.now.changed ≡ true = search rules in
+    up_on (c.args.level + 1) (IsVictim c.args.level c.args.victim.now None) c.args.self.now c.parent_present.new.self c.write_below.new.self (g.B.Bus.history c.args.bus.now) (g.B.Bus.history c.parent_present.new.bus) (g.B.Bus.history c.write_below.new.bus) c.args.tags.now.made c.parent_present.new.tags.made c.write_below.new.tags.made None
+    c.in_ok-parent_present.ensures.climbs.moves.reads c.in_ok-write_below.ensures.climbs.moves.reads
+    (up_wider (c.args.level + 1) (c.args.level + 1) (IsVictim c.args.level c.args.victim.now None) c.args.self.now c.parent_present.new.self (g.B.Bus.history c.args.bus.now) (g.B.Bus.history c.parent_present.new.bus) c.args.tags.now.made c.parent_present.new.tags.made None (omega arith) c.in_ok-parent_present.ensures.back)
+    (up_as (c.args.level + 1) (IsBlockOf c.args.level c.args.victim.now.place c.args.victim.now.copy) (IsVictim c.args.level c.args.victim.now None) c.parent_present.new.self c.write_below.new.self (g.B.Bus.history c.parent_present.new.bus) (g.B.Bus.history c.write_below.new.bus) c.parent_present.new.tags.made c.write_below.new.tags.made None
+    (λ other at bytes is. (is, changed, inl refl)) c.in_ok-write_below.ensures.back)
+
+pub make_room-returns-in_default-clause-back : goal.make_room-returns-in_default-clause-back
+make_room-returns-in_default-clause-back g t c =
+    up_same c.args.level NoNode c.args.self.now c.args.self.now (g.B.Bus.history c.args.bus.now) (g.B.Bus.history c.args.bus.now) c.args.tags.now.made c.args.tags.now.made None refl (λ level index. refl)
+
+pub make_room-returns-in_err-write_back-clause-back : goal.make_room-returns-in_err-write_back-clause-back
+make_room-returns-in_err-write_back-clause-back g t c =
+    let why = c.in_err-write_back.field-0.0 in
+    let stop : stop_of c.from_residual.result ≡ Some why = search rules in
+    let way : node_way c.args.self.now.caches c.args.level c.in-Some.victim.place ≡ Some c.in-Some.victim =
+    sym (ap (λ (v : TreeView). node_way v.caches c.args.level c.in-Some.victim.place) c.self.view_is) ∙ c.in-Some.ensures.way in
+    subst (λ (s : Option MemStop). WritesUp c.args.level NoNode c.args.self.now (g.B.Bus.history c.args.bus.now) c.args.tags.now.made c.write_back.new.self (g.B.Bus.history c.write_back.new.bus) c.write_back.new.tags.made s) (sym stop)
+    (up_victim c.args.level c.in-Some.victim c.args.self.now c.write_back.new.self c.write_back.new.self (g.B.Bus.history c.args.bus.now) (g.B.Bus.history c.write_back.new.bus) c.args.tags.now.made c.write_back.new.tags.made (Some why) (ap (option_map copy_of) way)
+    (λ none. absurd (cc)) (λ copy found. found) (λ other at apart. refl) c.in_err-write_back.ensures.back)
+
+pub make_room-returns-clause-back : goal.make_room-returns-clause-back
+make_room-returns-clause-back g t c =
+    let way : node_way c.args.self.now.caches c.args.level c.in-Some.victim.place ≡ Some c.in-Some.victim =
+    sym (ap (λ (v : TreeView). node_way v.caches c.args.level c.in-Some.victim.place) c.self.view_is) ∙ c.in-Some.ensures.way in
+    up_victim c.args.level c.in-Some.victim c.args.self.now c.write_back.new.self (tree_of c.self-2.inside.root c.remove.new.self) (g.B.Bus.history c.args.bus.now) (g.B.Bus.history c.write_back.new.bus) c.args.tags.now.made c.write_back.new.tags.made None (ap (option_map copy_of) way)
+    (λ going. ap (option_map copy_of) c.remove.ensures.removed)
+    (λ copy found. let none : None ≡ Some copy = sym (ap (option_map copy_of) c.remove.ensures.removed) ∙ found in absurd (cc))
+    (same_as c.write_back.new.self c.self-2.inside.root c.self-2.inside.nodes c.remove.new.self c.self-2.view_is c.args.level c.in-Some.victim.place c.remove.ensures.same)
+    c.in_ok-write_back.ensures.back
+
+pub present-returns-then-touch-clause-back : goal.present-returns-then-touch-clause-back
+present-returns-then-touch-clause-back g t c =
+    up_same c.args.level NoNode c.args.self.now (tree_of c.self.inside.root c.touch.new.self) (g.B.Bus.history c.args.bus.now) (g.B.Bus.history c.args.bus.now) c.args.tags.now.made c.args.tags.now.made None refl
+    (all_as c.args.self.now c.self.inside.root c.self.inside.nodes c.touch.new.self c.self.view_is c.if-touch.ensures.same)
+
+pub present-returns-in_err-make_room-clause-back : goal.present-returns-in_err-make_room-clause-back
+present-returns-in_err-make_room-clause-back g t c =
+    let why = c.in_err-make_room.field-0.0 in
+    let stop : stop_of c.from_residual.result ≡ Some why = search rules in
+    subst (λ (s : Option MemStop). WritesUp c.args.level NoNode c.args.self.now (g.B.Bus.history c.args.bus.now) c.args.tags.now.made c.make_room.new.self (g.B.Bus.history c.make_room.new.bus) c.make_room.new.tags.made s) (sym stop)
+    (up_on c.args.level NoNode c.args.self.now (tree_of c.self.inside.root c.touch.new.self) c.make_room.new.self (g.B.Bus.history c.args.bus.now) (g.B.Bus.history c.args.bus.now) (g.B.Bus.history c.make_room.new.bus) c.args.tags.now.made c.args.tags.now.made c.make_room.new.tags.made (Some why)
+    (λ place. omega arith) c.in_err-make_room.ensures.climbs.moves.reads
+    (up_same c.args.level NoNode c.args.self.now (tree_of c.self.inside.root c.touch.new.self) (g.B.Bus.history c.args.bus.now) (g.B.Bus.history c.args.bus.now) c.args.tags.now.made c.args.tags.now.made None refl
+    (all_as c.args.self.now c.self.inside.root c.self.inside.nodes c.touch.new.self c.self.view_is c.if-touch.ensures.same))
+    c.in_err-make_room.ensures.back)
+
+pub present-returns-in_err-parent_present-clause-back : goal.present-returns-in_err-parent_present-clause-back
+present-returns-in_err-parent_present-clause-back g t c =
+    let why = c.in_err-parent_present.field-0.0 in
+    let stop : stop_of c.from_residual-in_err-parent_present.result ≡ Some why = search rules in
+    subst (λ (s : Option MemStop). WritesUp c.args.level NoNode c.args.self.now (g.B.Bus.history c.args.bus.now) c.args.tags.now.made c.parent_present.new.self (g.B.Bus.history c.parent_present.new.bus) c.parent_present.new.tags.made s) (sym stop)
+    (up_on c.args.level NoNode c.args.self.now c.make_room.new.self c.parent_present.new.self (g.B.Bus.history c.args.bus.now) (g.B.Bus.history c.make_room.new.bus) (g.B.Bus.history c.parent_present.new.bus) c.args.tags.now.made c.make_room.new.tags.made c.parent_present.new.tags.made (Some why)
+    c.in_ok-make_room.ensures.climbs.moves.reads c.in_err-parent_present.ensures.climbs.moves.reads
+    (up_on c.args.level NoNode c.args.self.now (tree_of c.self.inside.root c.touch.new.self) c.make_room.new.self (g.B.Bus.history c.args.bus.now) (g.B.Bus.history c.args.bus.now) (g.B.Bus.history c.make_room.new.bus) c.args.tags.now.made c.args.tags.now.made c.make_room.new.tags.made None
+    (λ place. omega arith) c.in_ok-make_room.ensures.climbs.moves.reads
+    (up_same c.args.level NoNode c.args.self.now (tree_of c.self.inside.root c.touch.new.self) (g.B.Bus.history c.args.bus.now) (g.B.Bus.history c.args.bus.now) c.args.tags.now.made c.args.tags.now.made None refl
+    (all_as c.args.self.now c.self.inside.root c.self.inside.nodes c.touch.new.self c.self.view_is c.if-touch.ensures.same))
+    c.in_ok-make_room.ensures.back)
+    (up_wider c.args.level (c.args.level + 1) NoNode c.make_room.new.self c.parent_present.new.self (g.B.Bus.history c.make_room.new.bus) (g.B.Bus.history c.parent_present.new.bus) c.make_room.new.tags.made c.parent_present.new.tags.made (Some why) (omega arith) c.in_err-parent_present.ensures.back))
+
+pub present-returns-clause-back : goal.present-returns-clause-back
+present-returns-clause-back g t c =
+    up_on c.args.level NoNode c.args.self.now c.parent_present.new.self c.read_in.new.self (g.B.Bus.history c.args.bus.now) (g.B.Bus.history c.parent_present.new.bus) (g.B.Bus.history c.read_in.new.bus) c.args.tags.now.made c.parent_present.new.tags.made c.read_in.new.tags.made (stop_of c.read_in.result)
+    (λ place. omega (arith, c.in_ok-make_room.ensures.climbs.moves.reads place, c.in_ok-parent_present.ensures.climbs.moves.reads place)) c.read_in.ensures.climbs.moves.reads
+    (up_on c.args.level NoNode c.args.self.now c.make_room.new.self c.parent_present.new.self (g.B.Bus.history c.args.bus.now) (g.B.Bus.history c.make_room.new.bus) (g.B.Bus.history c.parent_present.new.bus) c.args.tags.now.made c.make_room.new.tags.made c.parent_present.new.tags.made None
+    c.in_ok-make_room.ensures.climbs.moves.reads c.in_ok-parent_present.ensures.climbs.moves.reads
+    (up_on c.args.level NoNode c.args.self.now (tree_of c.self.inside.root c.touch.new.self) c.make_room.new.self (g.B.Bus.history c.args.bus.now) (g.B.Bus.history c.args.bus.now) (g.B.Bus.history c.make_room.new.bus) c.args.tags.now.made c.args.tags.now.made c.make_room.new.tags.made None
+    (λ place. omega arith) c.in_ok-make_room.ensures.climbs.moves.reads
+    (up_same c.args.level NoNode c.args.self.now (tree_of c.self.inside.root c.touch.new.self) (g.B.Bus.history c.args.bus.now) (g.B.Bus.history c.args.bus.now) c.args.tags.now.made c.args.tags.now.made None refl
+    (all_as c.args.self.now c.self.inside.root c.self.inside.nodes c.touch.new.self c.self.view_is c.if-touch.ensures.same))
+    c.in_ok-make_room.ensures.back)
+    (up_wider c.args.level (c.args.level + 1) NoNode c.make_room.new.self c.parent_present.new.self (g.B.Bus.history c.make_room.new.bus) (g.B.Bus.history c.parent_present.new.bus) c.make_room.new.tags.made c.parent_present.new.tags.made None (omega arith) c.in_ok-parent_present.ensures.back))
+    c.read_in.ensures.back
+
+pub write_back-returns-clause-copies : goal.write_back-returns-clause-copies
+write_back-returns-clause-copies g t c =
+    c.in_ok-write_below.ensures.copies c.args.level (λ (same : c.args.level ≡ c.args.level + 1). absurd (omega (arith, same)))
+    ∙ c.in_ok-parent_present.ensures.climbs.copies c.args.level (omega arith)

@@ -1,18 +1,22 @@
-use Rattle.std.proofs.Common.{◌≡◌, ◌+◌, ◌/◌, ◌≤◌, length, Option, Some, refl, ap, sym, subst, arith, rules}
+use Rattle.std.proofs.Common.{◌≡◌, ℕ, ◌+◌, ◌/◌, ◌≤◌, List, length, Option, Some, refl, ap, sym, ◌∙◌, subst, arith, rules}
 use Rattle.sec_base.specs.Geometry.{IsNode}
 use Rattle.sec_base.specs.declared.evidence.Evidence.TheVariants.{Collision}
+use Rattle.sec_base.specs.declared.message.Message.{Message}
 use Rattle.sec_base.specs.declared.place.Place.TheVariants.{Node as node_place}
 use Rattle.sec_base.specs.declared.stop.MemStop.{MemStop}
-use Rattle.sec_base.specs.declared.stop.MemStop.TheVariants.{Tampered}
-use Rattle.tag_engine.specs.TagEngine.{tags_of}
+use Rattle.sec_base.specs.declared.stop.MemStop.TheVariants.{NoMemory, Tampered}
+use Rattle.bus_model.specs.BusHistory.{BusHistory}
+use Rattle.tag_engine.specs.TagEngine.{TagEngineView, tags_of}
 use Rattle.checked_bus.specs.Accesses.{WritesMessages}
 use Rattle.checked_bus.specs.Steps.{stop_of, unwritten_in}
-use Rattle.bonsai_tree.specs.Climb.{Climbs}
-use Rattle.bonsai_tree.specs.Tree.{path_accesses}
+use Rattle.bonsai_tree.specs.Climb.{Climbs, NoNode}
+use Rattle.bonsai_tree.specs.Node.{level_blocks}
+use Rattle.bonsai_tree.specs.Tree.{WritesBack, path_accesses}
 use Rattle.bonsai_tree.proofs.Copies.{few_copies}
-use Rattle.bonsai_tree.proofs.Nodes.{NodeRead, node_found}
+use Rattle.bonsai_tree.proofs.Nodes.{NodeRead, node_found, stop_is}
 use Rattle.bonsai_tree.proofs.PathCalls.{climb_room, climb_writes, fetched, fetched_accepted, fetched_block, fetched_checked, fetched_found, fetched_pages, fetched_read, not_from_one, ok_of, page_node, path_more, read_most, stop_of_err}
 use Rattle.bonsai_tree.proofs.Views.{latest_cached}
+use Rattle.bonsai_tree.proofs.WrittenBack.{up_on, up_same, written_back}
 use Rattle.bonsai_tree.proofs.tree.Tree.fetch.Given.{Over}
 use Rattle.bonsai_tree.proofs.tree.Tree.fetch.Goals as goal
 
@@ -47,6 +51,9 @@ returns-in_err-parent_present-clause-few_copies g c = λ level. few_copies c.par
 pub returns-in_err-parent_present-clause-new_copies : goal.returns-in_err-parent_present-clause-new_copies
 returns-in_err-parent_present-clause-new_copies g c = c.in_err-parent_present.ensures.climbs.read
 
+pub returns-in_err-parent_present-clause-slots : goal.returns-in_err-parent_present-clause-slots
+returns-in_err-parent_present-clause-slots g c = c.in_err-parent_present.ensures.climbs.slots
+
 pub returns-in_err-parent_present-clause-writes : goal.returns-in_err-parent_present-clause-writes
 returns-in_err-parent_present-clause-writes g c = λ more is.
     let why = c.in_err-parent_present.field-0.0 in
@@ -55,8 +62,13 @@ returns-in_err-parent_present-clause-writes g c = λ more is.
     (climb_writes g.T.Tagger.data_tag_of g.T.Tagger.node_tag_of (0 + 1) c.args.self.now c.parent_present.new.self (g.B.Bus.history c.args.bus.now) (g.B.Bus.history c.parent_present.new.bus) c.args.tags.now c.parent_present.new.tags (Some why) c.in_err-parent_present.ensures.climbs more is)
 
 pub returns-clause-holds : goal.returns-clause-holds
-returns-clause-holds g c = λ holds.
-    ok_of c.read_node.result (λ going. (whole g c).holds holds going)
+returns-clause-holds g c = λ holds memory.
+    (whole g c).holds holds (λ is. memory (stop_is c.read_node.result NoMemory is))
+
+pub returns-in_err-parent_present-clause-holds : goal.returns-in_err-parent_present-clause-holds
+returns-in_err-parent_present-clause-holds g c = λ holds memory.
+    let stop : stop_of c.from_residual.result ≡ Some c.in_err-parent_present.field-0.0 = search rules in
+    c.in_err-parent_present.ensures.climbs.holds holds (λ is. memory (stop_is c.from_residual.result NoMemory (stop ∙ is)))
 
 pub returns-clause-block : goal.returns-clause-block
 returns-clause-block g c =
@@ -120,6 +132,80 @@ returns-clause-room g c =
     climb_room g.T.Tagger.data_tag_of g.T.Tagger.node_tag_of 0 (path_accesses c.args.self.now.levels) c.args.self.now c.parent_present.new.self (g.B.Bus.history c.args.bus.now) (g.B.Bus.history c.read_node.new.bus) c.args.tags.now c.read_node.new.tags (stop_of c.read_node.result) (whole g c)
     (omega (arith, c.in_ok-parent_present.ensures.few, path_more c.args.self.now.levels, ap length c.read_node.ensures.once.made))
 
+pub returns-clause-slots : goal.returns-clause-slots
+returns-clause-slots g c =
+    (whole g c).slots
+
 pub returns-clause-writes : goal.returns-clause-writes
 returns-clause-writes g c = λ more is.
     climb_writes g.T.Tagger.data_tag_of g.T.Tagger.node_tag_of 0 c.args.self.now c.parent_present.new.self (g.B.Bus.history c.args.bus.now) (g.B.Bus.history c.read_node.new.bus) c.args.tags.now c.read_node.new.tags (stop_of c.read_node.result) (whole g c) more is
+
+pub returns-in_err-parent_present-clause-no_page : goal.returns-in_err-parent_present-clause-no_page
+returns-in_err-parent_present-clause-no_page g c = c.in_err-parent_present.ensures.climbs.blocks 0 (omega arith)
+
+pub returns-clause-no_page : goal.returns-clause-no_page
+returns-clause-no_page g c =
+    ap (λ (made : List Message). level_blocks 0 made) c.read_node.ensures.once.made ∙ c.in_ok-parent_present.ensures.climbs.blocks 0 (omega arith)
+
+-- where the node above it has a copy
+pub returns-in_err-parent_present-clause-hit : goal.returns-in_err-parent_present-clause-hit
+returns-in_err-parent_present-clause-hit g c = λ held.
+    let same : (g.B.Bus.history c.parent_present.new.bus).accesses ≡ (g.B.Bus.history c.args.bus.now).accesses =
+    ap (λ (history : BusHistory). history.accesses) (c.in_err-parent_present.ensures.hit held).0 in
+    omega (arith, same)
+
+pub returns-in_err-parent_present-clause-hit_made : goal.returns-in_err-parent_present-clause-hit_made
+returns-in_err-parent_present-clause-hit_made g c = λ held.
+    ap (λ (engine : TagEngineView g.row.T.Denot). engine.made) (c.in_err-parent_present.ensures.hit held).1
+
+pub returns-clause-hit : goal.returns-clause-hit
+returns-clause-hit g c = λ held.
+    let same : (g.B.Bus.history c.parent_present.new.bus).accesses ≡ (g.B.Bus.history c.args.bus.now).accesses =
+    ap (λ (history : BusHistory). history.accesses) (c.in_ok-parent_present.ensures.hit held).0 in
+    omega (arith, same, read_most (g.B.Bus.history c.parent_present.new.bus) (g.B.Bus.history c.read_node.new.bus) c.parent_present.new.tags c.read_node.new.tags (node_place 0 c.args.page) (stop_of c.read_node.result) c.read_node.ensures.once)
+
+pub returns-clause-hit_made : goal.returns-clause-hit_made
+returns-clause-hit_made g c = λ held.
+    c.read_node.ensures.once.made ∙ ap (λ (engine : TagEngineView g.row.T.Denot). engine.made) (c.in_ok-parent_present.ensures.hit held).1
+
+pub returns-in_err-parent_present-clause-written_back : goal.returns-in_err-parent_present-clause-written_back
+returns-in_err-parent_present-clause-written_back g c =
+    let why = c.in_err-parent_present.field-0.0 in
+    let stop : stop_of c.from_residual.result ≡ Some why = search rules in
+    subst (λ (s : Option MemStop). WritesBack c.args.self.now (g.B.Bus.history c.args.bus.now) c.args.tags.now.made c.parent_present.new.self (g.B.Bus.history c.parent_present.new.bus) c.parent_present.new.tags.made s) (sym stop)
+    (written_back NoNode c.args.self.now c.parent_present.new.self (g.B.Bus.history c.args.bus.now) (g.B.Bus.history c.parent_present.new.bus) c.args.tags.now.made c.parent_present.new.tags.made (Some why) c.in_err-parent_present.ensures.back)
+
+pub returns-clause-written_back : goal.returns-clause-written_back
+returns-clause-written_back g c =
+    written_back NoNode c.args.self.now c.parent_present.new.self (g.B.Bus.history c.args.bus.now) (g.B.Bus.history c.read_node.new.bus) c.args.tags.now.made c.read_node.new.tags.made (stop_of c.read_node.result)
+    (up_on 1 NoNode c.args.self.now c.parent_present.new.self c.parent_present.new.self (g.B.Bus.history c.args.bus.now) (g.B.Bus.history c.parent_present.new.bus) (g.B.Bus.history c.read_node.new.bus) c.args.tags.now.made c.parent_present.new.tags.made c.read_node.new.tags.made (stop_of c.read_node.result)
+    c.in_ok-parent_present.ensures.climbs.moves.reads c.read_node.ensures.moves.reads c.in_ok-parent_present.ensures.back
+    (up_same 1 NoNode c.parent_present.new.self c.parent_present.new.self (g.B.Bus.history c.parent_present.new.bus) (g.B.Bus.history c.read_node.new.bus) c.parent_present.new.tags.made c.read_node.new.tags.made (stop_of c.read_node.result) c.read_node.ensures.once.made (λ level index. refl)))
+
+pub returns-in_err-parent_present-clause-no_rise : goal.returns-in_err-parent_present-clause-no_rise
+returns-in_err-parent_present-clause-no_rise g c = c.in_err-parent_present.ensures.climbs.no_rise
+
+pub returns-clause-no_rise : goal.returns-clause-no_rise
+returns-clause-no_rise g c = (whole g c).no_rise
+
+pub returns-in_err-parent_present-clause-last_blocks : goal.returns-in_err-parent_present-clause-last_blocks
+returns-in_err-parent_present-clause-last_blocks g c = λ was memory.
+    let stop : stop_of c.from_residual.result ≡ Some c.in_err-parent_present.field-0.0 = search rules in
+    c.in_err-parent_present.ensures.climbs.last_blocks (λ is. memory (stop_is c.from_residual.result NoMemory (stop ∙ is))) was
+
+pub kept_tag-tag-requires-clause-node : goal.kept_tag-tag-requires-clause-node
+kept_tag-tag-requires-clause-node g c =
+    subst (λ (k : ℕ). IsNode k 0 c.args.page) (sym c.in_ok-parent_present.ensures.climbs.levels) (page_node c.args.self.now.levels c.args.page c.requires.page)
+
+pub read_node-requires-clause-place : goal.read_node-requires-clause-place
+read_node-requires-clause-place g c =
+    subst (λ (k : ℕ). IsNode k 0 c.args.page) (sym (c.in_ok-parent_present.ensures.climbs.moves.bus_levels ∙ c.requires.bus))
+    (page_node c.args.self.now.levels c.args.page c.requires.page)
+
+pub read_node-requires-clause-node : goal.read_node-requires-clause-node
+read_node-requires-clause-node g c =
+    subst (λ (k : ℕ). IsNode k 0 c.args.page) (sym (c.in_ok-parent_present.ensures.climbs.moves.levels ∙ c.requires.engine))
+    (page_node c.args.self.now.levels c.args.page c.requires.page)
+
+pub returns-clause-lines : goal.returns-clause-lines
+returns-clause-lines g c = (whole g c).lines

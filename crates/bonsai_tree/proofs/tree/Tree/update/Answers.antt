@@ -1,16 +1,22 @@
-use Rattle.std.proofs.Common.{◌≡◌, inl, inr, ◌+◌, ◌/◌, ◌≤◌, length, Option, Some, None, refl, sym, ◌∙◌, subst, arith, rules}
+use Rattle.std.proofs.Common.{◌≡◌, ◌⊎◌, inl, inr, ◌+◌, ◌/◌, ◌≤◌, List, [], ◌∷◌, ◌++◌, length, Option, Some, None, ap, sym, ◌∙◌, subst, arith, rules}
+use Rattle.sec_base.specs.declared.message.Message.{Message}
+use Rattle.sec_base.specs.declared.message.Message.TheVariants.{Node}
 use Rattle.sec_base.specs.declared.stop.MemStop.{MemStop}
 use Rattle.sec_base.specs.declared.stop.MemStop.TheVariants.{Tampered, NoMemory}
-use Rattle.tag_engine.specs.TagEngine.{tags_of}
+use Rattle.bus_model.specs.BusHistory.{BusHistory}
+use Rattle.tag_engine.specs.TagEngine.{TagEngineView, tags_of}
 use Rattle.checked_bus.specs.Accesses.{WritesMessages}
 use Rattle.checked_bus.specs.Steps.{IsAccounted, stop_of, unwritten_in}
-use Rattle.bonsai_tree.specs.Climb.{Climbs}
-use Rattle.bonsai_tree.specs.Tree.{path_accesses}
+use Rattle.bonsai_tree.specs.Climb.{Climbs, IsBlockOf, NoNode}
+use Rattle.bonsai_tree.specs.Node.{level_blocks}
+use Rattle.bonsai_tree.specs.Tree.{WritesBack, path_accesses}
 use Rattle.bonsai_tree.proofs.Climbs.{climbs_on, climbs_up}
 use Rattle.bonsai_tree.proofs.Copies.{few_copies}
+use Rattle.bonsai_tree.proofs.LevelBlocks.{blocks_after}
 use Rattle.bonsai_tree.proofs.Nodes.{on_err, stop_is}
 use Rattle.bonsai_tree.proofs.PathCalls.{climb_room, climb_writes, path_more, stop_of_err, updated_read}
 use Rattle.bonsai_tree.proofs.Views.{latest_cached}
+use Rattle.bonsai_tree.proofs.WrittenBack.{up_on, up_wider, written_back}
 use Rattle.bonsai_tree.proofs.tree.Tree.update.Given.{Over}
 use Rattle.bonsai_tree.proofs.tree.Tree.update.Goals as goal
 
@@ -47,6 +53,9 @@ returns-in_err-parent_present-clause-few_copies g c = λ level. few_copies c.par
 
 pub returns-in_err-parent_present-clause-new_copies : goal.returns-in_err-parent_present-clause-new_copies
 returns-in_err-parent_present-clause-new_copies g c = c.in_err-parent_present.ensures.climbs.read
+
+pub returns-in_err-parent_present-clause-slots : goal.returns-in_err-parent_present-clause-slots
+returns-in_err-parent_present-clause-slots g c = c.in_err-parent_present.ensures.climbs.slots
 
 pub returns-in_err-parent_present-clause-writes : goal.returns-in_err-parent_present-clause-writes
 returns-in_err-parent_present-clause-writes g c = λ more is.
@@ -98,6 +107,10 @@ returns-in_err-write_below-clause-lines g c =
 pub returns-in_err-write_below-clause-made_blocks : goal.returns-in_err-write_below-clause-made_blocks
 returns-in_err-write_below-clause-made_blocks g c =
     (whole_refused g c).made_blocks
+
+pub returns-in_err-write_below-clause-slots : goal.returns-in_err-write_below-clause-slots
+returns-in_err-write_below-clause-slots g c =
+    (whole_refused g c).slots
 
 pub returns-in_err-write_below-clause-moved : goal.returns-in_err-write_below-clause-moved
 returns-in_err-write_below-clause-moved g c =
@@ -173,6 +186,10 @@ pub returns-clause-made_blocks : goal.returns-clause-made_blocks
 returns-clause-made_blocks g c =
     (whole g c).made_blocks
 
+pub returns-clause-slots : goal.returns-clause-slots
+returns-clause-slots g c =
+    (whole g c).slots
+
 pub returns-clause-moved : goal.returns-clause-moved
 returns-clause-moved g c =
     g.met.B.Bus.moved_on c.args.bus.now c.parent_present.new.bus c.write_below.new.bus c.in_ok-parent_present.ensures.moved c.in_ok-write_below.ensures.moved
@@ -186,8 +203,18 @@ returns-clause-root g c =
     (whole g c).root
 
 pub returns-clause-holds : goal.returns-clause-holds
-returns-clause-holds g c = λ holds.
-    (whole g c).holds holds refl
+returns-clause-holds g c = λ holds memory.
+    (whole g c).holds holds (λ (e : None ≡ Some NoMemory). cc)
+
+pub returns-in_err-parent_present-clause-holds : goal.returns-in_err-parent_present-clause-holds
+returns-in_err-parent_present-clause-holds g c = λ holds memory.
+    let stop : stop_of c.from_residual.result ≡ Some c.in_err-parent_present.field-0.0 = search rules in
+    c.in_err-parent_present.ensures.climbs.holds holds (λ is. memory (stop_is c.from_residual.result NoMemory (stop ∙ is)))
+
+pub returns-in_err-write_below-clause-holds : goal.returns-in_err-write_below-clause-holds
+returns-in_err-write_below-clause-holds g c = λ holds memory.
+    let stop : stop_of c.from_residual-in_err-write_below.result ≡ Some NoMemory = search rules in
+    absurd (memory (stop_is c.from_residual-in_err-write_below.result NoMemory stop))
 
 pub returns-clause-honest : goal.returns-clause-honest
 returns-clause-honest g c = λ used holds was.
@@ -230,3 +257,99 @@ pub returns-in_err-write_below-clause-last_blocks : goal.returns-in_err-write_be
 returns-in_err-write_below-clause-last_blocks g c = λ was remembered.
     let stop : stop_of c.from_residual-in_err-write_below.result ≡ Some NoMemory = search rules in
     absurd (remembered (stop_is c.from_residual-in_err-write_below.result NoMemory stop))
+
+-- which messages of pages' blocks were made
+pub returns-in_err-parent_present-clause-one_at_most : goal.returns-in_err-parent_present-clause-one_at_most
+returns-in_err-parent_present-clause-one_at_most g c = inl (c.in_err-parent_present.ensures.climbs.blocks 0 (omega arith))
+
+pub returns-in_err-write_below-clause-one_at_most : goal.returns-in_err-write_below-clause-one_at_most
+returns-in_err-write_below-clause-one_at_most g c =
+    elim c.in_err-write_below.ensures.one_at_most [
+      | inl same ↦ inl (ap (λ (made : List Message). level_blocks 0 made) same ∙ c.in_ok-parent_present.ensures.climbs.blocks 0 (omega arith))
+      | inr one ↦ inr (blocks_after 0 c.args.page c.args.block.now c.args.tags.now.made c.parent_present.new.tags.made c.write_below.new.tags.made
+          (c.in_ok-parent_present.ensures.climbs.blocks 0 (omega arith)) one)
+    ]
+
+pub returns-clause-one_page : goal.returns-clause-one_page
+returns-clause-one_page g c =
+    blocks_after 0 c.args.page c.args.block.now c.args.tags.now.made c.parent_present.new.tags.made c.write_below.new.tags.made
+    (c.in_ok-parent_present.ensures.climbs.blocks 0 (omega arith)) c.in_ok-write_below.ensures.made
+
+pub returns-clause-one_at_most : goal.returns-clause-one_at_most
+returns-clause-one_at_most g c = inr (returns-clause-one_page g c)
+
+-- where the node above it has a copy
+pub returns-in_err-parent_present-clause-hit : goal.returns-in_err-parent_present-clause-hit
+returns-in_err-parent_present-clause-hit g c = λ held.
+    let same : (g.B.Bus.history c.parent_present.new.bus).accesses ≡ (g.B.Bus.history c.args.bus.now).accesses =
+    ap (λ (history : BusHistory). history.accesses) (c.in_err-parent_present.ensures.hit held).0 in
+    omega (arith, same)
+
+pub returns-in_err-parent_present-clause-hit_made : goal.returns-in_err-parent_present-clause-hit_made
+returns-in_err-parent_present-clause-hit_made g c = λ held.
+    inl (ap (λ (engine : TagEngineView g.row.T.Denot). engine.made) (c.in_err-parent_present.ensures.hit held).1)
+
+pub returns-in_err-write_below-clause-hit : goal.returns-in_err-write_below-clause-hit
+returns-in_err-write_below-clause-hit g c = λ held.
+    let same : (g.B.Bus.history c.parent_present.new.bus).accesses ≡ (g.B.Bus.history c.args.bus.now).accesses =
+    ap (λ (history : BusHistory). history.accesses) (c.in_ok-parent_present.ensures.hit held).0 in
+    omega (arith, same, c.in_err-write_below.ensures.once)
+
+pub returns-in_err-write_below-clause-hit_made : goal.returns-in_err-write_below-clause-hit_made
+returns-in_err-write_below-clause-hit_made g c = λ held.
+    let same : c.parent_present.new.tags.made ≡ c.args.tags.now.made =
+    ap (λ (engine : TagEngineView g.row.T.Denot). engine.made) (c.in_ok-parent_present.ensures.hit held).1 in
+    subst (λ (made : List Message). (c.write_below.new.tags.made ≡ made) ⊎ (c.write_below.new.tags.made ≡ made ++ Node 0 c.args.page c.args.block.now ∷ [])) same
+    c.in_err-write_below.ensures.one_at_most
+
+pub returns-clause-hit : goal.returns-clause-hit
+returns-clause-hit g c = λ held.
+    let same : (g.B.Bus.history c.parent_present.new.bus).accesses ≡ (g.B.Bus.history c.args.bus.now).accesses =
+    ap (λ (history : BusHistory). history.accesses) (c.in_ok-parent_present.ensures.hit held).0 in
+    omega (arith, same, c.in_ok-write_below.ensures.once)
+
+pub returns-clause-hit_made : goal.returns-clause-hit_made
+returns-clause-hit_made g c = λ held.
+    let same : c.parent_present.new.tags.made ≡ c.args.tags.now.made =
+    ap (λ (engine : TagEngineView g.row.T.Denot). engine.made) (c.in_ok-parent_present.ensures.hit held).1 in
+    subst (λ (made : List Message). (c.write_below.new.tags.made ≡ made) ⊎ (c.write_below.new.tags.made ≡ made ++ Node 0 c.args.page c.args.block.now ∷ [])) same
+    c.in_ok-write_below.ensures.one_at_most
+
+pub returns-in_err-parent_present-clause-written_back : goal.returns-in_err-parent_present-clause-written_back
+returns-in_err-parent_present-clause-written_back g c =
+    let why = c.in_err-parent_present.field-0.0 in
+    let stop : stop_of c.from_residual.result ≡ Some why = search rules in
+    subst (λ (s : Option MemStop). WritesBack c.args.self.now (g.B.Bus.history c.args.bus.now) c.args.tags.now.made c.parent_present.new.self (g.B.Bus.history c.parent_present.new.bus) c.parent_present.new.tags.made s) (sym stop)
+    (written_back NoNode c.args.self.now c.parent_present.new.self (g.B.Bus.history c.args.bus.now) (g.B.Bus.history c.parent_present.new.bus) c.args.tags.now.made c.parent_present.new.tags.made (Some why) c.in_err-parent_present.ensures.back)
+
+pub returns-in_err-write_below-clause-written_back : goal.returns-in_err-write_below-clause-written_back
+returns-in_err-write_below-clause-written_back g c =
+    let stop : stop_of c.from_residual-in_err-write_below.result ≡ Some NoMemory = search rules in
+    subst (λ (s : Option MemStop). WritesBack c.args.self.now (g.B.Bus.history c.args.bus.now) c.args.tags.now.made c.write_below.new.self (g.B.Bus.history c.write_below.new.bus) c.write_below.new.tags.made s) (sym stop)
+    (written_back (IsBlockOf 0 c.args.page c.args.block.now) c.args.self.now c.write_below.new.self (g.B.Bus.history c.args.bus.now) (g.B.Bus.history c.write_below.new.bus) c.args.tags.now.made c.write_below.new.tags.made (Some NoMemory)
+    (up_on 1 (IsBlockOf 0 c.args.page c.args.block.now) c.args.self.now c.parent_present.new.self c.write_below.new.self (g.B.Bus.history c.args.bus.now) (g.B.Bus.history c.parent_present.new.bus) (g.B.Bus.history c.write_below.new.bus) c.args.tags.now.made c.parent_present.new.tags.made c.write_below.new.tags.made (Some NoMemory)
+    c.in_ok-parent_present.ensures.climbs.moves.reads c.in_err-write_below.ensures.climbs.moves.reads
+    (up_wider 1 1 (IsBlockOf 0 c.args.page c.args.block.now) c.args.self.now c.parent_present.new.self (g.B.Bus.history c.args.bus.now) (g.B.Bus.history c.parent_present.new.bus) c.args.tags.now.made c.parent_present.new.tags.made None (omega arith) c.in_ok-parent_present.ensures.back)
+    c.in_err-write_below.ensures.back))
+
+pub returns-clause-written_back : goal.returns-clause-written_back
+returns-clause-written_back g c =
+    written_back (IsBlockOf 0 c.args.page c.args.block.now) c.args.self.now c.write_below.new.self (g.B.Bus.history c.args.bus.now) (g.B.Bus.history c.write_below.new.bus) c.args.tags.now.made c.write_below.new.tags.made None
+    (up_on 1 (IsBlockOf 0 c.args.page c.args.block.now) c.args.self.now c.parent_present.new.self c.write_below.new.self (g.B.Bus.history c.args.bus.now) (g.B.Bus.history c.parent_present.new.bus) (g.B.Bus.history c.write_below.new.bus) c.args.tags.now.made c.parent_present.new.tags.made c.write_below.new.tags.made None
+    c.in_ok-parent_present.ensures.climbs.moves.reads c.in_ok-write_below.ensures.climbs.moves.reads
+    (up_wider 1 1 (IsBlockOf 0 c.args.page c.args.block.now) c.args.self.now c.parent_present.new.self (g.B.Bus.history c.args.bus.now) (g.B.Bus.history c.parent_present.new.bus) c.args.tags.now.made c.parent_present.new.tags.made None (omega arith) c.in_ok-parent_present.ensures.back)
+    c.in_ok-write_below.ensures.back)
+
+pub returns-in_err-parent_present-clause-no_rise : goal.returns-in_err-parent_present-clause-no_rise
+returns-in_err-parent_present-clause-no_rise g c = c.in_err-parent_present.ensures.climbs.no_rise
+
+pub returns-in_err-write_below-clause-no_rise : goal.returns-in_err-write_below-clause-no_rise
+returns-in_err-write_below-clause-no_rise g c = (whole_refused g c).no_rise
+
+pub returns-clause-no_rise : goal.returns-clause-no_rise
+returns-clause-no_rise g c = (whole g c).no_rise
+
+pub returns-in_err-parent_present-clause-last_blocks : goal.returns-in_err-parent_present-clause-last_blocks
+returns-in_err-parent_present-clause-last_blocks g c = λ was memory.
+    let stop : stop_of c.from_residual.result ≡ Some c.in_err-parent_present.field-0.0 = search rules in
+    c.in_err-parent_present.ensures.climbs.last_blocks (λ is. memory (stop_is c.from_residual.result NoMemory (stop ∙ is))) was

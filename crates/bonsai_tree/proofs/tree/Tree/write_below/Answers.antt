@@ -3,15 +3,16 @@ use Rattle.std.specs.Option.{option_map}
 use Rattle.sec_base.specs.declared.stop.MemStop.{MemStop}
 use Rattle.sec_base.specs.declared.stop.MemStop.TheVariants.{NoMemory}
 use Rattle.tag_engine.specs.TagEngine.{TagEngineView, tags_of}
-use Rattle.bonsai_tree.specs.Climb.{Climbs}
+use Rattle.bonsai_tree.specs.Climb.{Climbs, IsBlockOf, WritesUp}
 use Rattle.bonsai_tree.specs.Node.{CachedNode}
 use Rattle.bonsai_tree.specs.NodeCache.{copy_of}
 use Rattle.bonsai_tree.specs.Tree.{cached_node, want_of}
 use Rattle.bonsai_tree.proofs.Climbs.{climbs_refused}
 use Rattle.bonsai_tree.proofs.Nodes.{on_err}
-use Rattle.bonsai_tree.proofs.NodeCalls.{climbs_wrote, held_copy, last_apart, put_holds, puts_held, writes_taken, written_apart}
+use Rattle.bonsai_tree.proofs.NodeCalls.{blocks_apart, climbs_wrote, held_copy, last_apart, made_one, no_rise_one, put_holds, put_slots, puts_held, writes_taken, written_apart}
 use Rattle.bonsai_tree.proofs.NodeWrites.{NodeWritten, own, written_not, written_once}
 use Rattle.bonsai_tree.proofs.Puts.{PutsTag}
+use Rattle.bonsai_tree.proofs.WrittenBack.{up_made, up_same}
 use Rattle.bonsai_tree.proofs.tree.Tree.write_below.Goals as goal
 
 pub returns-in_err-reserve-clause-climbs : goal.returns-in_err-reserve-clause-climbs
@@ -34,10 +35,14 @@ returns-in_err-tag-clause-climbs g c =
     (Some NoMemory) (inr refl)
     (writes_taken g.T.Tagger.data_tag_of g.T.Tagger.node_tag_of c.args.self.now.levels (g.B.Bus.history c.args.bus.now) (g.B.Bus.history c.write_node.new.bus) c.args.tags.now c.reserve.new.self c.write_node.new.tags 1 c.in_ok-reserve.ensures.taken
     (written_not g.T.Tagger.data_tag_of g.T.Tagger.node_tag_of c.args.level c.args.index c.args.block.now (g.B.Bus.history c.args.bus.now) (g.B.Bus.history c.write_node.new.bus) c.reserve.new.self c.write_node.new.tags write c.args.self.now.levels c.in_err-tag.ensures.err))
+    (no_rise_one g.T.Tagger.data_tag_of g.T.Tagger.node_tag_of c.args.self.now c.args.self.now c.args.level c.args.index c.args.block.now [] (g.B.Bus.history c.args.bus.now) (g.B.Bus.history c.write_node.new.bus) c.args.tags.now c.reserve.new.self c.write_node.new.tags c.in_ok-reserve.ensures.taken write)
     refl refl (λ are. are) (λ other low. refl)
     (λ other at low. last_apart g.T.Tagger.data_tag_of g.T.Tagger.node_tag_of c.args.self.now c.args.self.now c.args.level c.args.index c.args.block.now [] (g.B.Bus.history c.args.bus.now) (g.B.Bus.history c.write_node.new.bus) c.args.tags.now c.reserve.new.self c.write_node.new.tags c.in_ok-reserve.ensures.taken write other at (λ same. absurd (omega (arith, same.0, low))))
+    (λ other low. blocks_apart g.T.Tagger.data_tag_of g.T.Tagger.node_tag_of c.args.self.now c.args.self.now c.args.level c.args.index c.args.block.now [] (g.B.Bus.history c.args.bus.now) (g.B.Bus.history c.write_node.new.bus) c.args.tags.now c.reserve.new.self c.write_node.new.tags c.in_ok-reserve.ensures.taken write other (λ (same : c.args.level ≡ other). absurd (omega (arith, same, low))))
     (λ other at low. written_apart g.T.Tagger.data_tag_of g.T.Tagger.node_tag_of c.args.self.now c.args.self.now c.args.level c.args.index c.args.block.now [] (g.B.Bus.history c.args.bus.now) (g.B.Bus.history c.write_node.new.bus) c.args.tags.now c.reserve.new.self c.write_node.new.tags c.in_ok-reserve.ensures.taken write other at (λ same. absurd (omega (arith, same.0, low))))
-    (λ holds none. absurd (cc)) (λ other at held. held))
+    (λ holds remembered. absurd (remembered refl))
+    (put_slots g.T.Tagger.data_tag_of g.T.Tagger.node_tag_of c.args.self.now c.args.self.now c.args.level c.args.index c.args.block.now [] (g.B.Bus.history c.args.bus.now) (g.B.Bus.history c.write_node.new.bus) c.args.tags.now c.reserve.new.self c.write_node.new.tags c.in_ok-reserve.ensures.taken write c.requires.node c.requires.current)
+    (λ other at held. held))
 
 pub returns-in_err-tag-clause-refused : goal.returns-in_err-tag-clause-refused
 returns-in_err-tag-clause-refused g c =
@@ -82,10 +87,64 @@ returns-clause-climbs g c =
     None (inl refl)
     (writes_taken g.T.Tagger.data_tag_of g.T.Tagger.node_tag_of c.args.self.now.levels (g.B.Bus.history c.args.bus.now) (g.B.Bus.history c.write_node.new.bus) c.args.tags.now c.reserve.new.self c.write_node.new.tags 0 c.in_ok-reserve.ensures.taken
     (written_once g.T.Tagger.data_tag_of g.T.Tagger.node_tag_of c.args.level c.args.index c.args.block.now (g.B.Bus.history c.args.bus.now) (g.B.Bus.history c.write_node.new.bus) c.reserve.new.self c.write_node.new.tags write c.args.self.now.levels c.in_ok-tag.ensures.once))
+    (no_rise_one g.T.Tagger.data_tag_of g.T.Tagger.node_tag_of c.args.self.now c.keep_tag.new.self c.args.level c.args.index c.args.block.now c.in_ok-tag.tag (g.B.Bus.history c.args.bus.now) (g.B.Bus.history c.write_node.new.bus) c.args.tags.now c.reserve.new.self c.write_node.new.tags c.in_ok-reserve.ensures.taken write)
     c.keep_tag.ensures.levels c.keep_tag.ensures.root (λ are. c.keep_tag.ensures.nodes)
     (λ other low. c.keep_tag.ensures.others other (λ (same : other ≡ c.args.level + 1). absurd (omega (arith, same, low))))
     (λ other at low. last_apart g.T.Tagger.data_tag_of g.T.Tagger.node_tag_of c.args.self.now c.keep_tag.new.self c.args.level c.args.index c.args.block.now c.in_ok-tag.tag (g.B.Bus.history c.args.bus.now) (g.B.Bus.history c.write_node.new.bus) c.args.tags.now c.reserve.new.self c.write_node.new.tags c.in_ok-reserve.ensures.taken write other at (λ same. absurd (omega (arith, same.0, low))))
+    (λ other low. blocks_apart g.T.Tagger.data_tag_of g.T.Tagger.node_tag_of c.args.self.now c.keep_tag.new.self c.args.level c.args.index c.args.block.now c.in_ok-tag.tag (g.B.Bus.history c.args.bus.now) (g.B.Bus.history c.write_node.new.bus) c.args.tags.now c.reserve.new.self c.write_node.new.tags c.in_ok-reserve.ensures.taken write other (λ (same : c.args.level ≡ other). absurd (omega (arith, same, low))))
     (λ other at low. written_apart g.T.Tagger.data_tag_of g.T.Tagger.node_tag_of c.args.self.now c.keep_tag.new.self c.args.level c.args.index c.args.block.now c.in_ok-tag.tag (g.B.Bus.history c.args.bus.now) (g.B.Bus.history c.write_node.new.bus) c.args.tags.now c.reserve.new.self c.write_node.new.tags c.in_ok-reserve.ensures.taken write other at (λ same. absurd (omega (arith, same.0, low))))
-    (λ holds none. put_holds g.T.Tagger.data_tag_of g.T.Tagger.node_tag_of c.args.self.now c.keep_tag.new.self c.args.level c.args.index c.args.block.now c.in_ok-tag.tag (g.B.Bus.history c.args.bus.now) (g.B.Bus.history c.write_node.new.bus) c.args.tags.now c.reserve.new.self c.write_node.new.tags c.in_ok-reserve.ensures.taken write c.in_ok-tag.ensures.once puts c.requires.below c.requires.node
+    (λ holds remembered. put_holds g.T.Tagger.data_tag_of g.T.Tagger.node_tag_of c.args.self.now c.keep_tag.new.self c.args.level c.args.index c.args.block.now c.in_ok-tag.tag (g.B.Bus.history c.args.bus.now) (g.B.Bus.history c.write_node.new.bus) c.args.tags.now c.reserve.new.self c.write_node.new.tags c.in_ok-reserve.ensures.taken write c.in_ok-tag.ensures.once puts c.requires.below c.requires.node
     c.in_ok-tag.ensures.tag.0 c.in_ok-tag.ensures.tag.1 (search rules) c.requires.current holds)
+    (put_slots g.T.Tagger.data_tag_of g.T.Tagger.node_tag_of c.args.self.now c.keep_tag.new.self c.args.level c.args.index c.args.block.now c.in_ok-tag.tag (g.B.Bus.history c.args.bus.now) (g.B.Bus.history c.write_node.new.bus) c.args.tags.now c.reserve.new.self c.write_node.new.tags c.in_ok-reserve.ensures.taken write c.requires.node c.requires.current)
     (puts_held c.args.self.now c.keep_tag.new.self c.args.level c.args.index c.in_ok-tag.tag puts)
+
+pub returns-in_err-reserve-clause-one_at_most : goal.returns-in_err-reserve-clause-one_at_most
+returns-in_err-reserve-clause-one_at_most g c =
+    inl (ap (λ (e : TagEngineView g.row.T.Denot). e.made) c.in_err-reserve.ensures.refused)
+
+pub returns-in_err-tag-clause-one_at_most : goal.returns-in_err-tag-clause-one_at_most
+returns-in_err-tag-clause-one_at_most g c =
+    let write : NodeWritten (tags_of g.T.Tagger.data_tag_of g.T.Tagger.node_tag_of) c.args.level c.args.index c.args.block.now (g.B.Bus.history c.args.bus.now) c.reserve.new.self (g.B.Bus.history c.write_node.new.bus) c.write_node.new.tags =
+    record { made = c.in_err-tag.ensures.made; moves = c.in_err-tag.ensures.moves; lines = c.in_err-tag.ensures.lines; others = c.in_err-tag.ensures.others; honest = c.in_err-tag.ensures.honest } in
+    inr (made_one g.T.Tagger.data_tag_of g.T.Tagger.node_tag_of c.args.self.now c.args.self.now c.args.level c.args.index c.args.block.now [] (g.B.Bus.history c.args.bus.now) (g.B.Bus.history c.write_node.new.bus) c.args.tags.now c.reserve.new.self c.write_node.new.tags c.in_ok-reserve.ensures.taken write)
+
+pub returns-clause-made : goal.returns-clause-made
+returns-clause-made g c =
+    let write : NodeWritten (tags_of g.T.Tagger.data_tag_of g.T.Tagger.node_tag_of) c.args.level c.args.index c.args.block.now (g.B.Bus.history c.args.bus.now) c.reserve.new.self (g.B.Bus.history c.write_node.new.bus) c.write_node.new.tags =
+    record { made = c.in_ok-tag.ensures.made; moves = c.in_ok-tag.ensures.moves; lines = c.in_ok-tag.ensures.lines; others = c.in_ok-tag.ensures.others; honest = c.in_ok-tag.ensures.honest } in
+    made_one g.T.Tagger.data_tag_of g.T.Tagger.node_tag_of c.args.self.now c.args.self.now c.args.level c.args.index c.args.block.now [] (g.B.Bus.history c.args.bus.now) (g.B.Bus.history c.write_node.new.bus) c.args.tags.now c.reserve.new.self c.write_node.new.tags c.in_ok-reserve.ensures.taken write
+
+pub returns-clause-one_at_most : goal.returns-clause-one_at_most
+returns-clause-one_at_most g c = inr (returns-clause-made g c)
+
+pub returns-in_err-reserve-clause-back : goal.returns-in_err-reserve-clause-back
+returns-in_err-reserve-clause-back g c =
+    let stop : want_of c.from_residual.result ≡ Some NoMemory = search rules in
+    subst (λ (s : Option MemStop). WritesUp (c.args.level + 1) (IsBlockOf c.args.level c.args.index c.args.block.now) c.args.self.now (g.B.Bus.history c.args.bus.now) c.args.tags.now.made c.args.self.now (g.B.Bus.history c.args.bus.now) c.reserve.new.self.made s) (sym stop)
+    (up_same (c.args.level + 1) (IsBlockOf c.args.level c.args.index c.args.block.now) c.args.self.now c.args.self.now (g.B.Bus.history c.args.bus.now) (g.B.Bus.history c.args.bus.now) c.args.tags.now.made c.reserve.new.self.made (Some NoMemory)
+    (ap (λ (e : TagEngineView g.row.T.Denot). e.made) c.in_err-reserve.ensures.refused) (λ level index. refl))
+
+pub returns-in_err-tag-clause-back : goal.returns-in_err-tag-clause-back
+returns-in_err-tag-clause-back g c =
+    let write : NodeWritten (tags_of g.T.Tagger.data_tag_of g.T.Tagger.node_tag_of) c.args.level c.args.index c.args.block.now (g.B.Bus.history c.args.bus.now) c.reserve.new.self (g.B.Bus.history c.write_node.new.bus) c.write_node.new.tags =
+    record { made = c.in_err-tag.ensures.made; moves = c.in_err-tag.ensures.moves; lines = c.in_err-tag.ensures.lines; others = c.in_err-tag.ensures.others; honest = c.in_err-tag.ensures.honest } in
+    let stop : want_of c.from_residual-in_err-tag.result ≡ Some NoMemory = search rules in
+    subst (λ (s : Option MemStop). WritesUp (c.args.level + 1) (IsBlockOf c.args.level c.args.index c.args.block.now) c.args.self.now (g.B.Bus.history c.args.bus.now) c.args.tags.now.made c.args.self.now (g.B.Bus.history c.write_node.new.bus) c.write_node.new.tags.made s) (sym stop)
+    (up_made c.args.level c.args.index c.args.block.now c.args.self.now c.args.self.now (g.B.Bus.history c.args.bus.now) (g.B.Bus.history c.write_node.new.bus) c.args.tags.now.made c.write_node.new.tags.made (Some NoMemory)
+    (made_one g.T.Tagger.data_tag_of g.T.Tagger.node_tag_of c.args.self.now c.args.self.now c.args.level c.args.index c.args.block.now [] (g.B.Bus.history c.args.bus.now) (g.B.Bus.history c.write_node.new.bus) c.args.tags.now c.reserve.new.self c.write_node.new.tags c.in_ok-reserve.ensures.taken write) (λ other at apart. refl) (λ other at held. held))
+
+pub returns-clause-back : goal.returns-clause-back
+returns-clause-back g c =
+    let found : (copy : CachedNode) × (cached_node c.args.self.now (c.args.level + 1) (c.args.index / 4) ≡ Some copy) =
+    held_copy (cached_node c.args.self.now (c.args.level + 1) (c.args.index / 4)) c.keep_tag.ensures.held in
+    let puts : PutsTag c.args.self.now c.keep_tag.new.self c.args.level c.args.index c.in_ok-tag.tag =
+    record {
+      levels = c.keep_tag.ensures.levels;
+      root = c.keep_tag.ensures.root;
+      copy = found.0;
+      held = found.1;
+      put = c.keep_tag.ensures.put found.0 found.1;
+      same = λ other at apart. ap (option_map copy_of) (c.keep_tag.ensures.same other at apart);
+    } in
+    up_made c.args.level c.args.index c.args.block.now c.args.self.now c.keep_tag.new.self (g.B.Bus.history c.args.bus.now) (g.B.Bus.history c.write_node.new.bus) c.args.tags.now.made c.write_node.new.tags.made None
+    (returns-clause-made g c) puts.same (puts_held c.args.self.now c.keep_tag.new.self c.args.level c.args.index c.in_ok-tag.tag puts)

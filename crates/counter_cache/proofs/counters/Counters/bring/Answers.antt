@@ -20,11 +20,11 @@ use Rattle.bonsai_tree.specs.Tree.{IsFetchPlace, PathWasRead, TreeView, path_acc
 use Rattle.bonsai_tree.proofs.Climbs.{above_none}
 use Rattle.bonsai_tree.proofs.Nodes.{same_tags, stop_is}
 use Rattle.bonsai_tree.proofs.PathCalls.{not_from_one}
-use Rattle.counter_cache.specs.Counters.{AreBlocks, CameFrom, CountersView, IsHad, LeavesClean, cached_block, cached_pages, leaving}
+use Rattle.counter_cache.specs.Counters.{AreBlocks, CameFrom, CountersView, IsHad, LeavesClean, OnlyLeavingIsMade, cached_block, cached_pages, leaving}
 use Rattle.counter_cache.specs.Having.{Has}
-use Rattle.counter_cache.proofs.BlockCopies.{blocks_put, blocks_same, cached_held}
+use Rattle.counter_cache.proofs.BlockCopies.{blocks_put, blocks_same, cached_held, none_made_on}
 use Rattle.counter_cache.proofs.Hads.{had_tagged, quiet_before}
-use Rattle.counter_cache.proofs.Havings.{TreeCall, has_on, has_put, has_room, has_touched, has_tree, no_copy_below, ok_at, over, path_on, unmade_before}
+use Rattle.counter_cache.proofs.Havings.{TreeCall, has_on, has_put, has_room, has_touched, has_tree, no_copy_below, no_want, over, path_on, unmade_before}
 use Rattle.counter_cache.proofs.counters.Counters.bring.Goals as goal
 
 -- where it has a copy
@@ -99,7 +99,7 @@ returns-in_err-block-clause-has g c =
       levels = c.fetch.ensures.levels;
       root = c.fetch.ensures.root;
       few_nodes = c.fetch.ensures.few_copies;
-      holds = λ holds going. ok_at c.fetch.result going (c.fetch.ensures.holds holds);
+      holds = λ holds going. c.fetch.ensures.holds holds (no_want c.fetch.result going);
       honest = λ holds used was. c.fetch.ensures.honest used holds was;
       lied = λ holds quiet place is. c.fetch.ensures.tampered place (stop_is c.fetch.result (Tampered place) is) holds quiet;
       shown = c.fetch.ensures.shown;
@@ -109,6 +109,7 @@ returns-in_err-block-clause-has g c =
       writes = c.fetch.ensures.writes;
       made_blocks = c.fetch.ensures.made_blocks;
       last_blocks = λ remembered was. c.fetch.ensures.last_blocks was (λ is. remembered (ap stop_of is));
+      slots = c.fetch.ensures.slots;
       read = c.fetch.ensures.new_copies;
     })
     (λ page unchanged. c.fetch.ensures.pages.last page))))
@@ -181,7 +182,7 @@ returns-clause-has g c =
       levels = c.fetch.ensures.levels;
       root = c.fetch.ensures.root;
       few_nodes = c.fetch.ensures.few_copies;
-      holds = λ holds going. ok_at c.fetch.result going (c.fetch.ensures.holds holds);
+      holds = λ holds going. c.fetch.ensures.holds holds (no_want c.fetch.result going);
       honest = λ holds used was. c.fetch.ensures.honest used holds was;
       lied = λ holds quiet place is. c.fetch.ensures.tampered place (stop_is c.fetch.result (Tampered place) is) holds quiet;
       shown = c.fetch.ensures.shown;
@@ -191,6 +192,7 @@ returns-clause-has g c =
       writes = c.fetch.ensures.writes;
       made_blocks = c.fetch.ensures.made_blocks;
       last_blocks = λ remembered was. c.fetch.ensures.last_blocks was (λ is. remembered (ap stop_of is));
+      slots = c.fetch.ensures.slots;
       read = c.fetch.ensures.new_copies;
     }))
     c.fetch.ensures.pages.last
@@ -273,3 +275,51 @@ returns-clause-once_clean g c = λ clean.
     ap (λ (v : CountersView). v.tree.levels) c.self-2.view_is ∙ c.in_ok-make_room.ensures.has.levels ∙ ap (λ (v : CountersView). v.tree.levels) c.self.view_is in
     subst (λ (k : ℕ). (g.B.Bus.history c.fetch.new.bus).accesses ≤ (g.B.Bus.history c.args.bus.now).accesses + path_accesses k) levels
     (subst (λ (n : ℕ). (g.B.Bus.history c.fetch.new.bus).accesses ≤ n + path_accesses c.self-2.inside.tree.levels) idle c.fetch.ensures.once)
+
+-- no copy is marked
+pub returns-then-touch-clause-unmarked : goal.returns-then-touch-clause-unmarked
+returns-then-touch-clause-unmarked g c = λ copy found marked.
+    sym (ap (option_map copy_of) (c.if-touch.ensures.same c.args.page ∙ ap (λ (v : CountersView). way_at v.blocks c.args.page) c.self.view_is)) ∙ found
+
+pub returns-in_err-make_room-clause-unmarked : goal.returns-in_err-make_room-clause-unmarked
+returns-in_err-make_room-clause-unmarked g c = λ copy found marked.
+    let none : None ≡ Some copy = sym (ap (option_map copy_of) c.make_room.ensures.absent) ∙ found in
+    absurd (cc)
+
+pub returns-in_err-block-clause-unmarked : goal.returns-in_err-block-clause-unmarked
+returns-in_err-block-clause-unmarked g c = λ copy found marked.
+    let empty : cached_block (record { tree = c.fetch.new.self; blocks = c.self-2.inside.blocks }) c.args.page ≡ None =
+    ap (λ (v : CountersView). cached_block v c.args.page) c.self-2.view_is ∙ ap (option_map copy_of) c.make_room.ensures.absent in
+    let none : None ≡ Some copy = sym empty ∙ found in
+    absurd (cc)
+
+pub returns-clause-unmarked : goal.returns-clause-unmarked
+returns-clause-unmarked g c = λ copy found marked.
+    let is : Some (record { block = c.in_ok-block.block; changed = false }) ≡ Some copy = sym (ap (option_map copy_of) c.put.ensures.put) ∙ found in
+    let unchanged : copy.changed ≡ false = cc in
+    absurd (cc)
+
+-- which blocks were made
+pub returns-in_err-make_room-clause-written : goal.returns-in_err-make_room-clause-written
+returns-in_err-make_room-clause-written g c =
+    let same : (record { tree = c.self.inside.tree; blocks = c.touch.new.self }) ≡ c.args.self.now =
+    ap (λ (b : List (List Way)). record { tree = c.self.inside.tree; blocks = b }) (c.if-touch.ensures.unchanged refl) ∙ c.self.view_is in
+    subst (λ (v : CountersView). OnlyLeavingIsMade v c.args.page c.args.tags.now.made c.make_room.new.tags.made) same c.make_room.ensures.written
+
+pub returns-in_err-block-clause-written : goal.returns-in_err-block-clause-written
+returns-in_err-block-clause-written g c =
+    let same : (record { tree = c.self.inside.tree; blocks = c.touch.new.self }) ≡ c.args.self.now =
+    ap (λ (b : List (List Way)). record { tree = c.self.inside.tree; blocks = b }) (c.if-touch.ensures.unchanged refl) ∙ c.self.view_is in
+    none_made_on c.args.self.now c.args.page c.args.tags.now.made c.make_room.new.tags.made c.fetch.new.tags.made c.fetch.ensures.no_page
+    (subst (λ (v : CountersView). OnlyLeavingIsMade v c.args.page c.args.tags.now.made c.make_room.new.tags.made) same c.make_room.ensures.written)
+
+pub returns-clause-written : goal.returns-clause-written
+returns-clause-written g c =
+    let same : (record { tree = c.self.inside.tree; blocks = c.touch.new.self }) ≡ c.args.self.now =
+    ap (λ (b : List (List Way)). record { tree = c.self.inside.tree; blocks = b }) (c.if-touch.ensures.unchanged refl) ∙ c.self.view_is in
+    none_made_on c.args.self.now c.args.page c.args.tags.now.made c.make_room.new.tags.made c.fetch.new.tags.made c.fetch.ensures.no_page
+    (subst (λ (v : CountersView). OnlyLeavingIsMade v c.args.page c.args.tags.now.made c.make_room.new.tags.made) same c.make_room.ensures.written)
+
+pub returns-in_err-block-clause-moved : goal.returns-in_err-block-clause-moved
+returns-in_err-block-clause-moved g c =
+    g.met.B.Bus.moved_on c.args.bus.now c.make_room.new.bus c.fetch.new.bus c.make_room.ensures.moved c.fetch.ensures.moved

@@ -1,4 +1,4 @@
-use Rattle.std.proofs.Common.{◌≡◌, ◌≢◌, ◌<◌, ℕ, length, Option, Some, Err, true, is_some, ap, sym, ◌∙◌, subst, rules}
+use Rattle.std.proofs.Common.{◌≡◌, ◌≢◌, ◌<◌, ℕ, length, Option, Some, None, Err, true, is_some, ap, sym, ◌∙◌, subst, rules}
 use Rattle.std.specs.List.{Contains}
 use Rattle.std.specs.Option.{option_map}
 use Rattle.sec_base.specs.Geometry.{page_count}
@@ -13,7 +13,8 @@ use Rattle.split_counter.specs.declared.bumped.Bumped.TheVariants.{Line, Page, S
 use Rattle.split_counter.specs.CounterBlock.{CounterBlockView, IsCounterBlock, after_bump, block_of, bumped, counter_of}
 use Rattle.bonsai_tree.specs.Node.{current_of}
 use Rattle.bonsai_tree.specs.NodeCache.{copy_of}
-use Rattle.bonsai_tree.proofs.Nodes.{stop_is}
+use Rattle.bonsai_tree.specs.Tree.{cached_node}
+use Rattle.bonsai_tree.proofs.Nodes.{on_err, stop_is}
 use Rattle.counter_cache.specs.Counters.{CountersView, cached_block, cached_pages, counters_in}
 use Rattle.counter_cache.proofs.BlockCopies.{blocks_put, few_blocks, same_pages}
 use Rattle.counter_cache.proofs.Blocks.{counters_of_copy}
@@ -26,6 +27,9 @@ returns-in_err-block-clause-last_blocks g c = λ was memory.
     let stop : stop_of c.from_residual.result ≡ Some c.in_err-block.field-0.0 = search rules in
     c.get.ensures.last_blocks was
     (λ (is : c.get.result ≡ Err NoMemory). memory (stop_is c.from_residual.result NoMemory (stop ∙ sym (ap stop_of c.in_err-block.was) ∙ ap stop_of is)))
+
+pub returns-in_err-block-clause-refused : goal.returns-in_err-block-clause-refused
+returns-in_err-block-clause-refused g c = λ holds quiet. on_err c.from_residual.result (c.get.ensures.same holds quiet)
 
 pub invariant_of-self : goal.invariant_of-self
 invariant_of-self g c =
@@ -76,6 +80,10 @@ returns-clause-new_copies g c = λ other listed.
     (subst (λ (v : CountersView). Contains (cached_pages v) other) c.self.view_is
     (same_pages c.self.inside.blocks c.change.new.self c.args.page c.change.ensures.cache
     (subst (λ (v : CountersView). Contains (cached_pages v) c.args.page) (sym c.self.view_is) c.in_ok-block.ensures.cached) c.change.ensures.same other listed))
+
+pub returns-clause-new_nodes : goal.returns-clause-new_nodes
+returns-clause-new_nodes g c = λ level index held.
+    c.get.ensures.new_nodes level index (subst (λ (v : CountersView). cached_node v.tree level index ≢ None) c.self.view_is held)
 
 pub returns-clause-checked : goal.returns-clause-checked
 returns-clause-checked g c =

@@ -9,7 +9,7 @@ use Rattle.bonsai_tree.specs.NodeCache.{copy_of}
 use Rattle.bonsai_tree.specs.Tree.{IsNodeFrom}
 use Rattle.counter_cache.specs.Counters.{AreBlocks, CountersView, leaving}
 use Rattle.counter_cache.specs.Having.{Has}
-use Rattle.counter_cache.proofs.BlockCopies.{apart_from, blocks_left}
+use Rattle.counter_cache.proofs.BlockCopies.{apart_from, blocks_left, victim_made}
 use Rattle.counter_cache.proofs.Havings.{has_dropped, has_not, has_on}
 use Rattle.counter_cache.proofs.counters.Counters.make_room.Goals as goal
 
@@ -79,3 +79,19 @@ returns-clause-idle g c = λ clean.
     let way : way_at c.args.self.now.blocks c.in-Some.victim.place ≡ Some c.in-Some.victim =
     sym (ap (λ (v : CountersView). way_at v.blocks c.in-Some.victim.place) c.self.view_is) ∙ c.in-Some.ensures.way in
     c.write_back.ensures.idle (clean c.in-Some.victim.place (copy_of c.in-Some.victim) goes (ap (option_map copy_of) way))
+
+pub returns-in_err-write_back-clause-written : goal.returns-in_err-write_back-clause-written
+returns-in_err-write_back-clause-written g c =
+    let goes : leaving c.args.self.now c.args.page ≡ Some c.in-Some.victim.place =
+    ap (λ (v : CountersView). leaving v c.args.page) (sym c.self.view_is) ∙ ap (option_map place_of) (sym c.in-Some.ensures.victim) in
+    let way : way_at c.args.self.now.blocks c.in-Some.victim.place ≡ Some c.in-Some.victim =
+    sym (ap (λ (v : CountersView). way_at v.blocks c.in-Some.victim.place) c.self.view_is) ∙ c.in-Some.ensures.way in
+    victim_made c.args.self.now c.args.page c.in-Some.victim c.args.tags.now.made c.write_back.new.tags.made goes way c.write_back.ensures.written
+
+pub returns-clause-written : goal.returns-clause-written
+returns-clause-written g c =
+    let goes : leaving c.args.self.now c.args.page ≡ Some c.in-Some.victim.place =
+    ap (λ (v : CountersView). leaving v c.args.page) (sym c.self.view_is) ∙ ap (option_map place_of) (sym c.in-Some.ensures.victim) in
+    let way : way_at c.args.self.now.blocks c.in-Some.victim.place ≡ Some c.in-Some.victim =
+    sym (ap (λ (v : CountersView). way_at v.blocks c.in-Some.victim.place) c.self.view_is) ∙ c.in-Some.ensures.way in
+    victim_made c.args.self.now c.args.page c.in-Some.victim c.args.tags.now.made c.write_back.new.tags.made goes way c.write_back.ensures.written

@@ -10,7 +10,7 @@ use Rattle.bonsai_tree.specs.Tree.{IsNodeFrom}
 use Rattle.counter_cache.specs.Counters.{CountersView, cached_block}
 use Rattle.counter_cache.specs.Having.{Has}
 use Rattle.bonsai_tree.proofs.Nodes.{stop_is}
-use Rattle.counter_cache.proofs.Havings.{has_not, has_tree, ok_at, over}
+use Rattle.counter_cache.proofs.Havings.{has_not, has_tree, no_want, over}
 use Rattle.counter_cache.proofs.counters.Counters.write_back.Goals as goal
 
 pub returns-then-not-victim-clause-has : goal.returns-then-not-victim-clause-has
@@ -27,7 +27,7 @@ returns-clause-has g c =
       levels = c.update.ensures.levels;
       root = c.update.ensures.root;
       few_nodes = c.update.ensures.few_copies;
-      holds = λ holds going. ok_at c.update.result going (c.update.ensures.holds holds);
+      holds = λ holds going. c.update.ensures.holds holds (no_want c.update.result going);
       honest = λ holds used was. c.update.ensures.honest used holds was;
       lied = λ holds quiet place is. c.update.ensures.tampered place (stop_is c.update.result (Tampered place) is) holds quiet;
       shown = c.update.ensures.shown;
@@ -37,6 +37,7 @@ returns-clause-has g c =
       writes = c.update.ensures.writes;
       made_blocks = c.update.ensures.made_blocks;
       last_blocks = λ remembered was. c.update.ensures.last_blocks was (λ is. remembered (ap stop_of is));
+      slots = c.update.ensures.slots;
       read = c.update.ensures.new_copies;
     })
     (λ page unchanged. elim (cases_eq page c.args.victim.now.place) [
@@ -54,3 +55,11 @@ pub returns-then-not-victim-clause-last : goal.returns-then-not-victim-clause-la
 returns-then-not-victim-clause-last g c = λ holds quiet.
     let unchanged : c.args.victim.now.changed ≡ false = search rules in
     holds.clean quiet c.args.victim.now.place (copy_of c.args.victim.now) (ap (option_map copy_of) c.requires.held) unchanged
+
+pub returns-clause-written : goal.returns-clause-written
+returns-clause-written g c =
+    let changed : c.args.victim.now.changed ≡ true = search rules in
+    elim c.update.ensures.one_at_most [
+      | inl same ↦ inl same
+      | inr one ↦ inr (changed, one)
+    ]

@@ -1,6 +1,12 @@
-use Rattle.std.proofs.Common.{◌≡◌}
-use Rattle.page_reencrypt.specs.Outside.{AreConsistent, HaveLast, HaveLastNodes, OutsideView, terms_of}
+use Rattle.std.proofs.Common.{◌≡◌, ℕ, sym, subst}
+use Rattle.tag_engine.specs.TagEngine.{tags_of}
+use Rattle.bonsai_tree.specs.Tree.{SlotsAreTags}
+use Rattle.page_reencrypt.specs.Contents.{NodesSay}
+use Rattle.page_reencrypt.specs.Outside.{AreConsistent, CountersSay, HaveLast, HaveLastNodes, OutsideView, terms_of}
+use Rattle.page_reencrypt.specs.SealedLines.{AreOfPages}
+use Rattle.page_reencrypt.proofs.LineReads.{quiet_before}
 use Rattle.page_reencrypt.proofs.NodeSteps.{fits_after, fits_before, node_step, not_refused, ok_map, shows_by}
+use Rattle.page_reencrypt.proofs.SayingNodes.{says_had}
 use Rattle.page_reencrypt.proofs.outside.Outside.get.Goals as goal
 
 pub returns-clause-step : goal.returns-clause-step
@@ -44,6 +50,26 @@ returns-clause-fits g c = λ fits.
     (fits_after g.B.Bus.history g.B.Bus.moved g.T.Tagger.data_tag_of g.T.Tagger.node_tag_of old c.get.new.bus c.get.new.tags c.get.new.self
     step.moves.tagger step.moves.levels)
     (step.holds was))
+
+pub returns-clause-nodes : goal.returns-clause-nodes
+returns-clause-nodes g c = λ inside fits says quiet said.
+    let old : OutsideView g.row.B.Denot g.row.T.Denot = record { bus = c.self.inside.bus; engine = c.self.inside.tags; pads = c.self.inside.pads } in
+    let d = g.T.Tagger.data_tag_of in
+    let n = g.T.Tagger.node_tag_of in
+    let h = g.B.Bus.history in
+    let was = fits_before h g.B.Bus.moved d n old c.get.new.bus c.get.new.tags c.args.counters.now (rw (← c.self.view_is) at fits) in
+    let levels : c.args.counters.now.tree.levels ≡ old.engine.levels = rw (← c.self.view_is) at c.requires.levels in
+    let pages : AreOfPages old.engine.levels c.args.counters.now = rw (← c.self.view_is) at inside in
+    let say : CountersSay (terms_of h g.B.Bus.moved d n old) old c.args.counters.now = rw (← c.self.view_is) at says in
+    let before : NodesSay (tags_of d n old.engine) old.engine.levels old.pads.used old.engine.made = rw (← c.self.view_is) at said in
+    let step = c.get.ensures in
+    rw (← c.self.view_is)
+    (record {
+      slots = subst (λ (l : ℕ). SlotsAreTags (tags_of d n old.engine) l c.get.new.tags.made) levels
+          (step.slots was quiet (subst (λ (l : ℕ). SlotsAreTags (tags_of d n old.engine) l old.engine.made) (sym levels) before.slots));
+      blocks = says_had old.engine.levels old.pads.used c.args.counters.now c.args.page (h old.bus) (h c.get.new.bus) old.engine.made c.get.new.tags.made
+          step.lines pages (say (quiet_before old.engine.evidence c.get.new.tags.evidence step.moves.evidence quiet)) step.written before.blocks;
+    })
 
 pub returns-clause-shows : goal.returns-clause-shows
 returns-clause-shows g c = λ fits quiet.

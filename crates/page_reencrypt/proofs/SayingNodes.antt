@@ -1,0 +1,173 @@
+-- What was made of nodes says tags of their children and counters of their lines, also where more was made and used.
+use Rattle.std.proofs.Common.{◌≡◌, ◌⊎◌, inl, inr, ℕ, zero, suc, ◌+◌, ◌<◌, ◌≤◌, true, List, [], ◌∷◌, ◌++◌, length, slice_index, Option, Some, None, Contains, IsSome, unwrap_or, refl, ap, sym, ◌∙◌, subst, arith}
+use Rattle.std.specs.Option.{option_map}
+use Rattle.std.proofs.lemmas.List.{append-nil, append_cancel_left, get_or-replicate}
+use Rattle.std.proofs.lemmas.List.Elements.{All-contains, Contains-append_cases, Contains-append_left}
+use Rattle.sec_base.specs.Geometry.{child, page_count, page_of}
+use Rattle.sec_base.specs.LastMessage.{data_pairs, last_node, last_pair}
+use Rattle.sec_base.specs.declared.counter.Counter.{Counter}
+use Rattle.sec_base.specs.declared.message.Message.{Message}
+use Rattle.sec_base.specs.declared.message.Message.TheVariants.{Line, Node}
+use Rattle.cache_set.specs.declared.way.Way.{Way}
+use Rattle.cache_set.specs.Cache.{way_at}
+use Rattle.cache_set.proofs.Listed.{listed_at}
+use Rattle.bus_model.specs.BusHistory.{BusHistory}
+use Rattle.checked_bus.specs.Steps.{SameLines}
+use Rattle.split_counter.specs.Digits.{digits_of, number_of}
+use Rattle.split_counter.specs.CounterBlock.{block_of, counter_of, new_block, place_of}
+use Rattle.bonsai_tree.specs.Boot.{boot_block, boot_messages}
+use Rattle.bonsai_tree.specs.Node.{CachedNode, current_of, level_blocks, no_block, tag_in_slot}
+use Rattle.bonsai_tree.specs.NodeCache.{copy_of}
+use Rattle.bonsai_tree.specs.Tree.{IsTagOfMade}
+use Rattle.bonsai_tree.proofs.Boots.{IsOfBoot, messages-of_boot}
+use Rattle.bonsai_tree.proofs.LevelBlocks.{block_listed, blocks-append}
+use Rattle.counter_cache.specs.Counters.{CountersView, OnlyLeavingIsMade, cached_block, counters_in, leaving}
+use Rattle.page_reencrypt.specs.Contents.{BlocksSayEntries, NodesSay, counter_in, never_written}
+use Rattle.page_reencrypt.specs.SealedLines.{AreOfPages, IsOfPage}
+use Rattle.page_reencrypt.proofs.RisingPairs.{last_listed}
+
+-- Messages of lines alone
+
+pairs_few : (more : List Message) → length (data_pairs more) ≤ length more
+unfolding data_pairs
+pairs_few [] = omega arith
+pairs_few (Line line counter cipher ∷ more) = omega (arith, pairs_few more)
+pairs_few (Node level index block ∷ more) = omega (arith, pairs_few more)
+
+-- as many messages as pairs: none is of a node
+no_node : (more : List Message) (level index : ℕ) (block : List ℕ) → length more ≤ length (data_pairs more) → ¬ Contains more (Node level index block)
+unfolding data_pairs
+no_node [] level index block lines listed = omega (arith, listed.1)
+no_node (Line line counter cipher ∷ more) level index block lines (zero, within, there) = absurd (cc)
+no_node (Line line counter cipher ∷ more) level index block lines (suc k, within, there) =
+    no_node more level index block (omega (arith, lines)) (k, omega (arith, within), there)
+no_node (Node at_level at bytes ∷ more) level index block lines listed = let few = pairs_few more in omega (arith, few, lines)
+
+module _ (tag_of : Message → List ℕ) (levels : ℕ) (used entries : List (ℕ × Counter)) (made more : List Message)
+    (lines : length more ≤ length (data_pairs more)) where
+  node_before : (level index : ℕ) (block : List ℕ) → Contains (made ++ more) (Node level index block) → Contains made (Node level index block)
+  node_before level index block listed =
+      elim (Contains-append_cases made more (Node level index block) listed) [
+        | inl early ↦ early
+        | inr late ↦ absurd (no_node more level index block lines late)
+      ]
+
+  tag_on : (level index : ℕ) (tag : List ℕ) → IsTagOfMade tag_of made level index tag → IsTagOfMade tag_of (made ++ more) level index tag
+  tag_on level index tag is = record {
+    block = is.block;
+    made_there = Contains-append_left made more (Node level index is.block) is.made_there;
+    tag_is = is.tag_is;
+  }
+
+  -- lines were tagged since, and entries were added
+  pub say_on : NodesSay tag_of levels used made → NodesSay tag_of levels (used ++ entries) (made ++ more)
+  say_on was = record {
+    slots = record {
+      tagged = λ level index at block listed inside.
+          tag_on level (child levels index at) (tag_in_slot at block)
+          (was.slots.tagged level index at block (node_before (level + 1) index block listed) inside);
+    };
+    blocks = record {
+      said = λ page line block listed of_page.
+          elim (was.blocks.said page line block (node_before 0 page block listed) of_page) [
+            | inl none ↦ inl none
+            | inr there ↦ inr (Contains-append_left used entries (line, counter_of (place_of line) (block_of block)) there)
+          ];
+    };
+  }
+
+-- A block that goes out
+
+some_way : (found : Option Way) (copy : CachedNode) → option_map copy_of found ≡ Some copy → IsSome found
+some_way None copy is = absurd (cc)
+some_way (Some way) copy is = refl
+
+-- its page is of the memory
+copied_page : (levels : ℕ) (counters : CountersView) (page : ℕ) (copy : CachedNode) → AreOfPages levels counters → cached_block counters page ≡ Some copy →
+    page < page_count levels
+copied_page levels counters page copy pages is = pages page (listed_at counters.blocks page (some_way (way_at counters.blocks page) copy is))
+
+-- the last entry of a line, if it has one
+last_or_none : (used : List (ℕ × Counter)) (line : ℕ) (last : Option Counter) → last_pair line used ≡ last →
+    (counter_in used line ≡ never_written) ⊎ Contains used (line, counter_in used line)
+last_or_none used line None is = inl (ap (λ (l : Option Counter). unwrap_or l never_written) is)
+last_or_none used line (Some last) is =
+    inr (subst (λ (l : Option Counter). Contains used (line, unwrap_or l never_written)) (sym is) (last_listed line used last is))
+
+-- it says the last entries of its page's lines
+copy_says : (used : List (ℕ × Counter)) (made : List Message) (counters : CountersView) (page line : ℕ) (bytes : List ℕ) →
+    cached_block counters page ≡ Some (record { block = bytes; changed = true }) → IsOfPage used page (counters_in counters made page) → page_of line ≡ page →
+    (counter_of (place_of line) (block_of bytes) ≡ never_written) ⊎ Contains used (line, counter_of (place_of line) (block_of bytes))
+copy_says used made counters page line bytes is says of_page =
+    let here : counters_in counters made page ≡ block_of bytes = ap (λ (c : Option CachedNode). block_of (current_of c (last_node 0 page made))) is in
+    let said : counter_in used line ≡ counter_of (place_of line) (block_of bytes) = says line of_page ∙ ap (counter_of (place_of line)) here in
+    subst (λ (c : Counter). (c ≡ never_written) ⊎ Contains used (line, c)) said (last_or_none used line (last_pair line used) refl)
+
+none_listed : (x : ℕ × List ℕ) → ¬ Contains [] x
+none_listed x listed = omega (arith, listed.1)
+
+first_listed : (x y : ℕ × List ℕ) → Contains (y ∷ []) x → y ≡ x
+first_listed x y (zero, within, there) = there
+first_listed x y (suc k, within, there) = absurd (omega (arith, within))
+
+one_listed : (blocks : List (ℕ × List ℕ)) (x y : ℕ × List ℕ) → blocks ≡ y ∷ [] → Contains blocks x → y ≡ x
+one_listed blocks x y is listed = first_listed x y (subst (λ (b : List (ℕ × List ℕ)). Contains b x) is listed)
+
+-- it is the only block that was made since
+leaving_listed : (counters : CountersView) (page : ℕ) (made made' more : List Message) (other : ℕ) (bytes : List ℕ) → OnlyLeavingIsMade counters page made made' →
+    made' ≡ made ++ more → Contains more (Node 0 other bytes) →
+    (leaving counters page ≡ Some other) × (cached_block counters other ≡ Some (record { block = bytes; changed = true }))
+leaving_listed counters page made made' more other bytes only adds listed =
+    let here : Contains (level_blocks 0 more) (other, bytes) = block_listed 0 other bytes more listed in
+    let grew : level_blocks 0 made' ≡ level_blocks 0 made ++ level_blocks 0 more = ap (λ (m : List Message). level_blocks 0 m) adds ∙ blocks-append 0 made more in
+    elim only [
+      | inl same ↦
+          let none : level_blocks 0 more ≡ [] =
+          append_cancel_left (level_blocks 0 made) (level_blocks 0 more) [] (sym grew ∙ same ∙ sym (append-nil (level_blocks 0 made))) in
+          absurd (none_listed (other, bytes) (subst (λ (b : List (ℕ × List ℕ)). Contains b (other, bytes)) none here))
+      | inr one ↦
+          let only_one : level_blocks 0 more ≡ (one.other, one.block) ∷ [] =
+          append_cancel_left (level_blocks 0 made) (level_blocks 0 more) ((one.other, one.block) ∷ []) (sym grew ∙ one.one) in
+          let is : (one.other, one.block) ≡ (other, bytes) = one_listed (level_blocks 0 more) (other, bytes) (one.other, one.block) only_one here in
+          subst (λ (b : ℕ × List ℕ). (leaving counters page ≡ Some b.0) × (cached_block counters b.0 ≡ Some (record { block = b.1; changed = true }))) is (one.leaves, one.changed)
+    ]
+
+-- so blocks say entries still where counters were had
+pub says_had : (levels : ℕ) (used : List (ℕ × Counter)) (counters : CountersView) (page : ℕ) (old new : BusHistory) (made made' : List Message) →
+    SameLines old made new made' → AreOfPages levels counters → ((other : ℕ) → other < page_count levels → IsOfPage used other (counters_in counters made other)) →
+    OnlyLeavingIsMade counters page made made' → BlocksSayEntries used made → BlocksSayEntries used made'
+says_had levels used counters page old new made made' lines pages says only was = record {
+  said = λ other line block listed of_page.
+      elim (Contains-append_cases made lines.more (Node 0 other block) (subst (λ (m : List Message). Contains m (Node 0 other block)) lines.made_more listed)) [
+        | inl early ↦ was.said other line block early of_page
+        | inr late ↦
+            let copy = (leaving_listed counters page made made' lines.more other block only lines.made_more late).1 in
+            copy_says used made counters other line block copy
+            (says other (copied_page levels counters other (record { block = block; changed = true }) pages copy)) of_page
+      ];
+}
+
+-- A memory of which no line was written
+
+zeros_are_new : block_of no_block ≡ new_block
+unfolding block_of digits_of number_of
+zeros_are_new = refl
+
+zeros_say : (line : ℕ) → counter_of (place_of line) (block_of no_block) ≡ never_written
+zeros_say line =
+    let zero_line : slice_index new_block.lines (place_of line) ≡ 0 = get_or-replicate 64 (place_of line) 0 0 (omega arith) in
+    ap (counter_of (place_of line)) zeros_are_new ∙ ap (λ (n : ℕ). let c : Counter = record { page = 0; line = n } in c) zero_line
+
+boot_zeros : (tag_of : Message → List ℕ) (levels page : ℕ) → boot_block tag_of levels 0 page ≡ no_block
+unfolding boot_block
+boot_zeros tag_of levels page = refl
+
+-- each block says the counters of such lines
+pub boot_says : (tag_of : Message → List ℕ) (levels : ℕ) (used : List (ℕ × Counter)) (made : List Message) → made ≡ boot_messages tag_of levels → BlocksSayEntries used made
+boot_says tag_of levels used made is = record {
+  said = λ page line block listed of_page.
+      let booted : block ≡ boot_block tag_of levels 0 page =
+      All-contains (IsOfBoot tag_of levels) (boot_messages tag_of levels) (Node 0 page block) (messages-of_boot tag_of levels levels 0)
+      (subst (λ (m : List Message). Contains m (Node 0 page block)) is listed) in
+      inl (ap (λ (b : List ℕ). counter_of (place_of line) (block_of b)) (booted ∙ boot_zeros tag_of levels page) ∙ zeros_say line);
+}
