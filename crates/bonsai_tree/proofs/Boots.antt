@@ -192,10 +192,15 @@ by_last tag_of levels made level index (Some block) is all has =
     (All-get_or (IsOfBoot tag_of levels) made found.0 part.item within all) in
     ap Some (part_block tag_of levels level index part.item block part.part_is here)
 
+-- among messages of boot with one of its own
+pub last_among : (tag_of : Message → List ℕ) (levels : ℕ) (made : List Message) (level index : ℕ) → All (IsOfBoot tag_of levels) made →
+    Contains made (boot_message tag_of levels level index) → last_node level index made ≡ Some (boot_block tag_of levels level index)
+last_among tag_of levels made level index all has = by_last tag_of levels made level index (last_node level index made) refl all has
+
 pub last_of_boot : (tag_of : Message → List ℕ) (levels : ℕ) (level index : ℕ) → IsNode levels level index →
     last_node level index (messages_from tag_of levels levels 0) ≡ Some (boot_block tag_of levels level index)
 last_of_boot tag_of levels level index node =
-    by_last tag_of levels (messages_from tag_of levels levels 0) level index (last_node level index (messages_from tag_of levels levels 0)) refl
+    last_among tag_of levels (messages_from tag_of levels levels 0) level index
     (messages-of_boot tag_of levels levels 0) (has_all tag_of levels level index node)
 
 -- no node has a copy

@@ -1,87 +1,113 @@
--- Nodes that were made have tags of messages in their slots.
-use Rattle.std.proofs.Common.{◌≡◌, inl, inr, ℕ, ◌+◌, ◌-◌, ◌*◌, ◌/◌, ◌%◌, ◌<◌, List, [], ◌∷◌, ◌++◌, Option, Some, None, refl, ap, sym, ◌∙◌, subst, arith}
-use Rattle.std.specs.Prelude.{Contains}
-use Rattle.std.specs.List.{slice_get}
-use Rattle.std.specs.Option.{option_map}
-use Rattle.std.proofs.lemmas.List.Elements.{Contains-append_cases, Contains-append_left, Contains-append_right, Contains-push_cases}
-use Rattle.std.proofs.lemmas.Option.{get_or_from_slice_get, slice_get_within}
+-- Nodes that were made have in their slots the tags of the last messages of their children.
+use Rattle.std.proofs.Common.{◌≡◌, ◌⊎◌, inl, inr, ℕ, ◌+◌, ◌-◌, ◌*◌, ◌/◌, ◌%◌, ◌<◌, List, [], ◌∷◌, ◌++◌, fold, Option, Some, None, refl, ap, sym, ◌∙◌, subst, arith}
+use Rattle.std.specs.Option.{option_map, option_or}
+use Rattle.std.proofs.lemmas.List.{append-nil}
+use Rattle.std.proofs.lemmas.List.Sums.{fold-append}
 use Rattle.sec_base.specs.Geometry.{IsNode}
-use Rattle.sec_base.specs.LastMessage.{last_at, last_node, node_part}
+use Rattle.sec_base.specs.LastMessage.{after_item, last_at, last_node, last_of, node_part}
 use Rattle.sec_base.specs.declared.message.Message.{Message}
 use Rattle.sec_base.specs.declared.message.Message.TheVariants.{Node}
 use Rattle.sec_base.specs.declared.place.Place.{Place}
 use Rattle.sec_base.proofs.Numbers.{child_is}
-use Rattle.tag_engine.proofs.Collisions.{made_there}
 use Rattle.bonsai_tree.specs.Node.{block_or_zeros, tag_in_slot, tag_of_last}
-use Rattle.bonsai_tree.specs.Tree.{IsTagOfMade, IsTree, SlotsAreTags, TreeView, current_block}
+use Rattle.bonsai_tree.specs.Tree.{IsTagOfLast, IsTree, SlotsAreTags, TreeView, current_block}
 use Rattle.bonsai_tree.proofs.Nodes.{kept_below}
 
--- a node's last block is that of a message
-last_among : (made : List Message) (level index : ℕ) (block : List ℕ) (last : Option (ℕ × List ℕ)) → last_at (node_part level index) made ≡ last →
-    option_map (λ found. found.1) last ≡ Some block → Contains made (Node level index block)
-last_among made level index block None is found = absurd (cc)
-last_among made level index block (Some (at, bytes)) is found =
-    let same : bytes ≡ block = cc in
-    let message : Message = Node level index bytes in
-    let there : slice_get made at ≡ Some message = made_there made level index at bytes is in
-    subst (λ (b : List ℕ). Contains made (Node level index b)) same
-    (at, slice_get_within made at message there, get_or_from_slice_get made at message message there)
+-- an item of two lists, one after the other, stands in the first or in the second
+pub item_in : {A : Type 0} (front more before after : List A) (item : A) → front ++ more ≡ before ++ item ∷ after →
+    ((rest : List A) × (front ≡ before ++ item ∷ rest)) ⊎ ((rest : List A) × (before ≡ front ++ rest) × (more ≡ rest ++ item ∷ after))
+item_in [] more before after item is = inr (before, refl, is)
+item_in (x ∷ front) more [] after item is = let same : x ≡ item = cc in inl (front, ap (λ y. y ∷ front) same)
+item_in (x ∷ front) more (y ∷ before) after item is =
+    let same : x ≡ y = cc in
+    let rest_is : front ++ more ≡ before ++ item ∷ after = cc in
+    elim (item_in front more before after item rest_is) [
+      | inl first ↦ let here : x ∷ front ≡ y ∷ before ++ item ∷ first.0 = cc in inl (first.0, here)
+      | inr second ↦ let here : y ∷ before ≡ x ∷ front ++ second.0 = cc in inr (second.0, here, second.2)
+    ]
 
-pub last_contained : (made : List Message) (level index : ℕ) (block : List ℕ) → last_node level index made ≡ Some block → Contains made (Node level index block)
-last_contained made level index block is = last_among made level index block (last_at (node_part level index) made) refl is
+none_is : {A : Type 0} (before after : List A) (item : A) → ¬ ([] ≡ before ++ item ∷ after)
+none_is [] after item is = cc
+none_is (x ∷ before) after item is = cc
+
+one_item : {A : Type 0} (only item : A) (before after : List A) → only ∷ [] ≡ before ++ item ∷ after → (before ≡ []) × (only ≡ item)
+one_item only item [] after is = let same : only ≡ item = cc in (refl, same)
+one_item only item (x ∷ before) after is = let none : [] ≡ before ++ item ∷ after = cc in absurd (none_is before after item none)
+
+-- the last item that has a part is the same behind other items
+last_next : {B : Type 0} (seen other : ℕ × Option (ℕ × B)) (part : Option B) (found : B) →
+    (option_map (λ (p : ℕ × B). p.1) seen.1 ≡ Some found → option_map (λ (p : ℕ × B). p.1) other.1 ≡ Some found) →
+    option_map (λ (p : ℕ × B). p.1) (option_or (option_map (λ (x : B). (seen.0, x)) part) seen.1) ≡ Some found →
+    option_map (λ (p : ℕ × B). p.1) (option_or (option_map (λ (x : B). (other.0, x)) part) other.1) ≡ Some found
+last_next seen other None found so is = so is
+last_next seen other (Some x) found so is = is
+
+last_behind : {A B : Type 0} (part : A → Option B) (items : List A) (seen other : ℕ × Option (ℕ × B)) (found : B) →
+    (option_map (λ (p : ℕ × B). p.1) seen.1 ≡ Some found → option_map (λ (p : ℕ × B). p.1) other.1 ≡ Some found) →
+    option_map (λ (p : ℕ × B). p.1) (fold (after_item part) seen items).1 ≡ Some found →
+    option_map (λ (p : ℕ × B). p.1) (fold (after_item part) other items).1 ≡ Some found
+last_behind part [] seen other found so is = so is
+last_behind part (item ∷ items) seen other found so is =
+    last_behind part items (after_item part seen item) (after_item part other item) found (last_next seen other (part item) found so) is
+
+last_appended : {A B : Type 0} (part : A → Option B) (front items : List A) (found : B) → last_of part items ≡ Some found →
+    last_of part (front ++ items) ≡ Some found
+unfolding last_at
+last_appended {A} {B} part front items found is =
+    let start : ℕ × Option (ℕ × B) = (0, None) in
+    ap (λ (seen : ℕ × Option (ℕ × B)). option_map (λ (p : ℕ × B). p.1) seen.1) (fold-append (after_item part) start front items)
+    ∙ last_behind part items start (fold (after_item part) start front) found (λ none. absurd (cc)) is
 
 module _ (tag_of : Message → List ℕ) where
-  -- a tag of a message is one where more are made
-  pub tag_left : (made more : List Message) (level index : ℕ) (tag : List ℕ) → IsTagOfMade tag_of made level index tag →
-      IsTagOfMade tag_of (made ++ more) level index tag
-  tag_left made more level index tag was = record {
-    block = was.block;
-    made_there = Contains-append_left made more (Node level index was.block) was.made_there;
-    tag_is = was.tag_is;
-  }
-
-  pub tag_right : (made more : List Message) (level index : ℕ) (tag : List ℕ) → IsTagOfMade tag_of more level index tag →
-      IsTagOfMade tag_of (made ++ more) level index tag
-  tag_right made more level index tag was = record {
-    block = was.block;
-    made_there = Contains-append_right made more (Node level index was.block) was.made_there;
-    tag_is = was.tag_is;
+  -- the tag of a last message is one behind other messages
+  tag_behind : (made more : List Message) (level index : ℕ) (tag : List ℕ) → IsTagOfLast tag_of more level index tag →
+      IsTagOfLast tag_of (made ++ more) level index tag
+  tag_behind made more level index tag is = record {
+    block = is.block;
+    last = last_appended (node_part level index) made more is.block is.last;
+    tag_is = is.tag_is;
   }
 
   pub slots_none : (levels : ℕ) → SlotsAreTags tag_of levels []
-  slots_none levels = record { tagged = λ level index at block listed inside. absurd (omega (arith, listed.1)) }
+  slots_none levels = record { tagged = λ before after level index at block is inside. absurd (none_is before after (Node (level + 1) index block) is) }
 
   pub slots_both : (levels : ℕ) (made more : List Message) → SlotsAreTags tag_of levels made → SlotsAreTags tag_of levels more →
       SlotsAreTags tag_of levels (made ++ more)
   slots_both levels made more was is = record {
-    tagged = λ level index at block listed inside.
-        elim (Contains-append_cases made more (Node (level + 1) index block) listed) [
-          | inl before ↦ tag_left made more level (4 * index + at) (tag_in_slot at block) (was.tagged level index at block before inside)
-          | inr after ↦ tag_right made more level (4 * index + at) (tag_in_slot at block) (is.tagged level index at block after inside)
+    tagged = λ before after level index at block splits inside.
+        elim (item_in made more before after (Node (level + 1) index block) splits) [
+          | inl first ↦ was.tagged before first.0 level index at block first.1 inside
+          | inr second ↦
+              subst (λ (m : List Message). IsTagOfLast tag_of m level (4 * index + at) (tag_in_slot at block)) (sym second.1)
+              (tag_behind made second.0 level (4 * index + at) (tag_in_slot at block) (is.tagged second.0 after level index at block second.2 inside))
         ];
   }
 
   -- one message more
   pub slots_more : (levels : ℕ) (made : List Message) (level index : ℕ) (block : List ℕ) → SlotsAreTags tag_of levels made →
-      ((lower at : ℕ) → level ≡ lower + 1 → at < 4 → IsTagOfMade tag_of made lower (4 * index + at) (tag_in_slot at block)) →
+      ((lower at : ℕ) → level ≡ lower + 1 → at < 4 → IsTagOfLast tag_of made lower (4 * index + at) (tag_in_slot at block)) →
       SlotsAreTags tag_of levels (made ++ Node level index block ∷ [])
   slots_more levels made level index block was own = record {
-    tagged = λ lower parent at bytes listed inside.
-        tag_left made (Node level index block ∷ []) lower (4 * parent + at) (tag_in_slot at bytes)
-        (elim (Contains-push_cases made (Node level index block) (Node (lower + 1) parent bytes) listed) [
-          | inl before ↦ was.tagged lower parent at bytes before inside
-          | inr same ↦
+    tagged = λ before after lower parent at bytes splits inside.
+        elim (item_in made (Node level index block ∷ []) before after (Node (lower + 1) parent bytes) splits) [
+          | inl first ↦ was.tagged before first.0 lower parent at bytes first.1 inside
+          | inr second ↦
+              let one : (second.0 ≡ []) × (Node level index block ≡ Node (lower + 1) parent bytes) =
+              one_item (Node level index block) (Node (lower + 1) parent bytes) second.0 after second.2 in
+              let same : Node level index block ≡ Node (lower + 1) parent bytes = one.1 in
               let level_same : level ≡ lower + 1 = cc in
               let index_same : index ≡ parent = cc in
               let block_same : block ≡ bytes = cc in
-              subst (λ (i : ℕ). IsTagOfMade tag_of made lower (4 * i + at) (tag_in_slot at bytes)) index_same
-              (subst (λ (b : List ℕ). IsTagOfMade tag_of made lower (4 * index + at) (tag_in_slot at b)) block_same (own lower at level_same inside))
-        ]);
+              let before_is : made ≡ before = sym (second.1 ∙ ap (λ (m : List Message). made ++ m) one.0 ∙ append-nil made) in
+              subst (λ (m : List Message). IsTagOfLast tag_of m lower (4 * parent + at) (tag_in_slot at bytes)) before_is
+              (subst (λ (i : ℕ). IsTagOfLast tag_of made lower (4 * i + at) (tag_in_slot at bytes)) index_same
+              (subst (λ (b : List ℕ). IsTagOfLast tag_of made lower (4 * index + at) (tag_in_slot at b)) block_same (own lower at level_same inside)))
+        ];
   }
 
   -- where the tree fits, each slot of a node's current block has the tag of the child's last message
   pub current_slots : (tree : TreeView) (made : List Message) (written : Place → List ℕ) (level index at : ℕ) → IsTree tag_of tree made written →
-      IsNode tree.levels (level + 1) index → at < 4 → IsTagOfMade tag_of made level (4 * index + at) (tag_in_slot at (current_block tree made (level + 1) index))
+      IsNode tree.levels (level + 1) index → at < 4 → IsTagOfLast tag_of made level (4 * index + at) (tag_in_slot at (current_block tree made (level + 1) index))
   current_slots tree made written level index at fits node inside =
       let back : level + 1 - 1 ≡ level = omega arith in
       let child : IsNode tree.levels level (4 * index + at) =
@@ -91,7 +117,7 @@ module _ (tag_of : Message → List ℕ) where
       let parent_is : (4 * index + at) / 4 ≡ index = omega arith in
       record {
         block = block_or_zeros (last_node level (4 * index + at) made);
-        made_there = last_contained made level (4 * index + at) (block_or_zeros (last_node level (4 * index + at) made)) last;
+        last = last;
         tag_is =
             sym (ap (λ (s : ℕ). tag_in_slot s (current_block tree made (level + 1) ((4 * index + at) / 4))) slot_is
             ∙ ap (λ (i : ℕ). tag_in_slot at (current_block tree made (level + 1) i)) parent_is)

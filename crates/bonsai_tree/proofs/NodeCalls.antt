@@ -21,7 +21,7 @@ use Rattle.checked_bus.proofs.Writes.{none_more}
 use Rattle.bonsai_tree.specs.Climb.{Climbs}
 use Rattle.bonsai_tree.specs.Node.{CachedNode, block_or_zeros, current_of, level_blocks, tag_in_slot}
 use Rattle.bonsai_tree.specs.NodeCache.{AreNodeCaches, OtherLevels, level_cache}
-use Rattle.bonsai_tree.specs.Tree.{HoldsTree, IsNodeFrom, IsTagOfMade, IsTree, NodesAreMade, NodesHoldLast, SlotsAreTags, TreeView, WasReadUp, above, cached_node, current_block, kept_tag}
+use Rattle.bonsai_tree.specs.Tree.{HoldsTree, IsNodeFrom, IsTagOfLast, IsTree, NodesAreMade, NodesHoldLast, SlotsAreTags, TreeView, WasReadUp, above, cached_node, current_block, kept_tag}
 use Rattle.bonsai_tree.specs.Writing.{WritesNodes}
 use Rattle.bonsai_tree.proofs.Climbs.{climbs_recached, read_up_held}
 use Rattle.bonsai_tree.proofs.MadeSlots.{current_slots, slots_more}
@@ -373,8 +373,8 @@ module _ {T : Type 0} (d n : T → List ℕ → List ℕ) where
         (λ lower at above inside. elim is_current_block [
           | inl first ↦ absurd (omega (arith, first, above))
           | inr is ↦
-              subst (λ (b : List ℕ). IsTagOfMade (tags_of d n engine) engine.made lower (4 * index + at) (tag_in_slot at b)) is
-              (subst (λ (k : ℕ). IsTagOfMade (tags_of d n engine) engine.made lower (4 * index + at) (tag_in_slot at (current_block tree engine.made k index))) (sym above)
+              subst (λ (b : List ℕ). IsTagOfLast (tags_of d n engine) engine.made lower (4 * index + at) (tag_in_slot at b)) is
+              (subst (λ (k : ℕ). IsTagOfLast (tags_of d n engine) engine.made lower (4 * index + at) (tag_in_slot at (current_block tree engine.made k index))) (sym above)
               (current_slots (tags_of d n engine) tree engine.made old.written lower index at (holds.fits was)
               (subst (λ (k : ℕ). IsNode tree.levels k index) above node) inside))
         ]))

@@ -51,7 +51,7 @@ pub record Climbs {T : Type 0} (tags : TagEngineView T → Message → List ℕ)
   pub writes : WritesMessages old new (length moves.more) (unwritten_in stop)
   pub made_blocks : NodesAreMade tree.levels engine.made old.written → NodesAreMade tree.levels engine'.made new.written
   pub last_blocks : stop ≢ Some NoMemory → NodesHoldLast tree.levels engine.made old.written → NodesHoldLast tree.levels engine'.made new.written
-  -- slots of nodes that were made have tags of messages
+  -- slots of nodes that were made have the tags of their children's last messages
   pub slots : HoldsTree tags tree old engine → engine'.evidence ≡ None → SlotsAreTags (tags engine) tree.levels engine.made →
       SlotsAreTags (tags engine) tree.levels engine'.made
   -- what has a copy was read, or had one

@@ -1,6 +1,6 @@
 -- The tree over the counter blocks (a Bonsai Merkle tree: Rogers et al., MICRO 2007), and when it fits the messages that
 -- were made and what stands outside.
-use Rattle.std.specs.Prelude.{◌≡◌, ◌⊎◌, ℕ, ◌+◌, ◌-◌, ◌/◌, ◌^◌, ◌<◌, ◌≤◌, List, length, false, nat_lt, if◌then◌else◌, Option, Some, None, Contains, Result, Ok, Err, ◌≢◌, ◌++◌, true}
+use Rattle.std.specs.Prelude.{◌≡◌, ◌⊎◌, ℕ, ◌+◌, ◌-◌, ◌/◌, ◌^◌, ◌<◌, ◌≤◌, List, length, false, nat_lt, if◌then◌else◌, Option, Some, None, Contains, Result, Ok, Err, ◌≢◌, ◌++◌, ◌∷◌, true}
 use Rattle.sec_base.specs.Count.{Rose, RoseBy}
 use Rattle.sec_base.specs.Geometry.{IsNode, arity, child, parent, slot}
 use Rattle.sec_base.specs.LastMessage.{last_node}
@@ -75,16 +75,17 @@ pub record NodesHoldLast (levels : ℕ) (made : List Message) (written : Place �
   pub holds : (level index : ℕ) (block : List ℕ) → IsNode levels level index → last_node level index made ≡ Some block →
       written (node_place level index) ≡ block
 
--- a tag is that of a message that was made of this node
-pub record IsTagOfMade (tag_of : Message → List ℕ) (made : List Message) (level index : ℕ) (tag : List ℕ) : Type 0 where
+-- a tag is that of the last message that was made of this node
+pub record IsTagOfLast (tag_of : Message → List ℕ) (made : List Message) (level index : ℕ) (tag : List ℕ) : Type 0 where
   pub block : List ℕ
-  pub made_there : Contains made (Node level index block)
+  pub last : last_node level index made ≡ Some block
   pub tag_is : tag ≡ tag_of (Node level index block)
 
--- Each node above level 0 that was made has in each slot the tag of a message that was made of that child.
+-- Each node above level 0 that was made has in each slot the tag of the last message that was made of that child before it.
 pub record SlotsAreTags (tag_of : Message → List ℕ) (levels : ℕ) (made : List Message) : Type 0 where
-  pub tagged : (level index at : ℕ) (block : List ℕ) → Contains made (Node (level + 1) index block) → at < arity levels →
-      IsTagOfMade tag_of made level (child levels index at) (tag_in_slot at block)
+  pub tagged : (before after : List Message) (level index at : ℕ) (block : List ℕ) →
+      made ≡ before ++ Node (level + 1) index block ∷ after → at < arity levels →
+      IsTagOfLast tag_of before level (child levels index at) (tag_in_slot at block)
 
 -- The nodes on a page's path were read from a level on, up to the lowest one with a copy on the chip; where none has one,
 -- all of them. A node that was never made is not read.

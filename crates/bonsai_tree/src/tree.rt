@@ -167,7 +167,7 @@ impl Tree {
         ensures new_copies { (level index : ℕ) → cached_node self.new level index ≢ None →
             WasReadUp self.old level index (B.history bus.old) (B.history bus.new) }
 
-        // A node above level 0 that was made has the tags of its children in its slots.
+        // A node above level 0 that was made has in each slot the tag of the last message of that child before it.
         ensures slots { HoldsTree (tags_of T.data_tag_of T.node_tag_of) self.old (B.history bus.old) tags.old →
             tags.new.evidence ≡ None → SlotsAreTags (tags_of T.data_tag_of T.node_tag_of tags.old) self.old.levels tags.old.made →
             SlotsAreTags (tags_of T.data_tag_of T.node_tag_of tags.old) self.old.levels tags.new.made }
@@ -252,7 +252,7 @@ impl Tree {
         ensures new_copies { (level index : ℕ) → cached_node self.new level index ≢ None →
             WasReadUp self.old level index (B.history bus.old) (B.history bus.new) }
 
-        // A node above level 0 that was made has the tags of its children in its slots.
+        // A node above level 0 that was made has in each slot the tag of the last message of that child before it.
         ensures slots { HoldsTree (tags_of T.data_tag_of T.node_tag_of) self.old (B.history bus.old) tags.old →
             tags.new.evidence ≡ None → SlotsAreTags (tags_of T.data_tag_of T.node_tag_of tags.old) self.old.levels tags.old.made →
             SlotsAreTags (tags_of T.data_tag_of T.node_tag_of tags.old) self.old.levels tags.new.made }

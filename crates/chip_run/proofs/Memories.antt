@@ -32,6 +32,7 @@ use Rattle.chip_run.specs.Report.{ReportTerms}
 use Rattle.chip_run.specs.Run.{Terms, EndedAtBoot, unwritten_at}
 use Rattle.chip_run.specs.declared.record.RunRecord.{RunRecord}
 use Rattle.checked_bus.proofs.Steps.{counted_on}
+use Rattle.bonsai_tree.proofs.MadeSlots.{slots_none}
 use Rattle.page_reencrypt.proofs.Moves.{moves_on}
 use Rattle.chip_run.proofs.Closing.{unwritten_most}
 use Rattle.chip_run.proofs.Ends.{OfMemory}
@@ -86,7 +87,7 @@ nothing_risen levels limit = record {
 
 nothing_said : (tag_of : Message → List ℕ) (levels : ℕ) → NodesSay tag_of levels [] []
 nothing_said tag_of levels = record {
-  slots = record { tagged = λ level index at block listed inside. absurd (omega (arith, listed.1)) };
+  slots = slots_none tag_of levels;
   blocks = record { said = λ page line block listed of_page. absurd (omega (arith, listed.1)) };
 }
 

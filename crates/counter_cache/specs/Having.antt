@@ -44,7 +44,7 @@ pub record Has {T : Type 0} (tags : TagEngineView T → Message → List ℕ) (W
   pub made_blocks : NodesAreMade counters.tree.levels engine.made old.written → NodesAreMade counters.tree.levels engine'.made new.written
   pub last_blocks : stop ≢ Some NoMemory → NodesHoldLast counters.tree.levels engine.made old.written →
       NodesHoldLast counters.tree.levels engine'.made new.written
-  -- slots of nodes that were made have tags of messages
+  -- slots of nodes that were made have the tags of their children's last messages
   pub slots : HoldsCounters tags counters old engine → engine'.evidence ≡ None → SlotsAreTags (tags engine) counters.tree.levels engine.made →
       SlotsAreTags (tags engine) counters.tree.levels engine'.made
   -- what has a copy was read, or had one

@@ -2,8 +2,8 @@
 use Rattle.std.proofs.Common.{◌≡◌, ◌⊎◌, inl, inr, ℕ, zero, suc, ◌+◌, ◌<◌, ◌≤◌, true, List, [], ◌∷◌, ◌++◌, length, slice_index, Option, Some, None, Contains, IsSome, unwrap_or, refl, ap, sym, ◌∙◌, subst, arith}
 use Rattle.std.specs.Option.{option_map}
 use Rattle.std.proofs.lemmas.List.{append-nil, append_cancel_left, get_or-replicate}
-use Rattle.std.proofs.lemmas.List.Elements.{All-contains, Contains-append_cases, Contains-append_left}
-use Rattle.sec_base.specs.Geometry.{child, page_count, page_of}
+use Rattle.std.proofs.lemmas.List.Elements.{All-contains, Contains-append_cases, Contains-append_left, Contains-append_right}
+use Rattle.sec_base.specs.Geometry.{page_count, page_of}
 use Rattle.sec_base.specs.LastMessage.{data_pairs, last_node, last_pair}
 use Rattle.sec_base.specs.declared.counter.Counter.{Counter}
 use Rattle.sec_base.specs.declared.message.Message.{Message}
@@ -16,11 +16,12 @@ use Rattle.checked_bus.specs.Steps.{SameLines}
 use Rattle.split_counter.specs.Digits.{digits_of, number_of}
 use Rattle.split_counter.specs.CounterBlock.{block_of, counter_of, new_block, place_of}
 use Rattle.bonsai_tree.specs.Boot.{boot_block, boot_messages}
-use Rattle.bonsai_tree.specs.Node.{CachedNode, current_of, level_blocks, no_block, tag_in_slot}
+use Rattle.bonsai_tree.specs.Node.{CachedNode, current_of, level_blocks, no_block}
 use Rattle.bonsai_tree.specs.NodeCache.{copy_of}
-use Rattle.bonsai_tree.specs.Tree.{IsTagOfMade}
+use Rattle.bonsai_tree.specs.Tree.{SlotsAreTags}
 use Rattle.bonsai_tree.proofs.Boots.{IsOfBoot, messages-of_boot}
 use Rattle.bonsai_tree.proofs.LevelBlocks.{block_listed, blocks-append}
+use Rattle.bonsai_tree.proofs.MadeSlots.{slots_both}
 use Rattle.counter_cache.specs.Counters.{CountersView, OnlyLeavingIsMade, cached_block, counters_in, leaving}
 use Rattle.page_reencrypt.specs.Contents.{BlocksSayEntries, NodesSay, counter_in, never_written}
 use Rattle.page_reencrypt.specs.SealedLines.{AreOfPages, IsOfPage}
@@ -52,21 +53,18 @@ module _ (tag_of : Message → List ℕ) (levels : ℕ) (used entries : List (�
         | inr late ↦ absurd (no_node more level index block lines late)
       ]
 
-  tag_on : (level index : ℕ) (tag : List ℕ) → IsTagOfMade tag_of made level index tag → IsTagOfMade tag_of (made ++ more) level index tag
-  tag_on level index tag is = record {
-    block = is.block;
-    made_there = Contains-append_left made more (Node level index is.block) is.made_there;
-    tag_is = is.tag_is;
+  no_slots : SlotsAreTags tag_of levels more
+  no_slots = record {
+    tagged = λ before after level index at block is inside.
+        absurd (no_node more (level + 1) index block lines
+        (subst (λ (m : List Message). Contains m (Node (level + 1) index block)) (sym is)
+        (Contains-append_right before (Node (level + 1) index block ∷ after) (Node (level + 1) index block) (0, omega arith, refl))));
   }
 
   -- lines were tagged since, and entries were added
   pub say_on : NodesSay tag_of levels used made → NodesSay tag_of levels (used ++ entries) (made ++ more)
   say_on was = record {
-    slots = record {
-      tagged = λ level index at block listed inside.
-          tag_on level (child levels index at) (tag_in_slot at block)
-          (was.slots.tagged level index at block (node_before (level + 1) index block listed) inside);
-    };
+    slots = slots_both tag_of levels made more was.slots no_slots;
     blocks = record {
       said = λ page line block listed of_page.
           elim (was.blocks.said page line block (node_before 0 page block listed) of_page) [
