@@ -12,7 +12,7 @@ use Rattle.cache_set.proofs.Ways.{latest_found}
 use Rattle.bonsai_tree.specs.Node.{CachedNode, level_blocks}
 use Rattle.bonsai_tree.specs.NodeCache.{copy_of}
 use Rattle.bonsai_tree.proofs.Copies.{few_in}
-use Rattle.counter_cache.specs.Counters.{AreBlocks, CountersView, OnlyLeavingIsMade, block_sets, cached_block, cached_pages, leaving, most_blocks}
+use Rattle.counter_cache.specs.Counters.{AreBlocks, CountersView, OnlyLeavingIsMade, block_sets, cached_block, cached_pages, leaving_page, most_blocks}
 
 module _ (levels : ℕ) (blocks blocks' : List (List Way)) (are : AreBlocks levels blocks) (cache : IsCache block_sets blocks') where
   pub blocks_same : ((page : ℕ) → way_at blocks' page ≡ way_at blocks page) → AreBlocks levels blocks'
@@ -93,8 +93,8 @@ few_blocks levels blocks are = omega (arith, few_in block_sets 0 blocks are.cach
 -- where a page's own copy stays, and those of all others
 pub stays_all : (counters counters' : CountersView) (page : ℕ) →
     (Contains (cached_pages counters) page → cached_block counters' page ≡ cached_block counters page) →
-    ((other : ℕ) → other ≢ page → leaving counters page ≢ Some other → cached_block counters' other ≡ cached_block counters other) →
-    (other : ℕ) (copy : CachedNode) → leaving counters page ≢ Some other → cached_block counters other ≡ Some copy → cached_block counters' other ≡ Some copy
+    ((other : ℕ) → other ≢ page → leaving_page counters page ≢ Some other → cached_block counters' other ≡ cached_block counters other) →
+    (other : ℕ) (copy : CachedNode) → leaving_page counters page ≢ Some other → cached_block counters other ≡ Some copy → cached_block counters' other ≡ Some copy
 stays_all counters counters' page hit same other copy stays found = elim (cases_eq other page) [
   | inr apart ↦ same other apart stays ∙ found
   | inl here ↦
@@ -106,7 +106,7 @@ stays_all counters counters' page hit same other copy stays found = elim (cases_
 -- Which blocks were made
 
 -- the block of the way that goes out, or none
-pub victim_made : (counters : CountersView) (page : ℕ) (way : Way) (made made' : List Message) → leaving counters page ≡ Some way.place →
+pub victim_made : (counters : CountersView) (page : ℕ) (way : Way) (made made' : List Message) → leaving_page counters page ≡ Some way.place →
     way_at counters.blocks way.place ≡ Some way →
     (level_blocks 0 made' ≡ level_blocks 0 made) ⊎ ((way.changed ≡ true) × (level_blocks 0 made' ≡ level_blocks 0 made ++ (way.place, way.copy) ∷ [])) →
     OnlyLeavingIsMade counters page made made'

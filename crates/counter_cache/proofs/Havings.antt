@@ -1,5 +1,5 @@
 -- Calls that have a block on the chip, one after another, and how they are made of calls of the tree and of changes of copies.
-use Rattle.std.proofs.Common.{◌≡◌, ◌≢◌, ◌⊎◌, inl, inr, ℕ, ◌+◌, ◌-◌, ◌/◌, ◌^◌, ◌≤◌, false, List, ◌++◌, length, Option, Some, None, Result, Err, refl, ap, sym, ◌∙◌, subst, arith, length-append}
+use Rattle.std.proofs.Common.{◌≡◌, ◌≢◌, ◌⊎◌, inl, inr, ℕ, ◌+◌, ◌-◌, ◌/◌, ◌^◌, ◌≤◌, true, false, List, ◌++◌, length, Option, Some, None, refl, ap, sym, ◌∙◌, subst, arith, length-append}
 use Rattle.std.specs.List.{Contains}
 use Rattle.std.proofs.lemmas.Bool.{cases_eq}
 use Rattle.sec_base.specs.Count.{Rose, RoseBy}
@@ -16,7 +16,7 @@ use Rattle.sec_base.proofs.LastMessages.{none_front}
 use Rattle.bus_model.specs.BusHistory.{BusHistory}
 use Rattle.tag_engine.specs.TagEngine.{TagEngineView, tags_of}
 use Rattle.checked_bus.specs.Accesses.{WritesMessages}
-use Rattle.checked_bus.specs.Steps.{IsAccounted, Moves, SameLines, stop_of, unwritten_in}
+use Rattle.checked_bus.specs.Steps.{IsAccounted, Moves, SameLines, unwritten_in}
 use Rattle.checked_bus.proofs.Steps.{moves_not, moves_on, same_lines_not, same_lines_on}
 use Rattle.checked_bus.proofs.Writes.{writes_on}
 use Rattle.split_counter.specs.CounterBlock.{block_of}
@@ -37,7 +37,7 @@ pub record TreeCall {T : Type 0} (tags : TagEngineView T → Message → List �
   pub levels : tree'.levels ≡ tree.levels
   pub root : tree'.root ≡ tree.root
   pub few_nodes : HasFewNodes tree'
-  pub holds : HoldsTree tags tree old engine → stop ≡ None → HoldsTree tags tree' new engine'
+  pub holds : HoldsTree tags tree old engine → stop ≢ Some NoMemory → HoldsTree tags tree' new engine'
   pub honest : HoldsTree tags tree old engine → (used : List (ℕ × Counter)) →
       IsAccounted (tags engine) used engine.made old None engine.evidence →
       IsAccounted (tags engine) used engine'.made new stop engine'.evidence
@@ -87,6 +87,10 @@ held_before : (found before : Option CachedNode) → found ≢ None → ((copy :
 held_before None before held fewer = absurd (held refl)
 held_before (Some copy) before held fewer = λ none. let some : before ≡ Some copy = fewer copy refl in absurd (cc)
 
+-- a call that did not stop found memory
+pub going : None ≢ Some NoMemory
+going = λ (e : None ≡ Some NoMemory). cc
+
 module _ {T : Type 0} (d n : T → List ℕ → List ℕ) (Where : Place → Type 0) where
   -- nothing was done
   pub has_not : (counters : CountersView) (history : BusHistory) (engine : TagEngineView T) →
@@ -98,7 +102,7 @@ module _ {T : Type 0} (d n : T → List ℕ → List ℕ) (Where : Place → Typ
     root = refl;
     blocks = λ are. are;
     few_nodes = λ few. few;
-    holds = λ holds none. holds;
+    holds = λ holds memory. holds;
     same = λ holds quiet page. refl;
     honest = λ holds used was. was;
     lied = λ holds quiet place is. absurd (cc);
@@ -131,7 +135,6 @@ module _ {T : Type 0} (d n : T → List ℕ → List ℕ) (Where : Place → Typ
         length-append engine.made has.moves.more,
         length-append engine'.made more.moves.more,
       ) in
-      let going : None ≢ Some NoMemory = λ (e : None ≡ Some NoMemory). cc in
       record {
         moves = moves;
         lines = same_lines_on first second third engine.made engine'.made engine''.made has.lines more.lines;
@@ -139,18 +142,18 @@ module _ {T : Type 0} (d n : T → List ℕ → List ℕ) (Where : Place → Typ
         root = more.root ∙ has.root;
         blocks = λ are. more.blocks (has.blocks are);
         few_nodes = λ few. more.few_nodes (has.few_nodes few);
-        holds = λ holds none. more.holds (has.holds holds refl) none;
+        holds = λ holds memory. more.holds (has.holds holds going) memory;
         same = λ holds quiet page.
-            more.same (has.holds holds refl) quiet page
+            more.same (has.holds holds going) quiet page
             ∙ has.same holds (was_none engine'.evidence engine''.evidence more.moves.evidence quiet) page;
         honest = λ holds used was.
             subst (λ (t : Message → List ℕ). IsAccounted t used engine''.made third stop engine''.evidence) tags
-            (more.honest (has.holds holds refl) used
+            (more.honest (has.holds holds going) used
             (subst (λ (t : Message → List ℕ). IsAccounted t used engine'.made second None engine'.evidence) (sym tags) (has.honest holds used was)));
         lied = λ holds quiet place is.
             elim (some_or_none engine'.evidence) [
               | inl still ↦
-                  let rose : Rose second.lies third.lies = more.lied (has.holds holds refl) still place is in
+                  let rose : Rose second.lies third.lies = more.lied (has.holds holds going) still place is in
                   omega (arith, rose, has.moves.lies)
               | inr shown ↦
                   let rose : Rose first.lies second.lies = has.shown holds quiet (some_not_none engine'.evidence shown.0 shown.1) in
@@ -159,7 +162,7 @@ module _ {T : Type 0} (d n : T → List ℕ → List ℕ) (Where : Place → Typ
         shown = λ holds quiet some.
             elim (some_or_none engine'.evidence) [
               | inl still ↦
-                  let rose : Rose second.lies third.lies = more.shown (has.holds holds refl) still some in
+                  let rose : Rose second.lies third.lies = more.shown (has.holds holds going) still some in
                   omega (arith, rose, has.moves.lies)
               | inr shown ↦
                   let rose : Rose first.lies second.lies = has.shown holds quiet (some_not_none engine'.evidence shown.0 shown.1) in
@@ -188,7 +191,7 @@ module _ {T : Type 0} (d n : T → List ℕ → List ℕ) (Where : Place → Typ
             let still : engine'.evidence ≡ None = was_none engine'.evidence engine''.evidence more.moves.evidence quiet in
             subst (λ (t : Message → List ℕ). SlotsAreTags t counters.tree.levels engine''.made) tags
             (subst (λ (k : ℕ). SlotsAreTags (tags_of d n engine') k engine''.made) has.levels
-            (more.slots (has.holds holds refl) quiet
+            (more.slots (has.holds holds going) quiet
             (subst (λ (k : ℕ). SlotsAreTags (tags_of d n engine') k engine'.made) (sym has.levels)
             (subst (λ (t : Message → List ℕ). SlotsAreTags t counters.tree.levels engine'.made) (sym tags) (has.slots holds still tagged)))));
         read = λ level index held.
@@ -219,8 +222,8 @@ module _ {T : Type 0} (d n : T → List ℕ → List ℕ) (Where : Place → Typ
     root = call.root;
     blocks = λ are. subst (λ (k : ℕ). AreBlocks k counters.blocks) (sym call.levels) are;
     few_nodes = λ few. call.few_nodes;
-    holds = λ holds none. record {
-      tree = call.holds holds.tree none;
+    holds = λ holds memory. record {
+      tree = call.holds holds.tree memory;
       clean = λ quiet page copy found unchanged.
           let was : engine.evidence ≡ None = was_none engine.evidence engine'.evidence call.moves.evidence quiet in
           let same : last_node 0 page engine'.made ≡ last_node 0 page engine.made =
@@ -258,7 +261,7 @@ module _ {T : Type 0} (d n : T → List ℕ → List ℕ) (Where : Place → Typ
     root = ap (λ (t : TreeView). t.root) tree;
     blocks = λ was. subst (λ (k : ℕ). AreBlocks k counters'.blocks) (sym (ap (λ (t : TreeView). t.levels) tree)) (are was);
     few_nodes = λ few. subst (λ (t : TreeView). HasFewNodes t) (sym tree) few;
-    holds = λ holds none. record {
+    holds = λ holds memory. record {
       tree = subst (λ (t : TreeView). HoldsTree (tags_of d n) t history engine) (sym tree) holds.tree;
       clean = λ quiet page copy found unchanged. holds.clean quiet page copy (fewer page copy found) unchanged;
     };
@@ -324,7 +327,7 @@ module _ {T : Type 0} (d n : T → List ℕ → List ℕ) (Where : Place → Typ
         cached_block counters' other ≡ Some copy → copy.changed ≡ false → copy.block ≡ page_block other engine'.made
     put_clean holds quiet other copy found unchanged =
         elim (cases_eq other page) [
-          | inr apart ↦ (before.holds holds refl).clean quiet other copy (sym (same other apart) ∙ found) unchanged
+          | inr apart ↦ (before.holds holds going).clean quiet other copy (sym (same other apart) ∙ found) unchanged
           | inl here ↦
               let is : Some (record { block = block; changed = false }) ≡ Some copy = sym (ap (λ (p : ℕ). cached_block counters' p) here ∙ put) ∙ found in
               let same_block : copy.block ≡ block = cc in
@@ -352,8 +355,8 @@ module _ {T : Type 0} (d n : T → List ℕ → List ℕ) (Where : Place → Typ
       root = ap (λ (t : TreeView). t.root) tree_is ∙ call.root;
       blocks = λ was. subst (λ (t : TreeView). AreBlocks t.levels counters'.blocks) (sym tree_is) are;
       few_nodes = λ few. subst (λ (t : TreeView). HasFewNodes t) (sym tree_is) call.few_nodes;
-      holds = λ holds none. record {
-        tree = subst (λ (t : TreeView). HoldsTree (tags_of d n) t new engine') (sym tree_is) (call.holds holds.tree refl);
+      holds = λ holds memory. record {
+        tree = subst (λ (t : TreeView). HoldsTree (tags_of d n) t new engine') (sym tree_is) (call.holds holds.tree going);
         clean = λ quiet other copy found unchanged. put_clean holds quiet other copy found unchanged;
       };
       same = put_same;
@@ -373,6 +376,22 @@ module _ {T : Type 0} (d n : T → List ℕ → List ℕ) (Where : Place → Typ
         | inl here ↦ inr (subst (λ (p : ℕ). Where (node_place 0 p) × CameFrom engine.made old new p) (sym here) (own, came))
       ];
     }
+
+-- a copy that is changed is marked, and what holds, holds still
+pub holds_changed : {T : Type 0} (d n : T → List ℕ → List ℕ) (counters counters' : CountersView) (history : BusHistory) (engine : TagEngineView T) (page : ℕ)
+    (block : List ℕ) → counters'.tree ≡ counters.tree → cached_block counters' page ≡ Some (record { block = block; changed = true }) →
+    ((other : ℕ) → other ≢ page → cached_block counters' other ≡ cached_block counters other) →
+    HoldsCounters (tags_of d n) counters history engine → HoldsCounters (tags_of d n) counters' history engine
+holds_changed d n counters counters' history engine page block tree put same holds = record {
+  tree = subst (λ (t : TreeView). HoldsTree (tags_of d n) t history engine) (sym tree) holds.tree;
+  clean = λ quiet other copy found unchanged. elim (cases_eq other page) [
+    | inr apart ↦ holds.clean quiet other copy (sym (same other apart) ∙ found) unchanged
+    | inl here ↦
+        let is : Some (record { block = block; changed = true }) ≡ Some copy = sym (ap (λ (p : ℕ). cached_block counters' p) here ∙ put) ∙ found in
+        let marked : copy.changed ≡ true = cc in
+        absurd (cc)
+  ];
+}
 
 -- places that are among others
 has_as : {T : Type 0} (d n : T → List ℕ → List ℕ) (Some_of All_of : Place → Type 0) (counters counters' : CountersView) (old new : BusHistory) (engine engine' : TagEngineView T)
@@ -435,10 +454,6 @@ module _ {T : Type 0} (d n : T → List ℕ → List ℕ) (page : ℕ) (counters
         let is : other ≡ page = fetched_page counters.tree.levels page other came.0 in
         inr (is, subst (λ (p : ℕ). CameFrom engine.made old new p) is came.1)
   ]
-
--- a call that did not stop found memory
-pub no_want : {A : Type 0} (result : Result A MemStop) → stop_of result ≡ None → result ≢ Err NoMemory
-no_want result going is = let stop : stop_of result ≡ Some NoMemory = ap stop_of is in cc
 
 zero_more : (lower : ℕ) → lower ≡ 0 + lower
 zero_more lower = omega arith

@@ -1,5 +1,5 @@
 -- What contracts see of the counters of all pages: the tree over their counter blocks, and the copies of counter blocks.
-use Rattle.std.specs.Prelude.{◌≡◌, ◌⊎◌, ℕ, ◌*◌, ◌<◌, ◌≤◌, List, [], ◌∷◌, ◌++◌, length, true, false, Option, Some, None}
+use Rattle.std.specs.Prelude.{◌≡◌, ◌⊎◌, ℕ, ◌*◌, ◌%◌, ◌<◌, ◌≤◌, List, [], ◌∷◌, ◌++◌, length, true, false, Option, Some, None}
 use Rattle.std.specs.Option.{option_map}
 use Rattle.sec_base.specs.Count.{Rose}
 use Rattle.sec_base.specs.Geometry.{page_count}
@@ -10,7 +10,8 @@ use Rattle.sec_base.specs.declared.message.Message.{Message}
 use Rattle.sec_base.specs.declared.message.Message.TheVariants.{Node}
 use Rattle.sec_base.specs.declared.place.Place.TheVariants.{Node as node_place}
 use Rattle.cache_set.specs.declared.way.Way.{Way}
-use Rattle.cache_set.specs.Cache.{IsCache, place_of, places, victim_for, way_at}
+use Rattle.cache_set.specs.CacheSet.{without}
+use Rattle.cache_set.specs.Cache.{IsCache, place_of, places, set_at, victim_for, way_at}
 use Rattle.bus_model.specs.BusHistory.{BusHistory}
 use Rattle.tag_engine.specs.TagEngine.{TagEngineView}
 use Rattle.split_counter.specs.declared.bumped.Bumped.{Bumped}
@@ -49,19 +50,33 @@ counters_in counters made page = block_of (current_page counters made page)
 
 -- The page whose copy goes out where that of another page comes: the least recently used one of its set, where both ways are in
 -- use. None does where the page has a copy.
-abbrev pub leaving : CountersView → ℕ → Option ℕ
-leaving counters page = option_map place_of (victim_for counters.blocks page)
+abbrev pub leaving_page : CountersView → ℕ → Option ℕ
+leaving_page counters page = option_map place_of (victim_for counters.blocks page)
+
+-- which set has the copy of a page's block
+abbrev pub set_of : ℕ → ℕ
+set_of page = page % block_sets
+
+-- what is left of a set's ways where a page leaves, or none does
+abbrev pub left_by : Option ℕ → List Way → List Way
+left_by None ways = ways
+left_by (Some page) ways = without page ways
+
+-- The ways beside that of a page in its set once the page comes: those before, in their order, but its own and that of the page
+-- that leaves.
+abbrev pub ways_beside : CountersView → ℕ → List Way
+ways_beside counters page = without page (left_by (leaving_page counters page) (set_at counters.blocks page))
 
 -- it was not changed, or none goes out
 abbrev pub LeavesClean : CountersView → ℕ → Type 0
-LeavesClean counters page = (other : ℕ) (copy : CachedNode) → leaving counters page ≡ Some other → cached_block counters other ≡ Some copy →
+LeavesClean counters page = (other : ℕ) (copy : CachedNode) → leaving_page counters page ≡ Some other → cached_block counters other ≡ Some copy →
     copy.changed ≡ false
 
 -- One message more of a counter block was made: that of the copy, which was changed, of the page that leaves for another.
 pub record LeavingIsMade (counters : CountersView) (page : ℕ) (made made' : List Message) : Type 0 where
   pub other : ℕ
   pub block : List ℕ
-  pub leaves : leaving counters page ≡ Some other
+  pub leaves : leaving_page counters page ≡ Some other
   pub changed : cached_block counters other ≡ Some (record { block = block; changed = true })
   pub one : level_blocks 0 made' ≡ level_blocks 0 made ++ (other, block) ∷ []
 

@@ -26,8 +26,8 @@ pub record Has {T : Type 0} (tags : TagEngineView T → Message → List ℕ) (W
   pub root : counters'.tree.root ≡ counters.tree.root
   pub blocks : AreBlocks counters.tree.levels counters.blocks → AreBlocks counters'.tree.levels counters'.blocks
   pub few_nodes : HasFewNodes counters.tree → HasFewNodes counters'.tree
-  -- what holds, holds still, and no counter changes
-  pub holds : HoldsCounters tags counters old engine → stop ≡ None → HoldsCounters tags counters' new engine'
+  -- what holds, holds still, unless there was no memory, and no counter changes
+  pub holds : HoldsCounters tags counters old engine → stop ≢ Some NoMemory → HoldsCounters tags counters' new engine'
   pub same : HoldsCounters tags counters old engine → engine'.evidence ≡ None → SameCounters counters engine.made counters' engine'.made
   -- false answers are accounted for, and both tampering and evidence come only where one was
   pub honest : HoldsCounters tags counters old engine → (used : List (ℕ × Counter)) →

@@ -11,7 +11,7 @@ ghost use Rattle.sec_base.specs.declared.message.Message.{Message};
 ghost use Rattle.sec_base.specs.declared.place.Place.{Place};
 ghost use Rattle.sec_base.specs.declared.stop.MemStop.TheVariants.{Tampered, Spent as stop_spent, NoMemory as no_memory};
 ghost use Rattle.bus_model.specs.BusHistory.{NothingWritten};
-ghost use Rattle.cache_set.specs.CacheSet.{HasRoom};
+ghost use Rattle.cache_set.specs.CacheSet.{HasRoom, without};
 ghost use Rattle.cache_set.specs.Cache.{IsLatest, copy_at, set_at, way_at};
 ghost use Rattle.tag_engine.specs.TagEngine.{tags_of};
 ghost use Rattle.checked_bus.specs.Accesses.{WritesMessages};
@@ -22,7 +22,7 @@ ghost use Rattle.bonsai_tree.specs.Boot.{AreOfBoot, NodesAreBooted, boot_message
 ghost use Rattle.bonsai_tree.specs.Node.{CachedNode, level_blocks, page_block};
 ghost use Rattle.bonsai_tree.specs.NodeCache.{most_copies};
 ghost use Rattle.bonsai_tree.specs.Tree.{IsFetchPlace, IsNodeFrom, NodesAreMade, NodesHoldLast, OnlyWroteNodes, PathWasRead, SlotsAreTags, WasReadUp, cached_node, cached_nodes, path_accesses, want_of};
-ghost use Rattle.counter_cache.specs.Counters.{AreCopies, AreHad, CameFrom, HoldsCounters, IsBumped, IsHad, LeavesClean, OnlyLeavingIsMade, SameCounters, cached_block, cached_pages, counter_accesses, counters_in, leaving, most_blocks};
+ghost use Rattle.counter_cache.specs.Counters.{AreCopies, AreHad, CameFrom, HoldsCounters, IsBumped, IsHad, LeavesClean, OnlyLeavingIsMade, SameCounters, cached_block, cached_pages, counter_accesses, counters_in, leaving_page, left_by, most_blocks, set_of, ways_beside};
 ghost use Rattle.counter_cache.specs.Having.{Has};
 
 use bonsai_tree::Tree;
@@ -114,7 +114,7 @@ impl Counters {
         ensures levels { self.new.tree.levels ≡ self.old.tree.levels }
         ensures root { self.new.tree.root ≡ self.old.tree.root }
         ensures holds { HoldsCounters (tags_of T.data_tag_of T.node_tag_of) self.old (B.history bus.old) tags.old →
-            OnOk result (HoldsCounters (tags_of T.data_tag_of T.node_tag_of) self.new (B.history bus.new) tags.new) }
+            result ≢ Err no_memory → HoldsCounters (tags_of T.data_tag_of T.node_tag_of) self.new (B.history bus.new) tags.new }
 
         // They are the page's current counters, or there is evidence. No counter changes, also where the call is refused.
         ensures counters { HoldsCounters (tags_of T.data_tag_of T.node_tag_of) self.old (B.history bus.old) tags.old →
@@ -163,14 +163,18 @@ impl Counters {
             WasReadUp self.old.tree level index (B.history bus.old) (B.history bus.new) }
 
         // The least recently used copy of a full set goes out for a block that comes. Where it was not changed, there are no more
-        // accesses than a fetch may make. All others stay as they are.
-        ensures goes { (other : ℕ) → leaving self.old page ≡ Some other → OnOk result (cached_block self.new other ≡ None) }
-        ensures stays { (other : ℕ) (copy : CachedNode) → leaving self.old page ≢ Some other →
+        // accesses than a fetch may make. All others stay as they are, and in their order. A page whose call is refused has no
+        // copy.
+        ensures goes { (other : ℕ) → leaving_page self.old page ≡ Some other → OnOk result (cached_block self.new other ≡ None) }
+        ensures stays { (other : ℕ) (copy : CachedNode) → leaving_page self.old page ≢ Some other →
             cached_block self.old other ≡ Some copy → cached_block self.new other ≡ Some copy }
         ensures clean { ¬ Contains (cached_pages self.old) page → (copy : CachedNode) →
             cached_block self.new page ≡ Some copy → copy.changed ≡ false }
         ensures unmarked { (copy : CachedNode) → cached_block self.new page ≡ Some copy → copy.changed ≡ true →
             cached_block self.old page ≡ Some copy }
+        ensures uncached { OnErr result (cached_block self.new page ≡ None) }
+        ensures beside { OnOk result (without page (set_at self.new.blocks page) ≡ ways_beside self.old page) }
+        ensures other_sets { (other : ℕ) → set_of other ≢ set_of page → set_at self.new.blocks other ≡ set_at self.old.blocks other }
         ensures once_clean { LeavesClean self.old page →
             (B.history bus.new).accesses ≤ (B.history bus.old).accesses + path_accesses self.old.tree.levels }
         ensures written { OnlyLeavingIsMade self.old page tags.old.made tags.new.made }
@@ -210,7 +214,7 @@ impl Counters {
         ensures levels { self.new.tree.levels ≡ self.old.tree.levels }
         ensures root { self.new.tree.root ≡ self.old.tree.root }
         ensures holds { HoldsCounters (tags_of T.data_tag_of T.node_tag_of) self.old (B.history bus.old) tags.old →
-            OnOk result (HoldsCounters (tags_of T.data_tag_of T.node_tag_of) self.new (B.history bus.new) tags.new) }
+            result ≢ Err no_memory → HoldsCounters (tags_of T.data_tag_of T.node_tag_of) self.new (B.history bus.new) tags.new }
 
         // It comes to what the page's current counters and the limit say, and the counters are those after it; or there is
         // evidence. Where the call is refused no counter changes, and no other page's ever does.
@@ -259,6 +263,7 @@ impl Counters {
         ensures idle { Contains (cached_pages self.old) page → (B.history bus.new ≡ B.history bus.old) × (tags.new ≡ tags.old) }
         ensures hit { Contains (cached_pages self.old) page → IsOk result }
         ensures cached { OnOk result (Contains (cached_pages self.new) page) }
+        ensures latest { OnOk result (IsLatest self.new.blocks page) }
         ensures once { (B.history bus.new).accesses ≤ (B.history bus.old).accesses + counter_accesses self.old.tree.levels }
         ensures few { length tags.new.made ≤ length tags.old.made + counter_accesses self.old.tree.levels }
         ensures room { tags.old.room ≤ tags.new.room + counter_accesses self.old.tree.levels }
@@ -271,12 +276,15 @@ impl Counters {
             WasReadUp self.old.tree level index (B.history bus.old) (B.history bus.new) }
 
         // Copies go and stay as in `get`, but the page's own has the new counters and is changed, unless the line is spent.
-        ensures goes { (other : ℕ) → leaving self.old page ≡ Some other → OnOk result (cached_block self.new other ≡ None) }
-        ensures stays { (other : ℕ) (copy : CachedNode) → other ≢ page → leaving self.old page ≢ Some other →
+        ensures goes { (other : ℕ) → leaving_page self.old page ≡ Some other → OnOk result (cached_block self.new other ≡ None) }
+        ensures stays { (other : ℕ) (copy : CachedNode) → other ≢ page → leaving_page self.old page ≢ Some other →
             cached_block self.old other ≡ Some copy → cached_block self.new other ≡ Some copy }
         ensures marked { (copy : CachedNode) → result ≢ Ok Spent → cached_block self.new page ≡ Some copy → OnOk result (copy.changed ≡ true) }
         ensures unmarked { (copy : CachedNode) → result ≡ Ok Spent → cached_block self.new page ≡ Some copy → copy.changed ≡ true →
             cached_block self.old page ≡ Some copy }
+        ensures uncached { OnErr result (cached_block self.new page ≡ None) }
+        ensures beside { OnOk result (without page (set_at self.new.blocks page) ≡ ways_beside self.old page) }
+        ensures other_sets { (other : ℕ) → set_of other ≢ set_of page → set_at self.new.blocks other ≡ set_at self.old.blocks other }
         ensures once_clean { LeavesClean self.old page →
             (B.history bus.new).accesses ≤ (B.history bus.old).accesses + path_accesses self.old.tree.levels }
         ensures written { OnlyLeavingIsMade self.old page tags.old.made tags.new.made }
@@ -330,13 +338,16 @@ impl Counters {
             × (B.history bus.new ≡ B.history bus.old) × (tags.new ≡ tags.old) }
         ensures read { ¬ Contains (cached_pages self.old) page →
             OnOk result (PathWasRead self.old.tree tags.old.made 0 page (B.history bus.old) (B.history bus.new)) }
-        ensures goes { (other : ℕ) → leaving self.old page ≡ Some other → OnOk result (cached_block self.new other ≡ None) }
-        ensures stays { (other : ℕ) → other ≢ page → leaving self.old page ≢ Some other →
+        ensures goes { (other : ℕ) → leaving_page self.old page ≡ Some other → OnOk result (cached_block self.new other ≡ None) }
+        ensures stays { (other : ℕ) → other ≢ page → leaving_page self.old page ≢ Some other →
             cached_block self.new other ≡ cached_block self.old other }
         ensures clean { ¬ Contains (cached_pages self.old) page → (copy : CachedNode) →
             cached_block self.new page ≡ Some copy → copy.changed ≡ false }
         ensures unmarked { (copy : CachedNode) → cached_block self.new page ≡ Some copy → copy.changed ≡ true →
             cached_block self.old page ≡ Some copy }
+        ensures uncached { OnErr result (cached_block self.new page ≡ None) }
+        ensures beside { OnOk result (without page (set_at self.new.blocks page) ≡ ways_beside self.old page) }
+        ensures other_sets { (other : ℕ) → set_of other ≢ set_of page → set_at self.new.blocks other ≡ set_at self.old.blocks other }
         ensures once_clean { LeavesClean self.old page →
             (B.history bus.new).accesses ≤ (B.history bus.old).accesses + path_accesses self.old.tree.levels }
         ensures written { OnlyLeavingIsMade self.old page tags.old.made tags.new.made }
@@ -372,9 +383,11 @@ impl Counters {
         ensures absent { way_at self.new.blocks page ≡ None }
         ensures room_for { OnOk result (HasRoom (set_at self.new.blocks page)) }
         ensures pages { last_node 0 page tags.new.made ≡ last_node 0 page tags.old.made }
-        ensures apart { leaving self.old page ≢ Some page }
-        ensures goes { (other : ℕ) → leaving self.old page ≡ Some other → OnOk result (cached_block self.new other ≡ None) }
-        ensures stays { (other : ℕ) → leaving self.old page ≢ Some other → cached_block self.new other ≡ cached_block self.old other }
+        ensures apart { leaving_page self.old page ≢ Some page }
+        ensures goes { (other : ℕ) → leaving_page self.old page ≡ Some other → OnOk result (cached_block self.new other ≡ None) }
+        ensures stays { (other : ℕ) → leaving_page self.old page ≢ Some other → cached_block self.new other ≡ cached_block self.old other }
+        ensures left { OnOk result (set_at self.new.blocks page ≡ left_by (leaving_page self.old page) (set_at self.old.blocks page)) }
+        ensures other_sets { (other : ℕ) → set_of other ≢ set_of page → set_at self.new.blocks other ≡ set_at self.old.blocks other }
         ensures idle { LeavesClean self.old page → (B.history bus.new).accesses ≡ (B.history bus.old).accesses }
         ensures written { OnlyLeavingIsMade self.old page tags.old.made tags.new.made }
         ensures moved { B.moved bus.old bus.new }

@@ -38,6 +38,11 @@ pub ok_gives : {A E P : Type 0} (result : Result A E) → IsOk result → OnOk r
 ok_gives (Ok value) ok holds = holds
 ok_gives (Err error) ok holds = absurd (cc)
 
+-- a call that is answered was not refused for want of memory
+pub ok_had_memory : {A P : Type 0} (result : Result A MemStop) → (result ≢ Err NoMemory → P) → OnOk result P
+ok_had_memory (Ok value) holds = holds (λ (is : Ok value ≡ Err NoMemory). cc)
+ok_had_memory (Err stop) holds = tt
+
 pub shows_by : {A P : Type 0} (found : Option A) → (found ≢ None → P) → (found ≡ None) ⊎ P
 shows_by None shown = inl refl
 shows_by (Some evidence) shown = inr (shown (λ none. cc))

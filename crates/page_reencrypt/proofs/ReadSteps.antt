@@ -89,13 +89,14 @@ module _ {B T : Type 0} (history : B → BusHistory) (moved : B → B → Type 0
   -- the counters were not had
   pub unread : (new : OutsideView B T) (counters' : CountersView) (why : MemStop) → IsReached terms old counters new counters' (Some why) → new.pads ≡ old.pads →
       (history new.bus).accesses ≤ (history old.bus).accesses + counter_accesses old.engine.levels →
+      (Contains (cached_pages counters) (page_of line) → (history new.bus).accesses ≡ (history old.bus).accesses) →
       (new.engine.evidence ≡ None → SameCounters counters old.engine.made counters' new.engine.made) →
       ((evidence : Evidence) → old.engine.evidence ≡ None → new.engine.evidence ≡ Some evidence → IsFetchPlace old.engine.levels page (evidence_place evidence)) →
       ((place : Place) → why ≡ Tampered place → IsFetchPlace old.engine.levels page place
       × (old.engine.evidence ≡ None → Rose (history old.bus).lies (history new.bus).lies)) →
       ((spent : ℕ) → why ≢ Spent spent) → CopiesCame page (history old.bus) old.engine.made counters (history new.bus) counters' →
       IsLineRead terms line old counters new counters' (Err why)
-  unread new counters' why reached pads once same found tampered unspent copies = record {
+  unread new counters' why reached pads once still same found tampered unspent copies = record {
     bus = reached.node.bus;
     step = reached.node.step;
     pairs = reached.node.pairs;
@@ -103,6 +104,7 @@ module _ {B T : Type 0} (history : B → BusHistory) (moved : B → B → Type 0
     pads = pads;
     writes = reached.node.writes;
     once = omega (arith, once);
+    hit = λ cached. let idle = still cached in omega (arith, idle);
     written = reached.node.lines.written;
     alone = λ other differs. reached.node.lines.reads other;
     consistent = reached.node.consistent;
@@ -178,6 +180,7 @@ module _ {B T : Type 0} (history : B → BusHistory) (moved : B → B → Type 0
         ∙ ap (bytes_of old.pads.key line) (reached_data terms old counters got counters' None a line)
 
     pub line_read : (history got.bus).accesses ≤ (history old.bus).accesses + counter_accesses old.engine.levels →
+        (Contains (cached_pages counters) (page_of line) → (history got.bus).accesses ≡ (history old.bus).accesses) →
         (got.engine.evidence ≡ None → SameCounters counters old.engine.made counters' got.engine.made) →
         CopiesCame page (history old.bus) old.engine.made counters (history got.bus) counters' →
         (¬ Contains (cached_pages counters) page → PathWasRead counters.tree old.engine.made 0 page (history old.bus) (history got.bus)) →
@@ -200,7 +203,7 @@ module _ {B T : Type 0} (history : B → BusHistory) (moved : B → B → Type 0
         ((place : Place) → result ≡ Err (Tampered place) → (place ≡ line_place line)
         × (got.engine.evidence ≡ None → Rose (history got.bus).lies (history new.bus).lies)) →
         ((spent : ℕ) → result ≢ Err (Spent spent)) → IsLineRead terms line old counters new counters' result
-    line_read got_once same copies path node_found node_accepted had went counted once alone value fresh rose accounted shows found under accepted tampered unspent = record {
+    line_read got_once still same copies path node_found node_accepted had went counted once alone value fresh rose accounted shows found under accepted tampered unspent = record {
       bus = went;
       step = whole_step;
       pairs = a.node.pairs;
@@ -210,6 +213,7 @@ module _ {B T : Type 0} (history : B → BusHistory) (moved : B → B → Type 0
           r.bus_levels r.reads r.accesses a.node.writes (record { writes = 0; counted = counted; at_most = omega arith; at_least = omega arith }) in
           record { writes = more.writes; counted = more.counted; at_most = omega (arith, more.at_most); at_least = omega (arith, more.at_least) };
       once = omega (arith, got_once, once);
+      hit = λ cached. let idle = still cached in omega (arith, idle, once);
       written = λ at. ap (λ (w : Place → List ℕ). w (line_place at)) unwritten ∙ a.node.lines.written at;
       alone = λ other differs. alone other differs ∙ a.node.lines.reads other;
       consistent = read_consistent;

@@ -22,7 +22,7 @@ use Rattle.bonsai_tree.specs.Tree.{SlotsAreTags}
 use Rattle.bonsai_tree.proofs.Boots.{IsOfBoot, messages-of_boot}
 use Rattle.bonsai_tree.proofs.LevelBlocks.{block_listed, blocks-append}
 use Rattle.bonsai_tree.proofs.MadeSlots.{slots_both}
-use Rattle.counter_cache.specs.Counters.{CountersView, OnlyLeavingIsMade, cached_block, counters_in, leaving}
+use Rattle.counter_cache.specs.Counters.{CountersView, OnlyLeavingIsMade, cached_block, counters_in, leaving_page}
 use Rattle.page_reencrypt.specs.Contents.{BlocksSayEntries, NodesSay, counter_in, never_written}
 use Rattle.page_reencrypt.specs.SealedLines.{AreOfPages, IsOfPage}
 use Rattle.page_reencrypt.proofs.RisingPairs.{last_listed}
@@ -114,7 +114,7 @@ one_listed blocks x y is listed = first_listed x y (subst (λ (b : List (ℕ × 
 -- it is the only block that was made since
 leaving_listed : (counters : CountersView) (page : ℕ) (made made' more : List Message) (other : ℕ) (bytes : List ℕ) → OnlyLeavingIsMade counters page made made' →
     made' ≡ made ++ more → Contains more (Node 0 other bytes) →
-    (leaving counters page ≡ Some other) × (cached_block counters other ≡ Some (record { block = bytes; changed = true }))
+    (leaving_page counters page ≡ Some other) × (cached_block counters other ≡ Some (record { block = bytes; changed = true }))
 leaving_listed counters page made made' more other bytes only adds listed =
     let here : Contains (level_blocks 0 more) (other, bytes) = block_listed 0 other bytes more listed in
     let grew : level_blocks 0 made' ≡ level_blocks 0 made ++ level_blocks 0 more = ap (λ (m : List Message). level_blocks 0 m) adds ∙ blocks-append 0 made more in
@@ -127,7 +127,7 @@ leaving_listed counters page made made' more other bytes only adds listed =
           let only_one : level_blocks 0 more ≡ (one.other, one.block) ∷ [] =
           append_cancel_left (level_blocks 0 made) (level_blocks 0 more) ((one.other, one.block) ∷ []) (sym grew ∙ one.one) in
           let is : (one.other, one.block) ≡ (other, bytes) = one_listed (level_blocks 0 more) (other, bytes) (one.other, one.block) only_one here in
-          subst (λ (b : ℕ × List ℕ). (leaving counters page ≡ Some b.0) × (cached_block counters b.0 ≡ Some (record { block = b.1; changed = true }))) is (one.leaves, one.changed)
+          subst (λ (b : ℕ × List ℕ). (leaving_page counters page ≡ Some b.0) × (cached_block counters b.0 ≡ Some (record { block = b.1; changed = true }))) is (one.leaves, one.changed)
     ]
 
 -- so blocks say entries still where counters were had

@@ -22,7 +22,7 @@ use Rattle.tag_engine.specs.TagEngine.{TagEngineView, tags_of}
 use Rattle.checked_bus.specs.Steps.{IsAccounted, stop_of}
 use Rattle.checked_bus.specs.Steps.{unwritten_in}
 use Rattle.split_counter.specs.CounterBlock.{last_counter, next_counter, place_of}
-use Rattle.counter_cache.specs.Counters.{CountersView, counter_accesses}
+use Rattle.counter_cache.specs.Counters.{CountersView, cached_pages, counter_accesses}
 use Rattle.page_reencrypt.specs.Contents.{bytes_of, contents_of, counter_in, entries_of_write, line_bytes, lines_encrypted, page_lines}
 use Rattle.page_reencrypt.specs.LineLengths.{length-line_bytes}
 use Rattle.page_reencrypt.specs.LineMoves.{WriteMoved, overflow_accesses, write_accesses}
@@ -79,6 +79,8 @@ lasting_write history bus_moved tags bus_unmoved lines line bytes stop lasting =
   outside = λ going. absurd (cc);
   once = λ quiet short. (omega arith, λ other. refl);
   few = omega arith;
+  hit = λ cached quiet short. omega arith;
+  hit_overflow = λ cached. omega arith;
 }
 
 pub on_ok : {A P : Type 0} (result : Result A MemStop) → (stop_of result ≡ None → P) → OnOk result P
@@ -198,7 +200,10 @@ module _ {B T : Type 0} (d n : T → List ℕ → List ℕ) (history : B → Bus
   module _ (once : new.engine.evidence ≡ None → (next_counter (counter_in m.pads.used line)).line ≢ 0 →
       ((history new.bus).accesses ≤ (history m.bus).accesses + write_accesses m.engine.levels)
       × ((other : ℕ) → (history new.bus).reads (line_place other) ≡ (history m.bus).reads (line_place other)))
-      (few : (history new.bus).accesses ≤ (history m.bus).accesses + overflow_accesses m.engine.levels) where
+      (few : (history new.bus).accesses ≤ (history m.bus).accesses + overflow_accesses m.engine.levels)
+      (hit : Contains (cached_pages m.counters) (page_of line) → new.engine.evidence ≡ None → (next_counter (counter_in m.pads.used line)).line ≢ 0 →
+      (history new.bus).accesses ≤ (history m.bus).accesses + 1)
+      (hit_overflow : Contains (cached_pages m.counters) (page_of line) → (history new.bus).accesses ≤ (history m.bus).accesses + 127) where
     pub write_moved : WriteMoved history bus_moved (tags_of d n) m line bytes result after
     write_moved = record {
       moves = write_moves;
@@ -208,6 +213,8 @@ module _ {B T : Type 0} (d n : T → List ℕ → List ℕ) (history : B → Bus
       outside = λ going. w;
       once = once;
       few = few;
+      hit = hit;
+      hit_overflow = hit_overflow;
     }
 
   write_under : AreSealedUnder line bytes w.counter part m after

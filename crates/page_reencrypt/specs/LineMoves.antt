@@ -1,5 +1,5 @@
 -- What a read and a write of a line make of the lines outside, with what they answer.
-use Rattle.std.specs.Prelude.{◌≡◌, ◌≢◌, ℕ, ◌+◌, ◌≤◌, List, Result, None}
+use Rattle.std.specs.Prelude.{◌≡◌, ◌≢◌, ℕ, ◌+◌, ◌≤◌, List, Result, None, Contains}
 use Rattle.std.specs.Option.{option_or}
 use Rattle.std.specs.Result.{result_err}
 use Rattle.sec_base.specs.Geometry.{page_of}
@@ -10,7 +10,7 @@ use Rattle.bus_model.specs.BusHistory.{BusHistory}
 use Rattle.tag_engine.specs.TagEngine.{TagEngineView}
 use Rattle.checked_bus.specs.Steps.{stop_of}
 use Rattle.split_counter.specs.CounterBlock.{next_counter}
-use Rattle.counter_cache.specs.Counters.{counter_accesses}
+use Rattle.counter_cache.specs.Counters.{cached_pages, counter_accesses}
 use Rattle.page_reencrypt.specs.Contents.{counter_in}
 use Rattle.page_reencrypt.specs.Outside.{IsLineRead, IsWrite, MemoryTerms, outside_of}
 use Rattle.page_reencrypt.specs.SealedLines.{CopiesCame, FitsTogether, IsQuiet, Moves, SealedLinesView, WasRead, levels, made, used}
@@ -58,3 +58,7 @@ module _ {B T : Type 0} (history : B → BusHistory) (bus_moved : B → B → Ty
         ((history new.bus).accesses ≤ (history old.bus).accesses + write_accesses (levels old))
         × ((other : ℕ) → (history new.bus).reads (line_place other) ≡ (history old.bus).reads (line_place other))
     pub few : (history new.bus).accesses ≤ (history old.bus).accesses + overflow_accesses (levels old)
+    -- the counters make no access where they are on the chip
+    pub hit : Contains (cached_pages old.counters) (page_of line) → IsQuiet new → (next_counter (counter_in (used old) line)).line ≢ 0 →
+        (history new.bus).accesses ≤ (history old.bus).accesses + 1
+    pub hit_overflow : Contains (cached_pages old.counters) (page_of line) → (history new.bus).accesses ≤ (history old.bus).accesses + 127

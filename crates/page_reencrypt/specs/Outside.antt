@@ -134,6 +134,8 @@ module _ {B T : Type 0} (terms : MemoryTerms B) where
     pub pads : new.pads ≡ old.pads
     pub writes : WritesMessages (terms.history old.bus) (terms.history new.bus) (length step.more) (unwritten_in (stop_of result))
     pub once : (terms.history new.bus).accesses ≤ (terms.history old.bus).accesses + (counter_accesses terms.levels + 1)
+    -- the counters make no access where they are on the chip
+    pub hit : Contains (cached_pages counters) (page_of line) → (terms.history new.bus).accesses ≤ (terms.history old.bus).accesses + 1
     pub written : (at : ℕ) → (terms.history new.bus).written (line_place at) ≡ (terms.history old.bus).written (line_place at)
     pub alone : (other : ℕ) → other ≢ line → (terms.history new.bus).reads (line_place other) ≡ (terms.history old.bus).reads (line_place other)
     pub consistent : AreConsistent new

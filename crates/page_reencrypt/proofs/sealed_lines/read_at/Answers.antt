@@ -1,6 +1,9 @@
-use Rattle.std.proofs.Common.{◌≡◌, ℕ, List, Some, None, Result, Ok, Err, refl, ap, sym, subst, rules}
+use Rattle.std.proofs.Common.{◌≡◌, ℕ, List, Some, None, Contains, Result, Ok, Err, refl, ap, sym, subst, rules}
 use Rattle.sec_base.specs.declared.counter.Counter.{Counter}
 use Rattle.sec_base.specs.declared.stop.MemStop.{MemStop}
+use Rattle.bus_model.specs.BusHistory.{BusHistory}
+use Rattle.counter_cache.specs.Counters.{cached_pages}
+use Rattle.sec_base.specs.Geometry.{page_of}
 use Rattle.page_reencrypt.specs.Outside.{HasCounter, IsLineRead, terms_of}
 use Rattle.page_reencrypt.proofs.LineReads.{quiet_before}
 use Rattle.page_reencrypt.proofs.NextWrites.{HadCounters, counter_here, ok_where}
@@ -20,6 +23,9 @@ returns-in_err-block g c =
     let why = c.in_err-block.field-0.0 in
     let e = c.in_err-block.ensures in
     let is : c.from_residual.result ≡ Err why = search rules in
+    let still : Contains (cached_pages counters) (page_of c.args.line) → (h c.get.new.self.bus).accesses ≡ (h old.bus).accesses =
+    λ cached. ap (λ (t : BusHistory). t.accesses)
+    (e.idle (subst (λ (p : ℕ). Contains (cached_pages counters) p) (sym c.page_of.ensures.page) cached)).0 in
     let reached : IsReached (terms_of h m d n old) old counters c.get.new.self c.get.new.counters (Some why) = record {
       node = e.step;
       levels = e.levels;
@@ -30,7 +36,7 @@ returns-in_err-block g c =
     } in
     record {
       read = subst (λ (r : Result (List ℕ) MemStop). IsLineRead (terms_of h m d n old) c.args.line old counters c.get.new.self c.get.new.counters r) (sym is)
-          (unread h m d n old counters c.args.line c.page_of.result c.page_of.ensures.page c.get.new.self c.get.new.counters why reached e.pads e.once (e.same c.requires.fits) e.found
+          (unread h m d n old counters c.args.line c.page_of.result c.page_of.ensures.page c.get.new.self c.get.new.counters why reached e.pads e.once still (e.same c.requires.fits) e.found
           (λ place same.
           let there = e.tampered place (ap (λ (s : MemStop). Err s) same) in (there.0, there.1 c.requires.fits))
           (λ page same. e.unspent page (ap (λ (s : MemStop). Err s) same)) e.copies);
@@ -82,6 +88,9 @@ returns g c =
     let counters = c.args.counters.now in
     let e = c.in_ok-block.ensures in
     let r = c.read.ensures in
+    let still : Contains (cached_pages counters) (page_of c.args.line) → (h c.get.new.self.bus).accesses ≡ (h old.bus).accesses =
+    λ cached. ap (λ (t : BusHistory). t.accesses)
+    (e.idle (subst (λ (p : ℕ). Contains (cached_pages counters) p) (sym c.page_of.ensures.page) cached)).0 in
     let got : IsReached (terms_of h m d n old) old counters c.get.new.self c.get.new.counters None = record {
       node = e.step;
       levels = e.levels;
@@ -93,7 +102,7 @@ returns g c =
     record {
       read = line_read h m d n old counters c.args.line c.page_of.result c.page_of.ensures.page c.get.new.self c.get.new.counters c.place_of.result
           c.in_ok-block.block got e.pads c.place_of.ensures.place c.requires.inside c.read.new.self c.get-2.result c.read.result c.get-2.ensures.counter
-          r.moves r.unmade r.pads r.unwritten e.once (e.same c.requires.fits) e.copies e.read e.found
+          r.moves r.unmade r.pads r.unwritten e.once still (e.same c.requires.fits) e.copies e.read e.found
           (λ made_at bytes tag quiet is. ok_same c.in_ok-block.block (block_of bytes) (Ok c.in_ok-block.block) (Ok (block_of bytes)) refl refl (e.accepted made_at bytes tag quiet is))
           (e.checked c.in_ok-block.block refl)
           (g.met.B.Bus.moved_on old.bus c.get.new.self.bus c.read.new.self.bus e.step.bus r.moved) r.counted r.once r.alone r.value r.fresh r.rose

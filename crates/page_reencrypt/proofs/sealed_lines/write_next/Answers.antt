@@ -1,4 +1,4 @@
-use Rattle.std.proofs.Common.{◌≡◌, ◌≤◌, ℕ, inl, Option, Some, None, Ok, Err, ap, sym, ◌∙◌, subst, arith, rules}
+use Rattle.std.proofs.Common.{◌≡◌, ◌≤◌, ℕ, inl, Option, Some, None, Contains, Ok, Err, ap, sym, ◌∙◌, subst, arith, rules}
 use Rattle.sec_base.specs.Geometry.{page_of}
 use Rattle.sec_base.specs.declared.counter.Counter.{Counter}
 use Rattle.sec_base.specs.declared.place.Place.{Place}
@@ -11,7 +11,7 @@ use Rattle.pad_stream.specs.Pad.{cipher_of}
 use Rattle.checked_bus.specs.SealedLine.{sealed_line}
 use Rattle.checked_bus.specs.Steps.{stop_of}
 use Rattle.checked_bus.proofs.TaggedWrites.{wrote_once}
-use Rattle.counter_cache.specs.Counters.{counters_in}
+use Rattle.counter_cache.specs.Counters.{cached_pages, counters_in}
 use Rattle.page_reencrypt.specs.Outside.{IsWrite, OutsideView, terms_of}
 use Rattle.page_reencrypt.specs.SealedLines.{CopiesCame}
 use Rattle.page_reencrypt.proofs.LineReads.{quiet_before}
@@ -91,6 +91,50 @@ returns-in-Spent-clause-written g c =
     here ∙ is_last c.args.limit c.get-2.result full.0 full.1 (subst (λ (k : Counter). k.page ≤ c.args.limit) here (c.requires.limited was_quiet)))
     (λ quiet last. (e.same c.requires.fits quiet, e.once)) copies
 
+pub returns-in_err-block-clause-hit : goal.returns-in_err-block-clause-hit
+returns-in_err-block-clause-hit g c = λ cached quiet short.
+    let h = g.B.Bus.history in
+    let old = c.args.outside.now in
+    let counters = c.args.counters.now in
+    let e = c.in_err-block.ensures in
+    let still : Contains (cached_pages counters) (page_of c.args.line) → (h c.get.new.self.bus).accesses ≡ (h old.bus).accesses =
+    λ cached. ap (λ (t : BusHistory). t.accesses)
+    (e.idle (subst (λ (p : ℕ). Contains (cached_pages counters) p) (sym c.page_of-page.ensures.page) cached)).0 in
+    let same = still cached in omega (arith, same)
+
+pub returns-in_err-block-clause-hit_overflow : goal.returns-in_err-block-clause-hit_overflow
+returns-in_err-block-clause-hit_overflow g c = λ cached.
+    let h = g.B.Bus.history in
+    let old = c.args.outside.now in
+    let counters = c.args.counters.now in
+    let e = c.in_err-block.ensures in
+    let still : Contains (cached_pages counters) (page_of c.args.line) → (h c.get.new.self.bus).accesses ≡ (h old.bus).accesses =
+    λ cached. ap (λ (t : BusHistory). t.accesses)
+    (e.idle (subst (λ (p : ℕ). Contains (cached_pages counters) p) (sym c.page_of-page.ensures.page) cached)).0 in
+    let same = still cached in omega (arith, same)
+
+pub returns-in-Spent-clause-hit : goal.returns-in-Spent-clause-hit
+returns-in-Spent-clause-hit g c = λ cached quiet short.
+    let h = g.B.Bus.history in
+    let old = c.args.outside.now in
+    let counters = c.args.counters.now in
+    let e = c.in_ok-block.ensures in
+    let still : Contains (cached_pages counters) (page_of c.args.line) → (h c.get.new.self.bus).accesses ≡ (h old.bus).accesses =
+    λ cached. ap (λ (t : BusHistory). t.accesses)
+    (e.idle (subst (λ (p : ℕ). Contains (cached_pages counters) p) (sym c.page_of-page.ensures.page) cached)).0 in
+    let same = still cached in omega (arith, same)
+
+pub returns-in-Spent-clause-hit_overflow : goal.returns-in-Spent-clause-hit_overflow
+returns-in-Spent-clause-hit_overflow g c = λ cached.
+    let h = g.B.Bus.history in
+    let old = c.args.outside.now in
+    let counters = c.args.counters.now in
+    let e = c.in_ok-block.ensures in
+    let still : Contains (cached_pages counters) (page_of c.args.line) → (h c.get.new.self.bus).accesses ≡ (h old.bus).accesses =
+    λ cached. ap (λ (t : BusHistory). t.accesses)
+    (e.idle (subst (λ (p : ℕ). Contains (cached_pages counters) p) (sym c.page_of-page.ensures.page) cached)).0 in
+    let same = still cached in omega (arith, same)
+
 pub returns-in_err-reserve : goal.returns-in_err-reserve
 returns-in_err-reserve g c =
     let h = g.B.Bus.history in
@@ -100,6 +144,9 @@ returns-in_err-reserve g c =
     let old = c.args.outside.now in
     let counters = c.args.counters.now in
     let e = c.in_ok-block.ensures in
+    let still : Contains (cached_pages counters) (page_of c.args.line) → (h c.get.new.self.bus).accesses ≡ (h old.bus).accesses =
+    λ cached. ap (λ (t : BusHistory). t.accesses)
+    (e.idle (subst (λ (p : ℕ). Contains (cached_pages counters) p) (sym c.page_of-page.ensures.page) cached)).0 in
     let got : IsReached (terms_of h m d n old) old counters c.get.new.self c.get.new.counters None = record {
       node = e.step;
       levels = e.levels;
@@ -145,6 +192,8 @@ returns-in_err-reserve g c =
         λ other. ap (λ (t : BusHistory). t.reads (line_place other)) same_bus ∙ e.step.lines.reads other,
       );
       few = omega (arith, e.once, same_accesses);
+      hit = λ cached quiet short. let same = still cached in omega (arith, same, same_accesses);
+      hit_overflow = λ cached. let same = still cached in omega (arith, same, same_accesses);
     }
 
 pub returns-in_err-counter : goal.returns-in_err-counter
@@ -159,6 +208,9 @@ returns-in-Spent-2 g c =
     let old = c.args.outside.now in
     let counters = c.args.counters.now in
     let e = c.in_ok-block.ensures in
+    let still : Contains (cached_pages counters) (page_of c.args.line) → (h c.get.new.self.bus).accesses ≡ (h old.bus).accesses =
+    λ cached. ap (λ (t : BusHistory). t.accesses)
+    (e.idle (subst (λ (p : ℕ). Contains (cached_pages counters) p) (sym c.page_of-page.ensures.page) cached)).0 in
     let got : IsReached (terms_of h m d n old) old counters c.get.new.self c.get.new.counters None = record {
       node = e.step;
       levels = e.levels;
@@ -199,6 +251,8 @@ returns-in-Spent-2 g c =
         λ other. ap (λ (t : BusHistory). t.reads (line_place other)) u.idle.0 ∙ ap (λ (t : BusHistory). t.reads (line_place other)) same_bus ∙ e.step.lines.reads other,
       );
       few = omega (arith, e.once, same_accesses, bumped_accesses, same_levels);
+      hit = λ cached quiet short. let same = still cached in omega (arith, same, same_accesses, bumped_accesses);
+      hit_overflow = λ cached. let same = still cached in omega (arith, same, same_accesses, bumped_accesses);
     }
 
 pub returns-in_err-seal-in-Line : goal.returns-in_err-seal-in-Line
@@ -210,6 +264,9 @@ returns-in_err-seal-in-Line g c =
     let old = c.args.outside.now in
     let counters = c.args.counters.now in
     let e = c.in_ok-block.ensures in
+    let still : Contains (cached_pages counters) (page_of c.args.line) → (h c.get.new.self.bus).accesses ≡ (h old.bus).accesses =
+    λ cached. ap (λ (t : BusHistory). t.accesses)
+    (e.idle (subst (λ (p : ℕ). Contains (cached_pages counters) p) (sym c.page_of-page.ensures.page) cached)).0 in
     let got : IsReached (terms_of h m d n old) old counters c.get.new.self c.get.new.counters None = record {
       node = e.step;
       levels = e.levels;
@@ -258,6 +315,8 @@ returns-in_err-seal-in-Line g c =
             ∙ ap (λ (t : BusHistory). t.reads (line_place other)) same_bus ∙ e.step.lines.reads other,
       );
       few = omega (arith, e.once, same_accesses, bumped_accesses, same_levels, last_accesses);
+      hit = λ cached quiet short. let same = still cached in omega (arith, same, same_accesses, bumped_accesses, last_accesses);
+      hit_overflow = λ cached. let same = still cached in omega (arith, same, same_accesses, bumped_accesses, last_accesses);
     }
 
 pub returns-in_ok-seal-in-Line : goal.returns-in_ok-seal-in-Line
@@ -269,6 +328,9 @@ returns-in_ok-seal-in-Line g c =
     let old = c.args.outside.now in
     let counters = c.args.counters.now in
     let e = c.in_ok-block.ensures in
+    let still : Contains (cached_pages counters) (page_of c.args.line) → (h c.get.new.self.bus).accesses ≡ (h old.bus).accesses =
+    λ cached. ap (λ (t : BusHistory). t.accesses)
+    (e.idle (subst (λ (p : ℕ). Contains (cached_pages counters) p) (sym c.page_of-page.ensures.page) cached)).0 in
     let got : IsReached (terms_of h m d n old) old counters c.get.new.self c.get.new.counters None = record {
       node = e.step;
       levels = e.levels;
@@ -318,6 +380,8 @@ returns-in_ok-seal-in-Line g c =
             ∙ ap (λ (t : BusHistory). t.reads (line_place other)) same_bus ∙ e.step.lines.reads other,
       );
       few = omega (arith, e.once, same_accesses, bumped_accesses, same_levels, last_accesses);
+      hit = λ cached quiet short. let same = still cached in omega (arith, same, same_accesses, bumped_accesses, last_accesses);
+      hit_overflow = λ cached. let same = still cached in omega (arith, same, same_accesses, bumped_accesses, last_accesses);
     }
 
 pub reencrypt_page-requires : goal.reencrypt_page-requires
@@ -395,6 +459,9 @@ returns-in-Page g c =
     let old = c.args.outside.now in
     let counters = c.args.counters.now in
     let e = c.in_ok-block.ensures in
+    let still : Contains (cached_pages counters) (page_of c.args.line) → (h c.get.new.self.bus).accesses ≡ (h old.bus).accesses =
+    λ cached. ap (λ (t : BusHistory). t.accesses)
+    (e.idle (subst (λ (p : ℕ). Contains (cached_pages counters) p) (sym c.page_of-page.ensures.page) cached)).0 in
     let got : IsReached (terms_of h m d n old) old counters c.get.new.self c.get.new.counters None = record {
       node = e.step;
       levels = e.levels;
@@ -437,4 +504,9 @@ returns-in-Page g c =
           c.in_ok-counter.field-0 up c.requires.started e.read c.args.bytes.now c.in-Page.raised c.in-Page.is c.of.ensures.overflow
           c.reencrypt_page.new.self (stop_of c.reencrypt_page.result) p.sealed quiet));
       few = omega (arith, e.once, same_accesses, bumped_accesses, same_levels, p.once);
+      hit = λ cached quiet short. absurd (short (page_overflows h m d n old counters c.requires.current c.args.limit c.args.line c.page_of-page.result c.place_of-place.result c.get.new.self c.get.new.counters
+          c.in_ok-block.block c.get-2.result c.of.result had (g.met.B.Bus.unmoved c.get.new.self.bus) g.met.B.Bus.moved_on c.reserve.new.self c.bump.new.self c.bump.new.counters
+          c.in_ok-counter.field-0 up c.requires.started e.read c.args.bytes.now c.in-Page.raised c.in-Page.is c.of.ensures.overflow
+          c.reencrypt_page.new.self (stop_of c.reencrypt_page.result) p.sealed quiet));
+      hit_overflow = λ cached. let same = still cached in omega (arith, same, same_accesses, bumped_accesses, p.once);
     }

@@ -11,20 +11,22 @@ use Rattle.sec_base.specs.declared.place.Place.TheVariants.{Node as node_place}
 use Rattle.sec_base.specs.declared.stop.MemStop.{MemStop}
 use Rattle.sec_base.specs.declared.stop.MemStop.TheVariants.{Tampered, Spent}
 use Rattle.cache_set.specs.declared.way.Way.{Way}
-use Rattle.cache_set.specs.Cache.{way_at}
+use Rattle.cache_set.specs.CacheSet.{touched, with_latest, without}
+use Rattle.cache_set.specs.Cache.{set_at, way_at}
 use Rattle.cache_set.proofs.Listed.{listed_at}
 use Rattle.tag_engine.specs.TagEngine.{tags_of}
 use Rattle.checked_bus.specs.Steps.{stop_of}
 use Rattle.bonsai_tree.specs.NodeCache.{copy_of}
 use Rattle.bonsai_tree.specs.Tree.{IsFetchPlace, PathWasRead, TreeView, path_accesses}
 use Rattle.bonsai_tree.proofs.Climbs.{above_none}
-use Rattle.bonsai_tree.proofs.Nodes.{same_tags, stop_is}
+use Rattle.bonsai_tree.proofs.Nodes.{on_err, same_tags, stop_is}
 use Rattle.bonsai_tree.proofs.PathCalls.{not_from_one}
-use Rattle.counter_cache.specs.Counters.{AreBlocks, CameFrom, CountersView, IsHad, LeavesClean, OnlyLeavingIsMade, cached_block, cached_pages, leaving}
+use Rattle.counter_cache.specs.Counters.{AreBlocks, CameFrom, CountersView, IsHad, LeavesClean, OnlyLeavingIsMade, cached_block, cached_pages, leaving_page, ways_beside}
 use Rattle.counter_cache.specs.Having.{Has}
 use Rattle.counter_cache.proofs.BlockCopies.{blocks_put, blocks_same, cached_held, none_made_on}
 use Rattle.counter_cache.proofs.Hads.{had_tagged, quiet_before}
-use Rattle.counter_cache.proofs.Havings.{TreeCall, has_on, has_put, has_room, has_touched, has_tree, no_copy_below, no_want, over, path_on, unmade_before}
+use Rattle.counter_cache.proofs.Havings.{TreeCall, has_on, has_put, has_room, has_touched, has_tree, no_copy_below, over, path_on, unmade_before}
+use Rattle.counter_cache.proofs.Orders.{beside_put, beside_touched, set_kept}
 use Rattle.counter_cache.proofs.counters.Counters.bring.Goals as goal
 
 -- where it has a copy
@@ -99,7 +101,7 @@ returns-in_err-block-clause-has g c =
       levels = c.fetch.ensures.levels;
       root = c.fetch.ensures.root;
       few_nodes = c.fetch.ensures.few_copies;
-      holds = λ holds going. c.fetch.ensures.holds holds (no_want c.fetch.result going);
+      holds = λ holds memory. c.fetch.ensures.holds holds (λ is. memory (ap stop_of is));
       honest = λ holds used was. c.fetch.ensures.honest used holds was;
       lied = λ holds quiet place is. c.fetch.ensures.tampered place (stop_is c.fetch.result (Tampered place) is) holds quiet;
       shown = c.fetch.ensures.shown;
@@ -182,7 +184,7 @@ returns-clause-has g c =
       levels = c.fetch.ensures.levels;
       root = c.fetch.ensures.root;
       few_nodes = c.fetch.ensures.few_copies;
-      holds = λ holds going. c.fetch.ensures.holds holds (no_want c.fetch.result going);
+      holds = λ holds memory. c.fetch.ensures.holds holds (λ is. memory (ap stop_of is));
       honest = λ holds used was. c.fetch.ensures.honest used holds was;
       lied = λ holds quiet place is. c.fetch.ensures.tampered place (stop_is c.fetch.result (Tampered place) is) holds quiet;
       shown = c.fetch.ensures.shown;
@@ -252,16 +254,16 @@ returns-clause-goes g c = λ other goes.
     let same : (record { tree = c.self.inside.tree; blocks = c.touch.new.self }) ≡ c.args.self.now =
     ap (λ (b : List (List Way)). record { tree = c.self.inside.tree; blocks = b }) (c.if-touch.ensures.unchanged refl) ∙ c.self.view_is in
     let apart : other ≢ c.args.page = λ here.
-    subst (λ (v : CountersView). leaving v c.args.page ≢ Some c.args.page) same c.make_room.ensures.apart (goes ∙ ap Some here) in
+    subst (λ (v : CountersView). leaving_page v c.args.page ≢ Some c.args.page) same c.make_room.ensures.apart (goes ∙ ap Some here) in
     ap (option_map copy_of) (c.put.ensures.same other apart) ∙ ap (λ (v : CountersView). cached_block v other) c.self-2.view_is
-    ∙ subst (λ (v : CountersView). leaving v c.args.page ≡ Some other → cached_block c.make_room.new.self other ≡ None) same (c.in_ok-make_room.ensures.goes other) goes
+    ∙ subst (λ (v : CountersView). leaving_page v c.args.page ≡ Some other → cached_block c.make_room.new.self other ≡ None) same (c.in_ok-make_room.ensures.goes other) goes
 
 pub returns-clause-stays : goal.returns-clause-stays
 returns-clause-stays g c = λ other apart stays.
     let same : (record { tree = c.self.inside.tree; blocks = c.touch.new.self }) ≡ c.args.self.now =
     ap (λ (b : List (List Way)). record { tree = c.self.inside.tree; blocks = b }) (c.if-touch.ensures.unchanged refl) ∙ c.self.view_is in
     ap (option_map copy_of) (c.put.ensures.same other apart) ∙ ap (λ (v : CountersView). cached_block v other) c.self-2.view_is
-    ∙ subst (λ (v : CountersView). leaving v c.args.page ≢ Some other → cached_block c.make_room.new.self other ≡ cached_block v other) same
+    ∙ subst (λ (v : CountersView). leaving_page v c.args.page ≢ Some other → cached_block c.make_room.new.self other ≡ cached_block v other) same
     (c.make_room.ensures.stays other) stays
 
 pub returns-clause-once_clean : goal.returns-clause-once_clean
@@ -323,3 +325,58 @@ returns-clause-written g c =
 pub returns-in_err-block-clause-moved : goal.returns-in_err-block-clause-moved
 returns-in_err-block-clause-moved g c =
     g.met.B.Bus.moved_on c.args.bus.now c.make_room.new.bus c.fetch.new.bus c.make_room.ensures.moved c.fetch.ensures.moved
+
+-- a refused call leaves the page no copy
+pub returns-in_err-make_room-clause-uncached : goal.returns-in_err-make_room-clause-uncached
+returns-in_err-make_room-clause-uncached g c = on_err c.from_residual.result (ap (option_map copy_of) c.make_room.ensures.absent)
+
+pub returns-in_err-block-clause-uncached : goal.returns-in_err-block-clause-uncached
+returns-in_err-block-clause-uncached g c =
+    on_err c.from_residual-in_err-block.result
+    (ap (λ (v : CountersView). cached_block v c.args.page) c.self-2.view_is ∙ ap (option_map copy_of) c.make_room.ensures.absent)
+
+-- the order in the page's set, and the other sets
+pub returns-then-touch-clause-beside : goal.returns-then-touch-clause-beside
+returns-then-touch-clause-beside g c =
+    subst (λ (v : CountersView). without c.args.page (set_at c.touch.new.self c.args.page) ≡ ways_beside v c.args.page) c.self.view_is
+    (beside_touched (record { tree = c.self.inside.tree; blocks = c.self.inside.blocks }) c.args.page c.touch.new.self c.self.invariant.blocks.cache
+    (c.if-touch.ensures.held.0 refl) c.if-touch.ensures.after)
+
+pub returns-clause-beside : goal.returns-clause-beside
+returns-clause-beside g c =
+    let same : (record { tree = c.self.inside.tree; blocks = c.touch.new.self }) ≡ c.args.self.now =
+    ap (λ (b : List (List Way)). record { tree = c.self.inside.tree; blocks = b }) (c.if-touch.ensures.unchanged refl) ∙ c.self.view_is in
+    let way : Way = record { place = c.args.page; changed = false; copy = c.in_ok-block.block } in
+    beside_put c.self-2.inside.blocks c.put.new.self way c.self-2.invariant.blocks.cache c.put.ensures.after
+    ∙ ap (λ (v : CountersView). without c.args.page (set_at v.blocks c.args.page)) c.self-2.view_is
+    ∙ subst (λ (v : CountersView). without c.args.page (set_at c.make_room.new.self.blocks c.args.page) ≡ ways_beside v c.args.page) same
+    (ap (λ (ways : List Way). without c.args.page ways) c.in_ok-make_room.ensures.left)
+
+pub returns-then-touch-clause-other_sets : goal.returns-then-touch-clause-other_sets
+returns-then-touch-clause-other_sets g c = λ other apart.
+    set_kept c.self.inside.blocks c.touch.new.self c.args.page (touched c.args.page (set_at c.self.inside.blocks c.args.page)) c.self.invariant.blocks.cache
+    c.if-touch.ensures.after other apart
+    ∙ ap (λ (v : CountersView). set_at v.blocks other) c.self.view_is
+
+pub returns-in_err-make_room-clause-other_sets : goal.returns-in_err-make_room-clause-other_sets
+returns-in_err-make_room-clause-other_sets g c = λ other apart.
+    let same : (record { tree = c.self.inside.tree; blocks = c.touch.new.self }) ≡ c.args.self.now =
+    ap (λ (b : List (List Way)). record { tree = c.self.inside.tree; blocks = b }) (c.if-touch.ensures.unchanged refl) ∙ c.self.view_is in
+    c.make_room.ensures.other_sets other apart ∙ ap (λ (v : CountersView). set_at v.blocks other) same
+
+pub returns-in_err-block-clause-other_sets : goal.returns-in_err-block-clause-other_sets
+returns-in_err-block-clause-other_sets g c = λ other apart.
+    let same : (record { tree = c.self.inside.tree; blocks = c.touch.new.self }) ≡ c.args.self.now =
+    ap (λ (b : List (List Way)). record { tree = c.self.inside.tree; blocks = b }) (c.if-touch.ensures.unchanged refl) ∙ c.self.view_is in
+    ap (λ (v : CountersView). set_at v.blocks other) c.self-2.view_is
+    ∙ c.make_room.ensures.other_sets other apart ∙ ap (λ (v : CountersView). set_at v.blocks other) same
+
+pub returns-clause-other_sets : goal.returns-clause-other_sets
+returns-clause-other_sets g c = λ other apart.
+    let same : (record { tree = c.self.inside.tree; blocks = c.touch.new.self }) ≡ c.args.self.now =
+    ap (λ (b : List (List Way)). record { tree = c.self.inside.tree; blocks = b }) (c.if-touch.ensures.unchanged refl) ∙ c.self.view_is in
+    let way : Way = record { place = c.args.page; changed = false; copy = c.in_ok-block.block } in
+    set_kept c.self-2.inside.blocks c.put.new.self c.args.page (with_latest way (set_at c.self-2.inside.blocks c.args.page)) c.self-2.invariant.blocks.cache
+    c.put.ensures.after other apart
+    ∙ ap (λ (v : CountersView). set_at v.blocks other) c.self-2.view_is
+    ∙ c.make_room.ensures.other_sets other apart ∙ ap (λ (v : CountersView). set_at v.blocks other) same

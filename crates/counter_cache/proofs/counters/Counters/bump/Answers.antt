@@ -1,11 +1,12 @@
-use Rattle.std.proofs.Common.{◌≡◌, ◌≢◌, ◌<◌, ℕ, length, Option, Some, None, Err, true, is_some, ap, sym, ◌∙◌, subst, rules}
+use Rattle.std.proofs.Common.{◌≡◌, ◌≢◌, ◌<◌, ℕ, length, Option, Some, None, Ok, Err, true, is_some, ap, sym, ◌∙◌, subst, rules}
 use Rattle.std.specs.List.{Contains}
 use Rattle.std.specs.Option.{option_map}
 use Rattle.sec_base.specs.Geometry.{page_count}
 use Rattle.sec_base.specs.LastMessage.{last_node}
 use Rattle.sec_base.specs.declared.stop.MemStop.TheVariants.{NoMemory}
 use Rattle.cache_set.specs.declared.way.Way.{Way}
-use Rattle.cache_set.specs.Cache.{way_at}
+use Rattle.cache_set.specs.CacheSet.{with_latest, without}
+use Rattle.cache_set.specs.Cache.{set_at, way_at}
 use Rattle.cache_set.proofs.Listed.{listed_at}
 use Rattle.tag_engine.specs.TagEngine.{tags_of}
 use Rattle.checked_bus.specs.Steps.{stop_of}
@@ -19,6 +20,8 @@ use Rattle.counter_cache.specs.Counters.{CountersView, cached_block, cached_page
 use Rattle.counter_cache.proofs.BlockCopies.{blocks_put, few_blocks, same_pages}
 use Rattle.counter_cache.proofs.Blocks.{counters_of_copy}
 use Rattle.counter_cache.proofs.Hads.{had_over}
+use Rattle.counter_cache.proofs.Havings.{holds_changed}
+use Rattle.counter_cache.proofs.Orders.{beside_put, latest_put, set_kept}
 use Rattle.counter_cache.proofs.Rising.{bumped_at_least, line_within, page_within}
 use Rattle.counter_cache.proofs.counters.Counters.bump.Goals as goal
 
@@ -102,3 +105,35 @@ pub returns-clause-stays : goal.returns-clause-stays
 returns-clause-stays g c = λ other copy apart stays found.
     ap (option_map copy_of) (c.change.ensures.same other apart) ∙ ap (λ (v : CountersView). cached_block v other) c.self.view_is
     ∙ c.get.ensures.stays other copy stays found
+
+pub returns-in_err-block-clause-holds : goal.returns-in_err-block-clause-holds
+returns-in_err-block-clause-holds g c = λ holds memory.
+    let stop : stop_of c.from_residual.result ≡ Some c.in_err-block.field-0.0 = search rules in
+    c.get.ensures.holds holds
+    (λ (is : c.get.result ≡ Err NoMemory). memory (stop_is c.from_residual.result NoMemory (stop ∙ sym (ap stop_of c.in_err-block.was) ∙ ap stop_of is)))
+
+pub returns-clause-holds : goal.returns-clause-holds
+returns-clause-holds g c = λ holds memory.
+    holds_changed g.T.Tagger.data_tag_of g.T.Tagger.node_tag_of c.get.new.self (record { tree = c.self.inside.tree; blocks = c.change.new.self }) (g.B.Bus.history c.get.new.bus) c.get.new.tags c.args.page c.to_bytes.result
+    (ap (λ (v : CountersView). v.tree) c.self.view_is) (ap (option_map copy_of) c.change.ensures.changed)
+    (λ other apart. ap (option_map copy_of) (c.change.ensures.same other apart) ∙ ap (λ (v : CountersView). cached_block v other) c.self.view_is)
+    (c.in_ok-block.ensures.holds holds (λ (is : Ok c.in_ok-block.block ≡ Err NoMemory). cc))
+
+-- the order in the page's set, and the other sets
+pub returns-clause-latest : goal.returns-clause-latest
+returns-clause-latest g c =
+    latest_put c.self.inside.blocks c.change.new.self (record { place = c.args.page; changed = true; copy = c.to_bytes.result }) c.self.invariant.blocks.cache
+    c.change.ensures.after
+
+pub returns-clause-beside : goal.returns-clause-beside
+returns-clause-beside g c =
+    beside_put c.self.inside.blocks c.change.new.self (record { place = c.args.page; changed = true; copy = c.to_bytes.result }) c.self.invariant.blocks.cache
+    c.change.ensures.after
+    ∙ ap (λ (v : CountersView). without c.args.page (set_at v.blocks c.args.page)) c.self.view_is ∙ c.in_ok-block.ensures.beside
+
+pub returns-clause-other_sets : goal.returns-clause-other_sets
+returns-clause-other_sets g c = λ other apart.
+    let way : Way = record { place = c.args.page; changed = true; copy = c.to_bytes.result } in
+    set_kept c.self.inside.blocks c.change.new.self c.args.page (with_latest way (set_at c.self.inside.blocks c.args.page)) c.self.invariant.blocks.cache
+    c.change.ensures.after other apart
+    ∙ ap (λ (v : CountersView). set_at v.blocks other) c.self.view_is ∙ c.get.ensures.other_sets other apart

@@ -8,7 +8,7 @@ use Rattle.split_counter.specs.CounterBlock.{block_of}
 use Rattle.bonsai_tree.proofs.Nodes.{stop_is}
 use Rattle.counter_cache.specs.Counters.{CountersView}
 use Rattle.counter_cache.proofs.BlockCopies.{few_blocks, latest_cached, stays_all}
-use Rattle.counter_cache.proofs.Havings.{has_pages, has_writes}
+use Rattle.counter_cache.proofs.Havings.{going, has_pages, has_writes}
 use Rattle.counter_cache.proofs.counters.Counters.get.Goals as goal
 
 pub returns-in_err-bring-clause-few_copies : goal.returns-in_err-bring-clause-few_copies
@@ -68,3 +68,11 @@ returns-in_err-bring-clause-stays g c =
 pub returns-clause-stays : goal.returns-clause-stays
 returns-clause-stays g c =
     stays_all c.args.self.now c.bring.new.self c.args.page (λ cached. (c.bring.ensures.hit cached).1) c.bring.ensures.stays
+
+pub returns-in_err-bring-clause-holds : goal.returns-in_err-bring-clause-holds
+returns-in_err-bring-clause-holds g c = λ holds memory.
+    let stop : stop_of c.from_residual.result ≡ Some c.in_err-bring.field-0.0 = search rules in
+    c.in_err-bring.ensures.has.holds holds (λ is. memory (stop_is c.from_residual.result NoMemory (stop ∙ is)))
+
+pub returns-clause-holds : goal.returns-clause-holds
+returns-clause-holds g c = λ holds memory. c.in_ok-bring.ensures.has.holds holds going

@@ -10,7 +10,7 @@ use Rattle.bonsai_tree.specs.Tree.{IsNodeFrom}
 use Rattle.counter_cache.specs.Counters.{CountersView, cached_block}
 use Rattle.counter_cache.specs.Having.{Has}
 use Rattle.bonsai_tree.proofs.Nodes.{stop_is}
-use Rattle.counter_cache.proofs.Havings.{has_not, has_tree, no_want, over}
+use Rattle.counter_cache.proofs.Havings.{has_not, has_tree, over}
 use Rattle.counter_cache.proofs.counters.Counters.write_back.Goals as goal
 
 pub returns-then-not-victim-clause-has : goal.returns-then-not-victim-clause-has
@@ -27,7 +27,7 @@ returns-clause-has g c =
       levels = c.update.ensures.levels;
       root = c.update.ensures.root;
       few_nodes = c.update.ensures.few_copies;
-      holds = λ holds going. c.update.ensures.holds holds (no_want c.update.result going);
+      holds = λ holds memory. c.update.ensures.holds holds (λ is. memory (ap stop_of is));
       honest = λ holds used was. c.update.ensures.honest used holds was;
       lied = λ holds quiet place is. c.update.ensures.tampered place (stop_is c.update.result (Tampered place) is) holds quiet;
       shown = c.update.ensures.shown;

@@ -1,7 +1,7 @@
 use Rattle.std.proofs.Common.{◌≡◌, None, ap, ◌∙◌}
 use Rattle.tag_engine.specs.TagEngine.{TagEngineView}
 use Rattle.page_reencrypt.specs.Outside.{OutsideView}
-use Rattle.page_reencrypt.proofs.NodeSteps.{fits_after, fits_before, ok_gives}
+use Rattle.page_reencrypt.proofs.NodeSteps.{fits_after, fits_before, ok_gives, ok_had_memory}
 use Rattle.page_reencrypt.proofs.outside.Outside.bump.Goals as goal
 
 pub returns-clause-idle : goal.returns-clause-idle
@@ -26,7 +26,7 @@ returns-clause-fits g c = λ fits.
     let step = c.bump.ensures in
     rw (← c.self.view_is)
     (fits_after g.B.Bus.history g.B.Bus.moved g.T.Tagger.data_tag_of g.T.Tagger.node_tag_of old c.bump.new.bus c.bump.new.tags c.bump.new.self
-    step.moves.tagger step.moves.levels (ok_gives c.bump.result (step.hit c.requires.cached) (step.holds was)))
+    step.moves.tagger step.moves.levels (ok_gives c.bump.result (step.hit c.requires.cached) (ok_had_memory c.bump.result (step.holds was))))
 
 pub returns-clause-outcome : goal.returns-clause-outcome
 returns-clause-outcome g c = λ fits quiet.

@@ -5,7 +5,7 @@ use Rattle.page_reencrypt.specs.Contents.{NodesSay}
 use Rattle.page_reencrypt.specs.Outside.{AreConsistent, CountersSay, HaveLast, HaveLastNodes, OutsideView, terms_of}
 use Rattle.page_reencrypt.specs.SealedLines.{AreOfPages}
 use Rattle.page_reencrypt.proofs.LineReads.{quiet_before}
-use Rattle.page_reencrypt.proofs.NodeSteps.{fits_after, fits_before, node_step, not_refused, ok_map, shows_by}
+use Rattle.page_reencrypt.proofs.NodeSteps.{fits_after, fits_before, node_step, not_refused, ok_had_memory, ok_map, shows_by}
 use Rattle.page_reencrypt.proofs.SayingNodes.{says_had}
 use Rattle.page_reencrypt.proofs.outside.Outside.get.Goals as goal
 
@@ -49,7 +49,7 @@ returns-clause-fits g c = λ fits.
     (ok_map c.get.result
     (fits_after g.B.Bus.history g.B.Bus.moved g.T.Tagger.data_tag_of g.T.Tagger.node_tag_of old c.get.new.bus c.get.new.tags c.get.new.self
     step.moves.tagger step.moves.levels)
-    (step.holds was))
+    (ok_had_memory c.get.result (step.holds was)))
 
 pub returns-clause-nodes : goal.returns-clause-nodes
 returns-clause-nodes g c = λ inside fits says quiet said.

@@ -129,3 +129,6 @@ pub returns-clause-lost : goal.returns-clause-lost
 returns-clause-lost g c = λ quiet.
     let was = sealed_lines_view c.self.inside in
     rw (← c.self.view_is) (quiet_before was.engine.evidence c.read_at-read.new.outside.engine.evidence c.read_at-read.ensures.read.step.evidence quiet)
+
+pub returns-clause-hit : goal.returns-clause-hit
+returns-clause-hit g c = λ cached. rw (← c.self.view_is) (c.read_at-read.ensures.read.hit (rw (← c.self.view_is) at cached))

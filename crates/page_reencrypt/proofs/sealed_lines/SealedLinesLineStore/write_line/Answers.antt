@@ -102,7 +102,7 @@ returns-clause-moved g c =
     let stops : c.or-self-inside.result ≡ option_or (result_err c.write_next-written.result) lines.stopped =
     c.or-self-inside.ensures ∙ ap (λ (o : Option MemStop). option_or o lines.stopped) c.err.ensures.value in
     rw (← c.self.view_is) (write_moved g.T.Tagger.data_tag_of g.T.Tagger.node_tag_of g.B.Bus.history g.B.Bus.moved lines c.args.line c.args.bytes.now c.self.invariant.1 going inside new counters
-    c.write_next-written.result c.write_next-written.ensures.written c.or-self-inside.result stops c.write_next-written.ensures.once c.write_next-written.ensures.few)
+    c.write_next-written.result c.write_next-written.ensures.written c.or-self-inside.result stops c.write_next-written.ensures.once c.write_next-written.ensures.few c.write_next-written.ensures.hit c.write_next-written.ensures.hit_overflow)
 
 pub returns-clause-sealed : goal.returns-clause-sealed
 returns-clause-sealed g c =
@@ -233,3 +233,11 @@ write_next-written-requires-clause-limited g c =
     let lines = sealed_lines_view c.self.inside in
     let going : lasting_stop lines.stopped ≡ None = sym c.lasting.ensures ∙ c.in_default.is in
     kept_limited g.T.Tagger.data_tag_of g.T.Tagger.node_tag_of g.B.Bus.history g.B.Bus.moved lines c.self.invariant.1 going c.args.line
+
+pub returns-clause-hit : goal.returns-clause-hit
+returns-clause-hit g c = λ cached quiet short.
+    rw (← c.self.view_is) (c.write_next-written.ensures.hit (rw (← c.self.view_is) at cached) quiet (rw (← c.self.view_is) at short))
+
+pub returns-clause-hit_overflow : goal.returns-clause-hit_overflow
+returns-clause-hit_overflow g c = λ cached.
+    rw (← c.self.view_is) (c.write_next-written.ensures.hit_overflow (rw (← c.self.view_is) at cached))
