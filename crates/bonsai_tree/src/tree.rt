@@ -171,8 +171,9 @@ impl Tree {
         ensures slots { HoldsTree (tags_of T.data_tag_of T.node_tag_of) self.old (B.history bus.old) tags.old →
             tags.new.evidence ≡ None → SlotsAreTags (tags_of T.data_tag_of T.node_tag_of tags.old) self.old.levels tags.old.made →
             SlotsAreTags (tags_of T.data_tag_of T.node_tag_of tags.old) self.old.levels tags.new.made }
-        // Nodes above the counter blocks are made as they go out, changed, and never before.
-        ensures written_back { WritesBack self.old (B.history bus.old) tags.old.made self.new (B.history bus.new) tags.new.made (stop_of result) }
+        // What is made of a node above level 0 is a copy that was changed, unless a child of it was made in the call. It is made
+        // once at most for each copy of it that was there before or was read in the call, and that is gone after it.
+        ensures written_back { WritesBack 1 self.old (B.history bus.old) tags.old.made self.new (B.history bus.new) tags.new.made (stop_of result) }
 
         // What was made was written.
         ensures made_blocks { NodesAreMade self.old.levels tags.old.made (B.history bus.old).written →
@@ -256,8 +257,9 @@ impl Tree {
         ensures slots { HoldsTree (tags_of T.data_tag_of T.node_tag_of) self.old (B.history bus.old) tags.old →
             tags.new.evidence ≡ None → SlotsAreTags (tags_of T.data_tag_of T.node_tag_of tags.old) self.old.levels tags.old.made →
             SlotsAreTags (tags_of T.data_tag_of T.node_tag_of tags.old) self.old.levels tags.new.made }
-        // Nodes above the counter blocks are made as they go out, changed, and never before.
-        ensures written_back { WritesBack self.old (B.history bus.old) tags.old.made self.new (B.history bus.new) tags.new.made (stop_of result) }
+        // What is made of a node above level 0 is a copy that was changed, unless a child of it was made in the call. It is made
+        // once at most for each copy of it that was there before or was read in the call, and that is gone after it.
+        ensures written_back { WritesBack 1 self.old (B.history bus.old) tags.old.made self.new (B.history bus.new) tags.new.made (stop_of result) }
 
         // What was made was written.
         ensures made_blocks { NodesAreMade self.old.levels tags.old.made (B.history bus.old).written →

@@ -67,11 +67,11 @@ returns-in_err-block-clause-back g c =
     let why = c.in_err-block.field-0.0 in
     let stop : stop_of c.from_residual.result ≡ Some why = search rules in
     subst (λ (s : Option MemStop). WritesUp c.args.level NoNode c.args.self.now (g.B.Bus.history c.args.bus.now) c.args.tags.now.made c.args.self.now (g.B.Bus.history c.read_node.new.bus) c.read_node.new.tags.made s) (sym stop)
-    (up_same c.args.level NoNode c.args.self.now c.args.self.now (g.B.Bus.history c.args.bus.now) (g.B.Bus.history c.read_node.new.bus) c.args.tags.now.made c.read_node.new.tags.made (Some why) c.in_err-block.ensures.once.made (λ level index. refl))
+    (up_same c.args.level NoNode c.args.self.now c.args.self.now (g.B.Bus.history c.args.bus.now) (g.B.Bus.history c.read_node.new.bus) c.args.tags.now.made c.read_node.new.tags.made (Some why) c.in_err-block.ensures.moves.reads c.in_err-block.ensures.once.made (λ level index. refl))
 
 pub returns-clause-back : goal.returns-clause-back
 returns-clause-back g c =
     up_put c.args.level NoNode c.args.level c.args.index c.in_ok-block.block c.args.self.now (tree_of c.self.inside.root c.put.new.self) (g.B.Bus.history c.args.bus.now) (g.B.Bus.history c.read_node.new.bus) c.args.tags.now.made c.read_node.new.tags.made None
-    c.in_ok-block.ensures.once.made (ap (λ o. option_map copy_of o) c.put.ensures.put)
+    c.in_ok-block.ensures.moves.reads c.in_ok-block.ensures.once.made (ap (λ o. option_map copy_of o) c.put.ensures.put)
     (same_as c.args.self.now c.self.inside.root c.self.inside.nodes c.put.new.self c.self.view_is c.args.level c.args.index c.put.ensures.same)
     (c.in_ok-block.ensures.once.rose (λ (e : None ≡ Some NoMemory). cc))

@@ -122,7 +122,7 @@ returns-in_err-reserve-clause-back g c =
     let stop : want_of c.from_residual.result ≡ Some NoMemory = search rules in
     subst (λ (s : Option MemStop). WritesUp (c.args.level + 1) (IsBlockOf c.args.level c.args.index c.args.block.now) c.args.self.now (g.B.Bus.history c.args.bus.now) c.args.tags.now.made c.args.self.now (g.B.Bus.history c.args.bus.now) c.reserve.new.self.made s) (sym stop)
     (up_same (c.args.level + 1) (IsBlockOf c.args.level c.args.index c.args.block.now) c.args.self.now c.args.self.now (g.B.Bus.history c.args.bus.now) (g.B.Bus.history c.args.bus.now) c.args.tags.now.made c.reserve.new.self.made (Some NoMemory)
-    (ap (λ (e : TagEngineView g.row.T.Denot). e.made) c.in_err-reserve.ensures.refused) (λ level index. refl))
+    (λ place. omega arith) (ap (λ (e : TagEngineView g.row.T.Denot). e.made) c.in_err-reserve.ensures.refused) (λ level index. refl))
 
 pub returns-in_err-tag-clause-back : goal.returns-in_err-tag-clause-back
 returns-in_err-tag-clause-back g c =
@@ -131,6 +131,7 @@ returns-in_err-tag-clause-back g c =
     let stop : want_of c.from_residual-in_err-tag.result ≡ Some NoMemory = search rules in
     subst (λ (s : Option MemStop). WritesUp (c.args.level + 1) (IsBlockOf c.args.level c.args.index c.args.block.now) c.args.self.now (g.B.Bus.history c.args.bus.now) c.args.tags.now.made c.args.self.now (g.B.Bus.history c.write_node.new.bus) c.write_node.new.tags.made s) (sym stop)
     (up_made c.args.level c.args.index c.args.block.now c.args.self.now c.args.self.now (g.B.Bus.history c.args.bus.now) (g.B.Bus.history c.write_node.new.bus) c.args.tags.now.made c.write_node.new.tags.made (Some NoMemory)
+    c.in_err-tag.ensures.moves.reads
     (made_one g.T.Tagger.data_tag_of g.T.Tagger.node_tag_of c.args.self.now c.args.self.now c.args.level c.args.index c.args.block.now [] (g.B.Bus.history c.args.bus.now) (g.B.Bus.history c.write_node.new.bus) c.args.tags.now c.reserve.new.self c.write_node.new.tags c.in_ok-reserve.ensures.taken write) (λ other at apart. refl) (λ other at held. held))
 
 pub returns-clause-back : goal.returns-clause-back
@@ -147,4 +148,4 @@ returns-clause-back g c =
       same = λ other at apart. ap (option_map copy_of) (c.keep_tag.ensures.same other at apart);
     } in
     up_made c.args.level c.args.index c.args.block.now c.args.self.now c.keep_tag.new.self (g.B.Bus.history c.args.bus.now) (g.B.Bus.history c.write_node.new.bus) c.args.tags.now.made c.write_node.new.tags.made None
-    (returns-clause-made g c) puts.same (puts_held c.args.self.now c.keep_tag.new.self c.args.level c.args.index c.in_ok-tag.tag puts)
+    c.in_ok-tag.ensures.moves.reads (returns-clause-made g c) puts.same (puts_held c.args.self.now c.keep_tag.new.self c.args.level c.args.index c.in_ok-tag.tag puts)
