@@ -1,6 +1,7 @@
 -- The tree over the counter blocks (a Bonsai Merkle tree: Rogers et al., MICRO 2007), and when it fits the messages that
 -- were made and what stands outside.
 use Rattle.std.specs.Prelude.{◌≡◌, ◌⊎◌, ℕ, ◌+◌, ◌-◌, ◌/◌, ◌^◌, ◌<◌, ◌≤◌, List, length, false, nat_lt, if◌then◌else◌, Option, Some, None, Contains, Result, Ok, Err, ◌≢◌, ◌++◌, true}
+use Rattle.std.specs.Option.{option_map}
 use Rattle.sec_base.specs.Count.{Rose, RoseBy}
 use Rattle.sec_base.specs.Geometry.{IsNode, arity, child, parent, slot}
 use Rattle.sec_base.specs.LastMessage.{last_node}
@@ -28,6 +29,10 @@ pub record TreeView : Type 0 where
 -- the copy of a node on the chip: one of level 0 has none
 abbrev pub cached_node : TreeView → ℕ → ℕ → Option CachedNode
 cached_node tree level index = node_copy tree.caches level index
+
+-- a node has a copy that is marked as changed
+abbrev pub IsMarked : TreeView → ℕ → ℕ → Type 0
+IsMarked tree level index = option_map (λ copy. copy.changed) (cached_node tree level index) ≡ Some true
 
 -- the nodes of a level with a copy on the chip
 abbrev pub cached_nodes : TreeView → ℕ → List ℕ

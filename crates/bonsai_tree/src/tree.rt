@@ -22,7 +22,7 @@ ghost use Rattle.bonsai_tree.specs.Boot.{AreOfBoot, NodesAreBooted, boot_message
 ghost use Rattle.bonsai_tree.specs.Climb.{Climbs, IsBlockOf, IsVictim, NoNode, WritesUp};
 ghost use Rattle.bonsai_tree.specs.Node.{CachedNode, block_or_zeros, level_blocks, no_block, page_block, with_tag};
 ghost use Rattle.bonsai_tree.specs.NodeCache.{AreNodeCaches, IsLatestNode, OtherLevels, OtherNodes, level_cache, most_copies, node_way};
-ghost use Rattle.bonsai_tree.specs.Tree.{HoldsTree, IsFetchPlace, IsNodeFrom, NodesAreMade, NodesHoldLast, OnlyWroteNodes, PathWasRead, SamePages, SlotsAreTags, WasReadUp, WritesBack, cached_node, cached_nodes, current_block, kept_tag, path_accesses, present_accesses, want_of};
+ghost use Rattle.bonsai_tree.specs.Tree.{HoldsTree, IsFetchPlace, IsMarked, IsNodeFrom, NodesAreMade, NodesHoldLast, OnlyWroteNodes, PathWasRead, SamePages, SlotsAreTags, WasReadUp, WritesBack, cached_node, cached_nodes, current_block, kept_tag, path_accesses, present_accesses, want_of};
 
 use crate::boot::boot_tree;
 use crate::node_cache::NodeCache;
@@ -234,6 +234,9 @@ impl Tree {
         ensures pages { (place : Place) → result ≡ Err (Tampered place) →
             SamePages (B.history bus.old) tags.old.made (B.history bus.new) tags.new.made }
         ensures unspent { (spent : ℕ) → result ≢ Err (Spent spent) }
+
+        // The node above the page's block keeps its tag: it has a copy then, and that is changed.
+        ensures parent { OnOk result (IsMarked self.new 1 (parent self.old.levels 0 page).1) }
 
         ensures read { OnOk result (PathWasRead self.old tags.old.made 1 page (B.history bus.old) (B.history bus.new)) }
         ensures hit { cached_node self.old 1 (parent self.old.levels 0 page).1 ≢ None →
@@ -463,6 +466,7 @@ impl Tree {
         ensures once { (B.history bus.new).accesses ≤ (B.history bus.old).accesses + 1 }
         ensures few { length tags.new.made ≤ length tags.old.made + 1 }
         ensures copies { OtherLevels (level + 1) self.old.caches self.new.caches }
+        ensures marked { OnOk result (IsMarked self.new (level + 1) (parent self.old.levels level index).1) }
         ensures made { OnOk result (tags.new.made ≡ tags.old.made ++ Node level index block.now ∷ []) }
         ensures one_at_most { (tags.new.made ≡ tags.old.made) ⊎ (tags.new.made ≡ tags.old.made ++ Node level index block.now ∷ []) }
         ensures own { OnOk result (last_node level index tags.new.made ≡ Some block.now) }

@@ -235,6 +235,9 @@ returns-clause-read g c =
     (latest_cached c.parent_present.new.self 1 (c.args.page / 4) c.in_ok-parent_present.ensures.nodes (omega arith) inside
     (c.in_ok-parent_present.ensures.latest c.in_ok-parent_present.ensures.some))
 
+pub returns-clause-parent : goal.returns-clause-parent
+returns-clause-parent g c = c.in_ok-write_below.ensures.marked
+
 pub returns-in_err-write_below-clause-tampered : goal.returns-in_err-write_below-clause-tampered
 returns-in_err-write_below-clause-tampered g c = λ place is holds quiet.
     let stop : stop_of c.from_residual-in_err-write_below.result ≡ Some NoMemory = search rules in

@@ -149,3 +149,9 @@ returns-clause-back g c =
     } in
     up_made c.args.level c.args.index c.args.block.now c.args.self.now c.keep_tag.new.self (g.B.Bus.history c.args.bus.now) (g.B.Bus.history c.write_node.new.bus) c.args.tags.now.made c.write_node.new.tags.made None
     c.in_ok-tag.ensures.moves.reads (returns-clause-made g c) puts.same (puts_held c.args.self.now c.keep_tag.new.self c.args.level c.args.index c.in_ok-tag.tag puts)
+
+pub returns-clause-marked : goal.returns-clause-marked
+returns-clause-marked g c =
+    let found : (copy : CachedNode) × (cached_node c.args.self.now (c.args.level + 1) (c.args.index / 4) ≡ Some copy) =
+    held_copy (cached_node c.args.self.now (c.args.level + 1) (c.args.index / 4)) c.keep_tag.ensures.held in
+    ap (option_map (λ (copy : CachedNode). copy.changed)) (c.keep_tag.ensures.put found.0 found.1)
