@@ -1,6 +1,6 @@
 -- What a call makes of the tree, the bus and the tag engine that reads and writes nodes of a level and of those above it
 -- alone. It serves private contracts alone.
-use Rattle.std.specs.Prelude.{◌≡◌, ◌≢◌, ◌⊎◌, ℕ, ◌+◌, ◌<◌, ◌≤◌, List, ◌++◌, length, true, Option, Some, None, Contains}
+use Rattle.std.specs.Prelude.{◌≡◌, ◌≢◌, ◌⊎◌, ℕ, ◌+◌, ◌%◌, ◌<◌, ◌≤◌, List, ◌++◌, length, true, Option, Some, None, Contains}
 use Rattle.sec_base.specs.Count.{Rose}
 use Rattle.sec_base.specs.Evidence.{evidence_place}
 use Rattle.sec_base.specs.LastMessage.{last_node}
@@ -18,8 +18,8 @@ use Rattle.tag_engine.specs.TagEngine.{TagEngineView}
 use Rattle.checked_bus.specs.Accesses.{WritesMessages}
 use Rattle.checked_bus.specs.Steps.{IsAccounted, Moves, SameLines, unwritten_in}
 use Rattle.bonsai_tree.specs.Node.{level_blocks, times_made}
-use Rattle.bonsai_tree.specs.NodeCache.{AreNodeCaches, level_cache}
-use Rattle.bonsai_tree.specs.Tree.{HoldsTree, IsNodeFrom, NodesAreMade, NodesHoldLast, SlotsAreTags, TreeView, WasReadUp, WritesBack, cached_node}
+use Rattle.bonsai_tree.specs.NodeCache.{AreNodeCaches, level_cache, node_sets}
+use Rattle.bonsai_tree.specs.Tree.{HoldsTree, IsNodeFrom, NodesAreMade, NodesHoldLast, SlotsAreTags, TreeView, WasReadBeside, WasReadUp, WritesBack, cached_node}
 
 pub record Climbs {T : Type 0} (tags : TagEngineView T → Message → List ℕ) (from : ℕ) (tree : TreeView) (old : BusHistory)
     (engine : TagEngineView T) (tree' : TreeView) (new : BusHistory) (engine' : TagEngineView T) (stop : Option MemStop) : Type 0 where
@@ -76,3 +76,8 @@ pub record WritesUp (from : ℕ) (Own : ℕ → ℕ → List ℕ → Type 0) (tr
   pub back : WritesBack from tree old made tree' new made' stop
   pub own : (level index : ℕ) (block : List ℕ) → level < from → Contains back.more (Node level index block) → Own level index block
   pub once : (level index : ℕ) → level < from → times_made level index back.more ≤ 1
+
+-- A copy goes out for a node, which may not be read yet, or for another that is read.
+pub record MakesRoom (level index : ℕ) (tree : TreeView) (old : BusHistory) (tree' : TreeView) (new : BusHistory) : Type 0 where
+  pub out : (other at : ℕ) → cached_node tree other at ≢ None → cached_node tree' other at ≡ None →
+      ((other ≡ level) × (at % node_sets ≡ index % node_sets)) ⊎ WasReadBeside other at old new

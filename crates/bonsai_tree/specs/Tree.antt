@@ -1,6 +1,6 @@
 -- The tree over the counter blocks (a Bonsai Merkle tree: Rogers et al., MICRO 2007), and when it fits the messages that
 -- were made and what stands outside.
-use Rattle.std.specs.Prelude.{◌≡◌, ◌⊎◌, ℕ, ◌+◌, ◌-◌, ◌/◌, ◌^◌, ◌<◌, ◌≤◌, List, length, false, nat_lt, if◌then◌else◌, Option, Some, None, Contains, Result, Ok, Err, ◌≢◌, ◌++◌, true}
+use Rattle.std.specs.Prelude.{◌≡◌, ◌⊎◌, ℕ, ◌+◌, ◌-◌, ◌/◌, ◌%◌, ◌^◌, ◌<◌, ◌≤◌, List, length, false, nat_lt, if◌then◌else◌, Option, Some, None, Contains, Result, Ok, Err, ◌≢◌, ◌++◌, true}
 use Rattle.std.specs.Option.{option_map}
 use Rattle.sec_base.specs.Count.{Rose, RoseBy}
 use Rattle.sec_base.specs.Geometry.{IsNode, arity, child, parent, slot}
@@ -18,7 +18,7 @@ use Rattle.bus_model.specs.BusHistory.{BusHistory}
 use Rattle.tag_engine.specs.TagEngine.{TagEngineView}
 use Rattle.checked_bus.specs.Steps.{unwritten_in}
 use Rattle.bonsai_tree.specs.Node.{CachedNode, block_or_zeros, copy_count, current_of, tag_in_slot, tag_of_last, times_made, path_index}
-use Rattle.bonsai_tree.specs.NodeCache.{copied_nodes, node_copy}
+use Rattle.bonsai_tree.specs.NodeCache.{copied_nodes, node_copy, node_sets}
 
 -- the levels, the root register, which is the tag of the top node, and the copies of nodes on the chip
 pub record TreeView : Type 0 where
@@ -170,6 +170,17 @@ pub record WritesBack (from : ℕ) (tree : TreeView) (old : BusHistory) (made : 
       (old.reads (node_place level index)) (new.reads (node_place level index))
   -- a copy is as it was, or was read and is not changed, unless a child of its node was made
   pub copies : (level index : ℕ) (copy : CachedNode) → cached_node tree' level index ≡ Some copy → IsCopyAfter tree old new more level index copy
+
+-- another node of the set that a node is in was read
+pub record WasReadBeside (level index : ℕ) (old new : BusHistory) : Type 0 where
+  pub other : ℕ
+  pub differs : other ≢ index
+  pub set : other % node_sets ≡ index % node_sets
+  pub rose : Rose (old.reads (node_place level other)) (new.reads (node_place level other))
+
+-- A copy goes out only for another node of its set, which is read.
+pub record GoesOutFor (tree : TreeView) (old : BusHistory) (tree' : TreeView) (new : BusHistory) : Type 0 where
+  pub out : (level index : ℕ) → cached_node tree level index ≢ None → cached_node tree' level index ≡ None → WasReadBeside level index old new
 
 -- the stop of a call that can only find no memory
 abbrev pub want_of : {A : Type 0} → Result A NoMemory → Option MemStop

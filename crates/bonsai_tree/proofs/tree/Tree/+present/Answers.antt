@@ -13,6 +13,7 @@ use Rattle.bonsai_tree.proofs.Climbs.{climbs_not, climbs_on, climbs_up}
 use Rattle.bonsai_tree.proofs.NodeCalls.{climbs_dropped, climbs_touched}
 use Rattle.bonsai_tree.proofs.Accesses.{present_first, present_second}
 use Rattle.bonsai_tree.proofs.Views.{all_as, levels_as, not_held, others_as, root_as, same_as, tree_of}
+use Rattle.bonsai_tree.proofs.OutFor.{on_ok, out_came, out_kept, out_on, room_kept, room_made}
 use Rattle.bonsai_tree.proofs.WrittenBack.{up_as, up_on, up_same, up_victim, up_wider}
 use Rattle.bonsai_tree.proofs.tree.Tree.+present.Goals as goal
 
@@ -311,3 +312,44 @@ pub write_back-returns-clause-copies : goal.write_back-returns-clause-copies
 write_back-returns-clause-copies g t c =
     c.in_ok-write_below.ensures.copies c.args.level (λ (same : c.args.level ≡ c.args.level + 1). absurd (omega (arith, same)))
     ∙ c.in_ok-parent_present.ensures.climbs.copies c.args.level (omega arith)
+
+-- What copies go out for
+
+pub parent_present-returns-then-level-levels-clause-out_for : goal.parent_present-returns-then-level-levels-clause-out_for
+parent_present-returns-then-level-levels-clause-out_for g t c =
+    out_kept c.args.self.now c.args.self.now (g.B.Bus.history c.args.bus.now) (g.B.Bus.history c.args.bus.now) (λ level index held. held)
+
+pub write_back-returns-then-not-victim-clause-out_for : goal.write_back-returns-then-not-victim-clause-out_for
+write_back-returns-then-not-victim-clause-out_for g t c =
+    out_kept c.args.self.now c.args.self.now (g.B.Bus.history c.args.bus.now) (g.B.Bus.history c.args.bus.now) (λ level index held. held)
+
+pub write_back-returns-clause-out_for : goal.write_back-returns-clause-out_for
+write_back-returns-clause-out_for g t c =
+    out_on c.args.self.now c.parent_present.new.self c.write_below.new.self (g.B.Bus.history c.args.bus.now) (g.B.Bus.history c.parent_present.new.bus) (g.B.Bus.history c.write_below.new.bus)
+    c.in_ok-parent_present.ensures.climbs.moves.reads c.in_ok-write_below.ensures.climbs.moves.reads c.in_ok-parent_present.ensures.out_for
+    (out_kept c.parent_present.new.self c.write_below.new.self (g.B.Bus.history c.parent_present.new.bus) (g.B.Bus.history c.write_below.new.bus) c.in_ok-write_below.ensures.kept)
+
+pub make_room-returns-in_default-clause-out_for : goal.make_room-returns-in_default-clause-out_for
+make_room-returns-in_default-clause-out_for g t c = room_kept c.args.level c.args.index c.args.self.now (g.B.Bus.history c.args.bus.now)
+
+pub make_room-returns-clause-out_for : goal.make_room-returns-clause-out_for
+make_room-returns-clause-out_for g t c =
+    room_made c.args.level c.args.index c.in-Some.victim.place c.args.self.now c.write_back.new.self (tree_of c.self-2.inside.root c.remove.new.self) (g.B.Bus.history c.args.bus.now) (g.B.Bus.history c.write_back.new.bus)
+    c.in-Some.ensures.beside
+    (same_as c.write_back.new.self c.self-2.inside.root c.self-2.inside.nodes c.remove.new.self c.self-2.view_is c.args.level c.in-Some.victim.place c.remove.ensures.same)
+    c.in_ok-write_back.ensures.out_for
+
+pub present-returns-then-touch-clause-out_for : goal.present-returns-then-touch-clause-out_for
+present-returns-then-touch-clause-out_for g t c =
+    out_kept c.args.self.now (tree_of c.self.inside.root c.touch.new.self) (g.B.Bus.history c.args.bus.now) (g.B.Bus.history c.args.bus.now)
+    (λ level index held none. held (sym (all_as c.args.self.now c.self.inside.root c.self.inside.nodes c.touch.new.self c.self.view_is c.if-touch.ensures.same level index) ∙ none))
+
+pub present-returns-clause-out_for : goal.present-returns-clause-out_for
+present-returns-clause-out_for g t c =
+    on_ok c.read_in.result c.read_in.ensures.came
+    (out_came c.args.level c.args.index c.args.self.now (tree_of c.self.inside.root c.touch.new.self) c.make_room.new.self c.parent_present.new.self c.read_in.new.self
+    (g.B.Bus.history c.args.bus.now) (g.B.Bus.history c.make_room.new.bus) (g.B.Bus.history c.parent_present.new.bus) (g.B.Bus.history c.read_in.new.bus)
+    (all_as c.args.self.now c.self.inside.root c.self.inside.nodes c.touch.new.self c.self.view_is c.if-touch.ensures.same)
+    (not_held c.args.self.now c.self.inside.root c.self.inside.nodes c.args.level c.args.index c.self.view_is (c.if-touch.ensures.absent refl))
+    c.in_ok-make_room.ensures.climbs.moves.reads c.in_ok-parent_present.ensures.climbs.moves.reads c.read_in.ensures.climbs.moves.reads
+    c.in_ok-make_room.ensures.out_for c.in_ok-parent_present.ensures.out_for c.read_in.ensures.kept)

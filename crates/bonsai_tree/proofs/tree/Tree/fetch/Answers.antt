@@ -14,6 +14,7 @@ use Rattle.bonsai_tree.specs.Node.{level_blocks}
 use Rattle.bonsai_tree.specs.Tree.{WritesBack, path_accesses}
 use Rattle.bonsai_tree.proofs.Copies.{few_copies}
 use Rattle.bonsai_tree.proofs.Nodes.{NodeRead, node_found, stop_is}
+use Rattle.bonsai_tree.proofs.OutFor.{out_kept, out_on}
 use Rattle.bonsai_tree.proofs.PathCalls.{climb_room, climb_writes, fetched, fetched_accepted, fetched_block, fetched_checked, fetched_found, fetched_pages, fetched_read, not_from_one, ok_of, page_node, path_more, read_most, stop_of_err}
 use Rattle.bonsai_tree.proofs.Views.{latest_cached}
 use Rattle.bonsai_tree.proofs.WrittenBack.{up_on, up_same}
@@ -212,3 +213,11 @@ read_node-requires-clause-node g c =
 
 pub returns-clause-lines : goal.returns-clause-lines
 returns-clause-lines g c = (whole g c).lines
+
+-- what copies go out for
+pub returns-clause-out_for : goal.returns-clause-out_for
+returns-clause-out_for g c =
+    ok_of c.read_node.result (λ going.
+    out_on c.args.self.now c.parent_present.new.self c.parent_present.new.self (g.B.Bus.history c.args.bus.now) (g.B.Bus.history c.parent_present.new.bus) (g.B.Bus.history c.read_node.new.bus)
+    c.in_ok-parent_present.ensures.climbs.moves.reads c.read_node.ensures.moves.reads c.in_ok-parent_present.ensures.out_for
+    (out_kept c.parent_present.new.self c.parent_present.new.self (g.B.Bus.history c.parent_present.new.bus) (g.B.Bus.history c.read_node.new.bus) (λ level index held. held)))

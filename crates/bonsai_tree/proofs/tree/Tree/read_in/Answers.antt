@@ -1,4 +1,4 @@
-use Rattle.std.proofs.Common.{◌≡◌, ◌+◌, ◌/◌, Option, Some, None, Ok, Err, refl, ap, sym, subst, arith, rules}
+use Rattle.std.proofs.Common.{◌≡◌, ◌+◌, ◌/◌, false, Option, Some, None, Ok, Err, refl, ap, sym, subst, arith, rules}
 use Rattle.std.specs.Option.{option_map}
 use Rattle.sec_base.specs.declared.stop.MemStop.{MemStop}
 use Rattle.sec_base.specs.declared.stop.MemStop.TheVariants.{NoMemory}
@@ -9,6 +9,7 @@ use Rattle.bonsai_tree.specs.NodeCache.{AreNodeCaches, copy_of}
 use Rattle.bonsai_tree.specs.Tree.{TreeView}
 use Rattle.bonsai_tree.proofs.Nodes.{node_found}
 use Rattle.bonsai_tree.proofs.NodeCalls.{climbs_put, climbs_read}
+use Rattle.bonsai_tree.proofs.OutFor.{kept_at}
 use Rattle.bonsai_tree.proofs.Views.{latest_cached, levels_as, others_as, root_as, same_as, tree_of}
 use Rattle.bonsai_tree.proofs.WrittenBack.{up_put, up_same}
 use Rattle.bonsai_tree.proofs.tree.Tree.read_in.Goals as goal
@@ -75,3 +76,12 @@ returns-clause-back g c =
     c.in_ok-block.ensures.moves.reads c.in_ok-block.ensures.once.made (ap (λ o. option_map copy_of o) c.put.ensures.put)
     (same_as c.args.self.now c.self.inside.root c.self.inside.nodes c.put.new.self c.self.view_is c.args.level c.args.index c.put.ensures.same)
     (c.in_ok-block.ensures.once.rose (λ (e : None ≡ Some NoMemory). cc))
+
+pub returns-clause-came : goal.returns-clause-came
+returns-clause-came g c = c.in_ok-block.ensures.once.rose (λ (e : None ≡ Some NoMemory). cc)
+
+pub returns-clause-kept : goal.returns-clause-kept
+returns-clause-kept g c =
+    kept_at c.args.level c.args.index c.args.self.now (tree_of c.self.inside.root c.put.new.self) (record { block = c.in_ok-block.block; changed = false })
+    (ap (λ o. option_map copy_of o) c.put.ensures.put)
+    (same_as c.args.self.now c.self.inside.root c.self.inside.nodes c.put.new.self c.self.view_is c.args.level c.args.index c.put.ensures.same)

@@ -14,6 +14,7 @@ use Rattle.bonsai_tree.proofs.Climbs.{climbs_on, climbs_up}
 use Rattle.bonsai_tree.proofs.Copies.{few_copies}
 use Rattle.bonsai_tree.proofs.LevelBlocks.{blocks_after}
 use Rattle.bonsai_tree.proofs.Nodes.{on_err, stop_is}
+use Rattle.bonsai_tree.proofs.OutFor.{out_kept, out_on}
 use Rattle.bonsai_tree.proofs.PathCalls.{climb_room, climb_writes, path_more, stop_of_err, updated_read}
 use Rattle.bonsai_tree.proofs.Views.{latest_cached}
 use Rattle.bonsai_tree.proofs.WrittenBack.{up_on}
@@ -353,3 +354,10 @@ pub returns-in_err-parent_present-clause-last_blocks : goal.returns-in_err-paren
 returns-in_err-parent_present-clause-last_blocks g c = λ was memory.
     let stop : stop_of c.from_residual.result ≡ Some c.in_err-parent_present.field-0.0 = search rules in
     c.in_err-parent_present.ensures.climbs.last_blocks (λ is. memory (stop_is c.from_residual.result NoMemory (stop ∙ is))) was
+
+-- what copies go out for
+pub returns-clause-out_for : goal.returns-clause-out_for
+returns-clause-out_for g c =
+    out_on c.args.self.now c.parent_present.new.self c.write_below.new.self (g.B.Bus.history c.args.bus.now) (g.B.Bus.history c.parent_present.new.bus) (g.B.Bus.history c.write_below.new.bus)
+    c.in_ok-parent_present.ensures.climbs.moves.reads c.in_ok-write_below.ensures.climbs.moves.reads c.in_ok-parent_present.ensures.out_for
+    (out_kept c.parent_present.new.self c.write_below.new.self (g.B.Bus.history c.parent_present.new.bus) (g.B.Bus.history c.write_below.new.bus) c.in_ok-write_below.ensures.kept)
