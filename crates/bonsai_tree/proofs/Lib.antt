@@ -10,6 +10,7 @@ pub mod Climbs
 pub mod NodeWrites
 pub mod NodeCalls
 pub mod WrittenBack
+pub mod OutFor
 pub mod PathCalls
 pub mod Boots
 pub mod BootSlots

@@ -1,6 +1,6 @@
 -- What a call makes of the tree, the bus and the tag engine that reads and writes nodes of a level and of those above it
 -- alone. It serves private contracts alone.
-use Rattle.std.specs.Prelude.{◌≡◌, ◌≢◌, ◌⊎◌, ℕ, ◌+◌, ◌<◌, ◌≤◌, List, ◌++◌, length, true, Option, Some, None, Contains}
+use Rattle.std.specs.Prelude.{◌≡◌, ◌≢◌, ◌⊎◌, ℕ, ◌+◌, ◌%◌, ◌<◌, ◌≤◌, List, ◌++◌, length, true, Option, Some, None, Contains}
 use Rattle.sec_base.specs.Count.{Rose}
 use Rattle.sec_base.specs.Evidence.{evidence_place}
 use Rattle.sec_base.specs.LastMessage.{last_node}
@@ -17,9 +17,9 @@ use Rattle.bus_model.specs.BusHistory.{BusHistory}
 use Rattle.tag_engine.specs.TagEngine.{TagEngineView}
 use Rattle.checked_bus.specs.Accesses.{WritesMessages}
 use Rattle.checked_bus.specs.Steps.{IsAccounted, Moves, SameLines, unwritten_in}
-use Rattle.bonsai_tree.specs.Node.{CachedNode, level_blocks}
-use Rattle.bonsai_tree.specs.NodeCache.{AreNodeCaches, level_cache}
-use Rattle.bonsai_tree.specs.Tree.{HasChild, HoldsTree, IsCopyAfter, IsNodeFrom, NodesAreMade, NodesHoldLast, SlotsAreTags, TreeView, WasReadUp, cached_node}
+use Rattle.bonsai_tree.specs.Node.{level_blocks, times_made}
+use Rattle.bonsai_tree.specs.NodeCache.{AreNodeCaches, level_cache, node_sets}
+use Rattle.bonsai_tree.specs.Tree.{HoldsTree, IsNodeFrom, NodesAreMade, NodesHoldLast, SlotsAreTags, TreeView, WasReadBeside, WasReadUp, WritesBack, cached_node}
 
 pub record Climbs {T : Type 0} (tags : TagEngineView T → Message → List ℕ) (from : ℕ) (tree : TreeView) (old : BusHistory)
     (engine : TagEngineView T) (tree' : TreeView) (new : BusHistory) (engine' : TagEngineView T) (stop : Option MemStop) : Type 0 where
@@ -70,16 +70,14 @@ abbrev pub IsVictim : ℕ → Way → Option MemStop → ℕ → ℕ → List �
 IsVictim level way stop other at bytes =
     IsBlockOf level way.place way.copy other at bytes × (way.changed ≡ true) × ((stop ≡ None) ⊎ (stop ≡ Some NoMemory))
 
--- What was made from a level up went out, and what was made below it is as said.
+-- Nodes from a level up are written back, and what was made below it is as said, of each node once at most.
 pub record WritesUp (from : ℕ) (Own : ℕ → ℕ → List ℕ → Type 0) (tree : TreeView) (old : BusHistory) (made : List Message) (tree' : TreeView)
     (new : BusHistory) (made' : List Message) (stop : Option MemStop) : Type 0 where
-  pub more : List Message
-  pub made_more : made' ≡ made ++ more
-  pub own : (level index : ℕ) (block : List ℕ) → level < from → Contains more (Node level index block) → Own level index block
-  pub changed : (level index : ℕ) (block : List ℕ) → from ≤ level → Contains more (Node level index block) →
-      (cached_node tree level index ≡ Some (record { block = block; changed = true })) ⊎ HasChild tree.levels more level index
-  pub gone : stop ≢ Some NoMemory → (level index : ℕ) (block : List ℕ) → from ≤ level → Contains more (Node level index block) →
-      (cached_node tree' level index ≡ None) ⊎ Rose (old.reads (node_place level index)) (new.reads (node_place level index))
-  pub copies : (level index : ℕ) (copy : CachedNode) → cached_node tree' level index ≡ Some copy → IsCopyAfter tree old new more level index copy
-  pub came : (level index : ℕ) → cached_node tree' level index ≢ None → cached_node tree level index ≡ None →
-      Rose (old.reads (node_place level index)) (new.reads (node_place level index))
+  pub back : WritesBack from tree old made tree' new made' stop
+  pub own : (level index : ℕ) (block : List ℕ) → level < from → Contains back.more (Node level index block) → Own level index block
+  pub once : (level index : ℕ) → level < from → times_made level index back.more ≤ 1
+
+-- A copy goes out for a node, which may not be read yet, or for another that is read.
+pub record MakesRoom (level index : ℕ) (tree : TreeView) (old : BusHistory) (tree' : TreeView) (new : BusHistory) : Type 0 where
+  pub out : (other at : ℕ) → cached_node tree other at ≢ None → cached_node tree' other at ≡ None →
+      ((other ≡ level) × (at % node_sets ≡ index % node_sets)) ⊎ WasReadBeside other at old new

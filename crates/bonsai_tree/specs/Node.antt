@@ -1,11 +1,11 @@
 -- Blocks of nodes: a node's current block, and the tags of its children, each in a slot of 16 bytes.
-use Rattle.std.specs.Prelude.{◌==◌, ℕ, ◌+◌, ◌*◌, ◌/◌, ◌^◌, List, ◌++◌, take, drop, replicate, Bool, Option, Some, None, unwrap_or, if◌then◌else◌}
+use Rattle.std.specs.Prelude.{◌==◌, ℕ, ◌+◌, ◌*◌, ◌/◌, ◌^◌, List, ◌++◌, length, take, drop, replicate, Bool, Option, Some, None, unwrap_or, if◌then◌else◌}
 use Rattle.std.specs.List.{filter_map}
 use Rattle.sec_base.specs.declared.message.Message.{Message}
 use Rattle.sec_base.specs.declared.message.Message.TheVariants.{Line, Node}
 use Rattle.sec_base.specs.declared.sealed.TheConstants.{TAG_LEN}
 use Rattle.sec_base.specs.Geometry.{arity}
-use Rattle.sec_base.specs.LastMessage.{last_node}
+use Rattle.sec_base.specs.LastMessage.{last_node, node_part}
 
 -- a node's copy on the chip: its block, and whether it was changed since it was read or written last
 pub record CachedNode : Type 0 where
@@ -52,3 +52,12 @@ level_part level (Node at index block) = if at == level then Some (index, block)
 -- the nodes of a level that were made, in order, each with its block
 unfoldable pub level_blocks : ℕ → List Message → List (ℕ × List ℕ)
 level_blocks level made = filter_map (level_part level) made
+
+-- how often a node was made: how many messages are of it
+unfoldable pub times_made : ℕ → ℕ → List Message → ℕ
+times_made level index made = length (filter_map (node_part level index) made)
+
+-- how many copies there are, one or none
+abbrev pub copy_count : Option CachedNode → ℕ
+copy_count None = 0
+copy_count (Some copy) = 1

@@ -1,6 +1,7 @@
 -- The tree over the counter blocks (a Bonsai Merkle tree: Rogers et al., MICRO 2007), and when it fits the messages that
 -- were made and what stands outside.
-use Rattle.std.specs.Prelude.{◌≡◌, ◌⊎◌, ℕ, ◌+◌, ◌-◌, ◌/◌, ◌^◌, ◌<◌, ◌≤◌, List, length, false, nat_lt, if◌then◌else◌, Option, Some, None, Contains, Result, Ok, Err, ◌≢◌, ◌++◌, ◌∷◌, true}
+use Rattle.std.specs.Prelude.{◌≡◌, ◌⊎◌, ℕ, ◌+◌, ◌-◌, ◌/◌, ◌%◌, ◌^◌, ◌<◌, ◌≤◌, List, length, false, nat_lt, if◌then◌else◌, Option, Some, None, Contains, Result, Ok, Err, ◌≢◌, ◌++◌, ◌∷◌, true}
+use Rattle.std.specs.Option.{option_map}
 use Rattle.sec_base.specs.Count.{Rose, RoseBy}
 use Rattle.sec_base.specs.Geometry.{IsNode, arity, child, parent, slot}
 use Rattle.sec_base.specs.LastMessage.{last_node}
@@ -15,8 +16,9 @@ use Rattle.sec_base.specs.declared.stop.NoMemory.{NoMemory}
 use Rattle.cache_set.specs.declared.way.Way.{Way}
 use Rattle.bus_model.specs.BusHistory.{BusHistory}
 use Rattle.tag_engine.specs.TagEngine.{TagEngineView}
-use Rattle.bonsai_tree.specs.Node.{CachedNode, block_or_zeros, current_of, tag_in_slot, tag_of_last, path_index}
-use Rattle.bonsai_tree.specs.NodeCache.{copied_nodes, node_copy}
+use Rattle.checked_bus.specs.Steps.{unwritten_in}
+use Rattle.bonsai_tree.specs.Node.{CachedNode, block_or_zeros, copy_count, current_of, tag_in_slot, tag_of_last, times_made, path_index}
+use Rattle.bonsai_tree.specs.NodeCache.{copied_nodes, node_copy, node_sets}
 
 -- the levels, the root register, which is the tag of the top node, and the copies of nodes on the chip
 pub record TreeView : Type 0 where
@@ -27,6 +29,10 @@ pub record TreeView : Type 0 where
 -- the copy of a node on the chip: one of level 0 has none
 abbrev pub cached_node : TreeView → ℕ → ℕ → Option CachedNode
 cached_node tree level index = node_copy tree.caches level index
+
+-- a node has a copy that is marked as changed
+abbrev pub IsMarked : TreeView → ℕ → ℕ → Type 0
+IsMarked tree level index = option_map (λ copy. copy.changed) (cached_node tree level index) ≡ Some true
 
 -- the nodes of a level with a copy on the chip
 abbrev pub cached_nodes : TreeView → ℕ → List ℕ
@@ -149,18 +155,33 @@ IsCopyAfter tree old new more level index copy =
     ⊎ (((copy.changed ≡ false) × Rose (old.reads (node_place level index)) (new.reads (node_place level index)))
     ⊎ HasChild tree.levels more level index)
 
--- Nodes above level 0 are made only as they go out, and their copies change only as children of theirs do.
-pub record WritesBack (tree : TreeView) (old : BusHistory) (made : List Message) (tree' : TreeView) (new : BusHistory) (made' : List Message)
-    (stop : Option MemStop) : Type 0 where
+-- Nodes of a level and of those above it are written back.
+pub record WritesBack (from : ℕ) (tree : TreeView) (old : BusHistory) (made : List Message) (tree' : TreeView) (new : BusHistory)
+    (made' : List Message) (stop : Option MemStop) : Type 0 where
   pub more : List Message
   pub made_more : made' ≡ made ++ more
   -- what was made of a node is a copy that was changed, unless a child of it was made
-  pub changed : (level index : ℕ) (block : List ℕ) → 0 < level → Contains more (Node level index block) →
+  pub changed : (level index : ℕ) (block : List ℕ) → from ≤ level → Contains more (Node level index block) →
       (cached_node tree level index ≡ Some (record { block = block; changed = true })) ⊎ HasChild tree.levels more level index
-  -- the node has no copy then, unless it was read again
-  pub gone : stop ≢ Some no_memory → (level index : ℕ) (block : List ℕ) → 0 < level → Contains more (Node level index block) →
-      (cached_node tree' level index ≡ None) ⊎ Rose (old.reads (node_place level index)) (new.reads (node_place level index))
+  -- a node was made once at most for each copy of it that was there or was read, and that is gone; a message that was not
+  -- written does not count
+  pub turned : (level index : ℕ) → from ≤ level →
+      RoseBy (times_made level index more + copy_count (cached_node tree' level index)
+      - (copy_count (cached_node tree level index) + unwritten_in stop))
+      (old.reads (node_place level index)) (new.reads (node_place level index))
+  -- a copy is as it was, or was read and is not changed, unless a child of its node was made
   pub copies : (level index : ℕ) (copy : CachedNode) → cached_node tree' level index ≡ Some copy → IsCopyAfter tree old new more level index copy
+
+-- another node of the set that a node is in was read
+pub record WasReadBeside (level index : ℕ) (old new : BusHistory) : Type 0 where
+  pub other : ℕ
+  pub differs : other ≢ index
+  pub set : other % node_sets ≡ index % node_sets
+  pub rose : Rose (old.reads (node_place level other)) (new.reads (node_place level other))
+
+-- A copy goes out only for another node of its set, which is read.
+pub record GoesOutFor (tree : TreeView) (old : BusHistory) (tree' : TreeView) (new : BusHistory) : Type 0 where
+  pub out : (level index : ℕ) → cached_node tree level index ≢ None → cached_node tree' level index ≡ None → WasReadBeside level index old new
 
 -- the stop of a call that can only find no memory
 abbrev pub want_of : {A : Type 0} → Result A NoMemory → Option MemStop

@@ -19,10 +19,10 @@ ghost use Rattle.tag_engine.specs.TagEngine.{tags_of};
 ghost use Rattle.checked_bus.specs.Accesses.{WritesMessages};
 ghost use Rattle.checked_bus.specs.Steps.{IsAccounted, Moves, SameLines, stop_of, unwritten_in};
 ghost use Rattle.bonsai_tree.specs.Boot.{AreOfBoot, NodesAreBooted, boot_messages, node_count};
-ghost use Rattle.bonsai_tree.specs.Climb.{Climbs, IsBlockOf, IsVictim, NoNode, WritesUp};
+ghost use Rattle.bonsai_tree.specs.Climb.{Climbs, IsBlockOf, IsVictim, MakesRoom, NoNode, WritesUp};
 ghost use Rattle.bonsai_tree.specs.Node.{CachedNode, block_or_zeros, level_blocks, no_block, page_block, with_tag};
 ghost use Rattle.bonsai_tree.specs.NodeCache.{AreNodeCaches, IsLatestNode, OtherLevels, OtherNodes, level_cache, most_copies, node_way};
-ghost use Rattle.bonsai_tree.specs.Tree.{HoldsTree, IsFetchPlace, IsNodeFrom, NodesAreMade, NodesHoldLast, OnlyWroteNodes, PathWasRead, SamePages, SlotsAreTags, WasReadUp, WritesBack, cached_node, cached_nodes, current_block, kept_tag, path_accesses, present_accesses, want_of};
+ghost use Rattle.bonsai_tree.specs.Tree.{GoesOutFor, HoldsTree, IsFetchPlace, IsMarked, IsNodeFrom, NodesAreMade, NodesHoldLast, OnlyWroteNodes, PathWasRead, SamePages, SlotsAreTags, WasReadUp, WritesBack, cached_node, cached_nodes, current_block, kept_tag, path_accesses, present_accesses, want_of};
 
 use crate::boot::boot_tree;
 use crate::node_cache::NodeCache;
@@ -171,8 +171,11 @@ impl Tree {
         ensures slots { HoldsTree (tags_of T.data_tag_of T.node_tag_of) self.old (B.history bus.old) tags.old →
             tags.new.evidence ≡ None → SlotsAreTags (tags_of T.data_tag_of T.node_tag_of tags.old) self.old.levels tags.old.made →
             SlotsAreTags (tags_of T.data_tag_of T.node_tag_of tags.old) self.old.levels tags.new.made }
-        // Nodes above the counter blocks are made as they go out, changed, and never before.
-        ensures written_back { WritesBack self.old (B.history bus.old) tags.old.made self.new (B.history bus.new) tags.new.made (stop_of result) }
+        // What is made of a node above level 0 is a copy that was changed, unless a child of it was made in the call. It is made
+        // once at most for each copy of it that was there before or was read in the call, and that is gone after it.
+        ensures written_back { WritesBack 1 self.old (B.history bus.old) tags.old.made self.new (B.history bus.new) tags.new.made (stop_of result) }
+        // A copy goes out only for another node of its set, which is read.
+        ensures out_for { OnOk result (GoesOutFor self.old (B.history bus.old) self.new (B.history bus.new)) }
 
         // What was made was written.
         ensures made_blocks { NodesAreMade self.old.levels tags.old.made (B.history bus.old).written →
@@ -234,6 +237,9 @@ impl Tree {
             SamePages (B.history bus.old) tags.old.made (B.history bus.new) tags.new.made }
         ensures unspent { (spent : ℕ) → result ≢ Err (Spent spent) }
 
+        // The node above the page's block keeps its tag: it has a copy then, and that is changed.
+        ensures parent { OnOk result (IsMarked self.new 1 (parent self.old.levels 0 page).1) }
+
         ensures read { OnOk result (PathWasRead self.old tags.old.made 1 page (B.history bus.old) (B.history bus.new)) }
         ensures hit { cached_node self.old 1 (parent self.old.levels 0 page).1 ≢ None →
             (B.history bus.new).accesses ≤ (B.history bus.old).accesses + 1 }
@@ -256,8 +262,11 @@ impl Tree {
         ensures slots { HoldsTree (tags_of T.data_tag_of T.node_tag_of) self.old (B.history bus.old) tags.old →
             tags.new.evidence ≡ None → SlotsAreTags (tags_of T.data_tag_of T.node_tag_of tags.old) self.old.levels tags.old.made →
             SlotsAreTags (tags_of T.data_tag_of T.node_tag_of tags.old) self.old.levels tags.new.made }
-        // Nodes above the counter blocks are made as they go out, changed, and never before.
-        ensures written_back { WritesBack self.old (B.history bus.old) tags.old.made self.new (B.history bus.new) tags.new.made (stop_of result) }
+        // What is made of a node above level 0 is a copy that was changed, unless a child of it was made in the call. It is made
+        // once at most for each copy of it that was there before or was read in the call, and that is gone after it.
+        ensures written_back { WritesBack 1 self.old (B.history bus.old) tags.old.made self.new (B.history bus.new) tags.new.made (stop_of result) }
+        // A copy goes out only for another node of its set, which is read.
+        ensures out_for { OnOk result (GoesOutFor self.old (B.history bus.old) self.new (B.history bus.new)) }
 
         // What was made was written.
         ensures made_blocks { NodesAreMade self.old.levels tags.old.made (B.history bus.old).written →
@@ -294,6 +303,7 @@ impl Tree {
         ensures few { length tags.new.made ≤ length tags.old.made + present_accesses self.old.levels level }
         ensures hit { cached_node self.old level index ≢ None → (B.history bus.new ≡ B.history bus.old) × (tags.new ≡ tags.old) }
         ensures latest { OnOk result (IsLatestNode self.new.caches level index) }
+        ensures out_for { OnOk result (GoesOutFor self.old (B.history bus.old) self.new (B.history bus.new)) }
         ensures moved { B.moved bus.old bus.new }
     {
         if self.nodes.touch(level, index) {
@@ -327,6 +337,7 @@ impl Tree {
         ensures few { length tags.new.made ≤ length tags.old.made + (present_accesses self.old.levels (level + 1) + 1) }
         ensures absent { OnOk result (node_way self.new.caches level index ≡ None) }
         ensures room { OnOk result (HasRoom (set_at (level_cache self.new.caches level) index)) }
+        ensures out_for { OnOk result (MakesRoom level index self.old (B.history bus.old) self.new (B.history bus.new)) }
         ensures moved { B.moved bus.old bus.new }
     {
         let Some(victim) = self.nodes.victim(level, index) else {
@@ -362,6 +373,7 @@ impl Tree {
         ensures once { (B.history bus.new).accesses ≤ (B.history bus.old).accesses + (present_accesses self.old.levels (level + 1) + 1) }
         ensures few { length tags.new.made ≤ length tags.old.made + (present_accesses self.old.levels (level + 1) + 1) }
         ensures copies { level_cache self.new.caches level ≡ level_cache self.old.caches level }
+        ensures out_for { OnOk result (GoesOutFor self.old (B.history bus.old) self.new (B.history bus.new)) }
         ensures last { OnOk result (HoldsTree (tags_of T.data_tag_of T.node_tag_of) self.new (B.history bus.new) tags.new →
             tags.new.evidence ≡ None → victim.now.copy ≡ block_or_zeros (last_node level victim.now.place tags.new.made)) }
         ensures moved { B.moved bus.old bus.new }
@@ -396,6 +408,7 @@ impl Tree {
         ensures hit { cached_node self.old (level + 1) (parent self.old.levels level index).1 ≢ None →
             (B.history bus.new ≡ B.history bus.old) × (tags.new ≡ tags.old) }
         ensures latest { level < self.old.levels → OnOk result (IsLatestNode self.new.caches (level + 1) (parent self.old.levels level index).1) }
+        ensures out_for { OnOk result (GoesOutFor self.old (B.history bus.old) self.new (B.history bus.new)) }
         ensures some { 0 < self.old.levels }
         ensures nodes { AreNodeCaches self.new.levels self.new.caches }
         ensures moved { B.moved bus.old bus.new }
@@ -430,6 +443,8 @@ impl Tree {
         ensures once { (B.history bus.new).accesses ≤ (B.history bus.old).accesses + 1 }
         ensures few { length tags.new.made ≤ length tags.old.made + 1 }
         ensures latest { OnOk result (IsLatestNode self.new.caches level index) }
+        ensures came { OnOk result (Rose ((B.history bus.old).reads (node_place level index)) ((B.history bus.new).reads (node_place level index))) }
+        ensures kept { (other at : ℕ) → cached_node self.old other at ≢ None → cached_node self.new other at ≢ None }
         ensures moved { B.moved bus.old bus.new }
     {
         let tag = self.kept_tag(level, index);
@@ -461,6 +476,8 @@ impl Tree {
         ensures once { (B.history bus.new).accesses ≤ (B.history bus.old).accesses + 1 }
         ensures few { length tags.new.made ≤ length tags.old.made + 1 }
         ensures copies { OtherLevels (level + 1) self.old.caches self.new.caches }
+        ensures kept { (other at : ℕ) → cached_node self.old other at ≢ None → cached_node self.new other at ≢ None }
+        ensures marked { OnOk result (IsMarked self.new (level + 1) (parent self.old.levels level index).1) }
         ensures made { OnOk result (tags.new.made ≡ tags.old.made ++ Node level index block.now ∷ []) }
         ensures one_at_most { (tags.new.made ≡ tags.old.made) ⊎ (tags.new.made ≡ tags.old.made ++ Node level index block.now ∷ []) }
         ensures own { OnOk result (last_node level index tags.new.made ≡ Some block.now) }

@@ -13,6 +13,7 @@ use Rattle.bonsai_tree.proofs.Climbs.{climbs_not, climbs_on, climbs_up}
 use Rattle.bonsai_tree.proofs.NodeCalls.{climbs_dropped, climbs_touched}
 use Rattle.bonsai_tree.proofs.Accesses.{present_first, present_second}
 use Rattle.bonsai_tree.proofs.Views.{all_as, levels_as, not_held, others_as, root_as, same_as, tree_of}
+use Rattle.bonsai_tree.proofs.OutFor.{on_ok, out_came, out_kept, out_on, room_kept, room_made}
 use Rattle.bonsai_tree.proofs.WrittenBack.{up_as, up_on, up_same, up_victim, up_wider}
 use Rattle.bonsai_tree.proofs.tree.Tree.+present.Goals as goal
 
@@ -134,6 +135,10 @@ present-returns-clause-moved g t c =
     g.met.B.Bus.moved_on c.args.bus.now c.make_room.new.bus c.read_in.new.bus c.in_ok-make_room.ensures.moved
     (g.met.B.Bus.moved_on c.make_room.new.bus c.parent_present.new.bus c.read_in.new.bus c.in_ok-parent_present.ensures.moved c.read_in.ensures.moved)
 
+pub present-returns-in_err-parent_present-clause-moved : goal.present-returns-in_err-parent_present-clause-moved
+present-returns-in_err-parent_present-clause-moved g t c =
+    g.met.B.Bus.moved_on c.args.bus.now c.make_room.new.bus c.parent_present.new.bus c.in_ok-make_room.ensures.moved c.in_err-parent_present.ensures.moved
+
 pub write_back-returns-then-not-victim-clause-climbs : goal.write_back-returns-then-not-victim-clause-climbs
 write_back-returns-then-not-victim-clause-climbs g t c = climbs_not g.T.Tagger.data_tag_of g.T.Tagger.node_tag_of c.args.level c.args.self.now (g.B.Bus.history c.args.bus.now) c.args.tags.now
 
@@ -193,18 +198,18 @@ present-returns-clause-hit g t c = λ held.
 
 pub parent_present-returns-then-level-levels-clause-back : goal.parent_present-returns-then-level-levels-clause-back
 parent_present-returns-then-level-levels-clause-back g t c =
-    up_same (c.args.level + 1) NoNode c.args.self.now c.args.self.now (g.B.Bus.history c.args.bus.now) (g.B.Bus.history c.args.bus.now) c.args.tags.now.made c.args.tags.now.made None refl (λ level index. refl)
+    up_same (c.args.level + 1) NoNode c.args.self.now c.args.self.now (g.B.Bus.history c.args.bus.now) (g.B.Bus.history c.args.bus.now) c.args.tags.now.made c.args.tags.now.made None (λ place. omega arith) refl (λ level index. refl)
 
 pub write_back-returns-then-not-victim-clause-back : goal.write_back-returns-then-not-victim-clause-back
 write_back-returns-then-not-victim-clause-back g t c =
-    up_same (c.args.level + 1) (IsVictim c.args.level c.args.victim.now None) c.args.self.now c.args.self.now (g.B.Bus.history c.args.bus.now) (g.B.Bus.history c.args.bus.now) c.args.tags.now.made c.args.tags.now.made None refl (λ level index. refl)
+    up_same (c.args.level + 1) (IsVictim c.args.level c.args.victim.now None) c.args.self.now c.args.self.now (g.B.Bus.history c.args.bus.now) (g.B.Bus.history c.args.bus.now) c.args.tags.now.made c.args.tags.now.made None (λ place. omega arith) refl (λ level index. refl)
 
 pub write_back-returns-in_err-parent_present-clause-back : goal.write_back-returns-in_err-parent_present-clause-back
 write_back-returns-in_err-parent_present-clause-back g t c =
     let why = c.in_err-parent_present.field-0.0 in
     let stop : stop_of c.from_residual.result ≡ Some why = search rules in
     subst (λ (s : Option MemStop). WritesUp (c.args.level + 1) (IsVictim c.args.level c.args.victim.now s) c.args.self.now (g.B.Bus.history c.args.bus.now) c.args.tags.now.made c.parent_present.new.self (g.B.Bus.history c.parent_present.new.bus) c.parent_present.new.tags.made s) (sym stop)
-    (up_wider (c.args.level + 1) (c.args.level + 1) (IsVictim c.args.level c.args.victim.now (Some why)) c.args.self.now c.parent_present.new.self (g.B.Bus.history c.args.bus.now) (g.B.Bus.history c.parent_present.new.bus) c.args.tags.now.made c.parent_present.new.tags.made (Some why) (omega arith)
+    (up_as (c.args.level + 1) NoNode (IsVictim c.args.level c.args.victim.now (Some why)) c.args.self.now c.parent_present.new.self (g.B.Bus.history c.args.bus.now) (g.B.Bus.history c.parent_present.new.bus) c.args.tags.now.made c.parent_present.new.tags.made (Some why) (λ other at bytes none. absurd none)
     c.in_err-parent_present.ensures.back)
 
 pub write_back-returns-in_err-write_below-clause-back : goal.write_back-returns-in_err-write_below-clause-back
@@ -214,7 +219,7 @@ write_back-returns-in_err-write_below-clause-back g t c =
     subst (λ (s : Option MemStop). WritesUp (c.args.level + 1) (IsVictim c.args.level c.args.victim.now s) c.args.self.now (g.B.Bus.history c.args.bus.now) c.args.tags.now.made c.write_below.new.self (g.B.Bus.history c.write_below.new.bus) c.write_below.new.tags.made s) (sym stop)
     (up_on (c.args.level + 1) (IsVictim c.args.level c.args.victim.now (Some NoMemory)) c.args.self.now c.parent_present.new.self c.write_below.new.self (g.B.Bus.history c.args.bus.now) (g.B.Bus.history c.parent_present.new.bus) (g.B.Bus.history c.write_below.new.bus) c.args.tags.now.made c.parent_present.new.tags.made c.write_below.new.tags.made (Some NoMemory)
     c.in_ok-parent_present.ensures.climbs.moves.reads c.in_err-write_below.ensures.climbs.moves.reads
-    (up_wider (c.args.level + 1) (c.args.level + 1) (IsVictim c.args.level c.args.victim.now (Some NoMemory)) c.args.self.now c.parent_present.new.self (g.B.Bus.history c.args.bus.now) (g.B.Bus.history c.parent_present.new.bus) c.args.tags.now.made c.parent_present.new.tags.made None (omega arith) c.in_ok-parent_present.ensures.back)
+    c.in_ok-parent_present.ensures.back
     (up_as (c.args.level + 1) (IsBlockOf c.args.level c.args.victim.now.place c.args.victim.now.copy) (IsVictim c.args.level c.args.victim.now (Some NoMemory)) c.parent_present.new.self c.write_below.new.self (g.B.Bus.history c.parent_present.new.bus) (g.B.Bus.history c.write_below.new.bus) c.parent_present.new.tags.made c.write_below.new.tags.made (Some NoMemory)
     (λ other at bytes is. (is, changed, inr refl)) c.in_err-write_below.ensures.back))
 
@@ -223,13 +228,13 @@ write_back-returns-clause-back g t c =
     let changed : c.args.victim.now.changed ≡ true = search rules in
     up_on (c.args.level + 1) (IsVictim c.args.level c.args.victim.now None) c.args.self.now c.parent_present.new.self c.write_below.new.self (g.B.Bus.history c.args.bus.now) (g.B.Bus.history c.parent_present.new.bus) (g.B.Bus.history c.write_below.new.bus) c.args.tags.now.made c.parent_present.new.tags.made c.write_below.new.tags.made None
     c.in_ok-parent_present.ensures.climbs.moves.reads c.in_ok-write_below.ensures.climbs.moves.reads
-    (up_wider (c.args.level + 1) (c.args.level + 1) (IsVictim c.args.level c.args.victim.now None) c.args.self.now c.parent_present.new.self (g.B.Bus.history c.args.bus.now) (g.B.Bus.history c.parent_present.new.bus) c.args.tags.now.made c.parent_present.new.tags.made None (omega arith) c.in_ok-parent_present.ensures.back)
+    c.in_ok-parent_present.ensures.back
     (up_as (c.args.level + 1) (IsBlockOf c.args.level c.args.victim.now.place c.args.victim.now.copy) (IsVictim c.args.level c.args.victim.now None) c.parent_present.new.self c.write_below.new.self (g.B.Bus.history c.parent_present.new.bus) (g.B.Bus.history c.write_below.new.bus) c.parent_present.new.tags.made c.write_below.new.tags.made None
     (λ other at bytes is. (is, changed, inl refl)) c.in_ok-write_below.ensures.back)
 
 pub make_room-returns-in_default-clause-back : goal.make_room-returns-in_default-clause-back
 make_room-returns-in_default-clause-back g t c =
-    up_same c.args.level NoNode c.args.self.now c.args.self.now (g.B.Bus.history c.args.bus.now) (g.B.Bus.history c.args.bus.now) c.args.tags.now.made c.args.tags.now.made None refl (λ level index. refl)
+    up_same c.args.level NoNode c.args.self.now c.args.self.now (g.B.Bus.history c.args.bus.now) (g.B.Bus.history c.args.bus.now) c.args.tags.now.made c.args.tags.now.made None (λ place. omega arith) refl (λ level index. refl)
 
 pub make_room-returns-in_err-write_back-clause-back : goal.make_room-returns-in_err-write_back-clause-back
 make_room-returns-in_err-write_back-clause-back g t c =
@@ -238,14 +243,18 @@ make_room-returns-in_err-write_back-clause-back g t c =
     let way : node_way c.args.self.now.caches c.args.level c.in-Some.victim.place ≡ Some c.in-Some.victim =
     sym (ap (λ (v : TreeView). node_way v.caches c.args.level c.in-Some.victim.place) c.self.view_is) ∙ c.in-Some.ensures.way in
     subst (λ (s : Option MemStop). WritesUp c.args.level NoNode c.args.self.now (g.B.Bus.history c.args.bus.now) c.args.tags.now.made c.write_back.new.self (g.B.Bus.history c.write_back.new.bus) c.write_back.new.tags.made s) (sym stop)
-    (up_victim c.args.level c.in-Some.victim c.args.self.now c.write_back.new.self c.write_back.new.self (g.B.Bus.history c.args.bus.now) (g.B.Bus.history c.write_back.new.bus) c.args.tags.now.made c.write_back.new.tags.made (Some why) (ap (option_map copy_of) way)
+    (up_victim c.args.level c.in-Some.victim c.args.self.now c.write_back.new.self c.write_back.new.self (g.B.Bus.history c.args.bus.now) (g.B.Bus.history c.write_back.new.bus) c.args.tags.now.made c.write_back.new.tags.made (Some why)
+    c.in_err-write_back.ensures.climbs.moves.reads (ap (option_map copy_of) way)
+    (λ at. ap (λ (cache : List (List Way)). option_map copy_of (way_at cache at)) c.in_err-write_back.ensures.copies)
     (λ none. absurd (cc)) (λ copy found. found) (λ other at apart. refl) c.in_err-write_back.ensures.back)
 
 pub make_room-returns-clause-back : goal.make_room-returns-clause-back
 make_room-returns-clause-back g t c =
     let way : node_way c.args.self.now.caches c.args.level c.in-Some.victim.place ≡ Some c.in-Some.victim =
     sym (ap (λ (v : TreeView). node_way v.caches c.args.level c.in-Some.victim.place) c.self.view_is) ∙ c.in-Some.ensures.way in
-    up_victim c.args.level c.in-Some.victim c.args.self.now c.write_back.new.self (tree_of c.self-2.inside.root c.remove.new.self) (g.B.Bus.history c.args.bus.now) (g.B.Bus.history c.write_back.new.bus) c.args.tags.now.made c.write_back.new.tags.made None (ap (option_map copy_of) way)
+    up_victim c.args.level c.in-Some.victim c.args.self.now c.write_back.new.self (tree_of c.self-2.inside.root c.remove.new.self) (g.B.Bus.history c.args.bus.now) (g.B.Bus.history c.write_back.new.bus) c.args.tags.now.made c.write_back.new.tags.made None
+    c.in_ok-write_back.ensures.climbs.moves.reads (ap (option_map copy_of) way)
+    (λ at. ap (λ (cache : List (List Way)). option_map copy_of (way_at cache at)) c.in_ok-write_back.ensures.copies)
     (λ going. ap (option_map copy_of) c.remove.ensures.removed)
     (λ copy found. let none : None ≡ Some copy = sym (ap (option_map copy_of) c.remove.ensures.removed) ∙ found in absurd (cc))
     (same_as c.write_back.new.self c.self-2.inside.root c.self-2.inside.nodes c.remove.new.self c.self-2.view_is c.args.level c.in-Some.victim.place c.remove.ensures.same)
@@ -253,7 +262,7 @@ make_room-returns-clause-back g t c =
 
 pub present-returns-then-touch-clause-back : goal.present-returns-then-touch-clause-back
 present-returns-then-touch-clause-back g t c =
-    up_same c.args.level NoNode c.args.self.now (tree_of c.self.inside.root c.touch.new.self) (g.B.Bus.history c.args.bus.now) (g.B.Bus.history c.args.bus.now) c.args.tags.now.made c.args.tags.now.made None refl
+    up_same c.args.level NoNode c.args.self.now (tree_of c.self.inside.root c.touch.new.self) (g.B.Bus.history c.args.bus.now) (g.B.Bus.history c.args.bus.now) c.args.tags.now.made c.args.tags.now.made None (λ place. omega arith) refl
     (all_as c.args.self.now c.self.inside.root c.self.inside.nodes c.touch.new.self c.self.view_is c.if-touch.ensures.same)
 
 pub present-returns-in_err-make_room-clause-back : goal.present-returns-in_err-make_room-clause-back
@@ -263,7 +272,7 @@ present-returns-in_err-make_room-clause-back g t c =
     subst (λ (s : Option MemStop). WritesUp c.args.level NoNode c.args.self.now (g.B.Bus.history c.args.bus.now) c.args.tags.now.made c.make_room.new.self (g.B.Bus.history c.make_room.new.bus) c.make_room.new.tags.made s) (sym stop)
     (up_on c.args.level NoNode c.args.self.now (tree_of c.self.inside.root c.touch.new.self) c.make_room.new.self (g.B.Bus.history c.args.bus.now) (g.B.Bus.history c.args.bus.now) (g.B.Bus.history c.make_room.new.bus) c.args.tags.now.made c.args.tags.now.made c.make_room.new.tags.made (Some why)
     (λ place. omega arith) c.in_err-make_room.ensures.climbs.moves.reads
-    (up_same c.args.level NoNode c.args.self.now (tree_of c.self.inside.root c.touch.new.self) (g.B.Bus.history c.args.bus.now) (g.B.Bus.history c.args.bus.now) c.args.tags.now.made c.args.tags.now.made None refl
+    (up_same c.args.level NoNode c.args.self.now (tree_of c.self.inside.root c.touch.new.self) (g.B.Bus.history c.args.bus.now) (g.B.Bus.history c.args.bus.now) c.args.tags.now.made c.args.tags.now.made None (λ place. omega arith) refl
     (all_as c.args.self.now c.self.inside.root c.self.inside.nodes c.touch.new.self c.self.view_is c.if-touch.ensures.same))
     c.in_err-make_room.ensures.back)
 
@@ -276,10 +285,12 @@ present-returns-in_err-parent_present-clause-back g t c =
     c.in_ok-make_room.ensures.climbs.moves.reads c.in_err-parent_present.ensures.climbs.moves.reads
     (up_on c.args.level NoNode c.args.self.now (tree_of c.self.inside.root c.touch.new.self) c.make_room.new.self (g.B.Bus.history c.args.bus.now) (g.B.Bus.history c.args.bus.now) (g.B.Bus.history c.make_room.new.bus) c.args.tags.now.made c.args.tags.now.made c.make_room.new.tags.made None
     (λ place. omega arith) c.in_ok-make_room.ensures.climbs.moves.reads
-    (up_same c.args.level NoNode c.args.self.now (tree_of c.self.inside.root c.touch.new.self) (g.B.Bus.history c.args.bus.now) (g.B.Bus.history c.args.bus.now) c.args.tags.now.made c.args.tags.now.made None refl
+    (up_same c.args.level NoNode c.args.self.now (tree_of c.self.inside.root c.touch.new.self) (g.B.Bus.history c.args.bus.now) (g.B.Bus.history c.args.bus.now) c.args.tags.now.made c.args.tags.now.made None (λ place. omega arith) refl
     (all_as c.args.self.now c.self.inside.root c.self.inside.nodes c.touch.new.self c.self.view_is c.if-touch.ensures.same))
     c.in_ok-make_room.ensures.back)
-    (up_wider c.args.level (c.args.level + 1) NoNode c.make_room.new.self c.parent_present.new.self (g.B.Bus.history c.make_room.new.bus) (g.B.Bus.history c.parent_present.new.bus) c.make_room.new.tags.made c.parent_present.new.tags.made (Some why) (omega arith) c.in_err-parent_present.ensures.back))
+    (up_wider c.args.level (c.args.level + 1) c.make_room.new.self c.parent_present.new.self (g.B.Bus.history c.make_room.new.bus) (g.B.Bus.history c.parent_present.new.bus) c.make_room.new.tags.made c.parent_present.new.tags.made (Some why) (omega arith)
+    c.in_err-parent_present.ensures.climbs.moves.reads
+    (λ other at low. ap (λ (cache : List (List Way)). option_map copy_of (way_at cache at)) (c.in_err-parent_present.ensures.climbs.copies other low)) c.in_err-parent_present.ensures.back))
 
 pub present-returns-clause-back : goal.present-returns-clause-back
 present-returns-clause-back g t c =
@@ -289,13 +300,56 @@ present-returns-clause-back g t c =
     c.in_ok-make_room.ensures.climbs.moves.reads c.in_ok-parent_present.ensures.climbs.moves.reads
     (up_on c.args.level NoNode c.args.self.now (tree_of c.self.inside.root c.touch.new.self) c.make_room.new.self (g.B.Bus.history c.args.bus.now) (g.B.Bus.history c.args.bus.now) (g.B.Bus.history c.make_room.new.bus) c.args.tags.now.made c.args.tags.now.made c.make_room.new.tags.made None
     (λ place. omega arith) c.in_ok-make_room.ensures.climbs.moves.reads
-    (up_same c.args.level NoNode c.args.self.now (tree_of c.self.inside.root c.touch.new.self) (g.B.Bus.history c.args.bus.now) (g.B.Bus.history c.args.bus.now) c.args.tags.now.made c.args.tags.now.made None refl
+    (up_same c.args.level NoNode c.args.self.now (tree_of c.self.inside.root c.touch.new.self) (g.B.Bus.history c.args.bus.now) (g.B.Bus.history c.args.bus.now) c.args.tags.now.made c.args.tags.now.made None (λ place. omega arith) refl
     (all_as c.args.self.now c.self.inside.root c.self.inside.nodes c.touch.new.self c.self.view_is c.if-touch.ensures.same))
     c.in_ok-make_room.ensures.back)
-    (up_wider c.args.level (c.args.level + 1) NoNode c.make_room.new.self c.parent_present.new.self (g.B.Bus.history c.make_room.new.bus) (g.B.Bus.history c.parent_present.new.bus) c.make_room.new.tags.made c.parent_present.new.tags.made None (omega arith) c.in_ok-parent_present.ensures.back))
+    (up_wider c.args.level (c.args.level + 1) c.make_room.new.self c.parent_present.new.self (g.B.Bus.history c.make_room.new.bus) (g.B.Bus.history c.parent_present.new.bus) c.make_room.new.tags.made c.parent_present.new.tags.made None (omega arith)
+    c.in_ok-parent_present.ensures.climbs.moves.reads
+    (λ other at low. ap (λ (cache : List (List Way)). option_map copy_of (way_at cache at)) (c.in_ok-parent_present.ensures.climbs.copies other low)) c.in_ok-parent_present.ensures.back))
     c.read_in.ensures.back
 
 pub write_back-returns-clause-copies : goal.write_back-returns-clause-copies
 write_back-returns-clause-copies g t c =
     c.in_ok-write_below.ensures.copies c.args.level (λ (same : c.args.level ≡ c.args.level + 1). absurd (omega (arith, same)))
     ∙ c.in_ok-parent_present.ensures.climbs.copies c.args.level (omega arith)
+
+-- What copies go out for
+
+pub parent_present-returns-then-level-levels-clause-out_for : goal.parent_present-returns-then-level-levels-clause-out_for
+parent_present-returns-then-level-levels-clause-out_for g t c =
+    out_kept c.args.self.now c.args.self.now (g.B.Bus.history c.args.bus.now) (g.B.Bus.history c.args.bus.now) (λ level index held. held)
+
+pub write_back-returns-then-not-victim-clause-out_for : goal.write_back-returns-then-not-victim-clause-out_for
+write_back-returns-then-not-victim-clause-out_for g t c =
+    out_kept c.args.self.now c.args.self.now (g.B.Bus.history c.args.bus.now) (g.B.Bus.history c.args.bus.now) (λ level index held. held)
+
+pub write_back-returns-clause-out_for : goal.write_back-returns-clause-out_for
+write_back-returns-clause-out_for g t c =
+    out_on c.args.self.now c.parent_present.new.self c.write_below.new.self (g.B.Bus.history c.args.bus.now) (g.B.Bus.history c.parent_present.new.bus) (g.B.Bus.history c.write_below.new.bus)
+    c.in_ok-parent_present.ensures.climbs.moves.reads c.in_ok-write_below.ensures.climbs.moves.reads c.in_ok-parent_present.ensures.out_for
+    (out_kept c.parent_present.new.self c.write_below.new.self (g.B.Bus.history c.parent_present.new.bus) (g.B.Bus.history c.write_below.new.bus) c.in_ok-write_below.ensures.kept)
+
+pub make_room-returns-in_default-clause-out_for : goal.make_room-returns-in_default-clause-out_for
+make_room-returns-in_default-clause-out_for g t c = room_kept c.args.level c.args.index c.args.self.now (g.B.Bus.history c.args.bus.now)
+
+pub make_room-returns-clause-out_for : goal.make_room-returns-clause-out_for
+make_room-returns-clause-out_for g t c =
+    room_made c.args.level c.args.index c.in-Some.victim.place c.args.self.now c.write_back.new.self (tree_of c.self-2.inside.root c.remove.new.self) (g.B.Bus.history c.args.bus.now) (g.B.Bus.history c.write_back.new.bus)
+    c.in-Some.ensures.beside
+    (same_as c.write_back.new.self c.self-2.inside.root c.self-2.inside.nodes c.remove.new.self c.self-2.view_is c.args.level c.in-Some.victim.place c.remove.ensures.same)
+    c.in_ok-write_back.ensures.out_for
+
+pub present-returns-then-touch-clause-out_for : goal.present-returns-then-touch-clause-out_for
+present-returns-then-touch-clause-out_for g t c =
+    out_kept c.args.self.now (tree_of c.self.inside.root c.touch.new.self) (g.B.Bus.history c.args.bus.now) (g.B.Bus.history c.args.bus.now)
+    (λ level index held none. held (sym (all_as c.args.self.now c.self.inside.root c.self.inside.nodes c.touch.new.self c.self.view_is c.if-touch.ensures.same level index) ∙ none))
+
+pub present-returns-clause-out_for : goal.present-returns-clause-out_for
+present-returns-clause-out_for g t c =
+    on_ok c.read_in.result c.read_in.ensures.came
+    (out_came c.args.level c.args.index c.args.self.now (tree_of c.self.inside.root c.touch.new.self) c.make_room.new.self c.parent_present.new.self c.read_in.new.self
+    (g.B.Bus.history c.args.bus.now) (g.B.Bus.history c.make_room.new.bus) (g.B.Bus.history c.parent_present.new.bus) (g.B.Bus.history c.read_in.new.bus)
+    (all_as c.args.self.now c.self.inside.root c.self.inside.nodes c.touch.new.self c.self.view_is c.if-touch.ensures.same)
+    (not_held c.args.self.now c.self.inside.root c.self.inside.nodes c.args.level c.args.index c.self.view_is (c.if-touch.ensures.absent refl))
+    c.in_ok-make_room.ensures.climbs.moves.reads c.in_ok-parent_present.ensures.climbs.moves.reads c.read_in.ensures.climbs.moves.reads
+    c.in_ok-make_room.ensures.out_for c.in_ok-parent_present.ensures.out_for c.read_in.ensures.kept)

@@ -9,14 +9,15 @@ use Rattle.bus_model.specs.BusHistory.{BusHistory}
 use Rattle.tag_engine.specs.TagEngine.{TagEngineView, tags_of}
 use Rattle.checked_bus.specs.Accesses.{WritesMessages}
 use Rattle.checked_bus.specs.Steps.{stop_of, unwritten_in}
-use Rattle.bonsai_tree.specs.Climb.{Climbs, NoNode}
+use Rattle.bonsai_tree.specs.Climb.{Climbs, NoNode, WritesUp}
 use Rattle.bonsai_tree.specs.Node.{level_blocks}
 use Rattle.bonsai_tree.specs.Tree.{WritesBack, path_accesses}
 use Rattle.bonsai_tree.proofs.Copies.{few_copies}
 use Rattle.bonsai_tree.proofs.Nodes.{NodeRead, node_found, stop_is}
+use Rattle.bonsai_tree.proofs.OutFor.{out_kept, out_on}
 use Rattle.bonsai_tree.proofs.PathCalls.{climb_room, climb_writes, fetched, fetched_accepted, fetched_block, fetched_checked, fetched_found, fetched_pages, fetched_read, not_from_one, ok_of, page_node, path_more, read_most, stop_of_err}
 use Rattle.bonsai_tree.proofs.Views.{latest_cached}
-use Rattle.bonsai_tree.proofs.WrittenBack.{up_on, up_same, written_back}
+use Rattle.bonsai_tree.proofs.WrittenBack.{up_on, up_same}
 use Rattle.bonsai_tree.proofs.tree.Tree.fetch.Given.{Over}
 use Rattle.bonsai_tree.proofs.tree.Tree.fetch.Goals as goal
 
@@ -172,15 +173,18 @@ pub returns-in_err-parent_present-clause-written_back : goal.returns-in_err-pare
 returns-in_err-parent_present-clause-written_back g c =
     let why = c.in_err-parent_present.field-0.0 in
     let stop : stop_of c.from_residual.result ≡ Some why = search rules in
-    subst (λ (s : Option MemStop). WritesBack c.args.self.now (g.B.Bus.history c.args.bus.now) c.args.tags.now.made c.parent_present.new.self (g.B.Bus.history c.parent_present.new.bus) c.parent_present.new.tags.made s) (sym stop)
-    (written_back NoNode c.args.self.now c.parent_present.new.self (g.B.Bus.history c.args.bus.now) (g.B.Bus.history c.parent_present.new.bus) c.args.tags.now.made c.parent_present.new.tags.made (Some why) c.in_err-parent_present.ensures.back)
+    subst (λ (s : Option MemStop). WritesBack 1 c.args.self.now (g.B.Bus.history c.args.bus.now) c.args.tags.now.made c.parent_present.new.self (g.B.Bus.history c.parent_present.new.bus) c.parent_present.new.tags.made s) (sym stop)
+    c.in_err-parent_present.ensures.back.back
+
+-- nodes over the whole call
+nodes_back : (g : Over) (c : goal.After-read_node g) → WritesUp 1 NoNode c.args.self.now (g.B.Bus.history c.args.bus.now) c.args.tags.now.made c.parent_present.new.self (g.B.Bus.history c.read_node.new.bus) c.read_node.new.tags.made (stop_of c.read_node.result)
+nodes_back g c =
+    up_on 1 NoNode c.args.self.now c.parent_present.new.self c.parent_present.new.self (g.B.Bus.history c.args.bus.now) (g.B.Bus.history c.parent_present.new.bus) (g.B.Bus.history c.read_node.new.bus) c.args.tags.now.made c.parent_present.new.tags.made c.read_node.new.tags.made (stop_of c.read_node.result)
+    c.in_ok-parent_present.ensures.climbs.moves.reads c.read_node.ensures.moves.reads c.in_ok-parent_present.ensures.back
+    (up_same 1 NoNode c.parent_present.new.self c.parent_present.new.self (g.B.Bus.history c.parent_present.new.bus) (g.B.Bus.history c.read_node.new.bus) c.parent_present.new.tags.made c.read_node.new.tags.made (stop_of c.read_node.result) c.read_node.ensures.moves.reads c.read_node.ensures.once.made (λ level index. refl))
 
 pub returns-clause-written_back : goal.returns-clause-written_back
-returns-clause-written_back g c =
-    written_back NoNode c.args.self.now c.parent_present.new.self (g.B.Bus.history c.args.bus.now) (g.B.Bus.history c.read_node.new.bus) c.args.tags.now.made c.read_node.new.tags.made (stop_of c.read_node.result)
-    (up_on 1 NoNode c.args.self.now c.parent_present.new.self c.parent_present.new.self (g.B.Bus.history c.args.bus.now) (g.B.Bus.history c.parent_present.new.bus) (g.B.Bus.history c.read_node.new.bus) c.args.tags.now.made c.parent_present.new.tags.made c.read_node.new.tags.made (stop_of c.read_node.result)
-    c.in_ok-parent_present.ensures.climbs.moves.reads c.read_node.ensures.moves.reads c.in_ok-parent_present.ensures.back
-    (up_same 1 NoNode c.parent_present.new.self c.parent_present.new.self (g.B.Bus.history c.parent_present.new.bus) (g.B.Bus.history c.read_node.new.bus) c.parent_present.new.tags.made c.read_node.new.tags.made (stop_of c.read_node.result) c.read_node.ensures.once.made (λ level index. refl)))
+returns-clause-written_back g c = (nodes_back g c).back
 
 pub returns-in_err-parent_present-clause-no_rise : goal.returns-in_err-parent_present-clause-no_rise
 returns-in_err-parent_present-clause-no_rise g c = c.in_err-parent_present.ensures.climbs.no_rise
@@ -209,3 +213,11 @@ read_node-requires-clause-node g c =
 
 pub returns-clause-lines : goal.returns-clause-lines
 returns-clause-lines g c = (whole g c).lines
+
+-- what copies go out for
+pub returns-clause-out_for : goal.returns-clause-out_for
+returns-clause-out_for g c =
+    ok_of c.read_node.result (λ going.
+    out_on c.args.self.now c.parent_present.new.self c.parent_present.new.self (g.B.Bus.history c.args.bus.now) (g.B.Bus.history c.parent_present.new.bus) (g.B.Bus.history c.read_node.new.bus)
+    c.in_ok-parent_present.ensures.climbs.moves.reads c.read_node.ensures.moves.reads c.in_ok-parent_present.ensures.out_for
+    (out_kept c.parent_present.new.self c.parent_present.new.self (g.B.Bus.history c.parent_present.new.bus) (g.B.Bus.history c.read_node.new.bus) (λ level index held. held)))

@@ -1,4 +1,4 @@
-use Rattle.std.proofs.Common.{◌≡◌, ◌+◌, ◌/◌, Option, Some, None, Ok, Err, refl, ap, sym, subst, arith, rules}
+use Rattle.std.proofs.Common.{◌≡◌, ◌+◌, ◌/◌, false, Option, Some, None, Ok, Err, refl, ap, sym, subst, arith, rules}
 use Rattle.std.specs.Option.{option_map}
 use Rattle.sec_base.specs.declared.stop.MemStop.{MemStop}
 use Rattle.sec_base.specs.declared.stop.MemStop.TheVariants.{NoMemory}
@@ -9,6 +9,7 @@ use Rattle.bonsai_tree.specs.NodeCache.{AreNodeCaches, copy_of}
 use Rattle.bonsai_tree.specs.Tree.{TreeView}
 use Rattle.bonsai_tree.proofs.Nodes.{node_found}
 use Rattle.bonsai_tree.proofs.NodeCalls.{climbs_put, climbs_read}
+use Rattle.bonsai_tree.proofs.OutFor.{kept_at}
 use Rattle.bonsai_tree.proofs.Views.{latest_cached, levels_as, others_as, root_as, same_as, tree_of}
 use Rattle.bonsai_tree.proofs.WrittenBack.{up_put, up_same}
 use Rattle.bonsai_tree.proofs.tree.Tree.read_in.Goals as goal
@@ -67,11 +68,20 @@ returns-in_err-block-clause-back g c =
     let why = c.in_err-block.field-0.0 in
     let stop : stop_of c.from_residual.result ≡ Some why = search rules in
     subst (λ (s : Option MemStop). WritesUp c.args.level NoNode c.args.self.now (g.B.Bus.history c.args.bus.now) c.args.tags.now.made c.args.self.now (g.B.Bus.history c.read_node.new.bus) c.read_node.new.tags.made s) (sym stop)
-    (up_same c.args.level NoNode c.args.self.now c.args.self.now (g.B.Bus.history c.args.bus.now) (g.B.Bus.history c.read_node.new.bus) c.args.tags.now.made c.read_node.new.tags.made (Some why) c.in_err-block.ensures.once.made (λ level index. refl))
+    (up_same c.args.level NoNode c.args.self.now c.args.self.now (g.B.Bus.history c.args.bus.now) (g.B.Bus.history c.read_node.new.bus) c.args.tags.now.made c.read_node.new.tags.made (Some why) c.in_err-block.ensures.moves.reads c.in_err-block.ensures.once.made (λ level index. refl))
 
 pub returns-clause-back : goal.returns-clause-back
 returns-clause-back g c =
     up_put c.args.level NoNode c.args.level c.args.index c.in_ok-block.block c.args.self.now (tree_of c.self.inside.root c.put.new.self) (g.B.Bus.history c.args.bus.now) (g.B.Bus.history c.read_node.new.bus) c.args.tags.now.made c.read_node.new.tags.made None
-    c.in_ok-block.ensures.once.made (ap (λ o. option_map copy_of o) c.put.ensures.put)
+    c.in_ok-block.ensures.moves.reads c.in_ok-block.ensures.once.made (ap (λ o. option_map copy_of o) c.put.ensures.put)
     (same_as c.args.self.now c.self.inside.root c.self.inside.nodes c.put.new.self c.self.view_is c.args.level c.args.index c.put.ensures.same)
     (c.in_ok-block.ensures.once.rose (λ (e : None ≡ Some NoMemory). cc))
+
+pub returns-clause-came : goal.returns-clause-came
+returns-clause-came g c = c.in_ok-block.ensures.once.rose (λ (e : None ≡ Some NoMemory). cc)
+
+pub returns-clause-kept : goal.returns-clause-kept
+returns-clause-kept g c =
+    kept_at c.args.level c.args.index c.args.self.now (tree_of c.self.inside.root c.put.new.self) (record { block = c.in_ok-block.block; changed = false })
+    (ap (λ o. option_map copy_of o) c.put.ensures.put)
+    (same_as c.args.self.now c.self.inside.root c.self.inside.nodes c.put.new.self c.self.view_is c.args.level c.args.index c.put.ensures.same)

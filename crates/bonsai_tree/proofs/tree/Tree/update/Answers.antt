@@ -7,16 +7,17 @@ use Rattle.bus_model.specs.BusHistory.{BusHistory}
 use Rattle.tag_engine.specs.TagEngine.{TagEngineView, tags_of}
 use Rattle.checked_bus.specs.Accesses.{WritesMessages}
 use Rattle.checked_bus.specs.Steps.{IsAccounted, stop_of, unwritten_in}
-use Rattle.bonsai_tree.specs.Climb.{Climbs, IsBlockOf, NoNode}
+use Rattle.bonsai_tree.specs.Climb.{Climbs, IsBlockOf, WritesUp}
 use Rattle.bonsai_tree.specs.Node.{level_blocks}
 use Rattle.bonsai_tree.specs.Tree.{WritesBack, path_accesses}
 use Rattle.bonsai_tree.proofs.Climbs.{climbs_on, climbs_up}
 use Rattle.bonsai_tree.proofs.Copies.{few_copies}
 use Rattle.bonsai_tree.proofs.LevelBlocks.{blocks_after}
 use Rattle.bonsai_tree.proofs.Nodes.{on_err, stop_is}
+use Rattle.bonsai_tree.proofs.OutFor.{out_kept, out_on}
 use Rattle.bonsai_tree.proofs.PathCalls.{climb_room, climb_writes, path_more, stop_of_err, updated_read}
 use Rattle.bonsai_tree.proofs.Views.{latest_cached}
-use Rattle.bonsai_tree.proofs.WrittenBack.{up_on, up_wider, written_back}
+use Rattle.bonsai_tree.proofs.WrittenBack.{up_on}
 use Rattle.bonsai_tree.proofs.tree.Tree.update.Given.{Over}
 use Rattle.bonsai_tree.proofs.tree.Tree.update.Goals as goal
 
@@ -235,6 +236,9 @@ returns-clause-read g c =
     (latest_cached c.parent_present.new.self 1 (c.args.page / 4) c.in_ok-parent_present.ensures.nodes (omega arith) inside
     (c.in_ok-parent_present.ensures.latest c.in_ok-parent_present.ensures.some))
 
+pub returns-clause-parent : goal.returns-clause-parent
+returns-clause-parent g c = c.in_ok-write_below.ensures.marked
+
 pub returns-in_err-write_below-clause-tampered : goal.returns-in_err-write_below-clause-tampered
 returns-in_err-write_below-clause-tampered g c = λ place is holds quiet.
     let stop : stop_of c.from_residual-in_err-write_below.result ≡ Some NoMemory = search rules in
@@ -319,26 +323,23 @@ pub returns-in_err-parent_present-clause-written_back : goal.returns-in_err-pare
 returns-in_err-parent_present-clause-written_back g c =
     let why = c.in_err-parent_present.field-0.0 in
     let stop : stop_of c.from_residual.result ≡ Some why = search rules in
-    subst (λ (s : Option MemStop). WritesBack c.args.self.now (g.B.Bus.history c.args.bus.now) c.args.tags.now.made c.parent_present.new.self (g.B.Bus.history c.parent_present.new.bus) c.parent_present.new.tags.made s) (sym stop)
-    (written_back NoNode c.args.self.now c.parent_present.new.self (g.B.Bus.history c.args.bus.now) (g.B.Bus.history c.parent_present.new.bus) c.args.tags.now.made c.parent_present.new.tags.made (Some why) c.in_err-parent_present.ensures.back)
+    subst (λ (s : Option MemStop). WritesBack 1 c.args.self.now (g.B.Bus.history c.args.bus.now) c.args.tags.now.made c.parent_present.new.self (g.B.Bus.history c.parent_present.new.bus) c.parent_present.new.tags.made s) (sym stop)
+    c.in_err-parent_present.ensures.back.back
 
 pub returns-in_err-write_below-clause-written_back : goal.returns-in_err-write_below-clause-written_back
 returns-in_err-write_below-clause-written_back g c =
     let stop : stop_of c.from_residual-in_err-write_below.result ≡ Some NoMemory = search rules in
-    subst (λ (s : Option MemStop). WritesBack c.args.self.now (g.B.Bus.history c.args.bus.now) c.args.tags.now.made c.write_below.new.self (g.B.Bus.history c.write_below.new.bus) c.write_below.new.tags.made s) (sym stop)
-    (written_back (IsBlockOf 0 c.args.page c.args.block.now) c.args.self.now c.write_below.new.self (g.B.Bus.history c.args.bus.now) (g.B.Bus.history c.write_below.new.bus) c.args.tags.now.made c.write_below.new.tags.made (Some NoMemory)
-    (up_on 1 (IsBlockOf 0 c.args.page c.args.block.now) c.args.self.now c.parent_present.new.self c.write_below.new.self (g.B.Bus.history c.args.bus.now) (g.B.Bus.history c.parent_present.new.bus) (g.B.Bus.history c.write_below.new.bus) c.args.tags.now.made c.parent_present.new.tags.made c.write_below.new.tags.made (Some NoMemory)
-    c.in_ok-parent_present.ensures.climbs.moves.reads c.in_err-write_below.ensures.climbs.moves.reads
-    (up_wider 1 1 (IsBlockOf 0 c.args.page c.args.block.now) c.args.self.now c.parent_present.new.self (g.B.Bus.history c.args.bus.now) (g.B.Bus.history c.parent_present.new.bus) c.args.tags.now.made c.parent_present.new.tags.made None (omega arith) c.in_ok-parent_present.ensures.back)
-    c.in_err-write_below.ensures.back))
+    let nodes : WritesUp 1 (IsBlockOf 0 c.args.page c.args.block.now) c.args.self.now (g.B.Bus.history c.args.bus.now) c.args.tags.now.made c.write_below.new.self (g.B.Bus.history c.write_below.new.bus) c.write_below.new.tags.made (Some NoMemory) =
+    up_on 1 (IsBlockOf 0 c.args.page c.args.block.now) c.args.self.now c.parent_present.new.self c.write_below.new.self (g.B.Bus.history c.args.bus.now) (g.B.Bus.history c.parent_present.new.bus) (g.B.Bus.history c.write_below.new.bus) c.args.tags.now.made c.parent_present.new.tags.made c.write_below.new.tags.made (Some NoMemory)
+    c.in_ok-parent_present.ensures.climbs.moves.reads c.in_err-write_below.ensures.climbs.moves.reads c.in_ok-parent_present.ensures.back c.in_err-write_below.ensures.back in
+    subst (λ (s : Option MemStop). WritesBack 1 c.args.self.now (g.B.Bus.history c.args.bus.now) c.args.tags.now.made c.write_below.new.self (g.B.Bus.history c.write_below.new.bus) c.write_below.new.tags.made s) (sym stop) nodes.back
 
 pub returns-clause-written_back : goal.returns-clause-written_back
 returns-clause-written_back g c =
-    written_back (IsBlockOf 0 c.args.page c.args.block.now) c.args.self.now c.write_below.new.self (g.B.Bus.history c.args.bus.now) (g.B.Bus.history c.write_below.new.bus) c.args.tags.now.made c.write_below.new.tags.made None
-    (up_on 1 (IsBlockOf 0 c.args.page c.args.block.now) c.args.self.now c.parent_present.new.self c.write_below.new.self (g.B.Bus.history c.args.bus.now) (g.B.Bus.history c.parent_present.new.bus) (g.B.Bus.history c.write_below.new.bus) c.args.tags.now.made c.parent_present.new.tags.made c.write_below.new.tags.made None
-    c.in_ok-parent_present.ensures.climbs.moves.reads c.in_ok-write_below.ensures.climbs.moves.reads
-    (up_wider 1 1 (IsBlockOf 0 c.args.page c.args.block.now) c.args.self.now c.parent_present.new.self (g.B.Bus.history c.args.bus.now) (g.B.Bus.history c.parent_present.new.bus) c.args.tags.now.made c.parent_present.new.tags.made None (omega arith) c.in_ok-parent_present.ensures.back)
-    c.in_ok-write_below.ensures.back)
+    let nodes : WritesUp 1 (IsBlockOf 0 c.args.page c.args.block.now) c.args.self.now (g.B.Bus.history c.args.bus.now) c.args.tags.now.made c.write_below.new.self (g.B.Bus.history c.write_below.new.bus) c.write_below.new.tags.made None =
+    up_on 1 (IsBlockOf 0 c.args.page c.args.block.now) c.args.self.now c.parent_present.new.self c.write_below.new.self (g.B.Bus.history c.args.bus.now) (g.B.Bus.history c.parent_present.new.bus) (g.B.Bus.history c.write_below.new.bus) c.args.tags.now.made c.parent_present.new.tags.made c.write_below.new.tags.made None
+    c.in_ok-parent_present.ensures.climbs.moves.reads c.in_ok-write_below.ensures.climbs.moves.reads c.in_ok-parent_present.ensures.back c.in_ok-write_below.ensures.back in
+    nodes.back
 
 pub returns-in_err-parent_present-clause-no_rise : goal.returns-in_err-parent_present-clause-no_rise
 returns-in_err-parent_present-clause-no_rise g c = c.in_err-parent_present.ensures.climbs.no_rise
@@ -353,3 +354,10 @@ pub returns-in_err-parent_present-clause-last_blocks : goal.returns-in_err-paren
 returns-in_err-parent_present-clause-last_blocks g c = λ was memory.
     let stop : stop_of c.from_residual.result ≡ Some c.in_err-parent_present.field-0.0 = search rules in
     c.in_err-parent_present.ensures.climbs.last_blocks (λ is. memory (stop_is c.from_residual.result NoMemory (stop ∙ is))) was
+
+-- what copies go out for
+pub returns-clause-out_for : goal.returns-clause-out_for
+returns-clause-out_for g c =
+    out_on c.args.self.now c.parent_present.new.self c.write_below.new.self (g.B.Bus.history c.args.bus.now) (g.B.Bus.history c.parent_present.new.bus) (g.B.Bus.history c.write_below.new.bus)
+    c.in_ok-parent_present.ensures.climbs.moves.reads c.in_ok-write_below.ensures.climbs.moves.reads c.in_ok-parent_present.ensures.out_for
+    (out_kept c.parent_present.new.self c.write_below.new.self (g.B.Bus.history c.parent_present.new.bus) (g.B.Bus.history c.write_below.new.bus) c.in_ok-write_below.ensures.kept)

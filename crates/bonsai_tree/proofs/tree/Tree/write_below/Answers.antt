@@ -1,10 +1,10 @@
-use Rattle.std.proofs.Common.{◌≡◌, inl, inr, ◌+◌, ◌/◌, [], Option, Some, None, refl, ap, sym, subst, arith, rules}
+use Rattle.std.proofs.Common.{◌≡◌, inl, inr, ◌+◌, ◌/◌, ◌%◌, true, [], Option, Some, None, refl, ap, sym, subst, arith, rules}
 use Rattle.std.specs.Option.{option_map}
 use Rattle.sec_base.specs.declared.stop.MemStop.{MemStop}
 use Rattle.sec_base.specs.declared.stop.MemStop.TheVariants.{NoMemory}
 use Rattle.tag_engine.specs.TagEngine.{TagEngineView, tags_of}
 use Rattle.bonsai_tree.specs.Climb.{Climbs, IsBlockOf, WritesUp}
-use Rattle.bonsai_tree.specs.Node.{CachedNode}
+use Rattle.bonsai_tree.specs.Node.{CachedNode, with_tag}
 use Rattle.bonsai_tree.specs.NodeCache.{copy_of}
 use Rattle.bonsai_tree.specs.Tree.{cached_node, want_of}
 use Rattle.bonsai_tree.proofs.Climbs.{climbs_refused}
@@ -12,6 +12,7 @@ use Rattle.bonsai_tree.proofs.Nodes.{on_err}
 use Rattle.bonsai_tree.proofs.NodeCalls.{blocks_apart, climbs_wrote, held_copy, last_apart, made_one, no_rise_one, put_holds, put_slots, puts_held, writes_taken, written_apart}
 use Rattle.bonsai_tree.proofs.NodeWrites.{NodeWritten, own, written_not, written_once}
 use Rattle.bonsai_tree.proofs.Puts.{PutsTag}
+use Rattle.bonsai_tree.proofs.OutFor.{kept_at}
 use Rattle.bonsai_tree.proofs.WrittenBack.{up_made, up_same}
 use Rattle.bonsai_tree.proofs.tree.Tree.write_below.Goals as goal
 
@@ -122,7 +123,7 @@ returns-in_err-reserve-clause-back g c =
     let stop : want_of c.from_residual.result ≡ Some NoMemory = search rules in
     subst (λ (s : Option MemStop). WritesUp (c.args.level + 1) (IsBlockOf c.args.level c.args.index c.args.block.now) c.args.self.now (g.B.Bus.history c.args.bus.now) c.args.tags.now.made c.args.self.now (g.B.Bus.history c.args.bus.now) c.reserve.new.self.made s) (sym stop)
     (up_same (c.args.level + 1) (IsBlockOf c.args.level c.args.index c.args.block.now) c.args.self.now c.args.self.now (g.B.Bus.history c.args.bus.now) (g.B.Bus.history c.args.bus.now) c.args.tags.now.made c.reserve.new.self.made (Some NoMemory)
-    (ap (λ (e : TagEngineView g.row.T.Denot). e.made) c.in_err-reserve.ensures.refused) (λ level index. refl))
+    (λ place. omega arith) (ap (λ (e : TagEngineView g.row.T.Denot). e.made) c.in_err-reserve.ensures.refused) (λ level index. refl))
 
 pub returns-in_err-tag-clause-back : goal.returns-in_err-tag-clause-back
 returns-in_err-tag-clause-back g c =
@@ -131,6 +132,7 @@ returns-in_err-tag-clause-back g c =
     let stop : want_of c.from_residual-in_err-tag.result ≡ Some NoMemory = search rules in
     subst (λ (s : Option MemStop). WritesUp (c.args.level + 1) (IsBlockOf c.args.level c.args.index c.args.block.now) c.args.self.now (g.B.Bus.history c.args.bus.now) c.args.tags.now.made c.args.self.now (g.B.Bus.history c.write_node.new.bus) c.write_node.new.tags.made s) (sym stop)
     (up_made c.args.level c.args.index c.args.block.now c.args.self.now c.args.self.now (g.B.Bus.history c.args.bus.now) (g.B.Bus.history c.write_node.new.bus) c.args.tags.now.made c.write_node.new.tags.made (Some NoMemory)
+    c.in_err-tag.ensures.moves.reads
     (made_one g.T.Tagger.data_tag_of g.T.Tagger.node_tag_of c.args.self.now c.args.self.now c.args.level c.args.index c.args.block.now [] (g.B.Bus.history c.args.bus.now) (g.B.Bus.history c.write_node.new.bus) c.args.tags.now c.reserve.new.self c.write_node.new.tags c.in_ok-reserve.ensures.taken write) (λ other at apart. refl) (λ other at held. held))
 
 pub returns-clause-back : goal.returns-clause-back
@@ -147,4 +149,18 @@ returns-clause-back g c =
       same = λ other at apart. ap (option_map copy_of) (c.keep_tag.ensures.same other at apart);
     } in
     up_made c.args.level c.args.index c.args.block.now c.args.self.now c.keep_tag.new.self (g.B.Bus.history c.args.bus.now) (g.B.Bus.history c.write_node.new.bus) c.args.tags.now.made c.write_node.new.tags.made None
-    (returns-clause-made g c) puts.same (puts_held c.args.self.now c.keep_tag.new.self c.args.level c.args.index c.in_ok-tag.tag puts)
+    c.in_ok-tag.ensures.moves.reads (returns-clause-made g c) puts.same (puts_held c.args.self.now c.keep_tag.new.self c.args.level c.args.index c.in_ok-tag.tag puts)
+
+pub returns-clause-marked : goal.returns-clause-marked
+returns-clause-marked g c =
+    let found : (copy : CachedNode) × (cached_node c.args.self.now (c.args.level + 1) (c.args.index / 4) ≡ Some copy) =
+    held_copy (cached_node c.args.self.now (c.args.level + 1) (c.args.index / 4)) c.keep_tag.ensures.held in
+    ap (option_map (λ (copy : CachedNode). copy.changed)) (c.keep_tag.ensures.put found.0 found.1)
+
+pub returns-clause-kept : goal.returns-clause-kept
+returns-clause-kept g c =
+    let found : (copy : CachedNode) × (cached_node c.args.self.now (c.args.level + 1) (c.args.index / 4) ≡ Some copy) =
+    held_copy (cached_node c.args.self.now (c.args.level + 1) (c.args.index / 4)) c.keep_tag.ensures.held in
+    kept_at (c.args.level + 1) (c.args.index / 4) c.args.self.now c.keep_tag.new.self
+    (record { block = with_tag (c.args.index % 4) c.in_ok-tag.tag found.0.block; changed = true })
+    (c.keep_tag.ensures.put found.0 found.1) (λ other at apart. ap (option_map copy_of) (c.keep_tag.ensures.same other at apart))
