@@ -25,8 +25,8 @@ fn main(rt: HostRuntime) -> Result<(), Fault> {
         eprintln!(rt; "{call}: {nanoseconds} ns")?;
     }
     // The calls can't be left out, since their results are told.
-    let [first, second, third] = parts.last_bytes();
-    eprintln!(rt; "last bytes: {first} {second} {third}")?;
+    let [tag, hmac, block, line] = parts.last_bytes();
+    eprintln!(rt; "last bytes: {tag} {hmac} {block} {line}")?;
     println!(rt; "timed")?;
     Ok(())
 }
