@@ -1,5 +1,5 @@
 -- Copies that go out, and what they go out for, over calls.
-use Rattle.std.proofs.Common.{◌≡◌, ◌≢◌, ◌⊎◌, inl, inr, ℕ, ◌+◌, ◌%◌, Option, Some, None, Result, Ok, Err, refl, ap, sym, ◌∙◌, subst, arith}
+use Rattle.std.proofs.Common.{◌≡◌, ◌≢◌, inl, inr, ℕ, ◌%◌, Some, None, Result, Ok, Err, ap, sym, ◌∙◌, subst, arith}
 use Rattle.std.specs.Prelude.{OnOk}
 use Rattle.sec_base.specs.Count.{Rose, RoseBy}
 use Rattle.sec_base.specs.declared.place.Place.{Place}
