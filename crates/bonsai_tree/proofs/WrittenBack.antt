@@ -165,7 +165,7 @@ up_unmade from Own tree tree' old new made made' stop stays same copies = record
     more = [];
     made_more = same ∙ sym (append-nil made);
     changed = λ level index block high listed. absurd (none_in (Node level index block) listed);
-    turned = λ level index high.
+    once_a_copy = λ level index high.
         turned_unmade (cached_node tree level index) (cached_node tree' level index) (times_made level index []) (unwritten_in stop)
         (old.reads (node_place level index)) (new.reads (node_place level index)) (none_made level index) (stays (node_place level index))
         (λ held.
@@ -228,7 +228,7 @@ up_made level index block tree tree' old new made made' stop stays is same held 
         more = Node level index block ∷ [];
         made_more = is;
         changed = λ other at bytes high listed. absurd (not_high other at bytes high listed);
-        turned = λ other at high.
+        once_a_copy = λ other at high.
             turned_unmade (cached_node tree other at) (cached_node tree' other at) (times_made other at (Node level index block ∷ [])) (unwritten_in stop)
             (old.reads (node_place other at)) (new.reads (node_place other at))
             (not_made other at (Node level index block ∷ []) (λ bytes listed. not_high other at bytes high listed)) (stays (node_place other at))
@@ -264,13 +264,13 @@ up_wider from more_from tree tree' old new made made' stop wider stays below up 
       | inl low ↦ absurd (up.own level index block low listed)
       | inr far ↦ up.back.changed level index block far listed
     ];
-    turned = λ level index high. elim (cases_lt level more_from) [
+    once_a_copy = λ level index high. elim (cases_lt level more_from) [
       | inl low ↦
           turned_unmade (cached_node tree level index) (cached_node tree' level index) (times_made level index up.back.more) (unwritten_in stop)
           (old.reads (node_place level index)) (new.reads (node_place level index))
           (not_made level index up.back.more (λ block listed. up.own level index block low listed)) (stays (node_place level index))
           (λ held. inl (λ (none : cached_node tree level index ≡ None). held (below level index low ∙ none)))
-      | inr far ↦ up.back.turned level index far
+      | inr far ↦ up.back.once_a_copy level index far
     ];
     copies = up.back.copies;
   };
@@ -307,7 +307,7 @@ up_on from Own tree mid tree' first second third made made' made'' stop before a
         | inr child ↦ inr (child_right mid.levels tree.levels up.back.more more.back.more level index child)
       ]
     ];
-    turned = λ level index high.
+    once_a_copy = λ level index high.
         let sum : times_made level index (up.back.more ++ more.back.more) ≡ times_made level index up.back.more + times_made level index more.back.more =
         made_on level index up.back.more more.back.more in
         let both : RoseBy (times_made level index up.back.more + times_made level index more.back.more + copy_count (cached_node tree' level index)
@@ -315,7 +315,7 @@ up_on from Own tree mid tree' first second third made made' made'' stop before a
         turned_on (times_made level index up.back.more) (times_made level index more.back.more) (copy_count (cached_node tree level index))
         (copy_count (cached_node mid level index)) (copy_count (cached_node tree' level index)) (unwritten_in stop)
         (first.reads (node_place level index)) (second.reads (node_place level index)) (third.reads (node_place level index))
-        (up.back.turned level index high) (more.back.turned level index high) in
+        (up.back.once_a_copy level index high) (more.back.once_a_copy level index high) in
         subst (λ (k : ℕ). RoseBy (k + copy_count (cached_node tree' level index) - (copy_count (cached_node tree level index) + unwritten_in stop))
         (first.reads (node_place level index)) (third.reads (node_place level index))) (sym sum) both;
     copies = λ level index copy found. elim (more.back.copies level index copy found) [
@@ -385,12 +385,12 @@ up_victim level way tree mid tree' old new made made' stop stays held beside lef
           | inl far ↦ up.back.changed other at block (omega (arith, far)) listed
           | inr near ↦ inl (victim_changed tree level way stop other at block held (up.own other at block (omega (arith, near)) listed))
         ];
-        turned = λ other at high. elim (cases_lt level other) [
+        once_a_copy = λ other at high. elim (cases_lt level other) [
           | inl far ↦
               subst (λ (o : Option CachedNode). RoseBy (times_made other at up.back.more + copy_count o
               - (copy_count (cached_node tree other at) + unwritten_in stop)) (old.reads (node_place other at)) (new.reads (node_place other at)))
               (sym (same other at (λ (here : SameNode level way.place other at). absurd (omega (arith, far, here.0)))))
-              (up.back.turned other at (omega (arith, far)))
+              (up.back.once_a_copy other at (omega (arith, far)))
           | inr near ↦
               let here : level ≡ other = omega (arith, near, high) in
               subst (λ (k : ℕ). RoseBy (times_made k at up.back.more + copy_count (cached_node tree' k at)

@@ -17,7 +17,7 @@ use Rattle.cache_set.specs.declared.way.Way.{Way}
 use Rattle.bus_model.specs.BusHistory.{BusHistory}
 use Rattle.tag_engine.specs.TagEngine.{TagEngineView}
 use Rattle.checked_bus.specs.Steps.{unwritten_in}
-use Rattle.bonsai_tree.specs.Node.{CachedNode, block_or_zeros, copy_count, current_of, tag_in_slot, tag_of_last, times_made, path_index}
+use Rattle.bonsai_tree.specs.Node.{CachedNode, block_or_zeros, copy_count, current_of, path_index, tag_in_slot, tag_of_last, times_made}
 use Rattle.bonsai_tree.specs.NodeCache.{copied_nodes, node_copy, node_sets}
 
 -- the levels, the root register, which is the tag of the top node, and the copies of nodes on the chip
@@ -87,7 +87,7 @@ pub record IsTagOfLast (tag_of : Message → List ℕ) (made : List Message) (le
   pub last : last_node level index made ≡ Some block
   pub tag_is : tag ≡ tag_of (Node level index block)
 
--- Each node above level 0 that was made has in each slot the tag of the last message that was made of that child before it.
+-- Each time a node above level 0 was made, each of its slots had the tag of that child's last message.
 pub record SlotsAreTags (tag_of : Message → List ℕ) (levels : ℕ) (made : List Message) : Type 0 where
   pub tagged : (before after : List Message) (level index at : ℕ) (block : List ℕ) →
       made ≡ before ++ Node (level + 1) index block ∷ after → at < arity levels →
@@ -165,7 +165,7 @@ pub record WritesBack (from : ℕ) (tree : TreeView) (old : BusHistory) (made : 
       (cached_node tree level index ≡ Some (record { block = block; changed = true })) ⊎ HasChild tree.levels more level index
   -- a node was made once at most for each copy of it that was there or was read, and that is gone; a message that was not
   -- written does not count
-  pub turned : (level index : ℕ) → from ≤ level →
+  pub once_a_copy : (level index : ℕ) → from ≤ level →
       RoseBy (times_made level index more + copy_count (cached_node tree' level index)
       - (copy_count (cached_node tree level index) + unwritten_in stop))
       (old.reads (node_place level index)) (new.reads (node_place level index))
@@ -179,7 +179,7 @@ pub record WasReadBeside (level index : ℕ) (old new : BusHistory) : Type 0 whe
   pub set : other % node_sets ≡ index % node_sets
   pub rose : Rose (old.reads (node_place level other)) (new.reads (node_place level other))
 
--- A copy goes out only for another node of its set, which is read.
+-- Each copy that is gone went out for another node of its set, which was read.
 pub record GoesOutFor (tree : TreeView) (old : BusHistory) (tree' : TreeView) (new : BusHistory) : Type 0 where
   pub out : (level index : ℕ) → cached_node tree level index ≢ None → cached_node tree' level index ≡ None → WasReadBeside level index old new
 

@@ -167,14 +167,15 @@ impl Tree {
         ensures new_copies { (level index : ℕ) → cached_node self.new level index ≢ None →
             WasReadUp self.old level index (B.history bus.old) (B.history bus.new) }
 
-        // A node above level 0 that was made has in each slot the tag of the last message of that child before it.
+        // Each time a node above level 0 was made, each of its slots had the tag of that child's last message.
         ensures slots { HoldsTree (tags_of T.data_tag_of T.node_tag_of) self.old (B.history bus.old) tags.old →
             tags.new.evidence ≡ None → SlotsAreTags (tags_of T.data_tag_of T.node_tag_of tags.old) self.old.levels tags.old.made →
             SlotsAreTags (tags_of T.data_tag_of T.node_tag_of tags.old) self.old.levels tags.new.made }
         // What is made of a node above level 0 is a copy that was changed, unless a child of it was made in the call. It is made
-        // once at most for each copy of it that was there before or was read in the call, and that is gone after it.
+        // once at most for each copy of it that was there before or was read in the call, and that is gone after it; out of
+        // memory, once more.
         ensures written_back { WritesBack 1 self.old (B.history bus.old) tags.old.made self.new (B.history bus.new) tags.new.made (stop_of result) }
-        // A copy goes out only for another node of its set, which is read.
+        // Unless the call is refused, a copy goes out only for another node of its set, which is read.
         ensures out_for { OnOk result (GoesOutFor self.old (B.history bus.old) self.new (B.history bus.new)) }
 
         // What was made was written.
@@ -237,7 +238,7 @@ impl Tree {
             SamePages (B.history bus.old) tags.old.made (B.history bus.new) tags.new.made }
         ensures unspent { (spent : ℕ) → result ≢ Err (Spent spent) }
 
-        // The node above the page's block keeps its tag: it has a copy then, and that is changed.
+        // The node above the page's block keeps its tag: it has a copy then, marked as changed.
         ensures parent { OnOk result (IsMarked self.new 1 (parent self.old.levels 0 page).1) }
 
         ensures read { OnOk result (PathWasRead self.old tags.old.made 1 page (B.history bus.old) (B.history bus.new)) }
@@ -258,14 +259,15 @@ impl Tree {
         ensures new_copies { (level index : ℕ) → cached_node self.new level index ≢ None →
             WasReadUp self.old level index (B.history bus.old) (B.history bus.new) }
 
-        // A node above level 0 that was made has in each slot the tag of the last message of that child before it.
+        // Each time a node above level 0 was made, each of its slots had the tag of that child's last message.
         ensures slots { HoldsTree (tags_of T.data_tag_of T.node_tag_of) self.old (B.history bus.old) tags.old →
             tags.new.evidence ≡ None → SlotsAreTags (tags_of T.data_tag_of T.node_tag_of tags.old) self.old.levels tags.old.made →
             SlotsAreTags (tags_of T.data_tag_of T.node_tag_of tags.old) self.old.levels tags.new.made }
         // What is made of a node above level 0 is a copy that was changed, unless a child of it was made in the call. It is made
-        // once at most for each copy of it that was there before or was read in the call, and that is gone after it.
+        // once at most for each copy of it that was there before or was read in the call, and that is gone after it; out of
+        // memory, once more.
         ensures written_back { WritesBack 1 self.old (B.history bus.old) tags.old.made self.new (B.history bus.new) tags.new.made (stop_of result) }
-        // A copy goes out only for another node of its set, which is read.
+        // Unless the call is refused, a copy goes out only for another node of its set, which is read.
         ensures out_for { OnOk result (GoesOutFor self.old (B.history bus.old) self.new (B.history bus.new)) }
 
         // What was made was written.

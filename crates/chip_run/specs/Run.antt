@@ -134,9 +134,8 @@ pub record HoldsWithoutEvidence (terms : Terms) (printed : List ℕ) (before aft
   pub unskipped : AreUnskipped (line_count terms.levels) run.used
   pub paged : ¬ EndsAnywhere run.ending → ArePaged (line_count terms.levels) run.used
   pub unspent : terms.page_limit ≡ default_page_limit → (page : ℕ) → run.ending ≢ Spent page
-  -- each slot of a node that was made above level 0 is the tag of the last message that was made of that child before, and
-  -- each counter block that was made says counters that its lines were encrypted under, or that of a line that was never
-  -- written
+  -- each time a node above level 0 was made, each of its slots had the tag of that child's last message; each counter block
+  -- that was made says counters that its lines were encrypted under, or that of a line that was never written
   pub made_nodes : NodesSay terms.tag_of terms.levels run.used run.made
   -- where the memory did not end it, the last messages are the plain machine's memory
   pub written_out : ¬ IsMemoryEnding run.ending →

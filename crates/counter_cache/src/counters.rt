@@ -173,7 +173,7 @@ impl Counters {
         ensures unmarked { (copy : CachedNode) → cached_block self.new page ≡ Some copy → copy.changed ≡ true →
             cached_block self.old page ≡ Some copy }
         ensures uncached { OnErr result (cached_block self.new page ≡ None) }
-        ensures beside { OnOk result (without page (set_at self.new.blocks page) ≡ ways_beside self.old page) }
+        ensures other_ways { OnOk result (without page (set_at self.new.blocks page) ≡ ways_beside self.old page) }
         ensures other_sets { (other : ℕ) → set_of other ≢ set_of page → set_at self.new.blocks other ≡ set_at self.old.blocks other }
         ensures once_clean { LeavesClean self.old page →
             (B.history bus.new).accesses ≤ (B.history bus.old).accesses + path_accesses self.old.tree.levels }
@@ -283,7 +283,7 @@ impl Counters {
         ensures unmarked { (copy : CachedNode) → result ≡ Ok Spent → cached_block self.new page ≡ Some copy → copy.changed ≡ true →
             cached_block self.old page ≡ Some copy }
         ensures uncached { OnErr result (cached_block self.new page ≡ None) }
-        ensures beside { OnOk result (without page (set_at self.new.blocks page) ≡ ways_beside self.old page) }
+        ensures other_ways { OnOk result (without page (set_at self.new.blocks page) ≡ ways_beside self.old page) }
         ensures other_sets { (other : ℕ) → set_of other ≢ set_of page → set_at self.new.blocks other ≡ set_at self.old.blocks other }
         ensures once_clean { LeavesClean self.old page →
             (B.history bus.new).accesses ≤ (B.history bus.old).accesses + path_accesses self.old.tree.levels }
@@ -346,7 +346,7 @@ impl Counters {
         ensures unmarked { (copy : CachedNode) → cached_block self.new page ≡ Some copy → copy.changed ≡ true →
             cached_block self.old page ≡ Some copy }
         ensures uncached { OnErr result (cached_block self.new page ≡ None) }
-        ensures beside { OnOk result (without page (set_at self.new.blocks page) ≡ ways_beside self.old page) }
+        ensures other_ways { OnOk result (without page (set_at self.new.blocks page) ≡ ways_beside self.old page) }
         ensures other_sets { (other : ℕ) → set_of other ≢ set_of page → set_at self.new.blocks other ≡ set_at self.old.blocks other }
         ensures once_clean { LeavesClean self.old page →
             (B.history bus.new).accesses ≤ (B.history bus.old).accesses + path_accesses self.old.tree.levels }

@@ -140,7 +140,7 @@ pub record AreProtected {B T : Type 0} (data_tag_of node_tag_of : T → List ℕ
   pub pages : AreOfPages (levels lines) lines.counters
   pub always : IsProtected (tag_in data_tag_of node_tag_of lines) (levels lines) (history lines.bus) (made lines) (used lines) lines.stopped
   pub rise : IsQuiet lines → CountersRise (levels lines) lines.limit (used lines) lines.stopped
-  -- what was made of nodes says the last tags of its children and counters of its lines, and nothing else
+  -- what was made of nodes says the tags of its children's last messages and counters of its lines, and nothing else
   pub nodes : IsQuiet lines → NodesSay (tag_in data_tag_of node_tag_of lines) (levels lines) (used lines) (made lines)
   pub fits : lasting_stop lines.stopped ≡ None → IsQuiet lines → LinesFit data_tag_of node_tag_of history lines
 

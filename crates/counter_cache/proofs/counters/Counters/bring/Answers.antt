@@ -336,14 +336,14 @@ returns-in_err-block-clause-uncached g c =
     (ap (λ (v : CountersView). cached_block v c.args.page) c.self-2.view_is ∙ ap (option_map copy_of) c.make_room.ensures.absent)
 
 -- the order in the page's set, and the other sets
-pub returns-then-touch-clause-beside : goal.returns-then-touch-clause-beside
-returns-then-touch-clause-beside g c =
+pub returns-then-touch-clause-other_ways : goal.returns-then-touch-clause-other_ways
+returns-then-touch-clause-other_ways g c =
     subst (λ (v : CountersView). without c.args.page (set_at c.touch.new.self c.args.page) ≡ ways_beside v c.args.page) c.self.view_is
     (beside_touched (record { tree = c.self.inside.tree; blocks = c.self.inside.blocks }) c.args.page c.touch.new.self c.self.invariant.blocks.cache
     (c.if-touch.ensures.held.0 refl) c.if-touch.ensures.after)
 
-pub returns-clause-beside : goal.returns-clause-beside
-returns-clause-beside g c =
+pub returns-clause-other_ways : goal.returns-clause-other_ways
+returns-clause-other_ways g c =
     let same : (record { tree = c.self.inside.tree; blocks = c.touch.new.self }) ≡ c.args.self.now =
     ap (λ (b : List (List Way)). record { tree = c.self.inside.tree; blocks = b }) (c.if-touch.ensures.unchanged refl) ∙ c.self.view_is in
     let way : Way = record { place = c.args.page; changed = false; copy = c.in_ok-block.block } in
