@@ -1,4 +1,5 @@
-use Rattle.std.proofs.Common.{◌≡◌, ◌⊎◌, inl, inr, ◌+◌, ◌/◌, ◌≤◌, List, [], ◌∷◌, ◌++◌, length, Option, Some, None, ap, sym, ◌∙◌, subst, arith, rules}
+use Rattle.std.proofs.Common.{◌≡◌, ◌⊎◌, inl, inr, ℕ, ◌+◌, ◌/◌, ◌≤◌, List, [], ◌∷◌, ◌++◌, length, Option, Some, None, ap, sym, ◌∙◌, subst, arith, rules}
+use Rattle.sec_base.specs.Geometry.{IsNode}
 use Rattle.sec_base.specs.declared.message.Message.{Message}
 use Rattle.sec_base.specs.declared.message.Message.TheVariants.{Node}
 use Rattle.sec_base.specs.declared.stop.MemStop.{MemStop}
@@ -15,7 +16,7 @@ use Rattle.bonsai_tree.proofs.Copies.{few_copies}
 use Rattle.bonsai_tree.proofs.LevelBlocks.{blocks_after}
 use Rattle.bonsai_tree.proofs.Nodes.{on_err, stop_is}
 use Rattle.bonsai_tree.proofs.OutFor.{out_kept, out_on}
-use Rattle.bonsai_tree.proofs.PathCalls.{climb_room, climb_writes, path_more, stop_of_err, updated_read}
+use Rattle.bonsai_tree.proofs.PathCalls.{climb_room, climb_writes, page_node, path_more, stop_of_err, updated_read}
 use Rattle.bonsai_tree.proofs.Views.{latest_cached}
 use Rattle.bonsai_tree.proofs.WrittenBack.{up_on}
 use Rattle.bonsai_tree.proofs.tree.Tree.update.Given.{Over}
@@ -361,3 +362,7 @@ returns-clause-out_for g c =
     out_on c.args.self.now c.parent_present.new.self c.write_below.new.self (g.B.Bus.history c.args.bus.now) (g.B.Bus.history c.parent_present.new.bus) (g.B.Bus.history c.write_below.new.bus)
     c.in_ok-parent_present.ensures.climbs.moves.reads c.in_ok-write_below.ensures.climbs.moves.reads c.in_ok-parent_present.ensures.out_for
     (out_kept c.parent_present.new.self c.write_below.new.self (g.B.Bus.history c.parent_present.new.bus) (g.B.Bus.history c.write_below.new.bus) c.in_ok-write_below.ensures.kept)
+
+pub write_below-requires-clause-node : goal.write_below-requires-clause-node
+write_below-requires-clause-node g c =
+    subst (λ (k : ℕ). IsNode k 0 c.args.page) (sym c.in_ok-parent_present.ensures.climbs.levels) (page_node c.args.self.now.levels c.args.page c.requires.page)
