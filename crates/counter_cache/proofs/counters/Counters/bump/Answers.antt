@@ -129,7 +129,7 @@ pub returns-clause-other_ways : goal.returns-clause-other_ways
 returns-clause-other_ways g c =
     beside_put c.self.inside.blocks c.change.new.self (record { place = c.args.page; changed = true; copy = c.to_bytes.result }) c.self.invariant.blocks.cache
     c.change.ensures.after
-    ∙ ap (λ (v : CountersView). without c.args.page (set_at v.blocks c.args.page)) c.self.view_is ∙ c.in_ok-block.ensures.beside
+    ∙ ap (λ (v : CountersView). without c.args.page (set_at v.blocks c.args.page)) c.self.view_is ∙ c.in_ok-block.ensures.other_ways
 
 pub returns-clause-other_sets : goal.returns-clause-other_sets
 returns-clause-other_sets g c = λ other apart.
