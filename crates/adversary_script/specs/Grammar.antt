@@ -27,6 +27,7 @@ kind_named name =
     else if bytes_eq name (codes "node") then Some kind.Node
     else None
 
+-- reads the word for a kind of place: `data` or `node`
 abbrev pub kind_word : Reading Kind
 kind_word = do
   name ← word
@@ -51,11 +52,13 @@ place_of_kind levels kind.Node = do
   index ← number_below (2 ^ 32)
   inside levels (Node level index)
 
+-- reads a place of the memory of a tree with these levels
 abbrev pub place : ℕ → Reading Place
 place levels = kind_word >>= place_of_kind levels
 
 -- ---- triggers: `access N`, `read PLACE K` or `write PLACE K`
 
+-- reads what follows the first word of a trigger: a count, or a place and a count
 abbrev pub trigger_named : ℕ → List ℕ → Reading Trigger
 trigger_named levels name =
     if bytes_eq name (codes "access") then (do
@@ -71,6 +74,7 @@ trigger_named levels name =
       done (Write at k))
     else fails fault.Word
 
+-- reads a trigger, whose first word says which it is
 abbrev pub trigger : ℕ → Reading Trigger
 trigger levels = word >>= trigger_named levels
 
@@ -96,6 +100,7 @@ flip_action levels = do
   mask ← span levels
   done (Flip mask.0 mask.1 mask.2)
 
+-- a data line is of the one kind, a node of the tree of the other
 abbrev pub is_of_kind : Place → Kind → Bool
 is_of_kind (Line line) kind.Line = true
 is_of_kind (Line line) kind.Node = false
@@ -154,11 +159,13 @@ action_named levels name =
       done (RestoreAll number))
     else fails fault.Word
 
+-- reads an action, whose first word says which it is
 abbrev pub action : ℕ → Reading Action
 action levels = word >>= action_named levels
 
 -- ---- lines: `TRIGGER: ACTION`, or nothing
 
+-- reads a whole line: a trigger, a colon and an action, with no word after them
 abbrev pub script_line : ℕ → Reading ScriptLine
 script_line levels = do
   when ← trigger levels
@@ -171,6 +178,7 @@ abbrev pub read_alone : {X : Type 0} → Result (X × List (List ℕ)) ScriptFau
 read_alone (Ok read) = Ok (Some read.0)
 read_alone (Err fault) = Err fault
 
+-- the trigger and the action that the words of a line spell; nothing where there is no word
 abbrev pub line_in : ℕ → List (List ℕ) → Result (Option ScriptLine) ScriptFault
 line_in levels [] = Ok None
 line_in levels (first ∷ words) = read_alone (script_line levels (first ∷ words))

@@ -20,6 +20,7 @@ then_read (Err fault) next = Err fault
 
 -- one reading after another
 infixl 10 ◌>>=◌
+-- `next` gets what `first` read, and reads on from there, unless `first` met a fault
 abbrev pub ◌>>=◌ : {X Y : Type 0} → Reading X → (X → Reading Y) → Reading Y
 first >>= next = λ words. then_read (first words) next
 
@@ -59,11 +60,13 @@ end_of_line x (next ∷ words) = Err Word
 
 -- ---- numbers, which are decimal
 
+-- reads a word of decimal digits as a number
 abbrev pub number : Reading ℕ
 number = do
   digits ← word
   found (natural_of 10 digits) Number
 
+-- reads a decimal number that is less than this limit
 abbrev pub number_below : ℕ → Reading ℕ
 number_below limit = do
   n ← number
@@ -75,6 +78,7 @@ ordinal = do
   n ← number_below (2 ^ 64)
   if nat_lt 0 n then done n else fails Number
 
+-- reads the decimal number of a register of the adversary, from 0 to 15
 abbrev pub register : Reading ℕ
 register = do
   n ← number
@@ -82,6 +86,7 @@ register = do
 
 -- ---- bytes, which are hexadecimal digits, two each
 
+-- the bytes that hexadecimal digits spell, two digits each; none where the form is another
 abbrev pub hex_bytes : List ℕ → Option (List ℕ)
 hex_bytes [] = Some []
 hex_bytes (high ∷ []) = None
@@ -90,6 +95,7 @@ hex_bytes (high ∷ low ∷ digits) =
     then option_map (λ bytes. (16 * digit_value high + digit_value low) ∷ bytes) (hex_bytes digits)
     else None
 
+-- the array of these bytes
 abbrev pub as_array : List ℕ → ArrayVec ℕ
 as_array bytes = record { items = bytes }
 
@@ -97,6 +103,7 @@ as_array bytes = record { items = bytes }
 abbrev pub fitting : ℕ → List ℕ → Option (List ℕ)
 fitting room bytes = if nat_lt 0 (length bytes) && nat_le (length bytes) room then Some bytes else None
 
+-- reads a word of hexadecimal digits: one byte at least, and at most as many as there is room for
 abbrev pub bytes_within : ℕ → Reading (ArrayVec ℕ)
 bytes_within room = do
   digits ← word

@@ -21,6 +21,7 @@ in_line number (Err fault) = Err (record { line = number; code = fault })
 
 -- one step after another, as long as there is no fault
 infixl 10 ◌>>=◌
+-- `next` gets the value of an `Ok`; a fault stays as it is
 abbrev pub ◌>>=◌ : {X Y E : Type 0} → Result X E → (X → Result Y E) → Result Y E
 Ok x >>= next = next x
 Err fault >>= next = Err fault

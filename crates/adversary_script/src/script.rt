@@ -99,6 +99,7 @@ impl Script {
         self.items.len() as u64
     }
 
+    /// Whether there are no lines.
     pub fn is_empty(&self) -> bool
         ensures { IsTrue result ↔ (self.now ≡ []) }
     {
@@ -112,6 +113,7 @@ impl Script {
         self.items.get(at as usize)
     }
 
+    /// All lines, in order.
     pub fn as_slice(&self) -> &[ScriptLine]
         ensures { result.now ≡ self.now }
     {

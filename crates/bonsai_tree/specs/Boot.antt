@@ -19,6 +19,7 @@ boot_block tag_of levels zero index = no_block
 boot_block tag_of levels (suc level) index =
     joined (λ slot. tag_of (Node level (child levels index slot) (boot_block tag_of levels level (child levels index slot)))) (arity levels)
 
+-- the message that boot makes of a node: its level, its index and the block that boot gives it
 abbrev pub boot_message : (Message → List ℕ) → ℕ → ℕ → ℕ → Message
 boot_message tag_of levels level index = Node level index (boot_block tag_of levels level index)
 
@@ -38,6 +39,7 @@ nodes_from levels (suc level) = arity levels * nodes_from levels level + 1
 abbrev pub boot_messages : (Message → List ℕ) → ℕ → List Message
 boot_messages tag_of levels = messages_from tag_of levels levels 0
 
+-- how many nodes a tree of these levels has, on all its levels together
 abbrev pub node_count : ℕ → ℕ
 node_count levels = nodes_from levels levels
 
@@ -45,6 +47,7 @@ node_count levels = nodes_from levels levels
 abbrev pub children_messages : (Message → List ℕ) → ℕ → ℕ → ℕ → ℕ → List Message
 children_messages tag_of levels level index slots = joined (λ slot. messages_from tag_of levels level (child levels index slot)) slots
 
+-- the tags of the first children of a node after boot, joined in the order of their slots
 abbrev pub children_tags : (Message → List ℕ) → ℕ → ℕ → ℕ → ℕ → List ℕ
 children_tags tag_of levels level index slots = joined (λ slot. tag_of (boot_message tag_of levels level (child levels index slot))) slots
 

@@ -21,6 +21,7 @@ use Rattle.bonsai_tree.specs.Node.{level_blocks, times_made}
 use Rattle.bonsai_tree.specs.NodeCache.{AreNodeCaches, level_cache, node_sets}
 use Rattle.bonsai_tree.specs.Tree.{HoldsTree, IsNodeFrom, NodesAreMade, NodesHoldLast, SlotsAreTags, TreeView, WasReadBeside, WasReadUp, WritesBack, cached_node}
 
+-- What a call on nodes of the level `from` and above makes of the tree, the bus and the tag engine.
 pub record Climbs {T : Type 0} (tags : TagEngineView T → Message → List ℕ) (from : ℕ) (tree : TreeView) (old : BusHistory)
     (engine : TagEngineView T) (tree' : TreeView) (new : BusHistory) (engine' : TagEngineView T) (stop : Option MemStop) : Type 0 where
   pub moves : Moves old engine new engine'

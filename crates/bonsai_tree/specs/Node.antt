@@ -16,6 +16,7 @@ pub record CachedNode : Type 0 where
 abbrev pub no_block : List ℕ
 no_block = replicate 64 0
 
+-- the block of a node's last message, or 64 zeros where it has none
 abbrev pub block_or_zeros : Option (List ℕ) → List ℕ
 block_or_zeros last = unwrap_or last no_block
 
@@ -28,6 +29,7 @@ current_of None last = block_or_zeros last
 abbrev pub tag_in_slot : ℕ → List ℕ → List ℕ
 tag_in_slot slot block = take TAG_LEN (drop (TAG_LEN * slot) block)
 
+-- the block of a node with another tag in this slot of 16 bytes
 abbrev pub with_tag : ℕ → List ℕ → List ℕ → List ℕ
 with_tag slot tag block = take (TAG_LEN * slot) block ++ tag ++ drop (TAG_LEN * slot + TAG_LEN) block
 

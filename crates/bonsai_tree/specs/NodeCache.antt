@@ -10,6 +10,7 @@ use Rattle.bonsai_tree.specs.Node.{CachedNode}
 abbrev pub node_sets : ℕ
 node_sets = 8
 
+-- how many nodes the cache of one level has room for: two in each set
 abbrev pub most_copies : ℕ
 most_copies = 16
 
@@ -31,6 +32,7 @@ node_way caches level index = way_at (level_cache caches level) index
 abbrev pub copy_of : Way → CachedNode
 copy_of way = record { block = way.copy; changed = way.changed }
 
+-- the copy of a node in the cache of its level: its block, and whether it is dirty
 abbrev pub node_copy : List (List (List Way)) → ℕ → ℕ → Option CachedNode
 node_copy caches level index = option_map copy_of (node_way caches level index)
 

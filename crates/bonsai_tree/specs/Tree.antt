@@ -163,8 +163,8 @@ pub record WritesBack (from : ℕ) (tree : TreeView) (old : BusHistory) (made : 
   -- what was made of a node is a copy that was changed, unless a child of it was made
   pub changed : (level index : ℕ) (block : List ℕ) → from ≤ level → Contains more (Node level index block) →
       (cached_node tree level index ≡ Some (record { block = block; changed = true })) ⊎ HasChild tree.levels more level index
-  -- a node was made once at most for each copy of it that was there or was read, and that is gone; a message that was not
-  -- written does not count
+  -- a node was made once at most for each copy of it that was there or was read, and that is gone; out of memory, one
+  -- message of each node does not count
   pub once_a_copy : (level index : ℕ) → from ≤ level →
       RoseBy (times_made level index more + copy_count (cached_node tree' level index)
       - (copy_count (cached_node tree level index) + unwritten_in stop))
@@ -179,7 +179,7 @@ pub record WasReadBeside (level index : ℕ) (old new : BusHistory) : Type 0 whe
   pub set : other % node_sets ≡ index % node_sets
   pub rose : Rose (old.reads (node_place level other)) (new.reads (node_place level other))
 
--- Each copy that is gone went out for another node of its set, which was read.
+-- Where a copy was evicted, another node of its set was read: one read is enough for both ways of the set.
 pub record GoesOutFor (tree : TreeView) (old : BusHistory) (tree' : TreeView) (new : BusHistory) : Type 0 where
   pub out : (level index : ℕ) → cached_node tree level index ≢ None → cached_node tree' level index ≡ None → WasReadBeside level index old new
 

@@ -175,7 +175,8 @@ impl Tree {
         // once at most for each copy of it that was there before or was read in the call, and that is gone after it; out of
         // memory, once more.
         ensures written_back { WritesBack 1 self.old (B.history bus.old) tags.old.made self.new (B.history bus.new) tags.new.made (stop_of result) }
-        // Unless the call is refused, a copy goes out only for another node of its set, which is read.
+        // Unless the call is refused, a copy is evicted only where another node of its set is read: one read is enough for both
+        // ways of the set.
         ensures out_for { OnOk result (GoesOutFor self.old (B.history bus.old) self.new (B.history bus.new)) }
 
         // What was made was written.
@@ -267,7 +268,8 @@ impl Tree {
         // once at most for each copy of it that was there before or was read in the call, and that is gone after it; out of
         // memory, once more.
         ensures written_back { WritesBack 1 self.old (B.history bus.old) tags.old.made self.new (B.history bus.new) tags.new.made (stop_of result) }
-        // Unless the call is refused, a copy goes out only for another node of its set, which is read.
+        // Unless the call is refused, a copy is evicted only where another node of its set is read: one read is enough for both
+        // ways of the set.
         ensures out_for { OnOk result (GoesOutFor self.old (B.history bus.old) self.new (B.history bus.new)) }
 
         // What was made was written.

@@ -12,10 +12,12 @@ use Rattle.std.specs.Prelude.{Bool, false, ℕ, ◌&&◌, ◌+◌, ◌==◌}
 abbrev pub is_next : ℕ → ℕ → Bool
 is_next number before = (before + 1) == number
 
+-- the access is a read of this place
 abbrev pub is_read_of : Place → Access → Bool
 is_read_of place (Read here) = place_eq here place
 is_read_of place (Write here) = false
 
+-- the access is a write of this place
 abbrev pub is_write_of : Place → Access → Bool
 is_write_of place (Write here) = place_eq here place
 is_write_of place (Read here) = false

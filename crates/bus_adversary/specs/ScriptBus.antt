@@ -36,6 +36,7 @@ pub record ScriptState : Type 0 where
   pub reads : Place → ℕ
   pub writes : PlaceCountsView
 
+-- what a script acts on and counts by: the adversary, all accesses, each place's reads and writes
 abbrev pub state_of : ScriptBusView → ScriptState
 state_of bus =
     record {

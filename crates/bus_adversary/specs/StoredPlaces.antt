@@ -16,6 +16,7 @@ pub record StoredPlacesView : Type 0 where
 abbrev pub empty_line : LineBytes
 empty_line = record { bytes = replicate 80 0 }
 
+-- a node's place that was never written holds 64 zeros
 abbrev pub empty_node : NodeBytes
 empty_node = record { bytes = replicate 64 0 }
 

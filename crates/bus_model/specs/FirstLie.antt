@@ -21,6 +21,7 @@ pub record IsCaught (tag_of : Message → List ℕ) (used : List (ℕ × Counter
   pub fails : Fails tag_of used made lie.place lie.bytes
   pub ended : tampered lie.place
 
+-- Every answer of the bus was true, or the first false one was caught.
 abbrev pub HonestOrCaught : (Message → List ℕ) → List (ℕ × Counter) → List Message → BusHistory → (Place → Type 0) → Type 0
 HonestOrCaught tag_of used made history tampered = IsHonest history tampered ⊎ IsCaught tag_of used made history tampered
 

@@ -19,6 +19,7 @@ pub record HonestBusView : Type 0 where
 abbrev pub empty_line : DataPlace
 empty_line = record { sealed = record { cipher = replicate 64 0; tag = replicate 16 0 }; reads = 0 }
 
+-- The place of a node that was never written: zeros, and no read so far.
 abbrev pub empty_node : NodePlace
 empty_node = record { block = replicate 64 0; reads = 0 }
 
@@ -31,6 +32,7 @@ abbrev pub data_place_at : HonestBusView → ℕ → DataPlace
 data_place_at kept line =
     if nat_lt line (line_count kept.levels) then slice_index_or kept.lines line empty_line else empty_line
 
+-- What an honest bus keeps for a node; a number that is no node of the tree has the empty place.
 abbrev pub node_place_at : HonestBusView → ℕ → ℕ → NodePlace
 node_place_at kept level index =
     if is_node kept.levels level index

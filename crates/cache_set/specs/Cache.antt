@@ -20,6 +20,7 @@ with_set sets place ways = slice_set sets (place % length sets) ways
 abbrev pub way_at : List (List Way) → ℕ → Option Way
 way_at sets place = way_of place (set_at sets place)
 
+-- The 64 bytes that the cache holds of a place, if it holds a copy.
 abbrev pub copy_at : List (List Way) → ℕ → Option (List ℕ)
 copy_at sets place = copy_of place (set_at sets place)
 
@@ -28,6 +29,7 @@ abbrev pub victim_if : Option Way → List Way → Option Way
 victim_if None ways = victim ways
 victim_if (Some way) ways = None
 
+-- The way that is evicted when the place comes in, if its set has no room for it.
 abbrev pub victim_for : List (List Way) → ℕ → Option Way
 victim_for sets place = victim_if (way_at sets place) (set_at sets place)
 
@@ -35,6 +37,7 @@ victim_for sets place = victim_if (way_at sets place) (set_at sets place)
 abbrev pub IsLatest : List (List Way) → ℕ → Type 0
 IsLatest sets place = latest_place (set_at sets place) ≡ Some place
 
+-- The number of the place that a way holds a copy of.
 abbrev pub place_of : Way → ℕ
 place_of way = way.place
 
@@ -52,6 +55,7 @@ pub record AreWays (count index : ℕ) (ways : List Way) : Type 0 where
   pub set : IsSet ways
   pub right : AllByRecursion (λ way. way.place % count ≡ index) ways
 
+-- From set `index` on, each of these is a set of a cache of `count` sets.
 abbrev pub AreSets : ℕ → ℕ → List (List Way) → Type 0
 AreSets count index [] = Unit {0}
 AreSets count index (ways ∷ sets) = AreWays count index ways × AreSets count (index + 1) sets

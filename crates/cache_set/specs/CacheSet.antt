@@ -9,6 +9,7 @@ abbrev pub way_of : ℕ → List Way → Option Way
 way_of place [] = None
 way_of place (way ∷ ways) = if way.place == place then Some way else way_of place ways
 
+-- The 64 bytes that a set holds of a place, if one of its ways has it.
 abbrev pub copy_of : ℕ → List Way → Option (List ℕ)
 copy_of place ways = option_map (λ way. way.copy) (way_of place ways)
 
@@ -51,6 +52,7 @@ latest_place [] = None
 latest_place (way ∷ []) = Some way.place
 latest_place (way ∷ next ∷ ways) = latest_place (next ∷ ways)
 
+-- A set of two ways takes another place without an eviction.
 abbrev pub HasRoom : List Way → Type 0
 HasRoom ways = length ways < 2
 

@@ -79,6 +79,7 @@ TellsResult text whole number old new = (Gains old text new × (number ≡ code_
 abbrev pub TellsRun : ℕ → RunRecord → ℕ → SinkState → SinkState → Type 0
 TellsRun number run lies old new = TellsEnding (record_text run lies) (run_status run) run.ending number old new
 
+-- a plain run's record was written; a prefix of it where a write failed or out of memory
 abbrev pub TellsPlain : ℕ → PlainRecord → SinkState → SinkState → Type 0
 TellsPlain number run old new = TellsEnding (plain_text run) (ending_status run.ending) run.ending number old new
 
@@ -162,17 +163,21 @@ abbrev pub GivesRun : RunAsked → World → World → Done → Type 0
 GivesRun asked old new done =
     IsRunAnd done (RanAndTold asked old new done) ⊎ Undone (Ok (to_run asked)) old new done
 
+-- the program ran on the plain machine and its record was written, or nothing was done
 abbrev pub GivesPlainRun : ExecutionAsked → World → World → Done → Type 0
 GivesPlainRun execution old new done =
     PlainlyRan execution old new done ⊎ Undone (Ok (to_run_plain execution)) old new done
 
+-- the text that was asked for of the file's program was written, or nothing was done
 abbrev pub GivesText : Asked → FileAsked → (Image → List ℕ) → World → World → Done → Type 0
 GivesText asked file text old new done = Delivers file text old new done ⊎ Undone (Ok asked) old new done
 
+-- what the report says was written, or that its tag differs, or nothing was done
 abbrev pub GivesReport : ReportAsked → World → World → Done → Type 0
 GivesReport asked old new done = DeliversReport asked old new done ⊎ TellsOtherTag asked old new done
     ⊎ Undone (Ok (to_verify asked)) old new done
 
+-- the generated program of this number ran and its summary was written, or nothing was done
 abbrev pub GivesSummary : ℕ → World → World → Done → Type 0
 GivesSummary number old new done =
     IsRunAnd done (DeliversSummary number old new done) ⊎ Undone (Ok (to_bench number)) old new done

@@ -18,10 +18,12 @@ IsSameKind (Script old) (Script new) = KeepsScript old new
 IsSameKind (Honest old) (Script new) = ⊥
 IsSameKind (Script old) (Honest new) = ⊥
 
+-- a bus is of its own kind
 pub same_kind : (bus : RunBus) → IsSameKind bus bus
 same_kind (Honest bus) = tt
 same_kind (Script bus) = (refl, refl)
 
+-- the kind stays the same over one step and then another
 pub same_kinds : (first second third : RunBus) →
     IsSameKind first second → IsSameKind second third → IsSameKind first third
 same_kinds (Honest first) (Honest second) (Honest third) once then = tt

@@ -54,6 +54,7 @@ course_run (Written telling) = None
 course_run OtherTag = None
 course_run (RanGenerated run bus telling) = Some run
 
+-- the bus of a run on protected memory, where there was one
 abbrev pub course_bus : Course → Option RunBus
 course_bus (Refused refusal) = None
 course_bus NoMemory = None

@@ -15,12 +15,15 @@ use Rattle.chip_main.specs.declared.run_bus.RunBus.{RunBus}
 use Rattle.chip_main.specs.Buses.{run_history}
 use Rattle.chip_main.specs.Device.{device_tag}
 
+-- the program halted, with any exit code
 abbrev pub IsHalted : Ending → Type 0
 IsHalted ending = (code : ℕ) × (ending ≡ Halted code)
 
+-- the program trapped, for any cause and at any address
 abbrev pub IsTrapped : Ending → Type 0
 IsTrapped ending = (cause : Cause) × (pc : ℕ) × (ending ≡ Trapped cause pc)
 
+-- the limit of steps ended the run
 abbrev pub IsOutOfSteps : Ending → Type 0
 IsOutOfSteps ending = ending ≡ OutOfSteps
 

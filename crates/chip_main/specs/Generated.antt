@@ -24,6 +24,7 @@ default_device_key =
 abbrev pub default_nonce : List ℕ
 default_nonce = 0 ∷ 0 ∷ 0 ∷ 0 ∷ 0 ∷ 0 ∷ 0 ∷ 0 ∷ 0 ∷ 0 ∷ 0 ∷ 0 ∷ 0 ∷ 0 ∷ 0 ∷ 0 ∷ []
 
+-- the terms by default: device key 00 to 1f, HMAC tags, the default page limit, a nonce of zeros
 abbrev pub default_terms : Terms
 default_terms = record {
   device_key = default_device_key;

@@ -22,6 +22,7 @@ abbrev pub script_need : ℕ → List ℕ → Need
 script_need levels name =
     record { name = name; limit = script_limit; fault = λ bytes. result_err (script_in levels bytes) }
 
+-- the adversary's script is needed where the request names one
 abbrev pub script_needs : ℕ → Option (List ℕ) → List Need
 script_needs levels None = []
 script_needs levels (Some name) = script_need levels name ∷ []
@@ -34,6 +35,7 @@ input_limit = 1048576
 abbrev pub input_need : List ℕ → Need
 input_need name = record { name = name; limit = input_limit; fault = λ bytes. None }
 
+-- the input is needed where the request names one
 abbrev pub input_needs : Option (List ℕ) → List Need
 input_needs None = []
 input_needs (Some name) = input_need name ∷ []
@@ -52,6 +54,7 @@ abbrev pub run_needs : RunAsked → List Need
 run_needs asked = program_need asked.execution.file
     ∷ (script_needs asked.execution.file.levels asked.script ++ input_needs asked.execution.input)
 
+-- the files that a request needs: a generated program needs none
 abbrev pub asked_needs : Asked → List Need
 asked_needs (to_run asked) = run_needs asked
 asked_needs (to_run_plain execution) = execution_needs execution
@@ -66,6 +69,7 @@ abbrev pub needs_of : Result Asked WordsFault → List Need
 needs_of (Err fault) = []
 needs_of (Ok asked) = asked_needs asked
 
+-- the names of these files, in order
 abbrev pub names : List Need → List (List ℕ)
 names needs = map (λ need. need.name) needs
 
@@ -77,6 +81,7 @@ pub record IsAccepted (files : FilesState) (need : Need) (bytes : List ℕ) : Ty
   pub within : length bytes ≤ need.limit
   pub formed : need.fault bytes ≡ None
 
+-- each of these files has bytes that are within its limit and have its form
 abbrev pub AreAccepted : FilesState → List Need → Type 0
 AreAccepted files [] = Unit {0}
 AreAccepted files (need ∷ needs) = ((bytes : List ℕ) × IsAccepted files need bytes) × AreAccepted files needs

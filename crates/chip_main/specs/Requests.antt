@@ -48,6 +48,7 @@ pub record RunsRequested (asked : RunAsked) (files files' : FilesState) (out out
   pub runs : RunsProtected (terms_of asked program input) out out'
       (new_history asked.execution.file.levels) (run_history bus) run
 
+-- the program and the input that the request names ran on the plain machine, and gave this record
 abbrev pub PlainlyRuns : ExecutionAsked → FilesState → FilesState → SinkState → SinkState → PlainRecord → Type 0
 PlainlyRuns execution files files' out out' run =
     (program : Program) × (input : List ℕ) × ReadsExecution execution files files' program input
@@ -90,20 +91,24 @@ abbrev pub RunsRequest : Result Asked WordsFault → FilesState → FilesState �
 RunsRequest request files files' out out' run bus =
     ByCommand request (λ asked. RunsRequested asked files files' out out' run bus) (λ _. ⊥) (λ _ _. ⊥) (λ _. ⊥) (λ _. ⊥)
 
+-- the request is for a run on the plain machine, and it ran
 abbrev pub PlainlyRunsRequest : Result Asked WordsFault → FilesState → FilesState → SinkState → SinkState → PlainRecord → Type 0
 PlainlyRunsRequest request files files' out out' run =
     ByCommand request (λ _. ⊥) (λ execution. PlainlyRuns execution files files' out out' run) (λ _ _. ⊥) (λ _. ⊥)
     (λ _. ⊥)
 
+-- the request is for a text or a report's check; a text was written as far as the answer says
 abbrev pub WritesRequest : Result Asked WordsFault → FilesState → FilesState → SinkState → SinkState → Telling → Type 0
 WritesRequest request files files' out out' telling = ByCommand request (λ _. ⊥) (λ _. ⊥)
     (λ file text. Writes file text files files' out out' telling)
     (λ asked. WritesReport asked files files' out out' telling) (λ _. ⊥)
 
+-- the request is for the check of a report, and the tag of the report differs
 abbrev pub OtherTagRequest : Result Asked WordsFault → FilesState → FilesState → Type 0
 OtherTagRequest request files files' =
     ByCommand request (λ _. ⊥) (λ _. ⊥) (λ _ _. ⊥) (λ asked. FindsOtherTag asked files files') (λ _. ⊥)
 
+-- the request is for a generated program; its summary was written as far as the answer says
 abbrev pub SummarizesRequest : Result Asked WordsFault → FilesState → FilesState → SinkState → SinkState → RunRecord → RunBus → Telling → Type 0
 SummarizesRequest request files files' out out' run bus telling = ByCommand request (λ _. ⊥) (λ _. ⊥) (λ _ _. ⊥) (λ _. ⊥)
     (λ number. Summarizes number files files' out out' run bus telling)

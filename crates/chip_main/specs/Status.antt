@@ -39,6 +39,7 @@ abbrev pub IsResult : ℕ → Type 0
 IsResult number = (number ≢ code_of Usage) × (number ≢ code_of Refused) × (number ≢ code_of ReadFault)
     × (number ≢ code_of WriteFault) × (number ≢ code_of NoMemory)
 
+-- the status of an ending of a run without evidence
 abbrev pub ending_status : Ending → Status
 ending_status (ending.Halted exit) = Done
 ending_status (ending.Trapped cause pc) = Trapped
@@ -58,10 +59,12 @@ evidence_status ending.OutOfSteps = evidence
 evidence_status (ending.Tampered place) = evidence
 evidence_status (ending.Spent page) = evidence
 
+-- the status of an ending, with evidence or without
 abbrev pub status_with : Option Evidence → Ending → Status
 status_with None ending = ending_status ending
 status_with (Some found) ending = evidence_status ending
 
+-- the status of a run on protected memory whose record was written whole
 abbrev pub run_status : RunRecord → Status
 run_status run = status_with run.evidence run.ending
 
@@ -70,6 +73,7 @@ abbrev pub untold_ending_status : Ending → Status
 untold_ending_status ending.NoMemory = NoMemory
 untold_ending_status _ = WriteFault
 
+-- the status of a refusal: of the words, of a read that failed, or of a file
 abbrev pub refusal_status : Refusal → Status
 refusal_status (refusal.Usage text) = Usage
 refusal_status (refusal.WrongValue fault) = Usage

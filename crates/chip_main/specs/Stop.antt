@@ -41,6 +41,7 @@ abbrev pub elf_stop_of : ElfError → Stop
 elf_stop_of (ElfFaulty fault) = Refused (Elf fault)
 elf_stop_of elf_no_memory = NoMemory
 
+-- why an assembly text is no program
 abbrev pub assembly_stop_of : AsmError → Stop
 assembly_stop_of (AsmFaulty line fault) = Refused (Asm line fault)
 assembly_stop_of assembly_no_memory = NoMemory

@@ -48,9 +48,11 @@ lies_line lies = codes "lies " ++ decimal lies ++ codes "\n"
 abbrev pub forgery_line : ℕ → List ℕ
 forgery_line line = codes "evidence forgery " ++ place_text (Line line) ++ codes "\n"
 
+-- the first line of evidence that two blocks of a node have one tag: the place of that node
 abbrev pub collision_line : ℕ → ℕ → List ℕ
 collision_line level index = codes "evidence collision " ++ place_text (Node level index) ++ codes "\n"
 
+-- a line's counter in decimal: its page counter, then its line counter
 abbrev pub counter_line : Counter → List ℕ
 counter_line counter = codes "counter " ++ decimal counter.page ++ codes " " ++ decimal counter.line ++ codes "\n"
 
@@ -74,6 +76,7 @@ evidence_lines made (Collision level index made_at accepted tag) =
     collision_line level index ∷ hex_line (codes "made") (block_in (slice_get made made_at))
     ∷ hex_line (codes "accepted") accepted ∷ hex_line (codes "tag") tag ∷ []
 
+-- the lines of the evidence, where there is some
 abbrev pub shown_lines : List Message → Option Evidence → List (List ℕ)
 shown_lines made None = []
 shown_lines made (Some evidence) = evidence_lines made evidence
@@ -88,9 +91,11 @@ abbrev pub record_lines : RunRecord → ℕ → List (List ℕ)
 record_lines run lies = ending_line run.ending ∷ retired_line run.retired ∷ lies_line lies
     ∷ (shown_lines run.made run.evidence ++ report_lines run.report)
 
+-- the whole text of the record of a run on protected memory
 abbrev pub record_text : RunRecord → ℕ → List ℕ
 record_text run lies = concat (record_lines run lies)
 
+-- the whole text of the record of a run on the plain machine
 abbrev pub plain_text : PlainRecord → List ℕ
 plain_text run = concat (ending_line run.ending ∷ retired_line run.retired ∷ [])
 
@@ -98,10 +103,12 @@ plain_text run = concat (ending_line run.ending ∷ retired_line run.retired ∷
 abbrev pub number_line : ℕ → List ℕ
 number_line number = codes "number " ++ decimal number ++ codes "\n"
 
+-- the lines of a generated program's run: number, ending, instructions retired, output
 abbrev pub summary_lines : ℕ → RunRecord → List ℕ → List (List ℕ)
 summary_lines number run printed = number_line number ∷ ending_line run.ending ∷ retired_line run.retired
     ∷ hex_line (codes "output") printed ∷ []
 
+-- the whole text of the summary of a generated program's run
 abbrev pub summary_text : ℕ → RunRecord → List ℕ → List ℕ
 summary_text number run printed = concat (summary_lines number run printed)
 
@@ -110,16 +117,19 @@ summary_text number run printed = concat (summary_lines number run printed)
 abbrev pub elf_fault_line : ElfFault → List ℕ
 elf_fault_line fault = codes "refused elf " ++ decimal (elf_code fault) ++ codes " " ++ elf_name fault ++ codes "\n"
 
+-- the refusal of an assembly text: the line, and the number and name of the broken rule
 abbrev pub asm_fault_line : ℕ → AsmFault → List ℕ
 asm_fault_line line fault =
     codes "refused asm " ++ decimal line ++ codes " " ++ decimal (asm_code fault) ++ codes " " ++ asm_name fault
     ++ codes "\n"
 
+-- the refusal of a script: the line, and the number and name of the broken rule
 abbrev pub script_fault_line : ℕ → ScriptFault → List ℕ
 script_fault_line line fault =
     codes "refused script " ++ decimal line ++ codes " " ++ decimal (script_code fault) ++ codes " "
     ++ script_name fault ++ codes "\n"
 
+-- the refusal of a report: the number and name of the broken rule
 abbrev pub report_fault_line : ReportError → List ℕ
 report_fault_line fault =
     codes "refused report " ++ decimal (report_error_code fault) ++ codes " " ++ report_error_name fault ++ codes "\n"
@@ -148,6 +158,7 @@ abbrev pub told_ending_line : Report → List ℕ
 told_ending_line report =
     codes "ending " ++ decimal report.ending ++ codes " code " ++ decimal report.code ++ codes "\n"
 
+-- the lines of what a report says: bytes in hexadecimal, numbers in decimal
 abbrev pub field_lines : Report → List (List ℕ)
 field_lines report =
     hex_line (codes "measurement") report.measurement
@@ -157,6 +168,7 @@ field_lines report =
     ∷ told_ending_line report
     ∷ hex_line (codes "nonce") report.nonce ∷ []
 
+-- the whole text of what a report says
 abbrev pub report_text : Report → List ℕ
 report_text report = concat (field_lines report)
 
@@ -164,8 +176,10 @@ report_text report = concat (field_lines report)
 abbrev pub listing : Image → List ℕ
 listing image = listing_of image.segments
 
+-- the ELF file of a program, which the assembler writes
 abbrev pub elf_file : Image → List ℕ
 elf_file image = spelled image
 
+-- the measurement of a program as 64 hexadecimal digits and a line feed
 abbrev pub measurement_line : Image → List ℕ
 measurement_line image = encode_lower (measurement_of image) ++ codes "\n"

@@ -8,5 +8,6 @@ pub record World : Type 0 where
   pub out : SinkState
   pub note : SinkState
 
+-- the world of these files, this sink for what is printed or made, and this one for the rest
 abbrev pub world : FilesState → SinkState → SinkState → World
 world files out note = record { files = files; out = out; note = note }

@@ -48,6 +48,7 @@ impl Printed {
         }
     }
 
+    /// All bytes, in order.
     pub fn as_slice(&self) -> &[u8]
         ensures { result.now ≡ self.now }
     {

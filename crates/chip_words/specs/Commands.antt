@@ -5,6 +5,7 @@ use Rattle.std.specs.Str.Parse.{IsNumeral, without_leading_plus}
 use Rattle.clap.specs.Walk.{Row, Text, first_of}
 use Rattle.chip_words.specs.Request.{levels_of, number_of, numeral_value, value_of}
 
+-- the argument of this name has a value
 abbrev pub HasValue : Text → List Row → Type 0
 HasValue id values = IsSome (first_of id values)
 
@@ -19,10 +20,12 @@ pub record HasProgram (values : List Row) : Type 0 where
   pub levels : HasNumber (codes "levels") values
   pub bounds : (1 ≤ levels_of values) × (levels_of values ≤ 6)
 
+-- which program to run, and for how many steps at most
 pub record HasExecution (values : List Row) : Type 0 where
   pub program : HasProgram values
   pub steps : HasNumber (codes "steps") values
 
+-- which program to run, and the key, the nonce, the tags and the page limit of its protected memory
 pub record HasProtectedRun (values : List Row) : Type 0 where
   pub execution : HasExecution values
   pub key : HasValue (codes "key") values
@@ -50,6 +53,7 @@ pub record HasItsValues (name : Text) (values : List Row) : Type 0 where
   pub verify : bytes_eq name (codes "verify") ≡ true → HasReport values
   pub bench : bytes_eq name (codes "bench") ≡ true → HasWorkload values
 
+-- a command, where there is one, has the values that it can't do without
 abbrev pub IfCommand : Option (Text × List Row) → Type 0
 IfCommand None = ⊤
 IfCommand (Some c) = HasItsValues c.0 c.1

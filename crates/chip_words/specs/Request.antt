@@ -88,12 +88,15 @@ is_flat values = bytes_eq (unwrap_or (one_of (codes "flat") values) []) (codes "
 abbrev pub form_of : List Row → ProgramForm
 form_of values = if is_flat values then FlatFile else ElfFile
 
+-- the name of the program's input file, where one is named
 abbrev pub input_of : List Row → Option Text
 input_of values = first_of (codes "input") values
 
+-- the levels of the tree whose memory the program is for
 abbrev pub levels_of : List Row → ℕ
 levels_of values = numeral_value (value_of (codes "levels") values)
 
+-- the limit of steps of the run
 abbrev pub steps_of : List Row → ℕ
 steps_of values = numeral_value (value_of (codes "steps") values)
 
@@ -102,22 +105,28 @@ abbrev pub file_of : ProgramForm → List Row → FileAsked
 file_of form values =
     record { name = value_of (codes "file") values; form = form; levels = levels_of values }
 
+-- the file of a program that is not assembled: flat with `--flat`, else ELF
 abbrev pub program_of : List Row → FileAsked
 program_of values = file_of (form_of values) values
 
+-- the file of an assembly text
 abbrev pub text_of : List Row → FileAsked
 text_of values = file_of AssemblyText values
 
+-- the program, its input and its limit of steps
 abbrev pub execution_of : List Row → ExecutionAsked
 execution_of values =
     record { file = program_of values; input = input_of values; steps = steps_of values }
 
+-- the limit of page counters
 abbrev pub page_limit_of : List Row → ℕ
 page_limit_of values = numeral_value (value_of (codes "page-limit") values)
 
+-- the number of the generated program
 abbrev pub number_of : List Row → ℕ
 number_of values = numeral_value (value_of (codes "number") values)
 
+-- the name of the adversary's script, where one is named
 abbrev pub script_name_of : List Row → Option Text
 script_name_of values = first_of (codes "script") values
 
@@ -128,6 +137,7 @@ abbrev pub tags_named : Text → Option Tags
 tags_named name = if bytes_eq name (codes "hmac") then Some Hmac
     else (if bytes_eq name (codes "xor") then Some Xor else None)
 
+-- the kind of tags, `hmac` or `xor`, or the fault of another name
 abbrev pub tags_of : List Row → Result Tags ValueFault
 tags_of values = ok_or (tags_named (value_of (codes "tags") values)) wrong_tags
 
@@ -135,14 +145,17 @@ tags_of values = ok_or (tags_named (value_of (codes "tags") values)) wrong_tags
 abbrev pub bytes_in_hex : ℕ → Text → Option (List ℕ)
 bytes_in_hex count digits = result_ok (decode_sized digits count)
 
+-- the device key, which is 64 hexadecimal digits, or the fault of another value
 abbrev pub device_key_of : List Row → Result (List ℕ) ValueFault
 device_key_of values = ok_or (bytes_in_hex 32 (value_of (codes "key") values)) wrong_key
 
+-- the nonce, which is 32 hexadecimal digits, or the fault of another value
 abbrev pub nonce_of : List Row → Result (List ℕ) ValueFault
 nonce_of values = ok_or (bytes_in_hex 16 (value_of (codes "nonce") values)) wrong_nonce
 
 -- one value after another, as long as each has its form
 infixl 10 ◌>>=◌
+-- `next` gets the value that has its form; a fault stays as it is
 abbrev pub ◌>>=◌ : {X Y : Type 0} → Result X ValueFault → (X → Result Y ValueFault) → Result Y ValueFault
 Ok x >>= next = next x
 Err fault >>= next = Err fault
@@ -157,6 +170,7 @@ terms_of values = do
 
 -- ---- the request
 
+-- the run that these values and terms ask for
 abbrev pub run_of : List Row → Terms → RunAsked
 run_of values terms = record { execution = execution_of values; script = script_name_of values; terms = terms }
 
@@ -165,6 +179,7 @@ abbrev pub run_on : List Row → Result Terms ValueFault → Result Asked WordsF
 run_on values (Ok terms) = Ok (to_run (run_of values terms))
 run_on values (Err fault) = Err (wrong_value fault)
 
+-- the report that these values name, and the device key to check it under
 abbrev pub report_of : List Row → List ℕ → ReportAsked
 report_of values key = record { name = value_of (codes "file") values; device_key = key }
 

@@ -17,9 +17,11 @@ use Rattle.chip_words.specs.declared.request.Request.TheVariants.{Run, Plain, As
 abbrev pub texts : List (Bor Text) → List Text
 texts words = map (λ word. word.now) words
 
+-- a program's file as the clauses see it
 abbrev pub file_asked : ProgramFile → FileAsked
 file_asked file = record { name = file.name.now; form = file.form; levels = file.geometry }
 
+-- what to execute as the clauses see it: the program, its input and the limit of steps
 abbrev pub execution_asked : Execution → ExecutionAsked
 execution_asked execution = record {
   file = file_asked execution.file;
@@ -27,6 +29,7 @@ execution_asked execution = record {
   steps = execution.steps;
 }
 
+-- a run on protected memory as the clauses see it: what to execute, the script and the terms
 abbrev pub run_asked : ProtectedRun → RunAsked
 run_asked run = record {
   execution = execution_asked run.execution;
@@ -34,6 +37,7 @@ run_asked run = record {
   terms = run.terms;
 }
 
+-- the check of a report as the clauses see it: the file and the device key
 abbrev pub report_asked : ReportFile → ReportAsked
 report_asked report = record { name = report.name.now; device_key = report.device_key }
 

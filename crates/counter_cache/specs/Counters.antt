@@ -24,6 +24,7 @@ use Rattle.bonsai_tree.specs.Tree.{HoldsTree, TreeView, cached_nodes, kept_tag, 
 abbrev pub block_sets : ℕ
 block_sets = 16
 
+-- how many counter blocks the cache has room for: two in each set
 abbrev pub most_blocks : ℕ
 most_blocks = 32
 

@@ -20,5 +20,6 @@ program_record entry size segments =
 unfoldable pub measurement_by : ℕ → ℕ → List Segment → List ℕ
 measurement_by entry size segments = sha256 (program_record entry size segments)
 
+-- The measurement of a program: SHA-256 over its entry, its memory's size and its segments, in order.
 abbrev pub measurement_of : Image → List ℕ
 measurement_of image = measurement_by image.entry image.size image.segments

@@ -10,6 +10,7 @@ use Rattle.sec_base.specs.declared.image.Image.{Image}
 unfoldable pub u16_bytes : ℕ → List ℕ
 u16_bytes n = to_le_bytes w16 n
 
+-- A number in four bytes, the lowest first.
 unfoldable pub u32_bytes : ℕ → List ℕ
 u32_bytes n = to_le_bytes w32 n
 

@@ -6,6 +6,7 @@ use Rattle.sha2.proofs.Facts256.{length-sha256}
 use Rattle.hmac_tag.specs.Hmac.{hmac_of, hmac_under}
 use Rattle.hmac_tag.specs.Tags.{tag_of, padded_piece, pieces_of, xor_of_pieces, xor_tag_of}
 
+-- A tag of HMAC-SHA-256 has 16 bytes.
 pub length-tag_of : (key message : List ℕ) → length (tag_of key message) ≡ 16
 unfolding tag_of hmac_of hmac_under
 length-tag_of key message = length-take 16 _ ∙ ap (min 16) (length-sha256 _)
@@ -19,6 +20,7 @@ unfolding xor_of_pieces
 length-fold_xor tag [] long = long
 length-fold_xor tag (piece ∷ pieces) long = length-fold_xor (xor_of_pieces tag piece) pieces refl
 
+-- A weak tag has 16 bytes too.
 pub length-xor_tag_of : (key message : List ℕ) → length (xor_tag_of key message) ≡ 16
 unfolding xor_tag_of
 length-xor_tag_of key message = length-fold_xor (padded_piece key) (pieces_of message) (length-padded_piece key)

@@ -49,6 +49,7 @@ abbrev pub room_if : Option Way → List (List Way) → List (List Way)
 room_if None lines = lines
 room_if (Some victim) lines = with_set lines victim.place (without victim.place (set_at lines victim.place))
 
+-- the sets once a miss on this line has evicted its victim, if it has one
 abbrev pub with_room : List (List Way) → ℕ → List (List Way)
 with_room lines line = room_if (victim_for lines line) lines
 
@@ -61,6 +62,7 @@ abbrev pub brought_if : Option Way → List (List Way) → ℕ → List ℕ → 
 brought_if None lines line copy = with_new (with_room lines line) line copy
 brought_if (Some way) lines line copy = with_set lines line (touched line (set_at lines line))
 
+-- the sets once this line is held and the latest of its set; on a miss it comes with these bytes
 abbrev pub brought : List (List Way) → ℕ → List ℕ → List (List Way)
 brought lines line copy = brought_if (way_at lines line) lines line copy
 
@@ -79,6 +81,7 @@ abbrev pub AreClean : List ℕ → List (List Way) → Type 0
 AreClean stored lines = (line : ℕ) (way : Way) → way_at lines line ≡ Some way → way.changed ≡ false → way.copy ≡ line_at stored line
 
 module _ {S : Type 0} (contents_of : S → List ℕ) (extent_of : S → ℕ) where
+  -- the contents of a cache: the lines of its store with the held copies laid over
   abbrev pub contents : LineCacheView S → List ℕ
   contents cache = contents_over (contents_of cache.store) (extent_of cache.store) cache.lines
 

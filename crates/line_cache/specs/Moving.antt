@@ -8,6 +8,7 @@ use Rattle.cache_set.specs.declared.way.Way.{Way}
 use Rattle.cache_set.specs.Cache.{way_at}
 use Rattle.line_cache.specs.LineCache.{LineCacheView, IsMoved, contents_over, laid_over, whole_line}
 
+-- bytes cut or filled to a whole line are 64
 pub length-whole_line : (bytes : List ℕ) → length (whole_line bytes) ≡ 64
 unfolding whole_line
 length-whole_line bytes = omega (arith, length-take {A = ℕ}, length-append {A = ℕ}, length-replicate {A = ℕ})
@@ -16,14 +17,17 @@ length-laid_over : (found : Option Way) (stored : List ℕ) → length (laid_ove
 length-laid_over None stored = length-whole_line stored
 length-laid_over (Some way) stored = length-whole_line way.copy
 
+-- a line is 64 bytes, whether it is held or not
 pub length-line : (stored : List ℕ) (lines : List (List Way)) (line : ℕ) → length (laid_over (way_at lines line) (line_at stored line)) ≡ 64
 length-line stored lines line = length-laid_over (way_at lines line) (line_at stored line)
 
+-- the contents of a cache over a store are 64 bytes a line
 pub length-contents_over : (stored : List ℕ) (count : ℕ) (lines : List (List Way)) → length (contents_over stored count lines) ≡ 64 * count
 length-contents_over stored count lines =
     length-joined_lines (λ line. laid_over (way_at lines line) (line_at stored line)) count (length-line stored lines)
 
 module _ {S : Type 0} (read_moved : S → ℕ → Result (List ℕ) MemStop → S → Type 0) (write_moved : S → ℕ → List ℕ → Result (Unit {0}) MemStop → S → Type 0) where
+  -- What two runs of calls made of the store, one after the other, is what the calls of both made of it.
   pub moved_on : (first second third : LineCacheView S) (before after : List ℕ) →
       IsMoved read_moved write_moved first before second → IsMoved read_moved write_moved second after third →
       IsMoved read_moved write_moved first (before ++ after) third

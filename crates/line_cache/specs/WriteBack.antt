@@ -4,6 +4,7 @@ use Rattle.sec_base.specs.Lines.{with_line}
 use Rattle.sec_base.specs.declared.stop.MemStop.{MemStop}
 use Rattle.cache_set.specs.declared.way.Way.{Way}
 
+-- the store's bytes once a way is evicted: a dirty copy is written back, a clean one is not
 abbrev pub written_if : Bool → Way → List ℕ → List ℕ
 written_if false way stored = stored
 written_if true way stored = with_line stored way.place way.copy

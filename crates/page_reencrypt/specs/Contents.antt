@@ -21,6 +21,7 @@ abbrev pub bytes_of : List ℕ → ℕ → Option (Counter × List ℕ) → List
 bytes_of key line None = replicate 64 0
 bytes_of key line (Some last) = cipher_of key line last.0 last.1
 
+-- the bytes of a line, decrypted from its last message; a line that was never written is zeros
 abbrev pub line_bytes : List ℕ → List Message → ℕ → List ℕ
 line_bytes key made line = bytes_of key line (last_data line made)
 
@@ -53,6 +54,7 @@ entries_of_write line used =
 abbrev pub line_entries : List (ℕ × Counter) → ℕ → ℕ
 line_entries used line = length (filter (λ entry. entry.0 == line) used)
 
+-- how often lines of the page were encrypted: the entries that name one of them
 abbrev pub page_entries : List (ℕ × Counter) → ℕ → ℕ
 page_entries used page = length (filter (λ entry. page_of entry.0 == page) used)
 

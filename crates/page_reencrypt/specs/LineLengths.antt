@@ -11,8 +11,10 @@ length-bytes_of : (key : List ℕ) (line : ℕ) (last : Option (Counter × List 
 length-bytes_of key line None = refl
 length-bytes_of key line (Some last) = length-cipher_of key line last.0 last.1
 
+-- a line is 64 bytes
 pub length-line_bytes : (key : List ℕ) (made : List Message) (line : ℕ) → length (line_bytes key made line) ≡ 64
 length-line_bytes key made line = length-bytes_of key line (last_data line made)
 
+-- the contents of the memory are 64 bytes a line
 pub length-contents_of : (key : List ℕ) (lines : ℕ) (made : List Message) → length (contents_of key lines made) ≡ 64 * lines
 length-contents_of key lines made = length-joined_lines (line_bytes key made) lines (length-line_bytes key made)

@@ -20,16 +20,20 @@ use Rattle.page_reencrypt.specs.Stops.{lasting_stop}
 abbrev pub read_accesses : ℕ → ℕ
 read_accesses levels = counter_accesses levels + 1
 
+-- how many accesses a write of a line without an overflow makes at most
 abbrev pub write_accesses : ℕ → ℕ
 write_accesses levels = counter_accesses levels + 1
 
+-- how many accesses a write of a line with an overflow makes at most
 abbrev pub overflow_accesses : ℕ → ℕ
 overflow_accesses levels = write_accesses levels + 126
 
 module _ {B T : Type 0} (history : B → BusHistory) (bus_moved : B → B → Type 0) (tags : TagEngineView T → Message → List ℕ) where
+  -- how this memory is seen: its history, its moves, its tags and its levels
   abbrev pub terms_in : SealedLinesView B T → MemoryTerms B
   terms_in lines = record { history = history; moved = bus_moved; tag_of = tags lines.engine; levels = levels lines }
 
+  -- without evidence or a lasting stop, the counters and what stands outside fit together
   abbrev pub FitsUnlessStopped : SealedLinesView B T → Type 0
   FitsUnlessStopped lines = lasting_stop lines.stopped ≡ None → IsQuiet lines →
       FitsTogether (tags lines.engine) (levels lines) lines.counters (history lines.bus) (made lines) (used lines)
@@ -58,7 +62,7 @@ module _ {B T : Type 0} (history : B → BusHistory) (bus_moved : B → B → Ty
         ((history new.bus).accesses ≤ (history old.bus).accesses + write_accesses (levels old))
         × ((other : ℕ) → (history new.bus).reads (line_place other) ≡ (history old.bus).reads (line_place other))
     pub few : (history new.bus).accesses ≤ (history old.bus).accesses + overflow_accesses (levels old)
-    -- the counters make no access where they are on the chip
+    -- where the page's counters are on the chip: one access at most without an overflow, and 127 with one
     pub hit : Contains (cached_pages old.counters) (page_of line) → IsQuiet new → (next_counter (counter_in (used old) line)).line ≢ 0 →
         (history new.bus).accesses ≤ (history old.bus).accesses + 1
     pub hit_overflow : Contains (cached_pages old.counters) (page_of line) → (history new.bus).accesses ≤ (history old.bus).accesses + 127

@@ -47,6 +47,7 @@ pub record MemoryTerms (B : Type 0) : Type 1 where
   pub tag_of : Message → List ℕ
   pub levels : ℕ
 
+-- the terms of this memory: its tags are those of its tag engine, and so are its levels
 abbrev pub terms_of : {B T : Type 0} → (B → BusHistory) → (B → B → Type 0) → (T → List ℕ → List ℕ) → (T → List ℕ → List ℕ) → OutsideView B T → MemoryTerms B
 terms_of history moved data_tag_of node_tag_of outside = record {
   history = history;
@@ -67,6 +68,7 @@ HasCounter used line counter = (IsFresh line used × (counter ≡ never_written)
     ⊎ ((last_pair line used ≡ Some counter) × (counter ≢ never_written))
 
 module _ {B T : Type 0} (terms : MemoryTerms B) where
+  -- the messages, the counters that were used and what stands outside fit one another
   abbrev pub AreConsistent : OutsideView B T → Type 0
   AreConsistent outside =
       IsConsistent terms.tag_of terms.levels (terms.history outside.bus) outside.engine.made outside.pads.used
@@ -75,6 +77,7 @@ module _ {B T : Type 0} (terms : MemoryTerms B) where
   abbrev pub HaveLast : OutsideView B T → Type 0
   HaveLast outside = HoldsLast terms.tag_of (line_count terms.levels) outside.engine.made (terms.history outside.bus).written
 
+  -- the places of nodes hold what was made last for them
   abbrev pub HaveLastNodes : OutsideView B T → Type 0
   HaveLastNodes outside = NodesHoldLast terms.levels outside.engine.made (terms.history outside.bus).written
 

@@ -48,12 +48,15 @@ pub record SealedLinesView (B T : Type 0) : Type 0 where
 abbrev pub made : {B T : Type 0} → SealedLinesView B T → List Message
 made lines = lines.engine.made
 
+-- the line and the counter of each encryption, in order
 abbrev pub used : {B T : Type 0} → SealedLinesView B T → List (ℕ × Counter)
 used lines = lines.pads.used
 
+-- the message that passed its check though this memory never tagged it, where there is one
 abbrev pub evidence : {B T : Type 0} → SealedLinesView B T → Option Evidence
 evidence lines = lines.engine.evidence
 
+-- the key that lines are encrypted under
 abbrev pub enc_key : {B T : Type 0} → SealedLinesView B T → List ℕ
 enc_key lines = lines.pads.key
 
@@ -61,6 +64,7 @@ enc_key lines = lines.pads.key
 abbrev pub levels : {B T : Type 0} → SealedLinesView B T → ℕ
 levels lines = lines.engine.levels
 
+-- how many lines the memory has
 abbrev pub lines_of : {B T : Type 0} → SealedLinesView B T → ℕ
 lines_of lines = line_count (levels lines)
 

@@ -281,8 +281,9 @@ impl<B: Bus, T: Tagger> LineStore for SealedLines<B, T> {
         ensures reserved { OnErr result (((used self.new ≡ used self.old) × (IsQuiet self.new → SameCounters self.old self.new))
             ⊎ HadMemory self.old self.new) }
 
-        // The counters are had once, and without an access where they are on the chip. A line is written without a read of any
-        // line and by one access; with an overflow there are two accesses a line at most, and one of the written line.
+        // Without evidence and without an overflow, a write makes at most the accesses that the page's counters take and one
+        // more, and reads no line; where those counters are on the chip, it makes one access at most. Any write makes at most
+        // 126 accesses more than these sums: 127 where the counters are on the chip.
         ensures once { IsQuiet self.new → (next_counter (counter_in (used self.old) line)).line ≢ 0 →
             ((B.history self.new.bus).accesses ≤ (B.history self.old.bus).accesses + write_accesses (levels self.old))
             × ((other : ℕ) → (B.history self.new.bus).reads (line_place other) ≡ (B.history self.old.bus).reads (line_place other)) }

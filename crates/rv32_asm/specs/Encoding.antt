@@ -51,6 +51,7 @@ immediate_of J address value = distance address value
 immediate_of Shift address value = value
 immediate_of Fieldless address value = pos 0
 
+-- the value of the immediate fits the format of its instruction at this address
 unfoldable pub fits_at : List Label → ℕ → Instruction → Bool
 fits_at labels address i = fits_format (row_of i.op).format address (immediate_value labels i.immediate)
 

@@ -7,6 +7,7 @@ pub record Site : Type 0 where
   pub address : ℕ
   pub line : ℕ
 
+-- a label: its name and where it stands
 pub record Label : Type 0 where
   pub name : List ℕ
   pub site : Site
@@ -15,5 +16,6 @@ pub record Label : Type 0 where
 abbrev pub site_of : List Label → List ℕ → Option Site
 site_of labels name = option_map (λ label. label.site) (find (λ label. bytes_eq label.name name) labels)
 
+-- there is a label of this name
 abbrev pub is_there : List Label → List ℕ → Bool
 is_there labels name = is_some (site_of labels name)

@@ -14,6 +14,7 @@ use Rattle.sec_base.specs.Segment.{from_zero}
 use Rattle.rv32_asm.specs.Passes.{Progress, after_line, line_bytes}
 use Rattle.rv32_asm.specs.Values.{lower_part, modulo, upper_part}
 
+-- the byte is a space, which ends a column of a listing
 abbrev pub is_blank_byte : ℕ → Bool
 is_blank_byte byte = byte == space
 

@@ -11,6 +11,7 @@ seen_site pair = record { address = pair.0; line = pair.1 }
 abbrev pub seen_label : Bor (List ℕ) × (ℕ × ℕ) → Label
 seen_label entry = record { name = entry.0.now; site = seen_site entry.1 }
 
+-- the labels that the entries of a map stand for
 abbrev pub seen_labels : List (Bor (List ℕ) × (ℕ × ℕ)) → List Label
 seen_labels entries = map seen_label entries
 

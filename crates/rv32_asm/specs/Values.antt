@@ -11,6 +11,7 @@ abbrev pub names_missing : List Label → Option (List ℕ) → Bool
 names_missing labels None = false
 names_missing labels (Some name) = not (is_there labels name)
 
+-- the expression names a label that isn't there
 abbrev pub is_missing : List Label → Expression → Bool
 is_missing labels value = names_missing labels value.label
 
@@ -19,6 +20,7 @@ abbrev pub address_of : List Label → Option (List ℕ) → ℕ
 address_of labels None = 0
 address_of labels (Some name) = unwrap_or (option_map (λ site. site.address) (site_of labels name)) 0
 
+-- the value of an expression: its label's address, or 0 without one, and its number
 unfoldable pub value_of : List Label → Expression → ℤ
 value_of labels value = pos (address_of labels value.label) +ℤ value.number
 
@@ -31,9 +33,11 @@ modulo count value = unsigned_abs (int_rem_euclid value (pos (2 ^ count)))
 abbrev pub upper_part : ℕ → ℕ
 upper_part word = field (word + 2048) 12 20
 
+-- the lower twelve bits of a word as a number with a sign, from -2048 to 2047
 abbrev pub lower_part : ℕ → ℤ
 lower_part word = signed_number 12 (word % 2 ^ 12)
 
+-- the expression of an immediate, whether the whole value or one of its two parts is meant
 abbrev pub expression_in : Immediate → Expression
 expression_in (Whole value) = value
 expression_in (Upper value) = value

@@ -9,9 +9,11 @@ pub record Expression : Type 0 where
   pub label : Option (List ℕ)
   pub number : ℤ
 
+-- A value that is a number, without a label.
 abbrev pub number_alone : ℤ → Expression
 number_alone number = record { label = None; number = number }
 
+-- A value that is a label's address plus a number.
 abbrev pub from_label : List ℕ → ℤ → Expression
 from_label name number = record { label = Some name; number = number }
 

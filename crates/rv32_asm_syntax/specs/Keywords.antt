@@ -52,6 +52,7 @@ abbrev pub immediate_without_operands : Op → ℤ
 immediate_without_operands Fence = pos 0x0ff
 immediate_without_operands _ = pos 0
 
+-- The keyword that a row of the instruction table is written with.
 abbrev pub row_keyword : Op → Keyword
 row_keyword op =
     InstructionKeyword (operands_in (style_of op)) (instruction op 0 0 0 (immediate_without_operands op))
@@ -81,6 +82,7 @@ pseudoinstructions =
 unfoldable pub long_pseudoinstructions : List (List ℕ × Keyword)
 long_pseudoinstructions = (codes "li", LoadImmediateKeyword) ∷ (codes "la", LoadAddressKeyword) ∷ []
 
+-- The directives of the language.
 unfoldable pub directives : List (List ℕ × Keyword)
 directives =
     (codes ".word", DataKeyword Four)
@@ -94,6 +96,7 @@ directives =
     ∷ (codes ".globl", GloblKeyword)
     ∷ []
 
+-- All words that a statement can begin with.
 unfoldable pub keywords : List (List ℕ × Keyword)
 keywords = row_entries ++ (pseudoinstructions ++ (long_pseudoinstructions ++ directives))
 

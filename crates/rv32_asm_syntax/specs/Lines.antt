@@ -24,6 +24,7 @@ quoting_after Inside byte =
     if byte == quotation_mark then Outside else if byte == backslash then Escaped else Inside
 quoting_after Escaped byte = Inside
 
+-- Whether a byte stands outside of quotation marks.
 abbrev pub is_outside : Quoting → Bool
 is_outside Outside = true
 is_outside Inside = false
@@ -36,6 +37,7 @@ before_comment quoting (byte ∷ bytes) =
     if is_outside quoting && (byte == hash) then []
     else byte ∷ before_comment (quoting_after quoting byte) bytes
 
+-- The line before its comment: the first `#` outside of a string ends it.
 unfoldable pub without_comment : List ℕ → List ℕ
 without_comment line = before_comment Outside line
 
@@ -58,6 +60,7 @@ behind_labels (part ∷ next ∷ parts) =
     if is_name (skip_blanks part) then behind_labels (next ∷ parts) else join_with_byte colon (part ∷ next ∷ parts)
 behind_labels parts = join_with_byte colon parts
 
+-- The parts of a line between its colons: labels first, then the statement.
 abbrev pub parts_of : List ℕ → List (List ℕ)
 parts_of line = slice_split (λ byte. byte == colon) (without_comment line)
 

@@ -11,6 +11,7 @@ natural_of base [] = None
 natural_of base (digit ∷ digits) =
     if list_all (λ byte. is_digit byte base) (digit ∷ digits) then Some (digits_value base (digit ∷ digits)) else None
 
+-- Whether a value lies between two bounds, both included.
 abbrev pub is_between : ℤ → ℤ → ℤ → Bool
 is_between low high value = int_le low value && int_le value high
 
@@ -25,5 +26,6 @@ spelled_number text =
     else if starts_with nat_eq text (minus ∷ []) then option_map (λ n. neg_ℤ (pos n)) (natural_of 10 (drop 1 text))
     else option_map pos (natural_of 10 text)
 
+-- The number that a text spells, if it is in the range of numbers.
 unfoldable pub number_of : List ℕ → Option ℤ
 number_of text = option_and_then in_range (spelled_number text)

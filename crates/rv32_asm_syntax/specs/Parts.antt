@@ -23,6 +23,7 @@ without_return [] = []
 without_return (byte ∷ []) = if byte == carriage_return then [] else byte ∷ []
 without_return (byte ∷ next ∷ bytes) = byte ∷ without_return (next ∷ bytes)
 
+-- Whether a byte ends a line.
 abbrev pub is_line_feed : ℕ → Bool
 is_line_feed byte = byte == line_feed
 

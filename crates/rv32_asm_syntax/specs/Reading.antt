@@ -15,6 +15,7 @@ use Rattle.rv32_asm_syntax.specs.Keywords.{Operand, Rd, Rs1, Rs2, Value, Memory,
 
 -- one step after another, where each may find another form than its own
 infixl 10 ◌>>=◌
+-- One reading after another: the first that fails ends both.
 abbrev pub ◌>>=◌ : {A B : Type 0} → Option A → (A → Option B) → Option B
 o >>= f = option_and_then f o
 
@@ -78,6 +79,7 @@ escapes =
     ∷ (quotation_mark, quotation_mark)
     ∷ []
 
+-- The byte that a letter after a backslash stands for.
 abbrev pub escape_of : ℕ → Option ℕ
 escape_of byte = option_map (λ escape. escape.1) (find (λ escape. escape.0 == byte) escapes)
 
@@ -113,6 +115,7 @@ number_load rd number =
     if is_between (neg_ℤ (pos 2048)) (pos 2047) number then instruction Addi rd 0 0 number ∷ []
     else pair rd (number_alone number)
 
+-- `li rd, number`: loads a number, by one or two instructions.
 abbrev pub li_of : List (List ℕ) → Option Statement
 li_of (register ∷ number ∷ []) = do
   rd ← register_of register
@@ -120,6 +123,7 @@ li_of (register ∷ number ∷ []) = do
   Some (Instructions (number_load rd n))
 li_of _ = None
 
+-- `la rd, value`: loads an address, always by two instructions.
 abbrev pub la_of : List (List ℕ) → Option Statement
 la_of (register ∷ value ∷ []) = do
   rd ← register_of register
@@ -132,6 +136,7 @@ abbrev pub data_of : Width → List (List ℕ) → Option Statement
 data_of width [] = None
 data_of width texts = option_map (Data width) (expressions_of texts)
 
+-- `.globl name`: accepted and without effect.
 abbrev pub globl_of : List ℕ → Option Statement
 globl_of text = if is_name text then Some Nothing else None
 

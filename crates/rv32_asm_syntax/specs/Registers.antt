@@ -4,6 +4,7 @@ use Rattle.std.specs.List.{list_any, range_with_len}
 use Rattle.std.specs.Str.{bytes_eq}
 use Rattle.rv32_text.specs.Registers.{register_name}
 
+-- All names of a register: the ABI's, `x` and its number, and `fp` for x8.
 abbrev pub names_of : ℕ → List (List ℕ)
 names_of number =
     register_name number

@@ -19,10 +19,12 @@ pub record Instruction : Type 0 where
   pub rs2 : ℕ
   pub immediate : Immediate
 
+-- An instruction whose immediate is a number without a label.
 abbrev pub instruction : Op → ℕ → ℕ → ℕ → ℤ → Instruction
 instruction op rd rs1 rs2 number =
     record { op = op; rd = rd; rs1 = rs1; rs2 = rs2; immediate = Whole (number_alone number) }
 
+-- What the statement of a line puts into the program.
 pub data Statement : Type 0 where
   -- one instruction after another
   Instructions : List Instruction → Statement

@@ -9,9 +9,11 @@ use Rattle.rv32_decode.specs.Words.{signed_number, word_of_signed}
 abbrev pub zero_extension : Width → ℕ → ℕ
 zero_extension width n = n
 
+-- The lowest bytes of a number, extended by their sign to 32 bits.
 abbrev pub sign_extension : Width → ℕ → ℕ
 sign_extension width n = word_of_signed (signed_number (8 * width_bytes width) n)
 
+-- SUB: the difference modulo 2^32.
 abbrev pub difference_of : ℕ → ℕ → ℕ
 difference_of a b = (a + (2 ^ 32 - b)) % 2 ^ 32
 
@@ -19,6 +21,7 @@ difference_of a b = (a + (2 ^ 32 - b)) % 2 ^ 32
 abbrev pub truth : Bool → ℕ
 truth test = if test then 1 else 0
 
+-- SLT: the comparison of two words as signed numbers.
 abbrev pub is_less_signed : ℕ → ℕ → Bool
 is_less_signed a b = int_lt (signed_number 32 a) (signed_number 32 b)
 
@@ -26,6 +29,7 @@ is_less_signed a b = int_lt (signed_number 32 a) (signed_number 32 b)
 abbrev pub shift_left : ℕ → ℕ → ℕ
 shift_left a amount = a * 2 ^ (amount % 32) % 2 ^ 32
 
+-- SRL: a logical shift to the right by the lowest five bits of the amount.
 abbrev pub shift_right : ℕ → ℕ → ℕ
 shift_right a amount = a / 2 ^ (amount % 32)
 
@@ -37,15 +41,19 @@ shift_right_signed a amount = word_of_signed (int_shr (signed_number 32 a) (amou
 abbrev pub high_word : ℤ → ℕ
 high_word product = word_of_signed (int_shr product 32)
 
+-- MUL: the low word of the product.
 abbrev pub product_of : ℕ → ℕ → ℕ
 product_of a b = a * b % 2 ^ 32
 
+-- MULH: the high word of the product of two signed words.
 abbrev pub high_product : ℕ → ℕ → ℕ
 high_product a b = high_word (signed_number 32 a *ℤ signed_number 32 b)
 
+-- MULHSU: the high word of the product of a signed and an unsigned word.
 abbrev pub high_product_mixed : ℕ → ℕ → ℕ
 high_product_mixed a b = high_word (signed_number 32 a *ℤ pos b)
 
+-- MULHU: the high word of the product of two unsigned words.
 abbrev pub high_product_unsigned : ℕ → ℕ → ℕ
 high_product_unsigned a b = a * b / 2 ^ 32
 
@@ -54,11 +62,14 @@ high_product_unsigned a b = a * b / 2 ^ 32
 abbrev pub quotient : ℕ → ℕ → ℕ
 quotient a b = if b == 0 then 2 ^ 32 - 1 else word_of_signed (int_div (signed_number 32 a) (signed_number 32 b))
 
+-- DIVU: the quotient; of a division by zero all bits are set.
 abbrev pub quotient_unsigned : ℕ → ℕ → ℕ
 quotient_unsigned a b = if b == 0 then 2 ^ 32 - 1 else a / b
 
+-- REM: the remainder has the dividend's sign; of a division by zero it is the dividend.
 abbrev pub remainder : ℕ → ℕ → ℕ
 remainder a b = if b == 0 then a else word_of_signed (int_rem (signed_number 32 a) (signed_number 32 b))
 
+-- REMU: the remainder; of a division by zero it is the dividend.
 abbrev pub remainder_unsigned : ℕ → ℕ → ℕ
 remainder_unsigned a b = if b == 0 then a else a % b

@@ -37,10 +37,12 @@ target_fault target = if target % 4 == 0 then None else Some MisalignedTarget
 abbrev pub jump_core : CoreView → ℕ → ℕ → CoreView
 jump_core core target link = record { pc = target; registers = with_register core.registers link (sum_of core.pc 4) }
 
+-- A jump to a target: rd has the address after it, or the target is misaligned.
 abbrev pub jump_effect : ℕ → Inst → State → Result After Cause
 jump_effect target inst state =
     trap_or (target_fault target) (only_state (with_core state (jump_core state.core target inst.rd)))
 
+-- A branch: to its target if it is taken, and else to the next instruction.
 abbrev pub branch_effect : Bool → Inst → State → Result After Cause
 branch_effect taken inst state =
     let target = relative_address inst state.core in
@@ -58,12 +60,14 @@ data_fault address width size =
     if not (address % width_bytes width == 0) then Some MisalignedData
     else (if nat_lt size (address + width_bytes width) then Some OutsideMemory else None)
 
+-- A load: rd has the number at the address, extended, or it traps.
 abbrev pub load_effect : (Width → ℕ → ℕ) → Width → Inst → State → Result After Cause
 load_effect extension width inst state =
     let address = data_address inst state.core in
     trap_or (data_fault address width (length state.memory))
     (only_state (next_state_with state inst.rd (extension width (number_at state.memory address width))))
 
+-- A store: the lowest bytes of rs2 at the address, or it traps.
 abbrev pub store_effect : Width → Inst → State → Result After Cause
 store_effect width inst state =
     let address = data_address inst state.core in
@@ -78,10 +82,12 @@ store_effect width inst state =
 abbrev pub value_effect : ℕ → Inst → State → Result After Cause
 value_effect value inst state = Ok (only_state (next_state_with state inst.rd value))
 
+-- rd has the operation of rs1 and the immediate.
 abbrev pub immediate_effect : (ℕ → ℕ → ℕ) → Inst → State → Result After Cause
 immediate_effect operation inst state =
     value_effect (operation (register state.core inst.rs1) (word_of_signed inst.imm)) inst state
 
+-- rd has the operation of rs1 and rs2.
 abbrev pub register_effect : (ℕ → ℕ → ℕ) → Inst → State → Result After Cause
 register_effect operation inst state =
     value_effect (operation (register state.core inst.rs1) (register state.core inst.rs2)) inst state
@@ -138,6 +144,7 @@ effect FenceI inst state = Ok (only_state (next_state state))
 effect Ecall inst state = Ok (service state)
 effect Ebreak inst state = Err Breakpoint
 
+-- The effect of a decoded word; a word that is no instruction traps as illegal.
 abbrev pub decoded_effect : Option Inst → State → Result After Cause
 decoded_effect None state = Err Illegal
 decoded_effect (Some inst) state = effect inst.op inst state

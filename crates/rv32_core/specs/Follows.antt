@@ -41,6 +41,7 @@ ending_by None (Err cause) machine budget =
     if nat_lt machine.retired budget then Trapped cause machine.state.core.pc else OutOfSteps
 ending_by None (Ok after) machine budget = OutOfSteps
 
+-- How a run that came as far as this machine ends under the budget.
 abbrev pub ending_at : Machine → ℕ → Ending
 ending_at machine budget = ending_by machine.exit (next machine.state) machine budget
 

@@ -30,6 +30,7 @@ abbrev pub one_more_of : Option ℕ → Machine → Machine
 one_more_of (Some code) machine = machine
 one_more_of None machine = after_result (next machine.state) machine
 
+-- The plain machine after one more instruction; after its end it stands still.
 unfoldable pub one_more : Machine → Machine
 one_more machine = one_more_of machine.exit machine
 
@@ -38,6 +39,7 @@ unfoldable pub plain : Machine → ℕ → Machine
 plain machine zero = machine
 plain machine (suc n) = one_more (plain machine n)
 
+-- The services before the first instruction: the input unread, the break behind the segments.
 abbrev pub opening_calls : List Segment → List ℕ → ServicesView
 opening_calls segments input = record {
   input = input;
@@ -59,5 +61,6 @@ opening_of entry size segments input = record {
   exit = None;
 }
 
+-- The machine before the first instruction: the program stored, all registers zero, pc at the entry.
 abbrev pub opening : Image → List ℕ → Machine
 opening image input = opening_of image.entry image.size image.segments input

@@ -12,6 +12,7 @@ use Rattle.rv32_core.specs.State.{State, ServicesView, with_bytes}
 use Rattle.rv32_core.specs.After.{After}
 use Rattle.rv32_core.specs.Services.{a1, next_input}
 
+-- The exit code of a step that halted.
 abbrev pub exit_of : Step → Option ℕ
 exit_of Retired = None
 exit_of (Halted code) = Some code

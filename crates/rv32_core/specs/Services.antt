@@ -3,18 +3,23 @@ use Rattle.std.specs.Prelude.{ℕ, ◌+◌, ◌-◌, ◌^◌, ◌==◌, nat_le, 
 use Rattle.rv32_core.specs.State.{State, ServicesView, register, next_core_with, next_state, next_state_with, memory_bytes, with_bytes}
 use Rattle.rv32_core.specs.After.{After, only_state}
 
+-- Register a0, x10: the first argument of a service, and its result.
 abbrev pub a0 : State → ℕ
 a0 state = register state.core 10
 
+-- Register a1, x11: the second argument of a service.
 abbrev pub a1 : State → ℕ
 a1 state = register state.core 11
 
+-- Register a2, x12: the third argument of a service.
 abbrev pub a2 : State → ℕ
 a2 state = register state.core 12
 
+-- Register a7, x17: the number of the service.
 abbrev pub a7 : State → ℕ
 a7 state = register state.core 17
 
+-- The next state after a service that gives this result in a0.
 abbrev pub with_answer : State → ℕ → State
 with_answer state value = next_state_with state 10 value
 
@@ -30,6 +35,7 @@ is_inside address count size = (count == 0) || nat_le (address + count) size
 abbrev pub is_output : ℕ → Bool
 is_output descriptor = (descriptor == 1) || (descriptor == 2)
 
+-- Whether a descriptor is standard input, 0.
 abbrev pub is_input : ℕ → Bool
 is_input descriptor = descriptor == 0
 
@@ -37,6 +43,7 @@ is_input descriptor = descriptor == 0
 abbrev pub next_input : ServicesView → ℕ → List ℕ
 next_input calls count = take count (drop calls.position calls.input)
 
+-- The services with this many bytes of the input read.
 abbrev pub with_position : ServicesView → ℕ → ServicesView
 with_position calls position = record {
   input = calls.input;
@@ -45,6 +52,7 @@ with_position calls position = record {
   brk = calls.brk;
 }
 
+-- The services with the program break at this address.
 abbrev pub with_break : ServicesView → ℕ → ServicesView
 with_break calls brk = record {
   input = calls.input;
@@ -61,6 +69,7 @@ after_input state bytes = only_state (record {
   memory = with_bytes state.memory (a1 state) bytes;
 })
 
+-- Service 63, read: the next bytes of the input into memory, or an error of Linux in a0.
 abbrev pub read_service : State → After
 read_service state =
     if not (is_input (a0 state)) then only_state (with_answer state (negative_word 9))
@@ -86,9 +95,11 @@ exit_service state = record { state = next_state state; prints = []; exit = Some
 abbrev pub is_break : ServicesView → ℕ → ℕ → Bool
 is_break calls size address = nat_le calls.first_break address && nat_le (address + 4096) size
 
+-- The break after service 214 asked for one: the address in a0 where it fits, and else the old one.
 abbrev pub new_break : State → ℕ
 new_break state = if is_break state.calls (length state.memory) (a0 state) then a0 state else state.calls.brk
 
+-- Service 214, brk: sets the program break, and gives it in a0.
 abbrev pub brk_service : State → After
 brk_service state = only_state (record {
   core = next_core_with state.core 10 (new_break state);
@@ -96,6 +107,7 @@ brk_service state = only_state (record {
   memory = state.memory;
 })
 
+-- The service that a7 asks for; any other number is answered by ENOSYS, -38.
 unfoldable pub service : State → After
 service state =
     if a7 state == 63 then read_service state

@@ -19,11 +19,13 @@ pub record CallsView : Type 0 where
   pub services : ServicesView
   pub digest : Sha256
 
+-- What the plain machine is between two instructions.
 pub record State : Type 0 where
   pub core : CoreView
   pub calls : ServicesView
   pub memory : List ℕ
 
+-- A state of these three parts.
 abbrev pub state_of : CoreView → ServicesView → List ℕ → State
 state_of core calls memory = record { core = core; calls = calls; memory = memory }
 
@@ -39,6 +41,7 @@ register core number = if number == 0 then 0 else slice_index core.registers num
 abbrev pub with_register : List ℕ → ℕ → ℕ → List ℕ
 with_register registers number value = if number == 0 then registers else slice_set registers number value
 
+-- The core with its program counter at this address.
 abbrev pub with_pc : CoreView → ℕ → CoreView
 with_pc core target = record { pc = target; registers = core.registers }
 
@@ -50,6 +53,7 @@ next_core core = record { pc = sum_of core.pc 4; registers = core.registers }
 abbrev pub next_core_with : CoreView → ℕ → ℕ → CoreView
 next_core_with core number value = record { pc = sum_of core.pc 4; registers = with_register core.registers number value }
 
+-- The state with another core.
 abbrev pub with_core : State → CoreView → State
 with_core state core = record { core = core; calls = state.calls; memory = state.memory }
 
@@ -57,6 +61,7 @@ with_core state core = record { core = core; calls = state.calls; memory = state
 abbrev pub next_state : State → State
 next_state state = with_core state (next_core state.core)
 
+-- The next instruction's state, with a value in one register.
 abbrev pub next_state_with : State → ℕ → ℕ → State
 next_state_with state number value = with_core state (next_core_with state.core number value)
 

@@ -24,11 +24,13 @@ write_lines state =
     if is_output (a0 state) && is_inside (a1 state) (a2 state) (length state.memory)
     then byte_lines (a1 state) (a2 state) else []
 
+-- The lines that service 63 stores into.
 abbrev pub read_lines : State → List ℕ
 read_lines state =
     if is_input (a0 state) && is_inside (a1 state) (a2 state) (length state.memory)
     then byte_lines (a1 state) (length (next_input state.calls (a2 state))) else []
 
+-- The lines that an ECALL touches beside its own instruction's.
 abbrev pub service_lines : State → List ℕ
 service_lines state =
     if a7 state == 63 then read_lines state
@@ -39,9 +41,11 @@ abbrev pub line_unless : Option Cause → ℕ → List ℕ
 line_unless None address = line_of address ∷ []
 line_unless (Some cause) address = []
 
+-- The line of a load's or a store's address, unless it traps.
 abbrev pub access_line : Width → Inst → CoreView → ℕ → List ℕ
 access_line width inst core size = line_unless (data_fault (data_address inst core) width size) (data_address inst core)
 
+-- The lines that an instruction touches beside its own.
 abbrev pub data_lines : Op → Inst → State → List ℕ
 data_lines Lb inst state = access_line One inst state.core (length state.memory)
 data_lines Lh inst state = access_line Two inst state.core (length state.memory)
@@ -54,6 +58,7 @@ data_lines Sw inst state = access_line Four inst state.core (length state.memory
 data_lines Ecall inst state = service_lines state
 data_lines _ inst state = []
 
+-- The same of a decoded word: none if it is no instruction.
 abbrev pub decoded_lines : Option Inst → State → List ℕ
 decoded_lines None state = []
 decoded_lines (Some inst) state = data_lines inst.op inst state

@@ -22,6 +22,7 @@ is_old memory line = list_any (λ byte. not (byte == 0)) (line_at memory line)
 abbrev pub old_groups : (ℕ → ℕ) → Window → ℕ
 old_groups group window = distinct_count nat_eq (map group (filter (is_old window.memory) window.touched))
 
+-- How many groups (lines or pages) a window touched whose lines were zeros as it began.
 abbrev pub blank_groups : (ℕ → ℕ) → Window → ℕ
 blank_groups group window =
     distinct_count nat_eq (map group (filter (λ line. not (is_old window.memory line)) window.touched))
@@ -54,5 +55,6 @@ turnover_by group bound start n = (window_at group bound start n).turnover
 abbrev pub turnover : Machine → ℕ → ℕ
 turnover start n = turnover_by (λ line. line) 129 start n
 
+-- The same by pages of 64 lines: how many windows touched old lines in 161 pages.
 abbrev pub page_turnover : Machine → ℕ → ℕ
 page_turnover start n = turnover_by page_of 161 start n

@@ -10,9 +10,11 @@ use Rattle.std.specs.Prelude.{ℕ, ℤ, pos, ◌+◌, ◌*◌, ◌^◌}
 abbrev pub rd_of : ℕ → ℕ
 rd_of word = field word 7 5
 
+-- rs1, bits 15 to 19 (RV32I 2.1, section 2.2).
 abbrev pub rs1_of : ℕ → ℕ
 rs1_of word = field word 15 5
 
+-- rs2, bits 20 to 24 (RV32I 2.1, section 2.2).
 abbrev pub rs2_of : ℕ → ℕ
 rs2_of word = field word 20 5
 
@@ -20,16 +22,20 @@ rs2_of word = field word 20 5
 abbrev pub imm_u : ℕ → ℤ
 imm_u word = signed_number 32 (field word 12 20 * 2 ^ 12)
 
+-- The immediate of the I format (RV32I 2.1, section 2.3).
 abbrev pub imm_i : ℕ → ℤ
 imm_i word = signed_number 12 (field word 20 12)
 
+-- The immediate of the S format (RV32I 2.1, section 2.3).
 abbrev pub imm_s : ℕ → ℤ
 imm_s word = signed_number 12 (field word 25 7 * 2 ^ 5 + field word 7 5)
 
+-- The immediate of the B format, a multiple of 2 (RV32I 2.1, section 2.3).
 abbrev pub imm_b : ℕ → ℤ
 imm_b word =
     signed_number 13 (field word 31 1 * 2 ^ 12 + field word 7 1 * 2 ^ 11 + field word 25 6 * 2 ^ 5 + field word 8 4 * 2)
 
+-- The immediate of the J format, a multiple of 2 (RV32I 2.1, section 2.3).
 abbrev pub imm_j : ℕ → ℤ
 imm_j word =
     signed_number 21 (field word 31 1 * 2 ^ 20 + field word 12 8 * 2 ^ 12 + field word 20 1 * 2 ^ 11 + field word 21 10 * 2)

@@ -22,9 +22,11 @@ are_fixed opcode funct3 funct7 word Shift pattern =
     (opcode == pattern % 2 ^ 7) && ((funct3 == field pattern 12 3) && (funct7 == field pattern 25 7))
 are_fixed opcode funct3 funct7 word Fieldless pattern = (opcode == pattern % 2 ^ 7) && (word == pattern)
 
+-- The row of the table that a word matches.
 unfoldable pub row_at : ℕ → ℕ → ℕ → ℕ → Option Row
 row_at opcode funct3 funct7 word = find (λ r. are_fixed opcode funct3 funct7 word r.format r.pattern) rows
 
+-- The instruction whose row a word matches.
 unfoldable pub op_at : ℕ → ℕ → ℕ → ℕ → Option Op
 op_at opcode funct3 funct7 word = option_map (λ r. r.op) (row_at opcode funct3 funct7 word)
 

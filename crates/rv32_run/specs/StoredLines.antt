@@ -15,9 +15,11 @@ unfoldable pub front_lines : Segment → ℕ → List ℕ
 front_lines segment count =
     map line_of (filter (begins_store segment) (map (λ k. segment.addr + k) (range_with_len 0 count)))
 
+-- The lines that storing a whole segment touches.
 abbrev pub segment_lines : Segment → List ℕ
 segment_lines segment = front_lines segment segment.length
 
+-- The lines that storing a whole program touches.
 unfoldable pub image_lines : List Segment → List ℕ
 image_lines segments = flat_map segment_lines segments
 

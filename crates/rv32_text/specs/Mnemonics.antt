@@ -3,6 +3,7 @@ use Rattle.rv32_decode.specs.declared.Op.{Op}
 use Rattle.rv32_decode.specs.declared.Op.TheVariants.{Lui, Auipc, Jal, Jalr, Beq, Bne, Blt, Bge, Bltu, Bgeu, Lb, Lh, Lw, Lbu, Lhu, Sb, Sh, Sw, Addi, Slti, Sltiu, Xori, Ori, Andi, Slli, Srli, Srai, Add, Sub, Sll, Slt, Sltu, Xor, Srl, Sra, Or, And, Mul, Mulh, Mulhsu, Mulhu, Div, Divu, Rem, Remu, Fence, FenceI, Ecall, Ebreak}
 use Rattle.std.specs.Prelude.{ℕ, List, codes}
 
+-- The mnemonic of an instruction, as the manual writes it, in lower case.
 unfoldable pub mnemonic_of : Op → List ℕ
 mnemonic_of Lui = codes "lui"
 mnemonic_of Auipc = codes "auipc"

@@ -38,5 +38,6 @@ register_names =
     ∷ codes "t6"
     ∷ []
 
+-- A register's name in the ABI.
 unfoldable pub register_name : ℕ → List ℕ
 register_name number = slice_index_or register_names number []

@@ -62,6 +62,7 @@ text_of i pc =
     if is_unnamed_fence (style_of i.op) (word_of i) then data_text (word_of i)
     else instruction_text (mnemonic_of i.op) (operand_texts (style_of i.op) i pc)
 
+-- The text of a word: its instruction's, or `.word` where it is none.
 abbrev pub text_or_data : Option Inst → ℕ → ℕ → List ℕ
 text_or_data (Some i) word pc = text_of i pc
 text_or_data None word pc = data_text word

@@ -8,6 +8,7 @@ use Rattle.sec_base.specs.declared.ending.Cause.TheVariants.{Illegal, Misaligned
 use Rattle.sec_base.specs.declared.ending.Ending.{Ending}
 use Rattle.sec_base.specs.declared.ending.Ending.TheVariants.{Halted, Trapped, OutOfSteps, Tampered, Spent, WriteFault, NoMemory}
 
+-- The words that a cause of a trap is printed as.
 abbrev pub cause_text : Cause → List ℕ
 cause_text Illegal = codes "illegal"
 cause_text MisalignedTarget = codes "misaligned target"
@@ -15,6 +16,7 @@ cause_text MisalignedData = codes "misaligned data"
 cause_text OutsideMemory = codes "outside memory"
 cause_text Breakpoint = codes "breakpoint"
 
+-- The words that an ending is printed as, without the line feed.
 abbrev pub ending_text : Ending → List ℕ
 ending_text (Halted code) = codes "halted " ++ decimal code
 ending_text (Trapped cause pc) = codes "trapped " ++ cause_text cause ++ codes " pc " ++ hex_digits 8 pc

@@ -7,9 +7,11 @@ use Rattle.sec_base.specs.declared.geometry.TheConstants.{ARITY, LINE_LEN, LINES
 abbrev pub page_count : ℕ → ℕ
 page_count levels = ARITY ^ levels
 
+-- The number of lines of a memory.
 abbrev pub line_count : ℕ → ℕ
 line_count levels = LINES_PER_PAGE * page_count levels
 
+-- The bytes of a memory: 4 KiB for each page.
 abbrev pub memory_size : ℕ → ℕ
 memory_size levels = PAGE_LEN * page_count levels
 
@@ -17,6 +19,7 @@ memory_size levels = PAGE_LEN * page_count levels
 abbrev pub line_of : ℕ → ℕ
 line_of address = address / LINE_LEN
 
+-- The page of a line.
 abbrev pub page_of : ℕ → ℕ
 page_of line = line / LINES_PER_PAGE
 
@@ -36,6 +39,7 @@ arity levels = ARITY
 abbrev pub parent : ℕ → ℕ → ℕ → ℕ × ℕ
 parent levels level index = (level + 1, index / arity levels)
 
+-- The slot of a node's tag in its parent.
 abbrev pub slot : ℕ → ℕ → ℕ
 slot levels index = index % arity levels
 
@@ -59,5 +63,6 @@ all_levels = 1 ∷ 2 ∷ 3 ∷ 4 ∷ 5 ∷ 6 ∷ []
 abbrev pub is_memory_size : ℕ → Bool
 is_memory_size size = list_any (λ levels. memory_size levels == size) all_levels
 
+-- A size that a memory can have: 4 KiB times a power of four, of 1 to 6 levels.
 abbrev pub IsMemorySize : ℕ → Type 0
 IsMemorySize size = IsTrue (is_memory_size size)

@@ -8,6 +8,7 @@ use Rattle.sec_base.specs.declared.segment.Segment.{Segment}
 abbrev pub is_entry : ℕ → ℕ → Bool
 is_entry size address = (address % 4 == 0) && nat_le (address + 4) size
 
+-- An address that a run can begin at: a multiple of 4, with a whole word of memory behind it.
 pub record IsEntry (size address : ℕ) : Type 0 where
   pub aligned : address % 4 ≡ 0
   pub inside : address + 4 ≤ size

@@ -8,6 +8,7 @@ use Rattle.sec_base.specs.declared.geometry.TheConstants.{LINE_LEN}
 abbrev pub is_line_count : ℕ → Bool
 is_line_count lines = list_any (λ levels. line_count levels == lines) all_levels
 
+-- A number of lines that a memory can have.
 abbrev pub IsLineCount : ℕ → Type 0
 IsLineCount lines = IsTrue (is_line_count lines)
 

@@ -3,6 +3,7 @@ use Rattle.std.specs.Prelude.{◌≡◌, ℕ, List}
 use Rattle.sec_base.specs.declared.segment.Segment.{Segment}
 use Rattle.sec_base.specs.declared.image.Image.{Image}
 
+-- What a file or a text says: where the run begins, and what is stored.
 pub record Program : Type 0 where
   pub entry : ℕ
   pub segments : List Segment

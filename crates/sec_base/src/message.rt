@@ -63,6 +63,7 @@ impl Messages {
         self.items.len() as u64
     }
 
+    /// Whether there are no messages.
     pub fn is_empty(&self) -> bool
         ensures { IsTrue result ↔ (self.now ≡ []) }
     {
@@ -77,6 +78,7 @@ impl Messages {
         self.items.get(at as usize).copied()
     }
 
+    /// All messages, in order.
     pub fn as_slice(&self) -> &[Message]
         ensures { result.now ≡ self.now }
     {

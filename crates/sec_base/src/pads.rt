@@ -43,6 +43,7 @@ impl Pads {
         self.items.len() as u64
     }
 
+    /// Whether there are no pads.
     pub fn is_empty(&self) -> bool
         ensures { IsTrue result ↔ (self.now ≡ []) }
     {
@@ -57,6 +58,7 @@ impl Pads {
         self.items.get(at as usize).copied()
     }
 
+    /// All pads, in order.
     pub fn as_slice(&self) -> &[(u32, Counter)]
         ensures { result.now ≡ self.now }
     {

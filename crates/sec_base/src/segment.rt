@@ -69,6 +69,7 @@ impl Segments {
         self.items.len() as u64
     }
 
+    /// Whether there are no segments.
     pub fn is_empty(&self) -> bool
         ensures { IsTrue result ↔ (self.now ≡ []) }
     {
@@ -82,6 +83,7 @@ impl Segments {
         self.items.get(at as usize)
     }
 
+    /// All segments, in order.
     pub fn as_slice(&self) -> &[Segment]
         ensures { result.now ≡ self.now }
     {

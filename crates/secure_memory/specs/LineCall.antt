@@ -49,6 +49,7 @@ abbrev pub short_accesses : ℕ → Option Way → ℕ
 short_accesses levels None = 0
 short_accesses levels (Some way) = write_accesses levels
 
+-- how many accesses the write back of a dirty victim makes at most, an overflow counted in
 abbrev pub leaving_accesses : ℕ → Option Way → ℕ
 leaving_accesses levels None = 0
 leaving_accesses levels (Some way) = overflow_accesses levels

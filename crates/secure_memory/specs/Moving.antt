@@ -34,9 +34,11 @@ mapped_there : (f : ℕ → ℕ) (items : List ℕ) (x : ℕ) → Contains items
 mapped_there f items x (k, below, at) =
     (k, omega (arith, below, length-map {A = ℕ} {B = ℕ}), get_or-map f items k x (f x) below ∙ ap f at)
 
+-- the page of a held line is among those of which something is on the chip
 pub on_chip_of_line : (held cached : List ℕ) (line : ℕ) → Contains held line → Contains (map page_of held ++ cached) (page_of line)
 on_chip_of_line held cached line within = Contains-append_left (map page_of held) cached (page_of line) (mapped_there page_of held line within)
 
+-- a page with a cached counter block is among those of which something is on the chip
 pub on_chip_of_page : (held cached : List ℕ) (page : ℕ) → Contains cached page → Contains (map page_of held ++ cached) page
 on_chip_of_page held cached page within = Contains-append_right (map page_of held) cached page within
 
@@ -65,6 +67,7 @@ module _ {B T : Type 0} (history : B → BusHistory) (bus_moved : B → B → Ty
     read_sooner page moves (inl untagged) = inl untagged
     read_sooner page moves (inr rose) = inr (omega (arith, rose, moves.step.reads (Node 0 page)))
 
+    -- A page whose counter block the chip held or read is so too after more accesses.
     pub page_sooner : (page : ℕ) → Moves history bus_moved tags second.lines third.lines →
         PageHad history first second page → PageHad history first third page
     page_sooner page moves (inl on_chip) = inl on_chip
@@ -111,6 +114,7 @@ module _ {B T : Type 0} (history : B → BusHistory) (bus_moved : B → B → Ty
     ]
     block_on page moves more came (inr read) = inr (read_later page moves read)
 
+    -- What holds of the copies over two runs of calls holds over both, one after the other.
     pub copies_on : Moves history bus_moved tags first.lines second.lines → Moves history bus_moved tags second.lines third.lines →
         CopiesHad history first second → CopiesHad history second third → CopiesHad history first third
     copies_on moves more came later = record {

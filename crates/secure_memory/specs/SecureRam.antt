@@ -34,12 +34,15 @@ pub record SecureRamView (B T : Type 0) : Type 0 where
 abbrev pub made : {B T : Type 0} → SecureRamView B T → List Message
 made memory = sealed_lines.made memory.lines
 
+-- the line and the counter of each encryption, in order
 abbrev pub used : {B T : Type 0} → SecureRamView B T → List (ℕ × Counter)
 used memory = sealed_lines.used memory.lines
 
+-- the message that passed its check though this memory never tagged it, where there is one
 abbrev pub evidence : {B T : Type 0} → SecureRamView B T → Option Evidence
 evidence memory = sealed_lines.evidence memory.lines
 
+-- the last stop that a read or write of a line outside answered, where one did
 abbrev pub stopped : {B T : Type 0} → SecureRamView B T → Option MemStop
 stopped memory = memory.lines.stopped
 
@@ -47,6 +50,7 @@ stopped memory = memory.lines.stopped
 abbrev pub levels : {B T : Type 0} → SecureRamView B T → ℕ
 levels memory = sealed_lines.levels memory.lines
 
+-- how many lines the memory has
 abbrev pub lines_of : {B T : Type 0} → SecureRamView B T → ℕ
 lines_of memory = sealed_lines.lines_of memory.lines
 
@@ -62,6 +66,7 @@ IsQuiet memory = evidence memory ≡ None
 abbrev pub held_lines : {B T : Type 0} → SecureRamView B T → List ℕ
 held_lines memory = places memory.ways
 
+-- the pages whose counter blocks have a copy on the chip
 abbrev pub cached_pages : {B T : Type 0} → SecureRamView B T → List ℕ
 cached_pages memory = page_counters.cached_pages memory.lines.counters
 
@@ -69,6 +74,7 @@ cached_pages memory = page_counters.cached_pages memory.lines.counters
 abbrev pub cached_nodes : {B T : Type 0} → SecureRamView B T → ℕ → List ℕ
 cached_nodes memory level = tree.cached_nodes memory.lines.counters.tree level
 
+-- the copy of a node on the chip, where it has one
 abbrev pub cached_node : {B T : Type 0} → SecureRamView B T → ℕ → ℕ → Option CachedNode
 cached_node memory level index = tree.cached_node memory.lines.counters.tree level index
 

@@ -3,6 +3,7 @@ use Rattle.std.specs.Prelude.{ℕ, List, [], ◌∷◌, ◌++◌, codes}
 use Rattle.std.specs.List.{flat_map}
 use Rattle.rv32_asm_syntax.specs.Characters.{line_feed}
 
+-- The assembly text of the generated programs, line by line.
 unfoldable pub workload_lines : List (List ℕ)
 workload_lines =
     codes "_start: la   s0, cell"
