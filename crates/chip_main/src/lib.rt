@@ -26,8 +26,6 @@ mod stop;
 mod summary;
 mod taking;
 mod telling;
-#[cfg(test)]
-mod tests;
 mod writing;
 
 use chip_run::RunRecord;

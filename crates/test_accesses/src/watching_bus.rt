@@ -13,15 +13,15 @@ use std::cell::Cell;
 const BOOT: u64 = 341;
 
 #[derive(Drop)]
-pub(super) struct WatchingBus<'a> {
+pub(crate) struct WatchingBus<'a> {
     bus: HonestBus,
     accesses: &'a Cell<u64>,
     written: [bool; 64],
-    pub(super) read_again: u64,
+    pub(crate) read_again: u64,
 }
 
 impl<'a> WatchingBus<'a> {
-    pub(super) fn new(
+    pub(crate) fn new(
         alloc: Global,
         geometry: Geometry,
         accesses: &'a Cell<u64>,

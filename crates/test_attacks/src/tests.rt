@@ -1,22 +1,13 @@
 // Runs over a memory that an adversary changes by a script. Each expected text and status is that of an independent model
 // in Python (hashlib, hmac, cryptography).
-use super::assembly::{STORE_AND_PRINT, STORE_TWICE};
-use super::{EXIT_7, RunBus, call_program, check, file, make_call, program};
-use sec_base::{MemoryFiles, NoMemory};
+use chip_cases::{
+    Attack, EXIT_7, STORE_AND_PRINT, STORE_TWICE, attack_files, call_attack, call_program, file,
+    make_call, program, shows,
+};
+use chip_main::RunBus;
 use std::alloc::Global;
 use std::process::Abort;
 use std::test::Fail;
-
-// An assembly text, how memory is tagged, a script, and what is printed, what is told and the status.
-#[derive(Clone, Copy)]
-pub(super) struct Attack<'a> {
-    pub(super) text: &'a [u8],
-    pub(super) tags: &'a str,
-    pub(super) script: &'a [u8],
-    pub(super) printed: &'a [u8],
-    pub(super) told: &'a [u8],
-    pub(super) status: u8,
-}
 
 const FLIP: &[u8] = b"read data 5 1: flip data 5 0 01\n";
 
@@ -128,20 +119,10 @@ tag cdd9bd2ef93fe00084eb9f1953edd103
     },
 ];
 
-// The files `p`, which is the program of an assembly text, and `s`, a script.
-fn attack_files(alloc: Global, text: &[u8], script: &[u8]) -> Result<MemoryFiles, NoMemory> {
-    let mut files = file(alloc, text, &[])?;
-    let program = make_call(alloc, &["chip", "asm", "f"], &mut files, &[], &[])?;
-    files.add("p", program.out.bytes())?;
-    files.add("s", script)?;
-    Ok(files)
-}
-
-pub(super) fn check_attack(rt: &impl Abort, alloc: Global, attack: Attack<'_>) -> Result<(), Fail> {
-    let mut files = attack_files(alloc, attack.text, attack.script)?;
-    let words = ["chip", "run", "p", "--script", "s", "--tags", attack.tags];
-    let call = make_call(alloc, &words, &mut files, &[], &[])?;
-    check(rt, &call, attack.printed, attack.told, attack.status);
+fn check_attack(rt: &impl Abort, alloc: Global, attack: Attack<'_>) -> Result<(), Fail> {
+    let call = call_attack(alloc, attack)?;
+    let expected = shows(attack.printed, attack.told, attack.status);
+    assert_eq!(rt; call.shown(), expected);
     assert!(rt; matches!(call.done.bus, Some(RunBus::Script(_))));
     Ok(())
 }
@@ -195,7 +176,7 @@ fn check_boot(
     let mut files = file(alloc, code.as_slice(), &[])?;
     files.add("s", script)?;
     let call = make_call(alloc, &SMALL_RUN_BY_SCRIPT, &mut files, &[], &[])?;
-    check(rt, &call, b"", told, status);
+    assert_eq!(rt; call.shown(), shows(b"", told, status));
     assert_eq!(rt; call.done.lies, u64::from(status == 5));
     Ok(())
 }
@@ -222,7 +203,7 @@ fn check_script(
     let mut files = file(alloc, code.as_slice(), &[])?;
     files.add("s", script)?;
     let call = make_call(alloc, &RUN_BY_SCRIPT, &mut files, &[], &[])?;
-    check(rt, &call, b"", told, status);
+    assert_eq!(rt; call.shown(), shows(b"", told, status));
     assert_eq!(rt; call.done.run.is_some(), status == 0);
     Ok(())
 }
@@ -333,7 +314,7 @@ fn check_order(rt: &impl Abort, alloc: Global, order: Order<'_>) -> Result<(), F
     files.add("s", order.script)?;
     files.add("i", b"")?;
     let call = make_call(alloc, &RUN_BY_ALL, &mut files, &[], &[])?;
-    check(rt, &call, b"", order.told, order.status);
+    assert_eq!(rt; call.shown(), shows(b"", order.told, order.status));
     Ok(())
 }
 
@@ -350,9 +331,9 @@ fn the_script_is_read_between_program_and_input(rt: HostRuntime) -> Result<(), F
 fn other_tags_are_usage(rt: HostRuntime) -> Result<(), Fail> {
     let words = ["chip", "run", "absent", "--tags", "md5"];
     let call = call_program(rt.alloc(), &words, &EXIT_7, &[], &[])?;
-    check(&rt, &call, b"", b"usage tags\n", 2);
+    assert_eq!(rt; call.shown(), shows(b"", b"usage tags\n", 2));
     let call = call_program(rt.alloc(), &words, &EXIT_7, &[], &[1])?;
-    check(&rt, &call, b"", b"", 2);
+    assert_eq!(rt; call.shown(), shows(b"", b"", 2));
     Ok(())
 }
 
@@ -364,6 +345,6 @@ fn a_fault_of_note_cuts_evidence(rt: HostRuntime) -> Result<(), Fail> {
     let words = ["chip", "run", "p", "--script", "s", "--tags", "xor"];
     let call = make_call(alloc, &words, &mut files, &[], &[6])?;
     let told = b"halted 64\nretired 20\nlies 1\nevidence forgery data 5\ncounter 0 1\n";
-    check(&rt, &call, b"A", told, 9);
+    assert_eq!(rt; call.shown(), shows(b"A", told, 9));
     Ok(())
 }

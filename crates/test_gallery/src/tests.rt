@@ -1,17 +1,19 @@
 // The gallery of attacks: each script of examples/attacks by its own text, on the program and with the tags that the page
 // there tries it with. What is told is that of an independent model in Python (hashlib, hmac, cryptography).
-use super::assembly::{STORE_AND_PRINT, STORE_TWICE};
-use super::attacks::{Attack, check_attack};
+use chip_cases::{Attack, STORE_AND_PRINT, STORE_TWICE, call_attack, shows};
+use chip_main::RunBus;
+use std::alloc::Global;
+use std::process::Abort;
 use std::test::Fail;
 
-// It exits with 7, and its code has gone out before its first fetch.
+// It exits with 7, and its code is evicted before its first fetch.
 const COLD_EXIT_7: &[u8] = b"_start: li   a0, 7
         li   a7, 93
         ecall
         .space 8192
 ";
 
-// It prints a byte three times, from a line that goes out before the first time and before the third.
+// It prints a byte three times, from a line that is evicted before the first time and before the third.
 const READ_AGAIN: &[u8] = b"_start: li   t0, 0x140
         lui  t1, 0x1
         add  t1, t1, t0
@@ -54,6 +56,23 @@ again:  sb   t3, 320(t0)
         ecall
 ";
 
+// It stores a balance of 100, pays 30 of it, and exits with the 70 that it reads back; both balances are written back.
+const BANK: &[u8] = b"_start: lui  t1, 0x1
+        lui  t2, 0x2
+        li   t3, 100
+        sb   t3, 320(zero)
+        lbu  t4, 320(t1)
+        lbu  t4, 320(t2)
+        lbu  a0, 320(zero)
+        addi a0, a0, -30
+        sb   a0, 320(zero)
+        lbu  t4, 320(t1)
+        lbu  t4, 320(t2)
+        lbu  a0, 320(zero)
+        li   a7, 93
+        ecall
+";
+
 const PATCH_CODE: &[u8] = b"# Changes an instruction of cold_exit7 as it is fetched.
 #
 # The first word is `li a0, 7`, bytes 13 05 70 00. In counter mode a bit that is
@@ -61,8 +80,8 @@ const PATCH_CODE: &[u8] = b"# Changes an instruction of cold_exit7 as it is fetc
 # Byte 18 stands behind the program; flipping it there is for the tags `xor`,
 # whose sum of pieces of 16 bytes then stays the same.
 #
-# Line 0 goes out while the program is stored. The first fetch reads it, and the
-# others find it on the chip.
+# Line 0 is evicted while the program is stored. The first fetch reads it, and the
+# others hit.
 read data 0 1: flip data 0 2 10
 read data 0 1: flip data 0 18 10
 ";
@@ -86,22 +105,22 @@ write data 6149 1: swap node 1 8 node 1 9
 
 const FORGET_PAGE: &[u8] =
     b"# Clears the counters of page 32 in store_far_apart, so that its line 2053 would
-# count as never written and be read as zeros. The block is read as the line comes
-# in for its first store; this is the read for its second.
+# count as never written and be read as zeros. The block is first read at the miss
+# of the first store into that line; this is the read at the miss of the second.
 read node 0 32 2: put node 0 32 00000000000000000000000000000000000000000000000000000000000000000000000000000000000000000000000000000000000000000000000000000000
 ";
 
 const TRUE_THEN_FALSE: &[u8] =
     b"# Answers truly when store_far_apart asks for the counters of page 32 to read line
-# 2053, and falsely when it asks again, as the line goes out (time of check, time
-# of use).
+# 2053, and falsely when it asks again, as the line is evicted (time of check,
+# time of use).
 read node 0 32 3: flip node 0 32 12 18
 ";
 
 const REPLAY_LINE: &[u8] =
     b"# Gives store_far_apart line 2053 as it was written first: the letter A, with the
 # tag that the chip made for it. It is put back after its second write, as line
-# 4101 goes out for its third store.
+# 4101 is written back before the third store.
 write data 6149 1: save 0 data 2053
 write data 4101 2: restore 0 data 2053
 ";
@@ -116,7 +135,7 @@ write data 4101 2: restore 1 node 0 32
 
 const REPLAY_BRANCH: &[u8] =
     b"# The same with the node above the block. They are put back once that node was
-# written twice since boot, as line 6149 goes out for its third store.
+# written twice since boot, as line 6149 is written back before the third store.
 write data 6149 1: save 0 data 2053
 write data 6149 1: save 1 node 0 32
 write data 6149 1: save 2 node 1 8
@@ -131,9 +150,16 @@ write data 6149 1: saveall 0
 write data 6149 2: restoreall 0
 ";
 
+const ROLL_BACK_THE_BALANCE: &[u8] =
+    b"# The textbook rollback: keeps all of the memory while it has bank's balance of
+# 100, and puts it back once the balance there is 70.
+read data 5 1: saveall 0
+read data 5 2: restoreall 0
+";
+
 const ATTACK_THAT_WAITS: &[u8] =
-    b"# Flips a bit of line 5 in read_again while the chip holds it, as it was read: as
-# line 6 goes out, between the first print and the second.
+    b"# Flips a bit of line 5 in read_again while the chip holds a clean copy of it: as
+# line 6 is written back, between the first print and the second.
 write data 6 1: flip data 5 0 01
 ";
 
@@ -145,20 +171,20 @@ access 1: set node 4 0 0 deadbeef
 ";
 
 const REPAIRED_BY_A_WRITE: &[u8] =
-    b"# Flips a bit of line 5 while store_twice holds it, changed by its second store: as
-# line 133 goes out.
+    b"# Flips a bit of line 5 while store_twice holds it dirty, after its second store:
+# as line 133 is written back.
 write data 133 1: flip data 5 0 01
 ";
 
 const NEVER_READ_AGAIN: &[u8] =
-    b"# Flips a bit of line 6 of store_and_print after its only write, as line 69 goes
-# out.
+    b"# Flips a bit of line 6 of store_and_print after its only write, as line 69 is
+# written back.
 write data 69 1: flip data 6 0 01
 ";
 
 const SWAP_OF_EQUALS: &[u8] =
     b"# Swaps the counter blocks of pages 32 and 64 in store_far_apart, when one line of
-# each has gone out once, that at place 5, and then the block.
+# each was written back once, at the same place in its page, and then the block.
 read node 0 32 3: swap node 0 32 node 0 64
 ";
 
@@ -171,13 +197,19 @@ read node 0 0 1: flip node 0 0 16 01
 ";
 
 const REPEAT_A_PAD: &[u8] =
-    b"# Sets the counter of line 2053 in store_far_apart from 1 back to 0, as the line
-# comes in for its second store. When it goes out, the chip would count up to 1
-# again and encrypt under a pad that was used. The counter is bits 35 to 41 behind
-# the page counter: bit 3 of byte 12 is its lowest. Byte 28 is for the tags `xor`,
-# as 16 bytes on; it makes the counter of line 2071 a 4, which is never asked for.
+    b"# Sets the counter of line 2053 in store_far_apart from 1 back to 0, as the line is
+# read for its second store. When it is evicted, the chip would count up to 1 again
+# and use a keystream twice. The counter is bits 35 to 41 behind the page counter:
+# bit 3 of byte 12 is its lowest. Byte 28 is for the tags `xor`, as 16 bytes on; it
+# makes the counter of line 2071 a 4, which is never used.
 read node 0 32 2: flip node 0 32 12 08
 read node 0 32 2: flip node 0 32 28 08
+";
+
+const EARLIER_RUN: &[u8] =
+    b"# Answers line 5 of store_and_print with what an earlier run of bank wrote there
+# under the same device key: ciphertext and tag of the balance 100.
+read data 5 1: put data 5 24d692a43d31e6987ed5a46dbf5bca39030d8b881a9df52273bffd777d2666fef434205fde381197f9093d6e5d7d963bf46e671de7eff1e8f46c06f551a33e3ded36f8f697f8326475f7c28ad3dc5363
 ";
 
 const CAUGHT: [Attack<'static>; 9] = [
@@ -255,7 +287,7 @@ const CAUGHT: [Attack<'static>; 9] = [
     },
 ];
 
-const REPLAYS: [Attack<'static>; 4] = [
+const REPLAYS: [Attack<'static>; 5] = [
     Attack {
         text: STORE_FAR_APART,
         tags: "hmac",
@@ -286,6 +318,14 @@ const REPLAYS: [Attack<'static>; 4] = [
         script: REPLAY_EVERYTHING,
         printed: b"",
         told: b"tampered node 0 64\nretired 18\nlies 1\n",
+        status: 5,
+    },
+    Attack {
+        text: BANK,
+        tags: "hmac",
+        script: ROLL_BACK_THE_BALANCE,
+        printed: b"",
+        told: b"tampered data 5\nretired 11\nlies 1\n",
         status: 5,
     },
 ];
@@ -325,7 +365,7 @@ const UNSEEN: [Attack<'static>; 4] = [
     },
 ];
 
-const WEAK_TAGS: [Attack<'static>; 3] = [
+const PASSES: [Attack<'static>; 4] = [
     Attack {
         text: COLD_EXIT_7,
         tags: "xor",
@@ -371,7 +411,30 @@ tag cdd9952ef93fe00084eb9f1953edd103
 ",
         status: 7,
     },
+    Attack {
+        text: STORE_AND_PRINT,
+        tags: "hmac",
+        script: EARLIER_RUN,
+        printed: b"A",
+        told: b"halted 100
+retired 20
+lies 1
+evidence forgery data 5
+counter 0 1
+cipher 24d692a43d31e6987ed5a46dbf5bca39030d8b881a9df52273bffd777d2666fef434205fde381197f9093d6e5d7d963bf46e671de7eff1e8f46c06f551a33e3d
+tag ed36f8f697f8326475f7c28ad3dc5363
+",
+        status: 7,
+    },
 ];
+
+fn check_attack(rt: &impl Abort, alloc: Global, attack: Attack<'_>) -> Result<(), Fail> {
+    let call = call_attack(alloc, attack)?;
+    let expected = shows(attack.printed, attack.told, attack.status);
+    assert_eq!(rt; call.shown(), expected);
+    assert!(rt; matches!(call.done.bus, Some(RunBus::Script(_))));
+    Ok(())
+}
 
 #[test]
 fn what_is_changed_or_spliced_is_caught(rt: HostRuntime) -> Result<(), Fail> {
@@ -398,8 +461,8 @@ fn what_the_chip_never_reads_does_nothing(rt: HostRuntime) -> Result<(), Fail> {
 }
 
 #[test]
-fn what_passes_under_weak_tags_is_handed_out(rt: HostRuntime) -> Result<(), Fail> {
-    for attack in WEAK_TAGS {
+fn what_passes_is_handed_out(rt: HostRuntime) -> Result<(), Fail> {
+    for attack in PASSES {
         check_attack(&rt, rt.alloc(), attack)?;
     }
     Ok(())

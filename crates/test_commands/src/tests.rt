@@ -1,66 +1,16 @@
 // Whole calls. Each expected text and status is worked out by hand from the words and the machine's rules.
 ghost use Rattle.std.specs.Prelude.{None};
 
-mod accesses;
-mod assembly;
-mod attacks;
-mod counted_ram;
-mod files;
-mod gallery;
-mod generated;
-mod reports;
-mod watching_bus;
-
-use super::{Done, RunBus, run_words};
 use bus_model::{Bus, HonestBus};
-use chip_run::RunRecord;
-use sec_base::{Ending, Geometry, MemoryFiles, MemorySink, NoMemory, Sealed, Sink, SinkStop};
+use chip_cases::{
+    DIS, EXIT_7, EXIT_65, PLAIN, PLAIN_ON_INPUT, PRINT_A, RUN, RUN_ON_INPUT, RUN_SMALL,
+    call_program, call_zeros, file, make_call, program, shows, without_report,
+};
+use chip_main::{RunBus, run_words};
+use sec_base::{Ending, Geometry, MemoryFiles, NoMemory, Sealed, Sink, SinkStop};
 use std::alloc::Global;
 use std::process::Abort;
 use std::test::Fail;
-
-const RUN: [&str; 4] = ["chip", "run", "f", "--flat"];
-
-const RUN_SMALL: [&str; 6] = ["chip", "run", "f", "--flat", "--levels", "1"];
-
-const PLAIN: [&str; 4] = ["chip", "plain", "f", "--flat"];
-
-const DIS: [&str; 4] = ["chip", "dis", "f", "--flat"];
-
-const RUN_ON_INPUT: [&str; 6] = ["chip", "run", "f", "--flat", "--input", "i"];
-
-const PLAIN_ON_INPUT: [&str; 6] = ["chip", "plain", "f", "--flat", "--input", "i"];
-
-// It exits with 7.
-const EXIT_7: [u32; 3] = [
-    0x0070_0513, // addi a0, zero, 7
-    0x05d0_0893, // addi a7, zero, 93
-    0x0000_0073, // ecall
-];
-
-// A byte is stored at 1000, loaded from there, and is the exit code.
-const EXIT_65: [u32; 6] = [
-    0x0000_12b7, // lui t0, 0x1
-    0x0410_0313, // addi t1, zero, 65
-    0x0062_a023, // sw t1, 0(t0)
-    0x0002_a503, // lw a0, 0(t0)
-    0x05d0_0893, // addi a7, zero, 93
-    0x0000_0073, // ecall
-];
-
-// It prints that byte, and exits with what the service answered.
-const PRINT_A: [u32; 10] = [
-    0x0000_12b7, // lui t0, 0x1
-    0x0410_0313, // addi t1, zero, 65
-    0x0062_a023, // sw t1, 0(t0)
-    0x0010_0513, // addi a0, zero, 1
-    0x0002_8593, // addi a1, t0, 0
-    0x0010_0613, // addi a2, zero, 1
-    0x0400_0893, // addi a7, zero, 64
-    0x0000_0073, // ecall
-    0x05d0_0893, // addi a7, zero, 93
-    0x0000_0073, // ecall
-];
 
 // It exits with its stack pointer.
 const EXIT_STACK: [u32; 3] = [
@@ -110,14 +60,6 @@ const READ_FROM_3: [u32; 7] = [
 // addi zero, zero, 0
 const NOTHING: u32 = 0x0000_0013;
 
-// What a call did and wrote.
-#[derive(Drop)]
-struct Call {
-    done: Done,
-    out: MemorySink,
-    note: MemorySink,
-}
-
 // A sink that takes one byte at a time.
 #[derive(Drop)]
 struct ByteByByte {
@@ -138,76 +80,6 @@ impl Sink for ByteByByte {
     }
 }
 
-// The words, the lowest byte of each first.
-fn program(alloc: Global, words: &[u32]) -> Result<Vec<u8>, NoMemory> {
-    let mut bytes = Vec::new(alloc);
-    for word in words {
-        bytes.extend_from_slice(&word.to_le_bytes())?;
-    }
-    Ok(bytes)
-}
-
-// The file `f` with these bytes, where the reads with these numbers fail.
-fn file(alloc: Global, bytes: &[u8], fails: &[u64]) -> Result<MemoryFiles, NoMemory> {
-    let mut files = MemoryFiles::new(alloc, fails)?;
-    files.add("f", bytes)?;
-    Ok(files)
-}
-
-// A call whose writes with these numbers fail.
-fn make_call(
-    alloc: Global,
-    words: &[&str],
-    files: &mut MemoryFiles,
-    out_fails: &[u64],
-    note_fails: &[u64],
-) -> Result<Call, NoMemory> {
-    let mut out = MemorySink::new(alloc, out_fails)?;
-    let mut note = MemorySink::new(alloc, note_fails)?;
-    let done = run_words(alloc, words, files, &mut out, &mut note);
-    Ok(Call { done, out, note })
-}
-
-// A call on a program of these words, whose writes with these numbers fail.
-fn call_program(
-    alloc: Global,
-    words: &[&str],
-    code: &[u32],
-    out_fails: &[u64],
-    note_fails: &[u64],
-) -> Result<Call, NoMemory> {
-    let bytes = program(alloc, code)?;
-    let mut files = file(alloc, bytes.as_slice(), &[])?;
-    make_call(alloc, words, &mut files, out_fails, note_fails)
-}
-
-fn ending(done: &Done) -> Option<Ending> {
-    match &done.run {
-        Some(RunRecord { ending, .. }) => Some(*ending),
-        None => None,
-    }
-}
-
-// A text without the line of a report at its end, which begins with `report ` and has 316 digits.
-fn without_report(text: &[u8]) -> &[u8] {
-    if text.len() < 324 {
-        return text;
-    }
-    let (before, line) = text.split_at(text.len() - 324);
-    if line.starts_with(b"report ") {
-        before
-    } else {
-        text
-    }
-}
-
-// What a call printed, told but for a report, and answered.
-fn check(rt: &impl Abort, call: &Call, printed: &[u8], told: &[u8], status: u8) {
-    assert_eq!(rt; call.out.bytes(), printed);
-    assert_eq!(rt; without_report(call.note.bytes()), told);
-    assert_eq!(rt; call.done.status, status);
-}
-
 // A program with an option, and what it prints, what it tells and its status.
 #[derive(Clone, Copy)]
 struct Case<'a> {
@@ -223,14 +95,17 @@ fn check_program(rt: &impl Abort, alloc: Global, case: Case<'_>) -> Result<(), F
     let [name, value] = case.option;
     let words = ["chip", "plain", "f", "--flat", name, value];
     let call = call_program(alloc, &words, case.code, &[], &[])?;
-    check(rt, &call, case.printed, case.told, case.status);
+    assert_eq!(rt; call.shown(), shows(case.printed, case.told, case.status));
     assert!(rt; call.done.bus.is_none());
 
     let mut text = case.told.to_vec(alloc)?;
     text.extend_from_slice(b"lies 0\n")?;
     let words = ["chip", "run", "f", "--flat", name, value];
     let call = call_program(alloc, &words, case.code, &[], &[])?;
-    check(rt, &call, case.printed, text.as_slice(), case.status);
+    assert_eq!(rt;
+        call.shown(),
+        shows(case.printed, text.as_slice(), case.status)
+    );
     assert!(rt; call.done.bus.is_some());
     Ok(())
 }
@@ -388,8 +263,11 @@ fn programs_trap(rt: HostRuntime) -> Result<(), Fail> {
 #[test]
 fn a_run_is_handed_back(rt: HostRuntime) -> Result<(), Fail> {
     let call = call_program(rt.alloc(), &RUN, &EXIT_7, &[], &[])?;
-    check(&rt, &call, b"", b"halted 7\nretired 3\nlies 0\n", 0);
-    assert_eq!(rt; ending(&call.done), Some(Ending::Halted(7)));
+    assert_eq!(rt;
+        call.shown(),
+        shows(b"", b"halted 7\nretired 3\nlies 0\n", 0)
+    );
+    assert_eq!(rt; call.ending(), Some(Ending::Halted(7)));
     assert_eq!(rt; call.done.lies, 0);
     Ok(())
 }
@@ -400,7 +278,10 @@ fn a_run_has_a_page_limit(rt: HostRuntime) -> Result<(), Fail> {
     for limit in ["1000", "18446744073709551615"] {
         let words = ["chip", "run", "f", "--flat", "--page-limit", limit];
         let call = call_program(rt.alloc(), &words, &EXIT_65, &[], &[])?;
-        check(&rt, &call, b"", b"halted 65\nretired 6\nlies 0\n", 0);
+        assert_eq!(rt;
+            call.shown(),
+            shows(b"", b"halted 65\nretired 6\nlies 0\n", 0)
+        );
     }
     Ok(())
 }
@@ -417,7 +298,7 @@ fn check_input(
     let mut files = file(alloc, code.as_slice(), &[])?;
     files.add("i", input)?;
     let call = make_call(alloc, &PLAIN_ON_INPUT, &mut files, &[], &[])?;
-    check(rt, &call, printed, told, 0);
+    assert_eq!(rt; call.shown(), shows(printed, told, 0));
     let call = make_call(alloc, &RUN_ON_INPUT, &mut files, &[], &[])?;
     assert_eq!(rt; call.out.bytes(), printed);
     assert_eq!(rt; call.done.status, 0);
@@ -439,9 +320,9 @@ fn programs_are_listed(rt: HostRuntime) -> Result<(), Fail> {
     let mut text = first.to_vec(rt.alloc())?;
     text.extend_from_slice(b"00000004 05d00893 addi a7, zero, 93\n00000008 00000073 ecall\n")?;
     let call = call_program(rt.alloc(), &DIS, &EXIT_7, &[], &[])?;
-    check(&rt, &call, text.as_slice(), b"", 0);
+    assert_eq!(rt; call.shown(), shows(text.as_slice(), b"", 0));
     let call = call_program(rt.alloc(), &DIS, &EXIT_7, &[2], &[])?;
-    check(&rt, &call, first, b"", 9);
+    assert_eq!(rt; call.shown(), shows(first, b"", 9));
     Ok(())
 }
 
@@ -450,24 +331,7 @@ fn a_program_fills_the_memory(rt: HostRuntime) -> Result<(), Fail> {
     let code = vec![in rt.alloc(); NOTHING; 4096]?;
     let call = call_program(rt.alloc(), &RUN_SMALL, code.as_slice(), &[], &[])?;
     let told = b"trapped outside memory pc 00004000\nretired 4096\nlies 0\n";
-    check(&rt, &call, b"", told, 1);
-    Ok(())
-}
-
-// What comes of a file of so many zeros.
-fn check_length(
-    rt: &impl Abort,
-    alloc: Global,
-    words: &[&str],
-    length: usize,
-    told: &[u8],
-    status: u8,
-) -> Result<(), Fail> {
-    let bytes = vec![in alloc; 0u8; length]?;
-    let mut files = file(alloc, bytes.as_slice(), &[])?;
-    let call = make_call(alloc, words, &mut files, &[], &[])?;
-    check(rt, &call, b"", told, status);
-    assert!(rt; call.done.run.is_none());
+    assert_eq!(rt; call.shown(), shows(b"", told, 1));
     Ok(())
 }
 
@@ -489,7 +353,10 @@ const LENGTHS: [(&[&str], usize, &[u8], u8); 6] = [
 #[test]
 fn files_are_refused(rt: HostRuntime) -> Result<(), Fail> {
     for (words, length, told, status) in LENGTHS {
-        check_length(&rt, rt.alloc(), words, length, told, status)?;
+        assert_eq!(rt;
+            call_zeros(rt.alloc(), words, length)?.shown(),
+            shows(b"", told, status)
+        );
     }
     Ok(())
 }
@@ -538,7 +405,7 @@ fn usage_says_what_is_wrong(rt: HostRuntime) -> Result<(), Fail> {
         b"usage\nerror: invalid value '7' for '--levels <L>': 7 is not in 1..=6\n".as_slice();
     assert!(rt; call.note.bytes().starts_with(told));
     let call = make_call(rt.alloc(), &words, &mut files, &[], &[2])?;
-    check(&rt, &call, b"", b"usage\n", 2);
+    assert_eq!(rt; call.shown(), shows(b"", b"usage\n", 2));
     Ok(())
 }
 
@@ -547,10 +414,10 @@ fn files_are_not_read(rt: HostRuntime) -> Result<(), Fail> {
     // No such file, and a read that fails.
     let mut absent = MemoryFiles::new(rt.alloc(), &[])?;
     let call = make_call(rt.alloc(), &RUN, &mut absent, &[], &[])?;
-    check(&rt, &call, b"", b"read fault\n", 8);
+    assert_eq!(rt; call.shown(), shows(b"", b"read fault\n", 8));
     let mut failing = file(rt.alloc(), b"", &[1])?;
     let call = make_call(rt.alloc(), &RUN, &mut failing, &[], &[])?;
-    check(&rt, &call, b"", b"read fault\n", 8);
+    assert_eq!(rt; call.shown(), shows(b"", b"read fault\n", 8));
     Ok(())
 }
 
@@ -569,7 +436,7 @@ fn check_order(
     let bytes = vec![in alloc; 0u8; input]?;
     files.add("i", bytes.as_slice())?;
     let call = make_call(alloc, &PLAIN_ON_INPUT, &mut files, &[], &[])?;
-    check(rt, &call, b"", told, status);
+    assert_eq!(rt; call.shown(), shows(b"", told, status));
     Ok(())
 }
 
@@ -588,11 +455,11 @@ fn a_fault_of_note_keeps_the_run(rt: HostRuntime) -> Result<(), Fail> {
     let rows: [(u64, &[u8]); 3] = [(1, b""), (2, b"halted 7\n"), (3, b"halted 7\nretired 3\n")];
     for (fails, told) in rows {
         let call = call_program(rt.alloc(), &RUN, &EXIT_7, &[], &[fails])?;
-        check(&rt, &call, b"", told, 9);
-        assert_eq!(rt; ending(&call.done), Some(Ending::Halted(7)));
+        assert_eq!(rt; call.shown(), shows(b"", told, 9));
+        assert_eq!(rt; call.ending(), Some(Ending::Halted(7)));
     }
     let call = call_program(rt.alloc(), &PLAIN, &EXIT_7, &[], &[2])?;
-    check(&rt, &call, b"", b"halted 7\n", 9);
+    assert_eq!(rt; call.shown(), shows(b"", b"halted 7\n", 9));
     Ok(())
 }
 
@@ -607,7 +474,7 @@ fn a_fault_of_note_keeps_a_refusal(rt: HostRuntime) -> Result<(), Fail> {
     for (words, status) in rows {
         let mut files = file(rt.alloc(), b"", &[])?;
         let call = make_call(rt.alloc(), words, &mut files, &[], &[1])?;
-        check(&rt, &call, b"", b"", status);
+        assert_eq!(rt; call.shown(), shows(b"", b"", status));
     }
     Ok(())
 }
@@ -615,10 +482,13 @@ fn a_fault_of_note_keeps_a_refusal(rt: HostRuntime) -> Result<(), Fail> {
 #[test]
 fn a_fault_of_out_ends_the_run(rt: HostRuntime) -> Result<(), Fail> {
     let call = call_program(rt.alloc(), &RUN_SMALL, &PRINT_A, &[1], &[])?;
-    check(&rt, &call, b"", b"write fault\nretired 7\nlies 0\n", 9);
-    assert_eq!(rt; ending(&call.done), Some(Ending::WriteFault));
+    assert_eq!(rt;
+        call.shown(),
+        shows(b"", b"write fault\nretired 7\nlies 0\n", 9)
+    );
+    assert_eq!(rt; call.ending(), Some(Ending::WriteFault));
     let call = call_program(rt.alloc(), &PLAIN, &PRINT_A, &[1], &[])?;
-    check(&rt, &call, b"", b"write fault\nretired 7\n", 9);
+    assert_eq!(rt; call.shown(), shows(b"", b"write fault\nretired 7\n", 9));
     Ok(())
 }
 

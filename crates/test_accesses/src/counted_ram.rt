@@ -5,10 +5,10 @@ use sec_base::{MemStop, Ram, Width};
 use std::cell::Cell;
 
 #[derive(Drop)]
-pub(super) struct CountedRam<'a, M: Ram> {
-    pub(super) memory: M,
-    pub(super) accesses: &'a Cell<u64>,
-    pub(super) most: u64,
+pub(crate) struct CountedRam<'a, M: Ram> {
+    pub(crate) memory: M,
+    pub(crate) accesses: &'a Cell<u64>,
+    pub(crate) most: u64,
 }
 
 impl<'a, M: Ram> CountedRam<'a, M> {

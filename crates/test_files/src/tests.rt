@@ -1,6 +1,8 @@
 // Programs from ELF files, and files that are refused. The bytes are put together by hand from the format's tables.
-use super::{DIS, EXIT_7, PLAIN_ON_INPUT, call_program, check, check_length, file, make_call};
-use sec_base::{MemoryFiles, NoMemory};
+use chip_cases::{
+    DIS, EXIT_7, EXIT_7_ELF, PLAIN_ON_INPUT, call_program, call_zeros, file, make_call, shows,
+};
+use sec_base::NoMemory;
 use std::alloc::Global;
 use std::process::Abort;
 use std::test::Fail;
@@ -16,17 +18,6 @@ const MEASURE_ELF: [&str; 3] = ["chip", "measure", "f"];
 const MEASURE: [&str; 4] = ["chip", "measure", "f", "--flat"];
 
 const MEASURE_SMALL: [&str; 6] = ["chip", "measure", "f", "--flat", "--levels", "1"];
-
-// The program that exits with 7: a file header, a program header, and three words.
-pub const EXIT_7_ELF: [u8; 96] = [
-    0x7f, 0x45, 0x4c, 0x46, 1, 1, 1, 0, 0, 0, 0, 0, 0, 0, 0, 0, // ident
-    2, 0, 243, 0, 1, 0, 0, 0, 0, 0, 0, 0, 52, 0, 0, 0, // kind, machine, version, entry, table
-    0, 0, 0, 0, 0, 0, 0, 0, // sections, flags
-    52, 0, 32, 0, 1, 0, 0, 0, 0, 0, 0, 0, // sizes and numbers of headers
-    1, 0, 0, 0, 84, 0, 0, 0, 0, 0, 0, 0, 0, 0, 0, 0, // kind, offset, address twice
-    12, 0, 0, 0, 12, 0, 0, 0, 7, 0, 0, 0, 1, 0, 0, 0, // lengths, flags, alignment
-    0x13, 0x05, 0x70, 0x00, 0x93, 0x08, 0xd0, 0x05, 0x73, 0x00, 0x00, 0x00,
-];
 
 // The same, and over its first word a segment with addi a0, zero, 8.
 const OVERLAPPING_ELF: [u8; 132] = [
@@ -65,7 +56,7 @@ fn check_file(
 ) -> Result<(), Fail> {
     let mut files = file(alloc, bytes, &[])?;
     let call = make_call(alloc, words, &mut files, &[], &[])?;
-    check(rt, &call, printed, told, status);
+    assert_eq!(rt; call.shown(), shows(printed, told, status));
     Ok(())
 }
 
@@ -167,11 +158,26 @@ fn elf_files_at_their_bounds_are_taken(rt: HostRuntime) -> Result<(), Fail> {
 fn longer_elf_files_are_read(rt: HostRuntime) -> Result<(), Fail> {
     let alloc = rt.alloc();
     let told = b"refused elf 2 Magic\n";
-    check_length(&rt, alloc, &DIS_ELF, 1_048_577, told, 3)?;
-    check_length(&rt, alloc, &RUN_ELF, 8_388_608, told, 3)?;
-    check_length(&rt, alloc, &RUN_ELF, 8_388_609, b"refused long\n", 3)?;
-    check_length(&rt, alloc, &MEASURE_ELF, 8_388_609, b"refused long\n", 3)?;
-    check_length(&rt, alloc, &MEASURE, 1_048_577, b"refused long\n", 3)?;
+    assert_eq!(rt;
+        call_zeros(alloc, &DIS_ELF, 1_048_577)?.shown(),
+        shows(b"", told, 3)
+    );
+    assert_eq!(rt;
+        call_zeros(alloc, &RUN_ELF, 8_388_608)?.shown(),
+        shows(b"", told, 3)
+    );
+    assert_eq!(rt;
+        call_zeros(alloc, &RUN_ELF, 8_388_609)?.shown(),
+        shows(b"", b"refused long\n", 3)
+    );
+    assert_eq!(rt;
+        call_zeros(alloc, &MEASURE_ELF, 8_388_609)?.shown(),
+        shows(b"", b"refused long\n", 3)
+    );
+    assert_eq!(rt;
+        call_zeros(alloc, &MEASURE, 1_048_577)?.shown(),
+        shows(b"", b"refused long\n", 3)
+    );
     Ok(())
 }
 
@@ -205,7 +211,7 @@ fn check_input_length(
     files.add("i", bytes.as_slice())?;
     let words = ["chip", "plain", "f", "--input", "i"];
     let call = make_call(alloc, &words, &mut files, &[], &[])?;
-    check(rt, &call, b"", told, status);
+    assert_eq!(rt; call.shown(), shows(b"", told, status));
     Ok(())
 }
 
@@ -224,11 +230,11 @@ fn a_program_has_its_form_before_its_input_is_read(rt: HostRuntime) -> Result<()
     let mut files = file(alloc, b"", &[2])?;
     let words = ["chip", "run", "f", "--input", "i"];
     let call = make_call(alloc, &words, &mut files, &[], &[])?;
-    check(&rt, &call, b"", b"refused elf 1 Short\n", 3);
+    assert_eq!(rt; call.shown(), shows(b"", b"refused elf 1 Short\n", 3));
     let bytes = vec![in alloc; 0u8; 1_048_577]?;
     let mut files = file(alloc, bytes.as_slice(), &[2])?;
     let call = make_call(alloc, &PLAIN_ON_INPUT, &mut files, &[], &[])?;
-    check(&rt, &call, b"", b"refused long\n", 3);
+    assert_eq!(rt; call.shown(), shows(b"", b"refused long\n", 3));
     Ok(())
 }
 
@@ -240,7 +246,7 @@ fn programs_are_measured(rt: HostRuntime) -> Result<(), Fail> {
     check_file(&rt, alloc, &MEASURE_SMALL, flat, DIGEST_SMALL, b"", 0)?;
     check_file(&rt, alloc, &MEASURE_ELF, &EXIT_7_ELF, DIGEST, b"", 0)?;
     let call = call_program(alloc, &MEASURE, &EXIT_7, &[1], &[])?;
-    check(&rt, &call, b"", b"", 9);
+    assert_eq!(rt; call.shown(), shows(b"", b"", 9));
     Ok(())
 }
 
@@ -249,11 +255,11 @@ fn a_line_is_one_piece(rt: HostRuntime) -> Result<(), Fail> {
     // The second write would fail, and there is none.
     let alloc = rt.alloc();
     let call = call_program(alloc, &MEASURE, &EXIT_7, &[2], &[])?;
-    check(&rt, &call, DIGEST, b"", 0);
+    assert_eq!(rt; call.shown(), shows(DIGEST, b"", 0));
     let call = call_program(alloc, &MEASURE_ELF, &EXIT_7, &[], &[2])?;
-    check(&rt, &call, b"", b"refused elf 1 Short\n", 3);
+    assert_eq!(rt; call.shown(), shows(b"", b"refused elf 1 Short\n", 3));
     let call = call_program(alloc, &MEASURE_ELF, &EXIT_7, &[], &[1])?;
-    check(&rt, &call, b"", b"", 3);
+    assert_eq!(rt; call.shown(), shows(b"", b"", 3));
     Ok(())
 }
 
@@ -265,8 +271,8 @@ fn a_flat_file_is_no_elf_file(rt: HostRuntime) -> Result<(), Fail> {
     let told = b"trapped illegal pc 00000000\nretired 0\n";
     check_file(&rt, alloc, &words, &EXIT_7_ELF, b"", told, 1)?;
     let call = call_program(alloc, &DIS_ELF, &EXIT_7, &[], &[])?;
-    check(&rt, &call, b"", b"refused elf 1 Short\n", 3);
+    assert_eq!(rt; call.shown(), shows(b"", b"refused elf 1 Short\n", 3));
     let call = call_program(alloc, &DIS, &EXIT_7, &[], &[])?;
-    check(&rt, &call, LISTING, b"", 0);
+    assert_eq!(rt; call.shown(), shows(LISTING, b"", 0));
     Ok(())
 }

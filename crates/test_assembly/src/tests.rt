@@ -1,36 +1,11 @@
 // Assembly texts. The bytes are put together by hand from the formats' tables, and so are the lines of the faults.
-use super::files::EXIT_7_ELF;
-use super::{Call, check, check_length, file, make_call};
-use sec_base::NoMemory;
-use std::alloc::Global;
+use chip_cases::{
+    ASM, EXIT_7_ELF, STORE_AND_PRINT, STORE_TWICE, call_assembled, call_text, call_zeros, file,
+    make_call, shows,
+};
 use std::test::Fail;
 
-const ASM: [&str; 3] = ["chip", "asm", "f"];
-
 const ASM_SMALL: [&str; 5] = ["chip", "asm", "f", "--levels", "1"];
-
-// A byte is stored in lines of memory that a small cache would hold in one place, and then printed.
-pub(super) const STORE_AND_PRINT: &[u8] = b"_start: li   t0, 0x140
-        lui  t1, 0x1
-        add  t1, t1, t0
-        lui  t2, 0x2
-        add  t2, t2, t0
-        li   t3, 65
-        sb   t3, 0(t0)
-        sb   t3, 64(t0)
-        sb   t3, 0(t1)
-        sb   t3, 64(t1)
-        sb   t3, 0(t2)
-        sb   t3, 64(t2)
-        li   a0, 1
-        mv   a1, t2
-        li   a2, 1
-        li   a7, 64
-        ecall
-        lbu  a0, 0(t0)
-        li   a7, 93
-        ecall
-";
 
 // It prints A and then B, and exits with what the service answered.
 const PRINT_TWICE: &[u8] = b"_start: la   a1, text
@@ -44,25 +19,6 @@ const PRINT_TWICE: &[u8] = b"_start: la   a1, text
         li   a7, 93
         ecall
 text:   .ascii \"AB\"
-";
-
-// Three of those lines are stored again: what is read is the later byte.
-pub(super) const STORE_TWICE: &[u8] = b"_start: li   t0, 0x140
-        lui  t1, 0x1
-        add  t1, t1, t0
-        lui  t2, 0x2
-        add  t2, t2, t0
-        li   t3, 65
-        li   t4, 2
-again:  sb   t3, 0(t0)
-        sb   t3, 0(t1)
-        sb   t3, 0(t2)
-        addi t3, t3, 1
-        addi t4, t4, -1
-        bnez t4, again
-        lbu  a0, 0(t0)
-        li   a7, 93
-        ecall
 ";
 
 // One line is stored 200 times, and never leaves the chip.
@@ -107,34 +63,16 @@ li a7, 93
 ecall
 ";
 
-// A call on an assembly text.
-fn call_text(alloc: Global, words: &[&str], text: &[u8]) -> Result<Call, NoMemory> {
-    let mut files = file(alloc, text, &[])?;
-    make_call(alloc, words, &mut files, &[], &[])
-}
-
-// A call on the ELF file of an assembly text, whose writes to `out` with these numbers fail.
-fn call_assembled(
-    alloc: Global,
-    words: &[&str],
-    text: &[u8],
-    out_fails: &[u64],
-) -> Result<Call, NoMemory> {
-    let assembled = call_text(alloc, &ASM, text)?;
-    let mut files = file(alloc, assembled.out.bytes(), &[])?;
-    make_call(alloc, words, &mut files, out_fails, &[])
-}
-
 #[test]
 fn texts_are_assembled(rt: HostRuntime) -> Result<(), Fail> {
     let call = call_text(rt.alloc(), &ASM, b"li a0, 7\nli a7, 93\necall\n")?;
-    check(&rt, &call, &EXIT_7_ELF, b"", 0);
+    assert_eq!(rt; call.shown(), shows(&EXIT_7_ELF, b"", 0));
 
     // An empty text is one segment of length 0.
     let call = call_text(rt.alloc(), &ASM, b"")?;
     let mut empty = Vec::from_slice(rt.alloc(), &EXIT_7_ELF[..68])?;
     empty.extend_from_slice(&[0, 0, 0, 0, 0, 0, 0, 0, 7, 0, 0, 0, 1, 0, 0, 0])?;
-    check(&rt, &call, empty.as_slice(), b"", 0);
+    assert_eq!(rt; call.shown(), shows(empty.as_slice(), b"", 0));
     Ok(())
 }
 
@@ -151,10 +89,13 @@ fn assembled_programs_run(rt: HostRuntime) -> Result<(), Fail> {
     ];
     for (text, printed, told) in rows {
         let call = call_assembled(rt.alloc(), &words, text, &[])?;
-        check(&rt, &call, printed, told, 0);
+        assert_eq!(rt; call.shown(), shows(printed, told, 0));
     }
     let call = call_assembled(rt.alloc(), &words, PRINT_TWICE, &[2])?;
-    check(&rt, &call, b"A", b"write fault\nretired 8\nlies 0\n", 9);
+    assert_eq!(rt;
+        call.shown(),
+        shows(b"A", b"write fault\nretired 8\nlies 0\n", 9)
+    );
     Ok(())
 }
 
@@ -176,7 +117,7 @@ fn a_page_is_spent_at_its_limit(rt: HostRuntime) -> Result<(), Fail> {
     for (limit, text, told, status) in rows {
         let words = ["chip", "run", "f", "--page-limit", limit];
         let call = call_assembled(rt.alloc(), &words, text, &[])?;
-        check(&rt, &call, b"", told, status);
+        assert_eq!(rt; call.shown(), shows(b"", told, status));
     }
     Ok(())
 }
@@ -205,7 +146,7 @@ fn texts_are_refused(rt: HostRuntime) -> Result<(), Fail> {
     ];
     for (text, told) in rows {
         let call = call_text(rt.alloc(), &ASM, text)?;
-        check(&rt, &call, b"", told, 3);
+        assert_eq!(rt; call.shown(), shows(b"", told, 3));
     }
     Ok(())
 }
@@ -213,11 +154,14 @@ fn texts_are_refused(rt: HostRuntime) -> Result<(), Fail> {
 #[test]
 fn texts_fit_the_memory(rt: HostRuntime) -> Result<(), Fail> {
     let call = call_text(rt.alloc(), &ASM_SMALL, b".space 16385\n")?;
-    check(&rt, &call, b"", b"refused asm 1 6 Large\n", 3);
+    assert_eq!(rt; call.shown(), shows(b"", b"refused asm 1 6 Large\n", 3));
     let call = call_text(rt.alloc(), &ASM_SMALL, b".space 16384\n")?;
     assert_eq!(rt; call.out.bytes().len(), 16468);
     assert_eq!(rt; call.done.status, 0);
-    check_length(&rt, rt.alloc(), &ASM, 1_048_577, b"refused long\n", 3)?;
+    assert_eq!(rt;
+        call_zeros(rt.alloc(), &ASM, 1_048_577)?.shown(),
+        shows(b"", b"refused long\n", 3)
+    );
     Ok(())
 }
 
@@ -227,7 +171,7 @@ fn a_text_fills_its_limit(rt: HostRuntime) -> Result<(), Fail> {
     let mut text = Vec::from_slice(rt.alloc(), b"li a0, 7\nli a7, 93\necall\n")?;
     text.resize(1048576, b' ')?;
     let call = call_text(rt.alloc(), &ASM, text.as_slice())?;
-    check(&rt, &call, &EXIT_7_ELF, b"", 0);
+    assert_eq!(rt; call.shown(), shows(&EXIT_7_ELF, b"", 0));
     Ok(())
 }
 
@@ -239,7 +183,7 @@ fn a_file_is_one_piece(rt: HostRuntime) -> Result<(), Fail> {
         let text = b"li a0, 7\nli a7, 93\necall\n";
         let mut files = file(rt.alloc(), text, &[])?;
         let call = make_call(rt.alloc(), &ASM, &mut files, &[fails], &[])?;
-        check(&rt, &call, printed, b"", status);
+        assert_eq!(rt; call.shown(), shows(printed, b"", status));
     }
     Ok(())
 }
@@ -250,7 +194,7 @@ fn a_fault_of_note_keeps_a_refused_text(rt: HostRuntime) -> Result<(), Fail> {
     for (fails, told) in rows {
         let mut files = file(rt.alloc(), b"frob\n", &[])?;
         let call = make_call(rt.alloc(), &ASM, &mut files, &[], &[fails])?;
-        check(&rt, &call, b"", told, 3);
+        assert_eq!(rt; call.shown(), shows(b"", told, 3));
     }
     Ok(())
 }

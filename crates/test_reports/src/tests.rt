@@ -1,29 +1,14 @@
-// Reports of runs, and their checks. The reports are from an independent model in Python (hashlib, hmac, cryptography).
-use super::{
-    EXIT_7, PLAIN, PRINT_A, RUN, RUN_SMALL, call_program, check, file, make_call, program,
+// Reports of runs, from an independent model in Python (hashlib, hmac, cryptography).
+use crate::digits::{REPORT, REPORT_OF_KEY, REPORT_TARGET};
+use chip_cases::{
+    EXIT_7, PLAIN, PRINT_A, RUN, RUN_SMALL, call_program, file, make_call, program, shows,
 };
 use sec_base::{MemoryFiles, NoMemory};
 use std::alloc::{AllocError, Global};
 use std::process::Abort;
 use std::test::Fail;
 
-// Of the program that exits with 7, under the default key and nonce.
-const REPORT: &[u8; 316] = b"\
-    0116f50c65e5d32ef308c297c15f9cdae14c3f482dd9e03853348a497b7abe0a1a\
-    e3b0c44298fc1c149afbf4c8996fb92427ae41e4649b934ca495991b7852b855\
-    e3b0c44298fc1c149afbf4c8996fb92427ae41e4649b934ca495991b7852b855\
-    0300000000000000000700000000000000000000000000000000000000\
-    a479401f853b37d1c441ce4553c6f3583bba91d772f3dcafbc7b506825d4dd77";
-
-// Of the same under another key, with a nonce.
-const REPORT_OF_KEY: &[u8; 316] = b"\
-    0116f50c65e5d32ef308c297c15f9cdae14c3f482dd9e03853348a497b7abe0a1a\
-    e3b0c44298fc1c149afbf4c8996fb92427ae41e4649b934ca495991b7852b855\
-    e3b0c44298fc1c149afbf4c8996fb92427ae41e4649b934ca495991b7852b855\
-    03000000000000000007000000101112131415161718191a1b1c1d1e1f\
-    b88bee1ff9e9fd4b34f49af8d622d677121b35bbe7fa6a23b986cc35df30cc67";
-
-// Of the same in 16 KiB; of an empty program; of one that prints the front of its input.
+// Of the program that exits with 7 in 16 KiB; of an empty program; of one that prints the front of its input.
 const REPORT_SMALL: &[u8; 316] = b"\
     0116f7bfdd45a5acd592864f31537f995066d1d163ad715d1d9d9d83c121daa865\
     e3b0c44298fc1c149afbf4c8996fb92427ae41e4649b934ca495991b7852b855\
@@ -44,14 +29,6 @@ const REPORT_INPUT: &[u8; 316] = b"\
     d6a81f224bbf2f7c22baddbd5d40730eb20cfb0b3d74e10cab61788214caceb1\
     0d00000000000000007856341200112233445566778899aabbccddeeff\
     b03eea9af2d1c28e250b0add4163e496c6ee90d046fc9eb3c58ef6dfec5914ae";
-
-// Of a trap, of runs whose budget or whose page is used up, and of one that was tampered with.
-const REPORT_TARGET: &[u8; 316] = b"\
-    0162d39fefb0b76f925ef988ba3f0e3bb96ab2a99b5d9d8f68670621fb0a7e2333\
-    e3b0c44298fc1c149afbf4c8996fb92427ae41e4649b934ca495991b7852b855\
-    e3b0c44298fc1c149afbf4c8996fb92427ae41e4649b934ca495991b7852b855\
-    0100000000000000010200000000000000000000000000000000000000\
-    1166fed54d5c1bc9381ba4b57ee40a189d1073da61e75df2759ef96c34f3757c";
 
 const REPORT_OUT_OF_STEPS: &[u8; 316] = b"\
     0116f7bfdd45a5acd592864f31537f995066d1d163ad715d1d9d9d83c121daa865\
@@ -265,154 +242,5 @@ fn a_measurement_is_that_of_the_report(rt: HostRuntime) -> Result<(), Fail> {
     let call = call_program(rt.alloc(), &words, &EXIT_7, &[], &[])?;
     let report = REPORT.as_slice();
     assert!(rt; call.out.bytes().starts_with(&report[2..66]));
-    Ok(())
-}
-
-const MEASUREMENT_LINE: &[u8] =
-    b"measurement 16f50c65e5d32ef308c297c15f9cdae14c3f482dd9e03853348a497b7abe0a1a\n";
-
-const FIELDS: &[u8] = b"\
-measurement 16f50c65e5d32ef308c297c15f9cdae14c3f482dd9e03853348a497b7abe0a1a
-input e3b0c44298fc1c149afbf4c8996fb92427ae41e4649b934ca495991b7852b855
-output e3b0c44298fc1c149afbf4c8996fb92427ae41e4649b934ca495991b7852b855
-retired 3
-ending 0 code 7
-nonce 00000000000000000000000000000000
-";
-
-const FIELDS_OF_TRAP: &[u8] = b"\
-measurement 62d39fefb0b76f925ef988ba3f0e3bb96ab2a99b5d9d8f68670621fb0a7e2333
-input e3b0c44298fc1c149afbf4c8996fb92427ae41e4649b934ca495991b7852b855
-output e3b0c44298fc1c149afbf4c8996fb92427ae41e4649b934ca495991b7852b855
-retired 1
-ending 1 code 2
-nonce 00000000000000000000000000000000
-";
-
-const VERIFY: [&str; 3] = ["chip", "verify", "f"];
-
-// What a check of a text writes, tells and answers.
-fn check_report(
-    rt: &impl Abort,
-    alloc: Global,
-    text: &[u8],
-    out: &[u8],
-    told: &[u8],
-    status: u8,
-) -> Result<(), Fail> {
-    let mut files = file(alloc, text, &[])?;
-    let call = make_call(alloc, &VERIFY, &mut files, &[], &[])?;
-    assert_eq!(rt; call.out.bytes(), out);
-    assert_eq!(rt; call.note.bytes(), told);
-    assert_eq!(rt; call.done.status, status);
-    assert!(rt; call.done.run.is_none());
-    Ok(())
-}
-
-// The text of the first report with another digit at a place.
-fn with_digit(at: usize, digit: u8) -> [u8; 316] {
-    let mut text = *REPORT;
-    if at < 316 {
-        text[at] = digit;
-    }
-    text
-}
-
-#[test]
-fn reports_are_checked(rt: HostRuntime) -> Result<(), Fail> {
-    let alloc = rt.alloc();
-    check_report(&rt, alloc, REPORT, FIELDS, b"", 0)?;
-    check_report(&rt, alloc, REPORT_TARGET, FIELDS_OF_TRAP, b"", 0)?;
-    let report = REPORT.as_slice();
-    let mut text = report.to_ascii_uppercase(alloc)?;
-    text.push(b'\n')?;
-    check_report(&rt, alloc, text.as_slice(), FIELDS, b"", 0)?;
-    let rows: [(&[u8], &[u8], u8); 7] = [
-        (&report[..315], b"refused report 1 Length\n", 3),
-        (b"", b"refused report 1 Length\n", 3),
-        (&with_digit(315, b'g'), b"refused report 2 Digit\n", 3),
-        (&with_digit(1, b'2'), b"refused report 3 Version\n", 3),
-        (&with_digit(315, b'8'), b"report tag differs\n", 11),
-        (&with_digit(2, b'2'), b"report tag differs\n", 11),
-        (REPORT_OF_KEY, b"report tag differs\n", 11),
-    ];
-    for (text, told, status) in rows {
-        check_report(&rt, alloc, text, b"", told, status)?;
-    }
-    Ok(())
-}
-
-#[test]
-fn a_report_is_checked_under_a_key(rt: HostRuntime) -> Result<(), Fail> {
-    let key = "fffefdfcfbfaf9f8f7f6f5f4f3f2f1f0efeeedecebeae9e8e7e6e5e4e3e2e1e0";
-    let words = ["chip", "verify", "f", "--key", key];
-    let mut files = file(rt.alloc(), REPORT_OF_KEY, &[])?;
-    let call = make_call(rt.alloc(), &words, &mut files, &[], &[])?;
-    assert!(rt;
-        call.out
-            .bytes()
-            .ends_with(b"nonce 101112131415161718191a1b1c1d1e1f\n")
-    );
-    assert_eq!(rt; call.done.status, 0);
-    let mut files = file(rt.alloc(), REPORT, &[])?;
-    let call = make_call(rt.alloc(), &words, &mut files, &[], &[])?;
-    check(&rt, &call, b"", b"report tag differs\n", 11);
-    Ok(())
-}
-
-#[test]
-fn a_report_is_read(rt: HostRuntime) -> Result<(), Fail> {
-    let mut files = MemoryFiles::new(rt.alloc(), &[])?;
-    let call = make_call(rt.alloc(), &VERIFY, &mut files, &[], &[])?;
-    check(&rt, &call, b"", b"read fault\n", 8);
-    let rows: [(usize, &[u8]); 2] = [
-        (1_048_576, b"refused report 1 Length\n"),
-        (1_048_577, b"refused long\n"),
-    ];
-    for (length, told) in rows {
-        let text = vec![in rt.alloc(); b'0'; length]?;
-        check_report(&rt, rt.alloc(), text.as_slice(), b"", told, 3)?;
-    }
-    Ok(())
-}
-
-// Each line is a piece. A report that differs is a result, and a report without its form a refusal.
-#[test]
-fn faults_of_the_sinks_of_a_check(rt: HostRuntime) -> Result<(), Fail> {
-    let mut files = file(rt.alloc(), REPORT, &[])?;
-    let call = make_call(rt.alloc(), &VERIFY, &mut files, &[2], &[])?;
-    check(&rt, &call, MEASUREMENT_LINE, b"", 9);
-    let mut files = file(rt.alloc(), REPORT_OF_KEY, &[])?;
-    let call = make_call(rt.alloc(), &VERIFY, &mut files, &[], &[1])?;
-    check(&rt, &call, b"", b"", 9);
-    let mut files = file(rt.alloc(), b"", &[])?;
-    let call = make_call(rt.alloc(), &VERIFY, &mut files, &[], &[1])?;
-    check(&rt, &call, b"", b"", 3);
-    Ok(())
-}
-
-// The first of tags, key and nonce is told, before any file is read.
-#[test]
-fn keys_and_nonces_are_checked(rt: HostRuntime) -> Result<(), Fail> {
-    let zeros = "000000000000000000000000000000000000000000000000000000000000000";
-    let rows: [(&[&str], &[u8]); 6] = [
-        (&["chip", "run", "p", "--key", "00"], b"usage key\n"),
-        (&["chip", "run", "p", "--key", zeros], b"usage key\n"),
-        (&["chip", "run", "p", "--nonce", zeros], b"usage nonce\n"),
-        (&["chip", "verify", "p", "--key", zeros], b"usage key\n"),
-        (
-            &["chip", "run", "p", "--nonce", "0", "--key", "0"],
-            b"usage key\n",
-        ),
-        (
-            &["chip", "run", "p", "--key", "0", "--tags", "md5"],
-            b"usage tags\n",
-        ),
-    ];
-    for (words, told) in rows {
-        let mut files = MemoryFiles::new(rt.alloc(), &[])?;
-        let call = make_call(rt.alloc(), words, &mut files, &[], &[])?;
-        check(&rt, &call, b"", told, 2);
-    }
     Ok(())
 }

@@ -1,6 +1,6 @@
 // How many accesses the runs of generated programs make. Each number is that of an independent model in Python.
-use super::counted_ram::CountedRam;
-use super::watching_bus::WatchingBus;
+use crate::counted_ram::CountedRam;
+use crate::watching_bus::WatchingBus;
 use hmac_tag::{HmacTagger, derive};
 use rv32_run::{Session, store_image};
 use sec_base::{Ending, Geometry, MemorySink, Ram};

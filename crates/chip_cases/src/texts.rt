@@ -1,0 +1,43 @@
+// Programs by their assembly texts.
+
+/// A byte is stored in lines of memory that a small cache would hold in one place, and then printed.
+pub const STORE_AND_PRINT: &[u8] = b"_start: li   t0, 0x140
+        lui  t1, 0x1
+        add  t1, t1, t0
+        lui  t2, 0x2
+        add  t2, t2, t0
+        li   t3, 65
+        sb   t3, 0(t0)
+        sb   t3, 64(t0)
+        sb   t3, 0(t1)
+        sb   t3, 64(t1)
+        sb   t3, 0(t2)
+        sb   t3, 64(t2)
+        li   a0, 1
+        mv   a1, t2
+        li   a2, 1
+        li   a7, 64
+        ecall
+        lbu  a0, 0(t0)
+        li   a7, 93
+        ecall
+";
+
+/// Three of those lines are stored again: what is read is the later byte.
+pub const STORE_TWICE: &[u8] = b"_start: li   t0, 0x140
+        lui  t1, 0x1
+        add  t1, t1, t0
+        lui  t2, 0x2
+        add  t2, t2, t0
+        li   t3, 65
+        li   t4, 2
+again:  sb   t3, 0(t0)
+        sb   t3, 0(t1)
+        sb   t3, 0(t2)
+        addi t3, t3, 1
+        addi t4, t4, -1
+        bnez t4, again
+        lbu  a0, 0(t0)
+        li   a7, 93
+        ecall
+";

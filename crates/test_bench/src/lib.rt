@@ -1,0 +1,5 @@
+//! Generated programs.
+#![tactic(auto)]
+
+#[cfg(test)]
+mod tests;

@@ -1,0 +1,5 @@
+//! The gallery of attacks: each script of examples/attacks.
+#![tactic(auto)]
+
+#[cfg(test)]
+mod tests;

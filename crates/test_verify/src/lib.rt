@@ -1,0 +1,5 @@
+//! Checks of reports: those that pass, and each refusal.
+#![tactic(auto)]
+
+#[cfg(test)]
+mod tests;
