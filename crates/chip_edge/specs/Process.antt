@@ -1,5 +1,11 @@
 -- What a process does with its words.
-use Rattle.std.specs.Prelude.{◌≡◌, ◌≤◌, ◌⊎◌, [], List, ℕ, None, IfSome, codes}
+use Rattle.std.specs.Prelude.{◌≡◌, ◌≢◌, ◌≤◌, ◌⊎◌, [], List, ℕ, None, Result, IfErr, IfOk, IfSome, String, Vec, codes, map, string_bytes}
+use Rattle.std.specs.IoError.{error_kind}
+use Rattle.std.specs.declared.alloc.Global.{Global}
+use Rattle.std.specs.declared.io.Error.{Error}
+use Rattle.std.specs.declared.io.ErrorKind.TheVariants.{OutOfMemory}
+use Rattle.std.specs.declared.io.Stderr.{Stderr}
+use Rattle.std.specs.declared.io.Stdout.{Stdout}
 use Rattle.sec_base.specs.Files.{FilesState}
 use Rattle.sec_base.specs.Sink.{GainsFront, IsSilent, SinkState}
 use Rattle.chip_words.specs.Request.{request_of}
@@ -11,6 +17,8 @@ use Rattle.chip_main.specs.Buses.{LiesByScript, lies_of, script_followed}
 use Rattle.chip_main.specs.Call.{GivesAsked, GivesDue, SaysStatus}
 use Rattle.chip_main.specs.Causes.{AsksFront}
 use Rattle.chip_main.specs.Needs.{needs_of}
+use Rattle.chip_edge.specs.declared.stream.Stream.{Stream}
+use Rattle.chip_edge.specs.Stream.{fresh_stream, stream_state}
 
 -- the files of the file system before anything was asked of them
 abbrev pub fresh_files : FilesState
@@ -49,8 +57,21 @@ abbrev pub IsAnswered : List (List ℕ) → SinkState → SinkState → SinkStat
 IsAnswered words out out' note note' status =
     IsCall words out out' note note' status ⊎ IsOutOfMemory out out' note note' status
 
--- the words of the process were, where they are text
-abbrev pub IsProcess : SinkState → SinkState → SinkState → SinkState → ℕ → Type 0
-IsProcess out out' note note' status =
-    ((words : List (List ℕ)) × IsAnswered words out out' note note' status)
-    ⊎ (IsOutOfMemory out out' note note' status ⊎ AreNoText out out' note note' status)
+-- what was read as the words of a process: the words, or why not
+abbrev pub WordsRead : Type 0
+WordsRead = Result (Vec (String Global) Global) Error
+
+-- What was read as the words of a process was answered by this status: words as a call of them; want of memory, and
+-- words that are no text, with nothing done.
+pub record IsReadAnswered (read : WordsRead) (out out' note note' : SinkState) (status : ℕ) : Type 0 where
+  pub words : IfOk read (λ words. IsAnswered (map string_bytes words.items) out out' note note' status)
+  pub no_memory : IfErr read (λ error. error_kind error ≡ OutOfMemory → IsOutOfMemory out out' note note' status)
+  pub no_text : IfErr read (λ error. error_kind error ≢ OutOfMemory → AreNoText out out' note note' status)
+
+-- The process ends with this status: it answered what was read as its words, over a stream to standard output and one to
+-- standard error, neither of which had failed before.
+pub record EndsProcess (status : ℕ) : Type 0 where
+  pub read : WordsRead
+  pub out : Stream Stdout
+  pub note : Stream Stderr
+  pub answered : IsReadAnswered read fresh_stream (stream_state out) fresh_stream (stream_state note) status

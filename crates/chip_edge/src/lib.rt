@@ -7,6 +7,6 @@ mod stream;
 #[cfg(test)]
 mod tests;
 
-pub use process::{answer, run_process};
+pub use process::{answer, answer_read, run_main};
 pub use real_files::RealFiles;
 pub use stream::Stream;

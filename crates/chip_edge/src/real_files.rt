@@ -1,7 +1,9 @@
 // The files of the file system.
-ghost use Rattle.std.specs.Prelude.{◌≡◌, ◌≢◌, ◌<◌, ◌≤◌, ◌++◌, ◌∷◌, [], Err, None, length, IfOk, IfSome, OnOk, OnErr};
+ghost use Rattle.std.specs.Prelude.{◌≡◌, ◌≢◌, ◌<◌, ◌≤◌, ◌++◌, ◌∷◌, [], Err, None, length, IfErr, IfOk, IfSome, IsErr, OnOk, OnErr};
+ghost use Rattle.std.specs.IoError.{error_kind};
+ghost use Rattle.std.specs.declared.io.ErrorKind.TheVariants.{OutOfMemory};
 ghost use Rattle.sec_base.specs.Count.{top};
-ghost use Rattle.sec_base.specs.declared.files.ReadStop.TheVariants.{Long};
+ghost use Rattle.sec_base.specs.declared.files.ReadStop.TheVariants.{Failed, Long, NoMemory as no_memory};
 
 use sec_base::{Bytes, NoMemory, ReadStop};
 use std::alloc::Global;
@@ -77,7 +79,27 @@ fn ask(asked: &mut Vec<Bytes>, alloc: Global, name: &str) -> Result<(), NoMemory
 fn read_file<R: Files>(rt: &R, alloc: Global, name: &str, limit: u64) -> Result<Bytes, ReadStop>
     ensures { IfOk result (λ bytes. length bytes ≤ limit) }
 {
-    match fs::open(rt, name) {
+    read_opened(alloc, fs::open(rt, name), limit)
+}
+
+/// All that an opened file has left, as `read_all` gives it; or why there is no opened file.
+pub fn read_opened<F: Read + Drop>(
+    alloc: Global,
+    opened: io::Result<F>,
+    limit: u64,
+) -> Result<Bytes, ReadStop>
+    ensures bytes { limit < top → IfOk opened (λ file.
+        IfOk result (λ bytes. IfSome (F.remaining file) (λ left. bytes ≡ left))) }
+    ensures long { limit < top → result ≡ Err Long →
+        IfOk opened (λ file. IfSome (F.remaining file) (λ left. limit < length left)) }
+    ensures within { IfOk result (λ bytes. length bytes ≤ limit) }
+
+    ensures failed { IfErr opened (λ error. error_kind error ≢ OutOfMemory → result ≡ Err Failed) }
+    ensures no_memory { IfErr opened (λ error. error_kind error ≡ OutOfMemory → result ≡ Err no_memory) }
+    ensures not_long { OnErr opened (result ≢ Err Long) }
+    ensures refused { OnErr opened (IsErr result) }
+{
+    match opened {
         Ok(file) => read_all(alloc, file, limit),
         Err(error) => Err(stop_of(&error)),
     }
@@ -97,8 +119,11 @@ pub fn read_all<R: Read + Drop>(alloc: Global, reader: R, limit: u64) -> Result<
     }
 }
 
+// Why nothing was read, by the error.
 fn stop_of(error: &io::Error) -> ReadStop
-    ensures { result ≢ Long }
+    ensures failed { error_kind error.now ≢ OutOfMemory → result ≡ Failed }
+    ensures no_memory { error_kind error.now ≡ OutOfMemory → result ≡ no_memory }
+    ensures not_long { result ≢ Long }
 {
     match error.kind() {
         io::ErrorKind::OutOfMemory => ReadStop::NoMemory,

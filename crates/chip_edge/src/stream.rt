@@ -1,8 +1,9 @@
 // Standard output and standard error as sinks.
-ghost use Rattle.std.specs.Prelude.{◌≡◌, ◌<◌, ◌≤◌, [], Ok, Err, None, length, take, IfOk, OnErr, OnOk};
+ghost use Rattle.std.specs.Prelude.{◌≡◌, ◌<◌, ◌≤◌, [], Ok, Err, length, take, IfOk, OnErr, OnOk};
 ghost use Rattle.std.specs.Io.KnownBytes.{WriteAppends};
 ghost use Rattle.sec_base.specs.Count.{Rose};
 ghost use Rattle.sec_base.specs.declared.sink.SinkStop.TheVariants.{Failed};
+ghost use Rattle.chip_edge.specs.Stream.{stream_state};
 
 use sec_base::{Sink, SinkStop};
 use std::io::Write;
@@ -26,7 +27,7 @@ impl<W: Write> Stream<W> {
 }
 
 impl<W: Write> Sink for Stream<W> {
-    ghost state = { λ stream. record { written = None; faults = stream.faults } };
+    ghost state = { stream_state };
 
     /// The writer gains the first bytes of the piece, as many as are answered, or nothing.
     fn write(&mut self, piece: &[u8]) -> Result<usize, SinkStop>

@@ -1,7 +1,9 @@
-// The adapters on what every Linux has, and on writers that fail.
+// The adapters on what every Linux has, on writers that fail, and on words that are given in place of a process's.
+use crate::process::{answer_read, words};
 use crate::real_files::RealFiles;
 use crate::stream::Stream;
-use sec_base::{Bytes, Files, ReadStop, Sink, SinkStop};
+use sec_base::{Bytes, Files, MemorySink, NoMemory, ReadStop, Sink, SinkStop};
+use std::env::{Env, FillError};
 use std::io;
 use std::io::Write;
 use std::test::Fail;
@@ -52,6 +54,9 @@ fn files_are_read_up_to_a_limit(rt: HostRuntime) {
         ("/dev/zero", 100, Err(ReadStop::Long)),
         ("/", 100, Err(ReadStop::Failed)),
         ("/dev/null/absent", 100, Err(ReadStop::Failed)),
+        ("/absent/name", 100, Err(ReadStop::Failed)),
+        ("/proc/self/exe", 4_096, Err(ReadStop::Long)),
+        ("/proc/self/exe", 100_000, Err(ReadStop::Long)),
     ];
     let mut files = RealFiles::new(&rt);
     for (name, limit, answer) in rows {
@@ -61,4 +66,104 @@ fn files_are_read_up_to_a_limit(rt: HostRuntime) {
             "{name}"
         );
     }
+}
+
+// A run of an empty file, with each of its nine options.
+const RUN: [&[u8]; 20] = [
+    b"chip",
+    b"run",
+    b"/dev/null",
+    b"--flat",
+    b"--levels",
+    b"1",
+    b"--steps",
+    b"3",
+    b"--input",
+    b"/dev/null",
+    b"--script",
+    b"/dev/null",
+    b"--tags",
+    b"xor",
+    b"--key",
+    b"202122232425262728292a2b2c2d2e2f303132333435363738393a3b3c3d3e3f",
+    b"--nonce",
+    b"404142434445464748494a4b4c4d4e4f",
+    b"--page-limit",
+    b"5",
+];
+
+// The words of a process, the program's name first.
+#[derive(Clone, Copy)]
+struct Given<'a> {
+    words: &'a [&'a [u8]],
+}
+
+impl Env for Given<'_> {
+    fn arg(&self, i: usize, buf: &mut [u8]) -> Result<usize, FillError> {
+        if i >= self.words.len() {
+            return Err(FillError::NotPresent);
+        }
+        let word = self.words[i];
+        if word.len() > buf.len() {
+            return Err(FillError::TooLong);
+        }
+        buf[..word.len()].copy_from_slice(word);
+        Ok(word.len())
+    }
+
+    fn var(&self, _name: &str, _buf: &mut [u8]) -> Result<usize, FillError> {
+        Err(FillError::NotPresent)
+    }
+
+    fn var_at(&self, _i: usize, _buf: &mut [u8]) -> Result<usize, FillError> {
+        Err(FillError::NotPresent)
+    }
+}
+
+#[test]
+fn each_word_is_read(rt: HostRuntime) -> Result<(), Fail> {
+    let process = (Given { words: &RUN }, rt.alloc());
+    let read = words(&process)?;
+    assert_eq!(rt; read.len(), RUN.len());
+    for (word, given) in read.iter().zip(RUN) {
+        assert_eq!(rt; word.as_bytes(), given);
+    }
+    Ok(())
+}
+
+// The status of a process of these words, and what it tells.
+fn answered(rt: &HostRuntime, given: &[&[u8]]) -> Result<(u8, MemorySink), NoMemory> {
+    let process = (Given { words: given }, rt.alloc());
+    let mut out = MemorySink::new(rt.alloc(), &[])?;
+    let mut note = MemorySink::new(rt.alloc(), &[])?;
+    let status = answer_read(rt, words(&process), &mut out, &mut note);
+    Ok((status, note))
+}
+
+// Memory of zeros traps at its first word, which is no instruction.
+#[test]
+fn each_option_is_answered(rt: HostRuntime) -> Result<(), Fail> {
+    let (status, note) = answered(&rt, &RUN)?;
+    assert_eq!(rt; status, 1);
+    assert!(rt;
+        note.bytes()
+            .starts_with(b"trapped illegal pc 00000000\nretired 0\nlies 0\nreport ")
+    );
+    let mut wrong = RUN;
+    wrong[19] = b"none".as_slice();
+    let (status, note) = answered(&rt, &wrong)?;
+    assert_eq!(rt; status, 2);
+    assert!(rt;
+        note.bytes().starts_with(b"usage\nerror: invalid value 'none' for '--page-limit <N>'")
+    );
+    Ok(())
+}
+
+#[test]
+fn words_that_are_no_text_are_no_request(rt: HostRuntime) -> Result<(), Fail> {
+    let given: [&[u8]; 3] = [b"chip", b"run", b"\xff"];
+    let (status, note) = answered(&rt, &given)?;
+    assert_eq!(rt; status, 2);
+    assert_eq!(rt; note.bytes(), b"usage\n".as_slice());
+    Ok(())
 }

@@ -9,4 +9,4 @@ returns-in-Ok-2-clause-bytes g c = λ small.
     (rw c.from_vec.ensures (rw (c.take.ensures.inner, c.take.ensures.limit, c.new-bytes.ensures.items) at c.in-Ok.ensures.bytes)) (search rules)
 
 pub returns-in-Err-clause-long : goal.returns-in-Err-clause-long
-returns-in-Err-clause-long g c = λ small is. let same : c.stop_of.result ≡ Long = cc in absurd (c.stop_of.ensures same)
+returns-in-Err-clause-long g c = λ small is. let same : c.stop_of.result ≡ Long = cc in absurd (c.stop_of.ensures.not_long same)
