@@ -1,0 +1,544 @@
+// Reads and writes that fail, each in turn. What is written whole is worked out by hand from the words and the machine's
+// rules, and digests and the report by another program (hashlib, hmac in Python); each line is one piece.
+use crate::fakes::{ForgetfulFiles, NarrowSink};
+use chip_cases::{
+    ASM, DIS, EXIT_7_ELF, PLAIN, PLAIN_ON_INPUT, RUN_SMALL, Shown, call_program, make_call,
+    program, shows, without_report,
+};
+use chip_main::run_words;
+use sec_base::{MemoryFiles, NoMemory};
+use std::alloc::Global;
+use std::process::Abort;
+use std::test::Fail;
+
+const RUN_BY_ALL: [&str; 8] = [
+    "chip", "run", "f", "--flat", "--script", "s", "--input", "i",
+];
+
+const MEASURE: [&str; 4] = ["chip", "measure", "f", "--flat"];
+
+const VERIFY: [&str; 3] = ["chip", "verify", "f"];
+
+// The bytes of the program that exits with 7.
+const EXIT_7_BYTES: &[u8] = b"\x13\x05\x70\0\x93\x08\xd0\x05\x73\0\0\0";
+
+const EXIT_7_TEXT: &[u8] = b"li a0, 7\nli a7, 93\necall\n";
+
+const LISTING: &[u8] = b"00000000 00700513 addi a0, zero, 7
+00000004 05d00893 addi a7, zero, 93
+00000008 00000073 ecall
+";
+
+const DIGEST: &[u8] = b"16f50c65e5d32ef308c297c15f9cdae14c3f482dd9e03853348a497b7abe0a1a\n";
+
+// The report of the program that exits with 7, by itself, behind what is told of its run, and its fields.
+const REPORT: &[u8] = b"\
+    0116f50c65e5d32ef308c297c15f9cdae14c3f482dd9e03853348a497b7abe0a1a\
+    e3b0c44298fc1c149afbf4c8996fb92427ae41e4649b934ca495991b7852b855\
+    e3b0c44298fc1c149afbf4c8996fb92427ae41e4649b934ca495991b7852b855\
+    0300000000000000000700000000000000000000000000000000000000\
+    a479401f853b37d1c441ce4553c6f3583bba91d772f3dcafbc7b506825d4dd77";
+
+const TOLD: &[u8] = b"halted 7\nretired 3\nlies 0\n\
+    report \
+    0116f50c65e5d32ef308c297c15f9cdae14c3f482dd9e03853348a497b7abe0a1a\
+    e3b0c44298fc1c149afbf4c8996fb92427ae41e4649b934ca495991b7852b855\
+    e3b0c44298fc1c149afbf4c8996fb92427ae41e4649b934ca495991b7852b855\
+    0300000000000000000700000000000000000000000000000000000000\
+    a479401f853b37d1c441ce4553c6f3583bba91d772f3dcafbc7b506825d4dd77\n";
+
+const FIELDS: &[u8] = b"\
+measurement 16f50c65e5d32ef308c297c15f9cdae14c3f482dd9e03853348a497b7abe0a1a
+input e3b0c44298fc1c149afbf4c8996fb92427ae41e4649b934ca495991b7852b855
+output e3b0c44298fc1c149afbf4c8996fb92427ae41e4649b934ca495991b7852b855
+retired 3
+ending 0 code 7
+nonce 00000000000000000000000000000000
+";
+
+// A command, the file `f`, how many files it reads, and what it prints and tells whole, with status 0.
+#[derive(Clone, Copy)]
+struct Command<'a> {
+    words: &'a [&'a str],
+    bytes: &'a [u8],
+    reads: u64,
+    printed: &'a [u8],
+    told: &'a [u8],
+}
+
+const PLAIN_RUN: Command<'static> = Command {
+    words: &PLAIN_ON_INPUT,
+    bytes: EXIT_7_BYTES,
+    reads: 2,
+    printed: b"",
+    told: b"halted 7\nretired 3\n",
+};
+
+const LISTED: Command<'static> = Command {
+    words: &DIS,
+    bytes: EXIT_7_BYTES,
+    reads: 1,
+    printed: LISTING,
+    told: b"",
+};
+
+const COMMANDS: [Command<'static>; 6] = [
+    Command {
+        words: &RUN_BY_ALL,
+        bytes: EXIT_7_BYTES,
+        reads: 3,
+        printed: b"",
+        told: TOLD,
+    },
+    PLAIN_RUN,
+    LISTED,
+    Command {
+        words: &MEASURE,
+        bytes: EXIT_7_BYTES,
+        reads: 1,
+        printed: DIGEST,
+        told: b"",
+    },
+    Command {
+        words: &ASM,
+        bytes: EXIT_7_TEXT,
+        reads: 1,
+        printed: &EXIT_7_ELF,
+        told: b"",
+    },
+    Command {
+        words: &VERIFY,
+        bytes: REPORT,
+        reads: 1,
+        printed: FIELDS,
+        told: b"",
+    },
+];
+
+// More bytes than a piece has.
+const WHOLE: usize = 1_000_000;
+
+// The file `f`, a script and an input without a byte. Reads with these numbers fail.
+fn files_of(alloc: Global, bytes: &[u8], fails: &[u64]) -> Result<MemoryFiles, NoMemory> {
+    let mut files = MemoryFiles::new(alloc, fails)?;
+    files.add("f", bytes)?;
+    files.add("s", b"")?;
+    files.add("i", b"")?;
+    Ok(files)
+}
+
+// How many pieces a text is: its lines, of which the last may end with the text.
+fn pieces(text: &[u8]) -> u64 {
+    let mut count = 0u64;
+    for byte in text {
+        if *byte == b'\n' {
+            count = count.saturating_add(1);
+        }
+    }
+    if text.is_empty() || text.ends_with(b"\n") {
+        count
+    } else {
+        count.saturating_add(1)
+    }
+}
+
+fn first_bytes(text: &[u8], count: usize) -> &[u8] {
+    &text[..count.min(text.len())]
+}
+
+// So many pieces of a text, from its beginning.
+fn first_pieces(text: &[u8], wanted: u64) -> &[u8] {
+    let mut count = 0u64;
+    let mut at = 0usize;
+    for byte in text {
+        if count >= wanted {
+            break;
+        }
+        if *byte == b'\n' {
+            count = count.saturating_add(1);
+        }
+        at = at.saturating_add(1);
+    }
+    first_bytes(text, at)
+}
+
+// The number of the read, and of the writes to `out` and to `note`, that comes to nothing: 0 is none.
+#[derive(Clone, Copy)]
+struct At {
+    read: u64,
+    out: u64,
+    note: u64,
+}
+
+const NEVER: At = At {
+    read: 0,
+    out: 0,
+    note: 0,
+};
+
+// What a command comes to where these fail.
+fn check_failing(
+    rt: &impl Abort,
+    alloc: Global,
+    command: Command<'_>,
+    at: At,
+    expected: Shown<'_>,
+) -> Result<(), Fail> {
+    let mut files = files_of(alloc, command.bytes, &[at.read])?;
+    let call = make_call(alloc, command.words, &mut files, &[at.out], &[at.note])?;
+    let shown = shows(call.out.bytes(), call.note.bytes(), call.done.status);
+    assert_eq!(rt; shown, expected);
+    Ok(())
+}
+
+// What it comes to where these find no memory, and the sinks take so many bytes of a piece at most.
+fn check_wanting(
+    rt: &impl Abort,
+    alloc: Global,
+    command: Command<'_>,
+    at: At,
+    most: usize,
+    expected: Shown<'_>,
+) -> Result<(), Fail> {
+    let files = files_of(alloc, command.bytes, &[])?;
+    let mut files = ForgetfulFiles::new(files, at.read);
+    let mut out = NarrowSink::new(alloc, most, at.out);
+    let mut note = NarrowSink::new(alloc, most, at.note);
+    let done = run_words(alloc, command.words, &mut files, &mut out, &mut note);
+    let shown = shows(out.bytes(), note.bytes(), done.status);
+    assert_eq!(rt; shown, expected);
+    Ok(())
+}
+
+// Where a number is past those that there are, a command comes to what it does without.
+fn check_past(rt: &impl Abort, alloc: Global, command: Command<'_>, at: At) -> Result<(), Fail> {
+    let whole = shows(command.printed, command.told, 0);
+    check_failing(rt, alloc, command, at, whole)?;
+    check_wanting(rt, alloc, command, at, WHOLE, whole)
+}
+
+// Each file that is read: nothing is printed. That memory was wanted is not told.
+#[test]
+fn each_read_fails_in_turn(rt: HostRuntime) -> Result<(), Fail> {
+    for command in COMMANDS {
+        for before in 0..command.reads {
+            let read = before.saturating_add(1);
+            let at = At { read, ..NEVER };
+            let unread = shows(b"", b"read fault\n", 8);
+            check_failing(&rt, rt.alloc(), command, at, unread)?;
+            check_wanting(&rt, rt.alloc(), command, at, WHOLE, shows(b"", b"", 10))?;
+        }
+        let read = command.reads.saturating_add(1);
+        check_past(&rt, rt.alloc(), command, At { read, ..NEVER })?;
+    }
+    Ok(())
+}
+
+// What is printed stands up to the piece that fails, and nothing is told.
+#[test]
+fn each_write_to_out_fails_in_turn(rt: HostRuntime) -> Result<(), Fail> {
+    for command in COMMANDS {
+        let count = pieces(command.printed);
+        for before in 0..count {
+            let out = before.saturating_add(1);
+            let at = At { out, ..NEVER };
+            let printed = first_pieces(command.printed, before);
+            check_failing(&rt, rt.alloc(), command, at, shows(printed, b"", 9))?;
+            let expected = shows(printed, b"", 10);
+            check_wanting(&rt, rt.alloc(), command, at, WHOLE, expected)?;
+        }
+        let out = count.saturating_add(1);
+        check_past(&rt, rt.alloc(), command, At { out, ..NEVER })?;
+    }
+    Ok(())
+}
+
+// What is told stands up to the line that fails. Of a run on protected memory there are four.
+#[test]
+fn each_write_to_note_fails_in_turn(rt: HostRuntime) -> Result<(), Fail> {
+    for command in COMMANDS {
+        let count = pieces(command.told);
+        for before in 0..count {
+            let note = before.saturating_add(1);
+            let at = At { note, ..NEVER };
+            let told = first_pieces(command.told, before);
+            let expected = shows(command.printed, told, 9);
+            check_failing(&rt, rt.alloc(), command, at, expected)?;
+            let expected = shows(command.printed, told, 10);
+            check_wanting(&rt, rt.alloc(), command, at, WHOLE, expected)?;
+        }
+        let note = count.saturating_add(1);
+        check_past(&rt, rt.alloc(), command, At { note, ..NEVER })?;
+    }
+    Ok(())
+}
+
+// Sinks that take little of a piece get the same bytes.
+#[test]
+fn narrow_sinks_get_the_same_bytes(rt: HostRuntime) -> Result<(), Fail> {
+    for command in COMMANDS {
+        for most in [1, 7, 64] {
+            let whole = shows(command.printed, command.told, 0);
+            check_wanting(&rt, rt.alloc(), command, NEVER, most, whole)?;
+        }
+    }
+    Ok(())
+}
+
+// Those that take one byte at a time find no memory at each byte in turn: of what is told of a run on the plain machine, and
+// of a listing.
+#[test]
+fn each_byte_finds_no_memory_in_turn(rt: HostRuntime) -> Result<(), Fail> {
+    let told = PLAIN_RUN.told;
+    for before in 0..told.len() {
+        let note = (before as u64).saturating_add(1);
+        let at = At { note, ..NEVER };
+        let expected = shows(b"", first_bytes(told, before), 10);
+        check_wanting(&rt, rt.alloc(), PLAIN_RUN, at, 1, expected)?;
+    }
+    for before in 0..LISTING.len() {
+        let out = (before as u64).saturating_add(1);
+        let at = At { out, ..NEVER };
+        let expected = shows(first_bytes(LISTING, before), b"", 10);
+        check_wanting(&rt, rt.alloc(), LISTED, at, 1, expected)?;
+    }
+    Ok(())
+}
+
+// It prints A and then B, and exits with what the last service answered, which is 1.
+const PRINT_A_AND_B: [u32; 12] = [
+    0x0000_05b7, // lui a1, 0x0
+    0x02c5_8593, // addi a1, a1, 44
+    0x0010_0613, // addi a2, zero, 1
+    0x0010_0513, // addi a0, zero, 1
+    0x0400_0893, // addi a7, zero, 64
+    0x0000_0073, // ecall
+    0x0015_8593, // addi a1, a1, 1
+    0x0010_0513, // addi a0, zero, 1
+    0x0000_0073, // ecall
+    0x05d0_0893, // addi a7, zero, 93
+    0x0000_0073, // ecall
+    0x0000_4241, // "AB"
+];
+
+// What is printed and told of that program on protected memory where a write of it fails, or finds no memory, and the
+// status.
+#[derive(Clone, Copy)]
+struct Cut<'a> {
+    out: u64,
+    printed: &'a [u8],
+    failing: (&'a [u8], u8),
+    wanting: (&'a [u8], u8),
+}
+
+const CUTS: [Cut<'static>; 3] = [
+    Cut {
+        out: 1,
+        printed: b"",
+        failing: (b"write fault\nretired 5\nlies 0\n", 9),
+        wanting: (b"no memory\nretired 5\nlies 0\n", 10),
+    },
+    Cut {
+        out: 2,
+        printed: b"A",
+        failing: (b"write fault\nretired 8\nlies 0\n", 9),
+        wanting: (b"no memory\nretired 8\nlies 0\n", 10),
+    },
+    Cut {
+        out: 3,
+        printed: b"AB",
+        failing: (b"halted 1\nretired 11\nlies 0\n", 0),
+        wanting: (b"halted 1\nretired 11\nlies 0\n", 0),
+    },
+];
+
+// What a run of the program comes to where a write to `out` finds no memory.
+fn check_printing(
+    rt: &impl Abort,
+    alloc: Global,
+    words: &[&str],
+    out: u64,
+    expected: Shown<'_>,
+) -> Result<(), Fail> {
+    let bytes = program(alloc, &PRINT_A_AND_B)?;
+    let mut files = files_of(alloc, bytes.as_slice(), &[])?;
+    let mut out = NarrowSink::new(alloc, 1, out);
+    let mut note = NarrowSink::new(alloc, 1, 0);
+    let done = run_words(alloc, words, &mut files, &mut out, &mut note);
+    let told = without_report(note.bytes());
+    assert_eq!(rt; shows(out.bytes(), told, done.status), expected);
+    Ok(())
+}
+
+// On the plain machine all is told but the last line.
+#[test]
+fn a_run_ends_where_its_output_fails(rt: HostRuntime) -> Result<(), Fail> {
+    for cut in CUTS {
+        let (told, status) = cut.failing;
+        let call = call_program(rt.alloc(), &RUN_SMALL, &PRINT_A_AND_B, &[cut.out], &[])?;
+        assert_eq!(rt; call.shown(), shows(cut.printed, told, status));
+        let call = call_program(rt.alloc(), &PLAIN, &PRINT_A_AND_B, &[cut.out], &[])?;
+        let plain = shows(cut.printed, first_pieces(told, 2), status);
+        assert_eq!(rt; call.shown(), plain);
+
+        let (told, status) = cut.wanting;
+        let whole = shows(cut.printed, told, status);
+        check_printing(&rt, rt.alloc(), &RUN_SMALL, cut.out, whole)?;
+        let plain = shows(cut.printed, first_pieces(told, 2), status);
+        check_printing(&rt, rt.alloc(), &PLAIN, cut.out, plain)?;
+    }
+    Ok(())
+}
+
+// A call of which one line is told: its words, the file `f` and the script `s`, the line, the status, and the status where
+// the line fails. A refusal was met before; that a report's tag differs is a result.
+#[derive(Clone, Copy)]
+struct OneLine<'a> {
+    words: &'a [&'a str],
+    bytes: &'a [u8],
+    script: &'a [u8],
+    told: &'a [u8],
+    status: u8,
+    untold: u8,
+}
+
+// A report's 316 digits, of version 1, whose tag is zeros.
+const ZERO_REPORT: &[u8] = b"01\
+    00000000000000000000000000000000000000000000000000000000000000000000000000000000\
+    00000000000000000000000000000000000000000000000000000000000000000000000000000000\
+    00000000000000000000000000000000000000000000000000000000000000000000000000000000\
+    00000000000000000000000000000000000000000000000000000000000000000000000000";
+
+const ONE_LINES: [OneLine<'static>; 9] = [
+    OneLine {
+        words: &["chip", "run", "f", "--tags", "md5"],
+        bytes: b"",
+        script: b"",
+        told: b"usage tags\n",
+        status: 2,
+        untold: 2,
+    },
+    OneLine {
+        words: &["chip", "verify", "f", "--key", "00"],
+        bytes: b"",
+        script: b"",
+        told: b"usage key\n",
+        status: 2,
+        untold: 2,
+    },
+    OneLine {
+        words: &["chip", "run", "f", "--nonce", "00"],
+        bytes: b"",
+        script: b"",
+        told: b"usage nonce\n",
+        status: 2,
+        untold: 2,
+    },
+    OneLine {
+        words: &["chip", "run", "absent"],
+        bytes: b"",
+        script: b"",
+        told: b"read fault\n",
+        status: 8,
+        untold: 8,
+    },
+    OneLine {
+        words: &["chip", "measure", "f"],
+        bytes: b"",
+        script: b"",
+        told: b"refused elf 1 Short\n",
+        status: 3,
+        untold: 3,
+    },
+    OneLine {
+        words: &ASM,
+        bytes: b"frob\n",
+        script: b"",
+        told: b"refused asm 1 1 Unknown\n",
+        status: 3,
+        untold: 3,
+    },
+    OneLine {
+        words: &RUN_BY_ALL,
+        bytes: EXIT_7_BYTES,
+        script: b"access\n",
+        told: b"refused script 1 1 Word\n",
+        status: 3,
+        untold: 3,
+    },
+    OneLine {
+        words: &VERIFY,
+        bytes: b"",
+        script: b"",
+        told: b"refused report 1 Length\n",
+        status: 3,
+        untold: 3,
+    },
+    OneLine {
+        words: &VERIFY,
+        bytes: ZERO_REPORT,
+        script: b"",
+        told: b"report tag differs\n",
+        status: 11,
+        untold: 9,
+    },
+];
+
+// What is told, with this status, where the write to `note` with a number fails, and where it finds no memory.
+fn check_one_line(
+    rt: &impl Abort,
+    alloc: Global,
+    line: OneLine<'_>,
+    note: u64,
+    failing: Shown<'_>,
+    wanting: Shown<'_>,
+) -> Result<(), Fail> {
+    let mut files = files_of(alloc, line.bytes, &[])?;
+    files.add("s", line.script)?;
+    let call = make_call(alloc, line.words, &mut files, &[1], &[note])?;
+    assert_eq!(rt; call.shown(), failing);
+    let mut out = NarrowSink::new(alloc, WHOLE, 1);
+    let mut note = NarrowSink::new(alloc, WHOLE, note);
+    let done = run_words(alloc, line.words, &mut files, &mut out, &mut note);
+    let shown = shows(out.bytes(), note.bytes(), done.status);
+    assert_eq!(rt; shown, wanting);
+    Ok(())
+}
+
+// The line is one piece, so that a second write is none.
+fn check_one_piece(rt: &impl Abort, alloc: Global, line: OneLine<'_>) -> Result<(), Fail> {
+    let untold = shows(b"", b"", line.untold);
+    check_one_line(rt, alloc, line, 1, untold, shows(b"", b"", 10))?;
+    let told = shows(b"", line.told, line.status);
+    check_one_line(rt, alloc, line, 2, told, told)
+}
+
+#[test]
+fn one_line_is_one_piece(rt: HostRuntime) -> Result<(), Fail> {
+    for line in ONE_LINES {
+        check_one_piece(&rt, rt.alloc(), line)?;
+    }
+    Ok(())
+}
+
+// The same of files that are too long: for any program, and for the memory.
+#[test]
+fn the_line_of_a_long_file_is_one_piece(rt: HostRuntime) -> Result<(), Fail> {
+    let rows: [(usize, &[u8]); 2] = [
+        (1_048_577, b"refused long\n"),
+        (16_385, b"refused elf 9 Segment\n"),
+    ];
+    for (length, told) in rows {
+        let bytes = vec![in rt.alloc(); 0u8; length]?;
+        let line = OneLine {
+            words: &RUN_SMALL,
+            bytes: bytes.as_slice(),
+            script: b"",
+            told,
+            status: 3,
+            untold: 3,
+        };
+        check_one_piece(&rt, rt.alloc(), line)?;
+    }
+    Ok(())
+}
