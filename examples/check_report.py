@@ -1,12 +1,100 @@
 #!/usr/bin/env python3
-# Verifies a report: check_report.py FILE [DEVICE KEY IN HEX]. docs/FORMATS.md, "Reports", has its layout.
-import hmac, struct, sys
-report = bytes.fromhex(open(sys.argv[1]).read())
-device = bytes.fromhex(sys.argv[2]) if len(sys.argv) > 2 else bytes(range(32))
-key = hmac.digest(device, b"report", "sha256")
-right = hmac.compare_digest(hmac.digest(key, report[:126], "sha256"), report[126:])
-if len(report) != 158 or report[0] != 1 or not right:
-    sys.exit("no report under this key")
-for name, at in ("measurement", 1), ("input", 33), ("output", 65):
-    print(name, report[at : at + 32].hex())
-print("retired %d\nending %d code %d\nnonce %s" % (*struct.unpack_from("<QBI", report, 97), report[110:126].hex()))
+"""Verifies a report: check_report.py FILE [--key HEX].
+
+It prints what `chip verify` prints, and ends with the same status. It shares no code with the chip and wants Python's
+standard library alone. docs/FORMATS.md, "Reports", has the layout.
+"""
+
+import argparse
+import hmac
+import re
+import struct
+import sys
+
+LENGTH = 158
+VERSION = 1
+LONGEST = 1048576
+
+
+class Refusal(Exception):
+    """A line to print on standard error, and the status to end with."""
+
+    def __init__(self, line, status):
+        super().__init__(line)
+        self.status = status
+
+
+def read_file(name, longest=None):
+    try:
+        with open(name, "rb") as file:
+            text = file.read()
+    except OSError:
+        raise Refusal(f"read fault {name}", 8)
+    if longest is not None and len(text) > longest:
+        raise Refusal("refused long", 3)
+    return text
+
+
+def read_digits(name, digits, count):
+    """The bytes of an option's digits."""
+    if not re.fullmatch(f"[0-9A-Fa-f]{{{count}}}", digits):
+        raise Refusal(f"usage {name}", 2)
+    return bytes.fromhex(digits)
+
+
+class Report:
+    """The fields of a report's bytes."""
+
+    def __init__(self, report):
+        self.measurement, self.input, self.output = report[1:33], report[33:65], report[65:97]
+        self.retired, self.ending, self.code = struct.unpack_from("<QBI", report, 97)
+        self.nonce = report[110:126]
+
+
+def verify(text, device):
+    """The report of a text, or the first refusal that holds."""
+    digits = text[:-1] if text.endswith(b"\n") else text
+    if len(digits) != 2 * LENGTH:
+        raise Refusal("refused report 1 Length", 3)
+    if not re.fullmatch(b"[0-9A-Fa-f]*", digits):
+        raise Refusal("refused report 2 Digit", 3)
+    report = bytes.fromhex(digits.decode())
+    if report[0] != VERSION:
+        raise Refusal("refused report 3 Version", 3)
+    key = hmac.digest(device, b"report", "sha256")
+    if not hmac.compare_digest(hmac.digest(key, report[:126], "sha256"), report[126:]):
+        raise Refusal("report tag differs", 11)
+    return Report(report)
+
+
+def add_key(parser):
+    parser.add_argument("--key", default=bytes(range(32)).hex(), metavar="HEX", help="the device key, 64 digits")
+
+
+def end(main):
+    """Runs a main function, and turns a refusal into its line and its status."""
+    try:
+        sys.exit(main())
+    except Refusal as refusal:
+        print(refusal, file=sys.stderr)
+        sys.exit(refusal.status)
+
+
+def main():
+    parser = argparse.ArgumentParser(description="Verifies a report.", allow_abbrev=False)
+    parser.add_argument("file", metavar="FILE")
+    add_key(parser)
+    words = parser.parse_args()
+    device = read_digits("key", words.key, 64)
+    report = verify(read_file(words.file, LONGEST), device)
+    print("measurement", report.measurement.hex())
+    print("input", report.input.hex())
+    print("output", report.output.hex())
+    print("retired", report.retired)
+    print("ending", report.ending, "code", report.code)
+    print("nonce", report.nonce.hex())
+    return 0
+
+
+if __name__ == "__main__":
+    end(main)
