@@ -3,6 +3,7 @@ use Rattle.std.proofs.Common.{ℕ, Bool, true, false, List, [], ◌∷◌, ◌++
 use Rattle.std.proofs.lemmas.List.Sums.{fold-append}
 use Rattle.std.proofs.lemmas.Slice.Eq.{bytes_eq-Decides}
 use Rattle.std.specs.Str.{bytes_eq}
+use Rattle.sec_base.proofs.Results.{test_fails}
 use Rattle.sec_base.specs.MemoryFiles.{content_of, content_with}
 use Rattle.sec_base.specs.declared.memory_files.NamedFile.{NamedFile}
 
@@ -21,17 +22,13 @@ added_file files after file name bytes grown is =
     ∙ ap (λ (f : NamedFile). content_with name (content_of files name) f) is
     ∙ ap (λ (b : Bool). cond b (Some bytes) (content_of files name)) same
 
-no_test : {P : Type 0} (r : Bool) → (r ≡ true → P) → (P → ⊥) → r ≡ false
-no_test true h n = absurd (n (h refl))
-no_test false h n = refl
-
 -- and each other name has what it had
 pub other_file : (files after : List NamedFile) (file : NamedFile) (name bytes other : List ℕ) →
     after ≡ files ++ file ∷ [] → file ≡ record { name = name; bytes = bytes } → other ≢ name →
     content_of after other ≡ content_of files other
 other_file files after file name bytes other grown is differs =
     let not_same : bytes_eq name other ≡ false =
-    no_test (bytes_eq name other) (bytes_eq-Decides name other).0 (λ (e : name ≡ other). differs (sym e)) in
+    test_fails (bytes_eq name other) (bytes_eq-Decides name other).0 (λ (e : name ≡ other). differs (sym e)) in
     ap (λ (fs : List NamedFile). content_of fs other) grown
     ∙ content_of-append files file other
     ∙ ap (λ (f : NamedFile). content_with other (content_of files other) f) is

@@ -3,6 +3,7 @@ use Rattle.std.proofs.Common.{◌≡◌, ℕ, ◌+◌, Bool, true, false, cond, 
 use Rattle.std.specs.Option.{option_map, option_or}
 use Rattle.std.specs.List.{slice_get, filter_map}
 use Rattle.std.proofs.lemmas.List.Sums.{fold-append}
+use Rattle.sec_base.proofs.Lists.{get_front, get_last}
 use Rattle.sec_base.specs.declared.counter.Counter.{Counter}
 use Rattle.sec_base.specs.declared.message.Message.{Message}
 use Rattle.sec_base.specs.declared.message.Message.TheVariants.{Line, Node}
@@ -57,28 +58,17 @@ pub record HasPart {A B : Type 0} (part : A → Option B) (items : List A) (at :
   pub there : slice_get items at ≡ Some item
   pub part_is : part item ≡ Some found
 
--- an item stays where it is
-slice_get_front : {A : Type 0} (items more : List A) (at : ℕ) (item : A) →
-    slice_get items at ≡ Some item → slice_get (items ++ more) at ≡ Some item
-slice_get_front [] more at item e = cc
-slice_get_front (x ∷ items) more zero item e = e
-slice_get_front (x ∷ items) more (suc at) item e = slice_get_front items more at item e
-
-slice_get_seam : {A : Type 0} (items : List A) (item : A) → slice_get (items ++ item ∷ []) (length items) ≡ Some item
-slice_get_seam [] item = refl
-slice_get_seam (x ∷ items) item = slice_get_seam items item
-
 part_after : {A B : Type 0} (part : A → Option B) (front : List A) (seen : ℕ × Option (ℕ × B)) (item : A) (p : Option B) →
     part item ≡ p → seen.0 ≡ length front → ((at : ℕ) (found : B) → seen.1 ≡ Some (at, found) → HasPart part front at found) →
     (at : ℕ) (found : B) → option_or (option_map (λ (x : B). (seen.0, x)) p) seen.1 ≡ Some (at, found) → HasPart part (front ++ item ∷ []) at found
 part_after part front seen item None is count known at found e =
     let had : HasPart part front at found = known at found e in
-    record { item = had.item; there = slice_get_front front (item ∷ []) at had.item had.there; part_is = had.part_is }
+    record { item = had.item; there = get_front front (item ∷ []) at had.item had.there; part_is = had.part_is }
 part_after {A} {B} part front seen item (Some x) is count known at found e =
     let pair : (at, found) ≡ (seen.0, x) = cc in
     let at_is : at ≡ length front = ap (λ (p : ℕ × B). p.0) pair ∙ count in
     let found_is : x ≡ found = sym (ap (λ (p : ℕ × B). p.1) pair) in
-    record { item = item; there = ap (λ (n : ℕ). slice_get (front ++ item ∷ []) n) at_is ∙ slice_get_seam front item; part_is = is ∙ ap Some found_is }
+    record { item = item; there = ap (λ (n : ℕ). slice_get (front ++ item ∷ []) n) at_is ∙ get_last front item; part_is = is ∙ ap Some found_is }
 
 linked_on : {A B : Type 0} (part : A → Option B) (items front : List A) (seen : ℕ × Option (ℕ × B)) →
     seen.0 ≡ length front → ((at : ℕ) (found : B) → seen.1 ≡ Some (at, found) → HasPart part front at found) →

@@ -1,6 +1,9 @@
 pub mod Geometries
 pub mod Writes
+pub mod Slots
 pub mod Numbers
+pub mod Results
+pub mod Lists
 pub mod Contents
 pub mod MessageBytes
 pub mod LastMessages

@@ -50,12 +50,12 @@ node_put level index number block first second message is_number long whole a b 
     ∙ ap (λ (xs : List ℕ). 0x4e ∷ level ∷ [] ++ xs ++ block) is_number
 
 -- four bytes tell their number
-number_32 : (m n : ℕ) → m < 2 ^ 32 → n < 2 ^ 32 → to_le_bytes w32 m ≡ to_le_bytes w32 n → m ≡ n
+pub number_32 : (m n : ℕ) → m < 2 ^ 32 → n < 2 ^ 32 → to_le_bytes w32 m ≡ to_le_bytes w32 n → m ≡ n
 number_32 m n small fits e =
     sym (from_le_bytes-to_le_bytes_4 m small) ∙ ap (from_le_bytes w32) e ∙ from_le_bytes-to_le_bytes_4 n fits
 
 -- and eight bytes
-number_64 : (m n : ℕ) → m < 2 ^ 64 → n < 2 ^ 64 → to_le_bytes w64 m ≡ to_le_bytes w64 n → m ≡ n
+pub number_64 : (m n : ℕ) → m < 2 ^ 64 → n < 2 ^ 64 → to_le_bytes w64 m ≡ to_le_bytes w64 n → m ≡ n
 number_64 m n small fits e =
     sym (from_le_bytes-to_le_bytes_8 m small) ∙ ap (from_le_bytes w64) e ∙ from_le_bytes-to_le_bytes_8 n fits
 

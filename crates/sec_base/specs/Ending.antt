@@ -8,6 +8,24 @@ use Rattle.sec_base.specs.declared.ending.Cause.TheVariants.{Illegal, Misaligned
 use Rattle.sec_base.specs.declared.ending.Ending.{Ending}
 use Rattle.sec_base.specs.declared.ending.Ending.TheVariants.{Halted, Trapped, OutOfSteps, Tampered, Spent, WriteFault, NoMemory}
 
+-- What ended a run: the program or the limit of steps, the protection of the memory, the sink, or the emulator that is
+-- out of memory.
+pub data EndingClass : Type 0 where
+  ByProgram : EndingClass
+  ByProtection : EndingClass
+  BySink : EndingClass
+  ByEmulator : EndingClass
+
+-- The class of an ending.
+abbrev pub ending_class : Ending → EndingClass
+ending_class (Halted code) = ByProgram
+ending_class (Trapped cause pc) = ByProgram
+ending_class OutOfSteps = ByProgram
+ending_class (Tampered place) = ByProtection
+ending_class (Spent page) = ByProtection
+ending_class WriteFault = BySink
+ending_class NoMemory = ByEmulator
+
 -- The words that a cause of a trap is printed as.
 abbrev pub cause_text : Cause → List ℕ
 cause_text Illegal = codes "illegal"

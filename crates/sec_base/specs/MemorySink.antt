@@ -1,19 +1,25 @@
 -- A sink in memory, some of whose calls fail.
 use Rattle.std.specs.Prelude.{◌==◌, ℕ, List, [], ◌++◌, length, Bool, not, ◌&&◌, if◌then◌else◌, Some}
 use Rattle.sec_base.specs.FailingCalls.{next_fails}
-use Rattle.sec_base.specs.Count.{more_by}
+use Rattle.sec_base.specs.Count.{more_by, top}
 use Rattle.sec_base.specs.Sink.{SinkState}
 
--- the bytes written so far, the numbers of the calls that are to fail, and how many calls and faults there were
+-- the bytes written so far, the most that a call takes, the numbers of the calls that are to fail, and how many calls and
+-- faults there were
 pub record MemorySinkView : Type 0 where
   pub bytes : List ℕ
+  pub most : ℕ
   pub fails : List ℕ
   pub calls : ℕ
   pub faults : ℕ
 
--- nothing written, and no call yet
+-- nothing written, and no call yet; a call takes any piece whole
 abbrev pub new_sink : List ℕ → MemorySinkView
-new_sink fails = record { bytes = []; fails = fails; calls = 0; faults = 0 }
+new_sink fails = record { bytes = []; most = top; fails = fails; calls = 0; faults = 0 }
+
+-- nothing written, and no call yet; a call takes so many bytes at most, and none fails
+abbrev pub short_sink : ℕ → MemorySinkView
+short_sink most = record { bytes = []; most = most; fails = []; calls = 0; faults = 0 }
 
 -- it tells what was written
 abbrev pub sink_state : MemorySinkView → SinkState

@@ -1,6 +1,6 @@
 // A sink in memory, for tests.
-ghost use Rattle.std.specs.Prelude.{◌≡◌, ◌↔◌, ◌≤◌, [], Ok, Err, length, IsTrue, IfOk, OnOk};
-ghost use Rattle.sec_base.specs.MemorySink.{new_sink, sink_state, sink_fails, sink_after_write, sink_after_failure, sink_after_call};
+ghost use Rattle.std.specs.Prelude.{◌≡◌, ◌↔◌, ◌≤◌, ◌<◌, [], Ok, Err, length, min, take, IsTrue, IfOk};
+ghost use Rattle.sec_base.specs.MemorySink.{new_sink, short_sink, sink_state, sink_fails, sink_after_write, sink_after_failure, sink_after_call};
 ghost use Rattle.sec_base.specs.declared.sink.SinkStop.TheVariants.{Failed, NoMemory as no_memory};
 
 use crate::failing_calls::contains_number;
@@ -9,26 +9,31 @@ use crate::stop::NoMemory;
 use std::alloc::Global;
 use std::marker::Model;
 
-/// A sink in memory, which keeps what is written, and some of whose writes fail.
+/// A sink in memory, which keeps what is written. It may take few bytes at a time, and some of its writes may fail.
 #[derive(Debug, Drop)]
 pub struct MemorySink {
     bytes: Vec<u8>,
+    most: usize,
     fails: Vec<u64>,
     calls: u64,
     faults: u64,
 }
 
 impl Model for MemorySink {
+    ghost use Rattle.std.specs.Prelude.{◌<◌};
     ghost use Rattle.sec_base.specs.MemorySink.{MemorySinkView};
 
     ghost Value = { MemorySinkView };
 
     ghost view = { λ sink. record {
       bytes = sink.bytes.items;
+      most = sink.most;
       fails = sink.fails.items;
       calls = sink.calls;
       faults = sink.faults;
     } };
+
+    ghost invariant = { λ sink. 0 < sink.most };
 }
 
 impl MemorySink {
@@ -39,7 +44,23 @@ impl MemorySink {
     {
         Ok(MemorySink {
             bytes: Vec::new(alloc),
+            most: usize::MAX,
             fails: Vec::from_slice(alloc, fails)?,
+            calls: 0,
+            faults: 0,
+        })
+    }
+
+    /// Nothing written yet. A write takes the first `most` bytes of a longer piece, and none fails. Fails only if out
+    /// of memory.
+    pub fn short(alloc: Global, most: usize) -> Result<MemorySink, NoMemory>
+        requires some { 0 < most }
+        ensures { IfOk result (λ sink. sink ≡ short_sink most) }
+    {
+        Ok(MemorySink {
+            bytes: Vec::new(alloc),
+            most,
+            fails: Vec::new(alloc),
             calls: 0,
             faults: 0,
         })
@@ -56,12 +77,13 @@ impl MemorySink {
 impl Sink for MemorySink {
     ghost state = { sink_state };
 
-    /// Writes a whole piece, where the call isn't one that is to fail. An empty piece is no call.
+    /// Writes as much of a piece as a call takes, where the call isn't one that is to fail. An empty piece is no call.
     fn write(&mut self, piece: &[u8]) -> Result<usize, SinkStop>
         ensures failed { (result ≡ Err Failed) ↔ IsTrue (sink_fails self.old piece.now) }
-        ensures whole { IfOk result (λ n. n ≡ length piece.now) }
+        ensures taken { IfOk result (λ n. n ≡ min self.old.most (length piece.now)) }
+        ensures least { IfOk result (λ n. 0 < length piece.now → 0 < n) }
 
-        ensures wrote { OnOk result (self.new ≡ sink_after_write piece.now self.old) }
+        ensures wrote { IfOk result (λ n. self.new ≡ sink_after_write (take n piece.now) self.old) }
         ensures after_failed { result ≡ Err Failed → self.new ≡ sink_after_failure self.old }
         ensures after_no_memory { result ≡ Err no_memory → self.new ≡ sink_after_call self.old }
 
@@ -77,9 +99,10 @@ impl Sink for MemorySink {
             self.faults = self.faults.saturating_add(1);
             return Err(SinkStop::Failed);
         }
-        if self.bytes.extend_from_slice(piece).is_err() {
+        let taken = piece.len().min(self.most);
+        if self.bytes.extend_from_slice(&piece[..taken]).is_err() {
             return Err(SinkStop::NoMemory);
         }
-        Ok(piece.len())
+        Ok(taken)
     }
 }

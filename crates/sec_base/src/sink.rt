@@ -1,5 +1,5 @@
 // Where a run writes.
-ghost use Rattle.std.specs.Prelude.{◌≡◌, ◌<◌, ◌≤◌, [], Ok, Err, length, take, IfOk, OnOk, OnErr};
+ghost use Rattle.std.specs.Prelude.{◌≡◌, ◌≢◌, ◌<◌, ◌≤◌, [], Ok, Err, length, take, IfOk, OnErr};
 ghost use Rattle.sec_base.specs.Count.{Rose};
 ghost use Rattle.sec_base.specs.Sink.{SinkState, Gains, IsSilent, IsWritten};
 ghost use Rattle.sec_base.specs.declared.sink.SinkStop.TheVariants.{Failed, NoMemory as no_memory};
@@ -46,7 +46,7 @@ pub trait Sink {
         ensures err { OnErr result (IsSilent (state self.old) (state self.new)) }
 
         ensures failed { result ≡ Err Failed → Rose (state self.old).faults (state self.new).faults }
-        ensures quiet { OnOk result ((state self.new).faults ≡ (state self.old).faults) }
+        ensures quiet { result ≢ Err Failed → (state self.new).faults ≡ (state self.old).faults }
         ensures faults { (state self.old).faults ≤ (state self.new).faults };
 }
 
@@ -54,7 +54,7 @@ pub trait Sink {
 pub fn write_all<S: Sink>(out: &mut S, piece: &[u8]) -> Result<(), SinkStop>
     ensures written { IsWritten piece.now (S.state out.old) (S.state out.new) result }
     ensures empty { piece.now ≡ [] → result ≡ Ok tt }
-    ensures quiet { OnOk result ((S.state out.new).faults ≡ (S.state out.old).faults) }
+    ensures quiet { result ≢ Err Failed → (S.state out.new).faults ≡ (S.state out.old).faults }
     ensures faults { (S.state out.old).faults ≤ (S.state out.new).faults }
 {
     let mut rest = piece;

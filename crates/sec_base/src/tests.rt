@@ -224,6 +224,18 @@ fn a_piece_is_written_whole(rt: HostRuntime) -> Result<(), Fail> {
     Ok(())
 }
 
+#[test]
+fn a_short_sink_takes_a_piece_in_parts(rt: HostRuntime) -> Result<(), Fail> {
+    let mut sink = MemorySink::short(rt.alloc(), 2)?;
+    let rows: [(&[u8], usize); 4] = [(b"abcde", 2), (b"f", 1), (b"", 0), (b"gh", 2)];
+    for (piece, taken) in rows {
+        assert_eq!(rt; write_to(&mut sink, piece), Ok(taken), "at {piece:?}");
+    }
+    assert_eq!(rt; write_all(&mut sink, b"ijk"), Ok(()));
+    assert_eq!(rt; sink.bytes(), b"abfghijk".as_slice());
+    Ok(())
+}
+
 fn answer_of<F: Files>(
     files: &mut F,
     alloc: Global,

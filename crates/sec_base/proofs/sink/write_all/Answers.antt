@@ -6,5 +6,5 @@ use Rattle.sec_base.proofs.sink.write_all.Goals as goal
 pub loop-rest-preserved : goal.loop-rest-preserved
 loop-rest-preserved g c = record {
   part = rw take_rest (part_goes_on _ _ _ _ _ _ c.loop-rest.invariant.part c.in_ok-taken.ensures.taken c.write.ensures.faults);
-  quiet = c.in_ok-taken.ensures.quiet ∙ c.loop-rest.invariant.quiet;
+  quiet = c.in_ok-taken.ensures.quiet (λ is. cc) ∙ c.loop-rest.invariant.quiet;
 }
