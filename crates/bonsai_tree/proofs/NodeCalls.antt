@@ -1,5 +1,6 @@
 -- One read, one write, and a change of copies, as what calls make of the tree.
 use Rattle.std.proofs.Common.{◌≡◌, ◌≢◌, ◌⊎◌, inl, inr, ℕ, ◌+◌, ◌*◌, ◌/◌, ◌<◌, ◌≤◌, false, max, List, [], ◌∷◌, ◌++◌, length, Option, Some, None, Result, refl, ap, sym, ◌∙◌, subst, arith, ◌-◌}
+use Rattle.std.specs.Result.{result_err}
 use Rattle.std.proofs.lemmas.Bool.{cases_lt}
 use Rattle.sec_base.specs.Count.{Rose}
 use Rattle.sec_base.specs.Evidence.{evidence_place}
@@ -15,7 +16,7 @@ use Rattle.sec_base.specs.declared.stop.MemStop.{MemStop}
 use Rattle.sec_base.specs.declared.stop.MemStop.TheVariants.{Tampered, Spent, NoMemory}
 use Rattle.bus_model.specs.BusHistory.{BusHistory}
 use Rattle.tag_engine.specs.TagEngine.{TagEngineView, tags_of, with_room}
-use Rattle.checked_bus.specs.Steps.{IsAccounted, IsCurrentNode, WritesOnce, stop_of, unwritten_in}
+use Rattle.checked_bus.specs.Steps.{IsAccounted, IsCurrentNode, WritesOnce, unwritten_in}
 use Rattle.checked_bus.proofs.CheckedReads.{ended_accounted}
 use Rattle.checked_bus.proofs.Writes.{none_more}
 use Rattle.bonsai_tree.specs.Climb.{Climbs}
@@ -104,7 +105,7 @@ module _ {T : Type 0} (d n : T → List ℕ → List ℕ) where
         (subst (λ (m : List Message). IsTree (tags_of d n engine) tree m new.written) (sym read.once.made)
         (subst (λ (w : Place → List ℕ). IsTree (tags_of d n engine) tree engine.made w) (sym read.once.written) (holds.fits was)))
 
-    pub climbs_read : Climbs (tags_of d n) level tree old engine tree new engine' (stop_of result)
+    pub climbs_read : Climbs (tags_of d n) level tree old engine tree new engine' (result_err result)
     climbs_read =
         let none : length read.moves.more ≡ 0 = none_more engine.made engine'.made read.moves.more read.once.made read.moves.made in
         record {
@@ -138,7 +139,7 @@ module _ {T : Type 0} (d n : T → List ℕ → List ℕ) where
         }
 
     -- and its block is kept as a copy
-    module _ (tree' : TreeView) (block : List ℕ) (is_ok : stop_of result ≡ None) (levels : tree'.levels ≡ tree.levels) (root : tree'.root ≡ tree.root)
+    module _ (tree' : TreeView) (block : List ℕ) (is_ok : result_err result ≡ None) (levels : tree'.levels ≡ tree.levels) (root : tree'.root ≡ tree.root)
         (nodes : AreNodeCaches tree'.levels tree'.caches) (others : OtherLevels level tree.caches tree'.caches) (absent : cached_node tree level index ≡ None)
         (put : cached_node tree' level index ≡ Some (record { block = block; changed = false }))
         (same : (other at : ℕ) → ¬ (SameNode level index other at) → cached_node tree' other at ≡ cached_node tree other at)
@@ -181,7 +182,7 @@ module _ {T : Type 0} (d n : T → List ℕ → List ℕ) where
               ap (λ (i : ℕ). cached_node tree (level + 1) i) (sym (ap (λ (k : ℕ). index / k) refl)) ∙ none 1 (omega arith) in
               absurd (parent (omega (arith, inside, some)) first)
           | inr zero_more ↦
-              let going : stop_of result ≢ Some NoMemory = λ (e : stop_of result ≡ Some NoMemory). cc in
+              let going : result_err result ≢ Some NoMemory = λ (e : result_err result ≡ Some NoMemory). cc in
               let rose : Rose (old.reads (node_place level index)) (new.reads (node_place level index)) = read.once.rose going in
               let level_is : level ≡ level + more = omega (arith, zero_more) in
               let none_more_is : 0 ≡ more = omega (arith, zero_more) in

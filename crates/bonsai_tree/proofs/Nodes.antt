@@ -2,6 +2,7 @@
 use Rattle.std.proofs.Common.{◌≡◌, ◌≢◌, ◌⊎◌, inl, inr, ℕ, ◌+◌, ◌/◌, ◌%◌, ◌<◌, ◌≤◌, Bool, true, false, cond, nat_lt, List, Option, Some, None, Result, Ok, Err, refl, ap, sym, ◌∙◌, arith}
 use Rattle.std.specs.Option.{option_or}
 use Rattle.std.specs.Prelude.{IfOk, OnErr, OnOk}
+use Rattle.std.specs.Result.{result_err}
 use Rattle.std.proofs.lemmas.Bool.{cases_eq}
 use Rattle.std.proofs.lemmas.Bool.Decides.{Decides-ltb}
 use Rattle.sec_base.specs.Count.{Rose}
@@ -19,7 +20,7 @@ use Rattle.bus_model.specs.BusHistory.{BusHistory}
 use Rattle.tag_engine.specs.TagEngine.{TagEngineView, collision_of, tags_of}
 use Rattle.tag_engine.proofs.Collisions.{collides}
 use Rattle.checked_bus.specs.Checks.{IsCheckedNode}
-use Rattle.checked_bus.specs.Steps.{IsAccounted, IsCurrentNode, Moves, ReadsOnce, SameLines, stop_of}
+use Rattle.checked_bus.specs.Steps.{IsAccounted, IsCurrentNode, Moves, ReadsOnce, SameLines}
 use Rattle.bonsai_tree.specs.Node.{block_or_zeros, tag_in_slot, tag_of_last}
 use Rattle.bonsai_tree.specs.Tree.{TreeView, IsTree, current_block, kept_tag}
 
@@ -66,7 +67,7 @@ some_or_none (Some evidence) = inr (evidence, refl)
 pub some_not_none : (evidence : Option Evidence) (shown : Evidence) → evidence ≡ Some shown → evidence ≢ None
 some_not_none evidence shown some none = cc
 
-pub stop_is : {A : Type 0} (result : Result A MemStop) (stop : MemStop) → stop_of result ≡ Some stop → result ≡ Err stop
+pub stop_is : {A : Type 0} (result : Result A MemStop) (stop : MemStop) → result_err result ≡ Some stop → result ≡ Err stop
 stop_is (Ok value) stop is = absurd (cc)
 stop_is (Err other) stop is = cc
 
@@ -88,10 +89,10 @@ if_ok P Q (Err stop) follows fact = tt
 pub record NodeRead {T : Type 0} (tags : TagEngineView T → Message → List ℕ) (level index : ℕ) (tag : List ℕ) (old : BusHistory) (engine : TagEngineView T)
     (new : BusHistory) (engine' : TagEngineView T) (result : Result (List ℕ) MemStop) : Type 0 where
   pub moves : Moves old engine new engine'
-  pub once : ReadsOnce (node_place level index) old engine new engine' (stop_of result)
+  pub once : ReadsOnce (node_place level index) old engine new engine' (result_err result)
   pub lines : SameLines old engine.made new engine'.made
   pub honest : (used : List (ℕ × Counter)) → (engine.evidence ≡ None → IsCurrentNode (tags engine) engine.made old.written level index tag) →
-      IsAccounted (tags engine) used engine.made old None engine.evidence → IsAccounted (tags engine) used engine'.made new (stop_of result) engine'.evidence
+      IsAccounted (tags engine) used engine.made old None engine.evidence → IsAccounted (tags engine) used engine'.made new (result_err result) engine'.evidence
   pub shown : IsCurrentNode (tags engine) engine.made old.written level index tag → engine.evidence ≡ None →
       engine'.evidence ≢ None → Rose old.lies new.lies
   pub found : (evidence : Evidence) → engine.evidence ≡ None → engine'.evidence ≡ Some evidence → evidence_place evidence ≡ node_place level index

@@ -1,6 +1,7 @@
 -- What a fetch and an update come to.
 use Rattle.std.proofs.Common.{◌≡◌, ◌≢◌, inl, inr, ℕ, ◌+◌, ◌-◌, ◌*◌, ◌/◌, ◌^◌, ◌<◌, ◌≤◌, List, ◌++◌, length, Option, Some, None, Result, Ok, Err, refl, ap, sym, ◌∙◌, subst, arith, length-append}
 use Rattle.std.specs.Prelude.{IfOk, OnOk}
+use Rattle.std.specs.Result.{result_err}
 use Rattle.std.proofs.lemmas.Bool.{cases_lt}
 use Rattle.std.proofs.lemmas.Grind.{pow_more}
 use Rattle.std.proofs.Math.Nat.{pow-le-pow_right, div-div-eq-div-mul}
@@ -20,7 +21,7 @@ use Rattle.bus_model.specs.BusHistory.{BusHistory}
 use Rattle.tag_engine.specs.TagEngine.{TagEngineView, tags_of}
 use Rattle.checked_bus.specs.Accesses.{WritesMessages}
 use Rattle.checked_bus.specs.Checks.{IsCheckedNode}
-use Rattle.checked_bus.specs.Steps.{IsCurrentNode, ReadsOnce, stop_of, unwritten_in}
+use Rattle.checked_bus.specs.Steps.{IsCurrentNode, ReadsOnce, unwritten_in}
 use Rattle.bonsai_tree.specs.Climb.{Climbs}
 use Rattle.bonsai_tree.specs.Node.{block_or_zeros, page_block, path_index}
 use Rattle.bonsai_tree.specs.Tree.{TreeView, HoldsTree, IsFetchPlace, IsNodeFrom, PathWasRead, SamePages, WasReadUp, above, cached_node, kept_tag, path_accesses, present_accesses}
@@ -29,12 +30,12 @@ use Rattle.bonsai_tree.proofs.Nodes.{NodeRead, same_tags, some_or_none, was_none
 use Rattle.bonsai_tree.proofs.NodeCalls.{climbs_read, read_current}
 
 -- where it is no refusal
-pub ok_of : {A P : Type 0} (result : Result A MemStop) → (stop_of result ≡ None → P) → OnOk result P
+pub ok_of : {A P : Type 0} (result : Result A MemStop) → (result_err result ≡ None → P) → OnOk result P
 ok_of (Ok value) fact = fact refl
 ok_of (Err stop) fact = tt
 
-pub stop_of_err : {A : Type 0} (result : Result A MemStop) (stop : MemStop) → result ≡ Err stop → stop_of result ≡ Some stop
-stop_of_err {A} result stop is = ap (λ (r : Result A MemStop). stop_of r) is
+pub stop_of_err : {A : Type 0} (result : Result A MemStop) (stop : MemStop) → result ≡ Err stop → result_err result ≡ Some stop
+stop_of_err {A} result stop is = ap (λ (r : Result A MemStop). result_err r) is
 
 -- a page's node is not above level 0
 pub not_from_one : (levels page : ℕ) (place : Place) → place ≡ node_place 0 page → IsNodeFrom levels 1 place → ⊥
@@ -113,11 +114,11 @@ module _ {T : Type 0} (d n : T → List ℕ → List ℕ) where
     node_here : IsNode tree'.levels 0 page
     node_here = subst (λ (k : ℕ). IsNode k 0 page) (sym climbs.levels) node
 
-    last_read : Climbs (tags_of d n) 0 tree' mid engine' tree' new engine'' (stop_of result)
+    last_read : Climbs (tags_of d n) 0 tree' mid engine' tree' new engine'' (result_err result)
     last_read = climbs_read d n tree' 0 page tag mid new engine' engine'' result node_here (is_tag engine'.made) read
 
-    pub fetched : Climbs (tags_of d n) 0 tree old engine tree' new engine'' (stop_of result)
-    fetched = climbs_on d n 0 tree tree' tree' old mid new engine engine' engine'' (stop_of result) (climbs_up d n 0 1 tree tree' old mid engine engine' None (omega arith) climbs) last_read
+    pub fetched : Climbs (tags_of d n) 0 tree old engine tree' new engine'' (result_err result)
+    fetched = climbs_on d n 0 tree tree' tree' old mid new engine engine' engine'' (result_err result) (climbs_up d n 0 1 tree tree' old mid engine engine' None (omega arith) climbs) last_read
 
     pub fetched_pages : SamePages old engine.made new engine''.made
     fetched_pages = record {
@@ -169,7 +170,7 @@ module _ {T : Type 0} (d n : T → List ℕ → List ℕ) where
         IfOk result (λ block. tags_of d n engine (Node 0 page block) ≡ kept_tag tree' engine''.made 0 page)
     fetched_checked checked = tagged_by result checked
 
-    pub fetched_read : stop_of result ≡ None → cached_node tree' 1 (page / 4) ≢ None → PathWasRead tree engine.made 0 page old new
+    pub fetched_read : result_err result ≡ None → cached_node tree' 1 (page / 4) ≢ None → PathWasRead tree engine.made 0 page old new
     fetched_read going held = record {
       rose = λ level low high none.
           inr (elim (cases_lt 0 level) [
@@ -179,7 +180,7 @@ module _ {T : Type 0} (d n : T → List ℕ → List ℕ) where
             | inr first ↦
                 let zero_is : 0 ≡ level = omega (arith, first) in
                 let index_is : page ≡ path_index tree.levels 0 page = omega arith in
-                let remembered : stop_of result ≢ Some NoMemory = λ (e : stop_of result ≡ Some NoMemory). cc in
+                let remembered : result_err result ≢ Some NoMemory = λ (e : result_err result ≡ Some NoMemory). cc in
                 let rose : Rose (mid.reads (node_place 0 page)) (new.reads (node_place 0 page)) = read.once.rose remembered in
                 let here : Rose (old.reads (node_place 0 page)) (new.reads (node_place 0 page)) = omega (arith, rose, climbs.moves.reads (node_place 0 page)) in
                 subst (λ (k : ℕ). Rose (old.reads (node_place k (path_index tree.levels k page))) (new.reads (node_place k (path_index tree.levels k page)))) zero_is

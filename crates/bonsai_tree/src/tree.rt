@@ -1,5 +1,6 @@
 // The tree, of which the chip keeps the root register and copies of nodes.
 ghost use Rattle.std.specs.Prelude.{true, ◌≡◌, ◌≢◌, ◌⊎◌, ◌+◌, ◌-◌, ◌*◌, ◌/◌, ◌<◌, ◌≤◌, ◌++◌, ◌∷◌, ℕ, List, [], None, Some, Ok, Err, IfOk, OnOk, OnErr, length};
+ghost use Rattle.std.specs.Result.{result_err};
 ghost use Rattle.sec_base.specs.Count.{Rose, more_by};
 ghost use Rattle.sec_base.specs.Geometry.{IsNode, page_count, parent, slot};
 ghost use Rattle.sec_base.specs.LastMessage.{last_node};
@@ -17,7 +18,7 @@ ghost use Rattle.cache_set.specs.CacheSet.{HasRoom};
 ghost use Rattle.cache_set.specs.Cache.{set_at};
 ghost use Rattle.tag_engine.specs.TagEngine.{tags_of};
 ghost use Rattle.checked_bus.specs.Accesses.{WritesMessages};
-ghost use Rattle.checked_bus.specs.Steps.{IsAccounted, Moves, SameLines, stop_of, unwritten_in};
+ghost use Rattle.checked_bus.specs.Steps.{IsAccounted, Moves, SameLines, unwritten_in};
 ghost use Rattle.bonsai_tree.specs.Boot.{AreOfBoot, NodesAreBooted, boot_messages, node_count};
 ghost use Rattle.bonsai_tree.specs.Climb.{Climbs, IsBlockOf, IsVictim, MakesRoom, NoNode, WritesUp};
 ghost use Rattle.bonsai_tree.specs.Node.{CachedNode, block_or_zeros, level_blocks, no_block, page_block, with_tag};
@@ -131,7 +132,7 @@ impl Tree {
         ensures honest { (used : List (ℕ × Counter)) →
             HoldsTree (tags_of T.data_tag_of T.node_tag_of) self.old (B.history bus.old) tags.old →
             IsAccounted (tags_of T.data_tag_of T.node_tag_of tags.old) used tags.old.made (B.history bus.old) None tags.old.evidence →
-            IsAccounted (tags_of T.data_tag_of T.node_tag_of tags.old) used tags.new.made (B.history bus.new) (stop_of result) tags.new.evidence }
+            IsAccounted (tags_of T.data_tag_of T.node_tag_of tags.old) used tags.new.made (B.history bus.new) (result_err result) tags.new.evidence }
         ensures accepted { (made_at : ℕ) (bytes tag : List ℕ) → tags.old.evidence ≡ None →
             tags.new.evidence ≡ Some (Collision 0 page made_at bytes tag) →
             result ≡ Ok bytes }
@@ -174,7 +175,7 @@ impl Tree {
         // What is made of a node above level 0 is a copy that was changed, unless a child of it was made in the call. It is made
         // once at most for each copy of it that was there before or was read in the call, and that is gone after it; out of
         // memory, once more.
-        ensures written_back { WritesBack 1 self.old (B.history bus.old) tags.old.made self.new (B.history bus.new) tags.new.made (stop_of result) }
+        ensures written_back { WritesBack 1 self.old (B.history bus.old) tags.old.made self.new (B.history bus.new) tags.new.made (result_err result) }
         // Unless the call is refused, a copy is evicted only where another node of its set is read: one read is enough for both
         // ways of the set.
         ensures out_for { OnOk result (GoesOutFor self.old (B.history bus.old) self.new (B.history bus.new)) }
@@ -185,7 +186,7 @@ impl Tree {
         ensures last_blocks { NodesHoldLast self.old.levels tags.old.made (B.history bus.old).written →
             result ≢ Err no_memory → NodesHoldLast self.old.levels tags.new.made (B.history bus.new).written }
         ensures writes { (more : List Message) → tags.new.made ≡ tags.old.made ++ more →
-            WritesMessages (B.history bus.old) (B.history bus.new) (length more) (unwritten_in (stop_of result)) }
+            WritesMessages (B.history bus.old) (B.history bus.new) (length more) (unwritten_in (result_err result)) }
     {
         self.parent_present(bus, tags, 0, page)?;
         let tag = self.kept_tag(0, page);
@@ -226,7 +227,7 @@ impl Tree {
         ensures honest { (used : List (ℕ × Counter)) →
             HoldsTree (tags_of T.data_tag_of T.node_tag_of) self.old (B.history bus.old) tags.old →
             IsAccounted (tags_of T.data_tag_of T.node_tag_of tags.old) used tags.old.made (B.history bus.old) None tags.old.evidence →
-            IsAccounted (tags_of T.data_tag_of T.node_tag_of tags.old) used tags.new.made (B.history bus.new) (stop_of result) tags.new.evidence }
+            IsAccounted (tags_of T.data_tag_of T.node_tag_of tags.old) used tags.new.made (B.history bus.new) (result_err result) tags.new.evidence }
         ensures found { (evidence : Evidence) → tags.old.evidence ≡ None → tags.new.evidence ≡ Some evidence →
             IsNodeFrom self.old.levels 1 (evidence_place evidence) }
         ensures shown { HoldsTree (tags_of T.data_tag_of T.node_tag_of) self.old (B.history bus.old) tags.old →
@@ -267,7 +268,7 @@ impl Tree {
         // What is made of a node above level 0 is a copy that was changed, unless a child of it was made in the call. It is made
         // once at most for each copy of it that was there before or was read in the call, and that is gone after it; out of
         // memory, once more.
-        ensures written_back { WritesBack 1 self.old (B.history bus.old) tags.old.made self.new (B.history bus.new) tags.new.made (stop_of result) }
+        ensures written_back { WritesBack 1 self.old (B.history bus.old) tags.old.made self.new (B.history bus.new) tags.new.made (result_err result) }
         // Unless the call is refused, a copy is evicted only where another node of its set is read: one read is enough for both
         // ways of the set.
         ensures out_for { OnOk result (GoesOutFor self.old (B.history bus.old) self.new (B.history bus.new)) }
@@ -278,7 +279,7 @@ impl Tree {
         ensures last_blocks { NodesHoldLast self.old.levels tags.old.made (B.history bus.old).written →
             result ≢ Err no_memory → NodesHoldLast self.old.levels tags.new.made (B.history bus.new).written }
         ensures writes { (more : List Message) → tags.new.made ≡ tags.old.made ++ more →
-            WritesMessages (B.history bus.old) (B.history bus.new) (length more) (unwritten_in (stop_of result)) }
+            WritesMessages (B.history bus.old) (B.history bus.new) (length more) (unwritten_in (result_err result)) }
     {
         self.parent_present(bus, tags, 0, page)?;
         self.write_below(bus, tags, 0, page, block)?;
@@ -300,9 +301,9 @@ impl Tree {
         requires engine { tags.old.levels ≡ self.old.levels }
 
         ensures climbs { Climbs (tags_of T.data_tag_of T.node_tag_of) level
-            self.old (B.history bus.old) tags.old self.new (B.history bus.new) tags.new (stop_of result) }
+            self.old (B.history bus.old) tags.old self.new (B.history bus.new) tags.new (result_err result) }
         ensures back { WritesUp level NoNode
-            self.old (B.history bus.old) tags.old.made self.new (B.history bus.new) tags.new.made (stop_of result) }
+            self.old (B.history bus.old) tags.old.made self.new (B.history bus.new) tags.new.made (result_err result) }
         ensures once { (B.history bus.new).accesses ≤ (B.history bus.old).accesses + present_accesses self.old.levels level }
         ensures few { length tags.new.made ≤ length tags.old.made + present_accesses self.old.levels level }
         ensures hit { cached_node self.old level index ≢ None → (B.history bus.new ≡ B.history bus.old) × (tags.new ≡ tags.old) }
@@ -334,9 +335,9 @@ impl Tree {
         requires engine { tags.old.levels ≡ self.old.levels }
 
         ensures climbs { Climbs (tags_of T.data_tag_of T.node_tag_of) level
-            self.old (B.history bus.old) tags.old self.new (B.history bus.new) tags.new (stop_of result) }
+            self.old (B.history bus.old) tags.old self.new (B.history bus.new) tags.new (result_err result) }
         ensures back { WritesUp level NoNode
-            self.old (B.history bus.old) tags.old.made self.new (B.history bus.new) tags.new.made (stop_of result) }
+            self.old (B.history bus.old) tags.old.made self.new (B.history bus.new) tags.new.made (result_err result) }
         ensures once { (B.history bus.new).accesses ≤ (B.history bus.old).accesses + (present_accesses self.old.levels (level + 1) + 1) }
         ensures few { length tags.new.made ≤ length tags.old.made + (present_accesses self.old.levels (level + 1) + 1) }
         ensures absent { OnOk result (node_way self.new.caches level index ≡ None) }
@@ -371,9 +372,9 @@ impl Tree {
         requires engine { tags.old.levels ≡ self.old.levels }
 
         ensures climbs { Climbs (tags_of T.data_tag_of T.node_tag_of) level
-            self.old (B.history bus.old) tags.old self.new (B.history bus.new) tags.new (stop_of result) }
-        ensures back { WritesUp (level + 1) (IsVictim level victim.now (stop_of result))
-            self.old (B.history bus.old) tags.old.made self.new (B.history bus.new) tags.new.made (stop_of result) }
+            self.old (B.history bus.old) tags.old self.new (B.history bus.new) tags.new (result_err result) }
+        ensures back { WritesUp (level + 1) (IsVictim level victim.now (result_err result))
+            self.old (B.history bus.old) tags.old.made self.new (B.history bus.new) tags.new.made (result_err result) }
         ensures once { (B.history bus.new).accesses ≤ (B.history bus.old).accesses + (present_accesses self.old.levels (level + 1) + 1) }
         ensures few { length tags.new.made ≤ length tags.old.made + (present_accesses self.old.levels (level + 1) + 1) }
         ensures copies { level_cache self.new.caches level ≡ level_cache self.old.caches level }
@@ -404,9 +405,9 @@ impl Tree {
         requires engine { tags.old.levels ≡ self.old.levels }
 
         ensures climbs { Climbs (tags_of T.data_tag_of T.node_tag_of) (level + 1)
-            self.old (B.history bus.old) tags.old self.new (B.history bus.new) tags.new (stop_of result) }
+            self.old (B.history bus.old) tags.old self.new (B.history bus.new) tags.new (result_err result) }
         ensures back { WritesUp (level + 1) NoNode
-            self.old (B.history bus.old) tags.old.made self.new (B.history bus.new) tags.new.made (stop_of result) }
+            self.old (B.history bus.old) tags.old.made self.new (B.history bus.new) tags.new.made (result_err result) }
         ensures once { (B.history bus.new).accesses ≤ (B.history bus.old).accesses + present_accesses self.old.levels (level + 1) }
         ensures few { length tags.new.made ≤ length tags.old.made + present_accesses self.old.levels (level + 1) }
         ensures hit { cached_node self.old (level + 1) (parent self.old.levels level index).1 ≢ None →
@@ -441,9 +442,9 @@ impl Tree {
         requires engine { tags.old.levels ≡ self.old.levels }
 
         ensures climbs { Climbs (tags_of T.data_tag_of T.node_tag_of) level
-            self.old (B.history bus.old) tags.old self.new (B.history bus.new) tags.new (stop_of result) }
+            self.old (B.history bus.old) tags.old self.new (B.history bus.new) tags.new (result_err result) }
         ensures back { WritesUp level NoNode
-            self.old (B.history bus.old) tags.old.made self.new (B.history bus.new) tags.new.made (stop_of result) }
+            self.old (B.history bus.old) tags.old.made self.new (B.history bus.new) tags.new.made (result_err result) }
         ensures once { (B.history bus.new).accesses ≤ (B.history bus.old).accesses + 1 }
         ensures few { length tags.new.made ≤ length tags.old.made + 1 }
         ensures latest { OnOk result (IsLatestNode self.new.caches level index) }

@@ -1,6 +1,7 @@
 -- What a checked read of a node makes of a bus and a tag engine.
 use Rattle.std.proofs.Common.{◌≡◌, ◌≢◌, ℕ, inr, true, List, Option, Some, None, Result, Ok, Err, refl, ap, sym, ◌∙◌, subst, arith}
 use Rattle.std.specs.Option.{option_map, option_or}
+use Rattle.std.specs.Result.{result_err}
 use Rattle.sec_base.specs.Count.{Rose}
 use Rattle.sec_base.specs.Geometry.{IsNode}
 use Rattle.sec_base.specs.Evidence.{NodeFails}
@@ -20,7 +21,7 @@ use Rattle.bus_model.proofs.Steps.{answered}
 use Rattle.tag_engine.specs.TagEngine.{TagEngineView, collision_of}
 use Rattle.tag_engine.proofs.Collisions.{Collides, collides, known}
 use Rattle.checked_bus.specs.Checks.{PassedNode, FailedNode, IsCheckedNode}
-use Rattle.checked_bus.specs.Steps.{IsAccounted, IsCurrentNode, Moves, ReadsOnce, SameLines, SamePlace, stop_of}
+use Rattle.checked_bus.specs.Steps.{IsAccounted, IsCurrentNode, Moves, ReadsOnce, SameLines, SamePlace}
 use Rattle.checked_bus.proofs.FalseAnswers.{lie_comes, lie_rises, first_lie_stays}
 use Rattle.checked_bus.proofs.Evidences.{first_stays, or_none, by_evidence}
 use Rattle.checked_bus.proofs.LineMessages.{some_same}
@@ -50,7 +51,7 @@ module _ {T : Type 0} (tag_of : Message → List ℕ) (level index : ℕ) (tag :
 
   pub node_once : (result : Result (List ℕ) MemStop) → IsNode history.levels level index →
       IsCheckedNode tag_of level index tag history history' engine engine' result →
-      ReadsOnce (node_place level index) history engine history' engine' (stop_of result)
+      ReadsOnce (node_place level index) history engine history' engine' (result_err result)
   node_once (Ok answer) inside passed =
       answer_once (node_place level index) passed.block history history' engine engine' None passed.answered
       (ap (λ (e : TagEngineView T). e.made) passed.checked) (ap (λ (e : TagEngineView T). e.room) passed.checked) inside (λ none. cc)
@@ -121,7 +122,7 @@ module _ {T : Type 0} (tag_of : Message → List ℕ) (level index : ℕ) (tag :
 
   after_evidence : (used : List (ℕ × Counter)) (first : Evidence) → engine.evidence ≡ Some first → (result : Result (List ℕ) MemStop) →
       IsCheckedNode tag_of level index tag history history' engine engine' result → IsAccounted tag_of used engine.made history None engine.evidence →
-      IsAccounted tag_of used engine'.made history' (stop_of result) engine'.evidence
+      IsAccounted tag_of used engine'.made history' (result_err result) engine'.evidence
   after_evidence used first before (Ok answer) passed was =
       let moves : Moves history engine history' engine' = node_moves (Ok answer) passed in
       answer_accounted (node_place level index) passed.block history history' engine engine' tag_of used None first passed.answered
@@ -251,7 +252,7 @@ module _ {T : Type 0} (tag_of : Message → List ℕ) (level index : ℕ) (tag :
 
       pub node_accounted : (result : Result (List ℕ) MemStop) → IsCheckedNode tag_of level index tag history history' engine engine' result →
           IsAccounted tag_of used engine.made history None engine.evidence →
-          IsAccounted tag_of used engine'.made history' (stop_of result) engine'.evidence
+          IsAccounted tag_of used engine'.made history' (result_err result) engine'.evidence
       node_accounted (Ok answer) passed was =
           subst (λ (t : BusHistory). IsAccounted tag_of used engine'.made t None engine'.evidence) (sym passed.answered)
           (subst (λ (made : List Message). IsAccounted tag_of used made (after_read (node_place level index) passed.block history) None engine'.evidence)
@@ -278,7 +279,7 @@ module _ {T : Type 0} (tag_of : Message → List ℕ) (level index : ℕ) (tag :
   pub node_honest : (used : List (ℕ × Counter)) →
       (engine.evidence ≡ None → IsCurrentNode tag_of engine.made history.written level index tag) → (result : Result (List ℕ) MemStop) →
       IsCheckedNode tag_of level index tag history history' engine engine' result → IsAccounted tag_of used engine.made history None engine.evidence →
-      IsAccounted tag_of used engine'.made history' (stop_of result) engine'.evidence
+      IsAccounted tag_of used engine'.made history' (result_err result) engine'.evidence
   node_honest used current result read was =
       by_evidence engine.evidence (λ none. node_accounted (current none) used result read was)
       (λ first before. after_evidence used first before result read was)

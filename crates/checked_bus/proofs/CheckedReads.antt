@@ -1,6 +1,7 @@
 -- What a checked read makes of a bus and a tag engine.
 use Rattle.std.proofs.Common.{◌≡◌, ◌≢◌, ℕ, ◌<◌, inl, inr, true, List, ◌++◌, length, take, drop, Option, Some, None, Contains, Result, Ok, Err, refl, ap, sym, ◌∙◌, subst, arith, length-append}
 use Rattle.std.specs.Option.{option_or}
+use Rattle.std.specs.Result.{result_err}
 use Rattle.std.proofs.lemmas.List.{take_at, drop_at, take_all}
 use Rattle.sec_base.specs.Count.{Rose}
 use Rattle.sec_base.specs.Geometry.{line_count}
@@ -23,7 +24,7 @@ use Rattle.tag_engine.specs.TagEngine.{TagEngineView, forgery_of}
 use Rattle.tag_engine.proofs.Forgeries.{known}
 use Rattle.checked_bus.specs.Checks.{after_line, Passed, Failed, IsCheckedRead}
 use Rattle.checked_bus.specs.SealedLine.{sealed_line}
-use Rattle.checked_bus.specs.Steps.{IsAccounted, IsCurrent, Moves, ReadsOnce, SamePlace, stop_of}
+use Rattle.checked_bus.specs.Steps.{IsAccounted, IsCurrent, Moves, ReadsOnce, SamePlace}
 use Rattle.checked_bus.proofs.LineMessages.{last_made, last_pair-some, some_same}
 use Rattle.checked_bus.proofs.FalseAnswers.{lie_comes, lie_rises, first_lie_stays}
 use Rattle.checked_bus.proofs.Evidences.{shown_is, first_stays, by_evidence}
@@ -90,7 +91,7 @@ module _ {T : Type 0} (tag_of : Message → List ℕ) (line : ℕ) (counter : Co
 
   pub read_once : (result : Result (List ℕ) MemStop) → line < line_count history.levels →
       IsCheckedRead tag_of line counter history history' engine engine' result →
-      ReadsOnce (line_place line) history engine history' engine' (stop_of result)
+      ReadsOnce (line_place line) history engine history' engine' (result_err result)
   read_once (Ok cipher) inside passed =
       answer_once (line_place line) (sealed_bytes passed.sealed) history history' engine engine' None passed.answered
       (ap (λ (e : TagEngineView T). e.made) passed.checked) (ap (λ (e : TagEngineView T). e.room) passed.checked) inside (λ none. cc)
@@ -141,7 +142,7 @@ module _ {T : Type 0} (tag_of : Message → List ℕ) (line : ℕ) (counter : Co
 
   after_evidence : (used : List (ℕ × Counter)) (first : Evidence) → engine.evidence ≡ Some first → (result : Result (List ℕ) MemStop) →
       IsCheckedRead tag_of line counter history history' engine engine' result → IsAccounted tag_of used engine.made history None engine.evidence →
-      IsAccounted tag_of used engine'.made history' (stop_of result) engine'.evidence
+      IsAccounted tag_of used engine'.made history' (result_err result) engine'.evidence
   after_evidence used first before (Ok cipher) passed was =
       let moves : Moves history engine history' engine' = read_moves (Ok cipher) passed in
       answer_accounted (line_place line) (sealed_bytes passed.sealed) history history' engine engine' tag_of used None first passed.answered
@@ -294,7 +295,7 @@ module _ {T : Type 0} (tag_of : Message → List ℕ) (line : ℕ) (counter : Co
 
     pub read_accounted : (result : Result (List ℕ) MemStop) → IsCheckedRead tag_of line counter history history' engine engine' result →
         IsAccounted tag_of used engine.made history None engine.evidence →
-        IsAccounted tag_of used engine'.made history' (stop_of result) engine'.evidence
+        IsAccounted tag_of used engine'.made history' (result_err result) engine'.evidence
     read_accounted (Ok cipher) passed was =
         subst (λ (t : BusHistory). IsAccounted tag_of used engine'.made t None engine'.evidence) (sym passed.answered)
         (subst (λ (made : List Message). IsAccounted tag_of used made (after_line line passed.sealed history) None engine'.evidence)
@@ -320,7 +321,7 @@ module _ {T : Type 0} (tag_of : Message → List ℕ) (line : ℕ) (counter : Co
   pub read_honest : ((cipher : List ℕ) → length (tag_of (Line line counter cipher)) ≡ 16) → (used : List (ℕ × Counter)) →
       (engine.evidence ≡ None → IsCurrent tag_of used engine.made history.written line counter) → (result : Result (List ℕ) MemStop) →
       IsCheckedRead tag_of line counter history history' engine engine' result → IsAccounted tag_of used engine.made history None engine.evidence →
-      IsAccounted tag_of used engine'.made history' (stop_of result) engine'.evidence
+      IsAccounted tag_of used engine'.made history' (result_err result) engine'.evidence
   read_honest tag_long used current result read was =
       by_evidence engine.evidence (λ none. read_accounted tag_long used (current none) result read was)
       (λ first before. after_evidence used first before result read was)

@@ -1,6 +1,6 @@
 -- What a call makes of a bus and a tag engine, seen by the bus's history and by what the engine made and shows.
 -- `Moves`, `SamePlace` and `SameLines` hold of no call, and of two calls one after the other where they hold of each.
-use Rattle.std.specs.Prelude.{◌≡◌, ◌≢◌, ◌⊎◌, ℕ, List, [], ◌++◌, Option, Some, None, Contains, IfSome, Result, Ok, Err}
+use Rattle.std.specs.Prelude.{◌≡◌, ◌≢◌, ◌⊎◌, ℕ, List, [], ◌++◌, Option, Some, None, Contains, IfSome}
 use Rattle.sec_base.specs.declared.counter.Counter.{Counter}
 use Rattle.sec_base.specs.declared.evidence.Evidence.{Evidence}
 use Rattle.sec_base.specs.declared.message.Message.{Message}
@@ -71,11 +71,6 @@ pub record IsCurrentNode (tag_of : Message → List ℕ) (made : List Message) (
   pub last : last_node level index made ≡ Some block
   pub tagged : tag ≡ tag_of (Node level index block)
   pub stored : written (node_place level index) ≡ block
-
--- why a call stopped, if it did
-abbrev pub stop_of : {A : Type 0} → Result A MemStop → Option MemStop
-stop_of (Ok value) = None
-stop_of (Err stop) = Some stop
 
 -- A checked read changes neither the messages nor what was written. It is one read of the place, or none where there was
 -- no memory for it.

@@ -1,5 +1,6 @@
 // One read and one write of a data line.
 ghost use Rattle.std.specs.Prelude.{◌≡◌, ◌≢◌, ◌<◌, ◌⊎◌, ℕ, List, None, Some, Err, IfOk, OnOk, OnErr, Contains, length};
+ghost use Rattle.std.specs.Result.{result_err};
 ghost use Rattle.sec_base.specs.Count.{Rose};
 ghost use Rattle.sec_base.specs.Geometry.{line_count};
 ghost use Rattle.sec_base.specs.Place.{IsPlace};
@@ -14,7 +15,7 @@ ghost use Rattle.bus_model.specs.BusHistory.{after_write};
 ghost use Rattle.tag_engine.specs.TagEngine.{after_make, tags_of};
 ghost use Rattle.checked_bus.specs.Checks.{IsCheckedRead};
 ghost use Rattle.checked_bus.specs.SealedLine.{sealed_line};
-ghost use Rattle.checked_bus.specs.Steps.{IsAccounted, IsCurrent, Moves, ReadsOnce, SamePlace, WritesOnce, stop_of};
+ghost use Rattle.checked_bus.specs.Steps.{IsAccounted, IsCurrent, Moves, ReadsOnce, SamePlace, WritesOnce};
 
 use bus_model::Bus;
 use sec_base::{Counter, MemStop, NoMemory, Place, Sealed, Tagger};
@@ -36,7 +37,7 @@ pub fn read_line<B: Bus, T: Tagger>(
         (B.history bus.old) (B.history bus.new) tags.old tags.new result }
 
     ensures moves { Moves (B.history bus.old) tags.old (B.history bus.new) tags.new }
-    ensures once { ReadsOnce (line_place line) (B.history bus.old) tags.old (B.history bus.new) tags.new (stop_of result) }
+    ensures once { ReadsOnce (line_place line) (B.history bus.old) tags.old (B.history bus.new) tags.new (result_err result) }
     ensures others { (other : Place) → other ≢ line_place line →
         SamePlace other (B.history bus.old) tags.old.made (B.history bus.new) tags.new.made }
 
@@ -45,7 +46,7 @@ pub fn read_line<B: Bus, T: Tagger>(
     ensures honest { (used : List (ℕ × Counter)) →
         (tags.old.evidence ≡ None → IsCurrent (tags_of T.data_tag_of T.node_tag_of tags.old) used tags.old.made (B.history bus.old).written line counter) →
         IsAccounted (tags_of T.data_tag_of T.node_tag_of tags.old) used tags.old.made (B.history bus.old) None tags.old.evidence →
-        IsAccounted (tags_of T.data_tag_of T.node_tag_of tags.old) used tags.new.made (B.history bus.new) (stop_of result) tags.new.evidence }
+        IsAccounted (tags_of T.data_tag_of T.node_tag_of tags.old) used tags.new.made (B.history bus.new) (result_err result) tags.new.evidence }
 
     // What is answered was tagged under the counter, or there is evidence.
     ensures known { IfOk result (λ cipher. length cipher ≡ 64

@@ -1,5 +1,6 @@
 // One read and one write of a node.
 ghost use Rattle.std.specs.Prelude.{◌≡◌, ◌≢◌, ◌<◌, ℕ, List, None, Some, Ok, Err, IfOk, OnOk, OnErr, length};
+ghost use Rattle.std.specs.Result.{result_err};
 ghost use Rattle.sec_base.specs.Count.{Rose};
 ghost use Rattle.sec_base.specs.Geometry.{IsNode};
 ghost use Rattle.sec_base.specs.LastMessage.{last_node};
@@ -13,7 +14,7 @@ ghost use Rattle.sec_base.specs.declared.stop.MemStop.TheVariants.{Tampered, Spe
 ghost use Rattle.bus_model.specs.BusHistory.{after_write};
 ghost use Rattle.tag_engine.specs.TagEngine.{after_make, tags_of};
 ghost use Rattle.checked_bus.specs.Checks.{IsCheckedNode};
-ghost use Rattle.checked_bus.specs.Steps.{IsAccounted, IsCurrentNode, Moves, ReadsOnce, SameLines, SamePlace, WritesOnce, stop_of};
+ghost use Rattle.checked_bus.specs.Steps.{IsAccounted, IsCurrentNode, Moves, ReadsOnce, SameLines, SamePlace, WritesOnce};
 
 use bus_model::Bus;
 use sec_base::{MemStop, NoMemory, Place, Tagger};
@@ -36,7 +37,7 @@ pub fn read_node<B: Bus, T: Tagger>(
         (B.history bus.old) (B.history bus.new) tags.old tags.new result }
 
     ensures moves { Moves (B.history bus.old) tags.old (B.history bus.new) tags.new }
-    ensures once { ReadsOnce (node_place level index) (B.history bus.old) tags.old (B.history bus.new) tags.new (stop_of result) }
+    ensures once { ReadsOnce (node_place level index) (B.history bus.old) tags.old (B.history bus.new) tags.new (result_err result) }
     ensures others { (other : Place) → other ≢ node_place level index →
         SamePlace other (B.history bus.old) tags.old.made (B.history bus.new) tags.new.made }
     ensures lines { SameLines (B.history bus.old) tags.old.made (B.history bus.new) tags.new.made }
@@ -47,7 +48,7 @@ pub fn read_node<B: Bus, T: Tagger>(
         (tags.old.evidence ≡ None →
         IsCurrentNode (tags_of T.data_tag_of T.node_tag_of tags.old) tags.old.made (B.history bus.old).written level index tag.now) →
         IsAccounted (tags_of T.data_tag_of T.node_tag_of tags.old) used tags.old.made (B.history bus.old) None tags.old.evidence →
-        IsAccounted (tags_of T.data_tag_of T.node_tag_of tags.old) used tags.new.made (B.history bus.new) (stop_of result) tags.new.evidence }
+        IsAccounted (tags_of T.data_tag_of T.node_tag_of tags.old) used tags.new.made (B.history bus.new) (result_err result) tags.new.evidence }
 
     // Under that tag, what is answered is the last block, or there is evidence.
     ensures known { IsCurrentNode (tags_of T.data_tag_of T.node_tag_of tags.old) tags.old.made (B.history bus.old).written level index tag.now →

@@ -1,5 +1,6 @@
 // The counters of all pages, by the tree over their blocks and copies of these.
 ghost use Rattle.std.specs.Prelude.{true, false, ◌≡◌, ◌≢◌, ◌⊎◌, ◌+◌, ◌^◌, ◌<◌, ◌≤◌, ◌++◌, ◌∷◌, ℕ, List, [], None, Some, Ok, Err, IfOk, IsOk, OnOk, OnErr, Contains, length};
+ghost use Rattle.std.specs.Result.{result_err};
 ghost use Rattle.sec_base.specs.Count.{Rose, more_by};
 ghost use Rattle.sec_base.specs.Geometry.{page_count};
 ghost use Rattle.sec_base.specs.LastMessage.{last_node};
@@ -15,7 +16,7 @@ ghost use Rattle.cache_set.specs.CacheSet.{HasRoom, without};
 ghost use Rattle.cache_set.specs.Cache.{IsLatest, copy_at, set_at, way_at};
 ghost use Rattle.tag_engine.specs.TagEngine.{tags_of};
 ghost use Rattle.checked_bus.specs.Accesses.{WritesMessages};
-ghost use Rattle.checked_bus.specs.Steps.{IsAccounted, Moves, SameLines, stop_of, unwritten_in};
+ghost use Rattle.checked_bus.specs.Steps.{IsAccounted, Moves, SameLines, unwritten_in};
 ghost use Rattle.split_counter.specs.declared.bumped.Bumped.TheVariants.{Line, Page, Spent};
 ghost use Rattle.split_counter.specs.CounterBlock.{IsCounterBlock, after_bump, block_of, bumped, counter_number, counter_of, new_block};
 ghost use Rattle.bonsai_tree.specs.Boot.{AreOfBoot, NodesAreBooted, boot_messages, node_count};
@@ -129,7 +130,7 @@ impl Counters {
         ensures honest { (used : List (ℕ × Counter)) →
             HoldsCounters (tags_of T.data_tag_of T.node_tag_of) self.old (B.history bus.old) tags.old →
             IsAccounted (tags_of T.data_tag_of T.node_tag_of tags.old) used tags.old.made (B.history bus.old) None tags.old.evidence →
-            IsAccounted (tags_of T.data_tag_of T.node_tag_of tags.old) used tags.new.made (B.history bus.new) (stop_of result) tags.new.evidence }
+            IsAccounted (tags_of T.data_tag_of T.node_tag_of tags.old) used tags.new.made (B.history bus.new) (result_err result) tags.new.evidence }
         ensures found { (evidence : Evidence) → tags.old.evidence ≡ None → tags.new.evidence ≡ Some evidence →
             IsFetchPlace self.old.tree.levels page (evidence_place evidence) }
         ensures shown { HoldsCounters (tags_of T.data_tag_of T.node_tag_of) self.old (B.history bus.old) tags.old →
@@ -190,7 +191,7 @@ impl Counters {
         ensures last_blocks { NodesHoldLast self.old.tree.levels tags.old.made (B.history bus.old).written →
             result ≢ Err no_memory → NodesHoldLast self.old.tree.levels tags.new.made (B.history bus.new).written }
         ensures writes { (more : List Message) → tags.new.made ≡ tags.old.made ++ more →
-            WritesMessages (B.history bus.old) (B.history bus.new) (length more) (unwritten_in (stop_of result)) }
+            WritesMessages (B.history bus.old) (B.history bus.new) (length more) (unwritten_in (result_err result)) }
     {
         self.bring(bus, tags, page)?;
         Ok(CounterBlock::from_bytes(self.blocks.latest(page)))
@@ -245,7 +246,7 @@ impl Counters {
         ensures honest { (used : List (ℕ × Counter)) →
             HoldsCounters (tags_of T.data_tag_of T.node_tag_of) self.old (B.history bus.old) tags.old →
             IsAccounted (tags_of T.data_tag_of T.node_tag_of tags.old) used tags.old.made (B.history bus.old) None tags.old.evidence →
-            IsAccounted (tags_of T.data_tag_of T.node_tag_of tags.old) used tags.new.made (B.history bus.new) (stop_of result) tags.new.evidence }
+            IsAccounted (tags_of T.data_tag_of T.node_tag_of tags.old) used tags.new.made (B.history bus.new) (result_err result) tags.new.evidence }
         ensures found { (evidence : Evidence) → tags.old.evidence ≡ None → tags.new.evidence ≡ Some evidence →
             IsFetchPlace self.old.tree.levels page (evidence_place evidence) }
         ensures shown { HoldsCounters (tags_of T.data_tag_of T.node_tag_of) self.old (B.history bus.old) tags.old →
@@ -300,7 +301,7 @@ impl Counters {
         ensures last_blocks { NodesHoldLast self.old.tree.levels tags.old.made (B.history bus.old).written →
             result ≢ Err no_memory → NodesHoldLast self.old.tree.levels tags.new.made (B.history bus.new).written }
         ensures writes { (more : List Message) → tags.new.made ≡ tags.old.made ++ more →
-            WritesMessages (B.history bus.old) (B.history bus.new) (length more) (unwritten_in (stop_of result)) }
+            WritesMessages (B.history bus.old) (B.history bus.new) (length more) (unwritten_in (result_err result)) }
     {
         let mut block = self.get(bus, tags, page)?;
         let outcome = block.bump(place, limit);
@@ -323,7 +324,7 @@ impl Counters {
         requires engine { tags.old.levels ≡ self.old.tree.levels }
 
         ensures has { Has (tags_of T.data_tag_of T.node_tag_of) (IsFetchPlace self.old.tree.levels page)
-            self.old (B.history bus.old) tags.old self.new (B.history bus.new) tags.new (stop_of result) }
+            self.old (B.history bus.old) tags.old self.new (B.history bus.new) tags.new (result_err result) }
         ensures once { (B.history bus.new).accesses ≤ (B.history bus.old).accesses + counter_accesses self.old.tree.levels }
         ensures few { length tags.new.made ≤ length tags.old.made + counter_accesses self.old.tree.levels }
         ensures room { tags.old.room ≤ tags.new.room + counter_accesses self.old.tree.levels }
@@ -375,7 +376,7 @@ impl Counters {
         requires engine { tags.old.levels ≡ self.old.tree.levels }
 
         ensures has { Has (tags_of T.data_tag_of T.node_tag_of) (IsNodeFrom self.old.tree.levels 1)
-            self.old (B.history bus.old) tags.old self.new (B.history bus.new) tags.new (stop_of result) }
+            self.old (B.history bus.old) tags.old self.new (B.history bus.new) tags.new (result_err result) }
         ensures once { (B.history bus.new).accesses ≤ (B.history bus.old).accesses + path_accesses self.old.tree.levels }
         ensures few { length tags.new.made ≤ length tags.old.made + path_accesses self.old.tree.levels }
         ensures room { tags.old.room ≤ tags.new.room + path_accesses self.old.tree.levels }
@@ -413,7 +414,7 @@ impl Counters {
         requires engine { tags.old.levels ≡ self.old.tree.levels }
 
         ensures has { Has (tags_of T.data_tag_of T.node_tag_of) (IsNodeFrom self.old.tree.levels 1)
-            self.old (B.history bus.old) tags.old self.new (B.history bus.new) tags.new (stop_of result) }
+            self.old (B.history bus.old) tags.old self.new (B.history bus.new) tags.new (result_err result) }
         ensures once { (B.history bus.new).accesses ≤ (B.history bus.old).accesses + path_accesses self.old.tree.levels }
         ensures few { length tags.new.made ≤ length tags.old.made + path_accesses self.old.tree.levels }
         ensures room { tags.old.room ≤ tags.new.room + path_accesses self.old.tree.levels }

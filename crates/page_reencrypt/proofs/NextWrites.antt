@@ -1,6 +1,7 @@
 -- The steps of a write of a line: its page's counters are had, memory is taken, they are counted up, and its lines are
 -- sealed.
 use Rattle.std.proofs.Common.{◌≡◌, ◌≢◌, ◌⊎◌, inl, inr, ℕ, ◌+◌, ◌<◌, ◌≤◌, max, List, [], ◌∷◌, ◌++◌, length, map, take, replicate, slice_index, slice_set, Option, Some, None, Contains, Result, Ok, Err, OnOk, refl, ap, sym, ◌∙◌, subst, arith, length-append}
+use Rattle.std.specs.Result.{result_err}
 use Rattle.std.proofs.lemmas.Bool.{cases_eq}
 use Rattle.std.proofs.lemmas.List.{get_or-replicate, get_or-set_same, get_or-set_other, take_all}
 use Rattle.sec_base.specs.declared.counter.Counter.{Counter}
@@ -17,7 +18,7 @@ use Rattle.pad_stream.specs.Pad.{cipher_of}
 use Rattle.pad_stream.specs.PadEngine.{PadEngineView, after_encrypt, with_room as pads_with_room}
 use Rattle.pad_stream.specs.Pads.{IsBefore}
 use Rattle.checked_bus.specs.SealedLine.{sealed_line}
-use Rattle.checked_bus.specs.Steps.{IsAccounted, Moves as StepMoves, stop_of}
+use Rattle.checked_bus.specs.Steps.{IsAccounted, Moves as StepMoves}
 use Rattle.split_counter.specs.declared.bumped.Bumped.{Bumped}
 use Rattle.split_counter.specs.declared.bumped.Bumped.TheVariants.{Line as line_up, Page as page_up, Spent as used_up}
 use Rattle.split_counter.specs.CounterBlock.{CounterBlockView, IsCounterBlock, after_bump, after_outcome, bumped, counter_of, last_counter, next_counter, place_of}
@@ -36,13 +37,13 @@ use Rattle.page_reencrypt.proofs.Sealing.{all_in_order, listed_one, one_sealed, 
 
 -- What a call answered
 
-pub ok_where : {A P : Type 0} (result : Result A MemStop) → OnOk result P → ((page : ℕ) → result ≢ Err (Spent page)) → lasting_stop (stop_of result) ≡ None → P
+pub ok_where : {A P : Type 0} (result : Result A MemStop) → OnOk result P → ((page : ℕ) → result ≢ Err (Spent page)) → lasting_stop (result_err result) ≡ None → P
 ok_where (Ok value) holds unspent going = holds
 ok_where (Err (Tampered place)) holds unspent going = absurd (cc)
 ok_where (Err (Spent page)) holds unspent going = absurd (unspent page refl)
 ok_where (Err NoMemory) holds unspent going = absurd (cc)
 
-pub stopped_by : {A : Type 0} (result : Result A MemStop) (stop : MemStop) → stop_of result ≡ Some stop → result ≡ Err stop
+pub stopped_by : {A : Type 0} (result : Result A MemStop) (stop : MemStop) → result_err result ≡ Some stop → result ≡ Err stop
 stopped_by (Ok value) stop is = absurd (cc)
 stopped_by (Err why) stop is = let same : why ≡ stop = cc in ap (λ (s : MemStop). Err s) same
 

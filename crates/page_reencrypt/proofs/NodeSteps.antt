@@ -1,5 +1,6 @@
 -- What a step over the nodes leaves of the memory outside.
 use Rattle.std.proofs.Common.{◌≡◌, ◌≢◌, ◌⊎◌, inl, inr, ℕ, List, [], ◌∷◌, ◌++◌, length, Option, Some, None, Contains, Result, Ok, Err, IsOk, OnOk, OnErr, refl, ap, sym, ◌∙◌, subst, append_assoc}
+use Rattle.std.specs.Result.{result_err}
 use Rattle.std.proofs.lemmas.List.{append-nil}
 use Rattle.std.proofs.lemmas.List.Elements.{Contains-append_left}
 use Rattle.sec_base.specs.declared.counter.Counter.{Counter}
@@ -15,7 +16,7 @@ use Rattle.sec_base.proofs.LastMessages.{last_of_other}
 use Rattle.bus_model.specs.BusHistory.{BusHistory}
 use Rattle.tag_engine.specs.TagEngine.{TagEngineView, tags_of}
 use Rattle.checked_bus.specs.Accesses.{WritesMessages}
-use Rattle.checked_bus.specs.Steps.{Moves as StepMoves, SameLines, stop_of}
+use Rattle.checked_bus.specs.Steps.{Moves as StepMoves, SameLines}
 use Rattle.checked_bus.specs.Steps.{unwritten_in}
 use Rattle.checked_bus.proofs.Steps.{same_pairs}
 use Rattle.bonsai_tree.specs.Tree.{IsTree, NodesAreMade, NodesHoldLast, TreeView}
@@ -47,8 +48,8 @@ pub shows_by : {A P : Type 0} (found : Option A) → (found ≢ None → P) → 
 shows_by None shown = inl refl
 shows_by (Some evidence) shown = inr (shown (λ none. cc))
 
-pub not_refused : {A : Type 0} (result : Result A MemStop) → stop_of result ≢ Some NoMemory → result ≢ Err NoMemory
-not_refused result goes_on is = goes_on (ap stop_of is)
+pub not_refused : {A : Type 0} (result : Result A MemStop) → result_err result ≢ Some NoMemory → result ≢ Err NoMemory
+not_refused result goes_on is = goes_on (ap result_err is)
 
 -- messages of nodes are the last of no line
 pub last_data-nodes : (made more : List Message) (line : ℕ) → data_pairs more ≡ [] → last_data line (made ++ more) ≡ last_data line made

@@ -15,7 +15,7 @@ use Rattle.bus_model.specs.BusHistory.{BusHistory}
 use Rattle.tag_engine.specs.TagEngine.{TagEngineView, tags_of}
 use Rattle.pad_stream.specs.PadEngine.{PadEngineView}
 use Rattle.pad_stream.specs.Pads.{AreRising}
-use Rattle.checked_bus.specs.Steps.{IsAccounted, stop_of}
+use Rattle.checked_bus.specs.Steps.{IsAccounted}
 use Rattle.checked_bus.specs.Steps.{unwritten_in}
 use Rattle.split_counter.specs.CounterBlock.{counter_of, place_of}
 use Rattle.counter_cache.specs.Counters.{CountersView}
@@ -91,7 +91,7 @@ module _ {B T : Type 0} (d n : T → List ℕ → List ℕ) (history : B → Bus
   abbrev after : SealedLinesView B T
   after = record { bus = new.bus; engine = new.engine; pads = new.pads; counters = counters; limit = m.limit; stopped = stopped }
 
-  is_stop : stopped ≡ option_or (stop_of result) m.stopped
+  is_stop : stopped ≡ option_or (result_err result) m.stopped
   is_stop = stops ∙ ap (λ (o : Option MemStop). option_or o m.stopped) (err_stop result)
 
   same_used : new.pads.used ≡ m.pads.used
@@ -100,12 +100,12 @@ module _ {B T : Type 0} (d n : T → List ℕ → List ℕ) (history : B → Bus
   was_quiet : new.engine.evidence ≡ None → m.engine.evidence ≡ None
   was_quiet quiet = quiet_before m.engine.evidence new.engine.evidence r.step.evidence quiet
 
-  unspent : (page : ℕ) → stop_of result ≢ Some (Spent page)
+  unspent : (page : ℕ) → result_err result ≢ Some (Spent page)
   unspent page is = r.unspent page (stopped_by result (Spent page) is)
 
-  not_stopped : lasting_stop stopped ≡ None → stop_of result ≡ None
+  not_stopped : lasting_stop stopped ≡ None → result_err result ≡ None
   not_stopped goes_on =
-      elim (stop_lasts m.stopped going (stop_of result) (subst (λ (s : Option MemStop). lasting_stop s ≡ None) is_stop goes_on)) [
+      elim (stop_lasts m.stopped going (result_err result) (subst (λ (s : Option MemStop). lasting_stop s ≡ None) is_stop goes_on)) [
         | inl none ↦ none
         | inr spent ↦ absurd (unspent spent.0 spent.1)
       ]
@@ -119,7 +119,7 @@ module _ {B T : Type 0} (d n : T → List ℕ → List ℕ) (history : B → Bus
         unskipped = subst (AreUnskipped (line_count m.engine.levels)) (sym same_used) was.unskipped;
         paged = λ goes_on. subst (ArePaged (line_count m.engine.levels)) (sym same_used) (was.paged going);
         spent = λ page is.
-            elim (stop_spent m.stopped going (stop_of result) page (sym is_stop ∙ is)) [
+            elim (stop_spent m.stopped going (result_err result) page (sym is_stop ∙ is)) [
               | inl before ↦ subst (λ (u : List (ℕ × Counter)). IsSpent (line_count m.engine.levels) m.limit u page) (sym same_used) (was.spent page before)
               | inr now ↦ absurd (unspent page now)
             ];
@@ -136,7 +136,7 @@ module _ {B T : Type 0} (d n : T → List ℕ → List ℕ) (history : B → Bus
   read_kept =
       protected_after d n history bus_moved m new counters stopped r.step.tagger r.step.levels (r.levels ∙ kept.tree_levels)
       (pages_kept m.engine.levels line (history m.bus) (history new.bus) m.engine.made m.counters counters inside r.copies kept.pages) r.consistent (λ goes_on. r.holds_last)
-      (λ goes_on. r.nodes_hold_last (stop_memory m.stopped going (stop_of result) (λ is. goes_on (is_stop ∙ is)))) read_rises
+      (λ goes_on. r.nodes_hold_last (stop_memory m.stopped going (result_err result) (λ is. goes_on (is_stop ∙ is)))) read_rises
       (λ quiet. r.nodes quiet (kept.nodes (was_quiet quiet)))
       (λ goes_on. r.fits (not_stopped goes_on)) read_says
 
@@ -165,7 +165,7 @@ module _ {B T : Type 0} (d n : T → List ℕ → List ℕ) (history : B → Bus
       entries = [];
       used_more = same_used ∙ sym (append-nil m.pads.used);
       accesses =
-          let more = subst (λ (s : Option MemStop). unwritten_in (stop_of result) ≤ unwritten_in s) (sym is_stop) (stop_unwritten m.stopped going (stop_of result)) in
+          let more = subst (λ (s : Option MemStop). unwritten_in (result_err result) ≤ unwritten_in s) (sym is_stop) (stop_unwritten m.stopped going (result_err result)) in
           record { writes = r.writes.writes; counted = r.writes.counted; at_most = r.writes.at_most; at_least = omega (arith, more, r.writes.at_least) };
       idle = λ stop is. absurd (cc);
       accounted = λ was.
@@ -173,7 +173,7 @@ module _ {B T : Type 0} (d n : T → List ℕ → List ℕ) (history : B → Bus
           subst (λ (t : Message → List ℕ). IsAccounted t new.pads.used new.engine.made (history new.bus) stopped new.engine.evidence)
           (sym (same_tags d n m.engine new.engine r.step.tagger r.step.levels))
           (subst (λ (s : Option MemStop). IsAccounted (tags_of d n m.engine) new.pads.used new.engine.made (history new.bus) s new.engine.evidence) (sym is_stop)
-          (stop_accounted m.stopped going (tags_of d n m.engine) new.pads.used new.engine.made (history new.bus) new.engine.evidence (stop_of result)
+          (stop_accounted m.stopped going (tags_of d n m.engine) new.pads.used new.engine.made (history new.bus) new.engine.evidence (result_err result)
           (r.accounted before)));
     };
     read = record {

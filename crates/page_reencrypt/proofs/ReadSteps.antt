@@ -1,5 +1,6 @@
 -- The steps of a read of a line: its page's counters are had, and then its place is read.
 use Rattle.std.proofs.Common.{◌≡◌, ◌≢◌, ◌⊎◌, inl, inr, ℕ, ◌+◌, ◌<◌, ◌≤◌, List, length, Option, Some, None, Contains, Result, Ok, Err, IfOk, IsOk, refl, ap, sym, ◌∙◌, subst, arith}
+use Rattle.std.specs.Result.{result_err}
 use Rattle.sec_base.specs.declared.counter.Counter.{Counter}
 use Rattle.sec_base.specs.declared.evidence.Evidence.{Evidence}
 use Rattle.sec_base.specs.declared.evidence.Evidence.TheVariants.{Collision, Forgery}
@@ -18,7 +19,7 @@ use Rattle.tag_engine.specs.TagEngine.{tags_of}
 use Rattle.pad_stream.specs.Pad.{cipher_of}
 use Rattle.pad_stream.specs.PadEngine.{PadEngineView}
 use Rattle.checked_bus.specs.Accesses.{AreCounted}
-use Rattle.checked_bus.specs.Steps.{Moves as StepMoves, stop_of}
+use Rattle.checked_bus.specs.Steps.{Moves as StepMoves}
 use Rattle.checked_bus.specs.Steps.{unwritten_in}
 use Rattle.checked_bus.proofs.LineMessages.{some_same}
 use Rattle.checked_bus.proofs.Steps.{moves_on as step_on}
@@ -194,7 +195,7 @@ module _ {B T : Type 0} (history : B → BusHistory) (moved : B → B → Type 0
         (got.engine.evidence ≡ None → IsFresh line got.pads.used → IsOk result × (new ≡ got)) →
         (got.engine.evidence ≡ None → result ≢ Err NoMemory →
         IsFresh line got.pads.used ⊎ Rose ((history got.bus).reads (line_place line)) ((history new.bus).reads (line_place line))) →
-        (AreAccounted (terms_of history moved d n got) got None → AreAccounted (terms_of history moved d n got) new (stop_of result)) →
+        (AreAccounted (terms_of history moved d n got) got None → AreAccounted (terms_of history moved d n got) new (result_err result)) →
         ShowsLies (terms_of history moved d n got) got new →
         ((evidence : Evidence) → got.engine.evidence ≡ None → new.engine.evidence ≡ Some evidence → evidence_place evidence ≡ line_place line) →
         IfOk result (IsReadUnder (tags_of d n got.engine) got.pads.key line counter (history new.bus)) →
@@ -209,7 +210,7 @@ module _ {B T : Type 0} (history : B → BusHistory) (moved : B → B → Type 0
       pairs = a.node.pairs;
       levels = a.levels;
       pads = all_pads;
-      writes = let more = writes_on (history old.bus) (history got.bus) (history new.bus) (length a.node.step.more) 0 (unwritten_in (stop_of result))
+      writes = let more = writes_on (history old.bus) (history got.bus) (history new.bus) (length a.node.step.more) 0 (unwritten_in (result_err result))
           r.bus_levels r.reads r.accesses a.node.writes (record { writes = 0; counted = counted; at_most = omega arith; at_least = omega arith }) in
           record { writes = more.writes; counted = more.counted; at_most = omega (arith, more.at_most); at_least = omega (arith, more.at_least) };
       once = omega (arith, got_once, once);
@@ -241,7 +242,7 @@ module _ {B T : Type 0} (history : B → BusHistory) (moved : B → B → Type 0
             ];
       };
       rose = λ quiet none.
-          elim (rose (got_quiet quiet) (λ memory. let stop : stop_of result ≡ Some NoMemory = ap stop_of memory in cc)) [
+          elim (rose (got_quiet quiet) (λ memory. let stop : result_err result ≡ Some NoMemory = ap result_err memory in cc)) [
             | inl was ↦ inl (subst (λ (p : PadEngineView). IsFresh line p.used) got_pads was)
             | inr up ↦ let before = a.node.lines.reads line in inr (omega (arith, up, before))
           ];
@@ -249,7 +250,7 @@ module _ {B T : Type 0} (history : B → BusHistory) (moved : B → B → Type 0
           let same_all = (fresh (got_quiet quiet) (subst (λ (p : PadEngineView). IsFresh line p.used) (sym got_pads) was)).1 in
           ap (λ (o : OutsideView B T). (history o.bus).reads (line_place line)) same_all ∙ a.node.lines.reads line;
       accounted = λ was.
-          subst (λ (t : MemoryTerms B). AreAccounted t new (stop_of result)) got_terms
+          subst (λ (t : MemoryTerms B). AreAccounted t new (result_err result)) got_terms
           (accounted (subst (λ (t : MemoryTerms B). AreAccounted t got None) (sym got_terms) (a.accounted was)));
       shows = shows_on terms old got new a.node.step r a.shows shows;
       accepted = λ at counter_used sealed made_count quiet is.

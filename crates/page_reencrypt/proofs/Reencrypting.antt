@@ -1,6 +1,7 @@
 -- How lines are encrypted anew: what a line holds is read, it is sealed, and so on line by line.
 use Rattle.std.proofs.Common.{◌≡◌, ◌≢◌, ◌⊎◌, inl, inr, ℕ, zero, suc, ◌+◌, ◌*◌, ◌<◌, ◌≤◌, List, [], ◌∷◌, ◌++◌, length, map, take, Contains, append_assoc, Option, Some, None, Result, Ok, Err, refl, ap, sym, ◌∙◌, subst, arith}
 use Rattle.std.specs.List.{range_with_len, slice_get}
+use Rattle.std.specs.Result.{result_err}
 use Rattle.std.proofs.lemmas.Bool.{cases_eq}
 use Rattle.std.proofs.lemmas.List.{append-nil}
 use Rattle.std.proofs.lemmas.List.Elements.{Contains-append_cases, Contains-append_right}
@@ -21,7 +22,7 @@ use Rattle.pad_stream.specs.PadEngine.{PadEngineView, after_encrypt}
 use Rattle.pad_stream.specs.Pads.{IsBefore}
 use Rattle.checked_bus.specs.Accesses.{AreCounted}
 use Rattle.checked_bus.specs.SealedLine.{sealed_line}
-use Rattle.checked_bus.specs.Steps.{IsAccounted, Moves as StepMoves, stop_of}
+use Rattle.checked_bus.specs.Steps.{IsAccounted, Moves as StepMoves}
 use Rattle.checked_bus.proofs.Steps.{counted_not, moves_not as step_not}
 use Rattle.checked_bus.proofs.TaggedWrites.{wrote_once}
 use Rattle.split_counter.specs.CounterBlock.{CounterBlockView, counter_of, place_of}
@@ -32,7 +33,7 @@ use Rattle.page_reencrypt.proofs.Consistency.{last_pair-other}
 use Rattle.page_reencrypt.proofs.LineReads.{quiet_before}
 use Rattle.page_reencrypt.proofs.Sealing.{all_in_order, listed_not, listed_one, listed_or_not, one_sealed, one_unwritten, only_read, same_terms, sealed_on}
 
-stopped_by : (result : Result (List ℕ) MemStop) (stop : MemStop) → stop_of result ≡ Some stop → result ≡ Err stop
+stopped_by : (result : Result (List ℕ) MemStop) (stop : MemStop) → result_err result ≡ Some stop → result ≡ Err stop
 stopped_by (Ok bytes) stop is = absurd (cc)
 stopped_by (Err why) stop is = let same : why ≡ stop = cc in ap (λ (s : MemStop). Err s) same
 
@@ -157,13 +158,13 @@ module _ {B T : Type 0} (history : B → BusHistory) (moved : B → B → Type 0
       moved old.bus new.bus → StepMoves (history old.bus) old.engine (history new.bus) new.engine → new.engine.made ≡ old.engine.made →
       new.engine.room ≡ old.engine.room → new.pads ≡ old.pads → (history new.bus).written ≡ (history old.bus).written →
       AreCounted (history old.bus) (history new.bus) 0 →
-      (AreAccounted (terms old) old None → AreAccounted (terms old) new (stop_of result)) →
+      (AreAccounted (terms old) old None → AreAccounted (terms old) new (result_err result)) →
       ShowsLies (terms old) old new →
       ((place : Place) → result ≡ Err (Tampered place) → (place ≡ line_place at)
       × (old.engine.evidence ≡ None → Rose (history old.bus).lies (history new.bus).lies)) →
-      ((page : ℕ) → result ≢ Err (Spent page)) → AreSealed (terms old) write old [] new (stop_of result)
+      ((page : ℕ) → result ≢ Err (Spent page)) → AreSealed (terms old) write old [] new (result_err result)
   read_sealed at new result apart of_page went moves made room pads written counted accounted shows tampered unspent =
-      only_read (terms old) write old new (stop_of result) went moves made (omega (arith, room)) pads written counted kept rose last accounted shows
+      only_read (terms old) write old new (result_err result) went moves made (omega (arith, room)) pads written counted kept rose last accounted shows
       (λ place is.
       let there = tampered place (stopped_by result (Tampered place) is) in
       (record { other = at; place_is = there.0; of_page = of_page; apart = apart }, there.1))

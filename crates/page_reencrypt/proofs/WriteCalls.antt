@@ -19,7 +19,7 @@ use Rattle.sec_base.specs.Lines.{with_line}
 use Rattle.sec_base.proofs.JoinedLines.{joined_lines-same, with_line-joined_lines}
 use Rattle.bus_model.specs.BusHistory.{BusHistory}
 use Rattle.tag_engine.specs.TagEngine.{TagEngineView, tags_of}
-use Rattle.checked_bus.specs.Steps.{IsAccounted, stop_of}
+use Rattle.checked_bus.specs.Steps.{IsAccounted}
 use Rattle.checked_bus.specs.Steps.{unwritten_in}
 use Rattle.split_counter.specs.CounterBlock.{last_counter, next_counter, place_of}
 use Rattle.counter_cache.specs.Counters.{CountersView, cached_pages, counter_accesses}
@@ -83,7 +83,7 @@ lasting_write history bus_moved tags bus_unmoved lines line bytes stop lasting =
   hit_overflow = λ cached. omega arith;
 }
 
-pub on_ok : {A P : Type 0} (result : Result A MemStop) → (stop_of result ≡ None → P) → OnOk result P
+pub on_ok : {A P : Type 0} (result : Result A MemStop) → (result_err result ≡ None → P) → OnOk result P
 on_ok (Ok value) holds = holds refl
 on_ok (Err stop) holds = tt
 
@@ -94,12 +94,12 @@ on_err (Err stop) holds = holds
 module _ {B T : Type 0} (d n : T → List ℕ → List ℕ) (history : B → BusHistory) (bus_moved : B → B → Type 0) (m : SealedLinesView B T) (line : ℕ) (bytes : List ℕ)
     (kept : AreProtected d n history m) (going : lasting_stop m.stopped ≡ None) (inside : line < line_count m.engine.levels)
     (new : OutsideView B T) (counters : CountersView) (result : Result (Unit {0}) MemStop)
-    (w : IsWrite (terms_of history bus_moved d n (outside_of m)) m.limit line bytes (outside_of m) m.counters new counters (stop_of result))
+    (w : IsWrite (terms_of history bus_moved d n (outside_of m)) m.limit line bytes (outside_of m) m.counters new counters (result_err result))
     (stopped : Option MemStop) (stops : stopped ≡ option_or (result_err result) m.stopped) where
   abbrev after : SealedLinesView B T
   after = record { bus = new.bus; engine = new.engine; pads = new.pads; counters = counters; limit = m.limit; stopped = stopped }
 
-  is_stop : stopped ≡ option_or (stop_of result) m.stopped
+  is_stop : stopped ≡ option_or (result_err result) m.stopped
   is_stop = stops ∙ ap (λ (o : Option MemStop). option_or o m.stopped) (err_stop result)
 
   was_quiet : new.engine.evidence ≡ None → m.engine.evidence ≡ None
@@ -110,20 +110,20 @@ module _ {B T : Type 0} (d n : T → List ℕ → List ℕ) (history : B → Bus
 
   write_rises : new.engine.evidence ≡ None → CountersRise m.engine.levels m.limit new.pads.used stopped
   write_rises quiet =
-      rises_after m.engine.levels m.limit m.pads.used new.pads.used m.stopped stopped (stop_of result) line w.count (kept.rise (was_quiet quiet)) going inside
+      rises_after m.engine.levels m.limit m.pads.used new.pads.used m.stopped stopped (result_err result) line w.count (kept.rise (was_quiet quiet)) going inside
       (w.risen quiet)
       (subst (λ (k : Counter). new.pads.used ≡ used_on m.pads.used k (take w.count (lines_encrypted k line))) (w.next quiet) w.entries)
-      (subst (λ (k : Counter). stop_of result ≡ None → w.count ≡ length (lines_encrypted k line)) (w.next quiet) w.whole)
+      (subst (λ (k : Counter). result_err result ≡ None → w.count ≡ length (lines_encrypted k line)) (w.next quiet) w.whole)
       (λ page is. let spent = w.spent page is in (spent.0, spent.1, spent.2 quiet))
       (λ last. let none = w.used_up quiet last in (none.0, none.1))
-      (λ goes_on. stop_lasts m.stopped going (stop_of result) (subst (λ (s : Option MemStop). lasting_stop s ≡ None) is_stop goes_on))
-      (λ page is. stop_spent m.stopped going (stop_of result) page (sym is_stop ∙ is))
+      (λ goes_on. stop_lasts m.stopped going (result_err result) (subst (λ (s : Option MemStop). lasting_stop s ≡ None) is_stop goes_on))
+      (λ page is. stop_spent m.stopped going (result_err result) page (sym is_stop ∙ is))
 
-  still_going : lasting_stop stopped ≡ None → lasting_stop (stop_of result) ≡ None
-  still_going goes_on = stop_going m.stopped going (stop_of result) (subst (λ (s : Option MemStop). lasting_stop s ≡ None) is_stop goes_on)
+  still_going : lasting_stop stopped ≡ None → lasting_stop (result_err result) ≡ None
+  still_going goes_on = stop_going m.stopped going (result_err result) (subst (λ (s : Option MemStop). lasting_stop s ≡ None) is_stop goes_on)
 
-  had_memory : stopped ≢ Some NoMemory → stop_of result ≢ Some NoMemory
-  had_memory goes_on = stop_memory m.stopped going (stop_of result) (λ is. goes_on (is_stop ∙ is))
+  had_memory : stopped ≢ Some NoMemory → result_err result ≢ Some NoMemory
+  had_memory goes_on = stop_memory m.stopped going (result_err result) (λ is. goes_on (is_stop ∙ is))
 
   -- what held holds after it
   pub write_kept : AreProtected d n history after
@@ -158,10 +158,10 @@ module _ {B T : Type 0} (d n : T → List ℕ → List ℕ) (history : B → Bus
       ])
 
   -- all lines were sealed, the written one among them
-  every : stop_of result ≡ None → part ≡ lines_encrypted w.counter line
+  every : result_err result ≡ None → part ≡ lines_encrypted w.counter line
   every none = take_all w.count (lines_encrypted w.counter line) (omega (arith, w.whole none))
 
-  written_too : stop_of result ≡ None → Contains part line
+  written_too : result_err result ≡ None → Contains part line
   written_too none = subst (λ (xs : List ℕ). Contains xs line) (sym (every none)) (encrypted_itself w.counter line)
 
   pub write_stored : new.engine.evidence ≡ None → OnOk result (contents after ≡ with_line (contents m) line bytes)
@@ -185,7 +185,7 @@ module _ {B T : Type 0} (d n : T → List ℕ → List ℕ) (history : B → Bus
     entries = map (λ at. (at, w.counter)) part;
     used_more = w.entries;
     accesses =
-        let more = subst (λ (s : Option MemStop). unwritten_in (stop_of result) ≤ unwritten_in s) (sym is_stop) (stop_unwritten m.stopped going (stop_of result)) in
+        let more = subst (λ (s : Option MemStop). unwritten_in (result_err result) ≤ unwritten_in s) (sym is_stop) (stop_unwritten m.stopped going (result_err result)) in
         record { writes = w.writes.writes; counted = w.writes.counted; at_most = w.writes.at_most; at_least = omega (arith, more, w.writes.at_least) };
     idle = λ stop is. absurd (cc);
     accounted = λ was.
@@ -193,7 +193,7 @@ module _ {B T : Type 0} (d n : T → List ℕ → List ℕ) (history : B → Bus
         subst (λ (t : Message → List ℕ). IsAccounted t new.pads.used new.engine.made (history new.bus) stopped new.engine.evidence)
         (sym (same_tags d n m.engine new.engine w.step.tagger w.step.levels))
         (subst (λ (s : Option MemStop). IsAccounted (tags_of d n m.engine) new.pads.used new.engine.made (history new.bus) s new.engine.evidence) (sym is_stop)
-        (stop_accounted m.stopped going (tags_of d n m.engine) new.pads.used new.engine.made (history new.bus) new.engine.evidence (stop_of result)
+        (stop_accounted m.stopped going (tags_of d n m.engine) new.pads.used new.engine.made (history new.bus) new.engine.evidence (result_err result)
         (w.accounted before)));
   }
 
@@ -269,13 +269,13 @@ module _ {B T : Type 0} (d n : T → List ℕ → List ℕ) (history : B → Bus
       ])
 
   pub write_used_up : new.engine.evidence ≡ None → counter_in m.pads.used line ≡ last_counter m.limit →
-      (stop_of result ≢ None) × IsUnsealed history m after × SameCounters m after
+      (result_err result ≢ None) × IsUnsealed history m after × SameCounters m after
       × ((history new.bus).accesses ≤ (history m.bus).accesses + counter_accesses m.engine.levels)
   write_used_up quiet last = let none = w.used_up quiet last in (none.1, unsealed_by none.0, none.2, none.3)
 
   pub write_spent : (page : ℕ) → result ≡ Err (Spent page) → (page ≡ page_of line) × (contents after ≡ contents m) × IsUnsealed history m after
   write_spent page is =
-      let spent = w.spent page (ap stop_of is) in (
+      let spent = w.spent page (ap result_err is) in (
         spent.0,
         contents_same m.pads.key new.pads.key m.engine.levels new.engine.levels m.engine.made w.step.more new.engine.made w.key w.step.levels w.step.made
             (none_sealed spent.1).1,
@@ -283,11 +283,11 @@ module _ {B T : Type 0} (d n : T → List ℕ → List ℕ) (history : B → Bus
       )
 
   pub write_spent_last : new.engine.evidence ≡ None → result ≡ Err (Spent (page_of line)) → counter_in m.pads.used line ≡ last_counter m.limit
-  write_spent_last quiet is = (w.spent (page_of line) (ap stop_of is)).2 quiet
+  write_spent_last quiet is = (w.spent (page_of line) (ap result_err is)).2 quiet
 
   pub write_tampered : (place : Place) → result ≡ Err (Tampered place) → IsTamperedInWrite history line place m after
   write_tampered place is =
-      let stop : stop_of result ≡ Some (Tampered place) = ap stop_of is in
+      let stop : result_err result ≡ Some (Tampered place) = ap result_err is in
       record {
         place_is =
             elim (w.tampered place stop) [
@@ -299,7 +299,7 @@ module _ {B T : Type 0} (d n : T → List ℕ → List ℕ) (history : B → Bus
 
   overflows : (other : ℕ) → result ≡ Err (Tampered (line_place other)) → w.counter.line ≡ 0
   overflows other is =
-      elim (w.tampered (line_place other) (ap stop_of is)) [
+      elim (w.tampered (line_place other) (ap result_err is)) [
         | inl on_path ↦ not_node m.engine.levels (page_of line) other on_path
         | inr beside ↦ beside.1
       ]
@@ -309,14 +309,14 @@ module _ {B T : Type 0} (d n : T → List ℕ → List ℕ) (history : B → Bus
 
   pub write_last_untampered : (other : ℕ) → new.engine.evidence ≡ None → counter_in m.pads.used line ≡ last_counter m.limit → result ≢ Err (Tampered (line_place other))
   write_last_untampered other quiet last is =
-      not_node m.engine.levels (page_of line) other ((w.used_up quiet last).4 (line_place other) (ap stop_of is))
+      not_node m.engine.levels (page_of line) other ((w.used_up quiet last).4 (line_place other) (ap result_err is))
 
   -- the lines before the one that failed were sealed
   pub write_failed : (other : ℕ) → new.engine.evidence ≡ None → result ≡ Err (Tampered (line_place other)) →
       new.pads.used ≡ m.pads.used ++ take (place_of other) (entries_of_write line m.pads.used)
   write_failed other quiet is =
       let next : slice_get (page_lines (page_of line)) w.count ≡ Some other =
-      subst (λ (lines : List ℕ). slice_get lines w.count ≡ Some other) (encrypted_page w.counter line (overflows other is)) (w.failed other (ap stop_of is)) in
+      subst (λ (lines : List ℕ). slice_get lines w.count ≡ Some other) (encrypted_page w.counter line (overflows other is)) (w.failed other (ap result_err is)) in
       let at : place_of other ≡ w.count = nth_of_page (page_of line) w.count other next in
       subst (λ (k : Counter). new.pads.used ≡ m.pads.used ++ map (λ at. (at, k)) (take w.count (lines_encrypted k line))) (w.next quiet) w.entries
       ∙ ap (λ (entries : List (ℕ × Counter)). m.pads.used ++ entries)

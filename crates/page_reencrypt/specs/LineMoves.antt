@@ -8,7 +8,6 @@ use Rattle.sec_base.specs.declared.place.Place.TheVariants.{Line as line_place}
 use Rattle.sec_base.specs.declared.stop.MemStop.{MemStop}
 use Rattle.bus_model.specs.BusHistory.{BusHistory}
 use Rattle.tag_engine.specs.TagEngine.{TagEngineView}
-use Rattle.checked_bus.specs.Steps.{stop_of}
 use Rattle.split_counter.specs.CounterBlock.{next_counter}
 use Rattle.counter_cache.specs.Counters.{cached_pages, counter_accesses}
 use Rattle.page_reencrypt.specs.Contents.{counter_in}
@@ -56,7 +55,7 @@ module _ {B T : Type 0} (history : B → BusHistory) (bus_moved : B → B → Ty
     pub copies : CopiesCame (page_of line) (history old.bus) (made old) old.counters (history new.bus) new.counters
     pub fits : FitsUnlessStopped new
     pub outside : lasting_stop old.stopped ≡ None →
-        IsWrite (terms_in old) old.limit line bytes (outside_of old) old.counters (outside_of new) new.counters (stop_of answer)
+        IsWrite (terms_in old) old.limit line bytes (outside_of old) old.counters (outside_of new) new.counters (result_err answer)
     -- without an overflow no line is read
     pub once : IsQuiet new → (next_counter (counter_in (used old) line)).line ≢ 0 →
         ((history new.bus).accesses ≤ (history old.bus).accesses + write_accesses (levels old))

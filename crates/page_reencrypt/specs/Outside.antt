@@ -1,6 +1,7 @@
 -- What contracts see of the memory outside, and what reads and writes of lines under given counters make of it.
 use Rattle.std.specs.Prelude.{◌≡◌, ◌≢◌, ◌⊎◌, ℕ, ◌+◌, ◌<◌, ◌≤◌, List, [], ◌++◌, length, map, take, Option, Some, None, Contains, Result, Ok, Err, IfOk}
 use Rattle.std.specs.List.{slice_get}
+use Rattle.std.specs.Result.{result_err}
 use Rattle.sec_base.specs.declared.counter.Counter.{Counter}
 use Rattle.sec_base.specs.declared.evidence.Evidence.TheVariants.{Collision, Forgery}
 use Rattle.sec_base.specs.declared.sealed.Sealed.{Sealed}
@@ -19,7 +20,7 @@ use Rattle.pad_stream.specs.Pad.{cipher_of}
 use Rattle.pad_stream.specs.PadEngine.{PadEngineView, with_room as pads_with_room}
 use Rattle.pad_stream.specs.Pads.{AreRising}
 use Rattle.checked_bus.specs.Accesses.{AreCounted}
-use Rattle.checked_bus.specs.Steps.{IsAccounted, Moves as StepMoves, SameLines, stop_of}
+use Rattle.checked_bus.specs.Steps.{IsAccounted, Moves as StepMoves, SameLines}
 use Rattle.split_counter.specs.CounterBlock.{block_of, counter_of, last_counter, next_counter, place_of}
 use Rattle.checked_bus.specs.Accesses.{WritesMessages}
 use Rattle.checked_bus.specs.Steps.{unwritten_in}
@@ -135,7 +136,7 @@ module _ {B T : Type 0} (terms : MemoryTerms B) where
     pub pairs : data_pairs step.more ≡ []
     pub levels : counters'.tree.levels ≡ counters.tree.levels
     pub pads : new.pads ≡ old.pads
-    pub writes : WritesMessages (terms.history old.bus) (terms.history new.bus) (length step.more) (unwritten_in (stop_of result))
+    pub writes : WritesMessages (terms.history old.bus) (terms.history new.bus) (length step.more) (unwritten_in (result_err result))
     pub once : (terms.history new.bus).accesses ≤ (terms.history old.bus).accesses + (counter_accesses terms.levels + 1)
     -- the counters make no access where they are on the chip
     pub hit : Contains (cached_pages counters) (page_of line) → (terms.history new.bus).accesses ≤ (terms.history old.bus).accesses + 1
@@ -143,21 +144,21 @@ module _ {B T : Type 0} (terms : MemoryTerms B) where
     pub alone : (other : ℕ) → other ≢ line → (terms.history new.bus).reads (line_place other) ≡ (terms.history old.bus).reads (line_place other)
     pub consistent : AreConsistent new
     pub holds_last : HaveLast new
-    pub nodes_hold_last : stop_of result ≢ Some NoMemory → HaveLastNodes new
-    pub fits : stop_of result ≡ None → CountersFit new counters'
+    pub nodes_hold_last : result_err result ≢ Some NoMemory → HaveLastNodes new
+    pub fits : result_err result ≡ None → CountersFit new counters'
     pub same : new.engine.evidence ≡ None → SameCounters counters old.engine.made counters' new.engine.made
     pub copies : CopiesCame (page_of line) (terms.history old.bus) old.engine.made counters (terms.history new.bus) counters'
     pub nodes : NodesSayStill old new
     pub value : new.engine.evidence ≡ None → IfOk result (λ bytes. bytes ≡ line_bytes old.pads.key old.engine.made line)
     -- what was read of the bus
-    pub path : stop_of result ≡ None → ¬ Contains (cached_pages counters) (page_of line) →
+    pub path : result_err result ≡ None → ¬ Contains (cached_pages counters) (page_of line) →
         PathWasRead counters.tree old.engine.made 0 (page_of line) (terms.history old.bus) (terms.history new.bus)
-    pub rose : new.engine.evidence ≡ None → stop_of result ≡ None → IsFresh line old.pads.used
+    pub rose : new.engine.evidence ≡ None → result_err result ≡ None → IsFresh line old.pads.used
         ⊎ Rose ((terms.history old.bus).reads (line_place line)) ((terms.history new.bus).reads (line_place line))
     pub fresh : new.engine.evidence ≡ None → IsFresh line old.pads.used →
         (terms.history new.bus).reads (line_place line) ≡ (terms.history old.bus).reads (line_place line)
     -- a false answer is shown as evidence or taken for tampering
-    pub accounted : AreAccounted old None → AreAccounted new (stop_of result)
+    pub accounted : AreAccounted old None → AreAccounted new (result_err result)
     pub shows : ShowsLies old new
     pub accepted : (at : ℕ) (under : Counter) (sealed : Sealed) (made_count : ℕ) → old.engine.evidence ≡ None →
         new.engine.evidence ≡ Some (Forgery at under sealed made_count) →

@@ -1,6 +1,7 @@
 // The lines of the protected memory: they stand outside the chip, encrypted, each with a tag beside it. Their counters
 // stand outside too, below a tree whose root the chip keeps, and it keeps copies of those that were used last.
 ghost use Rattle.std.specs.Prelude.{◌≡◌, ◌≢◌, ◌+◌, ◌^◌, ◌<◌, ◌≤◌, ◌⊎◌, ◌++◌, ℕ, List, None, Some, Ok, Err, IfOk, IfErr, OnOk, OnErr, IfSome, Contains, length, take};
+ghost use Rattle.std.specs.Result.{result_err};
 ghost use Rattle.sec_base.specs.Count.{Rose};
 ghost use Rattle.sec_base.specs.Evidence.{IsEvidence};
 ghost use Rattle.sec_base.specs.Geometry.{line_count, page_of};
@@ -18,7 +19,6 @@ ghost use Rattle.tag_engine.specs.Tag.{engine_tag};
 ghost use Rattle.tag_engine.specs.TagEngine.{tags_of};
 ghost use Rattle.pad_stream.specs.Pad.{cipher_of};
 ghost use Rattle.pad_stream.specs.PadBlocks.{ShareNoBlock};
-ghost use Rattle.checked_bus.specs.Steps.{stop_of};
 ghost use Rattle.split_counter.specs.CounterBlock.{block_of, counter_of, last_counter, next_counter, place_of};
 ghost use Rattle.bonsai_tree.specs.Tree.{IsFetchPlace, PathWasRead};
 ghost use Rattle.counter_cache.specs.Counters.{cached_pages, counter_accesses};
@@ -300,7 +300,7 @@ impl<B: Bus, T: Tagger> LineStore for SealedLines<B, T> {
             counter_in (used self.old) line ≡ last_counter self.old.limit }
         ensures used_up { lasting_stop self.old.stopped ≡ None → IsQuiet self.new →
             counter_in (used self.old) line ≡ last_counter self.old.limit →
-            (stop_of result ≢ None) × IsUnsealed B.history self.old self.new × SameCounters self.old self.new
+            (result_err result ≢ None) × IsUnsealed B.history self.old self.new × SameCounters self.old self.new
             × ((B.history self.new.bus).accesses ≤ (B.history self.old.bus).accesses + counter_accesses (levels self.old)) }
         ensures spent_stays { (page : ℕ) → result ≡ Err (Spent page) → (page ≡ page_of line)
             × (contents self.new ≡ contents self.old) × IsUnsealed B.history self.old self.new }
@@ -393,7 +393,7 @@ fn write_next<B: Bus, T: Tagger>(
     requires limited { outside.old.engine.evidence ≡ None → (counter_in outside.old.pads.used line).page ≤ limit }
 
     ensures written { IsWrite (terms_of B.history B.moved T.data_tag_of T.node_tag_of outside.old) limit line bytes.now
-        outside.old counters.old outside.new counters.new (stop_of result) }
+        outside.old counters.old outside.new counters.new (result_err result) }
     ensures once { outside.new.engine.evidence ≡ None → (next_counter (counter_in outside.old.pads.used line)).line ≢ 0 →
         ((B.history outside.new.bus).accesses ≤ (B.history outside.old.bus).accesses + write_accesses outside.old.engine.levels)
         × ((other : ℕ) → (B.history outside.new.bus).reads (line_place other) ≡ (B.history outside.old.bus).reads (line_place other)) }

@@ -26,7 +26,6 @@ use Rattle.bus_model.specs.BusHistory.{BusHistory}
 use Rattle.tag_engine.specs.TagEngine.{TagEngineView}
 use Rattle.pad_stream.specs.Pad.{cipher_of}
 use Rattle.pad_stream.specs.PadEngine.{PadEngineView}
-use Rattle.checked_bus.specs.Steps.{stop_of}
 use Rattle.bonsai_tree.specs.Node.{path_index}
 use Rattle.bonsai_tree.specs.Tree.{IsFetchPlace, PathWasRead, TreeView}
 use Rattle.page_reencrypt.specs.Contents.{lines_encrypted}
@@ -117,7 +116,7 @@ module _ {B T : Type 0} (history : B → BusHistory) (bus_moved : B → B → Ty
   -- A write of the line that goes out
 
   module _ (old mid : SealedLinesView B T) (way : Way) (answer : Result (Unit {0}) MemStop)
-      (w : IsWrite (terms_in history bus_moved tags old) old.limit way.place way.copy (outside_of old) old.counters (outside_of mid) mid.counters (stop_of answer)) where
+      (w : IsWrite (terms_in history bus_moved tags old) old.limit way.place way.copy (outside_of old) old.counters (outside_of mid) mid.counters (result_err answer)) where
     none_written : w.count ≡ 0 → IsUnsealed history old mid
     none_written none =
         let nothing : take w.count (lines_encrypted w.counter way.place) ≡ [] = ap (λ (k : ℕ). take k (lines_encrypted w.counter way.place)) none in

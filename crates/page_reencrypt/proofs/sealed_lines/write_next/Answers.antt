@@ -1,4 +1,5 @@
 use Rattle.std.proofs.Common.{◌≡◌, ◌≤◌, ℕ, inl, Option, Some, None, Contains, Ok, Err, ap, sym, ◌∙◌, subst, arith, rules}
+use Rattle.std.specs.Result.{result_err}
 use Rattle.sec_base.specs.Geometry.{page_of}
 use Rattle.sec_base.specs.declared.counter.Counter.{Counter}
 use Rattle.sec_base.specs.declared.place.Place.{Place}
@@ -9,7 +10,6 @@ use Rattle.bus_model.specs.BusHistory.{BusHistory}
 use Rattle.tag_engine.specs.TagEngine.{tags_of}
 use Rattle.pad_stream.specs.Pad.{cipher_of}
 use Rattle.checked_bus.specs.SealedLine.{sealed_line}
-use Rattle.checked_bus.specs.Steps.{stop_of}
 use Rattle.checked_bus.proofs.TaggedWrites.{wrote_once}
 use Rattle.counter_cache.specs.Counters.{cached_pages, counters_in}
 use Rattle.page_reencrypt.specs.Outside.{IsWrite, OutsideView, terms_of}
@@ -30,7 +30,7 @@ returns-in_err-block-clause-written g c =
     let counters = c.args.counters.now in
     let why = c.in_err-block.field-0.0 in
     let e = c.in_err-block.ensures in
-    let stop : stop_of c.from_residual.result ≡ Some why = search rules in
+    let stop : result_err c.from_residual.result ≡ Some why = search rules in
     let reached : IsReached (terms_of h m d n old) old counters c.get.new.self c.get.new.counters (Some why) = record {
       node = e.step;
       levels = e.levels;
@@ -173,7 +173,7 @@ returns-in_err-reserve g c =
     let same_accesses = ap (λ (t : BusHistory). t.accesses) same_bus in
     let copies : CopiesCame (page_of c.args.line) (h old.bus) old.engine.made counters (h c.get.new.self.bus) c.get.new.counters =
     subst (λ (p : ℕ). CopiesCame p (h old.bus) old.engine.made counters (h c.get.new.self.bus) c.get.new.counters) c.page_of-page.ensures.page e.copies in
-    let stop : stop_of c.from_residual-in_err-reserve.result ≡ Some NoMemory = search rules in
+    let stop : result_err c.from_residual-in_err-reserve.result ≡ Some NoMemory = search rules in
     record {
       written = subst (λ (s : Option MemStop). IsWrite (terms_of h m d n old) c.args.limit c.args.line c.args.bytes.now old counters c.reserve.new.self c.get.new.counters s) (sym stop)
           (stopped_early h m d n old counters c.reserve.new.self c.get.new.counters NoMemory
@@ -298,7 +298,7 @@ returns-in_err-seal-in-Line g c =
     let up = counted_up h m d n old counters c.requires.current c.args.limit c.args.line c.page_of-page.result c.place_of-place.result c.get.new.self c.get.new.counters
     c.in_ok-block.block c.get-2.result c.of.result had (g.met.B.Bus.unmoved c.get.new.self.bus) g.met.B.Bus.moved_on c.reserve.new.self c.bump.new.self c.bump.new.counters
     c.in_ok-counter.field-0 c.in_ok-reserve.ensures.taken u.moved u.idle u.pads u.levels u.copies u.fits u.outcome u.block u.others in
-    let stop : stop_of c.from_residual-in_err-seal-in-Line.result ≡ Some NoMemory = search rules in
+    let stop : result_err c.from_residual-in_err-seal-in-Line.result ≡ Some NoMemory = search rules in
     let s = c.seal.ensures in
     let same_last : h c.seal.new.self.bus ≡ h c.bump.new.self.bus = c.in_err-seal-in-Line.ensures.err in
     let last_accesses = ap (λ (t : BusHistory). t.accesses) same_last in
@@ -498,15 +498,15 @@ returns-in-Page g c =
       written = page_written h m d n old counters c.requires.current c.args.limit c.args.line c.page_of-page.result c.place_of-place.result c.get.new.self c.get.new.counters
           c.in_ok-block.block c.get-2.result c.of.result had (g.met.B.Bus.unmoved c.get.new.self.bus) g.met.B.Bus.moved_on c.reserve.new.self c.bump.new.self c.bump.new.counters
           c.in_ok-counter.field-0 up c.requires.started e.read c.args.bytes.now c.in-Page.raised c.in-Page.is c.of.ensures.overflow
-          c.reencrypt_page.new.self (stop_of c.reencrypt_page.result) p.sealed;
+          c.reencrypt_page.new.self (result_err c.reencrypt_page.result) p.sealed;
       once = λ quiet short. absurd (short (page_overflows h m d n old counters c.requires.current c.args.limit c.args.line c.page_of-page.result c.place_of-place.result c.get.new.self c.get.new.counters
           c.in_ok-block.block c.get-2.result c.of.result had (g.met.B.Bus.unmoved c.get.new.self.bus) g.met.B.Bus.moved_on c.reserve.new.self c.bump.new.self c.bump.new.counters
           c.in_ok-counter.field-0 up c.requires.started e.read c.args.bytes.now c.in-Page.raised c.in-Page.is c.of.ensures.overflow
-          c.reencrypt_page.new.self (stop_of c.reencrypt_page.result) p.sealed quiet));
+          c.reencrypt_page.new.self (result_err c.reencrypt_page.result) p.sealed quiet));
       few = omega (arith, e.once, same_accesses, bumped_accesses, same_levels, p.once);
       hit = λ cached quiet short. absurd (short (page_overflows h m d n old counters c.requires.current c.args.limit c.args.line c.page_of-page.result c.place_of-place.result c.get.new.self c.get.new.counters
           c.in_ok-block.block c.get-2.result c.of.result had (g.met.B.Bus.unmoved c.get.new.self.bus) g.met.B.Bus.moved_on c.reserve.new.self c.bump.new.self c.bump.new.counters
           c.in_ok-counter.field-0 up c.requires.started e.read c.args.bytes.now c.in-Page.raised c.in-Page.is c.of.ensures.overflow
-          c.reencrypt_page.new.self (stop_of c.reencrypt_page.result) p.sealed quiet));
+          c.reencrypt_page.new.self (result_err c.reencrypt_page.result) p.sealed quiet));
       hit_overflow = λ cached. let same = still cached in omega (arith, same, same_accesses, bumped_accesses, p.once);
     }

@@ -1,11 +1,11 @@
 use Rattle.std.proofs.Common.{◌≡◌, inl, inr, ◌+◌, ℕ, true, List, length, Option, Some, None, refl, ap, sym, ◌∙◌, subst, arith, rules}
 use Rattle.std.specs.Option.{option_map}
+use Rattle.std.specs.Result.{result_err}
 use Rattle.sec_base.specs.declared.stop.MemStop.{MemStop}
 use Rattle.sec_base.specs.declared.stop.MemStop.TheVariants.{NoMemory}
 use Rattle.cache_set.specs.declared.way.Way.{Way}
 use Rattle.cache_set.specs.Cache.{way_at}
 use Rattle.tag_engine.specs.TagEngine.{tags_of}
-use Rattle.checked_bus.specs.Steps.{stop_of}
 use Rattle.bonsai_tree.specs.Climb.{Climbs, IsBlockOf, IsVictim, NoNode, WritesUp}
 use Rattle.bonsai_tree.specs.NodeCache.{AreNodeCaches, copy_of, node_way}
 use Rattle.bonsai_tree.specs.Tree.{TreeView}
@@ -23,14 +23,14 @@ parent_present-returns-then-level-levels-clause-climbs g t c = climbs_not g.T.Ta
 pub write_back-returns-in_err-parent_present-clause-climbs : goal.write_back-returns-in_err-parent_present-clause-climbs
 write_back-returns-in_err-parent_present-clause-climbs g t c =
     let why = c.in_err-parent_present.field-0.0 in
-    let stop : stop_of c.from_residual.result ≡ Some why = search rules in
+    let stop : result_err c.from_residual.result ≡ Some why = search rules in
     subst (λ (s : Option MemStop). Climbs (tags_of g.T.Tagger.data_tag_of g.T.Tagger.node_tag_of) c.args.level c.args.self.now
     (g.B.Bus.history c.args.bus.now) c.args.tags.now c.parent_present.new.self (g.B.Bus.history c.parent_present.new.bus) c.parent_present.new.tags s) (sym stop)
     (climbs_up g.T.Tagger.data_tag_of g.T.Tagger.node_tag_of c.args.level (c.args.level + 1) c.args.self.now c.parent_present.new.self (g.B.Bus.history c.args.bus.now) (g.B.Bus.history c.parent_present.new.bus) c.args.tags.now c.parent_present.new.tags (Some why) (omega arith) c.in_err-parent_present.ensures.climbs)
 
 pub write_back-returns-in_err-write_below-clause-climbs : goal.write_back-returns-in_err-write_below-clause-climbs
 write_back-returns-in_err-write_below-clause-climbs g t c =
-    let stop : stop_of c.from_residual-in_err-write_below.result ≡ Some NoMemory = search rules in
+    let stop : result_err c.from_residual-in_err-write_below.result ≡ Some NoMemory = search rules in
     subst (λ (s : Option MemStop). Climbs (tags_of g.T.Tagger.data_tag_of g.T.Tagger.node_tag_of) c.args.level c.args.self.now
     (g.B.Bus.history c.args.bus.now) c.args.tags.now c.write_below.new.self (g.B.Bus.history c.write_below.new.bus) c.write_below.new.tags s) (sym stop)
     (climbs_on g.T.Tagger.data_tag_of g.T.Tagger.node_tag_of c.args.level c.args.self.now c.parent_present.new.self c.write_below.new.self (g.B.Bus.history c.args.bus.now) (g.B.Bus.history c.parent_present.new.bus) (g.B.Bus.history c.write_below.new.bus) c.args.tags.now c.parent_present.new.tags c.write_below.new.tags (Some NoMemory)
@@ -49,7 +49,7 @@ make_room-returns-in_default-clause-climbs g t c = climbs_not g.T.Tagger.data_ta
 pub make_room-returns-in_err-write_back-clause-climbs : goal.make_room-returns-in_err-write_back-clause-climbs
 make_room-returns-in_err-write_back-clause-climbs g t c =
     let why = c.in_err-write_back.field-0.0 in
-    let stop : stop_of c.from_residual.result ≡ Some why = search rules in
+    let stop : result_err c.from_residual.result ≡ Some why = search rules in
     subst (λ (s : Option MemStop). Climbs (tags_of g.T.Tagger.data_tag_of g.T.Tagger.node_tag_of) c.args.level c.args.self.now
     (g.B.Bus.history c.args.bus.now) c.args.tags.now c.write_back.new.self (g.B.Bus.history c.write_back.new.bus) c.write_back.new.tags s) (sym stop)
     (c.in_err-write_back.ensures.climbs)
@@ -65,7 +65,7 @@ present-returns-then-touch-clause-climbs g t c =
 pub present-returns-in_err-make_room-clause-climbs : goal.present-returns-in_err-make_room-clause-climbs
 present-returns-in_err-make_room-clause-climbs g t c =
     let why = c.in_err-make_room.field-0.0 in
-    let stop : stop_of c.from_residual.result ≡ Some why = search rules in
+    let stop : result_err c.from_residual.result ≡ Some why = search rules in
     subst (λ (s : Option MemStop). Climbs (tags_of g.T.Tagger.data_tag_of g.T.Tagger.node_tag_of) c.args.level c.args.self.now
     (g.B.Bus.history c.args.bus.now) c.args.tags.now c.make_room.new.self (g.B.Bus.history c.make_room.new.bus) c.make_room.new.tags s) (sym stop)
     (climbs_on g.T.Tagger.data_tag_of g.T.Tagger.node_tag_of c.args.level c.args.self.now (tree_of c.self.inside.root c.touch.new.self) c.make_room.new.self (g.B.Bus.history c.args.bus.now) (g.B.Bus.history c.args.bus.now) (g.B.Bus.history c.make_room.new.bus) c.args.tags.now c.args.tags.now c.make_room.new.tags (Some why)
@@ -77,7 +77,7 @@ present-returns-in_err-make_room-clause-climbs g t c =
 pub present-returns-in_err-parent_present-clause-climbs : goal.present-returns-in_err-parent_present-clause-climbs
 present-returns-in_err-parent_present-clause-climbs g t c =
     let why = c.in_err-parent_present.field-0.0 in
-    let stop : stop_of c.from_residual-in_err-parent_present.result ≡ Some why = search rules in
+    let stop : result_err c.from_residual-in_err-parent_present.result ≡ Some why = search rules in
     subst (λ (s : Option MemStop). Climbs (tags_of g.T.Tagger.data_tag_of g.T.Tagger.node_tag_of) c.args.level c.args.self.now
     (g.B.Bus.history c.args.bus.now) c.args.tags.now c.parent_present.new.self (g.B.Bus.history c.parent_present.new.bus) c.parent_present.new.tags s) (sym stop)
     (climbs_on g.T.Tagger.data_tag_of g.T.Tagger.node_tag_of c.args.level c.args.self.now c.make_room.new.self c.parent_present.new.self (g.B.Bus.history c.args.bus.now) (g.B.Bus.history c.make_room.new.bus) (g.B.Bus.history c.parent_present.new.bus) c.args.tags.now c.make_room.new.tags c.parent_present.new.tags (Some why)
@@ -90,7 +90,7 @@ present-returns-in_err-parent_present-clause-climbs g t c =
 
 pub present-returns-clause-climbs : goal.present-returns-clause-climbs
 present-returns-clause-climbs g t c =
-    climbs_on g.T.Tagger.data_tag_of g.T.Tagger.node_tag_of c.args.level c.args.self.now c.parent_present.new.self c.read_in.new.self (g.B.Bus.history c.args.bus.now) (g.B.Bus.history c.parent_present.new.bus) (g.B.Bus.history c.read_in.new.bus) c.args.tags.now c.parent_present.new.tags c.read_in.new.tags (stop_of c.read_in.result)
+    climbs_on g.T.Tagger.data_tag_of g.T.Tagger.node_tag_of c.args.level c.args.self.now c.parent_present.new.self c.read_in.new.self (g.B.Bus.history c.args.bus.now) (g.B.Bus.history c.parent_present.new.bus) (g.B.Bus.history c.read_in.new.bus) c.args.tags.now c.parent_present.new.tags c.read_in.new.tags (result_err c.read_in.result)
     (climbs_on g.T.Tagger.data_tag_of g.T.Tagger.node_tag_of c.args.level c.args.self.now c.make_room.new.self c.parent_present.new.self (g.B.Bus.history c.args.bus.now) (g.B.Bus.history c.make_room.new.bus) (g.B.Bus.history c.parent_present.new.bus) c.args.tags.now c.make_room.new.tags c.parent_present.new.tags None
     (climbs_on g.T.Tagger.data_tag_of g.T.Tagger.node_tag_of c.args.level c.args.self.now (tree_of c.self.inside.root c.touch.new.self) c.make_room.new.self (g.B.Bus.history c.args.bus.now) (g.B.Bus.history c.args.bus.now) (g.B.Bus.history c.make_room.new.bus) c.args.tags.now c.args.tags.now c.make_room.new.tags None
     (climbs_touched g.T.Tagger.data_tag_of g.T.Tagger.node_tag_of c.args.level c.args.self.now (tree_of c.self.inside.root c.touch.new.self) (g.B.Bus.history c.args.bus.now) c.args.tags.now
@@ -207,14 +207,14 @@ write_back-returns-then-not-victim-clause-back g t c =
 pub write_back-returns-in_err-parent_present-clause-back : goal.write_back-returns-in_err-parent_present-clause-back
 write_back-returns-in_err-parent_present-clause-back g t c =
     let why = c.in_err-parent_present.field-0.0 in
-    let stop : stop_of c.from_residual.result ≡ Some why = search rules in
+    let stop : result_err c.from_residual.result ≡ Some why = search rules in
     subst (λ (s : Option MemStop). WritesUp (c.args.level + 1) (IsVictim c.args.level c.args.victim.now s) c.args.self.now (g.B.Bus.history c.args.bus.now) c.args.tags.now.made c.parent_present.new.self (g.B.Bus.history c.parent_present.new.bus) c.parent_present.new.tags.made s) (sym stop)
     (up_as (c.args.level + 1) NoNode (IsVictim c.args.level c.args.victim.now (Some why)) c.args.self.now c.parent_present.new.self (g.B.Bus.history c.args.bus.now) (g.B.Bus.history c.parent_present.new.bus) c.args.tags.now.made c.parent_present.new.tags.made (Some why) (λ other at bytes none. absurd none)
     c.in_err-parent_present.ensures.back)
 
 pub write_back-returns-in_err-write_below-clause-back : goal.write_back-returns-in_err-write_below-clause-back
 write_back-returns-in_err-write_below-clause-back g t c =
-    let stop : stop_of c.from_residual-in_err-write_below.result ≡ Some NoMemory = search rules in
+    let stop : result_err c.from_residual-in_err-write_below.result ≡ Some NoMemory = search rules in
     let changed : c.args.victim.now.changed ≡ true = search rules in
     subst (λ (s : Option MemStop). WritesUp (c.args.level + 1) (IsVictim c.args.level c.args.victim.now s) c.args.self.now (g.B.Bus.history c.args.bus.now) c.args.tags.now.made c.write_below.new.self (g.B.Bus.history c.write_below.new.bus) c.write_below.new.tags.made s) (sym stop)
     (up_on (c.args.level + 1) (IsVictim c.args.level c.args.victim.now (Some NoMemory)) c.args.self.now c.parent_present.new.self c.write_below.new.self (g.B.Bus.history c.args.bus.now) (g.B.Bus.history c.parent_present.new.bus) (g.B.Bus.history c.write_below.new.bus) c.args.tags.now.made c.parent_present.new.tags.made c.write_below.new.tags.made (Some NoMemory)
@@ -239,7 +239,7 @@ make_room-returns-in_default-clause-back g t c =
 pub make_room-returns-in_err-write_back-clause-back : goal.make_room-returns-in_err-write_back-clause-back
 make_room-returns-in_err-write_back-clause-back g t c =
     let why = c.in_err-write_back.field-0.0 in
-    let stop : stop_of c.from_residual.result ≡ Some why = search rules in
+    let stop : result_err c.from_residual.result ≡ Some why = search rules in
     let way : node_way c.args.self.now.caches c.args.level c.in-Some.victim.place ≡ Some c.in-Some.victim =
     sym (ap (λ (v : TreeView). node_way v.caches c.args.level c.in-Some.victim.place) c.self.view_is) ∙ c.in-Some.ensures.way in
     subst (λ (s : Option MemStop). WritesUp c.args.level NoNode c.args.self.now (g.B.Bus.history c.args.bus.now) c.args.tags.now.made c.write_back.new.self (g.B.Bus.history c.write_back.new.bus) c.write_back.new.tags.made s) (sym stop)
@@ -268,7 +268,7 @@ present-returns-then-touch-clause-back g t c =
 pub present-returns-in_err-make_room-clause-back : goal.present-returns-in_err-make_room-clause-back
 present-returns-in_err-make_room-clause-back g t c =
     let why = c.in_err-make_room.field-0.0 in
-    let stop : stop_of c.from_residual.result ≡ Some why = search rules in
+    let stop : result_err c.from_residual.result ≡ Some why = search rules in
     subst (λ (s : Option MemStop). WritesUp c.args.level NoNode c.args.self.now (g.B.Bus.history c.args.bus.now) c.args.tags.now.made c.make_room.new.self (g.B.Bus.history c.make_room.new.bus) c.make_room.new.tags.made s) (sym stop)
     (up_on c.args.level NoNode c.args.self.now (tree_of c.self.inside.root c.touch.new.self) c.make_room.new.self (g.B.Bus.history c.args.bus.now) (g.B.Bus.history c.args.bus.now) (g.B.Bus.history c.make_room.new.bus) c.args.tags.now.made c.args.tags.now.made c.make_room.new.tags.made (Some why)
     (λ place. omega arith) c.in_err-make_room.ensures.climbs.moves.reads
@@ -279,7 +279,7 @@ present-returns-in_err-make_room-clause-back g t c =
 pub present-returns-in_err-parent_present-clause-back : goal.present-returns-in_err-parent_present-clause-back
 present-returns-in_err-parent_present-clause-back g t c =
     let why = c.in_err-parent_present.field-0.0 in
-    let stop : stop_of c.from_residual-in_err-parent_present.result ≡ Some why = search rules in
+    let stop : result_err c.from_residual-in_err-parent_present.result ≡ Some why = search rules in
     subst (λ (s : Option MemStop). WritesUp c.args.level NoNode c.args.self.now (g.B.Bus.history c.args.bus.now) c.args.tags.now.made c.parent_present.new.self (g.B.Bus.history c.parent_present.new.bus) c.parent_present.new.tags.made s) (sym stop)
     (up_on c.args.level NoNode c.args.self.now c.make_room.new.self c.parent_present.new.self (g.B.Bus.history c.args.bus.now) (g.B.Bus.history c.make_room.new.bus) (g.B.Bus.history c.parent_present.new.bus) c.args.tags.now.made c.make_room.new.tags.made c.parent_present.new.tags.made (Some why)
     c.in_ok-make_room.ensures.climbs.moves.reads c.in_err-parent_present.ensures.climbs.moves.reads
@@ -294,7 +294,7 @@ present-returns-in_err-parent_present-clause-back g t c =
 
 pub present-returns-clause-back : goal.present-returns-clause-back
 present-returns-clause-back g t c =
-    up_on c.args.level NoNode c.args.self.now c.parent_present.new.self c.read_in.new.self (g.B.Bus.history c.args.bus.now) (g.B.Bus.history c.parent_present.new.bus) (g.B.Bus.history c.read_in.new.bus) c.args.tags.now.made c.parent_present.new.tags.made c.read_in.new.tags.made (stop_of c.read_in.result)
+    up_on c.args.level NoNode c.args.self.now c.parent_present.new.self c.read_in.new.self (g.B.Bus.history c.args.bus.now) (g.B.Bus.history c.parent_present.new.bus) (g.B.Bus.history c.read_in.new.bus) c.args.tags.now.made c.parent_present.new.tags.made c.read_in.new.tags.made (result_err c.read_in.result)
     (λ place. omega (arith, c.in_ok-make_room.ensures.climbs.moves.reads place, c.in_ok-parent_present.ensures.climbs.moves.reads place)) c.read_in.ensures.climbs.moves.reads
     (up_on c.args.level NoNode c.args.self.now c.make_room.new.self c.parent_present.new.self (g.B.Bus.history c.args.bus.now) (g.B.Bus.history c.make_room.new.bus) (g.B.Bus.history c.parent_present.new.bus) c.args.tags.now.made c.make_room.new.tags.made c.parent_present.new.tags.made None
     c.in_ok-make_room.ensures.climbs.moves.reads c.in_ok-parent_present.ensures.climbs.moves.reads

@@ -1,4 +1,5 @@
 use Rattle.std.proofs.Common.{◌≡◌, ℕ, ◌+◌, ◌/◌, ◌≤◌, List, length, Option, Some, refl, ap, sym, ◌∙◌, subst, arith, rules}
+use Rattle.std.specs.Result.{result_err}
 use Rattle.sec_base.specs.Geometry.{IsNode}
 use Rattle.sec_base.specs.declared.evidence.Evidence.TheVariants.{Collision}
 use Rattle.sec_base.specs.declared.message.Message.{Message}
@@ -8,7 +9,7 @@ use Rattle.sec_base.specs.declared.stop.MemStop.TheVariants.{NoMemory, Tampered}
 use Rattle.bus_model.specs.BusHistory.{BusHistory}
 use Rattle.tag_engine.specs.TagEngine.{TagEngineView, tags_of}
 use Rattle.checked_bus.specs.Accesses.{WritesMessages}
-use Rattle.checked_bus.specs.Steps.{stop_of, unwritten_in}
+use Rattle.checked_bus.specs.Steps.{unwritten_in}
 use Rattle.bonsai_tree.specs.Climb.{Climbs, NoNode, WritesUp}
 use Rattle.bonsai_tree.specs.Node.{level_blocks}
 use Rattle.bonsai_tree.specs.Tree.{WritesBack, path_accesses}
@@ -38,7 +39,7 @@ own_read g c = record {
 }
 
 -- the whole call
-whole : (g : Over) (c : goal.After-read_node g) → Climbs (tags_of g.T.Tagger.data_tag_of g.T.Tagger.node_tag_of) 0 c.args.self.now (g.B.Bus.history c.args.bus.now) c.args.tags.now c.parent_present.new.self (g.B.Bus.history c.read_node.new.bus) c.read_node.new.tags (stop_of c.read_node.result)
+whole : (g : Over) (c : goal.After-read_node g) → Climbs (tags_of g.T.Tagger.data_tag_of g.T.Tagger.node_tag_of) 0 c.args.self.now (g.B.Bus.history c.args.bus.now) c.args.tags.now c.parent_present.new.self (g.B.Bus.history c.read_node.new.bus) c.read_node.new.tags (result_err c.read_node.result)
 whole g c =
     fetched g.T.Tagger.data_tag_of g.T.Tagger.node_tag_of c.args.self.now c.parent_present.new.self c.args.page c.kept_tag-tag.result (g.B.Bus.history c.args.bus.now) (g.B.Bus.history c.parent_present.new.bus) (g.B.Bus.history c.read_node.new.bus) c.args.tags.now c.parent_present.new.tags c.read_node.new.tags c.read_node.result (own_node g c) c.in_ok-parent_present.ensures.climbs c.kept_tag-tag.ensures (own_read g c)
 
@@ -58,7 +59,7 @@ returns-in_err-parent_present-clause-slots g c = c.in_err-parent_present.ensures
 pub returns-in_err-parent_present-clause-writes : goal.returns-in_err-parent_present-clause-writes
 returns-in_err-parent_present-clause-writes g c = λ more is.
     let why = c.in_err-parent_present.field-0.0 in
-    let stop : stop_of c.from_residual.result ≡ Some why = search rules in
+    let stop : result_err c.from_residual.result ≡ Some why = search rules in
     subst (λ (s : Option MemStop). WritesMessages (g.B.Bus.history c.args.bus.now) (g.B.Bus.history c.parent_present.new.bus) (length more) (unwritten_in s)) (sym stop)
     (climb_writes g.T.Tagger.data_tag_of g.T.Tagger.node_tag_of (0 + 1) c.args.self.now c.parent_present.new.self (g.B.Bus.history c.args.bus.now) (g.B.Bus.history c.parent_present.new.bus) c.args.tags.now c.parent_present.new.tags (Some why) c.in_err-parent_present.ensures.climbs more is)
 
@@ -68,7 +69,7 @@ returns-clause-holds g c = λ holds memory.
 
 pub returns-in_err-parent_present-clause-holds : goal.returns-in_err-parent_present-clause-holds
 returns-in_err-parent_present-clause-holds g c = λ holds memory.
-    let stop : stop_of c.from_residual.result ≡ Some c.in_err-parent_present.field-0.0 = search rules in
+    let stop : result_err c.from_residual.result ≡ Some c.in_err-parent_present.field-0.0 = search rules in
     c.in_err-parent_present.ensures.climbs.holds holds (λ is. memory (stop_is c.from_residual.result NoMemory (stop ∙ is)))
 
 pub returns-clause-block : goal.returns-clause-block
@@ -119,7 +120,7 @@ returns-clause-read g c =
 
 pub returns-clause-once : goal.returns-clause-once
 returns-clause-once g c =
-    omega (arith, c.in_ok-parent_present.ensures.once, path_more c.args.self.now.levels, read_most (g.B.Bus.history c.parent_present.new.bus) (g.B.Bus.history c.read_node.new.bus) c.parent_present.new.tags c.read_node.new.tags (node_place 0 c.args.page) (stop_of c.read_node.result) c.read_node.ensures.once)
+    omega (arith, c.in_ok-parent_present.ensures.once, path_more c.args.self.now.levels, read_most (g.B.Bus.history c.parent_present.new.bus) (g.B.Bus.history c.read_node.new.bus) c.parent_present.new.tags c.read_node.new.tags (node_place 0 c.args.page) (result_err c.read_node.result) c.read_node.ensures.once)
 
 pub returns-clause-few_copies : goal.returns-clause-few_copies
 returns-clause-few_copies g c = λ level. few_copies c.parent_present.new.self.levels c.parent_present.new.self.caches level c.in_ok-parent_present.ensures.nodes
@@ -130,7 +131,7 @@ returns-clause-new_copies g c =
 
 pub returns-clause-room : goal.returns-clause-room
 returns-clause-room g c =
-    climb_room g.T.Tagger.data_tag_of g.T.Tagger.node_tag_of 0 (path_accesses c.args.self.now.levels) c.args.self.now c.parent_present.new.self (g.B.Bus.history c.args.bus.now) (g.B.Bus.history c.read_node.new.bus) c.args.tags.now c.read_node.new.tags (stop_of c.read_node.result) (whole g c)
+    climb_room g.T.Tagger.data_tag_of g.T.Tagger.node_tag_of 0 (path_accesses c.args.self.now.levels) c.args.self.now c.parent_present.new.self (g.B.Bus.history c.args.bus.now) (g.B.Bus.history c.read_node.new.bus) c.args.tags.now c.read_node.new.tags (result_err c.read_node.result) (whole g c)
     (omega (arith, c.in_ok-parent_present.ensures.few, path_more c.args.self.now.levels, ap length c.read_node.ensures.once.made))
 
 pub returns-clause-slots : goal.returns-clause-slots
@@ -139,7 +140,7 @@ returns-clause-slots g c =
 
 pub returns-clause-writes : goal.returns-clause-writes
 returns-clause-writes g c = λ more is.
-    climb_writes g.T.Tagger.data_tag_of g.T.Tagger.node_tag_of 0 c.args.self.now c.parent_present.new.self (g.B.Bus.history c.args.bus.now) (g.B.Bus.history c.read_node.new.bus) c.args.tags.now c.read_node.new.tags (stop_of c.read_node.result) (whole g c) more is
+    climb_writes g.T.Tagger.data_tag_of g.T.Tagger.node_tag_of 0 c.args.self.now c.parent_present.new.self (g.B.Bus.history c.args.bus.now) (g.B.Bus.history c.read_node.new.bus) c.args.tags.now c.read_node.new.tags (result_err c.read_node.result) (whole g c) more is
 
 pub returns-in_err-parent_present-clause-no_page : goal.returns-in_err-parent_present-clause-no_page
 returns-in_err-parent_present-clause-no_page g c = c.in_err-parent_present.ensures.climbs.blocks 0 (omega arith)
@@ -163,7 +164,7 @@ pub returns-clause-hit : goal.returns-clause-hit
 returns-clause-hit g c = λ held.
     let same : (g.B.Bus.history c.parent_present.new.bus).accesses ≡ (g.B.Bus.history c.args.bus.now).accesses =
     ap (λ (history : BusHistory). history.accesses) (c.in_ok-parent_present.ensures.hit held).0 in
-    omega (arith, same, read_most (g.B.Bus.history c.parent_present.new.bus) (g.B.Bus.history c.read_node.new.bus) c.parent_present.new.tags c.read_node.new.tags (node_place 0 c.args.page) (stop_of c.read_node.result) c.read_node.ensures.once)
+    omega (arith, same, read_most (g.B.Bus.history c.parent_present.new.bus) (g.B.Bus.history c.read_node.new.bus) c.parent_present.new.tags c.read_node.new.tags (node_place 0 c.args.page) (result_err c.read_node.result) c.read_node.ensures.once)
 
 pub returns-clause-hit_made : goal.returns-clause-hit_made
 returns-clause-hit_made g c = λ held.
@@ -172,16 +173,16 @@ returns-clause-hit_made g c = λ held.
 pub returns-in_err-parent_present-clause-written_back : goal.returns-in_err-parent_present-clause-written_back
 returns-in_err-parent_present-clause-written_back g c =
     let why = c.in_err-parent_present.field-0.0 in
-    let stop : stop_of c.from_residual.result ≡ Some why = search rules in
+    let stop : result_err c.from_residual.result ≡ Some why = search rules in
     subst (λ (s : Option MemStop). WritesBack 1 c.args.self.now (g.B.Bus.history c.args.bus.now) c.args.tags.now.made c.parent_present.new.self (g.B.Bus.history c.parent_present.new.bus) c.parent_present.new.tags.made s) (sym stop)
     c.in_err-parent_present.ensures.back.back
 
 -- nodes over the whole call
-nodes_back : (g : Over) (c : goal.After-read_node g) → WritesUp 1 NoNode c.args.self.now (g.B.Bus.history c.args.bus.now) c.args.tags.now.made c.parent_present.new.self (g.B.Bus.history c.read_node.new.bus) c.read_node.new.tags.made (stop_of c.read_node.result)
+nodes_back : (g : Over) (c : goal.After-read_node g) → WritesUp 1 NoNode c.args.self.now (g.B.Bus.history c.args.bus.now) c.args.tags.now.made c.parent_present.new.self (g.B.Bus.history c.read_node.new.bus) c.read_node.new.tags.made (result_err c.read_node.result)
 nodes_back g c =
-    up_on 1 NoNode c.args.self.now c.parent_present.new.self c.parent_present.new.self (g.B.Bus.history c.args.bus.now) (g.B.Bus.history c.parent_present.new.bus) (g.B.Bus.history c.read_node.new.bus) c.args.tags.now.made c.parent_present.new.tags.made c.read_node.new.tags.made (stop_of c.read_node.result)
+    up_on 1 NoNode c.args.self.now c.parent_present.new.self c.parent_present.new.self (g.B.Bus.history c.args.bus.now) (g.B.Bus.history c.parent_present.new.bus) (g.B.Bus.history c.read_node.new.bus) c.args.tags.now.made c.parent_present.new.tags.made c.read_node.new.tags.made (result_err c.read_node.result)
     c.in_ok-parent_present.ensures.climbs.moves.reads c.read_node.ensures.moves.reads c.in_ok-parent_present.ensures.back
-    (up_same 1 NoNode c.parent_present.new.self c.parent_present.new.self (g.B.Bus.history c.parent_present.new.bus) (g.B.Bus.history c.read_node.new.bus) c.parent_present.new.tags.made c.read_node.new.tags.made (stop_of c.read_node.result) c.read_node.ensures.moves.reads c.read_node.ensures.once.made (λ level index. refl))
+    (up_same 1 NoNode c.parent_present.new.self c.parent_present.new.self (g.B.Bus.history c.parent_present.new.bus) (g.B.Bus.history c.read_node.new.bus) c.parent_present.new.tags.made c.read_node.new.tags.made (result_err c.read_node.result) c.read_node.ensures.moves.reads c.read_node.ensures.once.made (λ level index. refl))
 
 pub returns-clause-written_back : goal.returns-clause-written_back
 returns-clause-written_back g c = (nodes_back g c).back
@@ -194,7 +195,7 @@ returns-clause-no_rise g c = (whole g c).no_rise
 
 pub returns-in_err-parent_present-clause-last_blocks : goal.returns-in_err-parent_present-clause-last_blocks
 returns-in_err-parent_present-clause-last_blocks g c = λ was memory.
-    let stop : stop_of c.from_residual.result ≡ Some c.in_err-parent_present.field-0.0 = search rules in
+    let stop : result_err c.from_residual.result ≡ Some c.in_err-parent_present.field-0.0 = search rules in
     c.in_err-parent_present.ensures.climbs.last_blocks (λ is. memory (stop_is c.from_residual.result NoMemory (stop ∙ is))) was
 
 pub kept_tag-tag-requires-clause-node : goal.kept_tag-tag-requires-clause-node

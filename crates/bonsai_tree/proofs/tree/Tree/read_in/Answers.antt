@@ -1,9 +1,9 @@
 use Rattle.std.proofs.Common.{◌≡◌, ◌+◌, ◌/◌, false, Option, Some, None, Ok, Err, refl, ap, sym, subst, arith, rules}
 use Rattle.std.specs.Option.{option_map}
+use Rattle.std.specs.Result.{result_err}
 use Rattle.sec_base.specs.declared.stop.MemStop.{MemStop}
 use Rattle.sec_base.specs.declared.stop.MemStop.TheVariants.{NoMemory}
 use Rattle.tag_engine.specs.TagEngine.{tags_of}
-use Rattle.checked_bus.specs.Steps.{stop_of}
 use Rattle.bonsai_tree.specs.Climb.{Climbs, NoNode, WritesUp}
 use Rattle.bonsai_tree.specs.NodeCache.{AreNodeCaches, copy_of}
 use Rattle.bonsai_tree.specs.Tree.{TreeView}
@@ -17,7 +17,7 @@ use Rattle.bonsai_tree.proofs.tree.Tree.read_in.Goals as goal
 pub returns-in_err-block-clause-climbs : goal.returns-in_err-block-clause-climbs
 returns-in_err-block-clause-climbs g c =
     let why = c.in_err-block.field-0.0 in
-    let stop : stop_of c.from_residual.result ≡ Some why = search rules in
+    let stop : result_err c.from_residual.result ≡ Some why = search rules in
     subst (λ (s : Option MemStop). Climbs (tags_of g.T.Tagger.data_tag_of g.T.Tagger.node_tag_of) c.args.level c.args.self.now
     (g.B.Bus.history c.args.bus.now) c.args.tags.now c.args.self.now (g.B.Bus.history c.read_node.new.bus) c.read_node.new.tags s) (sym stop)
     (climbs_read g.T.Tagger.data_tag_of g.T.Tagger.node_tag_of c.args.self.now c.args.level c.args.index c.kept_tag-tag.result
@@ -66,7 +66,7 @@ returns-clause-climbs g c =
 pub returns-in_err-block-clause-back : goal.returns-in_err-block-clause-back
 returns-in_err-block-clause-back g c =
     let why = c.in_err-block.field-0.0 in
-    let stop : stop_of c.from_residual.result ≡ Some why = search rules in
+    let stop : result_err c.from_residual.result ≡ Some why = search rules in
     subst (λ (s : Option MemStop). WritesUp c.args.level NoNode c.args.self.now (g.B.Bus.history c.args.bus.now) c.args.tags.now.made c.args.self.now (g.B.Bus.history c.read_node.new.bus) c.read_node.new.tags.made s) (sym stop)
     (up_same c.args.level NoNode c.args.self.now c.args.self.now (g.B.Bus.history c.args.bus.now) (g.B.Bus.history c.read_node.new.bus) c.args.tags.now.made c.read_node.new.tags.made (Some why) c.in_err-block.ensures.moves.reads c.in_err-block.ensures.once.made (λ level index. refl))
 

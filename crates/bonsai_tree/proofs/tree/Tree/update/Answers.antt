@@ -1,4 +1,5 @@
 use Rattle.std.proofs.Common.{◌≡◌, ◌⊎◌, inl, inr, ℕ, ◌+◌, ◌/◌, ◌≤◌, List, [], ◌∷◌, ◌++◌, length, Option, Some, None, ap, sym, ◌∙◌, subst, arith, rules}
+use Rattle.std.specs.Result.{result_err}
 use Rattle.sec_base.specs.Geometry.{IsNode}
 use Rattle.sec_base.specs.declared.message.Message.{Message}
 use Rattle.sec_base.specs.declared.message.Message.TheVariants.{Node}
@@ -7,7 +8,7 @@ use Rattle.sec_base.specs.declared.stop.MemStop.TheVariants.{Tampered, NoMemory}
 use Rattle.bus_model.specs.BusHistory.{BusHistory}
 use Rattle.tag_engine.specs.TagEngine.{TagEngineView, tags_of}
 use Rattle.checked_bus.specs.Accesses.{WritesMessages}
-use Rattle.checked_bus.specs.Steps.{IsAccounted, stop_of, unwritten_in}
+use Rattle.checked_bus.specs.Steps.{IsAccounted, unwritten_in}
 use Rattle.bonsai_tree.specs.Climb.{Climbs, IsBlockOf, WritesUp}
 use Rattle.bonsai_tree.specs.Node.{level_blocks}
 use Rattle.bonsai_tree.specs.Tree.{WritesBack, path_accesses}
@@ -62,7 +63,7 @@ returns-in_err-parent_present-clause-slots g c = c.in_err-parent_present.ensures
 pub returns-in_err-parent_present-clause-writes : goal.returns-in_err-parent_present-clause-writes
 returns-in_err-parent_present-clause-writes g c = λ more is.
     let why = c.in_err-parent_present.field-0.0 in
-    let stop : stop_of c.from_residual.result ≡ Some why = search rules in
+    let stop : result_err c.from_residual.result ≡ Some why = search rules in
     subst (λ (s : Option MemStop). WritesMessages (g.B.Bus.history c.args.bus.now) (g.B.Bus.history c.parent_present.new.bus) (length more) (unwritten_in s)) (sym stop)
     (climb_writes g.T.Tagger.data_tag_of g.T.Tagger.node_tag_of (0 + 1) c.args.self.now c.parent_present.new.self (g.B.Bus.history c.args.bus.now) (g.B.Bus.history c.parent_present.new.bus) c.args.tags.now c.parent_present.new.tags (Some why) c.in_err-parent_present.ensures.climbs more is)
 
@@ -135,12 +136,12 @@ returns-in_err-write_below-clause-refused g c =
 
 pub returns-in_err-write_below-clause-honest : goal.returns-in_err-write_below-clause-honest
 returns-in_err-write_below-clause-honest g c = λ used holds was.
-    let stop : stop_of c.from_residual-in_err-write_below.result ≡ Some NoMemory = search rules in
+    let stop : result_err c.from_residual-in_err-write_below.result ≡ Some NoMemory = search rules in
     subst (λ (s : Option MemStop). IsAccounted (tags_of g.T.Tagger.data_tag_of g.T.Tagger.node_tag_of c.args.tags.now) used c.write_below.new.tags.made (g.B.Bus.history c.write_below.new.bus) s c.write_below.new.tags.evidence) (sym stop) ((whole_refused g c).honest holds used was)
 
 pub returns-in_err-write_below-clause-writes : goal.returns-in_err-write_below-clause-writes
 returns-in_err-write_below-clause-writes g c = λ more is.
-    let stop : stop_of c.from_residual-in_err-write_below.result ≡ Some NoMemory = search rules in
+    let stop : result_err c.from_residual-in_err-write_below.result ≡ Some NoMemory = search rules in
     subst (λ (s : Option MemStop). WritesMessages (g.B.Bus.history c.args.bus.now) (g.B.Bus.history c.write_below.new.bus) (length more) (unwritten_in s)) (sym stop)
     (climb_writes g.T.Tagger.data_tag_of g.T.Tagger.node_tag_of 0 c.args.self.now c.write_below.new.self (g.B.Bus.history c.args.bus.now) (g.B.Bus.history c.write_below.new.bus) c.args.tags.now c.write_below.new.tags (Some NoMemory) (whole_refused g c) more is)
 
@@ -210,12 +211,12 @@ returns-clause-holds g c = λ holds memory.
 
 pub returns-in_err-parent_present-clause-holds : goal.returns-in_err-parent_present-clause-holds
 returns-in_err-parent_present-clause-holds g c = λ holds memory.
-    let stop : stop_of c.from_residual.result ≡ Some c.in_err-parent_present.field-0.0 = search rules in
+    let stop : result_err c.from_residual.result ≡ Some c.in_err-parent_present.field-0.0 = search rules in
     c.in_err-parent_present.ensures.climbs.holds holds (λ is. memory (stop_is c.from_residual.result NoMemory (stop ∙ is)))
 
 pub returns-in_err-write_below-clause-holds : goal.returns-in_err-write_below-clause-holds
 returns-in_err-write_below-clause-holds g c = λ holds memory.
-    let stop : stop_of c.from_residual-in_err-write_below.result ≡ Some NoMemory = search rules in
+    let stop : result_err c.from_residual-in_err-write_below.result ≡ Some NoMemory = search rules in
     absurd (memory (stop_is c.from_residual-in_err-write_below.result NoMemory stop))
 
 pub returns-clause-honest : goal.returns-clause-honest
@@ -242,25 +243,25 @@ returns-clause-parent g c = c.in_ok-write_below.ensures.marked
 
 pub returns-in_err-write_below-clause-tampered : goal.returns-in_err-write_below-clause-tampered
 returns-in_err-write_below-clause-tampered g c = λ place is holds quiet.
-    let stop : stop_of c.from_residual-in_err-write_below.result ≡ Some NoMemory = search rules in
-    let other : stop_of c.from_residual-in_err-write_below.result ≡ Some (Tampered place) = stop_of_err c.from_residual-in_err-write_below.result (Tampered place) is in
+    let stop : result_err c.from_residual-in_err-write_below.result ≡ Some NoMemory = search rules in
+    let other : result_err c.from_residual-in_err-write_below.result ≡ Some (Tampered place) = stop_of_err c.from_residual-in_err-write_below.result (Tampered place) is in
     absurd (cc)
 
 pub returns-in_err-write_below-clause-at_place : goal.returns-in_err-write_below-clause-at_place
 returns-in_err-write_below-clause-at_place g c = λ place is.
-    let stop : stop_of c.from_residual-in_err-write_below.result ≡ Some NoMemory = search rules in
-    let other : stop_of c.from_residual-in_err-write_below.result ≡ Some (Tampered place) = stop_of_err c.from_residual-in_err-write_below.result (Tampered place) is in
+    let stop : result_err c.from_residual-in_err-write_below.result ≡ Some NoMemory = search rules in
+    let other : result_err c.from_residual-in_err-write_below.result ≡ Some (Tampered place) = stop_of_err c.from_residual-in_err-write_below.result (Tampered place) is in
     absurd (cc)
 
 pub returns-in_err-write_below-clause-pages : goal.returns-in_err-write_below-clause-pages
 returns-in_err-write_below-clause-pages g c = λ place is.
-    let stop : stop_of c.from_residual-in_err-write_below.result ≡ Some NoMemory = search rules in
-    let other : stop_of c.from_residual-in_err-write_below.result ≡ Some (Tampered place) = stop_of_err c.from_residual-in_err-write_below.result (Tampered place) is in
+    let stop : result_err c.from_residual-in_err-write_below.result ≡ Some NoMemory = search rules in
+    let other : result_err c.from_residual-in_err-write_below.result ≡ Some (Tampered place) = stop_of_err c.from_residual-in_err-write_below.result (Tampered place) is in
     absurd (cc)
 
 pub returns-in_err-write_below-clause-last_blocks : goal.returns-in_err-write_below-clause-last_blocks
 returns-in_err-write_below-clause-last_blocks g c = λ was remembered.
-    let stop : stop_of c.from_residual-in_err-write_below.result ≡ Some NoMemory = search rules in
+    let stop : result_err c.from_residual-in_err-write_below.result ≡ Some NoMemory = search rules in
     absurd (remembered (stop_is c.from_residual-in_err-write_below.result NoMemory stop))
 
 -- which messages of pages' blocks were made
@@ -323,13 +324,13 @@ returns-clause-hit_made g c = λ held.
 pub returns-in_err-parent_present-clause-written_back : goal.returns-in_err-parent_present-clause-written_back
 returns-in_err-parent_present-clause-written_back g c =
     let why = c.in_err-parent_present.field-0.0 in
-    let stop : stop_of c.from_residual.result ≡ Some why = search rules in
+    let stop : result_err c.from_residual.result ≡ Some why = search rules in
     subst (λ (s : Option MemStop). WritesBack 1 c.args.self.now (g.B.Bus.history c.args.bus.now) c.args.tags.now.made c.parent_present.new.self (g.B.Bus.history c.parent_present.new.bus) c.parent_present.new.tags.made s) (sym stop)
     c.in_err-parent_present.ensures.back.back
 
 pub returns-in_err-write_below-clause-written_back : goal.returns-in_err-write_below-clause-written_back
 returns-in_err-write_below-clause-written_back g c =
-    let stop : stop_of c.from_residual-in_err-write_below.result ≡ Some NoMemory = search rules in
+    let stop : result_err c.from_residual-in_err-write_below.result ≡ Some NoMemory = search rules in
     let nodes : WritesUp 1 (IsBlockOf 0 c.args.page c.args.block.now) c.args.self.now (g.B.Bus.history c.args.bus.now) c.args.tags.now.made c.write_below.new.self (g.B.Bus.history c.write_below.new.bus) c.write_below.new.tags.made (Some NoMemory) =
     up_on 1 (IsBlockOf 0 c.args.page c.args.block.now) c.args.self.now c.parent_present.new.self c.write_below.new.self (g.B.Bus.history c.args.bus.now) (g.B.Bus.history c.parent_present.new.bus) (g.B.Bus.history c.write_below.new.bus) c.args.tags.now.made c.parent_present.new.tags.made c.write_below.new.tags.made (Some NoMemory)
     c.in_ok-parent_present.ensures.climbs.moves.reads c.in_err-write_below.ensures.climbs.moves.reads c.in_ok-parent_present.ensures.back c.in_err-write_below.ensures.back in
@@ -353,7 +354,7 @@ returns-clause-no_rise g c = (whole g c).no_rise
 
 pub returns-in_err-parent_present-clause-last_blocks : goal.returns-in_err-parent_present-clause-last_blocks
 returns-in_err-parent_present-clause-last_blocks g c = λ was memory.
-    let stop : stop_of c.from_residual.result ≡ Some c.in_err-parent_present.field-0.0 = search rules in
+    let stop : result_err c.from_residual.result ≡ Some c.in_err-parent_present.field-0.0 = search rules in
     c.in_err-parent_present.ensures.climbs.last_blocks (λ is. memory (stop_is c.from_residual.result NoMemory (stop ∙ is))) was
 
 -- what copies go out for

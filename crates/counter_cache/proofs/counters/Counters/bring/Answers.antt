@@ -1,6 +1,7 @@
 use Rattle.std.proofs.Common.{◌≡◌, ◌≢◌, inl, ◌+◌, ◌<◌, ◌≤◌, ℕ, List, Option, Some, None, Ok, Err, false, refl, ap, sym, ◌∙◌, subst, arith, rules}
 use Rattle.std.specs.List.{Contains}
 use Rattle.std.specs.Option.{option_map}
+use Rattle.std.specs.Result.{result_err}
 use Rattle.sec_base.specs.Evidence.{evidence_place}
 use Rattle.sec_base.specs.Geometry.{page_count}
 use Rattle.sec_base.specs.declared.evidence.Evidence.TheVariants.{Collision}
@@ -15,7 +16,6 @@ use Rattle.cache_set.specs.CacheSet.{touched, with_latest, without}
 use Rattle.cache_set.specs.Cache.{set_at, way_at}
 use Rattle.cache_set.proofs.Listed.{listed_at}
 use Rattle.tag_engine.specs.TagEngine.{tags_of}
-use Rattle.checked_bus.specs.Steps.{stop_of}
 use Rattle.bonsai_tree.specs.NodeCache.{copy_of}
 use Rattle.bonsai_tree.specs.Tree.{IsFetchPlace, PathWasRead, TreeView, path_accesses}
 use Rattle.bonsai_tree.proofs.Climbs.{above_none}
@@ -53,7 +53,7 @@ returns-then-touch-clause-clean g c = λ uncached.
 pub returns-in_err-make_room-clause-has : goal.returns-in_err-make_room-clause-has
 returns-in_err-make_room-clause-has g c =
     let why = c.in_err-make_room.field-0.0 in
-    let stop : stop_of c.from_residual.result ≡ Some why = search rules in
+    let stop : result_err c.from_residual.result ≡ Some why = search rules in
     let same : (record { tree = c.self.inside.tree; blocks = c.touch.new.self }) ≡ c.args.self.now =
     ap (λ (b : List (List Way)). record { tree = c.self.inside.tree; blocks = b }) (c.if-touch.ensures.unchanged refl) ∙ c.self.view_is in
     let room : Has (tags_of g.T.Tagger.data_tag_of g.T.Tagger.node_tag_of) (IsFetchPlace c.args.self.now.tree.levels c.args.page) c.args.self.now (g.B.Bus.history c.args.bus.now) c.args.tags.now c.make_room.new.self (g.B.Bus.history c.make_room.new.bus) c.make_room.new.tags (Some why) =
@@ -88,20 +88,20 @@ returns-in_err-block-clause-has g c =
     let at_levels : (place : Place) → IsFetchPlace c.self-2.inside.tree.levels c.args.page place → IsFetchPlace c.args.self.now.tree.levels c.args.page place =
     λ place is. subst (λ (k : ℕ). IsFetchPlace k c.args.page place) levels is in
     let why = c.in_err-block.field-0.0 in
-    let stop : stop_of c.from_residual-in_err-block.result ≡ Some why = search rules in
+    let stop : result_err c.from_residual-in_err-block.result ≡ Some why = search rules in
     let is : c.fetch.result ≡ Err why = c.in_err-block.was in
     subst (λ (s : Option MemStop). Has (tags_of g.T.Tagger.data_tag_of g.T.Tagger.node_tag_of) (IsFetchPlace c.args.self.now.tree.levels c.args.page) c.args.self.now (g.B.Bus.history c.args.bus.now) c.args.tags.now (record { tree = c.fetch.new.self; blocks = c.self-2.inside.blocks }) (g.B.Bus.history c.fetch.new.bus) c.fetch.new.tags s)
-    (ap stop_of is ∙ sym stop)
-    (has_on g.T.Tagger.data_tag_of g.T.Tagger.node_tag_of (IsFetchPlace c.args.self.now.tree.levels c.args.page) c.args.self.now c.make_room.new.self (record { tree = c.fetch.new.self; blocks = c.self-2.inside.blocks }) (g.B.Bus.history c.args.bus.now) (g.B.Bus.history c.make_room.new.bus) (g.B.Bus.history c.fetch.new.bus) c.args.tags.now c.make_room.new.tags c.fetch.new.tags (stop_of c.fetch.result) room
-    (subst (λ (v : CountersView). Has (tags_of g.T.Tagger.data_tag_of g.T.Tagger.node_tag_of) (IsFetchPlace c.args.self.now.tree.levels c.args.page) v (g.B.Bus.history c.make_room.new.bus) c.make_room.new.tags (over c.fetch.new.self (record { tree = c.self-2.inside.tree; blocks = c.self-2.inside.blocks })) (g.B.Bus.history c.fetch.new.bus) c.fetch.new.tags (stop_of c.fetch.result)) c.self-2.view_is
-    (has_tree g.T.Tagger.data_tag_of g.T.Tagger.node_tag_of (IsFetchPlace c.args.self.now.tree.levels c.args.page) (record { tree = c.self-2.inside.tree; blocks = c.self-2.inside.blocks }) c.fetch.new.self (g.B.Bus.history c.make_room.new.bus) (g.B.Bus.history c.fetch.new.bus) c.make_room.new.tags c.fetch.new.tags (stop_of c.fetch.result)
+    (ap result_err is ∙ sym stop)
+    (has_on g.T.Tagger.data_tag_of g.T.Tagger.node_tag_of (IsFetchPlace c.args.self.now.tree.levels c.args.page) c.args.self.now c.make_room.new.self (record { tree = c.fetch.new.self; blocks = c.self-2.inside.blocks }) (g.B.Bus.history c.args.bus.now) (g.B.Bus.history c.make_room.new.bus) (g.B.Bus.history c.fetch.new.bus) c.args.tags.now c.make_room.new.tags c.fetch.new.tags (result_err c.fetch.result) room
+    (subst (λ (v : CountersView). Has (tags_of g.T.Tagger.data_tag_of g.T.Tagger.node_tag_of) (IsFetchPlace c.args.self.now.tree.levels c.args.page) v (g.B.Bus.history c.make_room.new.bus) c.make_room.new.tags (over c.fetch.new.self (record { tree = c.self-2.inside.tree; blocks = c.self-2.inside.blocks })) (g.B.Bus.history c.fetch.new.bus) c.fetch.new.tags (result_err c.fetch.result)) c.self-2.view_is
+    (has_tree g.T.Tagger.data_tag_of g.T.Tagger.node_tag_of (IsFetchPlace c.args.self.now.tree.levels c.args.page) (record { tree = c.self-2.inside.tree; blocks = c.self-2.inside.blocks }) c.fetch.new.self (g.B.Bus.history c.make_room.new.bus) (g.B.Bus.history c.fetch.new.bus) c.make_room.new.tags c.fetch.new.tags (result_err c.fetch.result)
     (record {
       moves = c.fetch.ensures.moves;
       lines = c.fetch.ensures.lines;
       levels = c.fetch.ensures.levels;
       root = c.fetch.ensures.root;
       few_nodes = c.fetch.ensures.few_copies;
-      holds = λ holds memory. c.fetch.ensures.holds holds (λ is. memory (ap stop_of is));
+      holds = λ holds memory. c.fetch.ensures.holds holds (λ is. memory (ap result_err is));
       honest = λ holds used was. c.fetch.ensures.honest used holds was;
       lied = λ holds quiet place is. c.fetch.ensures.tampered place (stop_is c.fetch.result (Tampered place) is) holds quiet;
       shown = c.fetch.ensures.shown;
@@ -110,7 +110,7 @@ returns-in_err-block-clause-has g c =
       unspent = λ spent is. c.fetch.ensures.unspent spent (stop_is c.fetch.result (Spent spent) is);
       writes = c.fetch.ensures.writes;
       made_blocks = c.fetch.ensures.made_blocks;
-      last_blocks = λ remembered was. c.fetch.ensures.last_blocks was (λ is. remembered (ap stop_of is));
+      last_blocks = λ remembered was. c.fetch.ensures.last_blocks was (λ is. remembered (ap result_err is));
       slots = c.fetch.ensures.slots;
       read = c.fetch.ensures.new_copies;
     })
@@ -177,14 +177,14 @@ returns-clause-has g c =
     has_on g.T.Tagger.data_tag_of g.T.Tagger.node_tag_of (IsFetchPlace c.args.self.now.tree.levels c.args.page) c.args.self.now c.make_room.new.self (record { tree = c.fetch.new.self; blocks = c.put.new.self }) (g.B.Bus.history c.args.bus.now) (g.B.Bus.history c.make_room.new.bus) (g.B.Bus.history c.fetch.new.bus) c.args.tags.now c.make_room.new.tags c.fetch.new.tags None room
     (subst (λ (v : CountersView). Has (tags_of g.T.Tagger.data_tag_of g.T.Tagger.node_tag_of) (IsFetchPlace c.args.self.now.tree.levels c.args.page) v (g.B.Bus.history c.make_room.new.bus) c.make_room.new.tags (record { tree = c.fetch.new.self; blocks = c.put.new.self }) (g.B.Bus.history c.fetch.new.bus) c.fetch.new.tags None) c.self-2.view_is
     (has_put g.T.Tagger.data_tag_of g.T.Tagger.node_tag_of (IsFetchPlace c.args.self.now.tree.levels c.args.page) c.args.page (record { tree = c.self-2.inside.tree; blocks = c.self-2.inside.blocks }) c.fetch.new.self (record { tree = c.fetch.new.self; blocks = c.put.new.self }) (g.B.Bus.history c.make_room.new.bus) (g.B.Bus.history c.fetch.new.bus) c.make_room.new.tags c.fetch.new.tags c.in_ok-block.block
-    (subst (λ (s : Option MemStop). TreeCall (tags_of g.T.Tagger.data_tag_of g.T.Tagger.node_tag_of) (IsFetchPlace c.args.self.now.tree.levels c.args.page) c.self-2.inside.tree (g.B.Bus.history c.make_room.new.bus) c.make_room.new.tags c.fetch.new.self (g.B.Bus.history c.fetch.new.bus) c.fetch.new.tags s) (ap stop_of is)
+    (subst (λ (s : Option MemStop). TreeCall (tags_of g.T.Tagger.data_tag_of g.T.Tagger.node_tag_of) (IsFetchPlace c.args.self.now.tree.levels c.args.page) c.self-2.inside.tree (g.B.Bus.history c.make_room.new.bus) c.make_room.new.tags c.fetch.new.self (g.B.Bus.history c.fetch.new.bus) c.fetch.new.tags s) (ap result_err is)
     (record {
       moves = c.fetch.ensures.moves;
       lines = c.fetch.ensures.lines;
       levels = c.fetch.ensures.levels;
       root = c.fetch.ensures.root;
       few_nodes = c.fetch.ensures.few_copies;
-      holds = λ holds memory. c.fetch.ensures.holds holds (λ is. memory (ap stop_of is));
+      holds = λ holds memory. c.fetch.ensures.holds holds (λ is. memory (ap result_err is));
       honest = λ holds used was. c.fetch.ensures.honest used holds was;
       lied = λ holds quiet place is. c.fetch.ensures.tampered place (stop_is c.fetch.result (Tampered place) is) holds quiet;
       shown = c.fetch.ensures.shown;
@@ -193,7 +193,7 @@ returns-clause-has g c =
       unspent = λ spent is. c.fetch.ensures.unspent spent (stop_is c.fetch.result (Spent spent) is);
       writes = c.fetch.ensures.writes;
       made_blocks = c.fetch.ensures.made_blocks;
-      last_blocks = λ remembered was. c.fetch.ensures.last_blocks was (λ is. remembered (ap stop_of is));
+      last_blocks = λ remembered was. c.fetch.ensures.last_blocks was (λ is. remembered (ap result_err is));
       slots = c.fetch.ensures.slots;
       read = c.fetch.ensures.new_copies;
     }))

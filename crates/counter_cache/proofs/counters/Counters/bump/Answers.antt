@@ -1,6 +1,7 @@
 use Rattle.std.proofs.Common.{◌≡◌, ◌≢◌, ◌<◌, ℕ, length, Option, Some, None, Ok, Err, true, is_some, ap, sym, ◌∙◌, subst, rules}
 use Rattle.std.specs.List.{Contains}
 use Rattle.std.specs.Option.{option_map}
+use Rattle.std.specs.Result.{result_err}
 use Rattle.sec_base.specs.Geometry.{page_count}
 use Rattle.sec_base.specs.LastMessage.{last_node}
 use Rattle.sec_base.specs.declared.stop.MemStop.TheVariants.{NoMemory}
@@ -9,7 +10,6 @@ use Rattle.cache_set.specs.CacheSet.{with_latest, without}
 use Rattle.cache_set.specs.Cache.{set_at, way_at}
 use Rattle.cache_set.proofs.Listed.{listed_at}
 use Rattle.tag_engine.specs.TagEngine.{tags_of}
-use Rattle.checked_bus.specs.Steps.{stop_of}
 use Rattle.split_counter.specs.declared.bumped.Bumped.TheVariants.{Line, Page, Spent}
 use Rattle.split_counter.specs.CounterBlock.{CounterBlockView, IsCounterBlock, after_bump, block_of, bumped, counter_of}
 use Rattle.bonsai_tree.specs.Node.{current_of}
@@ -27,9 +27,9 @@ use Rattle.counter_cache.proofs.counters.Counters.bump.Goals as goal
 
 pub returns-in_err-block-clause-last_blocks : goal.returns-in_err-block-clause-last_blocks
 returns-in_err-block-clause-last_blocks g c = λ was memory.
-    let stop : stop_of c.from_residual.result ≡ Some c.in_err-block.field-0.0 = search rules in
+    let stop : result_err c.from_residual.result ≡ Some c.in_err-block.field-0.0 = search rules in
     c.get.ensures.last_blocks was
-    (λ (is : c.get.result ≡ Err NoMemory). memory (stop_is c.from_residual.result NoMemory (stop ∙ sym (ap stop_of c.in_err-block.was) ∙ ap stop_of is)))
+    (λ (is : c.get.result ≡ Err NoMemory). memory (stop_is c.from_residual.result NoMemory (stop ∙ sym (ap result_err c.in_err-block.was) ∙ ap result_err is)))
 
 pub returns-in_err-block-clause-refused : goal.returns-in_err-block-clause-refused
 returns-in_err-block-clause-refused g c = λ holds quiet. on_err c.from_residual.result (c.get.ensures.same holds quiet)
@@ -108,9 +108,9 @@ returns-clause-stays g c = λ other copy apart stays found.
 
 pub returns-in_err-block-clause-holds : goal.returns-in_err-block-clause-holds
 returns-in_err-block-clause-holds g c = λ holds memory.
-    let stop : stop_of c.from_residual.result ≡ Some c.in_err-block.field-0.0 = search rules in
+    let stop : result_err c.from_residual.result ≡ Some c.in_err-block.field-0.0 = search rules in
     c.get.ensures.holds holds
-    (λ (is : c.get.result ≡ Err NoMemory). memory (stop_is c.from_residual.result NoMemory (stop ∙ sym (ap stop_of c.in_err-block.was) ∙ ap stop_of is)))
+    (λ (is : c.get.result ≡ Err NoMemory). memory (stop_is c.from_residual.result NoMemory (stop ∙ sym (ap result_err c.in_err-block.was) ∙ ap result_err is)))
 
 pub returns-clause-holds : goal.returns-clause-holds
 returns-clause-holds g c = λ holds memory.

@@ -1,9 +1,10 @@
 use Rattle.std.proofs.Common.{◌≡◌, ℕ, List, length, Option, Some, None, Ok, ap, sym, ◌∙◌, subst, rules}
+use Rattle.std.specs.Result.{result_err}
 use Rattle.sec_base.specs.declared.stop.MemStop.{MemStop}
 use Rattle.sec_base.specs.declared.stop.MemStop.TheVariants.{NoMemory}
 use Rattle.cache_set.specs.Cache.{copy_at}
 use Rattle.checked_bus.specs.Accesses.{WritesMessages}
-use Rattle.checked_bus.specs.Steps.{stop_of, unwritten_in}
+use Rattle.checked_bus.specs.Steps.{unwritten_in}
 use Rattle.split_counter.specs.CounterBlock.{block_of}
 use Rattle.bonsai_tree.proofs.Nodes.{stop_is}
 use Rattle.counter_cache.specs.Counters.{CountersView}
@@ -22,12 +23,12 @@ returns-in_err-bring-clause-new_copies g c =
 
 pub returns-in_err-bring-clause-last_blocks : goal.returns-in_err-bring-clause-last_blocks
 returns-in_err-bring-clause-last_blocks g c = λ was memory.
-    let stop : stop_of c.from_residual.result ≡ Some c.in_err-bring.field-0.0 = search rules in
+    let stop : result_err c.from_residual.result ≡ Some c.in_err-bring.field-0.0 = search rules in
     c.in_err-bring.ensures.has.last_blocks (λ is. memory (stop_is c.from_residual.result NoMemory (stop ∙ is))) was
 
 pub returns-in_err-bring-clause-writes : goal.returns-in_err-bring-clause-writes
 returns-in_err-bring-clause-writes g c = λ more is.
-    let stop : stop_of c.from_residual.result ≡ Some c.in_err-bring.field-0.0 = search rules in
+    let stop : result_err c.from_residual.result ≡ Some c.in_err-bring.field-0.0 = search rules in
     subst (λ (s : Option MemStop). WritesMessages (g.B.Bus.history c.args.bus.now) (g.B.Bus.history c.bring.new.bus) (length more) (unwritten_in s)) (sym stop)
     (has_writes g.T.Tagger.data_tag_of g.T.Tagger.node_tag_of c.args.page c.args.self.now c.bring.new.self (g.B.Bus.history c.args.bus.now) (g.B.Bus.history c.bring.new.bus) c.args.tags.now c.bring.new.tags (Some c.in_err-bring.field-0.0)
     c.in_err-bring.ensures.has more is)
@@ -71,7 +72,7 @@ returns-clause-stays g c =
 
 pub returns-in_err-bring-clause-holds : goal.returns-in_err-bring-clause-holds
 returns-in_err-bring-clause-holds g c = λ holds memory.
-    let stop : stop_of c.from_residual.result ≡ Some c.in_err-bring.field-0.0 = search rules in
+    let stop : result_err c.from_residual.result ≡ Some c.in_err-bring.field-0.0 = search rules in
     c.in_err-bring.ensures.has.holds holds (λ is. memory (stop_is c.from_residual.result NoMemory (stop ∙ is)))
 
 pub returns-clause-holds : goal.returns-clause-holds

@@ -1,11 +1,11 @@
 use Rattle.std.proofs.Common.{◌≡◌, List, Option, Some, None, ap, sym, ◌∙◌, subst, rules}
 use Rattle.std.specs.Option.{option_map}
+use Rattle.std.specs.Result.{result_err}
 use Rattle.sec_base.specs.declared.stop.MemStop.{MemStop}
 use Rattle.cache_set.specs.declared.way.Way.{Way}
 use Rattle.cache_set.specs.CacheSet.{without}
 use Rattle.cache_set.specs.Cache.{place_of, set_at, way_at}
 use Rattle.tag_engine.specs.TagEngine.{tags_of}
-use Rattle.checked_bus.specs.Steps.{stop_of}
 use Rattle.bonsai_tree.specs.NodeCache.{copy_of}
 use Rattle.bonsai_tree.specs.Tree.{IsNodeFrom}
 use Rattle.counter_cache.specs.Counters.{AreBlocks, CountersView, leaving_page, set_of}
@@ -21,7 +21,7 @@ returns-in_default-clause-has g c = has_not g.T.Tagger.data_tag_of g.T.Tagger.no
 pub returns-in_err-write_back-clause-has : goal.returns-in_err-write_back-clause-has
 returns-in_err-write_back-clause-has g c =
     let why = c.in_err-write_back.field-0.0 in
-    let stop : stop_of c.from_residual.result ≡ Some why = search rules in
+    let stop : result_err c.from_residual.result ≡ Some why = search rules in
     subst (λ (s : Option MemStop). Has (tags_of g.T.Tagger.data_tag_of g.T.Tagger.node_tag_of) (IsNodeFrom c.args.self.now.tree.levels 1) c.args.self.now (g.B.Bus.history c.args.bus.now) c.args.tags.now c.write_back.new.self
     (g.B.Bus.history c.write_back.new.bus) c.write_back.new.tags s) (sym stop) c.in_err-write_back.ensures.has
 

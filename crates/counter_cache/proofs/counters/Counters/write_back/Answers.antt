@@ -1,10 +1,10 @@
 use Rattle.std.proofs.Common.{◌≡◌, inl, inr, ℕ, Some, true, false, ap, ◌∙◌, subst, rules}
 use Rattle.std.specs.Option.{option_map}
+use Rattle.std.specs.Result.{result_err}
 use Rattle.std.proofs.lemmas.Bool.{cases_eq}
 use Rattle.sec_base.specs.declared.stop.MemStop.TheVariants.{Tampered, Spent}
 use Rattle.cache_set.specs.Cache.{way_at}
 use Rattle.tag_engine.specs.TagEngine.{tags_of}
-use Rattle.checked_bus.specs.Steps.{stop_of}
 use Rattle.bonsai_tree.specs.NodeCache.{copy_of}
 use Rattle.bonsai_tree.specs.Tree.{IsNodeFrom}
 use Rattle.counter_cache.specs.Counters.{CountersView, cached_block}
@@ -19,15 +19,15 @@ returns-then-not-victim-clause-has g c = has_not g.T.Tagger.data_tag_of g.T.Tagg
 pub returns-clause-has : goal.returns-clause-has
 returns-clause-has g c =
     subst (λ (v : CountersView). Has (tags_of g.T.Tagger.data_tag_of g.T.Tagger.node_tag_of) (IsNodeFrom v.tree.levels 1) v (g.B.Bus.history c.args.bus.now) c.args.tags.now (over c.update.new.self (record { tree = c.self.inside.tree; blocks = c.self.inside.blocks }))
-    (g.B.Bus.history c.update.new.bus) c.update.new.tags (stop_of c.update.result)) c.self.view_is
-    (has_tree g.T.Tagger.data_tag_of g.T.Tagger.node_tag_of (IsNodeFrom c.self.inside.tree.levels 1) (record { tree = c.self.inside.tree; blocks = c.self.inside.blocks }) c.update.new.self (g.B.Bus.history c.args.bus.now) (g.B.Bus.history c.update.new.bus) c.args.tags.now c.update.new.tags (stop_of c.update.result)
+    (g.B.Bus.history c.update.new.bus) c.update.new.tags (result_err c.update.result)) c.self.view_is
+    (has_tree g.T.Tagger.data_tag_of g.T.Tagger.node_tag_of (IsNodeFrom c.self.inside.tree.levels 1) (record { tree = c.self.inside.tree; blocks = c.self.inside.blocks }) c.update.new.self (g.B.Bus.history c.args.bus.now) (g.B.Bus.history c.update.new.bus) c.args.tags.now c.update.new.tags (result_err c.update.result)
     (record {
       moves = c.update.ensures.moves;
       lines = c.update.ensures.lines;
       levels = c.update.ensures.levels;
       root = c.update.ensures.root;
       few_nodes = c.update.ensures.few_copies;
-      holds = λ holds memory. c.update.ensures.holds holds (λ is. memory (ap stop_of is));
+      holds = λ holds memory. c.update.ensures.holds holds (λ is. memory (ap result_err is));
       honest = λ holds used was. c.update.ensures.honest used holds was;
       lied = λ holds quiet place is. c.update.ensures.tampered place (stop_is c.update.result (Tampered place) is) holds quiet;
       shown = c.update.ensures.shown;
@@ -36,7 +36,7 @@ returns-clause-has g c =
       unspent = λ spent is. c.update.ensures.unspent spent (stop_is c.update.result (Spent spent) is);
       writes = c.update.ensures.writes;
       made_blocks = c.update.ensures.made_blocks;
-      last_blocks = λ remembered was. c.update.ensures.last_blocks was (λ is. remembered (ap stop_of is));
+      last_blocks = λ remembered was. c.update.ensures.last_blocks was (λ is. remembered (ap result_err is));
       slots = c.update.ensures.slots;
       read = c.update.ensures.new_copies;
     })

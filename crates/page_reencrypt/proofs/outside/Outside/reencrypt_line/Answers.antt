@@ -1,10 +1,10 @@
 use Rattle.std.proofs.Common.{◌≡◌, ◌∷◌, [], Option, Some, Ok, Err, ap, sym, subst, arith, rules}
+use Rattle.std.specs.Result.{result_err}
 use Rattle.sec_base.specs.declared.stop.MemStop.{MemStop}
 use Rattle.sec_base.specs.declared.stop.MemStop.TheVariants.{NoMemory}
 use Rattle.tag_engine.specs.TagEngine.{tags_of}
 use Rattle.pad_stream.specs.Pad.{cipher_of}
 use Rattle.checked_bus.specs.SealedLine.{sealed_line}
-use Rattle.checked_bus.specs.Steps.{stop_of}
 use Rattle.page_reencrypt.specs.Outside.{AreSealedInOrder, LineWrite, OutsideView, terms_of}
 use Rattle.page_reencrypt.proofs.LineReads.{quiet_before}
 use Rattle.page_reencrypt.proofs.Reencrypting.{IsReady, line_sealed, line_unwritten, one_access, read_sealed, read_stopped, ready_own, ready_read}
@@ -16,7 +16,7 @@ returns-in_err-plain-clause-sealed g c =
     let write : LineWrite = record { line = c.args.line; bytes = c.args.bytes.now; counter = c.args.counter } in
     let why = c.in_err-plain.field-0.0 in
     let read = c.in_err-plain.ensures in
-    let stop : stop_of c.from_residual.result ≡ Some why = search rules in
+    let stop : result_err c.from_residual.result ≡ Some why = search rules in
     subst (λ (s : Option MemStop). AreSealedInOrder (terms_of g.B.Bus.history g.B.Bus.moved g.T.Tagger.data_tag_of g.T.Tagger.node_tag_of c.args.self.now)
     write c.args.self.now (c.args.at ∷ []) c.read.new.self s) (sym stop)
     (read_stopped g.B.Bus.history g.B.Bus.moved g.T.Tagger.data_tag_of g.T.Tagger.node_tag_of write c.args.self.now c.requires.consistent c.requires.risen c.requires.holds_last
@@ -29,7 +29,7 @@ returns-in_err-plain-clause-sealed g c =
 pub returns-in_err-seal-clause-sealed : goal.returns-in_err-seal-clause-sealed
 returns-in_err-seal-clause-sealed g c =
     let write : LineWrite = record { line = c.args.line; bytes = c.args.bytes.now; counter = c.args.counter } in
-    let stop : stop_of c.from_residual-in_err-seal.result ≡ Some NoMemory = search rules in
+    let stop : result_err c.from_residual-in_err-seal.result ≡ Some NoMemory = search rules in
     let ready : IsReady g.B.Bus.history g.B.Bus.moved g.T.Tagger.data_tag_of g.T.Tagger.node_tag_of write c.args.self.now c.requires.consistent c.requires.risen c.requires.holds_last
     c.args.at c.if-at-line.plain c.if-at-line.self =
     elim c.if-at-line.branch [

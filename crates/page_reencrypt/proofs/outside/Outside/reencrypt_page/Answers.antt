@@ -1,7 +1,7 @@
 use Rattle.std.proofs.Common.{◌≡◌, ℕ, ◌+◌, ◌*◌, Option, None, Some, refl, ap, sym, subst, arith, rules}
+use Rattle.std.specs.Result.{result_err}
 use Rattle.sec_base.specs.declared.stop.MemStop.{MemStop}
 use Rattle.sec_base.specs.Geometry.{page_of}
-use Rattle.checked_bus.specs.Steps.{stop_of}
 use Rattle.page_reencrypt.specs.Contents.{page_lines}
 use Rattle.page_reencrypt.specs.Outside.{AreSealedInOrder, LineWrite, terms_of}
 use Rattle.page_reencrypt.proofs.Reencrypting.{accesses_passed, accesses_stopped, page_consistent, page_counter, page_done, page_inside, page_last, page_more, page_more_reread, page_pads_room, page_risen, page_room, page_stopped, sealed_none}
@@ -72,7 +72,7 @@ returns-in_err-reencrypt_line-clause-sealed g c =
     let start : 64 * c.page_of-first.result ≡ 64 * page_of c.args.line = ap (λ (page : ℕ). 64 * page) c.page_of-first.ensures.page in
     let here : 64 * c.page_of-first.result + c.from.result ≡ 64 * c.page_of-first.result + c.loop-place.place = omega (arith, c.from.ensures) in
     let why = c.in_err-reencrypt_line.field-0.0 in
-    let stop : stop_of c.from_residual.result ≡ Some why = search rules in
+    let stop : result_err c.from_residual.result ≡ Some why = search rules in
     subst (λ (s : Option MemStop). AreSealedInOrder (terms_of g.B.Bus.history g.B.Bus.moved g.T.Tagger.data_tag_of g.T.Tagger.node_tag_of c.args.self.now)
     write c.args.self.now (page_lines (page_of c.args.line)) c.reencrypt_line.new.self s) (sym stop)
     (page_stopped g.B.Bus.history g.B.Bus.moved g.T.Tagger.data_tag_of g.T.Tagger.node_tag_of write c.args.self.now c.loop-place.self
