@@ -1,11 +1,11 @@
 -- The layout of a report: its fields are put, taken and told apart.
-use Rattle.std.proofs.Common.{◌≡◌, ℕ, ◌+◌, ◌^◌, ◌<◌, List, [], ◌∷◌, ◌++◌, length, slice_index, take, drop, refl, sym, ap, ◌∙◌, arith, length-append, inl, inr, w32, w64}
+use Rattle.std.proofs.Common.{◌≡◌, ℕ, ◌+◌, ◌<◌, List, [], ◌∷◌, ◌++◌, length, slice_index, take, drop, refl, sym, ap, ◌∙◌, arith, length-append, inl, inr, w32, w64}
 use Rattle.std.proofs.Math.Seq.{take-add}
 use Rattle.std.proofs.lemmas.Bool.{cases_lt}
 use Rattle.std.proofs.lemmas.List.{drop_at, drop_more, get_or-drop, get_or-take, get_or_past, length-take, take_all, take_at}
 use Rattle.std.specs.Int.{from_le_bytes, to_le_bytes}
-use Rattle.std.proofs.lemmas.Nat.{from_le_bytes-to_le_bytes_4, from_le_bytes-to_le_bytes_8, le_bytes_4, le_bytes_8}
-use Rattle.sec_base.proofs.MessageBytes.{put_behind}
+use Rattle.std.proofs.lemmas.Nat.{le_bytes_4, le_bytes_8}
+use Rattle.sec_base.proofs.MessageBytes.{put_behind, number_32, number_64}
 use Rattle.hmac_tag.specs.Hmac.{hmac_of, hmac_under}
 use Rattle.sha2.proofs.Facts256.{length-sha256}
 use Rattle.attest_report.specs.declared.report.Report.{Report}
@@ -129,16 +129,6 @@ peel n xs ys piece other long other_long same =
     let ends_same : piece ≡ other =
     sym (drop_at xs piece (length xs) refl) ∙ ap (drop (length xs)) same ∙ drop_at ys other (length xs) fronts in
     (fronts_same, ends_same)
-
--- four bytes tell their number
-number_32 : (m n : ℕ) → m < 2 ^ 32 → n < 2 ^ 32 → to_le_bytes w32 m ≡ to_le_bytes w32 n → m ≡ n
-number_32 m n small fits e =
-    sym (from_le_bytes-to_le_bytes_4 m small) ∙ ap (from_le_bytes w32) e ∙ from_le_bytes-to_le_bytes_4 n fits
-
--- and eight bytes
-number_64 : (m n : ℕ) → m < 2 ^ 64 → n < 2 ^ 64 → to_le_bytes w64 m ≡ to_le_bytes w64 n → m ≡ n
-number_64 m n small fits e =
-    sym (from_le_bytes-to_le_bytes_8 m small) ∙ ap (from_le_bytes w64) e ∙ from_le_bytes-to_le_bytes_8 n fits
 
 -- reports with the same fields
 same_fields : (first second : Report) →

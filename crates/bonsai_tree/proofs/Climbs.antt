@@ -11,6 +11,7 @@ use Rattle.sec_base.specs.declared.place.Place.{Place}
 use Rattle.sec_base.specs.declared.place.Place.TheVariants.{Node as node_place}
 use Rattle.sec_base.specs.declared.stop.MemStop.{MemStop}
 use Rattle.sec_base.specs.declared.stop.MemStop.TheVariants.{NoMemory}
+use Rattle.sec_base.proofs.Results.{was_none, some_or_none}
 use Rattle.bus_model.specs.BusHistory.{BusHistory}
 use Rattle.tag_engine.specs.TagEngine.{TagEngineView, tags_of}
 use Rattle.checked_bus.specs.Accesses.{WritesMessages}
@@ -22,7 +23,7 @@ use Rattle.bonsai_tree.specs.Climb.{Climbs}
 use Rattle.bonsai_tree.specs.Node.{CachedNode}
 use Rattle.bonsai_tree.specs.NodeCache.{AreNodeCaches, level_cache}
 use Rattle.bonsai_tree.specs.Tree.{HoldsTree, IsNodeFrom, NodesAreMade, NodesHoldLast, SlotsAreTags, TreeView, WasReadUp, above, cached_node}
-use Rattle.bonsai_tree.proofs.Nodes.{same_tags, some_not_none, some_or_none, was_none}
+use Rattle.bonsai_tree.proofs.Nodes.{same_tags, some_not_none}
 
 -- Which nodes were read
 

@@ -1,13 +1,12 @@
 -- The caches of all levels, where one of them changes.
-use Rattle.std.proofs.Common.{◌≡◌, ◌≢◌, inl, inr, ℕ, zero, suc, ◌+◌, ◌-◌, ◌*◌, ◌<◌, ◌≤◌, List, [], ◌∷◌, ◌++◌, length, length-append, map, replicate, get_or, Some, None, IsSome, Bool, refl, ap, sym, ◌∙◌, subst, arith}
+use Rattle.std.proofs.Common.{◌≡◌, ◌≢◌, inl, inr, ℕ, zero, suc, ◌+◌, ◌-◌, ◌<◌, ◌≤◌, List, [], ◌∷◌, ◌++◌, length, replicate, get_or, Some, None, IsSome, Bool, refl, ap, sym, ◌∙◌, subst, arith}
 use Rattle.std.proofs.Math.ListN.{set}
 use Rattle.std.proofs.lemmas.Bool.{cases_eq, cases_lt}
-use Rattle.std.proofs.lemmas.List.{get_or_default, get_or_past, get_or-replicate, get_or-set_same, get_or-set_other, length-map, length-replicate, length-set, replicate-append-replicate}
+use Rattle.std.proofs.lemmas.List.{get_or_default, get_or_past, get_or-replicate, get_or-set_same, get_or-set_other, length-replicate, length-set, replicate-append-replicate}
 use Rattle.sec_base.specs.Geometry.{IsNode}
 use Rattle.cache_set.specs.declared.way.Way.{Way}
-use Rattle.cache_set.specs.CacheSet.{IsSet}
-use Rattle.cache_set.specs.Cache.{AreSets, IsCache, new_cache, place_of, places, set_at, way_at}
-use Rattle.cache_set.proofs.Sets.{cache_new, none_new}
+use Rattle.cache_set.specs.Cache.{IsCache, new_cache, places, set_at, way_at}
+use Rattle.cache_set.proofs.Sets.{cache_new, none_new, few_in}
 use Rattle.cache_set.proofs.Ways.{latest_found}
 use Rattle.bonsai_tree.specs.NodeCache.{AreEmpty, AreNodeCaches, IsLatestNode, OtherLevels, OtherNodes, copied_nodes, level_cache, most_copies, node_sets, node_way}
 
@@ -165,23 +164,6 @@ new_are levels = record {
 }
 
 -- There are few copies
-
-two_in : (ways : List Way) → IsSet ways → length ways ≤ 2
-two_in [] set = omega arith
-two_in (first ∷ []) set = omega arith
-two_in (first ∷ second ∷ []) set = omega arith
-two_in (first ∷ second ∷ third ∷ ways) set = absurd set
-
-pub few_in : (count base : ℕ) (sets : List (List Way)) → AreSets count base sets → length (places sets) ≤ 2 * length sets
-few_in count base [] are = omega arith
-few_in count base (ways ∷ sets) are =
-    omega (
-      arith,
-      length-append (map place_of ways) (places sets),
-      length-map ways place_of,
-      two_in ways are.0.set,
-      few_in count (base + 1) sets are.1,
-    )
 
 pub few_copies : (levels : ℕ) (caches : List (List (List Way))) (level : ℕ) → AreNodeCaches levels caches → length (copied_nodes caches level) ≤ most_copies
 few_copies levels caches zero is = omega arith

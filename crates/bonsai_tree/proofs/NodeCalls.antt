@@ -14,6 +14,7 @@ use Rattle.sec_base.specs.declared.place.Place.{Place}
 use Rattle.sec_base.specs.declared.place.Place.TheVariants.{Node as node_place}
 use Rattle.sec_base.specs.declared.stop.MemStop.{MemStop}
 use Rattle.sec_base.specs.declared.stop.MemStop.TheVariants.{Tampered, Spent, NoMemory}
+use Rattle.sec_base.proofs.Results.{stop_is, was_none}
 use Rattle.bus_model.specs.BusHistory.{BusHistory}
 use Rattle.tag_engine.specs.TagEngine.{TagEngineView, tags_of, with_room}
 use Rattle.checked_bus.specs.Steps.{IsAccounted, IsCurrentNode, WritesOnce, unwritten_in}
@@ -27,7 +28,7 @@ use Rattle.bonsai_tree.specs.Writing.{WritesNodes}
 use Rattle.bonsai_tree.proofs.Climbs.{climbs_recached, read_up_held}
 use Rattle.bonsai_tree.proofs.MadeSlots.{current_slots, slots_more}
 use Rattle.bonsai_tree.proofs.LevelBlocks.{blocks_other}
-use Rattle.bonsai_tree.proofs.Nodes.{NodeRead, SameNode, is_current, same_or_not, same_tags, stop_is, was_none}
+use Rattle.bonsai_tree.proofs.Nodes.{NodeRead, SameNode, is_current, same_or_not, same_tags}
 use Rattle.bonsai_tree.proofs.NodeWrites.{NodeWritten, is_put}
 use Rattle.bonsai_tree.proofs.Puts.{IsPut, PutsTag, tree_put, tree_recached}
 

@@ -1,7 +1,6 @@
 -- What is read of the tree, and what is not changed.
 use Rattle.std.proofs.Common.{◌≡◌, ◌≢◌, ◌⊎◌, inl, inr, ℕ, ◌+◌, ◌/◌, ◌%◌, ◌<◌, ◌≤◌, Bool, true, false, cond, nat_lt, List, Option, Some, None, Result, Ok, Err, refl, ap, sym, ◌∙◌, arith}
 use Rattle.std.specs.Option.{option_or}
-use Rattle.std.specs.Prelude.{IfOk, OnErr, OnOk}
 use Rattle.std.specs.Result.{result_err}
 use Rattle.std.proofs.lemmas.Bool.{cases_eq}
 use Rattle.std.proofs.lemmas.Bool.Decides.{Decides-ltb}
@@ -56,33 +55,8 @@ kept_top tree made lower at top =
 
 -- Results
 
-pub was_none : (old new : Option Evidence) → ((evidence : Evidence) → old ≡ Some evidence → new ≡ Some evidence) → new ≡ None → old ≡ None
-was_none None new stays none = refl
-was_none (Some evidence) new stays none = let some : new ≡ Some evidence = stays evidence refl in absurd (cc)
-
-pub some_or_none : (evidence : Option Evidence) → (evidence ≡ None) ⊎ ((shown : Evidence) × (evidence ≡ Some shown))
-some_or_none None = inl refl
-some_or_none (Some evidence) = inr (evidence, refl)
-
 pub some_not_none : (evidence : Option Evidence) (shown : Evidence) → evidence ≡ Some shown → evidence ≢ None
 some_not_none evidence shown some none = cc
-
-pub stop_is : {A : Type 0} (result : Result A MemStop) (stop : MemStop) → result_err result ≡ Some stop → result ≡ Err stop
-stop_is (Ok value) stop is = absurd (cc)
-stop_is (Err other) stop is = cc
-
--- what holds in any case
-pub on_ok : {A E P : Type 0} (result : Result A E) → P → OnOk result P
-on_ok (Ok value) fact = fact
-on_ok (Err stop) fact = tt
-
-pub on_err : {A E P : Type 0} (result : Result A E) → P → OnErr result P
-on_err (Ok value) fact = tt
-on_err (Err stop) fact = fact
-
-pub if_ok : {A E : Type 0} (P Q : A → Type 0) (result : Result A E) → ((value : A) → P value → Q value) → IfOk result P → IfOk result Q
-if_ok P Q (Ok value) follows fact = follows value fact
-if_ok P Q (Err stop) follows fact = tt
 
 -- A read of a node
 

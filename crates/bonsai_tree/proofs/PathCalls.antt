@@ -17,6 +17,7 @@ use Rattle.sec_base.specs.declared.place.Place.{Place}
 use Rattle.sec_base.specs.declared.place.Place.TheVariants.{Node as node_place}
 use Rattle.sec_base.specs.declared.stop.MemStop.{MemStop}
 use Rattle.sec_base.specs.declared.stop.MemStop.TheVariants.{NoMemory}
+use Rattle.sec_base.proofs.Results.{was_none, some_or_none}
 use Rattle.bus_model.specs.BusHistory.{BusHistory}
 use Rattle.tag_engine.specs.TagEngine.{TagEngineView, tags_of}
 use Rattle.checked_bus.specs.Accesses.{WritesMessages}
@@ -26,7 +27,7 @@ use Rattle.bonsai_tree.specs.Climb.{Climbs}
 use Rattle.bonsai_tree.specs.Node.{block_or_zeros, page_block, path_index}
 use Rattle.bonsai_tree.specs.Tree.{TreeView, HoldsTree, IsFetchPlace, IsNodeFrom, PathWasRead, SamePages, WasReadUp, above, cached_node, kept_tag, path_accesses, present_accesses}
 use Rattle.bonsai_tree.proofs.Climbs.{climbs_on, climbs_up}
-use Rattle.bonsai_tree.proofs.Nodes.{NodeRead, same_tags, some_or_none, was_none}
+use Rattle.bonsai_tree.proofs.Nodes.{NodeRead, same_tags}
 use Rattle.bonsai_tree.proofs.NodeCalls.{climbs_read, read_current}
 
 -- where it is no refusal

@@ -11,7 +11,7 @@ use Rattle.bonsai_tree.proofs.Nodes.{SameNode}
 abbrev pub tree_of : List ℕ → NodeCacheView → TreeView
 tree_of root nodes = record { levels = nodes.levels; root = root; caches = nodes.caches }
 
-some_copy : (found : Option Way) → IsSome found → option_map copy_of found ≢ None
+pub some_copy : (found : Option Way) → IsSome found → option_map copy_of found ≢ None
 some_copy None some none = absurd (cc)
 some_copy (Some way) some none = absurd (cc)
 

@@ -88,6 +88,18 @@ two_each count base (ways ∷ sets) h = (two_in ways h.0.set, two_each count (ba
 pub two_ways : (count : ℕ) (sets : List (List Way)) → IsCache count sets → All (λ ways. length ways ≤ 2) sets
 two_ways count sets is = All-from_recursion (λ ways. length ways ≤ 2) sets (two_each count 0 sets is.sets_are)
 
+-- and a cache has two copies a set at most
+pub few_in : (count base : ℕ) (sets : List (List Way)) → AreSets count base sets → length (places sets) ≤ 2 * length sets
+few_in count base [] are = omega arith
+few_in count base (ways ∷ sets) are =
+    omega (
+      arith,
+      length-append (map place_of ways) (places sets),
+      length-map ways place_of,
+      two_in ways are.0.set,
+      few_in count (base + 1) sets are.1,
+    )
+
 -- one set more has its own ways more
 pub places_more : (sets : List (List Way)) (index : ℕ) (ways : List Way) → index < length sets → ways ≡ get_or sets index ways → length (places (take (index + 1) sets)) ≡ length (places (take index sets)) + length ways
 places_more sets index ways l e =

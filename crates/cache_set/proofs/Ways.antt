@@ -109,11 +109,13 @@ without_twice : (place : ℕ) (ways : List Way) → without place (without place
 without_twice place [] = refl
 without_twice place (way ∷ ways) = grind (arith, nat_tests, without_twice place ways)
 
-without_behind : (place : ℕ) (ways : List Way) (way : Way) → way.place ≡ place → without place (ways ++ way ∷ []) ≡ without place ways
+-- a way that comes last is not beside itself
+pub without_behind : (place : ℕ) (ways : List Way) (way : Way) → way.place ≡ place → without place (ways ++ way ∷ []) ≡ without place ways
 without_behind place [] way e = grind (arith, nat_tests)
 without_behind place (first ∷ ways) way e = grind (arith, nat_tests, without_behind place ways way e)
 
-without_again : (found : Option Way) (place : ℕ) (ways : List Way) → way_of place ways ≡ found → without place (with_found found ways) ≡ without place ways
+-- and a touch changes nothing of the ways beside it
+pub without_again : (found : Option Way) (place : ℕ) (ways : List Way) → way_of place ways ≡ found → without place (with_found found ways) ≡ without place ways
 without_again None place ways h = refl
 without_again (Some way) place ways h =
     let here = place_found place ways way h in

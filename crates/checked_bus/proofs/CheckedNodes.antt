@@ -2,6 +2,7 @@
 use Rattle.std.proofs.Common.{◌≡◌, ◌≢◌, ℕ, inr, true, List, Option, Some, None, Result, Ok, Err, refl, ap, sym, ◌∙◌, subst, arith}
 use Rattle.std.specs.Option.{option_map, option_or}
 use Rattle.std.specs.Result.{result_err}
+use Rattle.std.proofs.lemmas.Option.{same_Some}
 use Rattle.sec_base.specs.Count.{Rose}
 use Rattle.sec_base.specs.Geometry.{IsNode}
 use Rattle.sec_base.specs.Evidence.{NodeFails}
@@ -24,7 +25,6 @@ use Rattle.checked_bus.specs.Checks.{PassedNode, FailedNode, IsCheckedNode}
 use Rattle.checked_bus.specs.Steps.{IsAccounted, IsCurrentNode, Moves, ReadsOnce, SameLines, SamePlace}
 use Rattle.checked_bus.proofs.FalseAnswers.{lie_comes, lie_rises, first_lie_stays}
 use Rattle.checked_bus.proofs.Evidences.{first_stays, or_none, by_evidence}
-use Rattle.checked_bus.proofs.LineMessages.{some_same}
 use Rattle.checked_bus.proofs.PlaceReads.{answer_moves, answer_once, answer_others, answer_lines, answer_accounted, nothing_moves, nothing_once, nothing_others, nothing_lines}
 use Rattle.checked_bus.proofs.CheckedReads.{tampered, none_lied, still_honest, ended_accounted}
 
@@ -147,7 +147,7 @@ module _ {T : Type 0} (tag_of : Message → List ℕ) (level index : ℕ) (tag :
     collided_differs block evidence found = λ same.
         let last : Some found.last ≡ Some current.block =
         sym (ap (λ (o : Option (ℕ × List ℕ)). option_map (λ (x : ℕ × List ℕ). x.1) o) found.made_last) ∙ current.last in
-        let is : found.last ≡ current.block = some_same found.last current.block last in
+        let is : found.last ≡ current.block = same_Some found.last current.block last in
         found.differs (is ∙ sym (same ∙ current.stored))
 
     -- a block with it and without evidence is the last one

@@ -3,6 +3,7 @@ use Rattle.std.proofs.Common.{◌≡◌, ◌≢◌, ℕ, ◌<◌, inl, inr, true
 use Rattle.std.specs.Option.{option_or}
 use Rattle.std.specs.Result.{result_err}
 use Rattle.std.proofs.lemmas.List.{take_at, drop_at, take_all}
+use Rattle.std.proofs.lemmas.Option.{same_Some}
 use Rattle.sec_base.specs.Count.{Rose}
 use Rattle.sec_base.specs.Geometry.{line_count}
 use Rattle.sec_base.specs.Evidence.{sealed_bytes, sealed_of, LineFails}
@@ -25,7 +26,7 @@ use Rattle.tag_engine.proofs.Forgeries.{known}
 use Rattle.checked_bus.specs.Checks.{after_line, Passed, Failed, IsCheckedRead}
 use Rattle.checked_bus.specs.SealedLine.{sealed_line}
 use Rattle.checked_bus.specs.Steps.{IsAccounted, IsCurrent, Moves, ReadsOnce, SamePlace}
-use Rattle.checked_bus.proofs.LineMessages.{last_made, last_pair-some, some_same}
+use Rattle.checked_bus.proofs.LineMessages.{last_made, last_pair-some}
 use Rattle.checked_bus.proofs.FalseAnswers.{lie_comes, lie_rises, first_lie_stays}
 use Rattle.checked_bus.proofs.Evidences.{shown_is, first_stays, by_evidence}
 use Rattle.checked_bus.proofs.PlaceReads.{answer_moves, answer_once, answer_others, answer_accounted, nothing_moves, nothing_once, nothing_others}
@@ -65,7 +66,7 @@ pub ended_accounted : (tag_of : Message → List ℕ) (used : List (ℕ × Count
 ended_accounted tag_of used made history stop evidence untampered was = record {
   account = record {
     answers = λ quiet. still_honest tag_of used made history (Some stop) (none_lied tag_of used made history (was.account.answers quiet))
-        (λ place is. untampered place (some_same stop (Tampered place) is));
+        (λ place is. untampered place (same_Some stop (Tampered place) is));
     shown = was.account.shown;
   };
   genuine = was.genuine;

@@ -1,14 +1,15 @@
 -- The messages of lines, and one more of them.
-use Rattle.std.proofs.Common.{◌≡◌, ◌≢◌, ℕ, zero, suc, Bool, true, false, cond, nat_eq, List, [], ◌∷◌, ◌++◌, Option, Some, None, Contains, refl, ap, sym, ◌∙◌, subst, arith}
+use Rattle.std.proofs.Common.{◌≡◌, ◌≢◌, ℕ, Bool, true, false, cond, nat_eq, List, [], ◌∷◌, ◌++◌, Option, Some, None, Contains, refl, ap, sym, ◌∙◌, subst}
 use Rattle.std.specs.Option.{option_map}
-use Rattle.std.specs.List.{slice_get}
 use Rattle.std.proofs.lemmas.Bool.Decides.{Decides-eqb}
+use Rattle.std.proofs.lemmas.Option.{same_Some}
 use Rattle.sec_base.specs.declared.counter.Counter.{Counter}
 use Rattle.sec_base.specs.declared.message.Message.{Message}
 use Rattle.sec_base.specs.declared.message.Message.TheVariants.{Line, Node}
 use Rattle.sec_base.specs.LastMessage.{data_part, last_at, last_data, last_pair, data_pairs}
 use Rattle.sec_base.proofs.LastMessages.{last_of_same, last_of_other, linked, HasPart, last_pair-data_pairs}
 use Rattle.sec_base.proofs.SamePlaces.{false_from}
+use Rattle.sec_base.proofs.Lists.{get_listed}
 
 -- a message more of the line itself
 pub last_data-same : (made : List Message) (line : ℕ) (counter : Counter) (cipher : List ℕ) →
@@ -29,16 +30,6 @@ last_data-other made line other counter cipher differs =
     ap (λ (b : Bool). cond b (Some (counter, cipher)) None) not_same in
     last_of_other (data_part other) made (Line line counter cipher) has
 
-found_there : {A : Type 0} (items : List A) (at : ℕ) (item : A) → slice_get items at ≡ Some item → Contains items item
-found_there [] at item there = absurd (cc)
-found_there (x ∷ items) zero item there = (zero, omega arith, cc)
-found_there (x ∷ items) (suc at) item there =
-    let rest = found_there items at item there in
-    (suc rest.0, omega (arith, rest.1), rest.2)
-
-pub some_same : {A : Type 0} (x y : A) → Some x ≡ Some y → x ≡ y
-some_same x y same = cc
-
 abbrev part_if : Bool → Counter × List ℕ → Option (Counter × List ℕ)
 part_if same part = cond same (Some part) None
 
@@ -48,7 +39,7 @@ line_message line other counter counter' cipher cipher' false is e = absurd (cc)
 line_message line other counter counter' cipher cipher' true is e =
     let part : Counter × List ℕ = (counter, cipher) in
     let part' : Counter × List ℕ = (counter', cipher') in
-    let parts : part' ≡ part = some_same part' part e in
+    let parts : part' ≡ part = same_Some part' part e in
     let lines : other ≡ line = (Decides-eqb other line).0 is in
     ap (λ (n : ℕ). Line n counter' cipher') lines ∙ ap (λ (p : Counter × List ℕ). Line line p.0 p.1) parts
 
@@ -64,10 +55,10 @@ last_among made line counter cipher None is e = absurd (cc)
 last_among made line counter cipher (Some found) is e =
     let there : HasPart (data_part line) made found.0 found.1 = linked (data_part line) made found.0 found.1 is in
     let is_part : Counter × List ℕ = (counter, cipher) in
-    let part : found.1 ≡ is_part = some_same found.1 is_part e in
+    let part : found.1 ≡ is_part = same_Some found.1 is_part e in
     let message : there.item ≡ Line line counter cipher =
     part_message line counter cipher there.item (there.part_is ∙ ap (λ (p : Counter × List ℕ). Some p) part) in
-    subst (λ (m : Message). Contains made m) message (found_there made found.0 there.item there.there)
+    subst (λ (m : Message). Contains made m) message (get_listed made found.0 there.item there.there)
 
 -- the last message of a line is one of those made
 pub last_made : (made : List Message) (line : ℕ) (counter : Counter) (cipher : List ℕ) →

@@ -16,6 +16,7 @@ use Rattle.sec_base.specs.Lines.{line_at}
 use Rattle.sec_base.specs.Opening.{opening_memory}
 use Rattle.sec_base.proofs.Gains.{gain_none, gain_on}
 use Rattle.sec_base.proofs.JoinedLines.{line_at-joined_lines}
+use Rattle.sec_base.proofs.Results.{was_none}
 use Rattle.bus_model.specs.BusHistory.{BusHistory}
 use Rattle.tag_engine.specs.TagEngine.{TagEngineView}
 use Rattle.rv32_core.specs.Machine.{Machine, opening_of}
@@ -34,7 +35,7 @@ use Rattle.line_cache.specs.Moving.{length-contents_over}
 use Rattle.line_cache.proofs.Lines.{over_unheld}
 use Rattle.line_cache.proofs.Steps.{unheld_none}
 use Rattle.secure_memory.specs.SecureRam.{IsMoved, IsQuiet, SecureRamView, cached_pages, contents, held_lines, lines_of, made, pages_on_chip, stopped}
-use Rattle.secure_memory.specs.Moving.{moved_on, unmoved, was_none}
+use Rattle.secure_memory.specs.Moving.{moved_on, unmoved}
 use Rattle.chip_run.proofs.Booted.{HasMessage, has_before, has_last}
 use Rattle.chip_run.proofs.TurnoverCases.{turned_by_none}
 

@@ -9,9 +9,10 @@ use Rattle.cache_set.specs.declared.way.Way.{Way}
 use Rattle.cache_set.specs.Cache.{IsCache, IsLatest, places, set_at, way_at}
 use Rattle.cache_set.proofs.Listed.{found_at, listed_at}
 use Rattle.cache_set.proofs.Ways.{latest_found}
+use Rattle.cache_set.proofs.Sets.{few_in}
 use Rattle.bonsai_tree.specs.Node.{CachedNode, level_blocks}
 use Rattle.bonsai_tree.specs.NodeCache.{copy_of}
-use Rattle.bonsai_tree.proofs.Copies.{few_in}
+use Rattle.bonsai_tree.proofs.Views.{some_copy}
 use Rattle.counter_cache.specs.Counters.{AreBlocks, CountersView, OnlyLeavingIsMade, block_sets, cached_block, cached_pages, leaving_page, most_blocks}
 
 module _ (levels : ℕ) (blocks blocks' : List (List Way)) (are : AreBlocks levels blocks) (cache : IsCache block_sets blocks') where
@@ -61,17 +62,13 @@ apart_from blocks page other way none some same =
 
 -- The pages that have a copy
 
-some_copied : (found : Option Way) → IsSome found → option_map copy_of found ≢ None
-some_copied None some = absurd (cc)
-some_copied (Some way) some = λ (none : option_map copy_of (Some way) ≡ None). absurd (cc)
-
 copied_some : (found : Option Way) → option_map copy_of found ≢ None → IsSome found
 copied_some None held = absurd (held refl)
 copied_some (Some way) held = refl
 
 pub cached_held : (counters : CountersView) (page : ℕ) → IsCache block_sets counters.blocks → Contains (cached_pages counters) page →
     cached_block counters page ≢ None
-cached_held counters page is cached = some_copied (way_at counters.blocks page) (found_at block_sets counters.blocks page is cached)
+cached_held counters page is cached = some_copy (way_at counters.blocks page) (found_at block_sets counters.blocks page is cached)
 
 pub held_cached : (counters : CountersView) (page : ℕ) → cached_block counters page ≢ None → Contains (cached_pages counters) page
 held_cached counters page held = listed_at counters.blocks page (copied_some (way_at counters.blocks page) held)

@@ -6,9 +6,9 @@ use Rattle.sec_base.specs.declared.evidence.Evidence.TheVariants.{Collision}
 use Rattle.sec_base.specs.declared.message.Message.{Message}
 use Rattle.sec_base.specs.declared.message.Message.TheVariants.{Node}
 use Rattle.sec_base.specs.declared.place.Place.TheVariants.{Node as node_place}
+use Rattle.sec_base.proofs.Results.{some_or_none}
 use Rattle.bonsai_tree.specs.Node.{CachedNode}
 use Rattle.bonsai_tree.specs.Tree.{TreeView, IsNodeFrom, kept_tag}
-use Rattle.bonsai_tree.proofs.Nodes.{some_or_none}
 use Rattle.bonsai_tree.proofs.PathCalls.{not_from_one}
 use Rattle.counter_cache.specs.Counters.{CountersView, IsCopyOrTagged, IsHad, cached_block}
 

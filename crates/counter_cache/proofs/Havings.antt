@@ -13,6 +13,7 @@ use Rattle.sec_base.specs.declared.place.Place.TheVariants.{Node as node_place}
 use Rattle.sec_base.specs.declared.stop.MemStop.{MemStop}
 use Rattle.sec_base.specs.declared.stop.MemStop.TheVariants.{Tampered, Spent, NoMemory}
 use Rattle.sec_base.proofs.LastMessages.{none_front}
+use Rattle.sec_base.proofs.Results.{was_none, some_or_none}
 use Rattle.bus_model.specs.BusHistory.{BusHistory}
 use Rattle.tag_engine.specs.TagEngine.{TagEngineView, tags_of}
 use Rattle.checked_bus.specs.Accesses.{WritesMessages}
@@ -23,7 +24,7 @@ use Rattle.split_counter.specs.CounterBlock.{block_of}
 use Rattle.bonsai_tree.specs.Node.{CachedNode, block_or_zeros, current_of, page_block}
 use Rattle.bonsai_tree.specs.Tree.{HoldsTree, IsFetchPlace, IsNodeFrom, NodesAreMade, NodesHoldLast, PathWasRead, SlotsAreTags, TreeView, WasReadUp, above, cached_node}
 use Rattle.bonsai_tree.proofs.Climbs.{above_on, find_copy, read_up_held, read_up_on, unchanged_writes}
-use Rattle.bonsai_tree.proofs.Nodes.{same_tags, some_not_none, some_or_none, was_none}
+use Rattle.bonsai_tree.proofs.Nodes.{same_tags, some_not_none}
 use Rattle.bonsai_tree.proofs.PathCalls.{not_from_one}
 use Rattle.counter_cache.specs.Counters.{AreBlocks, CameFrom, CountersView, HasFewNodes, HoldsCounters, SameCounters, cached_block, cached_pages, counters_in, current_page}
 use Rattle.counter_cache.specs.Having.{Has}

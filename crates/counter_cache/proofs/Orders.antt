@@ -1,28 +1,18 @@
 -- The order of the ways of a set, where a block comes or its copy changes.
-use Rattle.std.proofs.Common.{◌≡◌, ◌≢◌, ℕ, ◌%◌, List, [], ◌∷◌, ◌++◌, Option, Some, None, IsSome, get_or, refl, ap, sym, ◌∙◌, subst, arith}
+use Rattle.std.proofs.Common.{◌≡◌, ◌≢◌, ℕ, ◌%◌, List, [], Option, Some, None, IsSome, get_or, refl, ap, sym, ◌∙◌, subst}
 use Rattle.std.specs.Option.{option_map}
 use Rattle.std.proofs.Math.ListN.{set}
-use Rattle.std.proofs.lemmas.Bool.Decides.{nat_tests}
 use Rattle.cache_set.specs.declared.way.Way.{Way}
-use Rattle.cache_set.specs.CacheSet.{latest_place, touched, way_of, with_found, with_latest, without}
+use Rattle.cache_set.specs.CacheSet.{latest_place, touched, way_of, with_latest, without}
 use Rattle.cache_set.specs.Cache.{IsCache, IsLatest, place_of, set_at, victim_if, way_at, with_set}
-use Rattle.cache_set.proofs.Ways.{latest_behind, none_without, place_found, without_absent}
+use Rattle.cache_set.proofs.Ways.{latest_behind, none_without, without_absent, without_again, without_behind}
 use Rattle.cache_set.proofs.Sets.{set_apart, set_here}
 use Rattle.counter_cache.specs.Counters.{CountersView, block_sets, leaving_page, left_by, set_of, ways_beside}
-
-without_behind : (ways : List Way) (way : Way) → without way.place (ways ++ way ∷ []) ≡ without way.place ways
-without_behind [] way = grind (arith, nat_tests)
-without_behind (first ∷ ways) way = grind (arith, nat_tests, without_behind ways way)
 
 -- the ways beside one that comes last are those of before
 beside_latest : (way : Way) (ways : List Way) → without way.place (with_latest way ways) ≡ without way.place ways
 beside_latest way ways =
-    without_behind (without way.place ways) way ∙ without_absent way.place (without way.place ways) (none_without way.place ways)
-
-beside_found : (found : Option Way) (place : ℕ) (ways : List Way) → way_of place ways ≡ found → without place (with_found found ways) ≡ without place ways
-beside_found None place ways is = refl
-beside_found (Some way) place ways is =
-    subst (λ (p : ℕ). without p (with_latest way ways) ≡ without p ways) (place_found place ways way is) (beside_latest way ways)
+    without_behind way.place (without way.place ways) way refl ∙ without_absent way.place (without way.place ways) (none_without way.place ways)
 
 found_leaves_none : (found : Option Way) (ways : List Way) → IsSome found → option_map place_of (victim_if found ways) ≡ None
 found_leaves_none None ways some = absurd (cc)
@@ -47,7 +37,7 @@ pub beside_touched : (counters : CountersView) (page : ℕ) (blocks' : List (Lis
 beside_touched counters page blocks' is some after =
     let ways = set_at counters.blocks page in
     ap (λ (w : List Way). without page w) (set_put counters.blocks blocks' page (touched page ways) is after page refl)
-    ∙ beside_found (way_of page ways) page ways refl
+    ∙ without_again (way_of page ways) page ways refl
     ∙ sym (ap (λ (o : Option ℕ). without page (left_by o ways)) (found_leaves_none (way_at counters.blocks page) ways some))
 
 -- a way that comes, or takes the place of its page's

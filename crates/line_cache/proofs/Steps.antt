@@ -1,5 +1,5 @@
 -- What calls make of a cache of lines.
-use Rattle.std.proofs.Common.{◌≡◌, ◌≢◌, ◌⊎◌, inl, inr, ℕ, ◌+◌, ◌*◌, ◌≤◌, List, [], ◌∷◌, length, length-append, map, Bool, true, false, Option, Some, None, IsSome, is_some, Contains, Result, Ok, Err, IfOk, IfErr, OnOk, OnErr, refl, sym, ◌∙◌, ap, subst, arith}
+use Rattle.std.proofs.Common.{◌≡◌, ◌≢◌, ◌⊎◌, inl, inr, ℕ, ◌*◌, ◌≤◌, List, length, Bool, true, false, Option, Some, None, IsSome, is_some, Contains, Result, Err, IfOk, refl, sym, ◌∙◌, ap, subst, arith}
 use Rattle.std.specs.Option.{option_map, option_or}
 use Rattle.std.specs.Result.{result_err}
 use Rattle.std.proofs.lemmas.Bool.{true≢false}
@@ -7,10 +7,11 @@ use Rattle.std.proofs.lemmas.Option.{none-some, same_Some}
 use Rattle.sec_base.specs.Lines.{line_at, with_line}
 use Rattle.sec_base.specs.declared.stop.MemStop.{MemStop}
 use Rattle.cache_set.specs.declared.way.Way.{Way}
-use Rattle.cache_set.specs.CacheSet.{IsSet, touched}
-use Rattle.cache_set.specs.Cache.{AreSets, IsCache, copy_at, place_of, places, set_at, victim_if, way_at, with_set}
+use Rattle.cache_set.specs.CacheSet.{touched}
+use Rattle.cache_set.specs.Cache.{IsCache, copy_at, places, set_at, victim_if, way_at, with_set}
 use Rattle.cache_set.proofs.Calls.{put_after_touch}
 use Rattle.cache_set.proofs.Listed.{found_at, listed_at}
+use Rattle.cache_set.proofs.Sets.{few_in}
 use Rattle.line_cache.specs.LineCache.{AreClean, AreCopies, IsMiss, IsMissed, IsStep, IsStoppedMiss, LineCacheView, brought, brought_if, contents_over, if_changed, leaving, line_sets, most_held, with_changed, with_new, with_room}
 use Rattle.line_cache.specs.WriteBack.{IsGone, IsWritten, written, written_if}
 use Rattle.line_cache.proofs.Lines.{clean_part, clean_written, line_written, over_gone, over_written, part_gone, same_or_not}
@@ -129,24 +130,6 @@ module _ {S : Type 0} (read_moved : S → ℕ → Result (List ℕ) MemStop → 
       copy = tt;
     }
 
--- what is so of an answer is so of each case of it
-pub if_ok : {A : Type 0} (answer : Result (Unit {0}) A) (P : Result (Unit {0}) A → Type 0) → P answer → OnOk answer (P (Ok tt))
-if_ok (Ok done) P p = p
-if_ok (Err stop) P p = tt
-
-pub if_err : {A E : Type 0} (answer : Result A E) (P : Result A E → Type 0) → P answer → IfErr answer (λ stop. P (Err stop))
-if_err (Ok done) P p = tt
-if_err (Err stop) P p = p
-
--- what is always so is so of an answer
-pub on_ok : {A E : Type 0} (answer : Result A E) (P : Type 0) → P → OnOk answer P
-on_ok (Ok x) P p = p
-on_ok (Err e) P p = tt
-
-pub on_err : {A E : Type 0} (answer : Result A E) (P : Type 0) → P → OnErr answer P
-on_err (Ok x) P p = tt
-on_err (Err e) P p = p
-
 pub over_equal : (stored stored' : List ℕ) (count count' : ℕ) (lines lines' : List (List Way)) → stored' ≡ stored → count' ≡ count → lines' ≡ lines →
     contents_over stored' count' lines' ≡ contents_over stored count lines
 over_equal stored stored' count count' lines lines' e f h =
@@ -195,20 +178,8 @@ none_leaves : (found : Option Way) (ways : List Way) → IsSome found → if_cha
 none_leaves None ways there = absurd (true≢false (sym there))
 none_leaves (Some way) ways there = refl
 
--- two ways a set at most
-few_ways : (ways : List Way) → IsSet ways → length (map place_of ways) ≤ 2
-few_ways [] is = omega arith
-few_ways (way ∷ []) is = omega arith
-few_ways (way ∷ next ∷ []) is = omega arith
-few_ways (way ∷ next ∷ more ∷ ways) is = absurd is
-
-few_sets : (count index : ℕ) (sets : List (List Way)) → AreSets count index sets → length (places sets) ≤ 2 * length sets
-few_sets count index [] are = omega arith
-few_sets count index (ways ∷ sets) are =
-    omega (arith, few_ways ways are.0.set, few_sets count (index + 1) sets are.1, length-append (map place_of ways) (places sets))
-
 pub few_held : (lines : List (List Way)) → IsCache line_sets lines → length (places lines) ≤ most_held
-few_held lines is = omega (arith, few_sets line_sets 0 lines is.sets_are, is.counted)
+few_held lines is = omega (arith, few_in line_sets 0 lines is.sets_are, is.counted)
 
 module _ {S : Type 0} (read_moved : S → ℕ → Result (List ℕ) MemStop → S → Type 0) (write_moved : S → ℕ → List ℕ → Result (Unit {0}) MemStop → S → Type 0) (before after : LineCacheView S) (line : ℕ) (was : IsCache line_sets before.lines) (is : IsCache line_sets after.lines) where
   -- a line that is held

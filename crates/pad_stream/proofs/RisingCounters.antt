@@ -1,20 +1,11 @@
 -- Counters that rise, and one more of them.
-use Rattle.std.proofs.Common.{◌≡◌, ◌⊎◌, inl, inr, ℕ, zero, suc, ◌<◌, List, [], ◌∷◌, ◌++◌, length, Some, Contains, refl, ap, sym, ◌∙◌, subst, arith, length-append}
+use Rattle.std.proofs.Common.{◌≡◌, ◌⊎◌, inl, inr, ℕ, ◌<◌, List, [], ◌∷◌, ◌++◌, length, Some, Contains, ap, sym, ◌∙◌, subst, arith, length-append, get_or}
 use Rattle.std.specs.List.{slice_get}
-use Rattle.std.proofs.lemmas.Option.{slice_get_within}
+use Rattle.std.proofs.lemmas.Option.{slice_get_within, slice_get-get_or}
 use Rattle.std.proofs.lemmas.Bool.{cases_lt, cases_eq}
 use Rattle.sec_base.specs.declared.counter.Counter.{Counter}
+use Rattle.sec_base.proofs.Lists.{get_last, get_listed, get_front}
 use Rattle.pad_stream.specs.Pads.{NoRepeat, IsBefore, AreRising}
-
--- an item stays where it is
-get_front : {A : Type 0} (items more : List A) (at : ℕ) → at < length items → slice_get (items ++ more) at ≡ slice_get items at
-get_front [] more at below = absurd (omega arith)
-get_front (x ∷ items) more zero below = refl
-get_front (x ∷ items) more (suc at) below = get_front items more at (omega arith)
-
-get_last : {A : Type 0} (items : List A) (item : A) → slice_get (items ++ item ∷ []) (length items) ≡ Some item
-get_last [] item = refl
-get_last (x ∷ items) item = get_last items item
 
 -- an item of a list that is one longer: the last, or one of those before
 get_more : {A : Type 0} (items : List A) (item found : A) (at : ℕ) → slice_get (items ++ item ∷ []) at ≡ Some found →
@@ -22,19 +13,14 @@ get_more : {A : Type 0} (items : List A) (item found : A) (at : ℕ) → slice_g
 get_more items item found at is =
     let within : at < length (items ++ item ∷ []) = slice_get_within (items ++ item ∷ []) at found is in
     elim (cases_lt at (length items)) [
-      | inl below ↦ inl (below, sym (get_front items (item ∷ []) at below) ∙ is)
+      | inl below ↦
+          let there : slice_get items at ≡ Some (get_or items at item) = slice_get-get_or items at item below in
+          inl (below, there ∙ sym (get_front items (item ∷ []) at (get_or items at item) there) ∙ is)
       | inr last ↦
           let here : at ≡ length items = omega (arith, length-append items (item ∷ [])) in
           let same : Some item ≡ Some found = sym (get_last items item) ∙ ap (slice_get (items ++ item ∷ [])) (sym here) ∙ is in
           inr (here, cc)
     ]
-
-get_listed : {A : Type 0} (items : List A) (at : ℕ) (item : A) → slice_get items at ≡ Some item → Contains items item
-get_listed [] at item there = absurd (cc)
-get_listed (x ∷ items) zero item there = (zero, omega arith, cc)
-get_listed (x ∷ items) (suc at) item there =
-    let rest = get_listed items at item there in
-    (suc rest.0, omega (arith, rest.1), rest.2)
 
 same_entry : (first second : ℕ × Counter) → first ≡ second → (first.0 ≡ second.0) × (first.1 ≡ second.1)
 same_entry first second same = (ap (λ (p : ℕ × Counter). p.0) same, ap (λ (p : ℕ × Counter). p.1) same)
@@ -64,7 +50,8 @@ rising_more used line counter rising behind = record {
 pub rising_nothing : AreRising []
 rising_nothing = record { rise = λ first second line counter later order here there. absurd (cc) }
 
-not_before : (counter : Counter) → IsBefore counter counter → ⊥
+-- no counter comes before itself
+pub not_before : (counter : Counter) → IsBefore counter counter → ⊥
 not_before counter (inl page) = omega arith
 not_before counter (inr line) = omega (arith, line.1)
 

@@ -3,6 +3,7 @@ use Rattle.std.proofs.Common.{◌≡◌, ◌≢◌, ◌⊎◌, inl, inr, ℕ, �
 use Rattle.std.proofs.lemmas.Bool.{cases_eq, lt-ltb}
 use Rattle.std.proofs.lemmas.Bool.Decides.{Decides-eqb}
 use Rattle.std.proofs.lemmas.List.Elements.{Contains-append_left, Contains-push, Contains-push_cases, filter-append}
+use Rattle.std.proofs.lemmas.Option.{same_Some}
 use Rattle.sec_base.specs.declared.counter.Counter.{Counter}
 use Rattle.sec_base.specs.declared.message.Message.{Message}
 use Rattle.sec_base.specs.declared.message.Message.TheVariants.{Line}
@@ -14,7 +15,7 @@ use Rattle.sec_base.specs.Place.{at_place, zeros_of}
 use Rattle.sec_base.proofs.LastMessages.{last_of_same, last_of_other}
 use Rattle.sec_base.proofs.SamePlaces.{at_place-here, at_place-there, false_from}
 use Rattle.bus_model.specs.BusHistory.{BusHistory}
-use Rattle.checked_bus.proofs.LineMessages.{last_data-same, last_data-other, some_same}
+use Rattle.checked_bus.proofs.LineMessages.{last_data-same, last_data-other}
 use Rattle.checked_bus.proofs.Steps.{data_pairs-append}
 use Rattle.checked_bus.specs.SealedLine.{sealed_line}
 use Rattle.pad_stream.specs.Pads.{AreRising, IsBefore, of_lines}
@@ -148,7 +149,7 @@ module _ (tag_of : Message → List ℕ) (levels : ℕ) (history : BusHistory) (
               let mine : Counter × List ℕ = (counter, cipher) in
               let theirs : Counter × List ℕ = (found, bytes) in
               let here : last_data other made_now ≡ Some mine = ap (λ (l : ℕ). last_data l made_now) same ∙ last_data-same made line counter cipher in
-              let pair : mine ≡ theirs = some_same mine theirs (sym here ∙ last) in
+              let pair : mine ≡ theirs = same_Some mine theirs (sym here ∙ last) in
               ap (λ (l : ℕ). at_place (line_place line) line_now history.written (line_place l)) same
               ∙ at_place-here (line_place line) line_now history.written
               ∙ ap (λ (p : Counter × List ℕ). sealed_line tag_of line p.0 p.1) pair

@@ -12,6 +12,7 @@ use Rattle.sec_base.specs.declared.stop.MemStop.{MemStop}
 use Rattle.sec_base.specs.declared.stop.MemStop.TheVariants.{Tampered, Spent, NoMemory}
 use Rattle.sec_base.specs.Count.{Rose}
 use Rattle.sec_base.specs.Geometry.{line_count, page_count, page_of}
+use Rattle.sec_base.proofs.Results.{was_none}
 use Rattle.bus_model.specs.BusHistory.{BusHistory, after_write}
 use Rattle.tag_engine.specs.TagEngine.{TagEngineView, after_make, tags_of, with_room as tags_with_room}
 use Rattle.pad_stream.specs.Pad.{cipher_of}
@@ -31,7 +32,6 @@ use Rattle.page_reencrypt.specs.SealedLines.{CopiesCame, IsOfPage}
 use Rattle.page_reencrypt.specs.Stops.{lasting_stop}
 use Rattle.page_reencrypt.proofs.Consistency.{counter_in-same, counter_in-other}
 use Rattle.page_reencrypt.proofs.Entries.{counter_among, counter_beside, encrypted_line, encrypted_page, listed_page, next_after, next_line, next_page, page_listed}
-use Rattle.page_reencrypt.proofs.LineReads.{quiet_before}
 use Rattle.page_reencrypt.proofs.Reaching.{IsReached, came_on, early_write, late_counters, late_write, reached_idle, reached_on, reached_risen, reached_roomy, reached_spent}
 use Rattle.page_reencrypt.proofs.Sealing.{all_in_order, listed_one, one_sealed, one_unwritten, own_reread, same_terms}
 
@@ -42,10 +42,6 @@ ok_where (Ok value) holds unspent going = holds
 ok_where (Err (Tampered place)) holds unspent going = absurd (cc)
 ok_where (Err (Spent page)) holds unspent going = absurd (unspent page refl)
 ok_where (Err NoMemory) holds unspent going = absurd (cc)
-
-pub stopped_by : {A : Type 0} (result : Result A MemStop) (stop : MemStop) → result_err result ≡ Some stop → result ≡ Err stop
-stopped_by (Ok value) stop is = absurd (cc)
-stopped_by (Err why) stop is = let same : why ≡ stop = cc in ap (λ (s : MemStop). Err s) same
 
 -- a stop that is not of a spent page lasts
 lasts : (why : MemStop) → ((page : ℕ) → why ≢ Spent page) → lasting_stop (Some why) ≢ None
@@ -140,7 +136,7 @@ module _ {B T : Type 0} (history : B → BusHistory) (moved : B → B → Type 0
         (new.engine.evidence ≡ None → SameCounters counters old.engine.made counters' new.engine.made) →
         CountersSay terms new counters'
     say_same new counters' stop reached same = λ quiet page inside line of_page.
-        let was_quiet = quiet_before old.engine.evidence new.engine.evidence reached.node.step.evidence quiet in
+        let was_quiet = was_none old.engine.evidence new.engine.evidence reached.node.step.evidence quiet in
         ap (λ (used : List (ℕ × Counter)). counter_in used line) reached.node.used ∙ say was_quiet page inside line of_page
         ∙ ap (counter_of (place_of line)) (sym (same quiet page))
 
@@ -287,7 +283,7 @@ module _ {B T : Type 0} (history : B → BusHistory) (moved : B → B → Type 0
   module _ (say : CountersSay terms old counters) (limit line page place : ℕ) (got : OutsideView B T) (counters' : CountersView) (block : CounterBlockView)
       (counter0 : Counter) (foreseen : Bumped) (had : HadCounters limit line page place got counters' block counter0 foreseen) where
     abbrev got_quiet : got.engine.evidence ≡ None → old.engine.evidence ≡ None
-    got_quiet quiet = quiet_before old.engine.evidence got.engine.evidence had.reached.node.step.evidence quiet
+    got_quiet quiet = was_none old.engine.evidence got.engine.evidence had.reached.node.step.evidence quiet
 
     pub block_at : got.engine.evidence ≡ None → block ≡ counters_in counters old.engine.made (page_of line)
     block_at quiet = had.block_is quiet ∙ ap (counters_in counters old.engine.made) had.page_is
@@ -365,7 +361,7 @@ module _ {B T : Type 0} (history : B → BusHistory) (moved : B → B → Type 0
 
       mid_quiet : mid.engine.evidence ≡ None → got.engine.evidence ≡ None
       mid_quiet quiet =
-          let before = quiet_before roomy.engine.evidence mid.engine.evidence up.reached.node.step.evidence quiet in
+          let before = was_none roomy.engine.evidence mid.engine.evidence up.reached.node.step.evidence quiet in
           sym (ap (λ (o : OutsideView B T). o.engine.evidence) up.taken) ∙ before
 
       roomy_block : mid.engine.evidence ≡ None → (other : ℕ) → counters_in counters' roomy.engine.made other ≡ counters_in counters old.engine.made other
@@ -469,7 +465,7 @@ module _ {B T : Type 0} (history : B → BusHistory) (moved : B → B → Type 0
               (line_next counter (up_foreseen quiet ∙ is))
 
           new_quiet : new.engine.evidence ≡ None → mid.engine.evidence ≡ None
-          new_quiet quiet = quiet_before mid.engine.evidence new.engine.evidence moves.evidence quiet
+          new_quiet quiet = was_none mid.engine.evidence new.engine.evidence moves.evidence quiet
 
           had_it : mid.engine.evidence ≡ None → HasCounter mid.pads.used line (counter_in old.pads.used line) × IsBefore (counter_in old.pads.used line) counter
           had_it quiet = (
@@ -541,13 +537,13 @@ module _ {B T : Type 0} (history : B → BusHistory) (moved : B → B → Type 0
           pub page_overflows : new.engine.evidence ≡ None → (next_counter (counter_in old.pads.used line)).line ≡ 0
           page_overflows quiet =
               ap (λ (c : Counter). c.line) (next_page (counter_in old.pads.used line)
-              (page_facts (quiet_before mid.engine.evidence new.engine.evidence sealed.sealed.step.evidence quiet)).0)
+              (page_facts (was_none mid.engine.evidence new.engine.evidence sealed.sealed.step.evidence quiet)).0)
 
           page_terms : terms_of history moved d n mid ≡ terms
           page_terms = same_terms history moved d n old mid up_reached.node.step.tagger up_reached.node.step.levels
 
           page_quiet : new.engine.evidence ≡ None → mid.engine.evidence ≡ None
-          page_quiet quiet = quiet_before mid.engine.evidence new.engine.evidence sealed.sealed.step.evidence quiet
+          page_quiet quiet = was_none mid.engine.evidence new.engine.evidence sealed.sealed.step.evidence quiet
 
           page_order : AreSealedInOrder terms (record { line = line; bytes = bytes; counter = paged }) mid (lines_encrypted paged line) new stop
           page_order =

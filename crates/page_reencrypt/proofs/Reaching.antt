@@ -11,6 +11,7 @@ use Rattle.sec_base.specs.Count.{Rose, RoseBy}
 use Rattle.sec_base.specs.Geometry.{line_count, page_of}
 use Rattle.sec_base.specs.LastMessage.{data_pairs, last_data, last_node, node_part, IsFresh}
 use Rattle.sec_base.proofs.LastMessages.{none_front}
+use Rattle.sec_base.proofs.Results.{was_none}
 use Rattle.bus_model.specs.BusHistory.{BusHistory}
 use Rattle.tag_engine.specs.TagEngine.{TagEngineView, with_room as tags_with_room}
 use Rattle.pad_stream.specs.Pad.{cipher_of}
@@ -31,7 +32,6 @@ use Rattle.page_reencrypt.specs.Contents.{HoldsLast, NodesSay, bytes_of, counter
 use Rattle.page_reencrypt.specs.Outside.{AreAccounted, AreConsistent, AreSealedInOrder, CountersFit, CountersSay, HaveLast, HaveLastNodes, HaveRisen, IsNodeStep, IsWrite, MemoryTerms, NodesSayStill, OutsideView, ShowsLies}
 use Rattle.page_reencrypt.specs.SealedLines.{AreReread, CopiesCame}
 use Rattle.page_reencrypt.specs.Stops.{lasting_stop}
-use Rattle.page_reencrypt.proofs.LineReads.{quiet_before}
 use Rattle.page_reencrypt.proofs.NodeSteps.{same_last_data}
 use Rattle.page_reencrypt.proofs.Nodes.{counters_same, fits_same, nodes_last, not_node}
 use Rattle.page_reencrypt.proofs.SayingNodes.{say_on}
@@ -165,7 +165,7 @@ module _ {B T : Type 0} (terms : MemoryTerms B) where
     fits = b.fits;
     accounted = λ was. b.accounted (a.accounted was);
     shows = shows_on first second third a.node.step b.node.step a.shows b.shows;
-    nodes = λ quiet was. b.nodes quiet (a.nodes (quiet_before second.engine.evidence third.engine.evidence b.node.step.evidence quiet) was);
+    nodes = λ quiet was. b.nodes quiet (a.nodes (was_none second.engine.evidence third.engine.evidence b.node.step.evidence quiet) was);
   }
 
   -- memory was taken, or some of it
@@ -285,7 +285,7 @@ module _ {B T : Type 0} (terms : MemoryTerms B) where
   module _ (old : OutsideView B T) (counters : CountersView) (new : OutsideView B T) (counters' : CountersView) (stop : Option MemStop)
       (reached : IsReached old counters new counters' stop) where
     reached_quiet : new.engine.evidence ≡ None → old.engine.evidence ≡ None
-    reached_quiet quiet = quiet_before old.engine.evidence new.engine.evidence reached.node.step.evidence quiet
+    reached_quiet quiet = was_none old.engine.evidence new.engine.evidence reached.node.step.evidence quiet
 
     pub reached_risen : HaveRisen terms old → HaveRisen terms new
     reached_risen rose quiet = subst AreRising (sym reached.node.used) (rose (reached_quiet quiet))
@@ -387,7 +387,7 @@ module _ {B T : Type 0} (terms : MemoryTerms B) where
         }))
 
     late_quiet : new.engine.evidence ≡ None → mid.engine.evidence ≡ None
-    late_quiet quiet = quiet_before mid.engine.evidence new.engine.evidence sealed.sealed.step.evidence quiet
+    late_quiet quiet = was_none mid.engine.evidence new.engine.evidence sealed.sealed.step.evidence quiet
 
     -- the counters fit still
     pub late_fits : CountersFit terms new counters'

@@ -11,6 +11,7 @@ use Rattle.sec_base.specs.Geometry.{line_count, page_of}
 use Rattle.sec_base.specs.LastMessage.{data_pairs, last_data}
 use Rattle.sec_base.specs.Lines.{line_at}
 use Rattle.sec_base.proofs.JoinedLines.{joined_lines-same, line_at-joined_lines}
+use Rattle.sec_base.proofs.Results.{stop_is, was_none}
 use Rattle.bus_model.specs.BusHistory.{BusHistory}
 use Rattle.tag_engine.specs.TagEngine.{TagEngineView, tags_of}
 use Rattle.pad_stream.specs.PadEngine.{PadEngineView}
@@ -25,10 +26,8 @@ use Rattle.page_reencrypt.specs.LineMoves.{ReadMoved}
 use Rattle.page_reencrypt.specs.Outside.{CountersSay, IsLineRead, MemoryTerms, OutsideView, outside_of, terms_of}
 use Rattle.page_reencrypt.specs.SealedLines.{AreProtected, CountersRise, IsUnsealed, SealedLinesView, contents}
 use Rattle.page_reencrypt.specs.Stops.{lasting_stop}
-use Rattle.page_reencrypt.proofs.Kept.{err_stop, none_before, pages_kept, protected_after, stop_accounted, stop_lasts, stop_memory, stop_spent, stop_unwritten}
-use Rattle.page_reencrypt.proofs.LineReads.{quiet_before}
+use Rattle.page_reencrypt.proofs.Kept.{none_before, pages_kept, protected_after, stop_accounted, stop_lasts, stop_memory, stop_spent, stop_unwritten}
 use Rattle.page_reencrypt.proofs.Moves.{moves_not}
-use Rattle.page_reencrypt.proofs.NextWrites.{stopped_by}
 use Rattle.page_reencrypt.proofs.NodeSteps.{last_data-nodes}
 use Rattle.page_reencrypt.proofs.Reaching.{came_not}
 use Rattle.page_reencrypt.proofs.RisingPairs.{last_none}
@@ -91,21 +90,18 @@ module _ {B T : Type 0} (d n : T → List ℕ → List ℕ) (history : B → Bus
   abbrev after : SealedLinesView B T
   after = record { bus = new.bus; engine = new.engine; pads = new.pads; counters = counters; limit = m.limit; stopped = stopped }
 
-  is_stop : stopped ≡ option_or (result_err result) m.stopped
-  is_stop = stops ∙ ap (λ (o : Option MemStop). option_or o m.stopped) (err_stop result)
-
   same_used : new.pads.used ≡ m.pads.used
   same_used = ap (λ (p : PadEngineView). p.used) r.pads
 
   was_quiet : new.engine.evidence ≡ None → m.engine.evidence ≡ None
-  was_quiet quiet = quiet_before m.engine.evidence new.engine.evidence r.step.evidence quiet
+  was_quiet quiet = was_none m.engine.evidence new.engine.evidence r.step.evidence quiet
 
   unspent : (page : ℕ) → result_err result ≢ Some (Spent page)
-  unspent page is = r.unspent page (stopped_by result (Spent page) is)
+  unspent page is = r.unspent page (stop_is result (Spent page) is)
 
   not_stopped : lasting_stop stopped ≡ None → result_err result ≡ None
   not_stopped goes_on =
-      elim (stop_lasts m.stopped going (result_err result) (subst (λ (s : Option MemStop). lasting_stop s ≡ None) is_stop goes_on)) [
+      elim (stop_lasts m.stopped going (result_err result) (subst (λ (s : Option MemStop). lasting_stop s ≡ None) stops goes_on)) [
         | inl none ↦ none
         | inr spent ↦ absurd (unspent spent.0 spent.1)
       ]
@@ -119,7 +115,7 @@ module _ {B T : Type 0} (d n : T → List ℕ → List ℕ) (history : B → Bus
         unskipped = subst (AreUnskipped (line_count m.engine.levels)) (sym same_used) was.unskipped;
         paged = λ goes_on. subst (ArePaged (line_count m.engine.levels)) (sym same_used) (was.paged going);
         spent = λ page is.
-            elim (stop_spent m.stopped going (result_err result) page (sym is_stop ∙ is)) [
+            elim (stop_spent m.stopped going (result_err result) page (sym stops ∙ is)) [
               | inl before ↦ subst (λ (u : List (ℕ × Counter)). IsSpent (line_count m.engine.levels) m.limit u page) (sym same_used) (was.spent page before)
               | inr now ↦ absurd (unspent page now)
             ];
@@ -136,7 +132,7 @@ module _ {B T : Type 0} (d n : T → List ℕ → List ℕ) (history : B → Bus
   read_kept =
       protected_after d n history bus_moved m new counters stopped r.step.tagger r.step.levels (r.levels ∙ kept.tree_levels)
       (pages_kept m.engine.levels line (history m.bus) (history new.bus) m.engine.made m.counters counters inside r.copies kept.pages) r.consistent (λ goes_on. r.holds_last)
-      (λ goes_on. r.nodes_hold_last (stop_memory m.stopped going (result_err result) (λ is. goes_on (is_stop ∙ is)))) read_rises
+      (λ goes_on. r.nodes_hold_last (stop_memory m.stopped going (result_err result) (λ is. goes_on (stops ∙ is)))) read_rises
       (λ quiet. r.nodes quiet (kept.nodes (was_quiet quiet)))
       (λ goes_on. r.fits (not_stopped goes_on)) read_says
 
@@ -165,14 +161,14 @@ module _ {B T : Type 0} (d n : T → List ℕ → List ℕ) (history : B → Bus
       entries = [];
       used_more = same_used ∙ sym (append-nil m.pads.used);
       accesses =
-          let more = subst (λ (s : Option MemStop). unwritten_in (result_err result) ≤ unwritten_in s) (sym is_stop) (stop_unwritten m.stopped going (result_err result)) in
+          let more = subst (λ (s : Option MemStop). unwritten_in (result_err result) ≤ unwritten_in s) (sym stops) (stop_unwritten m.stopped going (result_err result)) in
           record { writes = r.writes.writes; counted = r.writes.counted; at_most = r.writes.at_most; at_least = omega (arith, more, r.writes.at_least) };
       idle = λ stop is. absurd (cc);
       accounted = λ was.
           let before = none_before m.stopped going (tags_of d n m.engine) m.pads.used m.engine.made (history m.bus) m.engine.evidence was in
           subst (λ (t : Message → List ℕ). IsAccounted t new.pads.used new.engine.made (history new.bus) stopped new.engine.evidence)
           (sym (same_tags d n m.engine new.engine r.step.tagger r.step.levels))
-          (subst (λ (s : Option MemStop). IsAccounted (tags_of d n m.engine) new.pads.used new.engine.made (history new.bus) s new.engine.evidence) (sym is_stop)
+          (subst (λ (s : Option MemStop). IsAccounted (tags_of d n m.engine) new.pads.used new.engine.made (history new.bus) s new.engine.evidence) (sym stops)
           (stop_accounted m.stopped going (tags_of d n m.engine) new.pads.used new.engine.made (history new.bus) new.engine.evidence (result_err result)
           (r.accounted before)));
     };

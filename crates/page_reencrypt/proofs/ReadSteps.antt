@@ -1,6 +1,7 @@
 -- The steps of a read of a line: its page's counters are had, and then its place is read.
 use Rattle.std.proofs.Common.{◌≡◌, ◌≢◌, ◌⊎◌, inl, inr, ℕ, ◌+◌, ◌<◌, ◌≤◌, List, length, Option, Some, None, Contains, Result, Ok, Err, IfOk, IsOk, refl, ap, sym, ◌∙◌, subst, arith}
 use Rattle.std.specs.Result.{result_err}
+use Rattle.std.proofs.lemmas.Option.{same_Some}
 use Rattle.sec_base.specs.declared.counter.Counter.{Counter}
 use Rattle.sec_base.specs.declared.evidence.Evidence.{Evidence}
 use Rattle.sec_base.specs.declared.evidence.Evidence.TheVariants.{Collision, Forgery}
@@ -14,6 +15,7 @@ use Rattle.sec_base.specs.Count.{Rose}
 use Rattle.sec_base.specs.Evidence.{evidence_place}
 use Rattle.sec_base.specs.Geometry.{line_count, page_of}
 use Rattle.sec_base.specs.LastMessage.{IsFresh, last_node}
+use Rattle.sec_base.proofs.Results.{if_ok, was_none}
 use Rattle.bus_model.specs.BusHistory.{BusHistory}
 use Rattle.tag_engine.specs.TagEngine.{tags_of}
 use Rattle.pad_stream.specs.Pad.{cipher_of}
@@ -21,7 +23,6 @@ use Rattle.pad_stream.specs.PadEngine.{PadEngineView}
 use Rattle.checked_bus.specs.Accesses.{AreCounted}
 use Rattle.checked_bus.specs.Steps.{Moves as StepMoves}
 use Rattle.checked_bus.specs.Steps.{unwritten_in}
-use Rattle.checked_bus.proofs.LineMessages.{some_same}
 use Rattle.checked_bus.proofs.Steps.{moves_on as step_on}
 use Rattle.split_counter.specs.CounterBlock.{CounterBlockView, block_of, counter_of, place_of}
 use Rattle.bonsai_tree.specs.Tree.{IsFetchPlace, PathWasRead}
@@ -32,15 +33,10 @@ use Rattle.page_reencrypt.specs.Consistency.{IsConsistent}
 use Rattle.page_reencrypt.specs.Contents.{HoldsLast, NodesSay, bytes_of, line_bytes}
 use Rattle.page_reencrypt.specs.Outside.{AreAccounted, CountersFit, IsLineRead, MemoryTerms, OutsideView, ShowsLies, terms_of}
 use Rattle.page_reencrypt.specs.SealedLines.{CopiesCame, IsReadUnder}
-use Rattle.page_reencrypt.proofs.LineReads.{quiet_before}
 use Rattle.page_reencrypt.proofs.Nodes.{fits_same, nodes_last, not_node}
 use Rattle.page_reencrypt.proofs.Reaching.{IsReached, came_more, reached_data, shows_on}
 use Rattle.page_reencrypt.proofs.Sealing.{same_terms}
 use Rattle.page_reencrypt.proofs.Unmade.{same_consistent}
-
-if_ok : {A : Type 0} {P Q : A → Type 0} (result : Result A MemStop) → ((value : A) → P value → Q value) → IfOk result P → IfOk result Q
-if_ok (Ok value) follows holds = follows value holds
-if_ok (Err stop) follows holds = tt
 
 ok_value : {A E : Type 0} → A → Result A E → A
 ok_value other (Ok value) = value
@@ -56,7 +52,7 @@ before_line : (levels page at : ℕ) (counter : Counter) (sealed : Sealed) (made
     ((evidence : Evidence) → before ≡ Some evidence → after ≡ Some evidence) → after ≡ Some (Forgery at counter sealed made_count) → before ≡ None
 before_line levels page at counter sealed made_count None after found stays is = refl
 before_line levels page at counter sealed made_count (Some evidence) after found stays is =
-    let same : evidence ≡ Forgery at counter sealed made_count = some_same evidence (Forgery at counter sealed made_count) (sym (stays evidence refl) ∙ is) in
+    let same : evidence ≡ Forgery at counter sealed made_count = same_Some evidence (Forgery at counter sealed made_count) (sym (stays evidence refl) ∙ is) in
     not_node levels page at (subst (λ (e : Evidence). IsFetchPlace levels page (evidence_place e)) same (found evidence refl))
 
 -- and that of a node before
@@ -158,7 +154,7 @@ module _ {B T : Type 0} (history : B → BusHistory) (moved : B → B → Type 0
     got_terms = same_terms history moved d n old got a.node.step.tagger a.node.step.levels
 
     got_quiet : new.engine.evidence ≡ None → got.engine.evidence ≡ None
-    got_quiet quiet = quiet_before got.engine.evidence new.engine.evidence r.evidence quiet
+    got_quiet quiet = was_none got.engine.evidence new.engine.evidence r.evidence quiet
 
     all_pads : new.pads ≡ old.pads
     all_pads = pads ∙ got_pads
@@ -232,7 +228,7 @@ module _ {B T : Type 0} (history : B → BusHistory) (moved : B → B → Type 0
       nodes = λ quiet was.
           subst (λ (p : PadEngineView). NodesSay terms.tag_of terms.levels p.used new.engine.made) (sym pads)
           (subst (NodesSay terms.tag_of terms.levels got.pads.used) (sym unmade) (a.nodes (got_quiet quiet) was));
-      value = λ quiet. if_ok result (λ bytes is. is ∙ got_bytes) (value quiet);
+      value = λ quiet. if_ok _ _ result (λ bytes is. is ∙ got_bytes) (value quiet);
       path = λ none missed. record {
         rose = λ level above within uncached.
             let on = r.reads (node_place level (path_index counters.tree.levels level (page_of line))) in
@@ -269,7 +265,7 @@ module _ {B T : Type 0} (history : B → BusHistory) (moved : B → B → Type 0
           (subst (λ (t : MemoryTerms B). IfOk result (IsReadUnder t.tag_of old.pads.key line counter (history new.bus))) got_terms
           (subst (λ (p : PadEngineView). IfOk result (IsReadUnder (tags_of d n got.engine) p.key line counter (history new.bus))) got_pads under));
       checked =
-          if_ok result (λ bytes read. record {
+          if_ok _ _ result (λ bytes read. record {
             block = block;
             had = subst (λ (p : ℕ). AreHad terms.tag_of counters counters' new.engine.made p old.engine.evidence new.engine.evidence block) page_is
                 (had_on terms.tag_of counters counters' got.engine.made new.engine.made page old.engine.evidence got.engine.evidence new.engine.evidence block had unmade

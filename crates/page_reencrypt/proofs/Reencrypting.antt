@@ -1,5 +1,5 @@
 -- How lines are encrypted anew: what a line holds is read, it is sealed, and so on line by line.
-use Rattle.std.proofs.Common.{◌≡◌, ◌≢◌, ◌⊎◌, inl, inr, ℕ, zero, suc, ◌+◌, ◌*◌, ◌<◌, ◌≤◌, List, [], ◌∷◌, ◌++◌, length, map, take, Contains, append_assoc, Option, Some, None, Result, Ok, Err, refl, ap, sym, ◌∙◌, subst, arith}
+use Rattle.std.proofs.Common.{◌≡◌, ◌≢◌, ◌⊎◌, inl, inr, ℕ, zero, suc, ◌+◌, ◌*◌, ◌<◌, ◌≤◌, List, [], ◌∷◌, ◌++◌, length, map, take, Contains, append_assoc, Option, Some, None, Result, Err, refl, ap, sym, ◌∙◌, subst, arith}
 use Rattle.std.specs.List.{range_with_len, slice_get}
 use Rattle.std.specs.Result.{result_err}
 use Rattle.std.proofs.lemmas.Bool.{cases_eq}
@@ -15,6 +15,7 @@ use Rattle.sec_base.specs.declared.stop.MemStop.TheVariants.{Tampered, Spent, No
 use Rattle.sec_base.specs.Count.{Rose}
 use Rattle.sec_base.specs.Geometry.{line_count, page_of}
 use Rattle.sec_base.specs.LastMessage.{IsFresh, last_pair}
+use Rattle.sec_base.proofs.Results.{stop_is, was_none}
 use Rattle.bus_model.specs.BusHistory.{BusHistory, after_write}
 use Rattle.tag_engine.specs.TagEngine.{after_make, tags_of}
 use Rattle.pad_stream.specs.Pad.{cipher_of}
@@ -30,12 +31,7 @@ use Rattle.page_reencrypt.specs.Contents.{line_bytes, page_lines}
 use Rattle.page_reencrypt.specs.Outside.{AreAccounted, AreConsistent, AreSealed, AreSealedInOrder, HasCounter, HaveLast, HaveRisen, LineWrite, MemoryTerms, OutsideView, ShowsLies, terms_of}
 use Rattle.page_reencrypt.specs.SealedLines.{AreReread}
 use Rattle.page_reencrypt.proofs.Consistency.{last_pair-other}
-use Rattle.page_reencrypt.proofs.LineReads.{quiet_before}
 use Rattle.page_reencrypt.proofs.Sealing.{all_in_order, listed_not, listed_one, listed_or_not, one_sealed, one_unwritten, only_read, same_terms, sealed_on}
-
-stopped_by : (result : Result (List ℕ) MemStop) (stop : MemStop) → result_err result ≡ Some stop → result ≡ Err stop
-stopped_by (Ok bytes) stop is = absurd (cc)
-stopped_by (Err why) stop is = let same : why ≡ stop = cc in ap (λ (s : MemStop). Err s) same
 
 -- Numbers that follow one another
 
@@ -166,9 +162,9 @@ module _ {B T : Type 0} (history : B → BusHistory) (moved : B → B → Type 0
   read_sealed at new result apart of_page went moves made room pads written counted accounted shows tampered unspent =
       only_read (terms old) write old new (result_err result) went moves made (omega (arith, room)) pads written counted kept rose last accounted shows
       (λ place is.
-      let there = tampered place (stopped_by result (Tampered place) is) in
+      let there = tampered place (stop_is result (Tampered place) is) in
       (record { other = at; place_is = there.0; of_page = of_page; apart = apart }, there.1))
-      (λ page is. unspent page (stopped_by result (Spent page) is))
+      (λ page is. unspent page (stop_is result (Spent page) is))
 
   -- it stopped
   pub read_stopped : (at : ℕ) (new : OutsideView B T) (stop : MemStop) → AreSealed (terms old) write old [] new (Some stop) →
@@ -246,7 +242,7 @@ module _ {B T : Type 0} (history : B → BusHistory) (moved : B → B → Type 0
 
     had_mid : mid.engine.evidence ≡ None → HasCounter mid.pads.used at previous × IsBefore previous write.counter
     had_mid quiet =
-        let had_it = had (quiet_before old.engine.evidence mid.engine.evidence ready.sealed.step.evidence quiet) in
+        let had_it = had (was_none old.engine.evidence mid.engine.evidence ready.sealed.step.evidence quiet) in
         (subst (λ (p : PadEngineView). HasCounter p.used at previous) (sym ready.pads) had_it.0, had_it.1)
 
     held_mid : ((at ≡ write.line) × (plain ≡ write.bytes))
@@ -266,7 +262,7 @@ module _ {B T : Type 0} (history : B → BusHistory) (moved : B → B → Type 0
     reread = λ quiet other listed differs.
         let here = listed_one at other listed in
         subst (λ (line : ℕ). IsFresh line old.pads.used ⊎ Rose ((history old.bus).reads (line_place line)) ((history new.bus).reads (line_place line))) here
-        (elim (ready.reread (quiet_before mid.engine.evidence new.engine.evidence moves.evidence quiet) (λ own. differs (sym here ∙ own))) [
+        (elim (ready.reread (was_none mid.engine.evidence new.engine.evidence moves.evidence quiet) (λ own. differs (sym here ∙ own))) [
           | inl fresh ↦ inl fresh
           | inr rose ↦ let on = moves.reads (line_place at) in inr (omega (arith, rose, on))
         ])
@@ -330,7 +326,7 @@ module _ {B T : Type 0} (history : B → BusHistory) (moved : B → B → Type 0
         (old.engine.evidence ≡ None → block.page < write.counter.page) →
         mid.engine.evidence ≡ None → HasCounter mid.pads.used at counter × IsBefore counter write.counter
     page_counter line block counter start below is had_all later_all quiet =
-        let was_quiet = quiet_before old.engine.evidence mid.engine.evidence sealed.step.evidence quiet in
+        let was_quiet = was_none old.engine.evidence mid.engine.evidence sealed.step.evidence quiet in
         let had = had_all was_quiet in
         let later = later_all was_quiet in
         let of_page : page_of at ≡ page_of line = omega (arith, here, start, below) in
@@ -360,7 +356,7 @@ module _ {B T : Type 0} (history : B → BusHistory) (moved : B → B → Type 0
           (ap (λ (a : ℕ). range_with_len first place ++ take is.count (a ∷ [])) here ∙ lines)
           (reread_on (terms_of history moved d n old) write old mid new (range_with_len first place) (take is.count (at ∷ [])) stop sealed
           (subst (λ (t : MemoryTerms B). AreSealed t write mid (take is.count (at ∷ [])) new stop) mid_terms is.sealed)
-          (reread (quiet_before mid.engine.evidence new.engine.evidence is.sealed.step.evidence quiet)) (is.reread quiet))
+          (reread (was_none mid.engine.evidence new.engine.evidence is.sealed.step.evidence quiet)) (is.reread quiet))
 
       -- the next line was sealed too
       pub page_more : stop ≡ None → AreSealed (terms_of history moved d n old) write old (range_with_len first (place + 1)) new None

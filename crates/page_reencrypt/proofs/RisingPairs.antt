@@ -4,6 +4,7 @@ use Rattle.std.specs.Option.{option_map, option_or}
 use Rattle.std.specs.List.{filter, slice_get}
 use Rattle.std.proofs.lemmas.Bool.Decides.{Decides-eqb}
 use Rattle.std.proofs.lemmas.Bool.{lt-ltb}
+use Rattle.std.proofs.lemmas.Option.{same_Some}
 use Rattle.sec_base.specs.declared.counter.Counter.{Counter}
 use Rattle.sec_base.specs.declared.message.Message.{Message}
 use Rattle.sec_base.specs.declared.message.Message.TheVariants.{Line, Node}
@@ -11,8 +12,9 @@ use Rattle.sec_base.specs.declared.place.Place.{Place}
 use Rattle.sec_base.specs.LastMessage.{after_item, counter_part, data_pairs, last_at, last_data, last_pair, IsFresh}
 use Rattle.sec_base.proofs.LastMessages.{last_pair-data_pairs, no_part}
 use Rattle.sec_base.proofs.SamePlaces.{false_from}
-use Rattle.checked_bus.proofs.LineMessages.{last_made, some_same}
+use Rattle.checked_bus.proofs.LineMessages.{last_made}
 use Rattle.pad_stream.specs.Pads.{AreRising, IsBefore, of_lines}
+use Rattle.pad_stream.proofs.RisingCounters.{not_before}
 use Rattle.page_reencrypt.specs.Contents.{AreWithin, HoldsLast, counter_in, never_written}
 use Rattle.page_reencrypt.specs.Outside.{HasCounter}
 use Rattle.checked_bus.specs.Steps.{IsCurrent}
@@ -70,10 +72,6 @@ rise_filter test [] rise = tt
 rise_filter test (entry ∷ used) rise =
     rise_if (test entry) entry (filter test used) used (rise_filter test used rise.1)
     (λ later is. rise.0 later (from_filter test used (entry.0, later) is))
-
-not_before : (counter : Counter) → IsBefore counter counter → ⊥
-not_before counter (inl page) = omega arith
-not_before counter (inr line) = omega (arith, line.1)
 
 -- a counter that comes behind another comes behind all that come before that one
 before_on : (first second third : Counter) → IsBefore first second → IsBefore second third → IsBefore first third
@@ -167,7 +165,7 @@ module _ (line : ℕ) where
   last_here : (b : Bool) (counter last : Counter) (seen : ℕ × Option (ℕ × Counter)) →
       value_of (seen.0 + 1, option_or (option_map (λ (x : Counter). (seen.0, x)) (cond b (Some counter) None)) seen.1) ≡ Some last →
       ((b ≡ true) × (counter ≡ last)) ⊎ (value_of seen ≡ Some last)
-  last_here true counter last seen is = inl (refl, some_same counter last is)
+  last_here true counter last seen is = inl (refl, same_Some counter last is)
   last_here false counter last seen is = inr is
 
   last_among : (used : List (ℕ × Counter)) (seen : ℕ × Option (ℕ × Counter)) (last : Counter) →
@@ -210,7 +208,7 @@ module _ (line : ℕ) where
             let same : nat_eq entry.0 line ≡ true = (Decides-eqb entry.0 line).1 lines in
             let here : value_of (after_item (counter_part line) seen entry) ≡ Some entry.1 =
             ap (λ (b : Bool). value_of (seen.0 + 1, option_or (option_map (λ (x : Counter). (seen.0, x)) (cond b (Some entry.1) None)) seen.1)) same in
-            let both : entry.1 ≡ last = some_same entry.1 last (sym here ∙ now) in
+            let both : entry.1 ≡ last = same_Some entry.1 last (sym here ∙ now) in
             subst (λ (c : Counter). IsBefore c next) (sym both ∙ counters) later
       ]
 
@@ -273,7 +271,7 @@ has_last_by : (made : List Message) (line : ℕ) (counter : Counter) (last : Opt
     option_map (λ found. found.0) last ≡ Some counter → HasLast made line counter
 has_last_by made line counter None rise is e = absurd (cc)
 has_last_by made line counter (Some last) rise is e =
-    let counters : last.0 ≡ counter = some_same last.0 counter e in
+    let counters : last.0 ≡ counter = same_Some last.0 counter e in
     let here : last_data line made ≡ Some (counter, last.1) = is ∙ ap (λ (c : Counter). Some (c, last.1)) counters in
     record {
       cipher = last.1;

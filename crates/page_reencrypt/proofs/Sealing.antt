@@ -14,6 +14,7 @@ use Rattle.sec_base.specs.Count.{Rose}
 use Rattle.sec_base.specs.Geometry.{line_count}
 use Rattle.sec_base.specs.LastMessage.{data_pairs, last_data, last_node}
 use Rattle.sec_base.proofs.SamePlaces.{at_place-there}
+use Rattle.sec_base.proofs.Results.{was_none}
 use Rattle.bus_model.specs.BusHistory.{BusHistory, after_write}
 use Rattle.tag_engine.specs.TagEngine.{TagEngineView, after_make, tags_of}
 use Rattle.pad_stream.specs.Pad.{cipher_of}
@@ -32,7 +33,6 @@ use Rattle.page_reencrypt.specs.Consistency.{IsConsistent}
 use Rattle.page_reencrypt.specs.Outside.{AreAccounted, AreConsistent, AreSealed, AreSealedInOrder, HasCounter, HaveLast, HaveRisen, LineWrite, MemoryTerms, OutsideView, ShowsLies, terms_of}
 use Rattle.page_reencrypt.specs.SealedLines.{AreReread, IsBeside}
 use Rattle.page_reencrypt.proofs.Consistency.{risen_more, unwritten_consistent, written_consistent, written_last}
-use Rattle.page_reencrypt.proofs.LineReads.{quiet_before}
 use Rattle.page_reencrypt.proofs.Nodes.{last_node-line, node_there}
 use Rattle.page_reencrypt.proofs.Stops.{other_stop}
 use Rattle.page_reencrypt.proofs.Unmade.{same_consistent, same_tags}
@@ -133,7 +133,7 @@ module _ {B T : Type 0} (terms : MemoryTerms B) (write : LineWrite) where
         (subst (λ (m : List Message). IsConsistent terms.tag_of terms.levels (terms.history new.bus) m old.pads.used) (sym made)
         (same_consistent terms.tag_of terms.levels (terms.history old.bus) (terms.history new.bus) old.engine.made old.pads.used kept moves.bus_levels written));
     risen = λ quiet.
-        subst (λ (p : PadEngineView). AreRising p.used) (sym pads) (risen (quiet_before old.engine.evidence new.engine.evidence moves.evidence quiet));
+        subst (λ (p : PadEngineView). AreRising p.used) (sym pads) (risen (was_none old.engine.evidence new.engine.evidence moves.evidence quiet));
     holds_last = λ goes_on.
         subst (λ (m : List Message). HoldsLast terms.tag_of (line_count terms.levels) m (terms.history new.bus).written) (sym made)
         (subst (HoldsLast terms.tag_of (line_count terms.levels) old.engine.made) (sym written) last);
@@ -397,7 +397,7 @@ module _ {B T : Type 0} (terms : MemoryTerms B) (write : LineWrite) where
             ∙ a.not_yet (λ early. unlisted (Contains-append_left lines more write.line early));
         others = λ quiet other differs.
             subst (λ (k : List ℕ). line_bytes k third.engine.made other ≡ line_bytes k second.engine.made other) a.key (b.others quiet other differs)
-            ∙ a.others (quiet_before second.engine.evidence third.engine.evidence b.step.evidence quiet) other differs;
+            ∙ a.others (was_none second.engine.evidence third.engine.evidence b.step.evidence quiet) other differs;
         accounted = λ was. b.accounted (a.accounted was);
         shows = λ quiet.
             elim (a.shows quiet) [

@@ -1,5 +1,5 @@
 -- What a write of a line makes of the lines outside.
-use Rattle.std.proofs.Common.{◌≡◌, ◌≢◌, ◌⊎◌, inl, inr, ℕ, ◌+◌, ◌*◌, ◌<◌, ◌≤◌, List, [], ◌++◌, length, map, take, Option, Some, None, Contains, Result, Ok, Err, OnOk, OnErr, refl, ap, sym, ◌∙◌, subst, arith}
+use Rattle.std.proofs.Common.{◌≡◌, ◌≢◌, ◌⊎◌, inl, inr, ℕ, ◌+◌, ◌*◌, ◌<◌, ◌≤◌, List, [], ◌++◌, length, map, take, Option, Some, None, Contains, Result, Err, OnOk, OnErr, refl, ap, sym, ◌∙◌, subst, arith}
 use Rattle.std.specs.List.{slice_get}
 use Rattle.std.specs.Option.{option_or}
 use Rattle.std.specs.Result.{result_err}
@@ -17,6 +17,7 @@ use Rattle.sec_base.specs.Geometry.{line_count, page_of}
 use Rattle.sec_base.specs.LastMessage.{data_pairs}
 use Rattle.sec_base.specs.Lines.{with_line}
 use Rattle.sec_base.proofs.JoinedLines.{joined_lines-same, with_line-joined_lines}
+use Rattle.sec_base.proofs.Results.{on_success, on_err, was_none}
 use Rattle.bus_model.specs.BusHistory.{BusHistory}
 use Rattle.tag_engine.specs.TagEngine.{TagEngineView, tags_of}
 use Rattle.checked_bus.specs.Steps.{IsAccounted}
@@ -30,8 +31,7 @@ use Rattle.page_reencrypt.specs.Outside.{IsWrite, OutsideView, outside_of, terms
 use Rattle.page_reencrypt.specs.SealedLines.{AreProtected, AreReread, AreSealedUnder, CountersRise, HadMemory, IsSealedAnew, IsSealedInPart, IsTamperedInWrite, IsUnsealed, Moves, SameCounters, SealedLinesView, contents, lines_of_write}
 use Rattle.page_reencrypt.specs.Stops.{lasting_stop}
 use Rattle.page_reencrypt.proofs.Entries.{encrypted_itself, encrypted_page, length-page_lines}
-use Rattle.page_reencrypt.proofs.Kept.{err_stop, none_before, pages_kept, protected_after, stop_accounted, stop_going, stop_lasts, stop_memory, stop_spent, stop_unwritten}
-use Rattle.page_reencrypt.proofs.LineReads.{quiet_before}
+use Rattle.page_reencrypt.proofs.Kept.{none_before, pages_kept, protected_after, stop_accounted, stop_going, stop_lasts, stop_memory, stop_spent, stop_unwritten}
 use Rattle.page_reencrypt.proofs.Moves.{moves_not}
 use Rattle.page_reencrypt.proofs.Nodes.{not_node}
 use Rattle.page_reencrypt.proofs.ReadCalls.{contents_same, lasts_itself}
@@ -83,14 +83,6 @@ lasting_write history bus_moved tags bus_unmoved lines line bytes stop lasting =
   hit_overflow = λ cached. omega arith;
 }
 
-pub on_ok : {A P : Type 0} (result : Result A MemStop) → (result_err result ≡ None → P) → OnOk result P
-on_ok (Ok value) holds = holds refl
-on_ok (Err stop) holds = tt
-
-pub on_err : {A P : Type 0} (result : Result A MemStop) → P → OnErr result P
-on_err (Ok value) holds = tt
-on_err (Err stop) holds = holds
-
 module _ {B T : Type 0} (d n : T → List ℕ → List ℕ) (history : B → BusHistory) (bus_moved : B → B → Type 0) (m : SealedLinesView B T) (line : ℕ) (bytes : List ℕ)
     (kept : AreProtected d n history m) (going : lasting_stop m.stopped ≡ None) (inside : line < line_count m.engine.levels)
     (new : OutsideView B T) (counters : CountersView) (result : Result (Unit {0}) MemStop)
@@ -99,11 +91,8 @@ module _ {B T : Type 0} (d n : T → List ℕ → List ℕ) (history : B → Bus
   abbrev after : SealedLinesView B T
   after = record { bus = new.bus; engine = new.engine; pads = new.pads; counters = counters; limit = m.limit; stopped = stopped }
 
-  is_stop : stopped ≡ option_or (result_err result) m.stopped
-  is_stop = stops ∙ ap (λ (o : Option MemStop). option_or o m.stopped) (err_stop result)
-
   was_quiet : new.engine.evidence ≡ None → m.engine.evidence ≡ None
-  was_quiet quiet = quiet_before m.engine.evidence new.engine.evidence w.step.evidence quiet
+  was_quiet quiet = was_none m.engine.evidence new.engine.evidence w.step.evidence quiet
 
   abbrev part : List ℕ
   part = take w.count (lines_encrypted w.counter line)
@@ -116,14 +105,14 @@ module _ {B T : Type 0} (d n : T → List ℕ → List ℕ) (history : B → Bus
       (subst (λ (k : Counter). result_err result ≡ None → w.count ≡ length (lines_encrypted k line)) (w.next quiet) w.whole)
       (λ page is. let spent = w.spent page is in (spent.0, spent.1, spent.2 quiet))
       (λ last. let none = w.used_up quiet last in (none.0, none.1))
-      (λ goes_on. stop_lasts m.stopped going (result_err result) (subst (λ (s : Option MemStop). lasting_stop s ≡ None) is_stop goes_on))
-      (λ page is. stop_spent m.stopped going (result_err result) page (sym is_stop ∙ is))
+      (λ goes_on. stop_lasts m.stopped going (result_err result) (subst (λ (s : Option MemStop). lasting_stop s ≡ None) stops goes_on))
+      (λ page is. stop_spent m.stopped going (result_err result) page (sym stops ∙ is))
 
   still_going : lasting_stop stopped ≡ None → lasting_stop (result_err result) ≡ None
-  still_going goes_on = stop_going m.stopped going (result_err result) (subst (λ (s : Option MemStop). lasting_stop s ≡ None) is_stop goes_on)
+  still_going goes_on = stop_going m.stopped going (result_err result) (subst (λ (s : Option MemStop). lasting_stop s ≡ None) stops goes_on)
 
   had_memory : stopped ≢ Some NoMemory → result_err result ≢ Some NoMemory
-  had_memory goes_on = stop_memory m.stopped going (result_err result) (λ is. goes_on (is_stop ∙ is))
+  had_memory goes_on = stop_memory m.stopped going (result_err result) (λ is. goes_on (stops ∙ is))
 
   -- what held holds after it
   pub write_kept : AreProtected d n history after
@@ -165,7 +154,7 @@ module _ {B T : Type 0} (d n : T → List ℕ → List ℕ) (history : B → Bus
   written_too none = subst (λ (xs : List ℕ). Contains xs line) (sym (every none)) (encrypted_itself w.counter line)
 
   pub write_stored : new.engine.evidence ≡ None → OnOk result (contents after ≡ with_line (contents m) line bytes)
-  write_stored quiet = on_ok result (λ none. write_written quiet (written_too none))
+  write_stored quiet = on_success result (λ none. write_written quiet (written_too none))
 
   pub write_refused : new.engine.evidence ≡ None → OnErr result ((contents after ≡ contents m) ⊎ (contents after ≡ with_line (contents m) line bytes))
   write_refused quiet =
@@ -185,14 +174,14 @@ module _ {B T : Type 0} (d n : T → List ℕ → List ℕ) (history : B → Bus
     entries = map (λ at. (at, w.counter)) part;
     used_more = w.entries;
     accesses =
-        let more = subst (λ (s : Option MemStop). unwritten_in (result_err result) ≤ unwritten_in s) (sym is_stop) (stop_unwritten m.stopped going (result_err result)) in
+        let more = subst (λ (s : Option MemStop). unwritten_in (result_err result) ≤ unwritten_in s) (sym stops) (stop_unwritten m.stopped going (result_err result)) in
         record { writes = w.writes.writes; counted = w.writes.counted; at_most = w.writes.at_most; at_least = omega (arith, more, w.writes.at_least) };
     idle = λ stop is. absurd (cc);
     accounted = λ was.
         let before = none_before m.stopped going (tags_of d n m.engine) m.pads.used m.engine.made (history m.bus) m.engine.evidence was in
         subst (λ (t : Message → List ℕ). IsAccounted t new.pads.used new.engine.made (history new.bus) stopped new.engine.evidence)
         (sym (same_tags d n m.engine new.engine w.step.tagger w.step.levels))
-        (subst (λ (s : Option MemStop). IsAccounted (tags_of d n m.engine) new.pads.used new.engine.made (history new.bus) s new.engine.evidence) (sym is_stop)
+        (subst (λ (s : Option MemStop). IsAccounted (tags_of d n m.engine) new.pads.used new.engine.made (history new.bus) s new.engine.evidence) (sym stops)
         (stop_accounted m.stopped going (tags_of d n m.engine) new.pads.used new.engine.made (history new.bus) new.engine.evidence (result_err result)
         (w.accounted before)));
   }
@@ -228,7 +217,7 @@ module _ {B T : Type 0} (d n : T → List ℕ → List ℕ) (history : B → Bus
 
   pub write_sealed : OnOk result (IsSealedAnew line bytes m after)
   write_sealed =
-      on_ok result (λ none. record {
+      on_success result (λ none. record {
         counter = w.counter;
         next = w.next;
         sealed = subst (λ (xs : List ℕ). AreSealedUnder line bytes w.counter xs m after) (every none) write_under;
@@ -239,7 +228,7 @@ module _ {B T : Type 0} (d n : T → List ℕ → List ℕ) (history : B → Bus
 
   pub write_reread : new.engine.evidence ≡ None → OnOk result (AreReread line (lines_of_write line m) m.pads.used (history m.bus) (history new.bus))
   write_reread quiet =
-      on_ok result (λ none.
+      on_success result (λ none.
       subst (λ (k : Counter). AreReread line (lines_encrypted k line) m.pads.used (history m.bus) (history new.bus)) (w.next quiet)
       (subst (λ (xs : List ℕ). AreReread line xs m.pads.used (history m.bus) (history new.bus)) (every none) (w.reread quiet)))
 

@@ -22,6 +22,7 @@ use Rattle.sec_base.specs.declared.stop.MemStop.TheVariants.{Tampered, Spent}
 use Rattle.sec_base.specs.declared.width.Width.{Width}
 use Rattle.sec_base.proofs.LastMessages.{none_front}
 use Rattle.sec_base.specs.LastMessage.{data_part, node_part}
+use Rattle.sec_base.proofs.Results.{stop_is, was_none}
 use Rattle.bus_model.specs.BusHistory.{BusHistory}
 use Rattle.tag_engine.specs.TagEngine.{TagEngineView}
 use Rattle.pad_stream.specs.Pad.{cipher_of}
@@ -37,7 +38,6 @@ use Rattle.page_reencrypt.specs.SealedLines as lines
 use Rattle.counter_cache.specs.Counters.{cached_pages as lines_cached}
 use Rattle.page_reencrypt.specs.Stops.{lasting_stop}
 use Rattle.counter_cache.proofs.Havings.{no_copy_below, path_on}
-use Rattle.page_reencrypt.proofs.LineReads.{quiet_before}
 use Rattle.page_reencrypt.proofs.Moves.{moves_not, moves_on}
 use Rattle.page_reencrypt.proofs.ReadCalls.{contents_same}
 use Rattle.page_reencrypt.proofs.Nodes.{not_node}
@@ -53,10 +53,6 @@ use Rattle.secure_memory.specs.SecureRam.{SecureRamView, CopiesHad, IsMoved, IsQ
 use Rattle.secure_memory.specs.Moving.{copies_not, copies_on, on_chip_of_line, on_chip_of_page}
 
 -- Answers and stops
-
-err_is : {A : Type 0} (answer : Result A MemStop) (stop : MemStop) → result_err answer ≡ Some stop → answer ≡ Err stop
-err_is (Ok value) stop is = absurd (cc)
-err_is (Err why) stop is = let same : why ≡ stop = cc in ap (λ (s : MemStop). Err s) same
 
 ok_stays : {A : Type 0} (answer : Result A MemStop) (before : Option MemStop) → result_err answer ≡ None → before ≡ None → option_or (result_err answer) before ≡ None
 ok_stays answer before ok none = ap (λ (o : Option MemStop). option_or o before) ok ∙ none
@@ -183,10 +179,10 @@ module _ {B T : Type 0} (history : B → BusHistory) (bus_moved : B → B → Ty
               );
               fresh = λ none. seen.fresh;
               sealed = λ way is. absurd (cc);
-              tampered = λ place is. let named = seen.tampered place (err_is answer (Tampered place) is) in (inl named.0, named.1);
+              tampered = λ place is. let named = seen.tampered place (stop_is answer (Tampered place) is) in (inl named.0, named.1);
               untampered = λ other quiet which differs is.
-                  not_beside (lines.levels old.lines) line other differs (seen.tampered (line_place other) (err_is answer (Tampered (line_place other)) is)).0;
-              spent = λ page is. absurd (seen.unspent page (err_is answer (Spent page) is));
+                  not_beside (lines.levels old.lines) line other differs (seen.tampered (line_place other) (stop_is answer (Tampered (line_place other)) is)).0;
+              spent = λ page is. absurd (seen.unspent page (stop_is answer (Spent page) is));
               used_up = λ quiet up. absurd up;
             }
 
@@ -246,7 +242,7 @@ module _ {B T : Type 0} (history : B → BusHistory) (bus_moved : B → B → Ty
         came = r.outside (ap lasting_stop mid_going)
 
         mid_quiet : IsQuiet new → lines.IsQuiet mid
-        mid_quiet quiet = quiet_before mid.engine.evidence new.lines.engine.evidence r.moves.step.evidence quiet
+        mid_quiet quiet = was_none mid.engine.evidence new.lines.engine.evidence r.moves.step.evidence quiet
 
         then_goes_on : result_err answer ≡ None → lasting_stop new.lines.stopped ≡ None
         then_goes_on ok = ap lasting_stop (r.stopped ∙ ok_stays answer mid.stopped ok mid_going)
@@ -315,7 +311,7 @@ module _ {B T : Type 0} (history : B → BusHistory) (bus_moved : B → B → Ty
                 λ ok. subst (λ (w : Way). IsWrittenAnew w.place old new) (same_Some way other is) anew,
               );
               tampered = λ place is.
-                  let named = came.tampered place (err_is answer (Tampered place) is) in (
+                  let named = came.tampered place (stop_is answer (Tampered place) is) in (
                     inl (subst (λ (levels : ℕ). (place ≡ line_place line) ⊎ IsFetchPlace levels (page_of line) place) same_levels named.0),
                     λ quiet. elim (left.shows quiet) [
                       | inl still ↦ let rose = named.1 still in omega (arith, rose, w.moves.step.lies)
@@ -323,8 +319,8 @@ module _ {B T : Type 0} (history : B → BusHistory) (bus_moved : B → B → Ty
                     ],
                   );
               untampered = λ other quiet which differs is.
-                  not_beside (lines.levels mid) line other differs (came.tampered (line_place other) (err_is answer (Tampered (line_place other)) is)).0;
-              spent = λ page is. absurd (came.unspent page (err_is answer (Spent page) is));
+                  not_beside (lines.levels mid) line other differs (came.tampered (line_place other) (stop_is answer (Tampered (line_place other)) is)).0;
+              spent = λ page is. absurd (came.unspent page (stop_is answer (Spent page) is));
               used_up = λ quiet up. absurd ((left.used_up (mid_quiet quiet) up).1 refl);
             }
 

@@ -1,5 +1,5 @@
 -- What calls make of a memory, one after another.
-use Rattle.std.proofs.Common.{◌≡◌, ◌⊎◌, inl, inr, ℕ, ◌<◌, List, [], ◌++◌, map, get_or, Option, Some, None, Contains, length, refl, ap, sym, ◌∙◌, subst, arith}
+use Rattle.std.proofs.Common.{◌≡◌, ◌⊎◌, inl, inr, ℕ, ◌<◌, List, [], ◌++◌, map, get_or, None, Contains, length, refl, ap, sym, ◌∙◌, subst, arith}
 use Rattle.std.proofs.lemmas.List.{get_or-map, length-map}
 use Rattle.std.proofs.lemmas.List.Elements.{Contains-append_cases, Contains-append_left, Contains-append_right, Contains-get_or}
 use Rattle.sec_base.specs.Geometry.{page_of}
@@ -7,6 +7,8 @@ use Rattle.sec_base.specs.LastMessage.{data_part, last_data, last_node, node_par
 use Rattle.sec_base.specs.declared.message.Message.{Message}
 use Rattle.sec_base.specs.declared.place.Place.TheVariants.{Line as line_place, Node}
 use Rattle.sec_base.proofs.LastMessages.{none_front}
+use Rattle.sec_base.proofs.Results.{was_none}
+use Rattle.sec_base.proofs.Lists.{none_contained}
 use Rattle.bus_model.specs.BusHistory.{BusHistory}
 use Rattle.tag_engine.specs.TagEngine.{TagEngineView}
 use Rattle.cache_set.specs.declared.way.Way.{Way}
@@ -14,14 +16,6 @@ use Rattle.page_reencrypt.specs.SealedLines.{Moves}
 use Rattle.page_reencrypt.proofs.Moves.{moves_not, moves_on}
 use Rattle.bonsai_tree.proofs.Climbs.{read_up_held, read_up_on}
 use Rattle.secure_memory.specs.SecureRam.{SecureRamView, CopiesHad, IsMoved, LineHad, PageHad, PageRead, WereHad, cached_pages, evidence, held_lines, made, pages_on_chip, stopped}
-
-none_contained : {A : Type 0} (x : A) → Contains [] x → ⊥
-none_contained x (k, below, at) = omega arith
-
--- where something was, there is something
-pub was_none : {A : Type 0} (old new : Option A) → ((x : A) → old ≡ Some x → new ≡ Some x) → new ≡ None → old ≡ None
-was_none None new kept none = refl
-was_none (Some x) new kept none = let still = kept x refl in absurd (cc)
 
 -- what stands in a list that was mapped came from something
 mapped_from : (f : ℕ → ℕ) (items : List ℕ) (y : ℕ) → Contains (map f items) y → (x : ℕ) × Contains items x × (f x ≡ y)

@@ -1,6 +1,5 @@
 -- What checks of sealed lines show.
-use Rattle.std.proofs.Common.{◌≡◌, ℕ, zero, suc, Bool, true, false, cond, not, true≢false, List, [], ◌∷◌, ◌++◌, length, take, Option, Some, None, IfSome, Contains, refl, ap, ◌∙◌, sym, arith, length-append}
-use Rattle.std.specs.List.{slice_get}
+use Rattle.std.proofs.Common.{◌≡◌, ℕ, Bool, true, false, cond, not, true≢false, List, ◌++◌, length, take, Option, Some, None, IfSome, Contains, refl, ap, ◌∙◌, sym, arith, length-append}
 use Rattle.std.proofs.lemmas.List.{take_all, take-append-le}
 use Rattle.sec_base.specs.declared.counter.Counter.{Counter}
 use Rattle.sec_base.specs.declared.sealed.Sealed.{Sealed}
@@ -11,6 +10,8 @@ use Rattle.sec_base.specs.declared.evidence.Evidence.TheVariants.{Forgery, Colli
 use Rattle.sec_base.specs.Message.{has_message}
 use Rattle.sec_base.specs.Evidence.{IsEvidence}
 use Rattle.sec_base.proofs.SameMessages.{has_message-Decides}
+use Rattle.sec_base.proofs.Lists.{get_front}
+use Rattle.sec_base.proofs.Results.{test_fails}
 use Rattle.tag_engine.specs.TagEngine.{forgery_of}
 
 shown : ℕ → Counter → Sealed → ℕ → Bool → Option Evidence
@@ -23,10 +24,6 @@ unfolding forgery_of shown
 no_forgery made line counter sealed known =
     sym (ap (shown line counter sealed (length made)) ((has_message-Decides made (Line line counter sealed.cipher)).1 known))
 
-fails : {P : Type 0} (b : Bool) → (b ≡ true → P) → (P → ⊥) → b ≡ false
-fails true tells not_so = absurd (not_so (tells refl))
-fails false tells not_so = refl
-
 -- a message that was never made is a forgery
 pub a_forgery : (made : List Message) (line : ℕ) (counter : Counter) (sealed : Sealed) (count : ℕ) →
     (Contains made (Line line counter sealed.cipher) → ⊥) → count ≡ length made →
@@ -35,7 +32,7 @@ unfolding forgery_of shown
 a_forgery made line counter sealed count unknown is =
     ap (λ (n : ℕ). Some (Forgery line counter sealed n)) is
     ∙ sym (ap (shown line counter sealed (length made))
-    (fails (has_message made (Line line counter sealed.cipher)) (has_message-Decides made (Line line counter sealed.cipher)).0 unknown))
+    (test_fails (has_message made (Line line counter sealed.cipher)) (has_message-Decides made (Line line counter sealed.cipher)).0 unknown))
 
 -- a check that failed shows nothing
 pub forgery_of-failed : (made : List Message) (line : ℕ) (counter : Counter) (sealed : Sealed) →
@@ -79,12 +76,6 @@ unfolding forgery_of shown
 genuine tag_of made line counter sealed tagged =
     genuine_case tag_of made line counter sealed (has_message made (Line line counter sealed.cipher)) tagged refl
 
-slice_get_front : {A : Type 0} (items more : List A) (at : ℕ) (item : A) →
-    slice_get items at ≡ Some item → slice_get (items ++ more) at ≡ Some item
-slice_get_front [] more at item e = absurd (cc)
-slice_get_front (x ∷ items) more zero item e = e
-slice_get_front (x ∷ items) more (suc at) item e = slice_get_front items more at item e
-
 -- evidence stays evidence when more is made
 still_evidence : (tag_of : Message → List ℕ) (made more : List Message) (evidence : Evidence) →
     IsEvidence tag_of made evidence → IsEvidence tag_of (made ++ more) evidence
@@ -97,7 +88,7 @@ still_evidence tag_of made more (Forgery line counter sealed made_count) was =
     }
 still_evidence tag_of made more (Collision level index made_at accepted tag) was = record {
   true_block = was.true_block;
-  made_there = slice_get_front made more made_at (Node level index was.true_block) was.made_there;
+  made_there = get_front made more made_at (Node level index was.true_block) was.made_there;
   differs = was.differs;
   true_tagged = was.true_tagged;
   tagged = was.tagged;

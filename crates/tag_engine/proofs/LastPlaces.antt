@@ -8,6 +8,7 @@ use Rattle.sec_base.specs.declared.message.Message.{Message}
 use Rattle.sec_base.specs.declared.message.Message.TheVariants.{Line, Node}
 use Rattle.sec_base.specs.LastMessage.{data_part, node_part, last_at}
 use Rattle.sec_base.proofs.LastMessages.{last_at_same, last_at_other, linked, HasPart}
+use Rattle.sec_base.proofs.Results.{test_fails}
 use Rattle.tag_engine.specs.Invariant.{last_place}
 
 -- nothing was made
@@ -31,16 +32,12 @@ last_place-same line counter cipher made =
     ap (λ (o : Option (ℕ × (Counter × List ℕ))). option_map (λ found. found.0) o)
     (last_at_same (data_part line) made (Line line counter cipher) (counter, cipher) has)
 
-fails : {P : Type 0} (b : Bool) → (b ≡ true → P) → (P → ⊥) → b ≡ false
-fails true tells not_so = absurd (not_so (tells refl))
-fails false tells not_so = refl
-
 -- a message of another line
 pub last_place-other : (line other : ℕ) (counter : Counter) (cipher : List ℕ) (made : List Message) → line ≢ other →
     last_place (data_part line) (made ++ Line other counter cipher ∷ []) ≡ last_place (data_part line) made
 last_place-other line other counter cipher made differs =
     let not_same : nat_eq other line ≡ false =
-    fails (nat_eq other line) (Decides-eqb other line).0 (λ (e : other ≡ line). differs (sym e)) in
+    test_fails (nat_eq other line) (Decides-eqb other line).0 (λ (e : other ≡ line). differs (sym e)) in
     let has : data_part line (Line other counter cipher) ≡ None =
     ap (λ (b : Bool). cond b (Some (counter, cipher)) None) not_same in
     last_place-without (data_part line) made (Line other counter cipher) has
@@ -69,7 +66,7 @@ pub node_part-other : (level index at_level at : ℕ) (block : List ℕ) → (at
     node_part level index (Node at_level at block) ≡ None
 node_part-other level index at_level at block differs =
     let not_same : nat_eq at_level level && nat_eq at index ≡ false =
-    fails (nat_eq at_level level && nat_eq at index)
+    test_fails (nat_eq at_level level && nat_eq at index)
     (Decides-and (nat_eq at_level level) (nat_eq at index) (Decides-eqb at_level level) (Decides-eqb at index)).0
     (λ (both : (at_level ≡ level) × (at ≡ index)). differs both.0 both.1) in
     ap (λ (b : Bool). cond b (Some block) None) not_same

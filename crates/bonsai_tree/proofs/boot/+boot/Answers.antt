@@ -4,6 +4,7 @@ use Rattle.sec_base.specs.declared.message.Message.TheVariants.{Node}
 use Rattle.sec_base.specs.declared.place.Place.TheVariants.{Node as node_place}
 use Rattle.sec_base.specs.declared.stop.MemStop.{MemStop}
 use Rattle.sec_base.specs.declared.stop.MemStop.TheVariants.{NoMemory}
+use Rattle.sec_base.proofs.Results.{on_ok, on_err, if_ok}
 use Rattle.tag_engine.specs.TagEngine.{TagEngineView, tags_of}
 use Rattle.checked_bus.specs.Steps.{unwritten_in}
 use Rattle.bonsai_tree.specs.Boot.{AreOfBoot, boot_message, children_messages, messages_from, nodes_from}
@@ -12,7 +13,7 @@ use Rattle.bonsai_tree.specs.Tree.{want_of}
 use Rattle.bonsai_tree.specs.Writing.{WritesNodes}
 use Rattle.bonsai_tree.proofs.BootSteps.{IsPartly, block_above, children_fewer, inner_made, inner_tag, leaf_block, leaf_made, leaf_nodes, leaf_tag, nodes_above, partly_more, partly_none, whole_block}
 use Rattle.bonsai_tree.proofs.NodeWrites.{NodeWritten, write_fewer, write_most, writes_after, written_or_not}
-use Rattle.bonsai_tree.proofs.Nodes.{if_ok, on_err, on_ok, same_tags}
+use Rattle.bonsai_tree.proofs.Nodes.{same_tags}
 use Rattle.bonsai_tree.proofs.OfBoot.{of_boot_children, of_boot_more}
 use Rattle.bonsai_tree.proofs.boot.+boot.Goals as goal
 

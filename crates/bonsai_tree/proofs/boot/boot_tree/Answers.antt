@@ -6,12 +6,12 @@ use Rattle.checked_bus.specs.Steps.{unwritten_in}
 use Rattle.bonsai_tree.specs.Boot.{AreOfBoot, boot_message, messages_from, nodes_from}
 use Rattle.sec_base.specs.declared.stop.MemStop.{MemStop}
 use Rattle.sec_base.specs.declared.stop.MemStop.TheVariants.{NoMemory}
+use Rattle.sec_base.proofs.Results.{on_err}
 use Rattle.bonsai_tree.specs.Booting.{IsBooting}
 use Rattle.bonsai_tree.specs.Tree.{want_of}
 use Rattle.bonsai_tree.proofs.WholeBoots.{booting, booting_not, tag_long, room_for_all, whole_accesses, whole_fits, whole_made, whole_stored}
 use Rattle.bonsai_tree.proofs.Boots.{few_nodes}
 use Rattle.bonsai_tree.proofs.BootSteps.{nodes_some}
-use Rattle.bonsai_tree.proofs.Nodes.{on_err}
 use Rattle.bonsai_tree.proofs.OfBoot.{nodes_booted, nodes_unwritten, of_boot_none}
 use Rattle.bonsai_tree.proofs.boot.boot_tree.Goals as goal
 

@@ -1,8 +1,8 @@
 use Rattle.std.proofs.Common.{◌≡◌}
+use Rattle.sec_base.proofs.Results.{if_ok}
 use Rattle.bus_model.specs.BusHistory.{NothingWritten, new_history}
 use Rattle.bus_model.specs.FlipBus.{FlipBusView, flip_history}
 use Rattle.bus_model.proofs.Steps.{nothing_written}
-use Rattle.bonsai_tree.proofs.Nodes.{if_ok}
 use Rattle.bonsai_tree.proofs.tests.flipping.Goals as goal
 
 pub returns-clause-nothing_written : goal.returns-clause-nothing_written

@@ -1,8 +1,9 @@
 use Rattle.std.proofs.Common.{rules, ◌≡◌, ◌⊎◌, if◌then◌else◌, List, ℕ, Bool, true, false, Some, None, Result, IfErr, OnOk, OnErr, refl, sym, subst}
 use Rattle.sec_base.specs.declared.stop.MemStop.{MemStop}
+use Rattle.sec_base.proofs.Results.{case_err, case_ok}
 use Rattle.cache_set.specs.declared.way.Way.{Way}
 use Rattle.line_cache.specs.WriteBack.{IsGone, IsWritten}
-use Rattle.line_cache.proofs.Steps.{if_err, if_ok, written_not, written_so}
+use Rattle.line_cache.proofs.Steps.{written_not, written_so}
 use Rattle.line_cache.proofs.fetch.write_back.Goals as goal
 
 -- a way that was not changed
@@ -37,7 +38,7 @@ returns-clause-moved g c =
     let marked : c.args.way.now.changed ≡ true = search rules in
     let way : Way = c.args.way.now in
     subst (λ (b : Bool). OnOk c.write_line.result (IsGone g.S.LineStore.write_moved (if b then Some way else None) c.args.store.now c.write_line.new.self)) (sym marked)
-    (if_ok c.write_line.result (λ (answer : Result (Unit {0}) MemStop). g.S.LineStore.write_moved c.args.store.now way.place way.copy answer c.write_line.new.self)
+    (case_ok (λ (answer : Result (Unit {0}) MemStop). g.S.LineStore.write_moved c.args.store.now way.place way.copy answer c.write_line.new.self) c.write_line.result
     c.write_line.ensures.moved)
 
 pub returns-clause-moved_in_part : goal.returns-clause-moved_in_part
@@ -46,5 +47,5 @@ returns-clause-moved_in_part g c =
     let way : Way = c.args.way.now in
     subst (λ (b : Bool). IfErr c.write_line.result (λ stop. IsWritten g.S.LineStore.write_moved (if b then Some way else None) stop c.args.store.now c.write_line.new.self))
     (sym marked)
-    (if_err c.write_line.result (λ (answer : Result (Unit {0}) MemStop). g.S.LineStore.write_moved c.args.store.now way.place way.copy answer c.write_line.new.self)
+    (case_err (λ (answer : Result (Unit {0}) MemStop). g.S.LineStore.write_moved c.args.store.now way.place way.copy answer c.write_line.new.self) c.write_line.result
     c.write_line.ensures.moved)

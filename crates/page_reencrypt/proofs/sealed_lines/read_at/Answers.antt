@@ -4,8 +4,8 @@ use Rattle.sec_base.specs.declared.stop.MemStop.{MemStop}
 use Rattle.bus_model.specs.BusHistory.{BusHistory}
 use Rattle.counter_cache.specs.Counters.{cached_pages}
 use Rattle.sec_base.specs.Geometry.{page_of}
+use Rattle.sec_base.proofs.Results.{was_none}
 use Rattle.page_reencrypt.specs.Outside.{HasCounter, IsLineRead, terms_of}
-use Rattle.page_reencrypt.proofs.LineReads.{quiet_before}
 use Rattle.page_reencrypt.proofs.NextWrites.{HadCounters, counter_here, ok_where}
 use Rattle.page_reencrypt.proofs.ReadSteps.{line_read, ok_same, unread}
 use Rattle.page_reencrypt.proofs.Reaching.{IsReached}
@@ -74,7 +74,7 @@ read-requires-clause-counter g c = λ quiet.
     } in
     let here = counter_here h m d n old counters c.requires.current 0 c.args.line c.page_of.result c.place_of.result c.get.new.self c.get.new.counters
     c.in_ok-block.block c.get-2.result (bumped 0 c.get-2.result) had quiet in
-    let was_quiet = quiet_before old.engine.evidence c.get.new.self.engine.evidence e.step.step.evidence quiet in
+    let was_quiet = was_none old.engine.evidence c.get.new.self.engine.evidence e.step.step.evidence quiet in
     subst (λ (used : List (ℕ × Counter)). HasCounter used c.args.line c.get-2.result) (sym e.step.used)
     (subst (HasCounter old.pads.used c.args.line) here (c.requires.started was_quiet c.args.line))
 

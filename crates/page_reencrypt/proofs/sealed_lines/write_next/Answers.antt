@@ -6,6 +6,7 @@ use Rattle.sec_base.specs.declared.place.Place.{Place}
 use Rattle.sec_base.specs.declared.place.Place.TheVariants.{Line as line_place}
 use Rattle.sec_base.specs.declared.stop.MemStop.{MemStop}
 use Rattle.sec_base.specs.declared.stop.MemStop.TheVariants.{NoMemory}
+use Rattle.sec_base.proofs.Results.{was_none}
 use Rattle.bus_model.specs.BusHistory.{BusHistory}
 use Rattle.tag_engine.specs.TagEngine.{tags_of}
 use Rattle.pad_stream.specs.Pad.{cipher_of}
@@ -14,7 +15,6 @@ use Rattle.checked_bus.proofs.TaggedWrites.{wrote_once}
 use Rattle.counter_cache.specs.Counters.{cached_pages, counters_in}
 use Rattle.page_reencrypt.specs.Outside.{IsWrite, OutsideView, terms_of}
 use Rattle.page_reencrypt.specs.SealedLines.{CopiesCame}
-use Rattle.page_reencrypt.proofs.LineReads.{quiet_before}
 use Rattle.page_reencrypt.proofs.NextWrites.{HadCounters, counted_up, counter_here, is_last, line_unwritten, line_written, mid_counters, mid_inside, mid_kept, mid_last, mid_later, mid_rooms, mid_rose, ok_where, page_overflows, page_written, refused_reached, say_same, spent_after, spent_early, stopped_early}
 use Rattle.page_reencrypt.proofs.Reaching.{IsReached}
 use Rattle.page_reencrypt.proofs.Reencrypting.{one_access}
@@ -87,7 +87,7 @@ returns-in-Spent-clause-written g c =
     let here = counter_here h m d n old counters c.requires.current c.args.limit c.args.line c.page_of-page.result c.place_of-place.result c.get.new.self c.get.new.counters
     c.in_ok-block.block c.get-2.result c.of.result had quiet in
     let full = c.of.ensures.spent.0 c.in-Spent.is in
-    let was_quiet = quiet_before old.engine.evidence c.get.new.self.engine.evidence e.step.step.evidence quiet in
+    let was_quiet = was_none old.engine.evidence c.get.new.self.engine.evidence e.step.step.evidence quiet in
     here ∙ is_last c.args.limit c.get-2.result full.0 full.1 (subst (λ (k : Counter). k.page ≤ c.args.limit) here (c.requires.limited was_quiet)))
     (λ quiet last. (e.same c.requires.fits quiet, e.once)) copies
 

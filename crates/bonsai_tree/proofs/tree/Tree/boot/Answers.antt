@@ -2,6 +2,7 @@ use Rattle.std.proofs.Common.{◌≡◌, ℕ, List, [], length, Option, Some, No
 use Rattle.std.specs.Option.{option_map}
 use Rattle.sec_base.specs.LastMessage.{last_node}
 use Rattle.sec_base.specs.declared.message.Message.{Message}
+use Rattle.sec_base.proofs.Results.{on_err}
 use Rattle.tag_engine.specs.TagEngine.{tags_of}
 use Rattle.checked_bus.proofs.Steps.{same_lines_not}
 use Rattle.bonsai_tree.specs.Node.{CachedNode, current_of}
@@ -9,7 +10,7 @@ use Rattle.bonsai_tree.specs.NodeCache.{copy_of}
 use Rattle.bonsai_tree.specs.Tree.{IsTree, SlotsAreTags, TreeView, cached_node}
 use Rattle.bonsai_tree.proofs.BootSlots.{boot_tags}
 use Rattle.bonsai_tree.proofs.Boots.{messages-length}
-use Rattle.bonsai_tree.proofs.Nodes.{on_err, same_tags}
+use Rattle.bonsai_tree.proofs.Nodes.{same_tags}
 use Rattle.bonsai_tree.proofs.OfBoot.{nodes_unwritten, of_boot_none}
 use Rattle.bonsai_tree.proofs.BootSteps.{nodes_some}
 use Rattle.bonsai_tree.proofs.Puts.{tree_recached}

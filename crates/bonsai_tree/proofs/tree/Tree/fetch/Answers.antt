@@ -6,6 +6,7 @@ use Rattle.sec_base.specs.declared.message.Message.{Message}
 use Rattle.sec_base.specs.declared.place.Place.TheVariants.{Node as node_place}
 use Rattle.sec_base.specs.declared.stop.MemStop.{MemStop}
 use Rattle.sec_base.specs.declared.stop.MemStop.TheVariants.{NoMemory, Tampered}
+use Rattle.sec_base.proofs.Results.{stop_is}
 use Rattle.bus_model.specs.BusHistory.{BusHistory}
 use Rattle.tag_engine.specs.TagEngine.{TagEngineView, tags_of}
 use Rattle.checked_bus.specs.Accesses.{WritesMessages}
@@ -14,7 +15,7 @@ use Rattle.bonsai_tree.specs.Climb.{Climbs, NoNode, WritesUp}
 use Rattle.bonsai_tree.specs.Node.{level_blocks}
 use Rattle.bonsai_tree.specs.Tree.{WritesBack, path_accesses}
 use Rattle.bonsai_tree.proofs.Copies.{few_copies}
-use Rattle.bonsai_tree.proofs.Nodes.{NodeRead, node_found, stop_is}
+use Rattle.bonsai_tree.proofs.Nodes.{NodeRead, node_found}
 use Rattle.bonsai_tree.proofs.OutFor.{out_kept, out_on}
 use Rattle.bonsai_tree.proofs.PathCalls.{climb_room, climb_writes, fetched, fetched_accepted, fetched_block, fetched_checked, fetched_found, fetched_pages, fetched_read, not_from_one, ok_of, page_node, path_more, read_most, stop_of_err}
 use Rattle.bonsai_tree.proofs.Views.{latest_cached}

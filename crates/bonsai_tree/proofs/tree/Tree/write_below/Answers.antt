@@ -2,13 +2,13 @@ use Rattle.std.proofs.Common.{◌≡◌, inl, inr, ◌+◌, ◌/◌, ◌%◌, tr
 use Rattle.std.specs.Option.{option_map}
 use Rattle.sec_base.specs.declared.stop.MemStop.{MemStop}
 use Rattle.sec_base.specs.declared.stop.MemStop.TheVariants.{NoMemory}
+use Rattle.sec_base.proofs.Results.{on_err}
 use Rattle.tag_engine.specs.TagEngine.{TagEngineView, tags_of}
 use Rattle.bonsai_tree.specs.Climb.{Climbs, IsBlockOf, WritesUp}
 use Rattle.bonsai_tree.specs.Node.{CachedNode, with_tag}
 use Rattle.bonsai_tree.specs.NodeCache.{copy_of}
 use Rattle.bonsai_tree.specs.Tree.{cached_node, want_of}
 use Rattle.bonsai_tree.proofs.Climbs.{climbs_refused}
-use Rattle.bonsai_tree.proofs.Nodes.{on_err}
 use Rattle.bonsai_tree.proofs.NodeCalls.{blocks_apart, climbs_wrote, held_copy, last_apart, made_one, no_rise_one, put_holds, put_slots, puts_held, writes_taken, written_apart}
 use Rattle.bonsai_tree.proofs.NodeWrites.{NodeWritten, own, written_not, written_once}
 use Rattle.bonsai_tree.proofs.Puts.{PutsTag}

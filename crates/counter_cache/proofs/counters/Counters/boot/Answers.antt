@@ -1,6 +1,7 @@
 use Rattle.std.proofs.Common.{Option, ap, ◌∙◌, arith}
 use Rattle.std.specs.Option.{option_map}
 use Rattle.sec_base.specs.LastMessage.{last_node}
+use Rattle.sec_base.proofs.Results.{on_err}
 use Rattle.cache_set.specs.declared.way.Way.{Way}
 use Rattle.tag_engine.specs.TagEngine.{tags_of}
 use Rattle.checked_bus.proofs.Steps.{same_lines_not}
@@ -9,7 +10,6 @@ use Rattle.bonsai_tree.specs.Node.{current_of}
 use Rattle.bonsai_tree.specs.NodeCache.{copy_of}
 use Rattle.bonsai_tree.proofs.OfBoot.{nodes_unwritten, of_boot_none}
 use Rattle.bonsai_tree.proofs.BootSteps.{nodes_some}
-use Rattle.bonsai_tree.proofs.Nodes.{on_err}
 use Rattle.counter_cache.proofs.Blocks.{zeros_are_new}
 use Rattle.counter_cache.proofs.counters.Counters.boot.Goals as goal
 

@@ -5,6 +5,7 @@ use Rattle.std.specs.Result.{result_err}
 use Rattle.sec_base.specs.Geometry.{page_count}
 use Rattle.sec_base.specs.LastMessage.{last_node}
 use Rattle.sec_base.specs.declared.stop.MemStop.TheVariants.{NoMemory}
+use Rattle.sec_base.proofs.Results.{stop_is, on_err}
 use Rattle.cache_set.specs.declared.way.Way.{Way}
 use Rattle.cache_set.specs.CacheSet.{with_latest, without}
 use Rattle.cache_set.specs.Cache.{set_at, way_at}
@@ -15,7 +16,6 @@ use Rattle.split_counter.specs.CounterBlock.{CounterBlockView, IsCounterBlock, a
 use Rattle.bonsai_tree.specs.Node.{current_of}
 use Rattle.bonsai_tree.specs.NodeCache.{copy_of}
 use Rattle.bonsai_tree.specs.Tree.{cached_node}
-use Rattle.bonsai_tree.proofs.Nodes.{on_err, stop_is}
 use Rattle.counter_cache.specs.Counters.{CountersView, cached_block, cached_pages, counters_in}
 use Rattle.counter_cache.proofs.BlockCopies.{blocks_put, few_blocks, same_pages}
 use Rattle.counter_cache.proofs.Blocks.{counters_of_copy}

@@ -2,11 +2,11 @@ use Rattle.std.proofs.Common.{◌≡◌, ℕ, List, length, Option, Some, None, 
 use Rattle.std.specs.Result.{result_err}
 use Rattle.sec_base.specs.declared.stop.MemStop.{MemStop}
 use Rattle.sec_base.specs.declared.stop.MemStop.TheVariants.{NoMemory}
+use Rattle.sec_base.proofs.Results.{stop_is}
 use Rattle.cache_set.specs.Cache.{copy_at}
 use Rattle.checked_bus.specs.Accesses.{WritesMessages}
 use Rattle.checked_bus.specs.Steps.{unwritten_in}
 use Rattle.split_counter.specs.CounterBlock.{block_of}
-use Rattle.bonsai_tree.proofs.Nodes.{stop_is}
 use Rattle.counter_cache.specs.Counters.{CountersView}
 use Rattle.counter_cache.proofs.BlockCopies.{few_blocks, latest_cached, stays_all}
 use Rattle.counter_cache.proofs.Havings.{going, has_pages, has_writes}

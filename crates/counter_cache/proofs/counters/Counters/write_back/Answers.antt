@@ -3,13 +3,13 @@ use Rattle.std.specs.Option.{option_map}
 use Rattle.std.specs.Result.{result_err}
 use Rattle.std.proofs.lemmas.Bool.{cases_eq}
 use Rattle.sec_base.specs.declared.stop.MemStop.TheVariants.{Tampered, Spent}
+use Rattle.sec_base.proofs.Results.{stop_is}
 use Rattle.cache_set.specs.Cache.{way_at}
 use Rattle.tag_engine.specs.TagEngine.{tags_of}
 use Rattle.bonsai_tree.specs.NodeCache.{copy_of}
 use Rattle.bonsai_tree.specs.Tree.{IsNodeFrom}
 use Rattle.counter_cache.specs.Counters.{CountersView, cached_block}
 use Rattle.counter_cache.specs.Having.{Has}
-use Rattle.bonsai_tree.proofs.Nodes.{stop_is}
 use Rattle.counter_cache.proofs.Havings.{has_not, has_tree, over}
 use Rattle.counter_cache.proofs.counters.Counters.write_back.Goals as goal
 

@@ -2,11 +2,12 @@ use Rattle.std.proofs.Common.{◌≡◌, ◌≢◌, None, Err, rules, sym, ◌�
 use Rattle.std.proofs.lemmas.Bool.Decides.{not_from_Decides}
 use Rattle.sec_base.specs.declared.stop.MemStop.TheVariants.{Tampered}
 use Rattle.sec_base.proofs.SameMessages.{counter_eq-Decides}
+use Rattle.sec_base.proofs.Results.{was_none}
 use Rattle.tag_engine.specs.TagEngine.{tags_of}
 use Rattle.pad_stream.specs.Pad.{cipher_of}
 use Rattle.checked_bus.specs.Steps.{IsAccounted, IsCurrent}
 use Rattle.page_reencrypt.specs.Contents.{line_bytes, never_written}
-use Rattle.page_reencrypt.proofs.LineReads.{current, fresh_bytes, quiet_before, read_found, written_bytes}
+use Rattle.page_reencrypt.proofs.LineReads.{current, fresh_bytes, read_found, written_bytes}
 use Rattle.page_reencrypt.proofs.outside.Outside.read.Goals as goal
 
 pub returns-then-eq-clause-value : goal.returns-then-eq-clause-value
@@ -52,7 +53,7 @@ pub returns-clause-value : goal.returns-clause-value
 returns-clause-value g c = λ quiet.
     let old = c.args.self.now in
     let was_quiet : old.engine.evidence ≡ None =
-    rw (← c.self.view_is) (quiet_before c.self.inside.tags.evidence c.read_line-cipher.new.tags.evidence c.read_line-cipher.ensures.moves.evidence quiet) in
+    rw (← c.self.view_is) (was_none c.self.inside.tags.evidence c.read_line-cipher.new.tags.evidence c.read_line-cipher.ensures.moves.evidence quiet) in
     let outside = c.self.inside in
     let some : c.args.counter ≢ never_written = not_from_Decides _ (counter_eq-Decides c.args.counter never_written) (sym c.eq.ensures ∙ c.if-eq.false) in
     let plain = cipher_of outside.pads.key c.args.line c.args.counter c.in_ok-cipher.field-0 in

@@ -2,11 +2,11 @@ use Rattle.std.proofs.Common.{◌≡◌, ◌∷◌, [], Option, Some, Ok, Err, a
 use Rattle.std.specs.Result.{result_err}
 use Rattle.sec_base.specs.declared.stop.MemStop.{MemStop}
 use Rattle.sec_base.specs.declared.stop.MemStop.TheVariants.{NoMemory}
+use Rattle.sec_base.proofs.Results.{was_none}
 use Rattle.tag_engine.specs.TagEngine.{tags_of}
 use Rattle.pad_stream.specs.Pad.{cipher_of}
 use Rattle.checked_bus.specs.SealedLine.{sealed_line}
 use Rattle.page_reencrypt.specs.Outside.{AreSealedInOrder, LineWrite, OutsideView, terms_of}
-use Rattle.page_reencrypt.proofs.LineReads.{quiet_before}
 use Rattle.page_reencrypt.proofs.Reencrypting.{IsReady, line_sealed, line_unwritten, one_access, read_sealed, read_stopped, ready_own, ready_read}
 use Rattle.page_reencrypt.proofs.outside.Outside.reencrypt_line.Goals.{then-at-line, else-at-line+in_ok-plain}
 use Rattle.page_reencrypt.proofs.outside.Outside.reencrypt_line.Goals as goal
@@ -49,7 +49,7 @@ returns-in_err-seal-clause-sealed g c =
           (read_sealed g.B.Bus.history g.B.Bus.moved g.T.Tagger.data_tag_of g.T.Tagger.node_tag_of write c.args.self.now c.requires.consistent c.requires.risen c.requires.holds_last
           c.args.at w.read.new.self (Ok w.in_ok-plain.plain) w.if-at-line.false c.requires.of_page
           read.moved read.moves read.unmade read.room read.pads read.unwritten read.counted read.accounted read.shows read.tampered read.unspent)
-          read.unmade read.pads read.once w.if-at-line.false w.plain-is read.value (λ quiet. read.rose (quiet_before c.args.self.now.engine.evidence w.read.new.self.engine.evidence read.moves.evidence quiet) (λ is. cc)))
+          read.unmade read.pads read.once w.if-at-line.false w.plain-is read.value (λ quiet. read.rose (was_none c.args.self.now.engine.evidence w.read.new.self.engine.evidence read.moves.evidence quiet) (λ is. cc)))
     ] in
     subst (λ (s : Option MemStop). AreSealedInOrder (terms_of g.B.Bus.history g.B.Bus.moved g.T.Tagger.data_tag_of g.T.Tagger.node_tag_of c.args.self.now)
     write c.args.self.now (c.args.at ∷ []) c.seal.new.self s) (sym stop)
@@ -80,7 +80,7 @@ returns-clause-sealed g c =
           (read_sealed g.B.Bus.history g.B.Bus.moved g.T.Tagger.data_tag_of g.T.Tagger.node_tag_of write c.args.self.now c.requires.consistent c.requires.risen c.requires.holds_last
           c.args.at w.read.new.self (Ok w.in_ok-plain.plain) w.if-at-line.false c.requires.of_page
           read.moved read.moves read.unmade read.room read.pads read.unwritten read.counted read.accounted read.shows read.tampered read.unspent)
-          read.unmade read.pads read.once w.if-at-line.false w.plain-is read.value (λ quiet. read.rose (quiet_before c.args.self.now.engine.evidence w.read.new.self.engine.evidence read.moves.evidence quiet) (λ is. cc)))
+          read.unmade read.pads read.once w.if-at-line.false w.plain-is read.value (λ quiet. read.rose (was_none c.args.self.now.engine.evidence w.read.new.self.engine.evidence read.moves.evidence quiet) (λ is. cc)))
     ] in
     line_sealed g.B.Bus.history g.B.Bus.moved g.T.Tagger.data_tag_of g.T.Tagger.node_tag_of write c.args.self.now c.requires.consistent c.requires.risen c.requires.holds_last
     c.args.at c.if-at-line.plain c.if-at-line.self c.seal.new.self c.args.old ready c.requires.inside c.requires.counter

@@ -3,12 +3,12 @@ use Rattle.std.specs.Option.{option_or}
 use Rattle.std.specs.Result.{result_err}
 use Rattle.sec_base.specs.Geometry.{line_count, page_of}
 use Rattle.sec_base.specs.declared.stop.MemStop.{MemStop}
+use Rattle.sec_base.proofs.Results.{was_none}
 use Rattle.tag_engine.specs.TagEngine.{tags_of}
 use Rattle.page_reencrypt.specs.LineMoves.{ReadMoved}
 use Rattle.page_reencrypt.specs.SealedLines.{SealedLinesView}
 use Rattle.page_reencrypt.specs.SealedLinesInside.{sealed_lines_view}
 use Rattle.page_reencrypt.specs.Stops.{lasting_stop}
-use Rattle.page_reencrypt.proofs.LineReads.{quiet_before}
 use Rattle.page_reencrypt.proofs.ReadCalls.{lasting_read, read_contents, read_kept, read_moved, read_unsealed, read_value, unsealed_not}
 use Rattle.page_reencrypt.proofs.Reaching.{came_not}
 use Rattle.page_reencrypt.proofs.sealed_lines.SealedLinesLineStore.read_line.Goals as goal
@@ -128,7 +128,7 @@ returns-clause-accepted_counters g c = λ made_at block tag _ quiet found.
 pub returns-clause-lost : goal.returns-clause-lost
 returns-clause-lost g c = λ quiet.
     let was = sealed_lines_view c.self.inside in
-    rw (← c.self.view_is) (quiet_before was.engine.evidence c.read_at-read.new.outside.engine.evidence c.read_at-read.ensures.read.step.evidence quiet)
+    rw (← c.self.view_is) (was_none was.engine.evidence c.read_at-read.new.outside.engine.evidence c.read_at-read.ensures.read.step.evidence quiet)
 
 pub returns-clause-hit : goal.returns-clause-hit
 returns-clause-hit g c = λ cached. rw (← c.self.view_is) (c.read_at-read.ensures.read.hit (rw (← c.self.view_is) at cached))

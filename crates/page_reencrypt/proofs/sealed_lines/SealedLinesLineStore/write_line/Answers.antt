@@ -3,6 +3,7 @@ use Rattle.std.specs.Option.{option_or}
 use Rattle.std.specs.Result.{result_err}
 use Rattle.sec_base.specs.Geometry.{line_count, page_of}
 use Rattle.sec_base.specs.declared.stop.MemStop.{MemStop}
+use Rattle.sec_base.proofs.Results.{on_success}
 use Rattle.tag_engine.specs.TagEngine.{tags_of}
 use Rattle.page_reencrypt.specs.LineMoves.{WriteMoved}
 use Rattle.page_reencrypt.specs.SealedLines.{SealedLinesView}
@@ -10,7 +11,7 @@ use Rattle.page_reencrypt.specs.SealedLinesInside.{sealed_lines_view}
 use Rattle.page_reencrypt.specs.Stops.{lasting_stop}
 use Rattle.page_reencrypt.proofs.Kept.{kept_limited}
 use Rattle.page_reencrypt.proofs.Reaching.{came_not}
-use Rattle.page_reencrypt.proofs.WriteCalls.{lasting_write, on_ok, sealed_none, write_failed, write_kept, write_last_untampered, write_moved, write_refused, write_reread, write_reserved, write_sealed, write_sealed_in_part, write_spent, write_spent_last, write_stored, write_tampered, write_untampered, write_used_up}
+use Rattle.page_reencrypt.proofs.WriteCalls.{lasting_write, sealed_none, write_failed, write_kept, write_last_untampered, write_moved, write_refused, write_reread, write_reserved, write_sealed, write_sealed_in_part, write_spent, write_spent_last, write_stored, write_tampered, write_untampered, write_used_up}
 use Rattle.page_reencrypt.proofs.sealed_lines.SealedLinesLineStore.write_line.Goals as goal
 
 pub returns-in-Some-clause-moved : goal.returns-in-Some-clause-moved
@@ -142,7 +143,7 @@ returns-clause-reserved g c =
 
 pub returns-clause-path : goal.returns-clause-path
 returns-clause-path g c = λ _ missed.
-    rw (← c.self.view_is) (on_ok c.write_next-written.result (λ none. c.write_next-written.ensures.written.path none (rw (← c.self.view_is) at missed)))
+    rw (← c.self.view_is) (on_success c.write_next-written.result (λ none. c.write_next-written.ensures.written.path none (rw (← c.self.view_is) at missed)))
 
 pub returns-clause-spent : goal.returns-clause-spent
 returns-clause-spent g c = λ _ quiet is.

@@ -6,6 +6,7 @@ use Rattle.sec_base.specs.Width.{with_number}
 use Rattle.sec_base.specs.declared.evidence.Evidence.TheVariants.{Forgery}
 use Rattle.sec_base.specs.declared.stop.MemStop.{MemStop}
 use Rattle.sec_base.specs.declared.stop.MemStop.TheVariants.{Spent}
+use Rattle.sec_base.proofs.Results.{on_ok}
 use Rattle.tag_engine.specs.TagEngine.{tags_of}
 use Rattle.pad_stream.specs.Pad.{cipher_of}
 use Rattle.page_reencrypt.specs.LineMoves.{ReadMoved, WriteMoved}
@@ -13,7 +14,6 @@ use Rattle.page_reencrypt.specs.SealedLines.{SealedLinesView, enc_key}
 use Rattle.page_reencrypt.specs.Stops.{lasting_stop}
 use Rattle.page_reencrypt.proofs.Sealing.{listed_or_not}
 use Rattle.cache_set.specs.Cache.{copy_at, places}
-use Rattle.line_cache.proofs.Steps.{on_ok}
 use Rattle.line_cache.specs.LineCache.{IsMissed, IsStoppedMiss, LineCacheView, brought, leaving, with_changed}
 use Rattle.secure_memory.specs.LineCall.{IsLineCall}
 use Rattle.secure_memory.specs.SecureRam.{SecureRamView, IsMoved, contents, levels, memory_accesses, stopped}
@@ -135,5 +135,5 @@ returns-clause-accepted g c = λ at counter sealed made_count _.
       | inr out ↦
           let accepted = accepted_copy g.B.Bus.history g.B.Bus.moved tags cache c.store.new.self.store c.store.new.self.lines line (result_err c.store.result) (λ bytes. with_number bytes (c.args.addr % 64) c.args.width c.args.value)
           (going g c) stays (c.store.ensures.missed out) at counter sealed made_count quiet found in
-          (accepted.0, on_ok c.store.result _ accepted.1)
+          (accepted.0, on_ok c.store.result accepted.1)
     ])
