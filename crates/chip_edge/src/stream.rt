@@ -1,5 +1,5 @@
 // Standard output and standard error as sinks.
-ghost use Rattle.std.specs.Prelude.{◌≡◌, ◌<◌, ◌≤◌, [], Ok, Err, length, take, IfOk, OnErr, OnOk};
+ghost use Rattle.std.specs.Prelude.{◌≡◌, ◌≢◌, ◌<◌, ◌≤◌, [], Ok, Err, length, take, IfOk, OnErr};
 ghost use Rattle.std.specs.Io.KnownBytes.{WriteAppends};
 ghost use Rattle.sec_base.specs.Count.{Rose};
 ghost use Rattle.sec_base.specs.declared.sink.SinkStop.TheVariants.{Failed};
@@ -38,7 +38,7 @@ impl<W: Write> Sink for Stream<W> {
         ensures empty { piece.now ≡ [] → result ≡ Ok 0 }
         ensures failed { result ≡ Err Failed → Rose self.old.faults self.new.faults }
         ensures faults { self.old.faults ≤ self.new.faults }
-        ensures quiet { OnOk result (self.new.faults ≡ self.old.faults) }
+        ensures quiet { result ≢ Err Failed → self.new.faults ≡ self.old.faults }
     {
         if piece.is_empty() {
             return Ok(0);

@@ -2,7 +2,7 @@
 use Rattle.std.proofs.Common.{◌≡◌, ◌≢◌, ℕ, List, Option, Some, None, Result, Ok, Err, OnOk, refl, subst}
 use Rattle.sec_base.specs.Sink.{SinkState}
 use Rattle.sec_base.specs.declared.ending.Ending.{Ending}
-use Rattle.sec_base.specs.declared.ending.Ending.TheVariants.{Halted, Trapped, OutOfSteps, Tampered, Spent, WriteFault, NoMemory as memory_ended}
+use Rattle.sec_base.specs.declared.ending.Ending.TheVariants.{WriteFault, NoMemory as memory_ended}
 use Rattle.sec_base.specs.declared.evidence.Evidence.{Evidence}
 use Rattle.sec_base.specs.declared.sink.SinkStop.TheVariants.{Failed, NoMemory as no_memory}
 use Rattle.chip_words.specs.Request.{Asked, WordsFault}
@@ -23,42 +23,27 @@ use Rattle.chip_main.specs.Status.{IsResult, Telling, code_of, ending_status, ev
 use Rattle.chip_main.specs.Stop.{stopped_course}
 use Rattle.chip_main.specs.World.{World}
 
--- how a run ended whose status is a result
+-- no write failed in a run whose status is a result
 
-pub result_ending : (ending : Ending) → IsResult (code_of (ending_status ending)) → (ending ≢ WriteFault) × (ending ≢ memory_ended)
-result_ending (Halted code) is = (λ e. cc, λ e. cc)
-result_ending (Trapped cause pc) is = (λ e. cc, λ e. cc)
-result_ending OutOfSteps is = (λ e. cc, λ e. cc)
-result_ending (Tampered place) is = (λ e. cc, λ e. cc)
-result_ending (Spent page) is = (λ e. cc, λ e. cc)
+pub result_ending : (ending : Ending) → IsResult (code_of (ending_status ending)) → ending ≢ WriteFault
 result_ending WriteFault is = absurd (is.3 refl)
-result_ending memory_ended is = absurd (is.4 refl)
+result_ending _ is = λ e. cc
 
-shown_ending : (ending : Ending) → IsResult (code_of (evidence_status ending)) → (ending ≢ WriteFault) × (ending ≢ memory_ended)
-shown_ending (Halted code) is = (λ e. cc, λ e. cc)
-shown_ending (Trapped cause pc) is = (λ e. cc, λ e. cc)
-shown_ending OutOfSteps is = (λ e. cc, λ e. cc)
-shown_ending (Tampered place) is = (λ e. cc, λ e. cc)
-shown_ending (Spent page) is = (λ e. cc, λ e. cc)
+shown_ending : (ending : Ending) → IsResult (code_of (evidence_status ending)) → ending ≢ WriteFault
 shown_ending WriteFault is = absurd (is.3 refl)
-shown_ending memory_ended is = absurd (is.4 refl)
+shown_ending _ is = λ e. cc
 
-result_with : (evidence : Option Evidence) (ending : Ending) → IsResult (code_of (status_with evidence ending)) → (ending ≢ WriteFault) × (ending ≢ memory_ended)
+result_with : (evidence : Option Evidence) (ending : Ending) → IsResult (code_of (status_with evidence ending)) → ending ≢ WriteFault
 result_with None ending is = result_ending ending is
 result_with (Some evidence) ending is = shown_ending ending is
 
-result_run : (run : RunRecord) → IsResult (code_of (run_status run)) → (run.ending ≢ WriteFault) × (run.ending ≢ memory_ended)
+result_run : (run : RunRecord) → IsResult (code_of (run_status run)) → run.ending ≢ WriteFault
 result_run run is = result_with run.evidence run.ending is
 
 -- what was not told is no result
 untold_stops : (ending : Ending) → ¬ IsResult (code_of (untold_ending_status ending))
-untold_stops (Halted code) is = is.3 refl
-untold_stops (Trapped cause pc) is = is.3 refl
-untold_stops OutOfSteps is = is.3 refl
-untold_stops (Tampered place) is = is.3 refl
-untold_stops (Spent page) is = is.3 refl
-untold_stops WriteFault is = is.3 refl
 untold_stops memory_ended is = is.4 refl
+untold_stops _ is = is.3 refl
 
 -- nor is a refusal
 refusal_stops : (refusal : Refusal) → ¬ IsResult (code_of (refusal_status refusal))
@@ -93,7 +78,7 @@ result_summed {P} {number} {printed} {run} {bus} runs telling is p = result_told
 -- a run whose status is a result left the sink's faults
 pub result_quiet : {terms : Terms} {out out' : SinkState} {before after : BusHistory} {run : RunRecord} → RunsProtected terms out out' before after run →
     IsResult (code_of (run_status run)) → out'.faults ≡ out.faults
-result_quiet {terms} {out} {out'} {before} {after} {run} runs is = let none = result_run run is in runs.always.quiet none.0 none.1
+result_quiet {terms} {out} {out'} {before} {after} {run} runs is = runs.always.quiet (result_run run is)
 
 none_rose : {F O N : Type 0} (course : Course) (told : Telling) (note note' : SinkState) → IsResult (code_of (status_of course told)) →
     (IsResult (code_of (course_status course)) → F × O) → OnOk told N → TellsCourse course note note' told → F × O × N

@@ -31,7 +31,7 @@ pub record RunsPlain (levels steps : ℕ) (program : Program) (input : List ℕ)
   pub early : IsStop run.ending → 0 < steps → run.retired < steps
   -- a write fails only at an instruction that prints, and it is out of memory only there or before the first instruction
   pub write_fault : run.ending ≡ WriteFault → Rose old.faults new.faults
-  pub quiet : run.ending ≢ WriteFault → run.ending ≢ NoMemory → new.faults ≡ old.faults
+  pub quiet : run.ending ≢ WriteFault → new.faults ≡ old.faults
   pub prints : run.ending ≡ WriteFault →
       0 < length (prints_of (next (plain (opening levels program input) run.retired).state))
   pub no_memory : run.ending ≡ NoMemory → (run.retired ≡ 0)

@@ -10,7 +10,7 @@ use Rattle.sec_base.specs.LastMessage.{data_pairs}
 use Rattle.sec_base.specs.Sink.{SinkState, Gains}
 use Rattle.sec_base.specs.declared.counter.Counter.{Counter}
 use Rattle.sec_base.specs.declared.ending.Ending.{Ending}
-use Rattle.sec_base.specs.declared.ending.Ending.TheVariants.{Halted, Trapped, OutOfSteps, Tampered, Spent, WriteFault, NoMemory}
+use Rattle.sec_base.specs.declared.ending.Ending.TheVariants.{OutOfSteps, Tampered, Spent, WriteFault, NoMemory}
 use Rattle.sec_base.specs.declared.evidence.Evidence.{Evidence}
 use Rattle.sec_base.specs.declared.message.Message.{Message}
 use Rattle.sec_base.specs.declared.place.Place.{Place}
@@ -73,7 +73,7 @@ pub record OfSession (terms : Terms) (out out' : SinkState) (printed : List ℕ)
   pub early : IsStop run.ending → 0 < terms.budget → run.retired < terms.budget
   pub write_fault : run.ending ≡ WriteFault → Rose out.faults out'.faults
   pub faults : out.faults ≤ out'.faults
-  pub quiet : run.ending ≢ WriteFault → run.ending ≢ NoMemory → out'.faults ≡ out.faults
+  pub quiet : run.ending ≢ WriteFault → out'.faults ≡ out.faults
   pub follows : run.evidence ≡ None → Follows terms.start terms.budget run.retired run.ending printed
   pub written_out : run.evidence ≡ None → ¬ IsMemoryEnding run.ending →
       IsWrittenOut terms.enc_key (line_count terms.levels) run.made (plain terms.start run.retired).state.memory
@@ -95,13 +95,8 @@ untampered tag_of used made history ending (inl honest) none = honest.untampered
 untampered tag_of used made history ending (inr caught) none = absurd (omega (arith, caught.lies))
 
 spent_or_not : (ending : Ending) → ((page : ℕ) → ending ≢ Spent page) ⊎ ((page : ℕ) × (ending ≡ Spent page))
-spent_or_not (Halted code) = inl (λ page e. cc)
-spent_or_not (Trapped cause pc) = inl (λ page e. cc)
-spent_or_not OutOfSteps = inl (λ page e. cc)
-spent_or_not (Tampered place) = inl (λ page e. cc)
 spent_or_not (Spent page) = inr (page, refl)
-spent_or_not WriteFault = inl (λ page e. cc)
-spent_or_not NoMemory = inl (λ page e. cc)
+spent_or_not _ = inl (λ page e. cc)
 
 -- it is the plain machine's over the whole budget, or a page was spent
 honest_run : (start : Machine) (budget n : ℕ) (ending : Ending) (printed : List ℕ) (tag_of : Message → List ℕ) (used : List (ℕ × Counter)) (made : List Message) (history : BusHistory) (evidence : Option Evidence) →

@@ -13,7 +13,7 @@ use Rattle.sec_base.proofs.LastMessages.{last_pair-data_pairs}
 use Rattle.sec_base.proofs.Writes.{written_after-nil}
 use Rattle.sec_base.specs.declared.counter.Counter.{Counter}
 use Rattle.sec_base.specs.declared.ending.Ending.{Ending}
-use Rattle.sec_base.specs.declared.ending.Ending.TheVariants.{NoMemory, OutOfSteps, WriteFault}
+use Rattle.sec_base.specs.declared.ending.Ending.TheVariants.{OutOfSteps, WriteFault}
 use Rattle.sec_base.specs.declared.message.Message.{Message}
 use Rattle.sec_base.specs.declared.place.Place.{Place}
 use Rattle.sec_base.specs.declared.place.Place.TheVariants.{Line, Node}
@@ -116,7 +116,7 @@ stopped_session terms out before after run entry size segments input stop begins
       early = λ stops some. omega (arith, none, some);
       write_fault = λ is. absurd (no_fault stop (sym ended ∙ is));
       faults = omega arith;
-      quiet = λ written memory. refl;
+      quiet = λ written. refl;
       follows = λ quiet.
           subst (λ (start : Machine). Follows start terms.budget run.retired run.ending []) (sym begins)
           (nothing_follows entry size segments input terms.budget run.retired stop run.ending none ended);
@@ -138,7 +138,7 @@ pub ran_session : (terms : Terms) (out out' : SinkState) (printed : List ℕ) (b
     length (places ways) ≤ most_left →
     Gains out printed out' → finished ≤ allowance → (ended ≡ OutOfSteps → finished ≡ allowance) → (IsStop ended → finished < allowance) →
     (ended ≡ WriteFault → Rose out.faults out'.faults) → out.faults ≤ out'.faults →
-    (ended ≢ WriteFault → ended ≢ NoMemory → out'.faults ≡ out.faults) →
+    (ended ≢ WriteFault → out'.faults ≡ out.faults) →
     (run.evidence ≡ None → FollowsWith terms.start terms.budget run.retired run.ending memory printed) →
     (run.evidence ≡ None → ended ≡ WriteFault → 0 < length (prints_of (next (plain terms.start finished).state))) →
     (run.evidence ≡ None → ReadsTurnover terms before after run) →
@@ -152,7 +152,7 @@ ran_session terms out out' printed before after run finished allowance ended way
       early = λ stops some. in_time stops;
       write_fault = λ is. write_fault (sym ending_is ∙ is);
       faults = faults;
-      quiet = λ written memory. silent (λ is. written (ending_is ∙ is)) (λ is. memory (ending_is ∙ is));
+      quiet = λ written. silent (λ is. written (ending_is ∙ is));
       follows = λ quiet. (follows quiet).follows;
       written_out = λ quiet going.
           written_out terms.enc_key (line_count terms.levels) run.made ways (plain terms.start run.retired).state.memory

@@ -3,7 +3,7 @@ use Rattle.std.specs.Prelude.{◌≡◌, ◌≢◌, ◌-◌, ◌^◌, ◌<◌, �
 use Rattle.sha2.specs.Sha256.{sha256}
 use Rattle.sec_base.specs.declared.counter.Counter.{Counter}
 use Rattle.sec_base.specs.declared.ending.Ending.{Ending}
-use Rattle.sec_base.specs.declared.ending.Ending.TheVariants.{Halted, Trapped, OutOfSteps, Tampered, Spent, WriteFault, NoMemory}
+use Rattle.sec_base.specs.declared.ending.Ending.TheVariants.{OutOfSteps, Tampered, Spent, WriteFault, NoMemory}
 use Rattle.sec_base.specs.declared.evidence.Evidence.{Evidence}
 use Rattle.sec_base.specs.declared.message.Message.{Message}
 use Rattle.sec_base.specs.declared.place.Place.{Place}
@@ -56,13 +56,8 @@ pub record IsWrittenOut (key : List ℕ) (lines : ℕ) (made : List Message) (me
 
 -- how many messages may be made that were not written: the last one, where the run ended out of memory
 abbrev pub unwritten_at : Ending → ℕ
-unwritten_at (Halted code) = 0
-unwritten_at (Trapped cause pc) = 0
-unwritten_at OutOfSteps = 0
-unwritten_at (Tampered place) = 0
-unwritten_at (Spent page) = 0
-unwritten_at WriteFault = 0
 unwritten_at NoMemory = 1
+unwritten_at _ = 0
 
 -- the endings that may come in the middle of an overflow
 abbrev pub EndsAnywhere : Ending → Type 0
@@ -88,10 +83,10 @@ pub record HoldsAlways (terms : Terms) (out out' : SinkState) (before after : Bu
   pub within : run.retired ≤ terms.budget
   pub budget_used : run.ending ≡ OutOfSteps → run.retired ≡ terms.budget
   pub early : IsStop run.ending → 0 < terms.budget → run.retired < terms.budget
-  -- a write fault is one of the sink, and where it had one, the run ended so, or out of memory
+  -- a write fault is one of the sink, and where it had one, the run ended so
   pub write_fault : run.ending ≡ WriteFault → Rose out.faults out'.faults
   pub faults : out.faults ≤ out'.faults
-  pub quiet : run.ending ≢ WriteFault → run.ending ≢ NoMemory → out'.faults ≡ out.faults
+  pub quiet : run.ending ≢ WriteFault → out'.faults ≡ out.faults
   -- each entry of `used` is of a line of the memory, and each line was tagged under the counters that it was encrypted
   -- under, in the same order
   pub inside : (line : ℕ) (counter : Counter) → Contains run.used (line, counter) → line < line_count terms.levels

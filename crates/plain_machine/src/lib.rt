@@ -72,7 +72,7 @@ pub fn run<S: Sink>(
         0 < length (prints_of (next (plain (opening image.now input.now) result.retired).state)) }
     ensures write_fault { result.ending ≡ WriteFault → Rose (S.state out.old).faults (S.state out.new).faults }
     ensures faults { (S.state out.old).faults ≤ (S.state out.new).faults }
-    ensures quiet { result.ending ≢ WriteFault → result.ending ≢ no_memory → (S.state out.new).faults ≡ (S.state out.old).faults }
+    ensures quiet { result.ending ≢ WriteFault → (S.state out.new).faults ≡ (S.state out.old).faults }
 {
     let Ok(memory) = opened(alloc, image) else {
         return PlainRecord {

@@ -1,6 +1,6 @@
 // A run that is under way.
 ghost use Rattle.std.specs.Prelude.{◌≡◌, ◌≢◌, ◌↔◌, ◌<◌, ◌≤◌, ◌++◌, ℕ, List, [], None, Some, IfSome, length};
-ghost use Rattle.sec_base.specs.declared.ending.Ending.TheVariants.{NoMemory, OutOfSteps, WriteFault};
+ghost use Rattle.sec_base.specs.declared.ending.Ending.TheVariants.{OutOfSteps, WriteFault};
 ghost use Rattle.sec_base.specs.Count.{Rose};
 ghost use Rattle.sec_base.specs.Prefix.{IsPrefix};
 ghost use Rattle.sec_base.specs.Ram.{GoesOn};
@@ -110,7 +110,7 @@ impl<'a, M: Ram> Session<'a, M> {
         ensures mem { CarriesEnding (M.stopped self.new.memory) (Some result) }
         ensures write_fault { result ≡ WriteFault → Rose (S.state out.old).faults (S.state out.new).faults }
         ensures faults { (S.state out.old).faults ≤ (S.state out.new).faults }
-        ensures quiet { result ≢ WriteFault → result ≢ NoMemory → (S.state out.new).faults ≡ (S.state out.old).faults }
+        ensures quiet { result ≢ WriteFault → (S.state out.new).faults ≡ (S.state out.old).faults }
 
         ensures moved { GoesOn M.extent M.sound M.moved (λ _. Unit {0}) self.old.memory self.new.memory }
 
@@ -173,7 +173,7 @@ fn turn<M: Ram, S: Sink>(
     ensures mem { CarriesEnding (M.stopped memory.new) result }
     ensures write_fault { result ≡ Some WriteFault → Rose (S.state out.old).faults (S.state out.new).faults }
     ensures faults { (S.state out.old).faults ≤ (S.state out.new).faults }
-    ensures quiet { result ≢ Some WriteFault → result ≢ Some NoMemory → (S.state out.new).faults ≡ (S.state out.old).faults }
+    ensures quiet { result ≢ Some WriteFault → (S.state out.new).faults ≡ (S.state out.old).faults }
 
     // It touches the lines of the instruction, or a front part of them.
     ensures moved { GoesOn M.extent M.sound M.moved (λ lines. M.sound memory.new →

@@ -97,8 +97,7 @@ returns-in_ok-run-in-Run-clause-quiet g c =
 
 pub returns-in_ok-image-in-Plain-clause-quiet : goal.returns-in_ok-image-in-Plain-clause-quiet
 returns-in_ok-image-in-Plain-clause-quiet g c =
-    λ is. let none = result_ending c.run-run.result.ending is in
-    (c.in_ok-image-in-Plain.ensures.quiet, c.run-run.ensures.quiet none.0 none.1)
+    λ is. (c.in_ok-image-in-Plain.ensures.quiet, c.run-run.ensures.quiet (result_ending c.run-run.result.ending is))
 
 pub returns-in_ok-image-in-Asm-clause-quiet : goal.returns-in_ok-image-in-Asm-clause-quiet
 returns-in_ok-image-in-Asm-clause-quiet g c =

@@ -10,5 +10,5 @@ pub loop-rest-preserved : goal.loop-rest-preserved
 loop-rest-preserved g c = record {
   printed = rw take_rest (piece_goes_on _ _ _ _ _ _ _ _ _ c.loop-rest.invariant.printed c.in_ok-taken.ensures.taken c.digest.ensures.digest c.write.ensures.faults);
   services = c.digest.ensures.services ∙ c.loop-rest.invariant.services;
-  quiet = c.in_ok-taken.ensures.quiet ∙ c.loop-rest.invariant.quiet;
+  quiet = c.in_ok-taken.ensures.quiet (λ is. cc) ∙ c.loop-rest.invariant.quiet;
 }
