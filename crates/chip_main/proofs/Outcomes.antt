@@ -6,7 +6,7 @@ use Rattle.sec_base.specs.Files.{FilesState}
 use Rattle.sec_base.specs.Sink.{SinkState}
 use Rattle.sec_base.specs.declared.evidence.Evidence.{Evidence}
 use Rattle.sec_base.specs.declared.ending.Ending.{Ending}
-use Rattle.sec_base.specs.declared.ending.Ending.TheVariants.{Halted, Trapped, OutOfSteps, Tampered, Spent, WriteFault, NoMemory as memory_ended}
+use Rattle.sec_base.specs.declared.ending.Ending.TheVariants.{Halted, Trapped, WriteFault, NoMemory as memory_ended}
 use Rattle.sec_base.specs.declared.sink.SinkStop.TheVariants.{Failed, NoMemory as no_memory}
 use Rattle.sec_base.specs.Sink.{GainsFront}
 use Rattle.plain_machine.specs.declared.PlainRecord.{PlainRecord}
@@ -46,13 +46,8 @@ statuses o = (status_of o.course o.told, o.status)
 -- ---- which course a status is of
 
 pub untold_high : (ending : Ending) → 9 ≤ code_of (untold_ending_status ending)
-untold_high (Halted exit) = omega arith
-untold_high (Trapped cause pc) = omega arith
-untold_high OutOfSteps = omega arith
-untold_high (Tampered place) = omega arith
-untold_high (Spent page) = omega arith
-untold_high WriteFault = omega arith
 untold_high memory_ended = omega arith
+untold_high _ = omega arith
 
 -- a status below 9 is the course's own
 course_is : (course : Course) (telling : Telling) (status : ℕ) → status < 9 → code_of (status_of course telling) ≡ status → code_of (course_status course) ≡ status
@@ -88,20 +83,14 @@ apart n status (inr (inl mid)) refusing is = elim refusing.2 [
 ending_result : (ending : Ending) → IsOfResult (code_of (ending_status ending))
 ending_result (Halted exit) = inl (omega arith)
 ending_result (Trapped cause pc) = inl (omega arith)
-ending_result OutOfSteps = inr (inl (omega arith, omega arith))
-ending_result (Tampered place) = inr (inl (omega arith, omega arith))
-ending_result (Spent page) = inr (inl (omega arith, omega arith))
 ending_result WriteFault = inr (inr (omega arith))
 ending_result memory_ended = inr (inr (omega arith))
+ending_result _ = inr (inl (omega arith, omega arith))
 
 evidence_result : (ending : Ending) → IsOfResult (code_of (evidence_status ending))
-evidence_result (Halted exit) = inr (inl (omega arith, omega arith))
-evidence_result (Trapped cause pc) = inr (inl (omega arith, omega arith))
-evidence_result OutOfSteps = inr (inl (omega arith, omega arith))
-evidence_result (Tampered place) = inr (inl (omega arith, omega arith))
-evidence_result (Spent page) = inr (inl (omega arith, omega arith))
 evidence_result WriteFault = inr (inr (omega arith))
 evidence_result memory_ended = inr (inr (omega arith))
+evidence_result _ = inr (inl (omega arith, omega arith))
 
 run_result : (evidence : Option Evidence) (ending : Ending) → IsOfResult (code_of (status_with evidence ending))
 run_result None ending = ending_result ending
@@ -191,13 +180,8 @@ read_fault {request} {old} {new} o is =
 -- ---- what was told
 
 untold_cases : (ending : Ending) → ((code_of (untold_ending_status ending) ≡ 9) × (ending ≢ memory_ended)) ⊎ (code_of (untold_ending_status ending) ≡ 10)
-untold_cases (Halted exit) = inl (refl, λ e. cc)
-untold_cases (Trapped cause pc) = inl (refl, λ e. cc)
-untold_cases OutOfSteps = inl (refl, λ e. cc)
-untold_cases (Tampered place) = inl (refl, λ e. cc)
-untold_cases (Spent page) = inl (refl, λ e. cc)
-untold_cases WriteFault = inl (refl, λ e. cc)
 untold_cases memory_ended = inr refl
+untold_cases _ = inl (refl, λ e. cc)
 
 untold_ending : (text : List ℕ) (whole : Status) (ending : Ending) (old new : SinkState) → GainsFront old text new → Rose old.faults new.faults → TellsEnding text whole ending (code_of (untold_ending_status ending)) old new
 untold_ending text whole ending old new front risen =
@@ -234,31 +218,16 @@ refusal_low (Script line fault) = omega arith
 refusal_low (Report fault) = omega arith
 
 ending_low : (ending : Ending) → code_of (ending_status ending) < 11
-ending_low (Halted exit) = omega arith
-ending_low (Trapped cause pc) = omega arith
-ending_low OutOfSteps = omega arith
-ending_low (Tampered place) = omega arith
-ending_low (Spent page) = omega arith
-ending_low WriteFault = omega arith
 ending_low memory_ended = omega arith
+ending_low _ = omega arith
 
 evidence_low : (ending : Ending) → code_of (evidence_status ending) < 11
-evidence_low (Halted exit) = omega arith
-evidence_low (Trapped cause pc) = omega arith
-evidence_low OutOfSteps = omega arith
-evidence_low (Tampered place) = omega arith
-evidence_low (Spent page) = omega arith
-evidence_low WriteFault = omega arith
 evidence_low memory_ended = omega arith
+evidence_low _ = omega arith
 
 untold_low : (ending : Ending) → code_of (untold_ending_status ending) < 11
-untold_low (Halted exit) = omega arith
-untold_low (Trapped cause pc) = omega arith
-untold_low OutOfSteps = omega arith
-untold_low (Tampered place) = omega arith
-untold_low (Spent page) = omega arith
-untold_low WriteFault = omega arith
 untold_low memory_ended = omega arith
+untold_low _ = omega arith
 
 run_low : (evidence : Option Evidence) (ending : Ending) → code_of (status_with evidence ending) < 11
 run_low None ending = ending_low ending

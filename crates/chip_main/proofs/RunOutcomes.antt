@@ -5,7 +5,7 @@ use Rattle.sec_base.specs.Files.{FilesState}
 use Rattle.sec_base.specs.Sink.{SinkState}
 use Rattle.sec_base.specs.declared.evidence.Evidence.{Evidence}
 use Rattle.sec_base.specs.declared.ending.Ending.{Ending}
-use Rattle.sec_base.specs.declared.ending.Ending.TheVariants.{Halted, Trapped, OutOfSteps, Tampered, Spent, WriteFault, NoMemory as memory_ended}
+use Rattle.sec_base.specs.declared.ending.Ending.TheVariants.{WriteFault}
 use Rattle.sec_base.specs.declared.image.Image.{Image}
 use Rattle.sec_base.specs.declared.sink.SinkStop.TheVariants.{Failed, NoMemory as no_memory}
 use Rattle.plain_machine.specs.declared.PlainRecord.{PlainRecord}
@@ -267,21 +267,11 @@ tampered {request = request} {done = done} o is =
 
 fault_of : (ending : Ending) → code_of (ending_status ending) ≡ 9 → ending ≡ WriteFault
 fault_of WriteFault is = refl
-fault_of (Halted exit) is = absurd (omega arith)
-fault_of (Trapped cause pc) is = absurd (omega arith)
-fault_of OutOfSteps is = absurd (omega arith)
-fault_of (Tampered place) is = absurd (omega arith)
-fault_of (Spent page) is = absurd (omega arith)
-fault_of memory_ended is = absurd (omega arith)
+fault_of _ is = absurd (omega arith)
 
 evidence_fault_of : (ending : Ending) → code_of (evidence_status ending) ≡ 9 → ending ≡ WriteFault
 evidence_fault_of WriteFault is = refl
-evidence_fault_of (Halted exit) is = absurd (omega arith)
-evidence_fault_of (Trapped cause pc) is = absurd (omega arith)
-evidence_fault_of OutOfSteps is = absurd (omega arith)
-evidence_fault_of (Tampered place) is = absurd (omega arith)
-evidence_fault_of (Spent page) is = absurd (omega arith)
-evidence_fault_of memory_ended is = absurd (omega arith)
+evidence_fault_of _ is = absurd (omega arith)
 
 run_fault_of : (evidence : Option Evidence) (ending : Ending) → code_of (status_with evidence ending) ≡ 9 → ending ≡ WriteFault
 run_fault_of None ending is = fault_of ending is

@@ -22,13 +22,8 @@ use Rattle.chip_main.specs.Endings.{EndedWithoutEvidence, IsHalted, IsTrapped, I
 
 -- with evidence the status is 7 or more
 evidence_high : (ending : Ending) → 7 ≤ code_of (evidence_status ending)
-evidence_high (Halted exit) = omega arith
-evidence_high (Trapped cause pc) = omega arith
-evidence_high OutOfSteps = omega arith
-evidence_high (Tampered place) = omega arith
-evidence_high (Spent page) = omega arith
 evidence_high WriteFault = omega arith
-evidence_high NoMemory = omega arith
+evidence_high _ = omega arith
 
 -- so below 7 there is none
 low_without_evidence : (evidence : Option Evidence) (ending : Ending) → code_of (status_with evidence ending) < 7 → evidence ≡ None
@@ -54,57 +49,27 @@ low_status run status is low =
 
 pub halted_of : (ending : Ending) → code_of (ending_status ending) ≡ 0 → IsHalted ending
 halted_of (Halted exit) is = (exit, refl)
-halted_of (Trapped cause pc) is = absurd (omega arith)
-halted_of OutOfSteps is = absurd (omega arith)
-halted_of (Tampered place) is = absurd (omega arith)
-halted_of (Spent page) is = absurd (omega arith)
-halted_of WriteFault is = absurd (omega arith)
-halted_of NoMemory is = absurd (omega arith)
+halted_of _ is = absurd (omega arith)
 
 pub trapped_of : (ending : Ending) → code_of (ending_status ending) ≡ 1 → IsTrapped ending
 trapped_of (Trapped cause pc) is = (cause, pc, refl)
-trapped_of (Halted exit) is = absurd (omega arith)
-trapped_of OutOfSteps is = absurd (omega arith)
-trapped_of (Tampered place) is = absurd (omega arith)
-trapped_of (Spent page) is = absurd (omega arith)
-trapped_of WriteFault is = absurd (omega arith)
-trapped_of NoMemory is = absurd (omega arith)
+trapped_of _ is = absurd (omega arith)
 
 pub out_of_steps_of : (ending : Ending) → code_of (ending_status ending) ≡ 4 → IsOutOfSteps ending
 out_of_steps_of OutOfSteps is = refl
-out_of_steps_of (Halted exit) is = absurd (omega arith)
-out_of_steps_of (Trapped cause pc) is = absurd (omega arith)
-out_of_steps_of (Tampered place) is = absurd (omega arith)
-out_of_steps_of (Spent page) is = absurd (omega arith)
-out_of_steps_of WriteFault is = absurd (omega arith)
-out_of_steps_of NoMemory is = absurd (omega arith)
+out_of_steps_of _ is = absurd (omega arith)
 
 pub tampered_of : (ending : Ending) → code_of (ending_status ending) ≡ 5 → (place : Place) × (ending ≡ Tampered place)
 tampered_of (Tampered place) is = (place, refl)
-tampered_of (Halted exit) is = absurd (omega arith)
-tampered_of (Trapped cause pc) is = absurd (omega arith)
-tampered_of OutOfSteps is = absurd (omega arith)
-tampered_of (Spent page) is = absurd (omega arith)
-tampered_of WriteFault is = absurd (omega arith)
-tampered_of NoMemory is = absurd (omega arith)
+tampered_of _ is = absurd (omega arith)
 
 pub spent_of : (ending : Ending) → code_of (ending_status ending) ≡ 6 → (page : ℕ) × (ending ≡ Spent page)
 spent_of (Spent page) is = (page, refl)
-spent_of (Halted exit) is = absurd (omega arith)
-spent_of (Trapped cause pc) is = absurd (omega arith)
-spent_of OutOfSteps is = absurd (omega arith)
-spent_of (Tampered place) is = absurd (omega arith)
-spent_of WriteFault is = absurd (omega arith)
-spent_of NoMemory is = absurd (omega arith)
+spent_of _ is = absurd (omega arith)
 
 pub no_seven : (ending : Ending) → code_of (ending_status ending) ≢ 7
-no_seven (Halted exit) is = omega arith
-no_seven (Trapped cause pc) is = omega arith
-no_seven OutOfSteps is = omega arith
-no_seven (Tampered place) is = omega arith
-no_seven (Spent page) is = omega arith
 no_seven WriteFault is = omega arith
-no_seven NoMemory is = omega arith
+no_seven _ is = omega arith
 
 evidence_of : (evidence : Option Evidence) (ending : Ending) → code_of (status_with evidence ending) ≡ 7 → (found : Evidence) × (evidence ≡ Some found)
 evidence_of None ending is = absurd (no_seven ending is)

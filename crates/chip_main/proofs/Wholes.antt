@@ -5,7 +5,7 @@ use Rattle.sec_base.specs.Count.{Rose}
 use Rattle.sec_base.specs.Files.{FilesState, HasBytes, HasOver, IsOver}
 use Rattle.sec_base.specs.Sink.{SinkState}
 use Rattle.sec_base.specs.declared.ending.Ending.{Ending}
-use Rattle.sec_base.specs.declared.ending.Ending.TheVariants.{Halted, Trapped, OutOfSteps, Tampered, Spent, WriteFault, NoMemory as memory_ended}
+use Rattle.sec_base.specs.declared.ending.Ending.TheVariants.{NoMemory as memory_ended}
 use Rattle.sec_base.specs.declared.image.Image.{Image}
 use Rattle.sec_base.specs.declared.sink.SinkStop.TheVariants.{Failed, NoMemory as no_memory}
 use Rattle.bus_model.specs.BusHistory.{BusHistory, new_history}
@@ -117,13 +117,8 @@ same_program files file program other tells ready taken =
     let e : Ok other ≡ Ok program = sym taken.is ∙ ap (program_of_file file) same ∙ ready.is in cc
 
 memory_cases : (ending : Ending) → (ending ≡ memory_ended) ⊎ (ending ≢ memory_ended)
-memory_cases (Halted exit) = inr (λ e. cc)
-memory_cases (Trapped cause pc) = inr (λ e. cc)
-memory_cases OutOfSteps = inr (λ e. cc)
-memory_cases (Tampered place) = inr (λ e. cc)
-memory_cases (Spent page) = inr (λ e. cc)
-memory_cases WriteFault = inr (λ e. cc)
 memory_cases memory_ended = inl refl
+memory_cases _ = inr (λ e. cc)
 
 -- ---- a run on protected memory
 

@@ -53,11 +53,7 @@ ending_status ending.NoMemory = NoMemory
 abbrev pub evidence_status : Ending → Status
 evidence_status ending.WriteFault = WriteFault
 evidence_status ending.NoMemory = NoMemory
-evidence_status (ending.Halted exit) = evidence
-evidence_status (ending.Trapped cause pc) = evidence
-evidence_status ending.OutOfSteps = evidence
-evidence_status (ending.Tampered place) = evidence
-evidence_status (ending.Spent page) = evidence
+evidence_status _ = evidence
 
 -- the status of an ending, with evidence or without
 abbrev pub status_with : Option Evidence → Ending → Status

@@ -3,7 +3,7 @@ use Rattle.std.specs.Prelude.{◌≡◌, ◌<◌, ◌≤◌, ℕ, ◌+◌, List,
 use Rattle.sec_base.specs.Prefix.{IsPrefix}
 use Rattle.sec_base.specs.declared.ending.Cause.{Cause}
 use Rattle.sec_base.specs.declared.ending.Ending.{Ending}
-use Rattle.sec_base.specs.declared.ending.Ending.TheVariants.{Halted, Trapped, OutOfSteps, Tampered, Spent, WriteFault, NoMemory}
+use Rattle.sec_base.specs.declared.ending.Ending.TheVariants.{Halted, Trapped, OutOfSteps}
 use Rattle.rv32_core.specs.After.{After}
 use Rattle.rv32_core.specs.Effect.{next}
 use Rattle.rv32_core.specs.Machine.{Machine, plain}
@@ -21,10 +21,7 @@ EndsAs (Trapped cause pc) machine retired budget printed =
     (retired < budget) × Traps machine cause pc × (printed ≡ machine.output)
 EndsAs OutOfSteps machine retired budget printed =
     (retired ≡ budget) × (machine.exit ≡ None) × (printed ≡ machine.output)
-EndsAs (Tampered place) machine retired budget printed = machine.exit ≡ None
-EndsAs (Spent page) machine retired budget printed = machine.exit ≡ None
-EndsAs WriteFault machine retired budget printed = machine.exit ≡ None
-EndsAs NoMemory machine retired budget printed = machine.exit ≡ None
+EndsAs _ machine retired budget printed = machine.exit ≡ None
 
 -- A run of a budget that retired so many instructions and printed these bytes is the plain machine's so far.
 pub record Follows (start : Machine) (budget retired : ℕ) (ending : Ending) (printed : List ℕ) : Type 0 where

@@ -3,7 +3,7 @@ use Rattle.std.proofs.Common.{◌≡◌, ◌<◌, ◌⊎◌, inl, inr, ℕ, suc,
 use Rattle.std.proofs.lemmas.List.{append-nil}
 use Rattle.sec_base.specs.Prefix.{IsPrefix}
 use Rattle.sec_base.specs.declared.ending.Ending.{Ending}
-use Rattle.sec_base.specs.declared.ending.Ending.TheVariants.{Halted, Trapped, OutOfSteps, Tampered, Spent, WriteFault, NoMemory}
+use Rattle.sec_base.specs.declared.ending.Ending.TheVariants.{Halted}
 use Rattle.sec_base.specs.declared.stop.MemStop.{MemStop}
 use Rattle.rv32_core.specs.declared.step.Step.{Step}
 use Rattle.rv32_core.specs.declared.step.StepStop.{StepStop}
@@ -49,12 +49,7 @@ walked_on {M} stopped contents moved start from to next first mid last more walk
 -- an ending retires an instruction or none
 retired_or_not : (ending : Ending) (n : ℕ) → (retired_after (Some ending) n ≡ n) ⊎ (retired_after (Some ending) n ≡ n + 1)
 retired_or_not (Halted code) n = inr refl
-retired_or_not (Trapped cause pc) n = inl refl
-retired_or_not OutOfSteps n = inl refl
-retired_or_not (Tampered place) n = inl refl
-retired_or_not (Spent page) n = inl refl
-retired_or_not WriteFault n = inl refl
-retired_or_not NoMemory n = inl refl
+retired_or_not _ n = inl refl
 
 -- the lines of calls are a front part of those that are to be touched
 pub touched_front : {A E : Type 0} (result : Result A E) (all lines : List ℕ) → AreTouched result all lines → IsPrefix lines all

@@ -2,7 +2,7 @@
 use Rattle.std.proofs.Common.{◌≡◌, ◌≢◌, ◌+◌, ◌<◌, ◌≤◌, ◌↔◌, ℕ, List, [], ◌++◌, Option, Some, None, Result, Ok, Err, length, refl, sym, ap, ◌∙◌, subst, arith, append_assoc, append-nil}
 use Rattle.sec_base.specs.declared.ending.Ending.{Ending}
 use Rattle.sec_base.specs.declared.ending.Cause.{Cause}
-use Rattle.sec_base.specs.declared.ending.Ending.TheVariants.{Halted, Trapped, OutOfSteps, Tampered, Spent, WriteFault, NoMemory}
+use Rattle.sec_base.specs.declared.ending.Ending.TheVariants.{Halted, Trapped, OutOfSteps, WriteFault}
 use Rattle.sec_base.specs.declared.stop.MemStop.{MemStop}
 use Rattle.sec_base.specs.declared.stop.MemStop.TheVariants.{Tampered as tampered, Spent as spent, NoMemory as no_memory}
 use Rattle.rv32_core.specs.declared.step.Step.{Step}
@@ -113,12 +113,7 @@ allowed ending n budget within exact goes_on =
 -- a stop retires nothing
 stop_retires : (ending : Ending) (n : ℕ) → IsStop ending → retired_after (Some ending) n ≡ n
 stop_retires (Halted code) n stops = absurd stops
-stop_retires (Trapped cause pc) n stops = absurd stops
-stop_retires OutOfSteps n stops = absurd stops
-stop_retires (Tampered place) n stops = refl
-stop_retires (Spent page) n stops = refl
-stop_retires WriteFault n stops = refl
-stop_retires NoMemory n stops = refl
+stop_retires _ n stops = refl
 
 -- and what its instruction prints is what the machine prints next
 pub stop_prints : (start : Machine) (n m : ℕ) (ending : Ending) (state : State) (printed : List ℕ) → plain start n ≡ going_on state printed n → m ≡ retired_after (Some ending) n → IsStop ending → 0 < length (prints_of (next state)) → 0 < length (prints_of (next (plain start m).state))

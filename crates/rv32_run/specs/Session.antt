@@ -1,7 +1,8 @@
 -- What a session's turns are, seen from the plain machine.
 use Rattle.std.specs.Prelude.{◌≡◌, ℕ, ◌+◌, List, Option, Some, None}
+use Rattle.sec_base.specs.Ending.{EndingClass, ByProgram, ByProtection, BySink, ByEmulator, ending_class}
 use Rattle.sec_base.specs.declared.ending.Ending.{Ending}
-use Rattle.sec_base.specs.declared.ending.Ending.TheVariants.{Halted, Trapped, OutOfSteps, Tampered, Spent, WriteFault, NoMemory}
+use Rattle.sec_base.specs.declared.ending.Ending.TheVariants.{Halted, Tampered, Spent, NoMemory}
 use Rattle.sec_base.specs.declared.stop.MemStop.{MemStop}
 use Rattle.sec_base.specs.declared.stop.MemStop.TheVariants.{Tampered as tampered, Spent as spent, NoMemory as no_memory}
 use Rattle.rv32_core.specs.State.{CoreView, ServicesView}
@@ -21,15 +22,16 @@ Reaches start n core calls memory printed = plain start n ≡ record {
 abbrev pub StandsAt : Machine → CoreView → ServicesView → Type 0
 StandsAt machine core calls = (machine.state.core ≡ core) × (machine.state.calls ≡ calls)
 
--- the memory ended it: as tampering, as used up, or because the emulator is out of memory
+-- classes of endings that the memory may give: its protection, or that the emulator is out of memory
+abbrev pub IsMemoryClass : EndingClass → Type 0
+IsMemoryClass ByProgram = ⊥
+IsMemoryClass ByProtection = Unit {0}
+IsMemoryClass BySink = ⊥
+IsMemoryClass ByEmulator = Unit {0}
+
+-- the memory ended it
 abbrev pub IsMemoryEnding : Ending → Type 0
-IsMemoryEnding (Halted code) = ⊥
-IsMemoryEnding (Trapped cause pc) = ⊥
-IsMemoryEnding OutOfSteps = ⊥
-IsMemoryEnding (Tampered place) = Unit {0}
-IsMemoryEnding (Spent page) = Unit {0}
-IsMemoryEnding WriteFault = ⊥
-IsMemoryEnding NoMemory = Unit {0}
+IsMemoryEnding ending = IsMemoryClass (ending_class ending)
 
 -- A run follows the plain machine, and where the memory did not end it, leaves the plain machine's memory.
 pub record FollowsWith (start : Machine) (budget retired : ℕ) (ending : Ending) (memory printed : List ℕ) : Type 0 where
@@ -45,22 +47,18 @@ Turns start budget (Some ending) retired core calls memory printed = FollowsWith
 abbrev pub retired_after : Option Ending → ℕ → ℕ
 retired_after None n = n + 1
 retired_after (Some (Halted code)) n = n + 1
-retired_after (Some (Trapped cause pc)) n = n
-retired_after (Some OutOfSteps) n = n
-retired_after (Some (Tampered place)) n = n
-retired_after (Some (Spent page)) n = n
-retired_after (Some WriteFault) n = n
-retired_after (Some NoMemory) n = n
+retired_after (Some _) n = n
+
+-- classes of endings that stop a program: the memory's and the sink's
+abbrev pub IsStopClass : EndingClass → Type 0
+IsStopClass ByProgram = ⊥
+IsStopClass ByProtection = Unit {0}
+IsStopClass BySink = Unit {0}
+IsStopClass ByEmulator = Unit {0}
 
 -- the memory or the sink ended it
 abbrev pub IsStop : Ending → Type 0
-IsStop (Halted code) = ⊥
-IsStop (Trapped cause pc) = ⊥
-IsStop OutOfSteps = ⊥
-IsStop (Tampered place) = Unit {0}
-IsStop (Spent page) = Unit {0}
-IsStop WriteFault = Unit {0}
-IsStop NoMemory = Unit {0}
+IsStop ending = IsStopClass (ending_class ending)
 
 -- how a run ends that the memory stops
 abbrev pub stop_ending : MemStop → Ending
