@@ -44,7 +44,7 @@ ok_where (Err (Spent page)) holds unspent going = absurd (unspent page refl)
 ok_where (Err NoMemory) holds unspent going = absurd (cc)
 
 -- a stop that is not of a spent page lasts
-lasts : (why : MemStop) → ((page : ℕ) → why ≢ Spent page) → lasting_stop (Some why) ≢ None
+pub lasts : (why : MemStop) → ((page : ℕ) → why ≢ Spent page) → lasting_stop (Some why) ≢ None
 lasts (Tampered place) unspent is = absurd (cc)
 lasts (Spent page) unspent is = unspent page refl
 lasts NoMemory unspent is = absurd (cc)

@@ -1,5 +1,5 @@
 -- What a read of a line makes of the lines outside.
-use Rattle.std.proofs.Common.{◌≡◌, ◌≢◌, inl, inr, ℕ, ◌<◌, ◌≤◌, List, [], ◌++◌, Option, Some, None, Result, Err, IfOk, refl, ap, sym, ◌∙◌, subst, arith}
+use Rattle.std.proofs.Common.{◌≡◌, ◌≢◌, inl, inr, ℕ, ◌<◌, ◌≤◌, List, [], ◌++◌, Option, Some, None, Contains, Result, Err, IfOk, OnOk, refl, ap, sym, ◌∙◌, subst, arith}
 use Rattle.std.specs.Option.{option_or}
 use Rattle.std.specs.Result.{result_err}
 use Rattle.std.proofs.lemmas.List.{append-nil}
@@ -19,7 +19,7 @@ use Rattle.pad_stream.specs.Pads.{AreRising}
 use Rattle.checked_bus.specs.Steps.{IsAccounted}
 use Rattle.checked_bus.specs.Steps.{unwritten_in}
 use Rattle.split_counter.specs.CounterBlock.{counter_of, place_of}
-use Rattle.counter_cache.specs.Counters.{CountersView}
+use Rattle.counter_cache.specs.Counters.{CountersView, cached_pages}
 use Rattle.page_reencrypt.specs.Contents.{ArePaged, AreUnskipped, AreWithin, IsSpent, bytes_of, contents_of, counter_in, line_bytes}
 use Rattle.page_reencrypt.specs.LineLengths.{length-line_bytes}
 use Rattle.page_reencrypt.specs.LineMoves.{ReadMoved}
@@ -40,6 +40,11 @@ lasts_itself (Some (Spent page)) stop lasting = absurd (cc)
 lasts_itself (Some (Tampered place)) stop lasting = lasting
 lasts_itself (Some NoMemory) stop lasting = lasting
 
+-- and lasts where it is answered again
+pub lasts_again : (stopped : Option MemStop) (stop : MemStop) → lasting_stop stopped ≡ Some stop → lasting_stop (Some stop) ≢ None
+lasts_again stopped stop lasting none =
+    let same : lasting_stop (Some stop) ≡ Some stop = subst (λ (s : Option MemStop). lasting_stop s ≡ Some stop) (lasts_itself stopped stop lasting) lasting in cc
+
 -- after a stop that lasts
 pub lasting_read : {B T : Type 0} (history : B → BusHistory) (bus_moved : B → B → Type 0) (tags : TagEngineView T → Message → List ℕ) →
     ((bus : B) → bus_moved bus bus) → (lines : SealedLinesView B T) (line : ℕ) (stop : MemStop) →
@@ -49,6 +54,7 @@ lasting_read history bus_moved tags bus_unmoved lines line stop lasting = record
   read = record { path = λ going uncached. absurd (cc); read = λ going quiet. absurd (cc) };
   stopped = lasts_itself lines.stopped stop lasting;
   copies = came_not (page_of line) (history lines.bus) lines.engine.made lines.counters;
+  cached = tt;
   fits = λ going quiet. absurd (cc);
   outside = λ going. absurd (cc);
 }
@@ -151,8 +157,8 @@ module _ {B T : Type 0} (d n : T → List ℕ → List ℕ) (history : B → Bus
   }
 
   -- how it moves
-  pub read_moved : ReadMoved history bus_moved (tags_of d n) m line result after
-  read_moved = record {
+  pub read_moved : OnOk result (Contains (cached_pages counters) (page_of line)) → ReadMoved history bus_moved (tags_of d n) m line result after
+  read_moved cached = record {
     moves = record {
       bus = r.bus;
       step = r.step;
@@ -182,6 +188,7 @@ module _ {B T : Type 0} (d n : T → List ℕ → List ℕ) (history : B → Bus
     };
     stopped = stops;
     copies = r.copies;
+    cached = cached;
     fits = read_kept.fits;
     outside = λ going. r;
   }

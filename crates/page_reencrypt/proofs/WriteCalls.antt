@@ -34,7 +34,7 @@ use Rattle.page_reencrypt.proofs.Entries.{encrypted_itself, encrypted_page, leng
 use Rattle.page_reencrypt.proofs.Kept.{none_before, pages_kept, protected_after, stop_accounted, stop_going, stop_lasts, stop_memory, stop_spent, stop_unwritten}
 use Rattle.page_reencrypt.proofs.Moves.{moves_not}
 use Rattle.page_reencrypt.proofs.Nodes.{not_node}
-use Rattle.page_reencrypt.proofs.ReadCalls.{contents_same, lasts_itself}
+use Rattle.page_reencrypt.proofs.ReadCalls.{contents_same, lasts_again, lasts_itself}
 use Rattle.page_reencrypt.proofs.Reaching.{came_not}
 use Rattle.page_reencrypt.proofs.Rises.{rises_after, used_on}
 use Rattle.page_reencrypt.proofs.Sealing.{listed_or_not}
@@ -75,6 +75,7 @@ lasting_write history bus_moved tags bus_unmoved lines line bytes stop lasting =
   moves = moves_not history bus_moved tags bus_unmoved lines;
   stopped = lasts_itself lines.stopped stop lasting;
   copies = came_not (page_of line) (history lines.bus) lines.engine.made lines.counters;
+  cached = λ going. absurd (lasts_again lines.stopped stop lasting going);
   fits = λ going quiet. absurd (cc);
   outside = λ going. absurd (cc);
   once = λ quiet short. (omega arith, λ other. refl);
@@ -186,7 +187,8 @@ module _ {B T : Type 0} (d n : T → List ℕ → List ℕ) (history : B → Bus
         (w.accounted before)));
   }
 
-  module _ (once : new.engine.evidence ≡ None → (next_counter (counter_in m.pads.used line)).line ≢ 0 →
+  module _ (cached : lasting_stop (result_err result) ≡ None → Contains (cached_pages counters) (page_of line))
+      (once : new.engine.evidence ≡ None → (next_counter (counter_in m.pads.used line)).line ≢ 0 →
       ((history new.bus).accesses ≤ (history m.bus).accesses + write_accesses m.engine.levels)
       × ((other : ℕ) → (history new.bus).reads (line_place other) ≡ (history m.bus).reads (line_place other)))
       (few : (history new.bus).accesses ≤ (history m.bus).accesses + overflow_accesses m.engine.levels)
@@ -198,6 +200,7 @@ module _ {B T : Type 0} (d n : T → List ℕ → List ℕ) (history : B → Bus
       moves = write_moves;
       stopped = stops;
       copies = w.copies;
+      cached = cached;
       fits = write_kept.fits;
       outside = λ going. w;
       once = once;
@@ -249,11 +252,17 @@ module _ {B T : Type 0} (d n : T → List ℕ → List ℕ) (history : B → Bus
     unwritten_to = w.unwritten none;
   }
 
-  pub write_reserved : OnErr result (((new.pads.used ≡ m.pads.used) × (new.engine.evidence ≡ None → SameCounters m after)) ⊎ HadMemory m after)
+  same_contents : w.count ≡ 0 → contents after ≡ contents m
+  same_contents none =
+      contents_same m.pads.key new.pads.key m.engine.levels new.engine.levels m.engine.made w.step.more new.engine.made w.key w.step.levels w.step.made
+      (none_sealed none).1
+
+  pub write_reserved : OnErr result (((new.pads.used ≡ m.pads.used) × (contents after ≡ contents m)
+      × (new.engine.evidence ≡ None → SameCounters m after)) ⊎ HadMemory m after)
   write_reserved =
       on_err result
       (elim w.reserved [
-        | inl same ↦ inl ((none_sealed same.0).0, same.1)
+        | inl same ↦ inl ((none_sealed same.0).0, same_contents same.0, same.1)
         | inr roomy ↦ inr (record { entries = roomy.0; messages = roomy.1 })
       ])
 
@@ -264,12 +273,7 @@ module _ {B T : Type 0} (d n : T → List ℕ → List ℕ) (history : B → Bus
 
   pub write_spent : (page : ℕ) → result ≡ Err (Spent page) → (page ≡ page_of line) × (contents after ≡ contents m) × IsUnsealed history m after
   write_spent page is =
-      let spent = w.spent page (ap result_err is) in (
-        spent.0,
-        contents_same m.pads.key new.pads.key m.engine.levels new.engine.levels m.engine.made w.step.more new.engine.made w.key w.step.levels w.step.made
-            (none_sealed spent.1).1,
-        unsealed_by spent.1,
-      )
+      let spent = w.spent page (ap result_err is) in (spent.0, same_contents spent.1, unsealed_by spent.1)
 
   pub write_spent_last : new.engine.evidence ≡ None → result ≡ Err (Spent (page_of line)) → counter_in m.pads.used line ≡ last_counter m.limit
   write_spent_last quiet is = (w.spent (page_of line) (ap result_err is)).2 quiet

@@ -1,5 +1,5 @@
 -- What a read and a write of a line make of the lines outside, with what they answer.
-use Rattle.std.specs.Prelude.{◌≡◌, ◌≢◌, ℕ, ◌+◌, ◌≤◌, List, Result, None, Contains}
+use Rattle.std.specs.Prelude.{◌≡◌, ◌≢◌, ℕ, ◌+◌, ◌≤◌, List, Result, None, OnOk, Contains}
 use Rattle.std.specs.Option.{option_or}
 use Rattle.std.specs.Result.{result_err}
 use Rattle.sec_base.specs.Geometry.{page_of}
@@ -44,6 +44,8 @@ module _ {B T : Type 0} (history : B → BusHistory) (bus_moved : B → B → Ty
     pub read : WasRead history old line new
     pub stopped : new.stopped ≡ option_or (result_err answer) old.stopped
     pub copies : CopiesCame (page_of line) (history old.bus) (made old) old.counters (history new.bus) new.counters
+    -- where it was read, its page's counter block has a copy then
+    pub cached : OnOk answer (Contains (cached_pages new.counters) (page_of line))
     pub fits : FitsUnlessStopped new
     pub outside : lasting_stop old.stopped ≡ None →
         IsLineRead (terms_in old) line (outside_of old) old.counters (outside_of new) new.counters answer
@@ -53,6 +55,8 @@ module _ {B T : Type 0} (history : B → BusHistory) (bus_moved : B → B → Ty
     pub moves : Moves history bus_moved tags old new
     pub stopped : new.stopped ≡ option_or (result_err answer) old.stopped
     pub copies : CopiesCame (page_of line) (history old.bus) (made old) old.counters (history new.bus) new.counters
+    -- where it was written or is spent, its page's counter block has a copy then
+    pub cached : lasting_stop (result_err answer) ≡ None → Contains (cached_pages new.counters) (page_of line)
     pub fits : FitsUnlessStopped new
     pub outside : lasting_stop old.stopped ≡ None →
         IsWrite (terms_in old) old.limit line bytes (outside_of old) old.counters (outside_of new) new.counters (result_err answer)

@@ -150,6 +150,7 @@ impl<B: Bus, T: Tagger> Outside<B, T> {
         ensures idle { (B.history self.new.bus ≡ B.history self.old.bus) × (self.new.engine ≡ self.old.engine) }
         ensures pads { self.new.pads ≡ self.old.pads }
         ensures levels { counters.new.tree.levels ≡ counters.old.tree.levels }
+        ensures cached { Contains (cached_pages counters.new) page }
         ensures copies { CopiesCame page (B.history self.old.bus) self.old.engine.made counters.old (B.history self.new.bus) counters.new }
 
         // Where the counters fit or there is evidence, they still do, and the line's counter is the next one.

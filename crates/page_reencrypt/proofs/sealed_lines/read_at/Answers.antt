@@ -1,4 +1,4 @@
-use Rattle.std.proofs.Common.{◌≡◌, ℕ, List, Some, None, Contains, Result, Ok, Err, refl, ap, sym, subst, rules}
+use Rattle.std.proofs.Common.{◌≡◌, ℕ, List, Some, None, Contains, Result, Ok, Err, OnOk, refl, ap, sym, subst, rules}
 use Rattle.sec_base.specs.declared.counter.Counter.{Counter}
 use Rattle.sec_base.specs.declared.stop.MemStop.{MemStop}
 use Rattle.bus_model.specs.BusHistory.{BusHistory}
@@ -9,6 +9,7 @@ use Rattle.page_reencrypt.specs.Outside.{HasCounter, IsLineRead, terms_of}
 use Rattle.page_reencrypt.proofs.NextWrites.{HadCounters, counter_here, ok_where}
 use Rattle.page_reencrypt.proofs.ReadSteps.{line_read, ok_same, unread}
 use Rattle.page_reencrypt.proofs.Reaching.{IsReached}
+use Rattle.sec_base.proofs.Results.{on_success}
 use Rattle.split_counter.specs.CounterBlock.{block_of, bumped}
 use Rattle.page_reencrypt.proofs.sealed_lines.read_at.Goals as goal
 
@@ -40,6 +41,7 @@ returns-in_err-block g c =
           (λ place same.
           let there = e.tampered place (ap (λ (s : MemStop). Err s) same) in (there.0, there.1 c.requires.fits))
           (λ page same. e.unspent page (ap (λ (s : MemStop). Err s) same)) e.copies);
+      cached = subst (λ (r : Result (List ℕ) MemStop). OnOk r (Contains (cached_pages c.get.new.counters) (page_of c.args.line))) (sym is) tt;
     }
 
 pub read-requires-clause-counter : goal.read-requires-clause-counter
@@ -107,4 +109,5 @@ returns g c =
           (e.checked c.in_ok-block.block refl)
           (g.met.B.Bus.moved_on old.bus c.get.new.self.bus c.read.new.self.bus e.step.bus r.moved) r.counted r.once r.alone r.value r.fresh r.rose
           r.accounted r.shows r.found r.under r.accepted r.tampered r.unspent;
+      cached = on_success c.read.result (λ none. subst (λ (p : ℕ). Contains (cached_pages c.get.new.counters) p) c.page_of.ensures.page e.cached);
     }

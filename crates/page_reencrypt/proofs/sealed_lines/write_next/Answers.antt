@@ -15,7 +15,8 @@ use Rattle.checked_bus.proofs.TaggedWrites.{wrote_once}
 use Rattle.counter_cache.specs.Counters.{cached_pages, counters_in}
 use Rattle.page_reencrypt.specs.Outside.{IsWrite, OutsideView, terms_of}
 use Rattle.page_reencrypt.specs.SealedLines.{CopiesCame}
-use Rattle.page_reencrypt.proofs.NextWrites.{HadCounters, counted_up, counter_here, is_last, line_unwritten, line_written, mid_counters, mid_inside, mid_kept, mid_last, mid_later, mid_rooms, mid_rose, ok_where, page_overflows, page_written, refused_reached, say_same, spent_after, spent_early, stopped_early}
+use Rattle.page_reencrypt.specs.Stops.{lasting_stop}
+use Rattle.page_reencrypt.proofs.NextWrites.{HadCounters, counted_up, counter_here, is_last, lasts, line_unwritten, line_written, mid_counters, mid_inside, mid_kept, mid_last, mid_later, mid_rooms, mid_rose, ok_where, page_overflows, page_written, refused_reached, say_same, spent_after, spent_early, stopped_early}
 use Rattle.page_reencrypt.proofs.Reaching.{IsReached}
 use Rattle.page_reencrypt.proofs.Reencrypting.{one_access}
 use Rattle.page_reencrypt.proofs.sealed_lines.write_next.Goals as goal
@@ -90,6 +91,17 @@ returns-in-Spent-clause-written g c =
     let was_quiet = was_none old.engine.evidence c.get.new.self.engine.evidence e.step.step.evidence quiet in
     here ∙ is_last c.args.limit c.get-2.result full.0 full.1 (subst (λ (k : Counter). k.page ≤ c.args.limit) here (c.requires.limited was_quiet)))
     (λ quiet last. (e.same c.requires.fits quiet, e.once)) copies
+
+pub returns-in_err-block-clause-cached : goal.returns-in_err-block-clause-cached
+returns-in_err-block-clause-cached g c = λ going.
+    let why = c.in_err-block.field-0.0 in
+    let stop : result_err c.from_residual.result ≡ Some why = search rules in
+    absurd (lasts why (λ page is. c.in_err-block.ensures.unspent page (ap (λ (s : MemStop). Err s) is))
+    (subst (λ (s : Option MemStop). lasting_stop s ≡ None) stop going))
+
+pub returns-in-Spent-clause-cached : goal.returns-in-Spent-clause-cached
+returns-in-Spent-clause-cached g c = λ going.
+    subst (λ (p : ℕ). Contains (cached_pages c.get.new.counters) p) c.page_of-page.ensures.page c.in_ok-block.ensures.cached
 
 pub returns-in_err-block-clause-hit : goal.returns-in_err-block-clause-hit
 returns-in_err-block-clause-hit g c = λ cached quiet short.
@@ -187,6 +199,7 @@ returns-in_err-reserve g c =
             omega (arith, e.once, same_accesses),
           ))
           (subst (λ (t : BusHistory). CopiesCame (page_of c.args.line) (h old.bus) old.engine.made counters t c.get.new.counters) (sym same_bus) copies));
+      cached = λ going. subst (λ (p : ℕ). Contains (cached_pages c.get.new.counters) p) c.page_of-page.ensures.page e.cached;
       once = λ quiet short. (
         omega (arith, e.once, same_accesses),
         λ other. ap (λ (t : BusHistory). t.reads (line_place other)) same_bus ∙ e.step.lines.reads other,
@@ -246,6 +259,7 @@ returns-in-Spent-2 g c =
       written = spent_after h m d n old counters c.requires.current c.args.limit c.args.line c.page_of-page.result c.place_of-place.result c.get.new.self c.get.new.counters
           c.in_ok-block.block c.get-2.result c.of.result had (g.met.B.Bus.unmoved c.get.new.self.bus) g.met.B.Bus.moved_on c.reserve.new.self c.bump.new.self c.bump.new.counters
           c.in_ok-counter.field-0 up c.args.bytes.now c.requires.risen c.in-Spent-2.is c.in_default.not-Spent;
+      cached = λ going. subst (λ (p : ℕ). Contains (cached_pages c.bump.new.counters) p) c.page_of-page.ensures.page u.cached;
       once = λ quiet short. (
         omega (arith, e.once, same_accesses, bumped_accesses, same_levels),
         λ other. ap (λ (t : BusHistory). t.reads (line_place other)) u.idle.0 ∙ ap (λ (t : BusHistory). t.reads (line_place other)) same_bus ∙ e.step.lines.reads other,
@@ -309,6 +323,7 @@ returns-in_err-seal-in-Line g c =
           c.in_ok-counter.field-0 up c.requires.started e.read c.args.bytes.now c.in-Line.counter c.in-Line.is
           (u.is_line c.in-Line.counter (ap (λ o. Ok o) c.in-Line.is)) c.of.ensures.line c.seal.new.self s.used s.made s.undone s.moves s.moved s.honest
           c.requires.risen same_last);
+      cached = λ going. subst (λ (p : ℕ). Contains (cached_pages c.bump.new.counters) p) c.page_of-page.ensures.page u.cached;
       once = λ quiet short. (
         omega (arith, e.once, same_accesses, bumped_accesses, same_levels, last_accesses),
         λ other. ap (λ (t : BusHistory). t.reads (line_place other)) same_last ∙ ap (λ (t : BusHistory). t.reads (line_place other)) u.idle.0
@@ -374,6 +389,7 @@ returns-in_ok-seal-in-Line g c =
           c.in_ok-counter.field-0 up c.requires.started e.read c.args.bytes.now c.in-Line.counter c.in-Line.is
           (u.is_line c.in-Line.counter (ap (λ o. Ok o) c.in-Line.is)) c.of.ensures.line c.seal.new.self s.used s.made s.undone s.moves s.moved s.honest
           c.requires.risen wrote;
+      cached = λ going. subst (λ (p : ℕ). Contains (cached_pages c.bump.new.counters) p) c.page_of-page.ensures.page u.cached;
       once = λ quiet short. (
         omega (arith, e.once, same_accesses, bumped_accesses, same_levels, last_accesses),
         λ other. ap (λ (f : Place → ℕ). f (line_place other)) one.reads ∙ ap (λ (t : BusHistory). t.reads (line_place other)) u.idle.0
@@ -499,6 +515,7 @@ returns-in-Page g c =
           c.in_ok-block.block c.get-2.result c.of.result had (g.met.B.Bus.unmoved c.get.new.self.bus) g.met.B.Bus.moved_on c.reserve.new.self c.bump.new.self c.bump.new.counters
           c.in_ok-counter.field-0 up c.requires.started e.read c.args.bytes.now c.in-Page.raised c.in-Page.is c.of.ensures.overflow
           c.reencrypt_page.new.self (result_err c.reencrypt_page.result) p.sealed;
+      cached = λ going. subst (λ (p : ℕ). Contains (cached_pages c.bump.new.counters) p) c.page_of-page.ensures.page u.cached;
       once = λ quiet short. absurd (short (page_overflows h m d n old counters c.requires.current c.args.limit c.args.line c.page_of-page.result c.place_of-place.result c.get.new.self c.get.new.counters
           c.in_ok-block.block c.get-2.result c.of.result had (g.met.B.Bus.unmoved c.get.new.self.bus) g.met.B.Bus.moved_on c.reserve.new.self c.bump.new.self c.bump.new.counters
           c.in_ok-counter.field-0 up c.requires.started e.read c.args.bytes.now c.in-Page.raised c.in-Page.is c.of.ensures.overflow

@@ -7,6 +7,9 @@ use Rattle.page_reencrypt.proofs.outside.Outside.bump.Goals as goal
 pub returns-clause-idle : goal.returns-clause-idle
 returns-clause-idle g c = rw (← c.self.view_is) (c.bump.ensures.idle c.requires.cached)
 
+pub returns-clause-cached : goal.returns-clause-cached
+returns-clause-cached g c = ok_gives c.bump.result (c.bump.ensures.hit c.requires.cached) c.bump.ensures.cached
+
 pub returns-clause-copies : goal.returns-clause-copies
 returns-clause-copies g c =
     let e = c.bump.ensures in

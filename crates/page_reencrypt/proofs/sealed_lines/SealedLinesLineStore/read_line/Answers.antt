@@ -77,7 +77,7 @@ returns-clause-moved g c =
     let stops : c.or-self-inside.result ≡ option_or (result_err c.read_at-read.result) lines.stopped =
     c.or-self-inside.ensures ∙ ap (λ (o : Option MemStop). option_or o lines.stopped) c.err.ensures.value in
     rw (← c.self.view_is) (read_moved g.T.Tagger.data_tag_of g.T.Tagger.node_tag_of g.B.Bus.history g.B.Bus.moved lines c.args.line c.self.invariant.1 going inside new counters
-    c.read_at-read.result c.read_at-read.ensures.read c.or-self-inside.result stops)
+    c.read_at-read.result c.read_at-read.ensures.read c.or-self-inside.result stops c.read_at-read.ensures.cached)
 
 pub returns-clause-unsealed : goal.returns-clause-unsealed
 returns-clause-unsealed g c =

@@ -10,6 +10,7 @@ use Rattle.page_reencrypt.specs.SealedLines.{SealedLinesView}
 use Rattle.page_reencrypt.specs.SealedLinesInside.{sealed_lines_view}
 use Rattle.page_reencrypt.specs.Stops.{lasting_stop}
 use Rattle.page_reencrypt.proofs.Kept.{kept_limited}
+use Rattle.page_reencrypt.proofs.ReadCalls.{lasts_again}
 use Rattle.page_reencrypt.proofs.Reaching.{came_not}
 use Rattle.page_reencrypt.proofs.WriteCalls.{lasting_write, sealed_none, write_failed, write_kept, write_last_untampered, write_moved, write_refused, write_reread, write_reserved, write_sealed, write_sealed_in_part, write_spent, write_spent_last, write_stored, write_tampered, write_untampered, write_used_up}
 use Rattle.page_reencrypt.proofs.sealed_lines.SealedLinesLineStore.write_line.Goals as goal
@@ -24,6 +25,10 @@ returns-in-Some-clause-moved g c =
 
 pub returns-in-Some-clause-sealed_in_part : goal.returns-in-Some-clause-sealed_in_part
 returns-in-Some-clause-sealed_in_part g c = sealed_none c.args.line c.args.bytes.now c.args.self.now
+
+pub returns-in-Some-clause-cached : goal.returns-in-Some-clause-cached
+returns-in-Some-clause-cached g c = λ going.
+    absurd (lasts_again (sealed_lines_view c.self.inside).stopped c.in-Some.stop (sym c.lasting.ensures ∙ c.in-Some.is) going)
 
 pub returns-in-Some-clause-copies : goal.returns-in-Some-clause-copies
 returns-in-Some-clause-copies g c =
@@ -103,7 +108,7 @@ returns-clause-moved g c =
     let stops : c.or-self-inside.result ≡ option_or (result_err c.write_next-written.result) lines.stopped =
     c.or-self-inside.ensures ∙ ap (λ (o : Option MemStop). option_or o lines.stopped) c.err.ensures.value in
     rw (← c.self.view_is) (write_moved g.T.Tagger.data_tag_of g.T.Tagger.node_tag_of g.B.Bus.history g.B.Bus.moved lines c.args.line c.args.bytes.now c.self.invariant.1 going inside new counters
-    c.write_next-written.result c.write_next-written.ensures.written c.or-self-inside.result stops c.write_next-written.ensures.once c.write_next-written.ensures.few c.write_next-written.ensures.hit c.write_next-written.ensures.hit_overflow)
+    c.write_next-written.result c.write_next-written.ensures.written c.or-self-inside.result stops c.write_next-written.ensures.cached c.write_next-written.ensures.once c.write_next-written.ensures.few c.write_next-written.ensures.hit c.write_next-written.ensures.hit_overflow)
 
 pub returns-clause-sealed : goal.returns-clause-sealed
 returns-clause-sealed g c =
