@@ -1,0 +1,2 @@
+pub mod PrefixTagger
+pub mod ReplayBus

@@ -1,0 +1,13 @@
+-- A bus that replays what stood at its places before.
+use Rattle.std.specs.Prelude.{None}
+use Rattle.sec_base.specs.Count.{top}
+use Rattle.bus_model.specs.BusHistory.{BusHistory}
+use Rattle.bus_model.specs.HonestBus.{HonestBusView, honest_history}
+
+-- A history with as many false answers as can be counted: any further answer may be false.
+abbrev pub lied_out : BusHistory → BusHistory
+lied_out history = record history { lies = top; lie = None }
+
+-- What such a bus was asked and answered.
+abbrev pub replay_history : HonestBusView → BusHistory
+replay_history kept = lied_out (honest_history kept)

@@ -1,0 +1,191 @@
+// A bus that answers what stood there before.
+ghost use Rattle.std.specs.Prelude.{◌≡◌, IfOk};
+ghost use Rattle.bus_model.specs.BusHistory.{NothingWritten};
+ghost use Rattle.fakes.specs.ReplayBus.{replay_history};
+
+use bus_model::{Bus, HonestBus};
+use sec_base::{Geometry, NoMemory, Place, Sealed};
+use std::alloc::Global;
+use std::marker::Model;
+
+/// What is replayed, and from when on.
+#[derive(Clone, Copy, Debug)]
+pub struct Replay {
+    /// The line whose path is replayed.
+    pub line: u32,
+    /// Whether the line is replayed too.
+    pub with_line: bool,
+    /// The nodes on its path below this level, which is 3 at most.
+    pub below: u8,
+    /// It begins as this place is written for so many times.
+    pub start: Place,
+    pub writes: u64,
+}
+
+/// A bus that answers what a line and nodes on its path held before they were written last. To contracts it has answered
+/// falsely as often as can be counted from the start.
+#[derive(Drop)]
+pub struct ReplayBus {
+    bus: HonestBus,
+    stale: Stale,
+    lies: u64,
+}
+
+impl Model for ReplayBus {
+    ghost use Rattle.bus_model.specs.HonestBus.{HonestBusView};
+
+    ghost Value = { HonestBusView };
+
+    ghost view = { λ bus. bus.bus };
+}
+
+impl ReplayBus {
+    pub fn new(alloc: Global, geometry: Geometry, replay: Replay) -> Result<ReplayBus, NoMemory>
+        ensures nothing_written { IfOk result (λ bus. NothingWritten (replay_history bus)) }
+        ensures levels { IfOk result (λ bus. (replay_history bus).levels ≡ geometry) }
+    {
+        Ok(ReplayBus {
+            bus: HonestBus::new(alloc, geometry)?,
+            stale: Stale::new(replay),
+            lies: 0,
+        })
+    }
+
+    /// How many answers were false.
+    pub fn lies(&self) -> u64 {
+        self.lies
+    }
+}
+
+impl Bus for ReplayBus {
+    ghost history = { replay_history };
+
+    ghost moved = { λ _ _. Unit {0} };
+
+    ghost unmoved = { λ _. tt };
+
+    ghost moved_on = { λ _ _ _ _ _. tt };
+
+    fn read_data(&mut self, line: u32) -> Result<Sealed, NoMemory> {
+        let sealed = self.bus.read_data(line)?;
+        let answer = self.stale.line(line).unwrap_or(sealed);
+        self.lies = self.lies.saturating_add(u64::from(answer != sealed));
+        Ok(answer)
+    }
+
+    fn write_data(&mut self, line: u32, sealed: &Sealed) -> Result<(), NoMemory> {
+        self.bus.write_data(line, sealed)?;
+        self.stale.keep_line(line, sealed);
+        Ok(())
+    }
+
+    fn read_node(&mut self, level: u8, index: u32) -> Result<[u8; 64], NoMemory> {
+        let block = self.bus.read_node(level, index)?;
+        let answer = self.stale.node(level, index).unwrap_or(block);
+        self.lies = self.lies.saturating_add(u64::from(answer != block));
+        Ok(answer)
+    }
+
+    fn write_node(&mut self, level: u8, index: u32, block: &[u8; 64]) -> Result<(), NoMemory> {
+        self.bus.write_node(level, index, block)?;
+        self.stale.keep_node(level, index, block);
+        Ok(())
+    }
+}
+
+// A node on the path: what stands at its place, and what stood there before.
+#[derive(Clone, Copy, Debug)]
+struct PathNode {
+    index: u32,
+    last: [u8; 64],
+    before: [u8; 64],
+}
+
+impl PathNode {
+    fn new(index: u32) -> PathNode {
+        PathNode {
+            index,
+            last: [0; 64],
+            before: [0; 64],
+        }
+    }
+}
+
+// What stands at the places of the line and of the nodes on its path, from the counter block up, and what stood there before
+// the last write; and how often the place was written that begins it.
+#[derive(Clone, Copy, Debug)]
+struct Stale {
+    replay: Replay,
+    writes: u64,
+    last: Sealed,
+    before: Sealed,
+    path: [PathNode; 3],
+}
+
+impl Stale {
+    fn new(replay: Replay) -> Stale {
+        let zeros = Sealed {
+            cipher: [0; 64],
+            tag: [0; 16],
+        };
+        let page = replay.line / 64;
+        Stale {
+            replay,
+            writes: 0,
+            last: zeros,
+            before: zeros,
+            path: [
+                PathNode::new(page),
+                PathNode::new(page / 4),
+                PathNode::new(page / 16),
+            ],
+        }
+    }
+
+    fn count(&mut self, place: Place) {
+        if place == self.replay.start {
+            self.writes = self.writes.saturating_add(1);
+        }
+    }
+
+    fn keep_line(&mut self, line: u32, sealed: &Sealed) {
+        self.count(Place::Line(line));
+        if line == self.replay.line {
+            self.before = self.last;
+            self.last = *sealed;
+        }
+    }
+
+    fn keep_node(&mut self, level: u8, index: u32, block: &[u8; 64]) {
+        self.count(Place::Node { level, index });
+        if let Some(node) = self.path.get_mut(usize::from(level)) {
+            if node.index == index {
+                node.before = node.last;
+                node.last = *block;
+            }
+        }
+    }
+
+    fn has_begun(&self) -> bool {
+        self.writes >= self.replay.writes
+    }
+
+    // What is replayed of a line, if it is one that is.
+    fn line(&self, line: u32) -> Option<Sealed> {
+        if self.replay.with_line && self.has_begun() && line == self.replay.line {
+            Some(self.before)
+        } else {
+            None
+        }
+    }
+
+    // What is replayed of a node, if it is one that is.
+    fn node(&self, level: u8, index: u32) -> Option<[u8; 64]> {
+        let node = self.path.get(usize::from(level))?;
+        if level < self.replay.below && self.has_begun() && node.index == index {
+            Some(node.before)
+        } else {
+            None
+        }
+    }
+}
