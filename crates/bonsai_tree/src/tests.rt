@@ -1,15 +1,11 @@
 // Boot, fetch and update over real buses: the order and the number of accesses, false answers and want of memory.
-ghost use Rattle.std.specs.Prelude.{◌≡◌, ◌<◌, [], ◌∷◌, refl, replicate, slice_index, IfOk, OnOk, OnErr};
-ghost use Rattle.sec_base.specs.Evidence.{sealed_bytes};
-ghost use Rattle.sec_base.specs.Place.{IsPlace};
-ghost use Rattle.sec_base.specs.declared.place.Place.TheVariants.{Line as line_place, Node as node_place};
-ghost use Rattle.bus_model.specs.BusHistory.{NothingWritten, after_read, after_write, new_history};
+ghost use Rattle.std.specs.Prelude.{◌≡◌, [], ◌∷◌, refl, replicate, slice_index};
 ghost use Rattle.bus_model.specs.FlipBus.{flip_history};
-ghost use Rattle.bus_model.specs.HonestBus.{honest_history};
 
 use crate::Tree;
-use bus_model::{Bus, FlipBus, HonestBus};
-use sec_base::{Evidence, Geometry, MemStop, Message, NoMemory, Place, Sealed, Tagger};
+use bus_model::Bus;
+use fakes::{Access, CountingBus, ZeroTagger};
+use sec_base::{Evidence, Geometry, MemStop, Message, NoMemory, Place, Tagger};
 use std::alloc::Global;
 use std::process::Abort;
 use std::test::Fail;
@@ -40,116 +36,10 @@ impl Tagger for Quarters {
     }
 }
 
-// Gives zeros to every message.
-#[derive(Drop)]
-struct Zeros;
-
-impl Tagger for Zeros {
-    ghost data_tag_of = { λ _ _. replicate 16 0 };
-
-    ghost node_tag_of = { λ _ _. replicate 16 0 };
-
-    ghost data_tag_long = { λ _ _. refl };
-
-    ghost node_tag_long = { λ _ _. refl };
-
-    fn data_tag(&self, _: &[u8; 78]) -> [u8; 16] {
-        [0; 16]
-    }
-
-    fn node_tag(&self, _: &[u8; 70]) -> [u8; 16] {
-        [0; 16]
-    }
-}
-
-// What was asked of a node.
-#[derive(Clone, Copy, PartialEq, Debug)]
-enum Asked {
-    Read(u8, u32),
-    Write(u8, u32),
-}
-
-// An honest bus that answers so many calls, and keeps those of nodes in order.
-#[derive(Drop)]
-struct CountingBus {
-    bus: HonestBus,
-    left: u64,
-    asked: Vec<Asked>,
-}
-
-impl CountingBus {
-    fn new(alloc: Global, geometry: Geometry, left: u64) -> Result<CountingBus, NoMemory>
-        ensures nothing_written { IfOk result (λ bus. NothingWritten (honest_history bus.bus)) }
-        ensures levels { IfOk result (λ bus. (honest_history bus.bus).levels ≡ geometry) }
-    {
-        let bus = HonestBus::new(alloc, geometry)?;
-        Ok(CountingBus {
-            bus,
-            left,
-            asked: Vec::new(alloc),
-        })
-    }
-}
-
-impl Bus for CountingBus {
-    ghost history = { λ counting. honest_history counting.bus };
-
-    ghost moved = { λ _ _. Unit {0} };
-
-    ghost unmoved = { λ _. tt };
-
-    ghost moved_on = { λ _ _ _ _ _. tt };
-
-    fn read_data(&mut self, line: u32) -> Result<Sealed, NoMemory> {
-        self.bus.read_data(line)
-    }
-
-    fn write_data(&mut self, line: u32, sealed: &Sealed) -> Result<(), NoMemory> {
-        self.bus.write_data(line, sealed)
-    }
-
-    fn read_node(&mut self, level: u8, index: u32) -> Result<[u8; 64], NoMemory> {
-        if self.left == 0 {
-            return Err(NoMemory);
-        }
-        self.left -= 1;
-        self.asked.push(Asked::Read(level, index))?;
-        self.bus.read_node(level, index)
-    }
-
-    fn write_node(&mut self, level: u8, index: u32, block: &[u8; 64]) -> Result<(), NoMemory> {
-        if self.left == 0 {
-            return Err(NoMemory);
-        }
-        self.left -= 1;
-        self.asked.push(Asked::Write(level, index))?;
-        self.bus.write_node(level, index, block)
-    }
-}
-
-// A bus that changes a bit of its `k`-th answer from a node's place.
-fn flipping(
-    alloc: Global,
-    geometry: Geometry,
-    place: Place,
-    k: u64,
-    offset: u8,
-) -> Result<FlipBus, NoMemory>
-    requires { offset < 64 }
-
-    ensures nothing_written { IfOk result (λ bus. NothingWritten (flip_history bus)) }
-    ensures levels { IfOk result (λ bus. (flip_history bus).levels ≡ geometry) }
-{
-    FlipBus::new(alloc, geometry, place, k, offset, 1)
-}
-
-// More calls than any test makes.
-const MANY: u64 = 10_000_000;
-
 #[test]
 fn boot_writes_the_children_by_slot_and_then_the_node(rt: HostRuntime) -> Result<(), Fail> {
     let geometry = Geometry::new(2).ok_or("no geometry")?;
-    let mut bus = CountingBus::new(rt.alloc(), geometry, MANY)?;
+    let mut bus = CountingBus::honest(rt.alloc(), geometry)?;
     let mut tags = TagEngine::new(rt.alloc(), Quarters, geometry)?;
     let _tree = Tree::boot(rt.alloc(), geometry, &mut bus, &mut tags)?;
     let order: [(u8, u32); 21] = [
@@ -175,9 +65,9 @@ fn boot_writes_the_children_by_slot_and_then_the_node(rt: HostRuntime) -> Result
         (1, 3),
         (2, 0),
     ];
-    assert_eq!(rt; bus.asked.len(), order.len());
-    for (asked, (level, index)) in bus.asked.iter().zip(order.iter()) {
-        assert_eq!(rt; *asked, Asked::Write(*level, *index));
+    assert_eq!(rt; bus.log().len(), order.len());
+    for (access, (level, index)) in bus.log().iter().zip(order.iter()) {
+        assert_eq!(rt; *access, Access::WriteNode(*level, *index));
     }
     let (made, evidence) = tags.finish();
     assert_eq!(rt; made.len(), 21);
@@ -192,7 +82,7 @@ struct Counted {
     bus: CountingBus,
     tags: TagEngine<Quarters>,
     tree: Tree,
-    ghost bus_fits: { (honest_history bus.bus).levels ≡ geometry },
+    ghost bus_fits: { (flip_history bus).levels ≡ geometry },
     ghost engine_fits: { tags.levels ≡ geometry },
     ghost tree_fits: { tree.levels ≡ geometry },
 }
@@ -201,10 +91,10 @@ impl Counted {
     // A new tree, of whose boot nothing is kept.
     fn new(alloc: Global, levels: u8) -> Result<Counted, Fail> {
         let geometry = Geometry::new(levels).ok_or("no geometry")?;
-        let mut bus = CountingBus::new(alloc, geometry, MANY)?;
+        let mut bus = CountingBus::honest(alloc, geometry)?;
         let mut tags = TagEngine::new(alloc, Quarters, geometry)?;
         let tree = Tree::boot(alloc, geometry, &mut bus, &mut tags)?;
-        bus.asked.clear();
+        bus.clear_log();
         Ok(Counted {
             geometry,
             bus,
@@ -224,16 +114,16 @@ impl Counted {
     }
 
     // Whether this was asked since the last call of it, in this order.
-    fn asked(&mut self, asked: &[Asked]) -> bool {
-        let same = self.bus.asked.as_slice() == asked;
-        self.bus.asked.clear();
+    fn asked(&mut self, asked: &[Access]) -> bool {
+        let same = self.bus.log() == asked;
+        self.bus.clear_log();
         same
     }
 
     // How often anything was asked since the last call of it.
     fn accesses(&mut self) -> usize {
-        let count = self.bus.asked.len();
-        self.bus.asked.clear();
+        let count = self.bus.log().len();
+        self.bus.clear_log();
         count
     }
 
@@ -262,29 +152,35 @@ fn a_changed_node_is_written_when_it_goes_out(rt: HostRuntime) -> Result<(), Fai
     tree.update(&rt, 0, &[9; 64])?;
     assert!(rt;
         tree.asked(&[
-            Asked::Read(4, 0),
-            Asked::Read(3, 0),
-            Asked::Read(2, 0),
-            Asked::Read(1, 0),
-            Asked::Write(0, 0),
+            Access::ReadNode(4, 0),
+            Access::ReadNode(3, 0),
+            Access::ReadNode(2, 0),
+            Access::ReadNode(1, 0),
+            Access::WriteNode(0, 0),
         ])
     );
     assert_eq!(rt; tree.fetch(&rt, 1), Ok([0; 64]));
-    assert!(rt; tree.asked(&[Asked::Read(0, 1)]));
+    assert!(rt; tree.asked(&[Access::ReadNode(0, 1)]));
     assert_eq!(rt; tree.fetch(&rt, 32), Ok([0; 64]));
-    assert!(rt; tree.asked(&[Asked::Read(2, 2), Asked::Read(1, 8), Asked::Read(0, 32),]));
+    assert!(rt;
+        tree.asked(&[
+            Access::ReadNode(2, 2),
+            Access::ReadNode(1, 8),
+            Access::ReadNode(0, 32),
+        ])
+    );
     assert_eq!(rt; tree.fetch(&rt, 64), Ok([0; 64]));
     assert!(rt;
         tree.asked(&[
-            Asked::Write(1, 0),
-            Asked::Read(3, 1),
-            Asked::Read(2, 4),
-            Asked::Read(1, 16),
-            Asked::Read(0, 64),
+            Access::WriteNode(1, 0),
+            Access::ReadNode(3, 1),
+            Access::ReadNode(2, 4),
+            Access::ReadNode(1, 16),
+            Access::ReadNode(0, 64),
         ])
     );
     assert_eq!(rt; tree.fetch(&rt, 0), Ok([9; 64]));
-    assert!(rt; tree.asked(&[Asked::Read(1, 0), Asked::Read(0, 0)]));
+    assert!(rt; tree.asked(&[Access::ReadNode(1, 0), Access::ReadNode(0, 0)]));
     Ok(())
 }
 
@@ -295,19 +191,19 @@ fn climbing(rt: &impl Abort, alloc: Global) -> Result<Counted, Fail> {
     for (page, byte) in [(0, 1), (128, 2), (256, 3)] {
         tree.update(rt, page, &[byte; 64])?;
     }
-    tree.bus.asked.clear();
+    tree.bus.clear_log();
     Ok(tree)
 }
 
 // A fetch of page 384 needs node (1, 96), for which (1, 32) goes out, whose parent (2, 8) has no copy: for that (2, 0) goes out.
-const CLIMB: [Asked; 7] = [
-    Asked::Write(2, 0),
-    Asked::Read(2, 8),
-    Asked::Write(1, 32),
-    Asked::Read(3, 6),
-    Asked::Read(2, 24),
-    Asked::Read(1, 96),
-    Asked::Read(0, 384),
+const CLIMB: [Access; 7] = [
+    Access::WriteNode(2, 0),
+    Access::ReadNode(2, 8),
+    Access::WriteNode(1, 32),
+    Access::ReadNode(3, 6),
+    Access::ReadNode(2, 24),
+    Access::ReadNode(1, 96),
+    Access::ReadNode(0, 384),
 ];
 
 #[test]
@@ -318,18 +214,24 @@ fn a_node_goes_out_for_the_parent_of_one_that_goes_out(rt: HostRuntime) -> Resul
     assert_eq!(rt; tree.fetch(&rt, 0), Ok([1; 64]));
     assert!(rt;
         tree.asked(&[
-            Asked::Write(2, 8),
-            Asked::Read(2, 16),
-            Asked::Write(1, 64),
-            Asked::Read(2, 0),
-            Asked::Read(1, 0),
-            Asked::Read(0, 0),
+            Access::WriteNode(2, 8),
+            Access::ReadNode(2, 16),
+            Access::WriteNode(1, 64),
+            Access::ReadNode(2, 0),
+            Access::ReadNode(1, 0),
+            Access::ReadNode(0, 0),
         ])
     );
     assert_eq!(rt; tree.fetch(&rt, 256), Ok([3; 64]));
-    assert!(rt; tree.asked(&[Asked::Read(1, 64), Asked::Read(0, 256)]));
+    assert!(rt; tree.asked(&[Access::ReadNode(1, 64), Access::ReadNode(0, 256)]));
     assert_eq!(rt; tree.fetch(&rt, 128), Ok([2; 64]));
-    assert!(rt; tree.asked(&[Asked::Read(2, 8), Asked::Read(1, 32), Asked::Read(0, 128),]));
+    assert!(rt;
+        tree.asked(&[
+            Access::ReadNode(2, 8),
+            Access::ReadNode(1, 32),
+            Access::ReadNode(0, 128),
+        ])
+    );
     Ok(())
 }
 
@@ -347,9 +249,13 @@ fn a_call_that_writes_other_nodes_is_refused_at_each_access(rt: HostRuntime) -> 
         (6, 1371, 1372),
     ];
     for (left, by_fetch, by_update) in rows {
-        for (updates, messages) in [(false, by_fetch), (true, by_update)] {
+        let calls = [
+            (false, by_fetch, Access::ReadNode(0, 384)),
+            (true, by_update, Access::WriteNode(0, 384)),
+        ];
+        for (updates, messages, last) in calls {
             let mut tree = climbing(&rt, rt.alloc())?;
-            tree.bus.left = left;
+            tree.bus.refuse_after(left);
             if updates {
                 assert_eq!(rt;
                     tree.update(&rt, 384, &[4; 64]),
@@ -359,8 +265,10 @@ fn a_call_that_writes_other_nodes_is_refused_at_each_access(rt: HostRuntime) -> 
             } else {
                 assert_eq!(rt; tree.fetch(&rt, 384), Err(MemStop::NoMemory), "{left}");
             }
-            assert!(rt; left as usize <= CLIMB.len());
-            assert!(rt; tree.asked(&CLIMB[..left as usize]), "{left}");
+            let mut wanted = CLIMB;
+            wanted[6] = last;
+            assert!(rt; (left as usize) < wanted.len());
+            assert!(rt; tree.asked(&wanted[..=left as usize]), "{left}");
             let (made, evidence) = tree.tags.finish();
             assert_eq!(rt; made.len(), messages, "{left}");
             assert_eq!(rt; evidence, None, "{left}");
@@ -456,7 +364,7 @@ fn all_sequences_of_five_calls_are_those_of_a_list_of_blocks(rt: HostRuntime) ->
 #[derive(Drop)]
 struct Flipped {
     geometry: Geometry,
-    bus: FlipBus,
+    bus: CountingBus,
     tags: TagEngine<Quarters>,
     tree: Tree,
     ghost bus_fits: { (flip_history bus).levels ≡ geometry },
@@ -468,7 +376,8 @@ impl Flipped {
     // A bit of a node is flipped at its `k`-th read.
     fn new(alloc: Global, levels: u8, level: u8, index: u32, k: u64) -> Result<Flipped, Fail> {
         let geometry = Geometry::new(levels).ok_or("no geometry")?;
-        let mut bus = flipping(alloc, geometry, Place::Node { level, index }, k, 0)?;
+        let place = Place::Node { level, index };
+        let mut bus = CountingBus::flipping(alloc, geometry, place, k, 0)?;
         let mut tags = TagEngine::new(alloc, Quarters, geometry)?;
         let tree = Tree::boot(alloc, geometry, &mut bus, &mut tags)?;
         Ok(Flipped {
@@ -576,8 +485,8 @@ fn two_blocks_with_one_tag_are_a_collision(rt: HostRuntime) -> Result<(), Fail> 
         let geometry = Geometry::new(levels).ok_or("no geometry")?;
         assert!(rt; page < geometry.pages());
         let place = Place::Node { level, index };
-        let mut bus = flipping(rt.alloc(), geometry, place, 1, 63)?;
-        let mut tags = TagEngine::new(rt.alloc(), Zeros, geometry)?;
+        let mut bus = CountingBus::flipping(rt.alloc(), geometry, place, 1, 63)?;
+        let mut tags = TagEngine::new(rt.alloc(), ZeroTagger, geometry)?;
         let mut tree = Tree::boot(rt.alloc(), geometry, &mut bus, &mut tags)?;
         assert_eq!(rt;
             tree.fetch(&mut bus, &mut tags, page),
@@ -643,7 +552,8 @@ fn each_call_that_is_refused_is_want_of_memory(rt: HostRuntime) -> Result<(), Fa
         let reads = u64::from(levels);
         assert!(rt; geometry.pages() > 0);
         for left in 0..nodes {
-            let mut bus = CountingBus::new(rt.alloc(), geometry, left)?;
+            let mut bus = CountingBus::honest(rt.alloc(), geometry)?;
+            bus.refuse_after(left);
             let mut tags = TagEngine::new(rt.alloc(), Quarters, geometry)?;
             assert!(rt;
                 Tree::boot(rt.alloc(), geometry, &mut bus, &mut tags).is_err(),
@@ -654,7 +564,8 @@ fn each_call_that_is_refused_is_want_of_memory(rt: HostRuntime) -> Result<(), Fa
             assert_eq!(rt; evidence, None, "boot, {left}");
         }
         for left in nodes..nodes + reads + 1 {
-            let mut bus = CountingBus::new(rt.alloc(), geometry, left)?;
+            let mut bus = CountingBus::honest(rt.alloc(), geometry)?;
+            bus.refuse_after(left);
             let mut tags = TagEngine::new(rt.alloc(), Quarters, geometry)?;
             let mut tree = Tree::boot(rt.alloc(), geometry, &mut bus, &mut tags)?;
             assert_eq!(rt;
@@ -664,7 +575,8 @@ fn each_call_that_is_refused_is_want_of_memory(rt: HostRuntime) -> Result<(), Fa
             );
         }
         for left in nodes..nodes + reads + 1 {
-            let mut bus = CountingBus::new(rt.alloc(), geometry, left)?;
+            let mut bus = CountingBus::honest(rt.alloc(), geometry)?;
+            bus.refuse_after(left);
             let mut tags = TagEngine::new(rt.alloc(), Quarters, geometry)?;
             let mut tree = Tree::boot(rt.alloc(), geometry, &mut bus, &mut tags)?;
             let answer = tree.update(&mut bus, &mut tags, 0, &[1; 64]);

@@ -1,11 +1,10 @@
 // Each public call once with ample memory. A tag is what its tagger says, put together by hand: of a line 0x44, the line
 // and the page's counter, the lowest byte first, the line's own counter, and the first two bytes of the ciphertext; of a
 // node 0x4e, its level, its index, the lowest byte first, and the first ten bytes of its block.
-ghost use Rattle.std.specs.Prelude.{[], ◌∷◌, refl, replicate, slice_index};
-
 use crate::{read_line, read_node, write_line, write_node};
 use bus_model::{Bus, FlipBus, HonestBus};
-use sec_base::{Counter, Evidence, Geometry, MemStop, Place, Sealed, Tagger};
+use fakes::{PrefixTagger, ZeroTagger};
+use sec_base::{Counter, Evidence, Geometry, MemStop, Place, Sealed};
 use std::test::Fail;
 use tag_engine::TagEngine;
 
@@ -13,65 +12,11 @@ const FIRST: Counter = Counter { page: 1, line: 0 };
 
 const SECOND: Counter = Counter { page: 2, line: 3 };
 
-// Gives the first 16 bytes of a message.
-#[derive(Drop)]
-struct FirstBytes;
-
-impl Tagger for FirstBytes {
-    ghost data_tag_of = { λ _ m. slice_index m 0 ∷ slice_index m 1 ∷ slice_index m 2 ∷ slice_index m 3 ∷ slice_index m 4
-        ∷ slice_index m 5 ∷ slice_index m 6 ∷ slice_index m 7 ∷ slice_index m 8 ∷ slice_index m 9 ∷ slice_index m 10
-        ∷ slice_index m 11 ∷ slice_index m 12 ∷ slice_index m 13 ∷ slice_index m 14 ∷ slice_index m 15 ∷ [] };
-
-    ghost node_tag_of = { λ _ m. slice_index m 0 ∷ slice_index m 1 ∷ slice_index m 2 ∷ slice_index m 3 ∷ slice_index m 4
-        ∷ slice_index m 5 ∷ slice_index m 6 ∷ slice_index m 7 ∷ slice_index m 8 ∷ slice_index m 9 ∷ slice_index m 10
-        ∷ slice_index m 11 ∷ slice_index m 12 ∷ slice_index m 13 ∷ slice_index m 14 ∷ slice_index m 15 ∷ [] };
-
-    ghost data_tag_long = { λ _ _. refl };
-
-    ghost node_tag_long = { λ _ _. refl };
-
-    fn data_tag(&self, m: &[u8; 78]) -> [u8; 16] {
-        [
-            m[0], m[1], m[2], m[3], m[4], m[5], m[6], m[7], m[8], m[9], m[10], m[11], m[12], m[13],
-            m[14], m[15],
-        ]
-    }
-
-    fn node_tag(&self, m: &[u8; 70]) -> [u8; 16] {
-        [
-            m[0], m[1], m[2], m[3], m[4], m[5], m[6], m[7], m[8], m[9], m[10], m[11], m[12], m[13],
-            m[14], m[15],
-        ]
-    }
-}
-
-// Gives zeros to every message.
-#[derive(Drop)]
-struct Zeros;
-
-impl Tagger for Zeros {
-    ghost data_tag_of = { λ _ _. replicate 16 0 };
-
-    ghost node_tag_of = { λ _ _. replicate 16 0 };
-
-    ghost data_tag_long = { λ _ _. refl };
-
-    ghost node_tag_long = { λ _ _. refl };
-
-    fn data_tag(&self, _: &[u8; 78]) -> [u8; 16] {
-        [0; 16]
-    }
-
-    fn node_tag(&self, _: &[u8; 70]) -> [u8; 16] {
-        [0; 16]
-    }
-}
-
 #[test]
 fn what_was_written_last_is_read(rt: HostRuntime) -> Result<(), Fail> {
     let geometry = Geometry::new(1).ok_or("no geometry")?;
     let mut bus = HonestBus::new(rt.alloc(), geometry)?;
-    let mut tags = TagEngine::new(rt.alloc(), FirstBytes, geometry)?;
+    let mut tags = TagEngine::new(rt.alloc(), PrefixTagger, geometry)?;
     tags.reserve(2)?;
     write_line(&mut bus, &mut tags, 64, FIRST, &[7; 64])?;
     assert_eq!(rt; read_line(&mut bus, &mut tags, 64, FIRST), Ok([7; 64]));
@@ -105,7 +50,7 @@ fn a_flipped_bit_is_tampering_or_evidence(rt: HostRuntime) -> Result<(), Fail> {
     ];
     for (case, offset, wanted, shown) in rows {
         let mut bus = FlipBus::new(rt.alloc(), geometry, Place::Line(64), 1, offset, 1)?;
-        let mut tags = TagEngine::new(rt.alloc(), FirstBytes, geometry)?;
+        let mut tags = TagEngine::new(rt.alloc(), PrefixTagger, geometry)?;
         tags.reserve(1)?;
         write_line(&mut bus, &mut tags, 64, FIRST, &[6; 64])?;
         assert_eq!(rt; read_line(&mut bus, &mut tags, 64, FIRST), wanted, "{case}");
@@ -120,7 +65,7 @@ fn a_flipped_bit_is_tampering_or_evidence(rt: HostRuntime) -> Result<(), Fail> {
 fn a_line_that_was_never_tagged_is_evidence(rt: HostRuntime) -> Result<(), Fail> {
     let geometry = Geometry::new(1).ok_or("no geometry")?;
     let mut bus = HonestBus::new(rt.alloc(), geometry)?;
-    let mut tags = TagEngine::new(rt.alloc(), Zeros, geometry)?;
+    let mut tags = TagEngine::new(rt.alloc(), ZeroTagger, geometry)?;
     assert_eq!(rt; read_line(&mut bus, &mut tags, 255, FIRST), Ok([0; 64]));
     let (made, evidence) = tags.finish();
     assert_eq!(rt; made.len(), 0);
@@ -143,7 +88,7 @@ const NODE: Place = Place::Node { level: 1, index: 2 };
 fn a_node_is_read_as_it_was_written_last(rt: HostRuntime) -> Result<(), Fail> {
     let geometry = Geometry::new(2).ok_or("no geometry")?;
     let mut bus = HonestBus::new(rt.alloc(), geometry)?;
-    let mut tags = TagEngine::new(rt.alloc(), FirstBytes, geometry)?;
+    let mut tags = TagEngine::new(rt.alloc(), PrefixTagger, geometry)?;
     tags.reserve(3)?;
     let first = write_node(&mut bus, &mut tags, 1, 2, &[7; 64])?;
     assert_eq!(rt; first, [0x4e, 1, 2, 0, 0, 0, 7, 7, 7, 7, 7, 7, 7, 7, 7, 7]);
@@ -184,7 +129,7 @@ fn a_flipped_bit_of_a_node_is_tampering_or_evidence(rt: HostRuntime) -> Result<(
     ];
     for (case, offset, wanted, shown) in rows {
         let mut bus = FlipBus::new(rt.alloc(), geometry, NODE, 1, offset, 1)?;
-        let mut tags = TagEngine::new(rt.alloc(), FirstBytes, geometry)?;
+        let mut tags = TagEngine::new(rt.alloc(), PrefixTagger, geometry)?;
         tags.reserve(1)?;
         let tag = write_node(&mut bus, &mut tags, 1, 2, &[6; 64])?;
         assert_eq!(rt;

@@ -7,4 +7,3 @@ pub mod Turned
 pub mod Reports
 pub mod Runs
 pub mod Outcomes
-pub mod Replays

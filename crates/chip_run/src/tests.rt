@@ -8,12 +8,10 @@ ghost use Rattle.sec_base.specs.Segment.{IsSegment};
 mod evictions;
 mod outcomes;
 mod programs;
-mod refusing_bus;
 mod replay_bus;
 mod reports;
 mod tampering;
 mod want_of_memory;
-mod zeros;
 
 use crate::{RunRecord, Setup, run};
 use bus_model::{Bus, FlipBus, HonestBus};

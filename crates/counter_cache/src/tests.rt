@@ -1,128 +1,25 @@
 // Each public call over a bus that counts, and that flips a bit at one read of one counter block or none: the number of
 // accesses, false answers, and want of memory.
-ghost use Rattle.std.specs.Prelude.{◌≡◌, ◌<◌, ◌≤◌, [], ◌∷◌, refl, replicate, slice_index, length};
+ghost use Rattle.std.specs.Prelude.{◌≡◌, ◌<◌, ◌≤◌, length};
 ghost use Rattle.bus_model.specs.FlipBus.{flip_history};
 
 use crate::Counters;
-use bus_model::{Bus, FlipBus};
-use sec_base::{Counter, Evidence, Geometry, MemStop, NoMemory, Place, Sealed, Tagger};
+use fakes::{Access, CountingBus, PrefixTagger, ZeroTagger};
+use sec_base::{Counter, Evidence, Geometry, MemStop, Place, Tagger};
 use split_counter::{Bumped, CounterBlock, LAST_LINE_COUNTER};
 use std::alloc::Global;
 use std::process::Abort;
 use std::test::Fail;
 use tag_engine::TagEngine;
 
-// Gives the first 16 bytes of a message: of a node they are 0x4e, its level, its index, and ten bytes of its block.
-#[derive(Drop)]
-struct FirstBytes;
-
-impl Tagger for FirstBytes {
-    ghost data_tag_of = { λ _ _. replicate 16 0 };
-
-    ghost node_tag_of = { λ _ m. slice_index m 0 ∷ slice_index m 1 ∷ slice_index m 2 ∷ slice_index m 3 ∷ slice_index m 4
-        ∷ slice_index m 5 ∷ slice_index m 6 ∷ slice_index m 7 ∷ slice_index m 8 ∷ slice_index m 9 ∷ slice_index m 10
-        ∷ slice_index m 11 ∷ slice_index m 12 ∷ slice_index m 13 ∷ slice_index m 14 ∷ slice_index m 15 ∷ [] };
-
-    ghost data_tag_long = { λ _ _. refl };
-
-    ghost node_tag_long = { λ _ _. refl };
-
-    fn data_tag(&self, _: &[u8; 78]) -> [u8; 16] {
-        [0; 16]
-    }
-
-    fn node_tag(&self, m: &[u8; 70]) -> [u8; 16] {
-        [
-            m[0], m[1], m[2], m[3], m[4], m[5], m[6], m[7], m[8], m[9], m[10], m[11], m[12], m[13],
-            m[14], m[15],
-        ]
-    }
-}
-
-// Gives zeros to every message.
-#[derive(Drop)]
-struct Zeros;
-
-impl Tagger for Zeros {
-    ghost data_tag_of = { λ _ _. replicate 16 0 };
-
-    ghost node_tag_of = { λ _ _. replicate 16 0 };
-
-    ghost data_tag_long = { λ _ _. refl };
-
-    ghost node_tag_long = { λ _ _. refl };
-
-    fn data_tag(&self, _: &[u8; 78]) -> [u8; 16] {
-        [0; 16]
-    }
-
-    fn node_tag(&self, _: &[u8; 70]) -> [u8; 16] {
-        [0; 16]
-    }
-}
-
-// A bus that counts its accesses, and how many of them read a counter block. From so many on it refuses them.
-#[derive(Drop)]
-struct CountBus {
-    bus: FlipBus,
-    most: u64,
-    accesses: u64,
-    block_reads: u64,
-}
-
-// One more access, unless there were so many.
-fn count(accesses: &mut u64, most: u64) -> Result<(), NoMemory> {
-    if *accesses >= most {
-        return Err(NoMemory);
-    }
-    *accesses += 1;
-    Ok(())
-}
-
-impl Bus for CountBus {
-    ghost history = { λ bus. flip_history bus.bus };
-
-    ghost moved = { λ _ _. Unit {0} };
-
-    ghost unmoved = { λ _. tt };
-
-    ghost moved_on = { λ _ _ _ _ _. tt };
-
-    fn read_data(&mut self, line: u32) -> Result<Sealed, NoMemory> {
-        count(&mut self.accesses, self.most)?;
-        self.bus.read_data(line)
-    }
-
-    fn write_data(&mut self, line: u32, sealed: &Sealed) -> Result<(), NoMemory> {
-        count(&mut self.accesses, self.most)?;
-        self.bus.write_data(line, sealed)
-    }
-
-    fn read_node(&mut self, level: u8, index: u32) -> Result<[u8; 64], NoMemory> {
-        count(&mut self.accesses, self.most)?;
-        if level == 0 {
-            self.block_reads = self.block_reads.saturating_add(1);
-        }
-        self.bus.read_node(level, index)
-    }
-
-    fn write_node(&mut self, level: u8, index: u32, block: &[u8; 64]) -> Result<(), NoMemory> {
-        count(&mut self.accesses, self.most)?;
-        self.bus.write_node(level, index, block)
-    }
-}
-
-// More accesses than any test makes.
-const MANY: u64 = 1_000_000;
-
 // Counters with their bus and their tag engine.
 #[derive(Drop)]
 struct Memory<T: Tagger> {
     geometry: Geometry,
-    bus: CountBus,
+    bus: CountingBus,
     tags: TagEngine<T>,
     counters: Counters,
-    ghost bus_fits: { (flip_history bus.bus).levels ≡ geometry },
+    ghost bus_fits: { (flip_history bus).levels ≡ geometry },
     ghost engine_fits: { tags.levels ≡ geometry },
     ghost counters_fit: { counters.tree.levels ≡ geometry },
 }
@@ -163,9 +60,20 @@ impl<T: Tagger> Memory<T> {
 
     // How many accesses there were since the last call of it.
     fn accesses(&mut self) -> u64 {
-        let accesses = self.bus.accesses;
-        self.bus.accesses = 0;
-        accesses
+        let count = self.bus.log().len() as u64;
+        self.bus.clear_log();
+        count
+    }
+
+    // How many of them read a counter block.
+    fn block_reads(&self) -> u64 {
+        let mut count = 0u64;
+        for access in self.bus.log() {
+            if matches!(access, Access::ReadNode(0, _)) {
+                count = count.saturating_add(1);
+            }
+        }
+        count
     }
 
     // How many messages were made, and the evidence.
@@ -197,13 +105,7 @@ fn flipped<T: Tagger>(
         level: 0,
         index: page,
     };
-    let flip = FlipBus::new(alloc, geometry, place, k, offset, 1)?;
-    let mut bus = CountBus {
-        bus: flip,
-        most: MANY,
-        accesses: 0,
-        block_reads: 0,
-    };
+    let mut bus = CountingBus::flipping(alloc, geometry, place, k, offset)?;
     let mut tags = TagEngine::new(alloc, tagger, geometry)?;
     let counters = Counters::boot(alloc, geometry, &mut bus, &mut tags)?;
     Ok(Memory {
@@ -215,8 +117,8 @@ fn flipped<T: Tagger>(
 }
 
 // Booted over a bus that tells the truth.
-fn honest(alloc: Global, levels: u8) -> Result<Memory<FirstBytes>, Fail> {
-    flipped(alloc, FirstBytes, levels, 0, 0, 0)
+fn honest(alloc: Global, levels: u8) -> Result<Memory<PrefixTagger>, Fail> {
+    flipped(alloc, PrefixTagger, levels, 0, 0, 0)
 }
 
 // The counters of a page whose line at place 0 was written so often, and no other: byte 8 has the line counter of place 0.
@@ -230,8 +132,8 @@ fn written(writes: u8) -> CounterBlock {
 fn all_counters_are_zero_after_boot(rt: HostRuntime) -> Result<(), Fail> {
     for (levels, pages, nodes) in [(1, 4u32, 5), (2, 16, 21), (4, 256, 341)] {
         let mut memory = honest(rt.alloc(), levels)?;
+        assert_eq!(rt; memory.block_reads(), 0, "levels {levels}");
         assert_eq!(rt; memory.accesses(), nodes, "levels {levels}");
-        assert_eq!(rt; memory.bus.block_reads, 0, "levels {levels}");
         for page in 0..pages {
             assert_eq!(rt;
                 memory.get(&rt, page),
@@ -306,15 +208,15 @@ fn a_block_is_read_once(rt: HostRuntime) -> Result<(), Fail> {
         let mut memory = honest(rt.alloc(), levels)?;
         assert_eq!(rt; memory.accesses(), nodes, "levels {levels}");
         assert_eq!(rt; memory.get(&rt, 2), Ok(written(0)), "levels {levels}");
+        assert_eq!(rt; memory.block_reads(), 1, "levels {levels}");
         assert_eq!(rt; memory.accesses(), path, "levels {levels}");
-        assert_eq!(rt; memory.bus.block_reads, 1, "levels {levels}");
         assert_eq!(rt; memory.get(&rt, 2), Ok(written(0)), "levels {levels}");
         memory.write(&rt, 2, 1);
         assert_eq!(rt; memory.get(&rt, 2), Ok(written(1)), "levels {levels}");
         assert_eq!(rt; memory.accesses(), 0, "levels {levels}");
         memory.write(&rt, 3, 1);
+        assert_eq!(rt; memory.block_reads(), 1, "levels {levels}");
         assert_eq!(rt; memory.accesses(), 1, "levels {levels}");
-        assert_eq!(rt; memory.bus.block_reads, 2, "levels {levels}");
         let (made, evidence) = memory.finish();
         assert_eq!(rt; made, nodes, "levels {levels}");
         assert_eq!(rt; evidence, None, "levels {levels}");
@@ -447,7 +349,7 @@ fn each_access_that_is_refused_is_want_of_memory(rt: HostRuntime) -> Result<(), 
             memory.write(&rt, 0, 1);
             assert_eq!(rt; memory.get(&rt, 16), Ok(written(0)), "{most}");
             let _ = memory.accesses();
-            memory.bus.most = most;
+            memory.bus.refuse_after(most);
             let stop = if bumps {
                 memory.bump(&rt, 32, 0, 0).err()
             } else {
@@ -455,8 +357,8 @@ fn each_access_that_is_refused_is_want_of_memory(rt: HostRuntime) -> Result<(), 
             };
             assert_eq!(rt; stop, Some(MemStop::NoMemory), "{most}");
             assert_eq!(rt; memory.get(&rt, 16), Ok(written(0)), "{most}");
-            assert_eq!(rt; memory.accesses(), most);
-            memory.bus.most = MANY;
+            assert_eq!(rt; memory.accesses(), most + 1);
+            memory.bus.refuse_none();
             assert_eq!(rt; memory.get(&rt, 0), Ok(written(1)), "{most}");
             assert_eq!(rt; memory.get(&rt, 32), Ok(written(0)), "{most}");
             let (_, evidence) = memory.finish();
@@ -470,13 +372,13 @@ fn each_access_that_is_refused_is_want_of_memory(rt: HostRuntime) -> Result<(), 
 fn a_flipped_counter_is_tampering(rt: HostRuntime) -> Result<(), Fail> {
     let tampered = MemStop::Tampered(Place::Node { level: 0, index: 1 });
     for offset in [0, 8, 9] {
-        let mut memory = flipped(rt.alloc(), FirstBytes, 1, 1, 1, offset)?;
+        let mut memory = flipped(rt.alloc(), PrefixTagger, 1, 1, 1, offset)?;
         assert_eq!(rt; memory.get(&rt, 0), Ok(CounterBlock::new()), "at {offset}");
         assert_eq!(rt; memory.get(&rt, 1), Err(tampered), "at {offset}");
-        assert_eq!(rt; memory.bus.bus.lies(), 1, "at {offset}");
-        let mut memory = flipped(rt.alloc(), FirstBytes, 1, 1, 1, offset)?;
+        assert_eq!(rt; memory.bus.lies(), 1, "at {offset}");
+        let mut memory = flipped(rt.alloc(), PrefixTagger, 1, 1, 1, offset)?;
         assert_eq!(rt; memory.bump(&rt, 1, 0, 0), Err(tampered), "at {offset}");
-        assert_eq!(rt; memory.bus.accesses, 7, "at {offset}");
+        assert_eq!(rt; memory.accesses(), 7, "at {offset}");
         let (made, evidence) = memory.finish();
         assert_eq!(rt; made, 5, "at {offset}");
         assert_eq!(rt; evidence, None, "at {offset}");
@@ -487,10 +389,10 @@ fn a_flipped_counter_is_tampering(rt: HostRuntime) -> Result<(), Fail> {
 // Where all tags are zeros each block passes, and is used as it was answered, then and from its copy.
 #[test]
 fn a_block_that_passes_is_used_and_shown(rt: HostRuntime) -> Result<(), Fail> {
-    let mut memory = flipped(rt.alloc(), Zeros, 1, 1, 1, 8)?;
+    let mut memory = flipped(rt.alloc(), ZeroTagger, 1, 1, 1, 8)?;
     assert_eq!(rt; memory.get(&rt, 1), Ok(written(1)));
     assert_eq!(rt; memory.get(&rt, 1), Ok(written(1)));
-    assert_eq!(rt; memory.bus.bus.lies(), 1);
+    assert_eq!(rt; memory.bus.lies(), 1);
     let (made, evidence) = memory.finish();
     assert_eq!(rt; made, 5);
     let mut bytes = [0; 64];

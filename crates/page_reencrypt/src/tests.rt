@@ -2,21 +2,19 @@
 // what a place held before.
 ghost use Rattle.std.specs.Prelude.{◌≡◌, ◌<◌};
 ghost use Rattle.sec_base.specs.Place.{place_size};
-ghost use Rattle.bus_model.specs.BusHistory.{new_history};
+ghost use Rattle.bus_model.specs.BusHistory.{NothingWritten};
 ghost use Rattle.bus_model.specs.FlipBus.{flip_history};
 
 mod accesses;
-mod count_bus;
 mod evictions;
 mod flips;
 mod overflow;
-mod replay_bus;
 mod replays;
 mod taggers;
 mod want_of_memory;
 
 use crate::{Account, SealedLines};
-use count_bus::CountBus;
+use fakes::CountingBus;
 use sec_base::{Counter, Geometry, LineStore, MemStop, Place, Tagger};
 use std::alloc::Global;
 use std::process::Abort;
@@ -26,18 +24,19 @@ use taggers::SomeBytes;
 // Lines over a bus that counts.
 #[derive(Drop)]
 struct Memory<T: Tagger> {
-    lines: SealedLines<CountBus, T>,
+    lines: SealedLines<CountingBus, T>,
 }
 
 impl<T: Tagger> Memory<T> {
     fn over(
         alloc: Global,
-        bus: CountBus,
+        bus: CountingBus,
         tagger: T,
         geometry: Geometry,
         page_limit: u64,
     ) -> Result<Memory<T>, Fail>
-        requires { flip_history bus.bus ≡ new_history geometry }
+        requires nothing_written { NothingWritten (flip_history bus) }
+        requires levels { (flip_history bus).levels ≡ geometry }
     {
         let lines = SealedLines::boot(alloc, bus, tagger, &[7; 16], geometry, page_limit);
         Ok(Memory {
@@ -64,7 +63,7 @@ impl<T: Tagger> Memory<T> {
         self.lines.read_line(line)
     }
 
-    fn finish(self) -> (Account, CountBus) {
+    fn finish(self) -> (Account, CountingBus) {
         let Memory { lines } = self;
         lines.finish()
     }
@@ -83,7 +82,7 @@ fn booted<T: Tagger>(
     requires { offset < place_size place }
 {
     let geometry = Geometry::new(levels).ok_or("no geometry")?;
-    let bus = CountBus::flipping(alloc, geometry, place, k, offset)?;
+    let bus = CountingBus::flipping(alloc, geometry, place, k, offset)?;
     Memory::over(alloc, bus, tagger, geometry, page_limit)
 }
 

@@ -4,11 +4,9 @@ ghost use Rattle.sec_base.specs.Place.{place_size};
 ghost use Rattle.bus_model.specs.BusHistory.{new_history};
 ghost use Rattle.secure_memory.specs.SecureRam.{lines_of};
 
-mod counting_bus;
-
 use crate::SecureRam;
 use bus_model::{Bus, FlipBus, HonestBus};
-use counting_bus::CountingBus;
+use fakes::CountingBus;
 use hmac_tag::{HmacTagger, derive};
 use sec_base::{Geometry, MemStop, Place, Ram, Width};
 use std::alloc::Global;
@@ -256,7 +254,7 @@ impl Counted {
     // None where boot is refused.
     fn new(alloc: Global, levels: u8, refused: u64) -> Result<Option<Counted>, Fail> {
         let geometry = Geometry::new(levels).ok_or("no geometry")?;
-        let bus = CountingBus::new(alloc, geometry, refused)?;
+        let bus = CountingBus::refusing(alloc, geometry, refused)?;
         let keys = derive(&[0; 32]);
         let tagger = HmacTagger::new(&keys);
         let Ok(memory) = SecureRam::boot(alloc, bus, tagger, &keys, geometry, u64::MAX) else {

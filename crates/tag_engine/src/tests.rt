@@ -1,65 +1,10 @@
 // Each public call once with ample memory. The tag that is wanted is the message's first 16 bytes, put together by
 // hand: of a line 44, the line and the page's counter, the lowest byte first, and the line's own counter; of a node 4e,
 // its level, its index, the lowest byte first, and ten bytes of its block.
-ghost use Rattle.std.specs.Prelude.{[], ◌∷◌, refl, slice_index, replicate};
-
 use crate::TagEngine;
-use sec_base::{Counter, Evidence, Geometry, Message, Sealed, Tagger};
+use fakes::{PrefixTagger, ZeroTagger};
+use sec_base::{Counter, Evidence, Geometry, Message, Sealed};
 use std::test::Fail;
-
-// Gives the first 16 bytes of a message.
-#[derive(Drop)]
-struct FirstBytes;
-
-impl Tagger for FirstBytes {
-    ghost data_tag_of = { λ _ m. slice_index m 0 ∷ slice_index m 1 ∷ slice_index m 2 ∷ slice_index m 3 ∷ slice_index m 4
-        ∷ slice_index m 5 ∷ slice_index m 6 ∷ slice_index m 7 ∷ slice_index m 8 ∷ slice_index m 9 ∷ slice_index m 10
-        ∷ slice_index m 11 ∷ slice_index m 12 ∷ slice_index m 13 ∷ slice_index m 14 ∷ slice_index m 15 ∷ [] };
-
-    ghost node_tag_of = { λ _ m. slice_index m 0 ∷ slice_index m 1 ∷ slice_index m 2 ∷ slice_index m 3 ∷ slice_index m 4
-        ∷ slice_index m 5 ∷ slice_index m 6 ∷ slice_index m 7 ∷ slice_index m 8 ∷ slice_index m 9 ∷ slice_index m 10
-        ∷ slice_index m 11 ∷ slice_index m 12 ∷ slice_index m 13 ∷ slice_index m 14 ∷ slice_index m 15 ∷ [] };
-
-    ghost data_tag_long = { λ _ _. refl };
-
-    ghost node_tag_long = { λ _ _. refl };
-
-    fn data_tag(&self, m: &[u8; 78]) -> [u8; 16] {
-        [
-            m[0], m[1], m[2], m[3], m[4], m[5], m[6], m[7], m[8], m[9], m[10], m[11], m[12], m[13],
-            m[14], m[15],
-        ]
-    }
-
-    fn node_tag(&self, m: &[u8; 70]) -> [u8; 16] {
-        [
-            m[0], m[1], m[2], m[3], m[4], m[5], m[6], m[7], m[8], m[9], m[10], m[11], m[12], m[13],
-            m[14], m[15],
-        ]
-    }
-}
-
-// Gives zeros to every message.
-#[derive(Drop)]
-struct Zeros;
-
-impl Tagger for Zeros {
-    ghost data_tag_of = { λ _ _. replicate 16 0 };
-
-    ghost node_tag_of = { λ _ _. replicate 16 0 };
-
-    ghost data_tag_long = { λ _ _. refl };
-
-    ghost node_tag_long = { λ _ _. refl };
-
-    fn data_tag(&self, _: &[u8; 78]) -> [u8; 16] {
-        [0; 16]
-    }
-
-    fn node_tag(&self, _: &[u8; 70]) -> [u8; 16] {
-        [0; 16]
-    }
-}
 
 #[test]
 fn a_tag_is_that_of_the_messages_bytes(rt: HostRuntime) -> Result<(), Fail> {
@@ -84,7 +29,7 @@ fn a_tag_is_that_of_the_messages_bytes(rt: HostRuntime) -> Result<(), Fail> {
     ];
     for (levels, line, counter, cipher, wanted) in rows {
         let geometry = Geometry::new(levels).ok_or("no geometry")?;
-        let mut engine = TagEngine::new(rt.alloc(), FirstBytes, geometry)?;
+        let mut engine = TagEngine::new(rt.alloc(), PrefixTagger, geometry)?;
         let tag = engine.make_data(line, counter, &cipher)?;
         assert_eq!(rt; tag, wanted, "line {line}");
         assert!(rt; engine.check_data(line, counter, &Sealed { cipher, tag }));
@@ -116,7 +61,7 @@ fn the_first_message_never_made_comes_at_the_end(rt: HostRuntime) -> Result<(), 
     let geometry = Geometry::new(1).ok_or("no geometry")?;
     let first = Counter { page: 1, line: 0 };
     let second = Counter { page: 2, line: 0 };
-    let mut engine = TagEngine::new(rt.alloc(), Zeros, geometry)?;
+    let mut engine = TagEngine::new(rt.alloc(), ZeroTagger, geometry)?;
     engine.reserve(2)?;
     assert_eq!(rt; engine.make_data(64, first, &[7; 64])?, [0; 16]);
     assert_eq!(rt; engine.make_data(64, second, &[8; 64])?, [0; 16]);
@@ -187,7 +132,7 @@ fn a_tag_is_that_of_the_nodes_bytes(rt: HostRuntime) -> Result<(), Fail> {
     ];
     for (levels, level, index, block, wanted) in rows {
         let geometry = Geometry::new(levels).ok_or("no geometry")?;
-        let mut engine = TagEngine::new(rt.alloc(), FirstBytes, geometry)?;
+        let mut engine = TagEngine::new(rt.alloc(), PrefixTagger, geometry)?;
         let tag = engine.make_node(level, index, &block)?;
         assert_eq!(rt; tag, wanted, "node {level} {index}");
         assert!(rt; engine.check_node(level, index, &block, &tag));
@@ -207,7 +152,7 @@ fn a_tag_is_that_of_the_nodes_bytes(rt: HostRuntime) -> Result<(), Fail> {
     Ok(())
 }
 
-// A block of one byte repeated, the last of which is another one: a tag of `FirstBytes` leaves it out.
+// A block of one byte repeated, the last of which is another one: a tag of `PrefixTagger` leaves it out.
 fn ends_in(byte: u8, last: u8) -> [u8; 64] {
     let mut block = [byte; 64];
     block[63] = last;
@@ -217,7 +162,7 @@ fn ends_in(byte: u8, last: u8) -> [u8; 64] {
 #[test]
 fn the_first_collision_comes_at_the_end(rt: HostRuntime) -> Result<(), Fail> {
     let geometry = Geometry::new(2).ok_or("no geometry")?;
-    let mut engine = TagEngine::new(rt.alloc(), FirstBytes, geometry)?;
+    let mut engine = TagEngine::new(rt.alloc(), PrefixTagger, geometry)?;
     engine.reserve(4)?;
     let sixes = engine.make_node(1, 2, &[6; 64])?;
     engine.make_data(2, Counter { page: 1, line: 0 }, &[7; 64])?;

@@ -4,11 +4,11 @@ ghost use Rattle.std.specs.Prelude.{◌<◌, ◌≤◌, length};
 ghost use Rattle.sec_base.specs.Place.{place_size};
 
 use super::programs::{EXIT_WITH_65_AGAIN, PRINT_A, PRINT_A_AGAIN, WEAR_LINE_64};
-use super::zeros::Zeros;
 use super::{LINE_64, flat, keys};
 use crate::{Setup, run};
 use attest_report::write_report;
 use bus_model::FlipBus;
+use fakes::ZeroTagger;
 use hmac_tag::HmacTagger;
 use sec_base::{Geometry, Image, MemorySink, Place, Tagger};
 use std::alloc::Global;
@@ -135,7 +135,7 @@ fn a_report_knows_of_no_evidence(rt: HostRuntime) -> Result<(), Fail> {
         (2000, 0),
         (LINE_64, 1),
         &[],
-        Zeros,
+        ZeroTagger,
     )?;
     assert_eq!(rt; text.as_slice(), WITH_EVIDENCE.as_slice());
     Ok(())

@@ -3,10 +3,10 @@ use super::programs::{
     EXIT_7, EXIT_65, EXIT_WITH_65_AGAIN, PRINT_8, STORE_65_TWICE, STORE_FAR_APART,
 };
 use super::replay_bus::ReplayBus;
-use super::zeros::Zeros;
 use super::{CIPHER_65, LINE_64, flat, flipped, image, keys, setup, written};
 use crate::run;
 use bus_model::FlipBus;
+use fakes::ZeroTagger;
 use hmac_tag::HmacTagger;
 use sec_base::{Ending, Evidence, Geometry, Image, MemorySink, Place, Sealed};
 use std::test::Fail;
@@ -43,7 +43,7 @@ fn a_false_answer_that_fails_its_check_ends_the_run(rt: HostRuntime) -> Result<(
 
 #[test]
 fn a_false_answer_that_passes_its_check_is_shown(rt: HostRuntime) -> Result<(), Fail> {
-    let (done, lies) = flipped(rt.alloc(), &EXIT_WITH_65_AGAIN, LINE_64, 1, Zeros)?;
+    let (done, lies) = flipped(rt.alloc(), &EXIT_WITH_65_AGAIN, LINE_64, 1, ZeroTagger)?;
     assert_eq!(rt; done.ending, Ending::Halted(64));
     assert_eq!(rt; done.retired, 8);
     let mut cipher = CIPHER_65;
@@ -165,7 +165,7 @@ fn what_stood_there_before_fails_its_check(rt: HostRuntime) -> Result<(), Fail> 
 #[test]
 fn two_blocks_with_one_tag_are_shown(rt: HostRuntime) -> Result<(), Fail> {
     let counters = Place::Node { level: 0, index: 1 };
-    let (done, lies) = flipped(rt.alloc(), &EXIT_65, counters, 1, Zeros)?;
+    let (done, lies) = flipped(rt.alloc(), &EXIT_65, counters, 1, ZeroTagger)?;
     let mut accepted = [0; 64];
     accepted[0] = 1;
     let shown = Evidence::Collision {

@@ -1,8 +1,8 @@
 // A bus that is out of memory at one access.
 use super::programs::STORE_65_TWICE;
-use super::refusing_bus::RefusingBus;
 use super::{flat, setup};
 use crate::run;
+use fakes::CountingBus;
 use hmac_tag::HmacTagger;
 use sec_base::{Ending, Geometry, Image, MemorySink};
 use std::test::Fail;
@@ -33,7 +33,7 @@ fn a_run_ends_where_the_bus_is_out_of_memory(rt: HostRuntime) -> Result<(), Fail
         };
         let setup = setup(geometry, 2000, u64::MAX);
         let tagger = HmacTagger::new(&setup.keys);
-        let bus = RefusingBus::new(rt.alloc(), geometry, refused)?;
+        let bus = CountingBus::refusing(rt.alloc(), geometry, refused)?;
         let mut out = MemorySink::new(rt.alloc(), &[])?;
         let (done, _bus) = run(rt.alloc(), &image, &[], &setup, tagger, bus, &mut out);
         let (ending, retired) = refused_at(refused);

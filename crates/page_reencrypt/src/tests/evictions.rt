@@ -1,7 +1,7 @@
 // Pages whose counter blocks share a set of two ways: one goes out for another, and comes back.
-use super::count_bus::CountBus;
 use super::taggers::SomeBytes;
 use super::{Memory, booted, once};
+use fakes::CountingBus;
 use sec_base::{Counter, Geometry, MemStop, Place};
 use std::alloc::Global;
 use std::process::Abort;
@@ -136,7 +136,7 @@ fn a_page_whose_counters_went_out_is_encrypted_anew(rt: HostRuntime) -> Result<(
 fn a_block_that_cannot_go_out_stops_the_call(rt: HostRuntime) -> Result<(), Fail> {
     let geometry = Geometry::new(3).ok_or("no geometry")?;
     for refused in 95..=98 {
-        let bus = CountBus::refusing(rt.alloc(), geometry, refused)?;
+        let bus = CountingBus::refusing(rt.alloc(), geometry, refused)?;
         let mut memory = Memory::over(rt.alloc(), bus, SomeBytes, geometry, u64::MAX)?;
         let stops = [
             call(&rt, &mut memory, 2),

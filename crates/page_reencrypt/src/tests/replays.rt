@@ -1,25 +1,31 @@
 // What stood there before the last write is answered again.
 ghost use Rattle.std.specs.Prelude.{◌<◌};
 
-use super::replay_bus::ReplayBus;
 use super::taggers::SomeBytes;
 use crate::SealedLines;
+use fakes::{Replay, ReplayBus};
 use sec_base::{Geometry, LineStore, MemStop, Place};
 use std::alloc::Global;
 use std::process::Abort;
 use std::test::Fail;
 
-// Over a bus that replays what stood there for a line of a page, if so said, and for the nodes on the page's path below a
-// level.
+// Over a bus that replays a line, if so said, and the nodes on its path below a level, from the line's second write on.
 fn replaying(
     alloc: Global,
     levels: u8,
-    page: u32,
-    replays_line: bool,
+    line: u32,
+    with_line: bool,
     below: u8,
 ) -> Result<SealedLines<ReplayBus, SomeBytes>, Fail> {
     let geometry = Geometry::new(levels).ok_or("no geometry")?;
-    let bus = ReplayBus::new(alloc, geometry, page, replays_line, below)?;
+    let replay = Replay {
+        line,
+        with_line,
+        below,
+        start: Place::Line(line),
+        writes: 2,
+    };
+    let bus = ReplayBus::new(alloc, geometry, replay)?;
     let lines = SealedLines::boot(alloc, bus, SomeBytes, &[7; 16], geometry, u64::MAX);
     Ok(lines.ok().ok_or("no memory")?)
 }
@@ -74,8 +80,8 @@ fn what_was_replaced_is_tampering(rt: HostRuntime) -> Result<(), Fail> {
         (517, 8, true, 1, Place::Node { level: 0, index: 8 }),
         (517, 8, true, 2, Place::Node { level: 1, index: 2 }),
     ];
-    for (line, page, replays_line, below, place) in rows {
-        let mut lines = replaying(rt.alloc(), 4, page, replays_line, below)?;
+    for (line, page, with_line, below, place) in rows {
+        let mut lines = replaying(rt.alloc(), 4, line, with_line, below)?;
         assert!(rt; page < 160);
         let stops = [
             write_stop(&rt, &mut lines, line, 1),
@@ -87,9 +93,9 @@ fn what_was_replaced_is_tampering(rt: HostRuntime) -> Result<(), Fail> {
         ];
         let tampered = Some(MemStop::Tampered(place));
         let wanted = [None, None, None, None, tampered, tampered];
-        assert_eq!(rt; stops, wanted, "{place}, line {replays_line}");
+        assert_eq!(rt; stops, wanted, "{place}, line {with_line}");
         let (account, _bus) = lines.finish();
-        assert_eq!(rt; account.evidence, None, "{place}, line {replays_line}");
+        assert_eq!(rt; account.evidence, None, "{place}, line {with_line}");
     }
     Ok(())
 }

@@ -1,6 +1,8 @@
 // Taggers that give bytes of the message.
 ghost use Rattle.std.specs.Prelude.{[], ◌∷◌, refl, slice_index, replicate};
+ghost use Rattle.fakes.specs.PrefixTagger.{prefix_of};
 
+use fakes::prefix;
 use sec_base::Tagger;
 
 // Gives the first 16 bytes of a line's message. Of a node's message it gives the first seven, up to the lowest byte of a
@@ -9,9 +11,7 @@ use sec_base::Tagger;
 pub(crate) struct SomeBytes;
 
 impl Tagger for SomeBytes {
-    ghost data_tag_of = { λ _ m. slice_index m 0 ∷ slice_index m 1 ∷ slice_index m 2 ∷ slice_index m 3 ∷ slice_index m 4
-        ∷ slice_index m 5 ∷ slice_index m 6 ∷ slice_index m 7 ∷ slice_index m 8 ∷ slice_index m 9 ∷ slice_index m 10
-        ∷ slice_index m 11 ∷ slice_index m 12 ∷ slice_index m 13 ∷ slice_index m 14 ∷ slice_index m 15 ∷ [] };
+    ghost data_tag_of = { λ _ m. prefix_of m };
 
     ghost node_tag_of = { λ _ m. slice_index m 0 ∷ slice_index m 1 ∷ slice_index m 2 ∷ slice_index m 3 ∷ slice_index m 4
         ∷ slice_index m 5 ∷ slice_index m 6 ∷ 0 ∷ 0 ∷ 0 ∷ 0 ∷ 0 ∷ slice_index m 18 ∷ slice_index m 34 ∷ slice_index m 50
@@ -22,10 +22,7 @@ impl Tagger for SomeBytes {
     ghost node_tag_long = { λ _ _. refl };
 
     fn data_tag(&self, m: &[u8; 78]) -> [u8; 16] {
-        [
-            m[0], m[1], m[2], m[3], m[4], m[5], m[6], m[7], m[8], m[9], m[10], m[11], m[12], m[13],
-            m[14], m[15],
-        ]
+        prefix(m)
     }
 
     fn node_tag(&self, m: &[u8; 70]) -> [u8; 16] {
@@ -40,9 +37,7 @@ impl Tagger for SomeBytes {
 pub(crate) struct NodesAlike;
 
 impl Tagger for NodesAlike {
-    ghost data_tag_of = { λ _ m. slice_index m 0 ∷ slice_index m 1 ∷ slice_index m 2 ∷ slice_index m 3 ∷ slice_index m 4
-        ∷ slice_index m 5 ∷ slice_index m 6 ∷ slice_index m 7 ∷ slice_index m 8 ∷ slice_index m 9 ∷ slice_index m 10
-        ∷ slice_index m 11 ∷ slice_index m 12 ∷ slice_index m 13 ∷ slice_index m 14 ∷ slice_index m 15 ∷ [] };
+    ghost data_tag_of = { λ _ m. prefix_of m };
 
     ghost node_tag_of = { λ _ _. replicate 16 0 };
 
@@ -51,10 +46,7 @@ impl Tagger for NodesAlike {
     ghost node_tag_long = { λ _ _. refl };
 
     fn data_tag(&self, m: &[u8; 78]) -> [u8; 16] {
-        [
-            m[0], m[1], m[2], m[3], m[4], m[5], m[6], m[7], m[8], m[9], m[10], m[11], m[12], m[13],
-            m[14], m[15],
-        ]
+        prefix(m)
     }
 
     fn node_tag(&self, _: &[u8; 70]) -> [u8; 16] {

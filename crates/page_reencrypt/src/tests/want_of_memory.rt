@@ -1,7 +1,7 @@
 // A bus that refuses one access.
 use super::Memory;
-use super::count_bus::CountBus;
 use super::taggers::SomeBytes;
+use fakes::CountingBus;
 use sec_base::{Geometry, MemStop};
 use std::alloc::Global;
 use std::process::Abort;
@@ -16,7 +16,7 @@ fn worn(
     refused: u64,
 ) -> Result<Memory<SomeBytes>, Fail> {
     let geometry = Geometry::new(levels).ok_or("no geometry")?;
-    let bus = CountBus::refusing(alloc, geometry, refused)?;
+    let bus = CountingBus::refusing(alloc, geometry, refused)?;
     let mut memory = Memory::over(alloc, bus, SomeBytes, geometry, u64::MAX)?;
     assert_eq!(rt; memory.wear(rt, 5, writes, 1), Ok(()), "access {refused}");
     Ok(memory)

@@ -1,5 +1,5 @@
 use Rattle.std.proofs.Common.{None, ap}
-use Rattle.chip_run.proofs.Replays.{with_own}
+use Rattle.chip_run.proofs.tests.Replays.{with_own}
 use Rattle.chip_run.proofs.tests.replay_bus.ReplayBus.new.Goals as goal
 
 pub returns : goal.returns

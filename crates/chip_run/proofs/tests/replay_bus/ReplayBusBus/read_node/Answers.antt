@@ -4,7 +4,7 @@ use Rattle.bus_model.specs.BusHistory.{Lie}
 use Rattle.bus_model.specs.HonestBus.{honest_history}
 use Rattle.bus_model.proofs.LieSteps.{unlike}
 use Rattle.chip_run.specs.declared.tests.replay_bus.FalseAnswer.{FalseAnswer}
-use Rattle.chip_run.proofs.Replays.{first_told, own_answered, own_lied}
+use Rattle.chip_run.proofs.tests.Replays.{first_told, own_answered, own_lied}
 use Rattle.chip_run.proofs.tests.replay_bus.ReplayBusBus.read_node.Goals as goal
 
 pub returns-then-is_none-clause-ok : goal.returns-then-is_none-clause-ok

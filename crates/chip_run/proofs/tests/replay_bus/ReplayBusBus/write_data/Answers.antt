@@ -2,7 +2,7 @@ use Rattle.sec_base.specs.Evidence.{sealed_bytes}
 use Rattle.sec_base.specs.declared.place.Place.TheVariants.{Line}
 use Rattle.bus_model.specs.HonestBus.{honest_history}
 use Rattle.bus_model.proofs.LieSteps.{if_err}
-use Rattle.chip_run.proofs.Replays.{own_same, own_wrote}
+use Rattle.chip_run.proofs.tests.Replays.{own_same, own_wrote}
 use Rattle.chip_run.proofs.tests.replay_bus.ReplayBusBus.write_data.Goals as goal
 
 pub returns-in_err-write_data-clause-err : goal.returns-in_err-write_data-clause-err

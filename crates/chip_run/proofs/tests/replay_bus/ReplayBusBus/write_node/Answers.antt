@@ -1,7 +1,7 @@
 use Rattle.sec_base.specs.declared.place.Place.TheVariants.{Node}
 use Rattle.bus_model.specs.HonestBus.{honest_history}
 use Rattle.bus_model.proofs.LieSteps.{if_err}
-use Rattle.chip_run.proofs.Replays.{own_same, own_wrote}
+use Rattle.chip_run.proofs.tests.Replays.{own_same, own_wrote}
 use Rattle.chip_run.proofs.tests.replay_bus.ReplayBusBus.write_node.Goals as goal
 
 pub returns-in_err-write_node-clause-err : goal.returns-in_err-write_node-clause-err

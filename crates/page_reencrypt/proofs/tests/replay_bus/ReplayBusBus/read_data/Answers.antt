@@ -1,8 +1,0 @@
-use Rattle.sec_base.specs.Evidence.{sealed_bytes}
-use Rattle.sec_base.specs.declared.place.Place.TheVariants.{Line}
-use Rattle.bus_model.specs.HonestBus.{honest_history}
-use Rattle.page_reencrypt.proofs.Replays.{any_answer}
-use Rattle.page_reencrypt.proofs.tests.replay_bus.ReplayBusBus.read_data.Goals as goal
-
-pub returns-clause-ok : goal.returns-clause-ok
-returns-clause-ok c = any_answer (Line c.args.line) (sealed_bytes c.in_ok-sealed.sealed) (sealed_bytes c.unwrap_or-answer.result) (honest_history c.args.self.now.bus) (honest_history c.read_data.new.self) c.in_ok-sealed.ensures.ok

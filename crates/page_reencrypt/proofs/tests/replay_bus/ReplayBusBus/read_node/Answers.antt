@@ -1,7 +1,0 @@
-use Rattle.sec_base.specs.declared.place.Place.TheVariants.{Node}
-use Rattle.bus_model.specs.HonestBus.{honest_history}
-use Rattle.page_reencrypt.proofs.Replays.{any_answer}
-use Rattle.page_reencrypt.proofs.tests.replay_bus.ReplayBusBus.read_node.Goals as goal
-
-pub returns-clause-ok : goal.returns-clause-ok
-returns-clause-ok c = any_answer (Node c.args.level c.args.index) c.in_ok-block.block c.unwrap_or-answer.result (honest_history c.args.self.now.bus) (honest_history c.read_node.new.self) c.in_ok-block.ensures.ok
