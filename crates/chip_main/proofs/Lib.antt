@@ -1,4 +1,3 @@
-pub mod Lines
 pub mod DeviceRuns
 pub mod Takings
 pub mod Verdicts

@@ -27,7 +27,7 @@ use Rattle.chip_main.specs.declared.status.Status.TheVariants as status
 use Rattle.chip_main.specs.Buses.{LiesByScript, lies_of, run_history}
 use Rattle.chip_main.specs.Answer.{FileRefused, TellsEnding, TellsPlain, TellsResult, TellsRun}
 use Rattle.chip_main.specs.Requests.{OtherTagRequest, Summarizes, SummarizesRequest}
-use Rattle.chip_main.specs.Texts.{plain_text, record_text, tag_differs_line}
+use Rattle.chip_words.specs.Texts.{plain_text, record_text, tag_differs_line}
 use Rattle.chip_main.specs.Course.{CameAbout, Outcome, TellsCourse, course_bus, course_run, course_status, status_of}
 
 -- ---- the whole of a call
@@ -191,13 +191,13 @@ pub told_run : (run : RunRecord) (bus : RunBus) (telling : Telling) (note note' 
     TellsRun (code_of (status_of (Ran run bus) telling)) run (run_history bus).lies note note'
 told_run run bus (Ok _) note note' tells = inl (tells, refl)
 told_run run bus (Err Failed) note note' tells =
-    untold_ending (record_text run (run_history bus).lies) (run_status run) run.ending note note' tells.0 tells.1
+    untold_ending (record_text run.ending run.retired (run_history bus).lies run.made run.evidence run.report) (run_status run) run.ending note note' tells.0 tells.1
 told_run run bus (Err no_memory) note note' tells = inr (tells, inr refl)
 
 pub told_plain : (run : PlainRecord) (telling : Telling) (note note' : SinkState) → TellsCourse (RanPlain run) note note' telling → TellsPlain (code_of (status_of (RanPlain run) telling)) run note note'
 told_plain run (Ok _) note note' tells = inl (tells, refl)
 told_plain run (Err Failed) note note' tells =
-    untold_ending (plain_text run) (ending_status run.ending) run.ending note note' tells.0 tells.1
+    untold_ending (plain_text run.ending run.retired) (ending_status run.ending) run.ending note note' tells.0 tells.1
 told_plain run (Err no_memory) note note' tells = inr (tells, inr refl)
 
 pub told_other_tag : (telling : Telling) (note note' : SinkState) → TellsCourse OtherTag note note' telling → TellsResult tag_differs_line status.TagDiffers (code_of (status_of OtherTag telling)) note note'

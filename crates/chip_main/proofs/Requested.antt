@@ -16,7 +16,8 @@ use Rattle.chip_main.specs.declared.course.Course.TheVariants.{Refused, NoMemory
 use Rattle.chip_main.specs.declared.Done.{Done}
 use Rattle.chip_main.specs.World.{World}
 use Rattle.chip_main.specs.Taken.{ReadsReport}
-use Rattle.chip_main.specs.Texts.{elf_file, listing, measurement_line, tag_differs_line}
+use Rattle.chip_words.specs.Texts.{tag_differs_line}
+use Rattle.chip_main.specs.Texts.{elf_file, listing, measurement_line}
 use Rattle.chip_main.specs.Needs.{Need, AreAccepted, HasTold, IsAccepted, IsUnfit, asked_needs, names, needs_of, program_need}
 use Rattle.chip_main.specs.Causes.{Asks, AsksFront, AsksNothing, IsRefused, RunsOut, Stops}
 use Rattle.chip_main.specs.Requests.{OtherTagRequest, PlainlyRunsRequest, RunsRequest, Writes, WritesRequest}

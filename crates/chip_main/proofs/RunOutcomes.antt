@@ -19,7 +19,8 @@ use Rattle.chip_main.specs.declared.course.Course.{Course}
 use Rattle.chip_main.specs.declared.course.Course.TheVariants.{Refused, NoMemory, Ran, RanPlain, Written, OtherTag, RanGenerated}
 use Rattle.chip_main.specs.declared.Done.{Done}
 use Rattle.chip_main.specs.World.{World}
-use Rattle.chip_main.specs.Texts.{elf_file, listing, measurement_line, report_text}
+use Rattle.chip_words.specs.Texts.{report_text}
+use Rattle.chip_main.specs.Texts.{elf_file, listing, measurement_line}
 use Rattle.chip_main.specs.Status.{code_of, Telling, ending_status, evidence_status, refusal_status, run_status, status_with, text_status, told_status}
 use Rattle.bus_model.specs.BusHistory.{BusHistory}
 use Rattle.chip_run.specs.Run.{RunsProtected}

@@ -11,6 +11,7 @@ use Rattle.bus_adversary.specs.ChangedPlaces.{script_may_change}
 use Rattle.plain_machine.specs.declared.PlainRecord.{PlainRecord}
 use Rattle.chip_run.specs.declared.RunRecord.{RunRecord}
 use Rattle.chip_words.specs.Request.{Asked, ExecutionAsked, FileAsked, ReportAsked, RunAsked, WordsFault, to_run, to_run_plain, to_verify, to_bench}
+use Rattle.chip_words.specs.Texts.{plain_text, record_text, tag_differs_line}
 use Rattle.chip_main.specs.declared.refusal.Refusal.{Refusal}
 use Rattle.chip_main.specs.declared.run_bus.RunBus.{RunBus}
 use Rattle.chip_main.specs.declared.Done.{Done}
@@ -24,7 +25,7 @@ use Rattle.chip_main.specs.Requests.{ByCommand, FindsOtherTag, PlainlyRuns, Runs
 use Rattle.chip_main.specs.Status.{IsOneOf, Telling, code_of, ending_status, refusal_status, run_status, text_status, told_status}
 use Rattle.chip_main.specs.declared.status.Status.{Status}
 use Rattle.chip_main.specs.declared.status.Status.TheVariants as status
-use Rattle.chip_main.specs.Texts.{plain_text, record_text, refusal_text, tag_differs_line}
+use Rattle.chip_main.specs.Texts.{refusal_text}
 
 -- ---- why each status comes
 
@@ -77,11 +78,13 @@ TellsResult text whole number old new = (Gains old text new × (number ≡ code_
 
 -- a run's record was told, with so many lies
 abbrev pub TellsRun : ℕ → RunRecord → ℕ → SinkState → SinkState → Type 0
-TellsRun number run lies old new = TellsEnding (record_text run lies) (run_status run) run.ending number old new
+TellsRun number run lies old new = TellsEnding
+    (record_text run.ending run.retired lies run.made run.evidence run.report) (run_status run) run.ending number old new
 
 -- a plain run's record was written; a prefix of it where a write failed or out of memory
 abbrev pub TellsPlain : ℕ → PlainRecord → SinkState → SinkState → Type 0
-TellsPlain number run old new = TellsEnding (plain_text run) (ending_status run.ending) run.ending number old new
+TellsPlain number run old new =
+    TellsEnding (plain_text run.ending run.retired) (ending_status run.ending) run.ending number old new
 
 -- ---- what each command gives
 

@@ -5,6 +5,7 @@ use Rattle.sec_base.specs.Sink.{SinkState, IsSilent, IsWritten}
 use Rattle.sec_base.specs.declared.sink.SinkStop.TheVariants.{Failed, NoMemory as no_memory}
 use Rattle.chip_run.specs.declared.RunRecord.{RunRecord}
 use Rattle.chip_words.specs.Request.{Asked, WordsFault}
+use Rattle.chip_words.specs.Texts.{plain_text, record_text, tag_differs_line}
 use Rattle.chip_main.specs.declared.Done.{Done}
 use Rattle.chip_main.specs.declared.run_bus.RunBus.{RunBus}
 use Rattle.chip_main.specs.declared.course.Course.{Course}
@@ -13,7 +14,7 @@ use Rattle.chip_main.specs.World.{World}
 use Rattle.chip_main.specs.Needs.{needs_of}
 use Rattle.chip_main.specs.Causes.{IsRefused, RunsOut}
 use Rattle.chip_main.specs.Requests.{OtherTagRequest, PlainlyRunsRequest, RunsRequest, SummarizesRequest, WritesRequest}
-use Rattle.chip_main.specs.Texts.{plain_text, record_text, refusal_text, tag_differs_line}
+use Rattle.chip_main.specs.Texts.{refusal_text}
 use Rattle.chip_main.specs.Status.{IsResult, Telling, code_of, ending_status, refusal_status, run_status, text_status, told_status, untold_ending_status}
 use Rattle.chip_main.specs.declared.status.Status.{Status}
 use Rattle.chip_main.specs.declared.status.Status.TheVariants.{NoMemory as out_of_memory, TagDiffers, WriteFault}
@@ -38,8 +39,9 @@ TellsNothing old new telling = IsSilent old new × (telling ≡ Ok tt)
 abbrev pub TellsCourse : Course → SinkState → SinkState → Telling → Type 0
 TellsCourse (Refused refusal) old new telling = IsWritten (refusal_text refusal) old new telling
 TellsCourse NoMemory old new telling = TellsNothing old new telling
-TellsCourse (Ran run bus) old new telling = IsWritten (record_text run (run_history bus).lies) old new telling
-TellsCourse (RanPlain run) old new telling = IsWritten (plain_text run) old new telling
+TellsCourse (Ran run bus) old new telling =
+    IsWritten (record_text run.ending run.retired (run_history bus).lies run.made run.evidence run.report) old new telling
+TellsCourse (RanPlain run) old new telling = IsWritten (plain_text run.ending run.retired) old new telling
 TellsCourse (Written written) old new telling = TellsNothing old new telling
 TellsCourse OtherTag old new telling = IsWritten tag_differs_line old new telling
 TellsCourse (RanGenerated run bus written) old new telling = TellsNothing old new telling

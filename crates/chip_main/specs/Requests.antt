@@ -12,6 +12,7 @@ use Rattle.plain_machine.specs.declared.PlainRecord.{PlainRecord}
 use Rattle.chip_run.specs.Run.{RunsProtected}
 use Rattle.chip_run.specs.declared.RunRecord.{RunRecord}
 use Rattle.chip_words.specs.Request.{Asked, ExecutionAsked, FileAsked, ReportAsked, RunAsked, WordsFault, to_assemble, to_disassemble, to_measure, to_run, to_run_plain, to_verify, to_bench}
+use Rattle.chip_words.specs.Texts.{report_text, summary_text}
 use Rattle.chip_main.specs.declared.run_bus.RunBus.{RunBus}
 use Rattle.chip_main.specs.Buses.{IsBusOf, run_history}
 use Rattle.chip_main.specs.Causes.{AsksNothing}
@@ -20,7 +21,7 @@ use Rattle.chip_main.specs.Generated.{RunsGenerated}
 use Rattle.chip_main.specs.PlainRun.{RunsPlain}
 use Rattle.chip_main.specs.Status.{Telling}
 use Rattle.chip_main.specs.Taken.{ReadsExecution, ReadsProgram, ReadsReport, ReadsRun}
-use Rattle.chip_main.specs.Texts.{elf_file, listing, measurement_line, report_text, summary_text}
+use Rattle.chip_main.specs.Texts.{elf_file, listing, measurement_line}
 use Rattle.chip_main.specs.Verdict.{HasOtherTag, IsMadeBy}
 
 -- One statement for each kind of request: for a run on protected memory, for one on the plain machine, for a text of a
@@ -83,7 +84,7 @@ pub record Summarizes (number : ℕ) (files files' : FilesState) (out out' : Sin
   pub asked : AsksNothing files files'
   pub printed : List ℕ
   pub runs : RunsGenerated number printed run bus
-  pub written : IsWritten (summary_text number run printed) out out' telling
+  pub written : IsWritten (summary_text number run.ending run.retired printed) out out' telling
 
 -- the request is for a run on protected memory, for one on the plain machine, for a text, for the check of a report or
 -- for the run of a generated program; and that was done

@@ -14,16 +14,13 @@ ghost use Rattle.chip_main.specs.World.{world};
 
 mod course;
 mod device;
-mod evidence_lines;
 mod generated;
 mod perform;
 mod program;
 mod refusal;
-mod report_fields;
 mod run_bus;
 mod status;
 mod stop;
-mod summary;
 mod taking;
 mod telling;
 mod writing;

@@ -9,12 +9,10 @@ ghost use Rattle.chip_main.specs.Stop.{stopped_course};
 use crate::course::Course;
 use crate::device::run_on_device;
 use crate::generated::run_generated;
-use crate::report_fields::write_fields;
 use crate::stop::Stop;
-use crate::summary::write_summary;
 use crate::taking::{take_execution, take_program, take_report, take_run};
 use crate::writing::{write_elf_file, write_measurement};
-use chip_words::{Request, read_words};
+use chip_words::{Request, read_words, write_fields, write_summary};
 use rv32_listing::write_listing;
 use sec_base::{Files, Sink};
 use std::alloc::Global;
@@ -84,7 +82,14 @@ fn course_of<F: Files, O: Sink>(
         },
         Request::Bench(number) => {
             let (run, bus, printed) = run_generated(alloc, number)?;
-            let written = write_summary(alloc, number, &run, printed.as_slice(), out);
+            let written = write_summary(
+                alloc,
+                number,
+                run.ending,
+                run.retired,
+                printed.as_slice(),
+                out,
+            );
             Ok(Course::RanGenerated(run, bus, written))
         }
     }

@@ -1,3 +1,4 @@
+pub mod LinesWritten
 pub mod Walks
 pub mod Flags
 pub mod Fits

@@ -3,3 +3,4 @@ pub mod Fault
 pub mod Request
 pub mod Commands
 pub mod Words
+pub mod Texts

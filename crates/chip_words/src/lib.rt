@@ -10,8 +10,14 @@ ghost use Rattle.chip_words.specs.Request.{asked_number, asked_program, is_taken
 ghost use Rattle.chip_words.specs.Words.{asked, texts, Explains, IfUsage};
 
 mod app;
+mod evidence_lines;
 mod fault;
+mod lines;
+mod note;
+mod refusal_lines;
+mod report_fields;
 mod request;
+mod summary;
 #[cfg(test)]
 mod tests;
 mod values;
@@ -19,10 +25,18 @@ mod values;
 use clap::Error;
 use clap::error::ErrorKind;
 pub use fault::{ValueFault, WordsError};
+pub use lines::write_line;
+pub use note::{RunNote, tell_plain, tell_run};
+pub use refusal_lines::{
+    asm_fault_line, elf_fault_line, long_file_line, read_fault_line, report_fault_line,
+    script_fault_line, tag_differs_line, tell_usage, value_fault_line,
+};
+pub use report_fields::write_fields;
 pub use request::{
     Execution, ProgramFile, ProgramForm, ProtectedRun, ReportFile, Request, Tags, Terms,
 };
 use std::alloc::Global;
+pub use summary::write_summary;
 
 /// What the words of the process ask for, the program's name first. A question for help is refused too, and its answer is
 /// the text.

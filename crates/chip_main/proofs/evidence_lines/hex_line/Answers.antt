@@ -1,6 +1,0 @@
-use Rattle.std.proofs.Common.{◌∙◌, append_assoc}
-use Rattle.std.proofs.lemmas.Result.{IfOk-weaker}
-use Rattle.chip_main.proofs.evidence_lines.hex_line.Goals as goal
-
-pub returns : goal.returns
-returns c = IfOk-weaker c.format.result _ _ (λ text written. (rw c.in_ok-digits.ensures at written) ∙ simp append_assoc) c.format.ensures.ok

@@ -1,9 +1,0 @@
-use Rattle.std.proofs.Common.{ap}
-use Rattle.std.specs.List.{concat}
-use Rattle.chip_main.specs.Texts.{report_text}
-use Rattle.chip_main.proofs.Lines.{told_last}
-use Rattle.chip_main.proofs.report_fields.write_fields.Goals as goal
-
-pub returns-clause-told : goal.returns-clause-told
-returns-clause-told g c =
-    told_last _ (report_text c.args.report.now) _ _ c.write_lines.result (ap concat c.in_ok-lines.ensures) c.write_lines.ensures.told

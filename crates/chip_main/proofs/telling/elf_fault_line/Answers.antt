@@ -1,6 +1,0 @@
-use Rattle.std.proofs.Common.{◌∙◌, append_assoc}
-use Rattle.std.proofs.lemmas.Result.{IfOk-weaker}
-use Rattle.chip_main.proofs.telling.elf_fault_line.Goals as goal
-
-pub returns : goal.returns
-returns c = IfOk-weaker c.format.result _ _ (λ line written. (rw c.code-code.ensures at written) ∙ simp append_assoc) c.format.ensures.ok
