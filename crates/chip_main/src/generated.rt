@@ -6,23 +6,16 @@ ghost use Rattle.bus_model.specs.BusHistory.{new_history};
 ghost use Rattle.chip_run.specs.Run.{RunsProtected};
 ghost use Rattle.chip_main.specs.Buses.{IsBusOf, run_history};
 ghost use Rattle.chip_main.specs.Device.{terms_of};
-ghost use Rattle.chip_main.specs.Generated as spec;
 ghost use Rattle.chip_main.specs.Generated.{RunsGenerated, gathered, generated_run};
 
 use crate::device::run_on_device;
 use crate::run_bus::RunBus;
 use chip_run::RunRecord;
-use chip_words::{Execution, ProgramFile, ProgramForm, ProtectedRun, Tags, Terms};
-use sec_base::{Geometry, Image, NoMemory, Sink, SinkStop};
+use chip_words::{Execution, ProgramFile, ProgramForm, ProtectedRun, default_run};
+use sec_base::{Image, NoMemory, Sink, SinkStop};
 use std::alloc::Global;
 use std::marker::Model;
 use workload_gen::make;
-
-// The key of the device where none is given.
-const DEFAULT_DEVICE_KEY: [u8; 32] = [
-    0, 1, 2, 3, 4, 5, 6, 7, 8, 9, 10, 11, 12, 13, 14, 15, 16, 17, 18, 19, 20, 21, 22, 23, 24, 25,
-    26, 27, 28, 29, 30, 31,
-];
 
 /// What a program printed, kept in memory.
 #[derive(Debug, Drop)]
@@ -91,31 +84,21 @@ fn run_by_default(
         (new_history 4) (run_history done.1) done.0) }
     ensures bus { IfOk result (λ done. IsBusOf None done.1) }
 {
+    let default = default_run("");
     let file = ProgramFile {
         name: "",
         form: ProgramForm::ElfFile,
-        geometry: Geometry::new(4).unwrap(),
+        geometry: default.execution.file.geometry,
     };
     let execution = Execution {
         file,
         input: None,
-        steps: 10_000_000,
+        steps: default.execution.steps,
     };
     let asked = ProtectedRun {
         execution,
         script: None,
-        terms: default_terms(),
+        terms: default.terms,
     };
     run_on_device(alloc, image, None, &[], &asked, printed)
-}
-
-fn default_terms() -> Terms
-    ensures { result ≡ spec.default_terms }
-{
-    Terms {
-        device_key: DEFAULT_DEVICE_KEY,
-        tags: Tags::Hmac,
-        page_limit: u64::MAX,
-        nonce: [0; 16],
-    }
 }

@@ -4,3 +4,4 @@ pub mod Flags
 pub mod Fits
 pub mod Commands
 pub mod Requests
+pub mod DefaultRuns

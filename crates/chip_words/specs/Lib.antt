@@ -3,4 +3,5 @@ pub mod Fault
 pub mod Request
 pub mod Commands
 pub mod Words
+pub mod Defaults
 pub mod Texts

@@ -6,6 +6,9 @@ ghost use Rattle.clap.specs.declared.builder.command.Command.TheViews.{out-Comma
 ghost use Rattle.chip_words.specs.App.{assembly_rules, bench_rules, chip_app, command, execution_rules, inspection_rules, protected_run_rules, verification_rules};
 ghost use Rattle.chip_words.specs.App.{file_rule, flat_rule, input_rule, key_rule, levels_rule, nonce_rule, number_rule, page_limit_rule, script_rule, steps_rule, tags_rule};
 
+use crate::defaults::{
+    DEVICE_KEY_TEXT, LEVELS_TEXT, NONCE_TEXT, PAGE_LIMIT_TEXT, STEPS_TEXT, TAGS_TEXT,
+};
 use clap::{Arg, ArgAction, Command, value_parser};
 use std::alloc::{AllocError, Global};
 
@@ -160,7 +163,7 @@ fn levels<'a>(alloc: Global) -> Arg<'a>
         .long("levels")
         .value_name("L")
         .value_parser(value_parser!(u64).range(1..=6))
-        .default_value("4")
+        .default_value(LEVELS_TEXT)
         .help("The levels of the memory's tree, 1 to 6")
 }
 
@@ -172,7 +175,7 @@ fn steps<'a>(alloc: Global) -> Arg<'a>
         .long("steps")
         .value_name("N")
         .value_parser(value_parser!(u64))
-        .default_value("10000000")
+        .default_value(STEPS_TEXT)
         .help("How many instructions may be retired")
 }
 
@@ -193,7 +196,7 @@ fn key<'a>(alloc: Global) -> Arg<'a>
     Arg::new(alloc, "key")
         .long("key")
         .value_name("HEX")
-        .default_value("000102030405060708090a0b0c0d0e0f101112131415161718191a1b1c1d1e1f")
+        .default_value(DEVICE_KEY_TEXT)
         .help("The key of the device, of 64 digits")
 }
 
@@ -204,7 +207,7 @@ fn nonce<'a>(alloc: Global) -> Arg<'a>
     Arg::new(alloc, "nonce")
         .long("nonce")
         .value_name("HEX")
-        .default_value("00000000000000000000000000000000")
+        .default_value(NONCE_TEXT)
         .help("What the report is to answer, of 32 digits")
 }
 
@@ -215,7 +218,7 @@ fn tags<'a>(alloc: Global) -> Arg<'a>
     Arg::new(alloc, "tags")
         .long("tags")
         .value_name("T")
-        .default_value("hmac")
+        .default_value(TAGS_TEXT)
         .help("How memory is tagged: hmac, or xor, which can be forged and is for teaching")
 }
 
@@ -227,6 +230,6 @@ fn page_limit<'a>(alloc: Global) -> Arg<'a>
         .long("page-limit")
         .value_name("N")
         .value_parser(value_parser!(u64))
-        .default_value("18446744073709551615")
+        .default_value(PAGE_LIMIT_TEXT)
         .help("How high a page counter may rise")
 }

@@ -1,4 +1,4 @@
-//! The words of the command line: what they ask for.
+//! The words of the command line, what they ask for, and the texts that commands write.
 #![tactic(auto)]
 
 ghost use Rattle.std.specs.Prelude.{◌≡◌, ◌≢◌, ◌<◌, ◌≤◌, ◌^◌, ◌↔◌, [], Ok, IfOk, IfErr, IfSome, IsTrue};
@@ -10,6 +10,7 @@ ghost use Rattle.chip_words.specs.Request.{asked_number, asked_program, is_taken
 ghost use Rattle.chip_words.specs.Words.{asked, texts, Explains, IfUsage};
 
 mod app;
+mod defaults;
 mod evidence_lines;
 mod fault;
 mod lines;
@@ -24,6 +25,7 @@ mod values;
 
 use clap::Error;
 use clap::error::ErrorKind;
+pub use defaults::default_run;
 pub use fault::{ValueFault, WordsError};
 pub use lines::write_line;
 pub use note::{RunNote, tell_plain, tell_run};

@@ -3,7 +3,8 @@
 // and no option stands twice.
 use super::ProgramForm::{AssemblyText, ElfFile, FlatFile};
 use super::{
-    Execution, ProgramFile, ProgramForm, Request, Tags, ValueFault, WordsError, read_words,
+    Execution, ProgramFile, ProgramForm, Request, Tags, ValueFault, WordsError, default_run,
+    read_words,
 };
 use std::alloc::{AllocError, Global};
 use std::test::Fail;
@@ -129,6 +130,19 @@ fn page_limit(alloc: Global, line: &str) -> Result<Option<u64>, AllocError> {
         return Ok(None);
     };
     Ok(Some(run.terms.page_limit))
+}
+
+#[test]
+fn default_runs(rt: HostRuntime) -> Result<(), Fail> {
+    let run = default_run("p");
+    assert_eq!(rt;
+        execution_parts("run", &run.execution),
+        ("run", "p", ElfFile, None, 4, 10_000_000)
+    );
+    assert_eq!(rt; run.script, None);
+    assert_eq!(rt; run.terms.tags, Tags::Hmac);
+    assert_eq!(rt; run.terms.page_limit, u64::MAX);
+    Ok(())
 }
 
 #[test]

@@ -40,6 +40,7 @@ impl Model for ReplayBus {
 }
 
 impl ReplayBus {
+    /// Over an honest memory that nothing was written to yet. Fails only if out of memory.
     pub fn new(alloc: Global, geometry: Geometry, replay: Replay) -> Result<ReplayBus, NoMemory>
         ensures nothing_written { IfOk result (λ bus. NothingWritten (replay_history bus)) }
         ensures levels { IfOk result (λ bus. (replay_history bus).levels ≡ geometry) }

@@ -1,0 +1,69 @@
+// What a run is where the words name no option: as values, and as the texts that `clap` reads.
+ghost use Rattle.std.specs.Prelude.{◌≡◌};
+ghost use Rattle.chip_words.specs.Defaults as spec;
+ghost use Rattle.chip_words.specs.Defaults.{IsReadByDefault};
+ghost use Rattle.chip_words.specs.Words.{run_asked};
+
+use crate::request::{Execution, ProgramFile, ProgramForm, ProtectedRun, Tags, Terms};
+use sec_base::Geometry;
+
+pub(crate) const LEVELS_TEXT: &str = "4";
+
+const LEVELS: u8 = 4;
+
+pub(crate) const STEPS_TEXT: &str = "10000000";
+
+const STEPS: u64 = 10_000_000;
+
+pub(crate) const DEVICE_KEY_TEXT: &str =
+    "000102030405060708090a0b0c0d0e0f101112131415161718191a1b1c1d1e1f";
+
+const DEVICE_KEY: [u8; 32] = [
+    0, 1, 2, 3, 4, 5, 6, 7, 8, 9, 10, 11, 12, 13, 14, 15, 16, 17, 18, 19, 20, 21, 22, 23, 24, 25,
+    26, 27, 28, 29, 30, 31,
+];
+
+pub(crate) const NONCE_TEXT: &str = "00000000000000000000000000000000";
+
+const NONCE: [u8; 16] = [0; 16];
+
+pub(crate) const TAGS_TEXT: &str = "hmac";
+
+const TAGS: Tags = Tags::Hmac;
+
+pub(crate) const PAGE_LIMIT_TEXT: &str = "18446744073709551615";
+
+const PAGE_LIMIT: u64 = u64::MAX;
+
+/// The run of the program of this file where no option is named, as `run` and the name are read.
+pub fn default_run<'a>(name: &'a str) -> ProtectedRun<'a>
+    ensures settings { run_asked result ≡ spec.default_run name.now }
+    ensures as_read { IsReadByDefault name.now }
+{
+    let file = ProgramFile {
+        name,
+        form: ProgramForm::ElfFile,
+        geometry: Geometry::new(LEVELS).unwrap(),
+    };
+    let execution = Execution {
+        file,
+        input: None,
+        steps: STEPS,
+    };
+    ProtectedRun {
+        execution,
+        script: None,
+        terms: default_terms(),
+    }
+}
+
+fn default_terms() -> Terms
+    ensures { result ≡ spec.default_terms }
+{
+    Terms {
+        device_key: DEVICE_KEY,
+        tags: TAGS,
+        page_limit: PAGE_LIMIT,
+        nonce: NONCE,
+    }
+}
