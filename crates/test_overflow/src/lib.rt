@@ -1,0 +1,5 @@
+//! A page that is encrypted anew over a memory that an adversary changes meanwhile.
+#![tactic(auto)]
+
+#[cfg(test)]
+mod tests;
