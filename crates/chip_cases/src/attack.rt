@@ -1,5 +1,6 @@
 // Runs over a memory that an adversary changes by a script.
-use crate::calls::{Call, file, make_call};
+use crate::calls::{Call, call_file, file, make_call, program};
+use crate::shown::{Shown, shows};
 use crate::words::ASM;
 use sec_base::{MemoryFiles, NoMemory};
 use std::alloc::Global;
@@ -15,10 +16,17 @@ pub struct Attack<'a> {
     pub status: u8,
 }
 
+impl<'a> Attack<'a> {
+    /// What its run is to show.
+    pub fn shown(&self) -> Shown<'a> {
+        shows(self.printed, self.told, self.status)
+    }
+}
+
 /// The files `p`, which is the program of an assembly text, and `s`, a script.
 pub fn attack_files(alloc: Global, text: &[u8], script: &[u8]) -> Result<MemoryFiles, NoMemory> {
-    let mut files = file(alloc, text, &[])?;
-    let program = make_call(alloc, &ASM, &mut files, &[], &[])?;
+    let program = call_file(alloc, &ASM, text)?;
+    let mut files = MemoryFiles::new(alloc, &[])?;
     files.add("p", program.out.bytes())?;
     files.add("s", script)?;
     Ok(files)
@@ -29,4 +37,17 @@ pub fn call_attack(alloc: Global, attack: Attack<'_>) -> Result<Call, NoMemory> 
     let mut files = attack_files(alloc, attack.text, attack.script)?;
     let words = ["chip", "run", "p", "--script", "s", "--tags", attack.tags];
     make_call(alloc, &words, &mut files, &[], &[])
+}
+
+/// A call on a program of these words, the file `f`, by the script `s`.
+pub fn call_by_script(
+    alloc: Global,
+    words: &[&str],
+    code: &[u32],
+    script: &[u8],
+) -> Result<Call, NoMemory> {
+    let bytes = program(alloc, code)?;
+    let mut files = file(alloc, bytes.as_slice(), &[])?;
+    files.add("s", script)?;
+    make_call(alloc, words, &mut files, &[], &[])
 }

@@ -52,6 +52,32 @@ pub fn make_call(
     Ok(Call { done, out, note })
 }
 
+/// A call whose sinks take at most so many bytes of a piece, and at least one.
+pub fn make_short_call(
+    alloc: Global,
+    words: &[&str],
+    files: &mut MemoryFiles,
+    most: usize,
+) -> Result<Call, NoMemory> {
+    let most = most.max(1);
+    let mut out = MemorySink::short(alloc, most)?;
+    let mut note = MemorySink::short(alloc, most)?;
+    let done = run_words(alloc, words, files, &mut out, &mut note);
+    Ok(Call { done, out, note })
+}
+
+/// A call with no file there.
+pub fn call_without_files(alloc: Global, words: &[&str]) -> Result<Call, NoMemory> {
+    let mut files = MemoryFiles::new(alloc, &[])?;
+    make_call(alloc, words, &mut files, &[], &[])
+}
+
+/// A call on the file `f` of these bytes.
+pub fn call_file(alloc: Global, words: &[&str], bytes: &[u8]) -> Result<Call, NoMemory> {
+    let mut files = file(alloc, bytes, &[])?;
+    make_call(alloc, words, &mut files, &[], &[])
+}
+
 /// A call on a program of these words, whose writes with these numbers fail.
 pub fn call_program(
     alloc: Global,
@@ -68,14 +94,7 @@ pub fn call_program(
 /// A call on the file `f` of so many zeros.
 pub fn call_zeros(alloc: Global, words: &[&str], length: usize) -> Result<Call, NoMemory> {
     let bytes = vec![in alloc; 0u8; length]?;
-    let mut files = file(alloc, bytes.as_slice(), &[])?;
-    make_call(alloc, words, &mut files, &[], &[])
-}
-
-/// A call on an assembly text.
-pub fn call_text(alloc: Global, words: &[&str], text: &[u8]) -> Result<Call, NoMemory> {
-    let mut files = file(alloc, text, &[])?;
-    make_call(alloc, words, &mut files, &[], &[])
+    call_file(alloc, words, bytes.as_slice())
 }
 
 /// A call on the ELF file of an assembly text, whose writes to `out` with these numbers fail.
@@ -85,7 +104,7 @@ pub fn call_assembled(
     text: &[u8],
     out_fails: &[u64],
 ) -> Result<Call, NoMemory> {
-    let assembled = call_text(alloc, &ASM, text)?;
+    let assembled = call_file(alloc, &ASM, text)?;
     let mut files = file(alloc, assembled.out.bytes(), &[])?;
     make_call(alloc, words, &mut files, out_fails, &[])
 }

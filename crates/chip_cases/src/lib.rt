@@ -3,16 +3,26 @@
 
 mod attack;
 mod calls;
+mod case;
 mod programs;
+mod reports;
+mod results;
 mod shown;
 mod texts;
 mod words;
 
-pub use attack::{Attack, attack_files, call_attack};
+pub use attack::{Attack, attack_files, call_attack, call_by_script};
 pub use calls::{
-    Call, call_assembled, call_program, call_text, call_zeros, file, make_call, program,
+    Call, call_assembled, call_file, call_program, call_without_files, call_zeros, file, make_call,
+    make_short_call, program,
 };
-pub use programs::{EXIT_7, EXIT_7_ELF, EXIT_65, PRINT_A};
+pub use case::{Case, edited};
+pub use programs::{EXIT_7, EXIT_7_BYTES, EXIT_7_ELF, EXIT_7_TEXT, EXIT_65, PRINT_A};
+pub use reports::{REPORT, REPORT_OF_KEY, REPORT_TARGET};
+pub use results::{DIGEST, FIELDS, LISTING};
 pub use shown::{Shown, shows, without_report};
-pub use texts::{STORE_AND_PRINT, STORE_TWICE};
-pub use words::{ASM, DIS, PLAIN, PLAIN_ON_INPUT, RUN, RUN_ON_INPUT, RUN_SMALL};
+pub use texts::{PRINT_TWICE, STORE_200_TIMES, STORE_AND_PRINT, STORE_TWICE};
+pub use words::{
+    ASM, DIS, DIS_ELF, MEASURE, MEASURE_ELF, PLAIN, PLAIN_ELF, PLAIN_ON_INPUT, RUN, RUN_BY_ALL,
+    RUN_ELF, RUN_ON_INPUT, RUN_SMALL, VERIFY,
+};

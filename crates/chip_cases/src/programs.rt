@@ -31,7 +31,13 @@ pub const PRINT_A: [u32; 10] = [
     0x0000_0073, // ecall
 ];
 
-/// The program that exits with 7: a file header, a program header, and three words.
+/// The bytes of the program that exits with 7.
+pub const EXIT_7_BYTES: &[u8] = b"\x13\x05\x70\0\x93\x08\xd0\x05\x73\0\0\0";
+
+/// Its assembly text.
+pub const EXIT_7_TEXT: &[u8] = b"li a0, 7\nli a7, 93\necall\n";
+
+/// Its ELF file: a file header, a program header, and three words.
 pub const EXIT_7_ELF: [u8; 96] = [
     0x7f, 0x45, 0x4c, 0x46, 1, 1, 1, 0, 0, 0, 0, 0, 0, 0, 0, 0, // ident
     2, 0, 243, 0, 1, 0, 0, 0, 0, 0, 0, 0, 52, 0, 0, 0, // kind, machine, version, entry, table

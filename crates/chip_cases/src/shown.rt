@@ -27,6 +27,12 @@ impl Call {
             self.done.status,
         )
     }
+
+    /// Whether its words were no request.
+    pub fn is_usage(&self) -> bool {
+        let told = self.note.bytes();
+        told.starts_with(b"usage\n") && self.out.bytes().is_empty() && self.done.status == 2
+    }
 }
 
 /// A text without the line of a report at its end, which begins with `report ` and has 316 digits.

@@ -41,3 +41,27 @@ again:  sb   t3, 0(t0)
         li   a7, 93
         ecall
 ";
+
+/// It prints A and then B, and exits with what the service answered.
+pub const PRINT_TWICE: &[u8] = b"_start: la   a1, text
+        li   a2, 1
+        li   a0, 1
+        li   a7, 64
+        ecall
+        addi a1, a1, 1
+        li   a0, 1
+        ecall
+        li   a7, 93
+        ecall
+text:   .ascii \"AB\"
+";
+
+/// It stores to one line 200 times, and the line stays on the chip.
+pub const STORE_200_TIMES: &[u8] = b"        li   t0, 0x1000
+        li   t1, 200
+again:  sw   t1, 0(t0)
+        addi t1, t1, -1
+        bnez t1, again
+        li   a7, 93
+        ecall
+";

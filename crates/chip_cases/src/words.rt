@@ -20,3 +20,23 @@ pub const PLAIN_ON_INPUT: [&str; 6] = ["chip", "plain", "f", "--flat", "--input"
 
 /// Assembles the text `f`.
 pub const ASM: [&str; 3] = ["chip", "asm", "f"];
+
+/// Measures the flat file `f`.
+pub const MEASURE: [&str; 4] = ["chip", "measure", "f", "--flat"];
+
+/// The same of ELF files.
+pub const RUN_ELF: [&str; 3] = ["chip", "run", "f"];
+
+pub const PLAIN_ELF: [&str; 3] = ["chip", "plain", "f"];
+
+pub const DIS_ELF: [&str; 3] = ["chip", "dis", "f"];
+
+pub const MEASURE_ELF: [&str; 3] = ["chip", "measure", "f"];
+
+/// Runs the flat file `f` by the script `s` on the input `i`.
+pub const RUN_BY_ALL: [&str; 8] = [
+    "chip", "run", "f", "--flat", "--script", "s", "--input", "i",
+];
+
+/// Checks the report `f`.
+pub const VERIFY: [&str; 3] = ["chip", "verify", "f"];

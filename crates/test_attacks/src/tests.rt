@@ -1,12 +1,10 @@
 // Runs over a memory that an adversary changes by a script. Each expected text and status is that of an independent model
 // in Python (hashlib, hmac, cryptography).
 use chip_cases::{
-    Attack, EXIT_7, STORE_AND_PRINT, STORE_TWICE, attack_files, call_attack, call_program, file,
-    make_call, program, shows,
+    Attack, EXIT_7, STORE_AND_PRINT, STORE_TWICE, attack_files, call_attack, call_by_script,
+    make_call, shows,
 };
 use chip_main::RunBus;
-use std::alloc::Global;
-use std::process::Abort;
 use std::test::Fail;
 
 const FLIP: &[u8] = b"read data 5 1: flip data 5 0 01\n";
@@ -119,18 +117,12 @@ tag cdd9bd2ef93fe00084eb9f1953edd103
     },
 ];
 
-fn check_attack(rt: &impl Abort, alloc: Global, attack: Attack<'_>) -> Result<(), Fail> {
-    let call = call_attack(alloc, attack)?;
-    let expected = shows(attack.printed, attack.told, attack.status);
-    assert_eq!(rt; call.shown(), expected);
-    assert!(rt; matches!(call.done.bus, Some(RunBus::Script(_))));
-    Ok(())
-}
-
 #[test]
 fn attacks_come_to_what_they_do(rt: HostRuntime) -> Result<(), Fail> {
     for attack in ATTACKS {
-        check_attack(&rt, rt.alloc(), attack)?;
+        let call = call_attack(rt.alloc(), attack)?;
+        assert_eq!(rt; call.shown(), attack.shown());
+        assert!(rt; matches!(call.done.bus, Some(RunBus::Script(_))));
     }
     Ok(())
 }
@@ -164,49 +156,17 @@ const SMALL_RUN_BY_SCRIPT: [&str; 8] = [
     "chip", "run", "f", "--flat", "--levels", "1", "--script", "s",
 ];
 
-// What the run of a script in the smallest memory tells.
-fn check_boot(
-    rt: &impl Abort,
-    alloc: Global,
-    script: &[u8],
-    told: &[u8],
-    status: u8,
-) -> Result<(), Fail> {
-    let code = program(alloc, &EXIT_7)?;
-    let mut files = file(alloc, code.as_slice(), &[])?;
-    files.add("s", script)?;
-    let call = make_call(alloc, &SMALL_RUN_BY_SCRIPT, &mut files, &[], &[])?;
-    assert_eq!(rt; call.shown(), shows(b"", told, status));
-    assert_eq!(rt; call.done.lies, u64::from(status == 5));
-    Ok(())
-}
-
 #[test]
 fn accesses_are_counted_from_boot_on(rt: HostRuntime) -> Result<(), Fail> {
     for (script, told, status) in BOOTS {
-        check_boot(&rt, rt.alloc(), script, told, status)?;
+        let call = call_by_script(rt.alloc(), &SMALL_RUN_BY_SCRIPT, &EXIT_7, script)?;
+        assert_eq!(rt; call.shown(), shows(b"", told, status));
+        assert_eq!(rt; call.done.lies, u64::from(status == 5));
     }
     Ok(())
 }
 
 const RUN_BY_SCRIPT: [&str; 6] = ["chip", "run", "f", "--flat", "--script", "s"];
-
-// What is told of a script that is refused, and of one of so many bytes.
-fn check_script(
-    rt: &impl Abort,
-    alloc: Global,
-    script: &[u8],
-    told: &[u8],
-    status: u8,
-) -> Result<(), Fail> {
-    let code = program(alloc, &EXIT_7)?;
-    let mut files = file(alloc, code.as_slice(), &[])?;
-    files.add("s", script)?;
-    let call = make_call(alloc, &RUN_BY_SCRIPT, &mut files, &[], &[])?;
-    assert_eq!(rt; call.shown(), shows(b"", told, status));
-    assert_eq!(rt; call.done.run.is_some(), status == 0);
-    Ok(())
-}
 
 const REFUSED: [(&[u8], &[u8]); 8] = [
     (b"access 0: saveall 0", b"refused script 1 2 Number\n"),
@@ -235,105 +195,27 @@ const REFUSED: [(&[u8], &[u8]); 8] = [
 #[test]
 fn scripts_are_refused(rt: HostRuntime) -> Result<(), Fail> {
     for (script, told) in REFUSED {
-        check_script(&rt, rt.alloc(), script, told, 3)?;
+        let call = call_by_script(rt.alloc(), &RUN_BY_SCRIPT, &EXIT_7, script)?;
+        assert_eq!(rt; call.shown(), shows(b"", told, 3));
+        assert!(rt; call.done.run.is_none());
     }
     Ok(())
 }
+
+// How long a comment is, what is told, and the status.
+const LENGTHS: [(usize, &[u8], u8); 2] = [
+    (1_048_576, b"halted 7\nretired 3\nlies 0\n", 0),
+    (1_048_577, b"refused long\n", 3),
+];
 
 #[test]
 fn a_script_has_a_limit(rt: HostRuntime) -> Result<(), Fail> {
-    let alloc = rt.alloc();
-    let comment = vec![in alloc; b'#'; 1_048_576]?;
-    check_script(
-        &rt,
-        alloc,
-        comment.as_slice(),
-        b"halted 7\nretired 3\nlies 0\n",
-        0,
-    )?;
-    let longer = vec![in alloc; b'#'; 1_048_577]?;
-    check_script(&rt, alloc, longer.as_slice(), b"refused long\n", 3)?;
-    Ok(())
-}
-
-// A program, a script and an input, where a read may fail: what is told, and the files that were asked for.
-#[derive(Clone, Copy)]
-struct Order<'a> {
-    code: &'a [u8],
-    script: &'a [u8],
-    fails: &'a [u64],
-    told: &'a [u8],
-    status: u8,
-}
-
-// Each file has its form before the next one is read. The third read is that of the input.
-const ORDERS: [Order<'static>; 5] = [
-    Order {
-        code: b"",
-        script: b"access",
-        fails: &[3],
-        told: b"refused script 1 1 Word\n",
-        status: 3,
-    },
-    Order {
-        code: b"",
-        script: b"",
-        fails: &[3],
-        told: b"read fault\n",
-        status: 8,
-    },
-    Order {
-        code: b"",
-        script: b"access",
-        fails: &[2],
-        told: b"read fault\n",
-        status: 8,
-    },
-    Order {
-        code: b"",
-        script: b"access",
-        fails: &[1],
-        told: b"read fault\n",
-        status: 8,
-    },
-    Order {
-        code: b"",
-        script: b"",
-        fails: &[4],
-        told: b"trapped illegal pc 00000000\nretired 0\nlies 0\n",
-        status: 1,
-    },
-];
-
-const RUN_BY_ALL: [&str; 8] = [
-    "chip", "run", "f", "--flat", "--input", "i", "--script", "s",
-];
-
-fn check_order(rt: &impl Abort, alloc: Global, order: Order<'_>) -> Result<(), Fail> {
-    let mut files = file(alloc, order.code, order.fails)?;
-    files.add("s", order.script)?;
-    files.add("i", b"")?;
-    let call = make_call(alloc, &RUN_BY_ALL, &mut files, &[], &[])?;
-    assert_eq!(rt; call.shown(), shows(b"", order.told, order.status));
-    Ok(())
-}
-
-#[test]
-fn the_script_is_read_between_program_and_input(rt: HostRuntime) -> Result<(), Fail> {
-    for order in ORDERS {
-        check_order(&rt, rt.alloc(), order)?;
+    for (length, told, status) in LENGTHS {
+        let comment = vec![in rt.alloc(); b'#'; length]?;
+        let call = call_by_script(rt.alloc(), &RUN_BY_SCRIPT, &EXIT_7, comment.as_slice())?;
+        assert_eq!(rt; call.shown(), shows(b"", told, status));
+        assert_eq!(rt; call.done.run.is_some(), status == 0);
     }
-    Ok(())
-}
-
-// Tags are tested before any file is read.
-#[test]
-fn other_tags_are_usage(rt: HostRuntime) -> Result<(), Fail> {
-    let words = ["chip", "run", "absent", "--tags", "md5"];
-    let call = call_program(rt.alloc(), &words, &EXIT_7, &[], &[])?;
-    assert_eq!(rt; call.shown(), shows(b"", b"usage tags\n", 2));
-    let call = call_program(rt.alloc(), &words, &EXIT_7, &[], &[1])?;
-    assert_eq!(rt; call.shown(), shows(b"", b"", 2));
     Ok(())
 }
 

@@ -1,9 +1,7 @@
 // Generated programs. What each prints is from an independent model in Python.
-use chip_cases::{RUN, file, make_call, shows};
+use chip_cases::{RUN, call_without_files, file, make_call, shows};
 use chip_main::Done;
 use sec_base::{Ending, MemoryFiles};
-use std::alloc::Global;
-use std::process::Abort;
 use std::test::Fail;
 use workload_gen::make;
 
@@ -29,8 +27,7 @@ const PROGRAMS: [(&str, &[u8], u32); 3] = [
 #[test]
 fn generated_programs_are_summed_up(rt: HostRuntime) -> Result<(), Fail> {
     for (number, text, code) in PROGRAMS {
-        let mut files = MemoryFiles::new(rt.alloc(), &[])?;
-        let call = make_call(rt.alloc(), &["chip", "bench", number], &mut files, &[], &[])?;
+        let call = call_without_files(rt.alloc(), &["chip", "bench", number])?;
         assert_eq!(rt; call.shown(), shows(text, b"", 0));
         assert_eq!(rt; call.ending(), Some(Ending::Halted(code)));
         assert!(rt; call.done.bus.is_some());
@@ -66,30 +63,5 @@ fn a_fault_of_out_cuts_the_summary(rt: HostRuntime) -> Result<(), Fail> {
     let call = make_call(rt.alloc(), &["chip", "bench", "0"], &mut files, &[2], &[1])?;
     assert_eq!(rt; call.shown(), shows(b"number 0\n", b"", 9));
     assert_eq!(rt; call.ending(), Some(Ending::Halted(3)));
-    Ok(())
-}
-
-const OTHER_NUMBERS: [&[&str]; 4] = [
-    &["chip", "bench"],
-    &["chip", "bench", "4294967296"],
-    &["chip", "bench", "-1"],
-    &["chip", "bench", "0", "--flat"],
-];
-
-// The words are no request.
-fn check_usage(rt: &impl Abort, alloc: Global, words: &[&str]) -> Result<(), Fail> {
-    let mut files = MemoryFiles::new(alloc, &[])?;
-    let call = make_call(alloc, words, &mut files, &[], &[])?;
-    assert!(rt; call.note.bytes().starts_with(b"usage\n"));
-    assert_eq!(rt; call.out.bytes(), b"".as_slice());
-    assert_eq!(rt; call.done.status, 2);
-    Ok(())
-}
-
-#[test]
-fn other_numbers_are_usage(rt: HostRuntime) -> Result<(), Fail> {
-    for words in OTHER_NUMBERS {
-        check_usage(&rt, rt.alloc(), words)?;
-    }
     Ok(())
 }

@@ -2,6 +2,6 @@
 #![tactic(auto)]
 
 #[cfg(test)]
-mod fakes;
+mod forgetful;
 #[cfg(test)]
 mod tests;

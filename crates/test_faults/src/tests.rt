@@ -1,44 +1,18 @@
 // Reads and writes that fail, each in turn. What is written whole is worked out by hand from the words and the machine's
 // rules, and digests and the report by another program (hashlib, hmac in Python); each line is one piece.
-use crate::fakes::{ForgetfulFiles, NarrowSink};
+use crate::forgetful::{ForgetfulFiles, ForgetfulSink};
 use chip_cases::{
-    ASM, DIS, EXIT_7_ELF, PLAIN, PLAIN_ON_INPUT, RUN_SMALL, Shown, call_program, make_call,
-    program, shows, without_report,
+    ASM, DIGEST, DIS, EXIT_7, EXIT_7_BYTES, EXIT_7_ELF, EXIT_7_TEXT, FIELDS, LISTING, MEASURE,
+    PLAIN, PLAIN_ON_INPUT, PRINT_A, REPORT, RUN, RUN_BY_ALL, RUN_SMALL, Shown, VERIFY,
+    call_program, make_call, make_short_call, program, shows, without_report,
 };
 use chip_main::run_words;
-use sec_base::{MemoryFiles, NoMemory};
+use sec_base::{Ending, MemoryFiles, NoMemory};
 use std::alloc::Global;
 use std::process::Abort;
 use std::test::Fail;
 
-const RUN_BY_ALL: [&str; 8] = [
-    "chip", "run", "f", "--flat", "--script", "s", "--input", "i",
-];
-
-const MEASURE: [&str; 4] = ["chip", "measure", "f", "--flat"];
-
-const VERIFY: [&str; 3] = ["chip", "verify", "f"];
-
-// The bytes of the program that exits with 7.
-const EXIT_7_BYTES: &[u8] = b"\x13\x05\x70\0\x93\x08\xd0\x05\x73\0\0\0";
-
-const EXIT_7_TEXT: &[u8] = b"li a0, 7\nli a7, 93\necall\n";
-
-const LISTING: &[u8] = b"00000000 00700513 addi a0, zero, 7
-00000004 05d00893 addi a7, zero, 93
-00000008 00000073 ecall
-";
-
-const DIGEST: &[u8] = b"16f50c65e5d32ef308c297c15f9cdae14c3f482dd9e03853348a497b7abe0a1a\n";
-
-// The report of the program that exits with 7, by itself, behind what is told of its run, and its fields.
-const REPORT: &[u8] = b"\
-    0116f50c65e5d32ef308c297c15f9cdae14c3f482dd9e03853348a497b7abe0a1a\
-    e3b0c44298fc1c149afbf4c8996fb92427ae41e4649b934ca495991b7852b855\
-    e3b0c44298fc1c149afbf4c8996fb92427ae41e4649b934ca495991b7852b855\
-    0300000000000000000700000000000000000000000000000000000000\
-    a479401f853b37d1c441ce4553c6f3583bba91d772f3dcafbc7b506825d4dd77";
-
+// What is told of a run of the program that exits with 7, with the line of its report.
 const TOLD: &[u8] = b"halted 7\nretired 3\nlies 0\n\
     report \
     0116f50c65e5d32ef308c297c15f9cdae14c3f482dd9e03853348a497b7abe0a1a\
@@ -46,15 +20,6 @@ const TOLD: &[u8] = b"halted 7\nretired 3\nlies 0\n\
     e3b0c44298fc1c149afbf4c8996fb92427ae41e4649b934ca495991b7852b855\
     0300000000000000000700000000000000000000000000000000000000\
     a479401f853b37d1c441ce4553c6f3583bba91d772f3dcafbc7b506825d4dd77\n";
-
-const FIELDS: &[u8] = b"\
-measurement 16f50c65e5d32ef308c297c15f9cdae14c3f482dd9e03853348a497b7abe0a1a
-input e3b0c44298fc1c149afbf4c8996fb92427ae41e4649b934ca495991b7852b855
-output e3b0c44298fc1c149afbf4c8996fb92427ae41e4649b934ca495991b7852b855
-retired 3
-ending 0 code 7
-nonce 00000000000000000000000000000000
-";
 
 // A command, the file `f`, how many files it reads, and what it prints and tells whole, with status 0.
 #[derive(Clone, Copy)]
@@ -82,7 +47,14 @@ const LISTED: Command<'static> = Command {
     told: b"",
 };
 
-const COMMANDS: [Command<'static>; 6] = [
+const COMMANDS: [Command<'static>; 7] = [
+    Command {
+        words: &RUN,
+        bytes: EXIT_7_BYTES,
+        reads: 1,
+        printed: b"",
+        told: TOLD,
+    },
     Command {
         words: &RUN_BY_ALL,
         bytes: EXIT_7_BYTES,
@@ -191,7 +163,40 @@ fn check_failing(
     Ok(())
 }
 
-// What it comes to where these find no memory, and the sinks take so many bytes of a piece at most.
+// What a call wrote, and its status.
+#[derive(Drop)]
+struct Wanting {
+    out: ForgetfulSink,
+    note: ForgetfulSink,
+    status: u8,
+}
+
+impl Wanting {
+    fn shown(&self) -> Shown<'_> {
+        shows(self.out.bytes(), self.note.bytes(), self.status)
+    }
+}
+
+// A call where these find no memory, and the sinks take so many bytes of a piece at most.
+fn call_wanting(
+    alloc: Global,
+    words: &[&str],
+    files: MemoryFiles,
+    at: At,
+    most: usize,
+) -> Result<Wanting, NoMemory> {
+    let mut files = ForgetfulFiles::new(files, at.read);
+    let mut out = ForgetfulSink::new(alloc, most, at.out)?;
+    let mut note = ForgetfulSink::new(alloc, most, at.note)?;
+    let done = run_words(alloc, words, &mut files, &mut out, &mut note);
+    Ok(Wanting {
+        out,
+        note,
+        status: done.status,
+    })
+}
+
+// What a command comes to then.
 fn check_wanting(
     rt: &impl Abort,
     alloc: Global,
@@ -201,12 +206,8 @@ fn check_wanting(
     expected: Shown<'_>,
 ) -> Result<(), Fail> {
     let files = files_of(alloc, command.bytes, &[])?;
-    let mut files = ForgetfulFiles::new(files, at.read);
-    let mut out = NarrowSink::new(alloc, most, at.out);
-    let mut note = NarrowSink::new(alloc, most, at.note);
-    let done = run_words(alloc, command.words, &mut files, &mut out, &mut note);
-    let shown = shows(out.bytes(), note.bytes(), done.status);
-    assert_eq!(rt; shown, expected);
+    let call = call_wanting(alloc, command.words, files, at, most)?;
+    assert_eq!(rt; call.shown(), expected);
     Ok(())
 }
 
@@ -278,8 +279,11 @@ fn each_write_to_note_fails_in_turn(rt: HostRuntime) -> Result<(), Fail> {
 fn narrow_sinks_get_the_same_bytes(rt: HostRuntime) -> Result<(), Fail> {
     for command in COMMANDS {
         for most in [1, 7, 64] {
+            let mut files = files_of(rt.alloc(), command.bytes, &[])?;
+            let call = make_short_call(rt.alloc(), command.words, &mut files, most)?;
             let whole = shows(command.printed, command.told, 0);
-            check_wanting(&rt, rt.alloc(), command, NEVER, most, whole)?;
+            let shown = shows(call.out.bytes(), call.note.bytes(), call.done.status);
+            assert_eq!(rt; shown, whole);
         }
     }
     Ok(())
@@ -352,6 +356,12 @@ const CUTS: [Cut<'static>; 3] = [
     },
 ];
 
+// The program's files, where no read fails.
+fn printing_files(alloc: Global) -> Result<MemoryFiles, NoMemory> {
+    let bytes = program(alloc, &PRINT_A_AND_B)?;
+    files_of(alloc, bytes.as_slice(), &[])
+}
+
 // What a run of the program comes to where a write to `out` finds no memory.
 fn check_printing(
     rt: &impl Abort,
@@ -360,13 +370,10 @@ fn check_printing(
     out: u64,
     expected: Shown<'_>,
 ) -> Result<(), Fail> {
-    let bytes = program(alloc, &PRINT_A_AND_B)?;
-    let mut files = files_of(alloc, bytes.as_slice(), &[])?;
-    let mut out = NarrowSink::new(alloc, 1, out);
-    let mut note = NarrowSink::new(alloc, 1, 0);
-    let done = run_words(alloc, words, &mut files, &mut out, &mut note);
-    let told = without_report(note.bytes());
-    assert_eq!(rt; shows(out.bytes(), told, done.status), expected);
+    let files = printing_files(alloc)?;
+    let call = call_wanting(alloc, words, files, At { out, ..NEVER }, 1)?;
+    let told = without_report(call.note.bytes());
+    assert_eq!(rt; shows(call.out.bytes(), told, call.status), expected);
     Ok(())
 }
 
@@ -375,18 +382,46 @@ fn check_printing(
 fn a_run_ends_where_its_output_fails(rt: HostRuntime) -> Result<(), Fail> {
     for cut in CUTS {
         let (told, status) = cut.failing;
-        let call = call_program(rt.alloc(), &RUN_SMALL, &PRINT_A_AND_B, &[cut.out], &[])?;
+        let call = call_program(rt.alloc(), &RUN, &PRINT_A_AND_B, &[cut.out], &[])?;
         assert_eq!(rt; call.shown(), shows(cut.printed, told, status));
         let call = call_program(rt.alloc(), &PLAIN, &PRINT_A_AND_B, &[cut.out], &[])?;
         let plain = shows(cut.printed, first_pieces(told, 2), status);
         assert_eq!(rt; call.shown(), plain);
+    }
+    Ok(())
+}
 
+#[test]
+fn a_run_ends_where_its_output_finds_no_memory(rt: HostRuntime) -> Result<(), Fail> {
+    for cut in CUTS {
         let (told, status) = cut.wanting;
         let whole = shows(cut.printed, told, status);
-        check_printing(&rt, rt.alloc(), &RUN_SMALL, cut.out, whole)?;
+        check_printing(&rt, rt.alloc(), &RUN, cut.out, whole)?;
         let plain = shows(cut.printed, first_pieces(told, 2), status);
         check_printing(&rt, rt.alloc(), &PLAIN, cut.out, plain)?;
     }
+    Ok(())
+}
+
+#[test]
+fn a_run_prints_the_same_to_narrow_sinks(rt: HostRuntime) -> Result<(), Fail> {
+    let mut files = printing_files(rt.alloc())?;
+    let call = make_short_call(rt.alloc(), &RUN, &mut files, 1)?;
+    let told = b"halted 1\nretired 11\nlies 0\n";
+    assert_eq!(rt; call.shown(), shows(b"AB", told, 0));
+    Ok(())
+}
+
+// The run is handed back where nothing can be told of it, and where its output ended it.
+#[test]
+fn a_fault_of_a_sink_keeps_the_run(rt: HostRuntime) -> Result<(), Fail> {
+    let call = call_program(rt.alloc(), &RUN, &EXIT_7, &[], &[1])?;
+    assert_eq!(rt; call.shown(), shows(b"", b"", 9));
+    assert_eq!(rt; call.ending(), Some(Ending::Halted(7)));
+    let call = call_program(rt.alloc(), &RUN_SMALL, &PRINT_A, &[1], &[])?;
+    let told = b"write fault\nretired 7\nlies 0\n";
+    assert_eq!(rt; call.shown(), shows(b"", told, 9));
+    assert_eq!(rt; call.ending(), Some(Ending::WriteFault));
     Ok(())
 }
 
@@ -497,11 +532,13 @@ fn check_one_line(
     files.add("s", line.script)?;
     let call = make_call(alloc, line.words, &mut files, &[1], &[note])?;
     assert_eq!(rt; call.shown(), failing);
-    let mut out = NarrowSink::new(alloc, WHOLE, 1);
-    let mut note = NarrowSink::new(alloc, WHOLE, note);
-    let done = run_words(alloc, line.words, &mut files, &mut out, &mut note);
-    let shown = shows(out.bytes(), note.bytes(), done.status);
-    assert_eq!(rt; shown, wanting);
+    let at = At {
+        read: 0,
+        out: 1,
+        note,
+    };
+    let call = call_wanting(alloc, line.words, files, at, WHOLE)?;
+    assert_eq!(rt; call.shown(), wanting);
     Ok(())
 }
 

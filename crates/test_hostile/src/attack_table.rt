@@ -3,21 +3,11 @@
 // without a script, with no false answer. It ends by the check of its first false answer, having printed a prefix of what it
 // prints. Or that answer passes its check, which is evidence: none does but under weak tags. Which runs come to what is that
 // of an independent model in Python (bench/attacks.py: hashlib, hmac, cryptography).
-use chip_cases::{ASM, STORE_AND_PRINT, STORE_TWICE, call_text, make_call, shows};
+use chip_cases::{ASM, STORE_200_TIMES, STORE_AND_PRINT, STORE_TWICE, call_file, make_call, shows};
 use sec_base::{MemoryFiles, NoMemory};
 use std::alloc::Global;
 use std::process::Abort;
 use std::test::Fail;
-
-// It stores to one line 200 times, and the line stays on the chip.
-const STORE_200_TIMES: &[u8] = b"        li   t0, 0x1000
-        li   t1, 200
-again:  sw   t1, 0(t0)
-        addi t1, t1, -1
-        bnez t1, again
-        li   a7, 93
-        ecall
-";
 
 // A program, and what its run prints and tells without a script.
 #[derive(Clone, Copy)]
@@ -380,7 +370,7 @@ impl Attacked {
         tags: &'static str,
         counts: Counts,
     ) -> Result<Attacked, NoMemory> {
-        let assembled = call_text(alloc, &ASM, program.text)?;
+        let assembled = call_file(alloc, &ASM, program.text)?;
         let mut files = MemoryFiles::new(alloc, &[])?;
         files.add("p", assembled.out.bytes())?;
         Ok(Attacked {

@@ -1,6 +1,6 @@
 // Memories of each number of levels L. They have 64 * 4^L lines, and boot makes (4^(L+1) - 1) / 3 accesses, all of them
 // writes. The reads behind it are those of a path, from the top node down: what is expected is worked out by hand from that.
-use chip_cases::{EXIT_7, call_program, file, make_call, program, shows};
+use chip_cases::{EXIT_7, call_by_script, call_program, shows};
 use std::alloc::Global;
 use std::process::Abort;
 use std::test::Fail;
@@ -77,13 +77,10 @@ fn check_script(
     told: &[u8],
     status: u8,
 ) -> Result<(), Fail> {
-    let code = program(alloc, &EXIT_7)?;
-    let mut files = file(alloc, code.as_slice(), &[])?;
-    files.add("s", script)?;
     let words = [
         "chip", "run", "f", "--flat", "--levels", levels, "--script", "s",
     ];
-    let call = make_call(alloc, &words, &mut files, &[], &[])?;
+    let call = call_by_script(alloc, &words, &EXIT_7, script)?;
     assert_eq!(rt; call.shown(), shows(b"", told, status), "levels {levels}");
     Ok(())
 }

@@ -1,12 +1,10 @@
 // Files and words that no parser takes. What is told is worked out by hand from the formats' tables.
-use chip_cases::{ASM, EXIT_7_ELF, RUN_SMALL, call_zeros, file, make_call, shows};
+use chip_cases::{
+    ASM, EXIT_7_ELF, MEASURE_ELF, RUN_SMALL, VERIFY, call_zeros, file, make_call, shows,
+};
 use std::alloc::Global;
 use std::process::Abort;
 use std::test::Fail;
-
-const MEASURE: [&str; 3] = ["chip", "measure", "f"];
-
-const VERIFY: [&str; 3] = ["chip", "verify", "f"];
 
 // What is told of a call on the file `f` and the script `s`, which are refused.
 fn check_refused(
@@ -41,7 +39,7 @@ fn each_front_of_an_elf_file_is_refused(rt: HostRuntime) -> Result<(), Fail> {
     for length in 0..96usize {
         let front = &EXIT_7_ELF[..length.min(96)];
         let told = told_of_front(length);
-        check_refused(&rt, rt.alloc(), &MEASURE, front, b"", told)?;
+        check_refused(&rt, rt.alloc(), &MEASURE_ELF, front, b"", told)?;
     }
     Ok(())
 }

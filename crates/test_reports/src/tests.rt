@@ -1,11 +1,10 @@
 // Reports of runs, from an independent model in Python (hashlib, hmac, cryptography).
-use crate::digits::{REPORT, REPORT_OF_KEY, REPORT_TARGET};
 use chip_cases::{
-    EXIT_7, PLAIN, PRINT_A, RUN, RUN_SMALL, call_program, file, make_call, program, shows,
+    EXIT_7, MEASURE, PLAIN, PRINT_A, REPORT, REPORT_OF_KEY, REPORT_TARGET, RUN, RUN_SMALL,
+    call_program, file, make_call, program,
 };
 use sec_base::{MemoryFiles, NoMemory};
 use std::alloc::{AllocError, Global};
-use std::process::Abort;
 use std::test::Fail;
 
 // Of the program that exits with 7 in 16 KiB; of an empty program; of one that prints the front of its input.
@@ -238,8 +237,7 @@ fn no_report_is_told(rt: HostRuntime) -> Result<(), Fail> {
 // The 64 digits of a measurement are those that a report has behind its version.
 #[test]
 fn a_measurement_is_that_of_the_report(rt: HostRuntime) -> Result<(), Fail> {
-    let words = ["chip", "measure", "f", "--flat"];
-    let call = call_program(rt.alloc(), &words, &EXIT_7, &[], &[])?;
+    let call = call_program(rt.alloc(), &MEASURE, &EXIT_7, &[], &[])?;
     let report = REPORT.as_slice();
     assert!(rt; call.out.bytes().starts_with(&report[2..66]));
     Ok(())

@@ -1,13 +1,12 @@
-// Whole calls. Each expected text and status is worked out by hand from the words and the machine's rules.
-ghost use Rattle.std.specs.Prelude.{None};
-
+// Programs that end by themselves, by a trap or by a limit. Each expected text and status is worked out by hand from the words
+// and the machine's rules.
 use bus_model::{Bus, HonestBus};
 use chip_cases::{
-    DIS, EXIT_7, EXIT_65, PLAIN, PLAIN_ON_INPUT, PRINT_A, RUN, RUN_ON_INPUT, RUN_SMALL,
-    call_program, call_zeros, file, make_call, program, shows, without_report,
+    EXIT_7, EXIT_65, PLAIN_ON_INPUT, PRINT_A, RUN, RUN_ON_INPUT, RUN_SMALL, call_program, file,
+    make_call, program, shows,
 };
-use chip_main::{RunBus, run_words};
-use sec_base::{Ending, Geometry, MemoryFiles, NoMemory, Sealed, Sink, SinkStop};
+use chip_main::RunBus;
+use sec_base::{Ending, Geometry, Sealed};
 use std::alloc::Global;
 use std::process::Abort;
 use std::test::Fail;
@@ -59,26 +58,6 @@ const READ_FROM_3: [u32; 7] = [
 
 // addi zero, zero, 0
 const NOTHING: u32 = 0x0000_0013;
-
-// A sink that takes one byte at a time.
-#[derive(Drop)]
-struct ByteByByte {
-    bytes: Vec<u8>,
-}
-
-impl Sink for ByteByByte {
-    ghost state = { λ _. record { written = None; faults = 0 } };
-
-    fn write(&mut self, piece: &[u8]) -> Result<usize, SinkStop> {
-        if piece.is_empty() {
-            return Ok(0);
-        }
-        match self.bytes.push(piece[0]) {
-            Ok(()) => Ok(1),
-            Err(_) => Err(SinkStop::NoMemory),
-        }
-    }
-}
 
 // A program with an option, and what it prints, what it tells and its status.
 #[derive(Clone, Copy)]
@@ -315,200 +294,11 @@ fn programs_read_their_input(rt: HostRuntime) -> Result<(), Fail> {
 }
 
 #[test]
-fn programs_are_listed(rt: HostRuntime) -> Result<(), Fail> {
-    let first = b"00000000 00700513 addi a0, zero, 7\n".as_slice();
-    let mut text = first.to_vec(rt.alloc())?;
-    text.extend_from_slice(b"00000004 05d00893 addi a7, zero, 93\n00000008 00000073 ecall\n")?;
-    let call = call_program(rt.alloc(), &DIS, &EXIT_7, &[], &[])?;
-    assert_eq!(rt; call.shown(), shows(text.as_slice(), b"", 0));
-    let call = call_program(rt.alloc(), &DIS, &EXIT_7, &[2], &[])?;
-    assert_eq!(rt; call.shown(), shows(first, b"", 9));
-    Ok(())
-}
-
-#[test]
 fn a_program_fills_the_memory(rt: HostRuntime) -> Result<(), Fail> {
     let code = vec![in rt.alloc(); NOTHING; 4096]?;
     let call = call_program(rt.alloc(), &RUN_SMALL, code.as_slice(), &[], &[])?;
     let told = b"trapped outside memory pc 00004000\nretired 4096\nlies 0\n";
     assert_eq!(rt; call.shown(), shows(b"", told, 1));
-    Ok(())
-}
-
-// The words, how many zeros the file has, what is told, and the status.
-const LENGTHS: [(&[&str], usize, &[u8], u8); 6] = [
-    (&RUN_SMALL, 16385, b"refused elf 9 Segment\n", 3),
-    (&RUN_SMALL, 1_048_576, b"refused elf 9 Segment\n", 3),
-    (&RUN_SMALL, 1_048_577, b"refused long\n", 3),
-    (&DIS, 1_048_577, b"refused long\n", 3),
-    (&PLAIN, 1_048_577, b"refused long\n", 3),
-    (
-        &PLAIN,
-        1048576,
-        b"trapped illegal pc 00000000\nretired 0\n",
-        1,
-    ),
-];
-
-#[test]
-fn files_are_refused(rt: HostRuntime) -> Result<(), Fail> {
-    for (words, length, told, status) in LENGTHS {
-        assert_eq!(rt;
-            call_zeros(rt.alloc(), words, length)?.shown(),
-            shows(b"", told, status)
-        );
-    }
-    Ok(())
-}
-
-// The words are no request.
-fn check_usage(rt: &impl Abort, alloc: Global, words: &[&str]) -> Result<(), Fail> {
-    let mut files = MemoryFiles::new(alloc, &[])?;
-    let call = make_call(alloc, words, &mut files, &[], &[])?;
-    assert!(rt; call.note.bytes().starts_with(b"usage\n"));
-    assert_eq!(rt; call.out.bytes(), b"".as_slice());
-    assert_eq!(rt; call.done.status, 2);
-    Ok(())
-}
-
-#[test]
-fn other_words_are_usage(rt: HostRuntime) -> Result<(), Fail> {
-    let rows: [&[&str]; 14] = [
-        &["chip", "asm"],
-        &["chip", "asm", "f", "--flat"],
-        &["chip", "measure", "f", "--input", "i"],
-        &[],
-        &["chip"],
-        &["chip", "run"],
-        &["chip", "run", "f", "--flat", "x"],
-        &["chip", "run", "f", "--flat", "--levels", "7"],
-        &["chip", "dis", "f", "--flat", "--steps", "3"],
-        &["chip", "run", "f", "--page-limit", "18446744073709551616"],
-        &["chip", "plain", "f", "--page-limit", "1"],
-        &["run", "f", "--flat"],
-        &["chip", "--help"],
-        &["chip", "help", "run"],
-    ];
-    for words in rows {
-        check_usage(&rt, rt.alloc(), words)?;
-    }
-    Ok(())
-}
-
-// The lines that stand first where `clap` refuses the words; the text is one piece behind `usage`.
-#[test]
-fn usage_says_what_is_wrong(rt: HostRuntime) -> Result<(), Fail> {
-    let mut files = MemoryFiles::new(rt.alloc(), &[])?;
-    let words = ["chip", "run", "f", "--levels", "7"];
-    let call = make_call(rt.alloc(), &words, &mut files, &[], &[])?;
-    let told =
-        b"usage\nerror: invalid value '7' for '--levels <L>': 7 is not in 1..=6\n".as_slice();
-    assert!(rt; call.note.bytes().starts_with(told));
-    let call = make_call(rt.alloc(), &words, &mut files, &[], &[2])?;
-    assert_eq!(rt; call.shown(), shows(b"", b"usage\n", 2));
-    Ok(())
-}
-
-#[test]
-fn files_are_not_read(rt: HostRuntime) -> Result<(), Fail> {
-    // No such file, and a read that fails.
-    let mut absent = MemoryFiles::new(rt.alloc(), &[])?;
-    let call = make_call(rt.alloc(), &RUN, &mut absent, &[], &[])?;
-    assert_eq!(rt; call.shown(), shows(b"", b"read fault\n", 8));
-    let mut failing = file(rt.alloc(), b"", &[1])?;
-    let call = make_call(rt.alloc(), &RUN, &mut failing, &[], &[])?;
-    assert_eq!(rt; call.shown(), shows(b"", b"read fault\n", 8));
-    Ok(())
-}
-
-// What comes of a program and an input of so many zeros, where the second read may fail.
-fn check_order(
-    rt: &impl Abort,
-    alloc: Global,
-    lengths: [usize; 2],
-    fails: &[u64],
-    told: &[u8],
-    status: u8,
-) -> Result<(), Fail> {
-    let [program, input] = lengths;
-    let bytes = vec![in alloc; 0u8; program]?;
-    let mut files = file(alloc, bytes.as_slice(), fails)?;
-    let bytes = vec![in alloc; 0u8; input]?;
-    files.add("i", bytes.as_slice())?;
-    let call = make_call(alloc, &PLAIN_ON_INPUT, &mut files, &[], &[])?;
-    assert_eq!(rt; call.shown(), shows(b"", told, status));
-    Ok(())
-}
-
-#[test]
-fn the_input_is_read_after_the_program(rt: HostRuntime) -> Result<(), Fail> {
-    let alloc = rt.alloc();
-    check_order(&rt, alloc, [0, 0], &[2], b"read fault\n", 8)?;
-    check_order(&rt, alloc, [0, 1_048_577], &[], b"refused long\n", 3)?;
-    check_order(&rt, alloc, [1_048_577, 0], &[2], b"refused long\n", 3)?;
-    Ok(())
-}
-
-#[test]
-fn a_fault_of_note_keeps_the_run(rt: HostRuntime) -> Result<(), Fail> {
-    // The number of the write that fails, and what was told before.
-    let rows: [(u64, &[u8]); 3] = [(1, b""), (2, b"halted 7\n"), (3, b"halted 7\nretired 3\n")];
-    for (fails, told) in rows {
-        let call = call_program(rt.alloc(), &RUN, &EXIT_7, &[], &[fails])?;
-        assert_eq!(rt; call.shown(), shows(b"", told, 9));
-        assert_eq!(rt; call.ending(), Some(Ending::Halted(7)));
-    }
-    let call = call_program(rt.alloc(), &PLAIN, &EXIT_7, &[], &[2])?;
-    assert_eq!(rt; call.shown(), shows(b"", b"halted 7\n", 9));
-    Ok(())
-}
-
-#[test]
-fn a_fault_of_note_keeps_a_refusal(rt: HostRuntime) -> Result<(), Fail> {
-    let rows: [(&[&str], u8); 4] = [
-        (&["chip", "run", "g"], 8),
-        (&["chip", "dis", "f"], 3),
-        (&["chip", "asm", "f", "--flat"], 2),
-        (&["chip"], 2),
-    ];
-    for (words, status) in rows {
-        let mut files = file(rt.alloc(), b"", &[])?;
-        let call = make_call(rt.alloc(), words, &mut files, &[], &[1])?;
-        assert_eq!(rt; call.shown(), shows(b"", b"", status));
-    }
-    Ok(())
-}
-
-#[test]
-fn a_fault_of_out_ends_the_run(rt: HostRuntime) -> Result<(), Fail> {
-    let call = call_program(rt.alloc(), &RUN_SMALL, &PRINT_A, &[1], &[])?;
-    assert_eq!(rt;
-        call.shown(),
-        shows(b"", b"write fault\nretired 7\nlies 0\n", 9)
-    );
-    assert_eq!(rt; call.ending(), Some(Ending::WriteFault));
-    let call = call_program(rt.alloc(), &PLAIN, &PRINT_A, &[1], &[])?;
-    assert_eq!(rt; call.shown(), shows(b"", b"write fault\nretired 7\n", 9));
-    Ok(())
-}
-
-#[test]
-fn a_slow_sink_gets_the_same_bytes(rt: HostRuntime) -> Result<(), Fail> {
-    let bytes = program(rt.alloc(), &PRINT_A)?;
-    let mut files = file(rt.alloc(), bytes.as_slice(), &[])?;
-    let mut out = ByteByByte {
-        bytes: Vec::new(rt.alloc()),
-    };
-    let mut note = ByteByByte {
-        bytes: Vec::new(rt.alloc()),
-    };
-    let done = run_words(rt.alloc(), &RUN_SMALL, &mut files, &mut out, &mut note);
-    assert_eq!(rt;
-        without_report(note.bytes.as_slice()),
-        b"halted 1\nretired 10\nlies 0\n".as_slice()
-    );
-    assert_eq!(rt; out.bytes.as_slice(), b"A".as_slice());
-    assert_eq!(rt; done.status, 0);
     Ok(())
 }
 

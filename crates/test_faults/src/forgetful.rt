@@ -1,37 +1,39 @@
-// A sink that takes little of a piece and runs out of memory, and files that run out of memory.
-ghost use Rattle.std.specs.Prelude.{None};
+// A sink and files that run out of memory.
 ghost use Rattle.sec_base.specs.MemoryFiles.{files_state};
+ghost use Rattle.sec_base.specs.MemorySink.{sink_state};
 
-use sec_base::{Bytes, Files, MemoryFiles, NoMemory, ReadStop, Sink, SinkStop};
+use sec_base::{Bytes, Files, MemoryFiles, MemorySink, NoMemory, ReadStop, Sink, SinkStop};
 use std::alloc::Global;
 
-/// A sink that takes at most so many bytes of a piece, and at least one. One of its writes finds no memory, by its number
-/// from 1.
+/// A sink in memory, of which one write finds no memory, by its number from 1.
 #[derive(Drop)]
-pub(crate) struct NarrowSink {
-    bytes: Vec<u8>,
-    most: usize,
+pub(crate) struct ForgetfulSink {
+    sink: MemorySink,
     stops_at: u64,
     calls: u64,
 }
 
-impl NarrowSink {
-    pub(crate) fn new(alloc: Global, most: usize, stops_at: u64) -> NarrowSink {
-        NarrowSink {
-            bytes: Vec::new(alloc),
-            most,
+impl ForgetfulSink {
+    /// It takes at most so many bytes of a piece, and at least one.
+    pub(crate) fn new(
+        alloc: Global,
+        most: usize,
+        stops_at: u64,
+    ) -> Result<ForgetfulSink, NoMemory> {
+        Ok(ForgetfulSink {
+            sink: MemorySink::short(alloc, most.max(1))?,
             stops_at,
             calls: 0,
-        }
+        })
     }
 
     pub(crate) fn bytes(&self) -> &[u8] {
-        self.bytes.as_slice()
+        self.sink.bytes()
     }
 }
 
-impl Sink for NarrowSink {
-    ghost state = { λ _. record { written = None; faults = 0 } };
+impl Sink for ForgetfulSink {
+    ghost state = { λ forgetful. sink_state forgetful.sink };
 
     fn write(&mut self, piece: &[u8]) -> Result<usize, SinkStop> {
         if piece.is_empty() {
@@ -41,11 +43,7 @@ impl Sink for NarrowSink {
         if self.calls == self.stops_at {
             return Err(SinkStop::NoMemory);
         }
-        let taken = self.most.max(1).min(piece.len());
-        match self.bytes.extend_from_slice(&piece[..taken]) {
-            Ok(()) => Ok(taken),
-            Err(_) => Err(SinkStop::NoMemory),
-        }
+        self.sink.write(piece)
     }
 }
 

@@ -1,0 +1,5 @@
+//! Listings of programs, and their measurements.
+#![tactic(auto)]
+
+#[cfg(test)]
+mod tests;

@@ -1,0 +1,89 @@
+// Listings of programs, and their measurements. Each digest is worked out by another program.
+use chip_cases::{
+    Case, DIGEST, DIS, DIS_ELF, EXIT_7_BYTES, EXIT_7_ELF, LISTING, MEASURE, MEASURE_ELF, file,
+    make_call, shows,
+};
+use std::test::Fail;
+
+// In 16 KiB of memory.
+const DIGEST_SMALL: &[u8] = b"16f7bfdd45a5acd592864f31537f995066d1d163ad715d1d9d9d83c121daa865\n";
+
+const CASES: [Case<'static>; 7] = [
+    Case {
+        words: &DIS,
+        bytes: EXIT_7_BYTES,
+        printed: LISTING,
+        told: b"",
+        status: 0,
+    },
+    Case {
+        words: &DIS_ELF,
+        bytes: &EXIT_7_ELF,
+        printed: LISTING,
+        told: b"",
+        status: 0,
+    },
+    Case {
+        words: &MEASURE,
+        bytes: EXIT_7_BYTES,
+        printed: DIGEST,
+        told: b"",
+        status: 0,
+    },
+    Case {
+        words: &["chip", "measure", "f", "--flat", "--levels", "1"],
+        bytes: EXIT_7_BYTES,
+        printed: DIGEST_SMALL,
+        told: b"",
+        status: 0,
+    },
+    Case {
+        words: &MEASURE_ELF,
+        bytes: &EXIT_7_ELF,
+        printed: DIGEST,
+        told: b"",
+        status: 0,
+    },
+    // A flat file is no ELF file.
+    Case {
+        words: &DIS_ELF,
+        bytes: EXIT_7_BYTES,
+        printed: b"",
+        told: b"refused elf 1 Short\n",
+        status: 3,
+    },
+    Case {
+        words: &MEASURE_ELF,
+        bytes: EXIT_7_BYTES,
+        printed: b"",
+        told: b"refused elf 1 Short\n",
+        status: 3,
+    },
+];
+
+#[test]
+fn programs_are_listed_and_measured(rt: HostRuntime) -> Result<(), Fail> {
+    for case in CASES {
+        let words = case.words;
+        assert_eq!(rt; case.call(rt.alloc())?.shown(), case.shown(), "{words:?}");
+    }
+    Ok(())
+}
+
+// The words, the write to `out` that fails, what is printed, and the status.
+const CUTS: [(&[&str], u64, &[u8], u8); 4] = [
+    (&DIS, 2, b"00000000 00700513 addi a0, zero, 7\n", 9),
+    (&DIS, 4, LISTING, 0),
+    (&MEASURE, 1, b"", 9),
+    (&MEASURE, 2, DIGEST, 0),
+];
+
+#[test]
+fn a_line_is_one_piece(rt: HostRuntime) -> Result<(), Fail> {
+    for (words, fails, printed, status) in CUTS {
+        let mut files = file(rt.alloc(), EXIT_7_BYTES, &[])?;
+        let call = make_call(rt.alloc(), words, &mut files, &[fails], &[])?;
+        assert_eq!(rt; call.shown(), shows(printed, b"", status), "{words:?}");
+    }
+    Ok(())
+}

@@ -1,0 +1,5 @@
+//! Words that are no request.
+#![tactic(auto)]
+
+#[cfg(test)]
+mod tests;
