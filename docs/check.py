@@ -32,7 +32,7 @@ GALLERY = "examples/attacks/README.md"
 TEST = "crates/test_gallery/src/tests.rt"
 RECORDS = "crates/chip_run/specs/Run.antt"
 THEOREM, PROOFS, CODE_PAGE = "docs/THEOREM.md", "docs/PROOFS.md", "docs/CODE.md"
-GENERATED = ["docs/CONTRACTS.md", "docs/DEFINITIONS.md"]
+GENERATED = ["docs/CONTRACTS.md", "docs/DEFINITIONS.md", *sorted(glob.glob("docs/definitions/*.md", root_dir=TOP))]
 WITH_COMMANDS = ["README.md", "examples/README.md", GALLERY, "docs/C-PROGRAMS.md", "docs/FORMATS.md", "bench/README.md"]
 # CHANGELOG names what is gone; generated pages have their names from the sources.
 WITHOUT_NAMES = ["CHANGELOG.md", *GENERATED]

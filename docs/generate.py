@@ -1,10 +1,11 @@
 #!/usr/bin/env python3
-"""Makes docs/CONTRACTS.md and docs/DEFINITIONS.md from the crates.
+"""Makes docs/CONTRACTS.md, docs/DEFINITIONS.md and docs/definitions/ from the crates.
 
 CONTRACTS has each public call with its docstring, its signature and the clauses of its contract, each under the comment
-line that stands above it. DEFINITIONS has each public definition of crates/*/specs with the comment above it.
+line that stands above it. The folder `definitions` has a page for each crate: each public definition of its specs, with
+the comment above it. DEFINITIONS is their index.
 
-    docs/generate.py            writes both pages
+    docs/generate.py            writes all pages, and removes those of crates that are gone
     docs/generate.py --check    writes nothing, and ends with 1 where a page is not what would be written
     docs/generate.py --missing  lists public calls without a docstring and definitions without a comment, and ends with
                                 1 where there are any
@@ -20,6 +21,7 @@ DOCS = Path(__file__).resolve().parent
 ROOT = DOCS.parent
 CONTRACTS = "CONTRACTS.md"
 DEFINITIONS = "DEFINITIONS.md"
+BY_CRATE = "definitions"
 
 # A clause or a member is put in the line of its name where it is no longer than this.
 ONE_LINE = 100
@@ -47,8 +49,9 @@ How to read a contract:
 DEFINITIONS_HEAD = """\
 # Definitions
 
-`docs/generate.py` writes this page from `crates/*/specs`: public definitions with the comments above them. To change
-it, change the source. [CONTRACTS](CONTRACTS.md) uses these names. [All names](#all-names) stand at the end.
+`docs/generate.py` writes this page and those of the crates from `crates/*/specs`: public definitions with the comments
+above them. To change them, change the source. [CONTRACTS](CONTRACTS.md) uses these names. [All names](#all-names) stand
+below.
 
 How to read a definition:
 
@@ -57,6 +60,13 @@ How to read a definition:
 - A law is shown by its statement alone, without its proof.
 - `≡` equals, `×` and, `⊎` or, `→` implies, `(x : A) →` for every x, `(x : A) ×` for some x, `λ x.` a function. `∷` puts
   an element in front of a list, and `++` joins two.
+"""
+
+CRATE_HEAD = """\
+# Definitions of {crate}
+
+{about} [CONTRACTS](../CONTRACTS.md#{crate}) has its calls, [DEFINITIONS](../DEFINITIONS.md) all names, and how to read
+a definition. `docs/generate.py` writes this page.
 """
 
 
@@ -548,7 +558,7 @@ def read_crate(name):
     folder = ROOT / "crates" / name
     root = next(path for path in (folder / "src" / "lib.rt", folder / "src" / "main.rt") if path.exists())
     source = Source(root)
-    about = " ".join(line[3:].strip() for line in source.lines if line.startswith("//!"))
+    about = " ".join(line[3:].strip() for line in source.lines if line.startswith("//!") and line[3:].strip())
     items = items_of(folder, source) if root.name == "lib.rt" else []
     return Crate(name, about, items, specs_of(folder))
 
@@ -642,7 +652,7 @@ def definition_links(facts, source, places):
             if first in source.imports.modules and second:
                 imported = (*source.imports.modules[first], second)
             if imported in places:
-                links[imported] = f"[`{imported[2]}`](DEFINITIONS.md#{places[imported]})"
+                links[imported] = f"[`{imported[2]}`]({places[imported]})"
     return list(links.values())
 
 
@@ -652,9 +662,9 @@ def add_definitions(page, facts, source, places):
         page.add(wrapped("Definitions: " + ", ".join(links) + "."))
 
 
-def origin(path, head):
-    """Which file the items below come from, and what it says of itself."""
-    return wrapped(f"From [{path.name}](../{path.relative_to(ROOT)})" + (f". {escaped(head)}" if head else "."))
+def origin(path, head, top):
+    """Which file the items below come from, and what it says of itself; `top` leads from the page to the repository."""
+    return wrapped(f"From [{path.name}]({top}/{path.relative_to(ROOT)})" + (f". {escaped(head)}" if head else "."))
 
 
 def group_title(group, is_first):
@@ -723,7 +733,7 @@ def contracts_made(crates, places, anchors):
         last = None
         for each in crate.items:
             if each.source is not last:
-                page.add(origin(each.source.path, each.source.head()))
+                page.add(origin(each.source.path, each.source.head(), ".."))
             last = each.source
             if isinstance(each, Call):
                 add_call(page, each, places, anchors)
@@ -749,32 +759,53 @@ def add_index(page, entries):
     names = [name for name, _, _ in entries]
     page.heading(2, "All names")
     letters = {}
-    for name, crate, anchor in sorted(entries, key=lambda entry: (entry[0].lower(), entry[0], entry[1])):
-        link = f"[`{name}`](#{anchor})"
+    for name, crate, place in sorted(entries, key=lambda entry: (entry[0].lower(), entry[0], entry[1])):
+        link = f"[`{name}`]({place})"
         letter = next((sign.upper() for sign in name if sign.isalpha()), "Operators")
         letters.setdefault(letter, []).append(f"{link} ({crate})" if names.count(name) > 1 else link)
     for letter in sorted(letters, key=lambda letter: (len(letter) > 1, letter)):
         page.add(wrapped(f"{letter}: " + ", ".join(letters[letter]) + "."))
 
 
-def definitions_page(crates):
-    """The page, and the anchor of each definition by its crate, its module and its name."""
-    crates = [crate for crate in crates if crate.specs]
-    page, entries, places = Page(DEFINITIONS_HEAD), [], {}
-    page.add(contents(crates))
-    for crate in crates:
-        page.heading(2, crate.name)
-        for file in crate.specs:
-            page.add(origin(file.path, file.head))
-            for definition in file.definitions:
-                anchor = page.heading(3, title_of(definition, crate))
-                entries.append((definition.name, crate.name, anchor))
-                places[crate.name, file.path.stem, definition.name] = anchor
-                if definition.comment:
-                    page.add(wrapped(escaped(" ".join(definition.comment))))
-                page.add(code_block(definition.lines))
+def crate_row(crate):
+    count = sum(len(file.definitions) for file in crate.specs)
+    return f"| [`{crate.name}`]({BY_CRATE}/{crate.name}.md) | {count} | {escaped(crate.about)} |"
+
+
+def index_page(crates, entries):
+    page = Page(DEFINITIONS_HEAD)
+    page.heading(2, "Crates")
+    page.add(["| crate | definitions | what it is |", "|---|---|---|"] + [crate_row(crate) for crate in crates])
     add_index(page, entries)
-    return page.text(), places
+    return page.text()
+
+
+def crate_page(crate):
+    """A crate's page, and the anchor of each definition by its module and its name."""
+    head, *rest = CRATE_HEAD.format(crate=crate.name, about=escaped(crate.about)).split("\n\n")
+    page, anchors = Page(head), {}
+    page.add(*map(wrapped, rest))
+    for file in crate.specs:
+        page.add(origin(file.path, file.head, "../.."))
+        for definition in file.definitions:
+            anchors[file.path.stem, definition.name] = page.heading(2, title_of(definition, crate))
+            if definition.comment:
+                page.add(wrapped(escaped(" ".join(definition.comment))))
+            page.add(code_block(definition.lines))
+    return page.text(), anchors
+
+
+def definitions_pages(crates):
+    """The pages by their names, and the place of each definition by its crate, its module and its name."""
+    crates = [crate for crate in crates if crate.specs]
+    pages, places = {}, {}
+    for crate in crates:
+        name = f"{BY_CRATE}/{crate.name}.md"
+        pages[name], anchors = crate_page(crate)
+        for (module, definition), anchor in anchors.items():
+            places[crate.name, module, definition] = f"{name}#{anchor}"
+    entries = [(definition, crate, place) for (crate, _, definition), place in places.items()]
+    return {DEFINITIONS: index_page(crates, entries), **pages}, places
 
 
 # ---- What is asked for
@@ -814,8 +845,16 @@ def first_difference(old, new):
     return min(len(old), len(new)) + 1
 
 
+def outdated(pages):
+    """Pages of crates that are gone, or that have no definition any more."""
+    return [path for path in sorted((DOCS / BY_CRATE).glob("*.md")) if f"{BY_CRATE}/{path.name}" not in pages]
+
+
 def check(pages):
     status = 0
+    for path in outdated(pages):
+        print(f"{path.relative_to(ROOT)}:1: docs/generate.py writes no such page")
+        status = 1
     for name, text in pages.items():
         path = DOCS / name
         old = path.read_text(encoding="utf-8") if path.exists() else ""
@@ -836,10 +875,13 @@ def main(words):
         return 2
     if words == ["--missing"]:
         return missing(crates)
-    definitions, places = definitions_page(crates)
-    pages = {CONTRACTS: contracts_page(crates, places), DEFINITIONS: definitions}
+    definitions, places = definitions_pages(crates)
+    pages = {CONTRACTS: contracts_page(crates, places), **definitions}
     if words == ["--check"]:
         return check(pages)
+    (DOCS / BY_CRATE).mkdir(exist_ok=True)
+    for path in outdated(pages):
+        path.unlink()
     for name, text in pages.items():
         (DOCS / name).write_text(text, encoding="utf-8")
     return 0
