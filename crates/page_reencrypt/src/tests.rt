@@ -1,129 +1,43 @@
-// Lines over buses that tell the truth, that flip a bit at one read of one place, that refuse one access, or that answer
-// what a place held before.
-ghost use Rattle.std.specs.Prelude.{◌≡◌, ◌<◌};
-ghost use Rattle.sec_base.specs.Place.{place_size};
-ghost use Rattle.bus_model.specs.BusHistory.{NothingWritten};
-ghost use Rattle.bus_model.specs.FlipBus.{flip_history};
-
-mod accesses;
-mod evictions;
-mod flips;
-mod overflow;
-mod replays;
-mod taggers;
-mod want_of_memory;
-
-use crate::{Account, SealedLines};
-use fakes::CountingBus;
-use sec_base::{Counter, Geometry, LineStore, MemStop, Place, Tagger};
-use std::alloc::Global;
+// Lines over a bus that tells the truth.
+use crate::SealedLines;
+use fakes::{CountingBus, PrefixTagger};
+use sec_base::{Counter, Geometry, LineStore, MemStop};
 use std::process::Abort;
 use std::test::Fail;
-use taggers::SomeBytes;
 
-// Lines over a bus that counts.
-#[derive(Drop)]
-struct Memory<T: Tagger> {
-    lines: SealedLines<CountingBus, T>,
+type Lines = SealedLines<CountingBus, PrefixTagger>;
+
+// Writes a line that is the byte 64 times.
+fn fill(rt: &impl Abort, lines: &mut Lines, line: u32, byte: u8) -> Result<(), MemStop> {
+    assert!(rt; line < lines.lines());
+    lines.write_line(line, &[byte; 64])
 }
 
-impl<T: Tagger> Memory<T> {
-    fn over(
-        alloc: Global,
-        bus: CountingBus,
-        tagger: T,
-        geometry: Geometry,
-        page_limit: u64,
-    ) -> Result<Memory<T>, Fail>
-        requires nothing_written { NothingWritten (flip_history bus) }
-        requires levels { (flip_history bus).levels ≡ geometry }
-    {
-        let lines = SealedLines::boot(alloc, bus, tagger, &[7; 16], geometry, page_limit);
-        Ok(Memory {
-            lines: lines.ok().ok_or("no memory")?,
-        })
-    }
-
-    // Writes a line that is the byte 64 times.
-    fn fill(&mut self, rt: &impl Abort, line: u32, byte: u8) -> Result<(), MemStop> {
-        assert!(rt; line < self.lines.lines());
-        self.lines.write_line(line, &[byte; 64])
-    }
-
-    // Writes a line so many times.
-    fn wear(&mut self, rt: &impl Abort, line: u32, writes: u32, byte: u8) -> Result<(), MemStop> {
-        for _ in 0..writes {
-            self.fill(rt, line, byte)?;
-        }
-        Ok(())
-    }
-
-    fn read(&mut self, rt: &impl Abort, line: u32) -> Result<[u8; 64], MemStop> {
-        assert!(rt; line < self.lines.lines());
-        self.lines.read_line(line)
-    }
-
-    fn finish(self) -> (Account, CountingBus) {
-        let Memory { lines } = self;
-        lines.finish()
-    }
-}
-
-// Over a bus for a tree of so many levels that flips the lowest bit of a byte at the `k`-th read of a place.
-fn booted<T: Tagger>(
-    alloc: Global,
-    tagger: T,
-    levels: u8,
-    page_limit: u64,
-    place: Place,
-    k: u64,
-    offset: u8,
-) -> Result<Memory<T>, Fail>
-    requires { offset < place_size place }
-{
-    let geometry = Geometry::new(levels).ok_or("no geometry")?;
-    let bus = CountingBus::flipping(alloc, geometry, place, k, offset)?;
-    Memory::over(alloc, bus, tagger, geometry, page_limit)
-}
-
-// 256 lines, over a bus that flips a bit at the `k`-th read of a line.
-fn flipped(
-    alloc: Global,
-    page_limit: u64,
-    line: u32,
-    k: u64,
-    offset: u8,
-) -> Result<Memory<SomeBytes>, Fail>
-    requires { offset < 80 }
-{
-    let place = Place::Line(line);
-    booted(alloc, SomeBytes, 1, page_limit, place, k, offset)
-}
-
-// 256 lines, over a bus that tells the truth.
-fn honest(alloc: Global, page_limit: u64) -> Result<Memory<SomeBytes>, Fail> {
-    flipped(alloc, page_limit, 0, 0, 0)
-}
-
-// The line after its first write.
-fn once(line: u32) -> (u32, Counter) {
-    (line, Counter { page: 0, line: 1 })
+fn read(rt: &impl Abort, lines: &mut Lines, line: u32) -> Result<[u8; 64], MemStop> {
+    assert!(rt; line < lines.lines());
+    lines.read_line(line)
 }
 
 #[test]
 fn what_was_written_last_is_read(rt: HostRuntime) -> Result<(), Fail> {
-    let mut memory = honest(rt.alloc(), 2)?;
-    assert_eq!(rt; memory.lines.lines(), 256);
-    assert_eq!(rt; memory.fill(&rt, 64, 1), Ok(()));
-    assert_eq!(rt; memory.read(&rt, 64), Ok([1; 64]));
-    assert_eq!(rt; memory.fill(&rt, 64, 2), Ok(()));
-    assert_eq!(rt; memory.fill(&rt, 255, 3), Ok(()));
-    assert_eq!(rt; memory.read(&rt, 64), Ok([2; 64]));
-    assert_eq!(rt; memory.read(&rt, 255), Ok([3; 64]));
-    assert_eq!(rt; memory.lines.stopped(), None);
-    let (account, _bus) = memory.finish();
-    let again = (64, Counter { page: 0, line: 2 });
-    let wanted = [once(64), again, once(255)];
+    let geometry = Geometry::new(1).ok_or("no geometry")?;
+    let bus = CountingBus::honest(rt.alloc(), geometry)?;
+    let booted = SealedLines::boot(rt.alloc(), bus, PrefixTagger, &[7; 16], geometry, 2);
+    let mut lines = booted.ok().ok_or("no memory")?;
+    assert_eq!(rt; lines.lines(), 256);
+    assert_eq!(rt; fill(&rt, &mut lines, 64, 1), Ok(()));
+    assert_eq!(rt; read(&rt, &mut lines, 64), Ok([1; 64]));
+    assert_eq!(rt; fill(&rt, &mut lines, 64, 2), Ok(()));
+    assert_eq!(rt; fill(&rt, &mut lines, 255, 3), Ok(()));
+    assert_eq!(rt; read(&rt, &mut lines, 64), Ok([2; 64]));
+    assert_eq!(rt; read(&rt, &mut lines, 255), Ok([3; 64]));
+    assert_eq!(rt; lines.stopped(), None);
+    let (account, _bus) = lines.finish();
+    let wanted = [
+        (64, Counter { page: 0, line: 1 }),
+        (64, Counter { page: 0, line: 2 }),
+        (255, Counter { page: 0, line: 1 }),
+    ];
     assert_eq!(rt; account.used.as_slice(), wanted.as_slice());
     assert_eq!(rt; account.made.len(), 5 + 3);
     assert_eq!(rt; account.evidence, None);

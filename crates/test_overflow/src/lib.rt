@@ -1,4 +1,4 @@
-//! A page that is encrypted anew over a memory that an adversary changes meanwhile.
+//! A page that is encrypted anew, over a memory that tells the truth and one that an adversary changes meanwhile.
 #![tactic(auto)]
 
 #[cfg(test)]

@@ -1,8 +1,7 @@
 // The end of a line's counter: its page is encrypted anew, or the line is spent.
 ghost use Rattle.std.specs.Prelude.{◌<◌};
 
-use super::taggers::SomeBytes;
-use super::{Memory, booted, flipped, honest, once};
+use page_cases::{Memory, SomeBytes, booted, flipped, honest, once};
 use sec_base::{Counter, MemStop, Message, Place};
 use std::alloc::{AllocError, Global};
 use std::process::Abort;

@@ -1,7 +1,6 @@
 // Pages whose counter blocks share a set of two ways: one goes out for another, and comes back.
-use super::taggers::SomeBytes;
-use super::{Memory, booted, once};
 use fakes::CountingBus;
+use page_cases::{Memory, SomeBytes, booted, once};
 use sec_base::{Counter, Geometry, MemStop, Place};
 use std::alloc::Global;
 use std::process::Abort;

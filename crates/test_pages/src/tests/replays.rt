@@ -1,9 +1,9 @@
 // What stood there before the last write is answered again.
 ghost use Rattle.std.specs.Prelude.{◌<◌};
 
-use super::taggers::SomeBytes;
-use crate::SealedLines;
 use fakes::{Replay, ReplayBus};
+use page_cases::SomeBytes;
+use page_reencrypt::SealedLines;
 use sec_base::{Geometry, LineStore, MemStop, Place};
 use std::alloc::Global;
 use std::process::Abort;

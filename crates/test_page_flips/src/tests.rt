@@ -1,8 +1,7 @@
 // A bit that is flipped at one read of one place.
 ghost use Rattle.std.specs.Prelude.{◌<◌};
 
-use super::taggers::{NodesAlike, SomeBytes};
-use super::{Memory, booted, flipped};
+use page_cases::{Memory, NodesAlike, SomeBytes, booted, flipped};
 use sec_base::{Evidence, MemStop, Place};
 use std::alloc::Global;
 use std::process::Abort;

@@ -1,6 +1,5 @@
 // How many accesses calls make.
-use super::taggers::SomeBytes;
-use super::{Memory, booted};
+use page_cases::{Memory, SomeBytes, booted};
 use sec_base::Place;
 use std::alloc::Global;
 use std::process::Abort;

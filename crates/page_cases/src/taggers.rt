@@ -5,10 +5,10 @@ ghost use Rattle.fakes.specs.PrefixTagger.{prefix_of};
 use fakes::prefix;
 use sec_base::Tagger;
 
-// Gives the first 16 bytes of a line's message. Of a node's message it gives the first seven, up to the lowest byte of a
-// page counter, and four of its block: one in each quarter, the first of which has a part of the counter at place 5.
+/// Gives the first 16 bytes of a line's message. Of a node's message it gives the first seven, up to the lowest byte of a
+/// page counter, and four of its block: one in each quarter, the first of which has a part of the counter at place 5.
 #[derive(Drop)]
-pub(crate) struct SomeBytes;
+pub struct SomeBytes;
 
 impl Tagger for SomeBytes {
     ghost data_tag_of = { λ _ m. prefix_of m };
@@ -32,9 +32,9 @@ impl Tagger for SomeBytes {
     }
 }
 
-// Gives the first 16 bytes of a line's message, and zeros for a node.
+/// Gives the first 16 bytes of a line's message, and zeros for a node.
 #[derive(Drop)]
-pub(crate) struct NodesAlike;
+pub struct NodesAlike;
 
 impl Tagger for NodesAlike {
     ghost data_tag_of = { λ _ m. prefix_of m };

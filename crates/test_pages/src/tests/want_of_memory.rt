@@ -1,7 +1,6 @@
 // A bus that refuses one access.
-use super::Memory;
-use super::taggers::SomeBytes;
 use fakes::CountingBus;
+use page_cases::{Memory, SomeBytes};
 use sec_base::{Geometry, MemStop};
 use std::alloc::Global;
 use std::process::Abort;

@@ -1,0 +1,4 @@
+mod accesses;
+mod evictions;
+mod replays;
+mod want_of_memory;
