@@ -19,8 +19,6 @@ mod refusal_lines;
 mod report_fields;
 mod request;
 mod summary;
-#[cfg(test)]
-mod tests;
 mod values;
 
 use clap::Error;

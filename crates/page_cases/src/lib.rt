@@ -13,7 +13,6 @@ use fakes::CountingBus;
 use page_reencrypt::{Account, SealedLines};
 use sec_base::{Counter, Geometry, LineStore, MemStop, Place, Tagger};
 use std::alloc::Global;
-use std::process::Abort;
 use std::test::Fail;
 pub use taggers::{NodesAlike, SomeBytes};
 
@@ -42,29 +41,27 @@ impl<T: Tagger> Memory<T> {
         })
     }
 
-    /// Writes a line that is the byte 64 times.
-    pub fn fill(&mut self, rt: &impl Abort, line: u32, byte: u8) -> Result<(), MemStop> {
-        assert!(rt; line < self.lines.lines());
+    /// Writes a line that is the byte 64 times; out of memory where there is no such line.
+    pub fn fill(&mut self, line: u32, byte: u8) -> Result<(), MemStop> {
+        if line >= self.lines.lines() {
+            return Err(MemStop::NoMemory);
+        }
         self.lines.write_line(line, &[byte; 64])
     }
 
     /// Writes a line so many times.
-    pub fn wear(
-        &mut self,
-        rt: &impl Abort,
-        line: u32,
-        writes: u32,
-        byte: u8,
-    ) -> Result<(), MemStop> {
+    pub fn wear(&mut self, line: u32, writes: u32, byte: u8) -> Result<(), MemStop> {
         for _ in 0..writes {
-            self.fill(rt, line, byte)?;
+            self.fill(line, byte)?;
         }
         Ok(())
     }
 
-    /// Reads a line.
-    pub fn read(&mut self, rt: &impl Abort, line: u32) -> Result<[u8; 64], MemStop> {
-        assert!(rt; line < self.lines.lines());
+    /// Reads a line; out of memory where there is no such line.
+    pub fn read(&mut self, line: u32) -> Result<[u8; 64], MemStop> {
+        if line >= self.lines.lines() {
+            return Err(MemStop::NoMemory);
+        }
         self.lines.read_line(line)
     }
 

@@ -6,8 +6,6 @@
 mod account;
 mod outside;
 mod sealed_lines;
-#[cfg(test)]
-mod tests;
 
 pub use account::Account;
 pub use sealed_lines::SealedLines;

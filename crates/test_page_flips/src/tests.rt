@@ -9,18 +9,13 @@ use std::test::Fail;
 
 // Lines 3 and 9 were written once and line 5 up to the end of its counter: two and 127 entries, before the page is
 // encrypted.
-fn before_an_overflow(
-    rt: &impl Abort,
-    alloc: Global,
-    line: u32,
-    offset: u8,
-) -> Result<Memory<SomeBytes>, Fail>
+fn before_an_overflow(alloc: Global, line: u32, offset: u8) -> Result<Memory<SomeBytes>, Fail>
     requires { offset < 80 }
 {
     let mut memory = flipped(alloc, u64::MAX, line, 1, offset)?;
-    memory.fill(rt, 3, 30).ok().ok_or("line 3 is refused")?;
-    memory.fill(rt, 9, 90).ok().ok_or("line 9 is refused")?;
-    memory.wear(rt, 5, 127, 1).ok().ok_or("line 5 is refused")?;
+    memory.fill(3, 30).ok().ok_or("line 3 is refused")?;
+    memory.fill(9, 90).ok().ok_or("line 9 is refused")?;
+    memory.wear(5, 127, 1).ok().ok_or("line 5 is refused")?;
     Ok(memory)
 }
 
@@ -35,14 +30,14 @@ fn a_bit_flipped_in_an_overflow_ends_it(rt: HostRuntime) -> Result<(), Fail> {
         ("in a line that was never written", 7, 0, 129 + 64 + 127 + 7),
     ];
     for (case, line, offset, entries) in rows {
-        let mut memory = before_an_overflow(&rt, rt.alloc(), line, offset)?;
+        let mut memory = before_an_overflow(rt.alloc(), line, offset)?;
         let tampered = MemStop::Tampered(Place::Line(line));
-        assert_eq!(rt; memory.wear(&rt, 5, 129, 2), Err(tampered), "{case}");
+        assert_eq!(rt; memory.wear(5, 129, 2), Err(tampered), "{case}");
         assert_eq!(rt; memory.lines.stopped(), Some(tampered), "{case}");
-        assert_eq!(rt; memory.fill(&rt, 5, 3), Err(tampered), "{case}");
-        assert_eq!(rt; memory.fill(&rt, 64, 3), Err(tampered), "{case}");
-        assert_eq!(rt; memory.read(&rt, line), Err(tampered), "{case}");
-        assert_eq!(rt; memory.read(&rt, 200), Err(tampered), "{case}");
+        assert_eq!(rt; memory.fill(5, 3), Err(tampered), "{case}");
+        assert_eq!(rt; memory.fill(64, 3), Err(tampered), "{case}");
+        assert_eq!(rt; memory.read(line), Err(tampered), "{case}");
+        assert_eq!(rt; memory.read(200), Err(tampered), "{case}");
         let (account, bus) = memory.finish();
         assert_eq!(rt; account.used.len(), entries, "{case}");
         assert_eq!(rt; account.made.len(), 5 + entries, "{case}");
@@ -64,9 +59,9 @@ fn a_flipped_bit_may_be_met_later_or_pass(rt: HostRuntime) -> Result<(), Fail> {
         ("a byte that the tag leaves out", 9, 2, passed, 1),
     ];
     for (case, line, offset, held, lies) in rows {
-        let mut memory = before_an_overflow(&rt, rt.alloc(), line, offset)?;
-        assert_eq!(rt; memory.fill(&rt, 5, 2), Ok(()), "{case}");
-        assert_eq!(rt; memory.read(&rt, 9), Ok(held), "{case}");
+        let mut memory = before_an_overflow(rt.alloc(), line, offset)?;
+        assert_eq!(rt; memory.fill(5, 2), Ok(()), "{case}");
+        assert_eq!(rt; memory.read(9), Ok(held), "{case}");
         assert_eq!(rt; memory.lines.stopped(), None, "{case}");
         let (account, bus) = memory.finish();
         assert_eq!(rt; account.used.len(), 129 + 64, "{case}");
@@ -94,10 +89,10 @@ fn a_flipped_bit_is_tampering_that_stays_or_evidence(rt: HostRuntime) -> Result<
     ];
     for (case, offset, first, second, shown) in rows {
         let mut memory = flipped(rt.alloc(), u64::MAX, 64, 1, offset)?;
-        assert_eq!(rt; memory.read(&rt, 64), Ok([0; 64]), "{case}");
-        assert_eq!(rt; memory.fill(&rt, 64, 6), Ok(()), "{case}");
-        assert_eq!(rt; memory.read(&rt, 64), first, "{case}");
-        assert_eq!(rt; memory.read(&rt, 64), second, "{case}");
+        assert_eq!(rt; memory.read(64), Ok([0; 64]), "{case}");
+        assert_eq!(rt; memory.fill(64, 6), Ok(()), "{case}");
+        assert_eq!(rt; memory.read(64), first, "{case}");
+        assert_eq!(rt; memory.read(64), second, "{case}");
         assert_eq!(rt; memory.lines.stopped(), first.err(), "{case}");
         let (account, bus) = memory.finish();
         assert_eq!(rt; account.evidence.is_some(), shown, "{case}");
@@ -115,9 +110,9 @@ fn a_flipped_node_is_tampering_that_stays(rt: HostRuntime) -> Result<(), Fail> {
         let mut memory = booted(rt.alloc(), SomeBytes, 1, u64::MAX, place, 1, 0)?;
         let tampered = MemStop::Tampered(place);
         let stop = if in_a_write {
-            memory.fill(&rt, 69, 1).err()
+            memory.fill(69, 1).err()
         } else {
-            memory.read(&rt, 69).err()
+            memory.read(69).err()
         };
         assert_eq!(rt;
             stop,
@@ -130,17 +125,17 @@ fn a_flipped_node_is_tampering_that_stays(rt: HostRuntime) -> Result<(), Fail> {
             "node {level} {index}, in a write {in_a_write}"
         );
         assert_eq!(rt;
-            memory.read(&rt, 69).err(),
+            memory.read(69).err(),
             stop,
             "node {level} {index}, in a write {in_a_write}"
         );
         assert_eq!(rt;
-            memory.read(&rt, 200).err(),
+            memory.read(200).err(),
             stop,
             "node {level} {index}, in a write {in_a_write}"
         );
         assert_eq!(rt;
-            memory.fill(&rt, 200, 2).err(),
+            memory.fill(200, 2).err(),
             stop,
             "node {level} {index}, in a write {in_a_write}"
         );
@@ -179,7 +174,7 @@ fn a_flipped_counter_block_that_passes_is_a_collision(rt: HostRuntime) -> Result
     for (case, offset, accepted, wanted) in rows {
         let place = Place::Node { level: 0, index: 1 };
         let mut memory = booted(rt.alloc(), NodesAlike, 1, u64::MAX, place, 1, offset)?;
-        assert_eq!(rt; memory.read(&rt, 69), wanted, "{case}");
+        assert_eq!(rt; memory.read(69), wanted, "{case}");
         let (account, bus) = memory.finish();
         let collision = Evidence::Collision {
             level: 0,
@@ -200,8 +195,8 @@ fn calls(rt: &impl Abort, memory: &mut Memory<SomeBytes>) -> [Option<MemStop>; 8
     [
         read_stop(rt, memory, 389, 0),
         read_stop(rt, memory, 580, 0),
-        memory.fill(rt, 389, 1).err(),
-        memory.fill(rt, 580, 2).err(),
+        memory.fill(389, 1).err(),
+        memory.fill(580, 2).err(),
         read_stop(rt, memory, 389, 1),
         read_stop(rt, memory, 580, 2),
         read_stop(rt, memory, 389, 1),
@@ -216,7 +211,7 @@ fn read_stop(
     line: u32,
     byte: u8,
 ) -> Option<MemStop> {
-    match memory.read(rt, line) {
+    match memory.read(line) {
         Ok(bytes) => {
             assert_eq!(rt; bytes, [byte; 64], "line {line}");
             None

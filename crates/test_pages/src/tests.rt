@@ -1,4 +1,5 @@
 mod accesses;
 mod evictions;
+mod last_written;
 mod replays;
 mod want_of_memory;

@@ -30,7 +30,7 @@ fn add_page(entries: &mut Vec<(u32, Counter)>, first: u32, page: u64) -> Result<
 fn a_page_is_encrypted_in_the_order_of_its_places(rt: HostRuntime) -> Result<(), Fail> {
     for (line, first) in [(5, 0), (64, 64), (255, 192)] {
         let mut memory = honest(rt.alloc(), u64::MAX)?;
-        assert_eq!(rt; memory.wear(&rt, line, 128, 1), Ok(()), "line {line}");
+        assert_eq!(rt; memory.wear(line, 128, 1), Ok(()), "line {line}");
         let (account, _bus) = memory.finish();
         let mut wanted = Vec::new(rt.alloc());
         add_line(&mut wanted, line, 0)?;
@@ -57,12 +57,12 @@ fn a_line_that_was_never_written_is_read_once_its_page_was_encrypted(
         (3, [0; 64], [0; 64]),
     ] {
         let mut memory = flipped(rt.alloc(), u64::MAX, 6, k, 2)?;
-        assert_eq!(rt; memory.read(&rt, 6), Ok([0; 64]), "read {k}");
-        assert_eq!(rt; memory.wear(&rt, 5, 127, 1), Ok(()), "read {k}");
-        assert_eq!(rt; memory.read(&rt, 6), Ok([0; 64]), "read {k}");
-        assert_eq!(rt; memory.fill(&rt, 5, 2), Ok(()), "read {k}");
-        assert_eq!(rt; memory.read(&rt, 6), Ok(first), "read {k}");
-        assert_eq!(rt; memory.read(&rt, 6), Ok(second), "read {k}");
+        assert_eq!(rt; memory.read(6), Ok([0; 64]), "read {k}");
+        assert_eq!(rt; memory.wear(5, 127, 1), Ok(()), "read {k}");
+        assert_eq!(rt; memory.read(6), Ok([0; 64]), "read {k}");
+        assert_eq!(rt; memory.fill(5, 2), Ok(()), "read {k}");
+        assert_eq!(rt; memory.read(6), Ok(first), "read {k}");
+        assert_eq!(rt; memory.read(6), Ok(second), "read {k}");
         let (account, bus) = memory.finish();
         assert_eq!(rt; account.used.len(), 191, "read {k}");
         assert_eq!(rt; account.evidence.is_some(), k < 3, "read {k}");
@@ -98,9 +98,9 @@ const CIPHER_6: [u8; 64] = [
 #[test]
 fn a_page_is_encrypted_under_its_new_counter(rt: HostRuntime) -> Result<(), Fail> {
     let mut memory = honest(rt.alloc(), u64::MAX)?;
-    assert_eq!(rt; memory.fill(&rt, 4, 14), Ok(()));
-    assert_eq!(rt; memory.wear(&rt, 5, 127, 1), Ok(()));
-    assert_eq!(rt; memory.fill(&rt, 5, 128), Ok(()));
+    assert_eq!(rt; memory.fill(4, 14), Ok(()));
+    assert_eq!(rt; memory.wear(5, 127, 1), Ok(()));
+    assert_eq!(rt; memory.fill(5, 128), Ok(()));
     let (account, _bus) = memory.finish();
     for (line, cipher) in [(4, CIPHER_4), (5, CIPHER_5), (6, CIPHER_6)] {
         let counter = Counter { page: 1, line: 0 };
@@ -135,7 +135,7 @@ fn assert_all_held(rt: &impl Abort, memory: &mut Memory<SomeBytes>, worn: u8) {
     for line in 0..128u32 {
         let wanted = [held(line, worn); 64];
         assert_eq!(rt;
-            memory.read(rt, line),
+            memory.read(line),
             Ok(wanted),
             "line {line} where {worn} was written last"
         );
@@ -147,11 +147,7 @@ fn a_page_that_is_worn_out_again_and_again_keeps_its_lines(rt: HostRuntime) -> R
     let mut memory = honest(rt.alloc(), 2)?;
     let mut wanted = Vec::new(rt.alloc());
     for line in [0, 4, 6, 63, 64] {
-        assert_eq!(rt;
-            memory.fill(&rt, line, held(line, 0)),
-            Ok(()),
-            "line {line}"
-        );
+        assert_eq!(rt; memory.fill(line, held(line, 0)), Ok(()), "line {line}");
         wanted.push(once(line))?;
     }
     let spent = Err(MemStop::Spent(0));
@@ -161,13 +157,9 @@ fn a_page_that_is_worn_out_again_and_again_keeps_its_lines(rt: HostRuntime) -> R
         (2, 23, 33, spent, 23),
     ];
     for (page, byte, last, answer, worn) in rows {
-        assert_eq!(rt;
-            memory.wear(&rt, 5, 127, byte),
-            Ok(()),
-            "page counter {page}"
-        );
+        assert_eq!(rt; memory.wear(5, 127, byte), Ok(()), "page counter {page}");
         assert_all_held(&rt, &mut memory, byte);
-        assert_eq!(rt; memory.fill(&rt, 5, last), answer, "page counter {page}");
+        assert_eq!(rt; memory.fill(5, last), answer, "page counter {page}");
         assert_all_held(&rt, &mut memory, worn);
         add_line(&mut wanted, 5, page)?;
         if page < 2 {
@@ -188,17 +180,17 @@ fn a_page_that_is_worn_out_again_and_again_keeps_its_lines(rt: HostRuntime) -> R
 fn a_line_that_is_spent_leaves_others(rt: HostRuntime) -> Result<(), Fail> {
     let spent = Err(MemStop::Spent(0));
     let mut memory = honest(rt.alloc(), 0)?;
-    assert_eq!(rt; memory.wear(&rt, 5, 127, 1), Ok(()));
-    assert_eq!(rt; memory.fill(&rt, 5, 2), spent);
-    assert_eq!(rt; memory.fill(&rt, 5, 2), spent);
-    assert_eq!(rt; memory.read(&rt, 5), Ok([1; 64]));
-    assert_eq!(rt; memory.read(&rt, 6), Ok([0; 64]));
+    assert_eq!(rt; memory.wear(5, 127, 1), Ok(()));
+    assert_eq!(rt; memory.fill(5, 2), spent);
+    assert_eq!(rt; memory.fill(5, 2), spent);
+    assert_eq!(rt; memory.read(5), Ok([1; 64]));
+    assert_eq!(rt; memory.read(6), Ok([0; 64]));
     assert_eq!(rt; memory.lines.stopped(), spent.err());
-    assert_eq!(rt; memory.fill(&rt, 6, 3), Ok(()));
-    assert_eq!(rt; memory.fill(&rt, 64, 4), Ok(()));
-    assert_eq!(rt; memory.read(&rt, 6), Ok([3; 64]));
-    assert_eq!(rt; memory.read(&rt, 64), Ok([4; 64]));
-    assert_eq!(rt; memory.fill(&rt, 5, 2), spent);
+    assert_eq!(rt; memory.fill(6, 3), Ok(()));
+    assert_eq!(rt; memory.fill(64, 4), Ok(()));
+    assert_eq!(rt; memory.read(6), Ok([3; 64]));
+    assert_eq!(rt; memory.read(64), Ok([4; 64]));
+    assert_eq!(rt; memory.fill(5, 2), spent);
     let (account, _bus) = memory.finish();
     let mut wanted = Vec::new(rt.alloc());
     add_line(&mut wanted, 5, 0)?;
@@ -221,12 +213,12 @@ fn worn_page(
     requires { first < 262144 }
 {
     let mut memory = booted(alloc, SomeBytes, levels, page_limit, Place::Line(0), 0, 0)?;
-    assert_eq!(rt; memory.fill(rt, 0, 100), Ok(()), "levels {levels}");
+    assert_eq!(rt; memory.fill(0, 100), Ok(()), "levels {levels}");
     for at in 0..64u8 {
         let line = first + u32::from(at);
-        assert_eq!(rt; memory.fill(rt, line, at + 1), Ok(()), "line {line}");
+        assert_eq!(rt; memory.fill(line, at + 1), Ok(()), "line {line}");
     }
-    let worn = memory.wear(rt, first + 5, 126, 6);
+    let worn = memory.wear(first + 5, 126, 6);
     assert_eq!(rt; worn, Ok(()), "levels {levels}");
     Ok(memory)
 }
@@ -238,9 +230,9 @@ fn assert_page_held(rt: &impl Abort, memory: &mut Memory<SomeBytes>, first: u32,
     for at in 0..64u8 {
         let line = first + u32::from(at);
         let byte = if at == 5 { worn } else { at + 1 };
-        assert_eq!(rt; memory.read(rt, line), Ok([byte; 64]), "line {line}");
+        assert_eq!(rt; memory.read(line), Ok([byte; 64]), "line {line}");
     }
-    assert_eq!(rt; memory.read(rt, 0), Ok([100; 64]));
+    assert_eq!(rt; memory.read(0), Ok([100; 64]));
 }
 
 // Pages 3, 9, 200 and 4001, each by its first line.
@@ -255,7 +247,7 @@ fn at_each_level_a_page_is_encrypted_anew(rt: HostRuntime) -> Result<(), Fail> {
     for (levels, first, made) in rows {
         let mut memory = worn_page(&rt, rt.alloc(), levels, first, 1)?;
         assert_page_held(&rt, &mut memory, first, 6);
-        let last = memory.fill(&rt, first + 5, 200);
+        let last = memory.fill(first + 5, 200);
         assert_eq!(rt; last, Ok(()), "levels {levels}");
         assert_page_held(&rt, &mut memory, first, 200);
         let (account, _bus) = memory.finish();
@@ -275,7 +267,7 @@ fn at_each_level_a_page_is_encrypted_anew(rt: HostRuntime) -> Result<(), Fail> {
 fn a_page_other_than_the_first_is_spent(rt: HostRuntime) -> Result<(), Fail> {
     let spent = Err(MemStop::Spent(9));
     let mut memory = worn_page(&rt, rt.alloc(), 2, 576, 0)?;
-    assert_eq!(rt; memory.fill(&rt, 581, 200), spent);
+    assert_eq!(rt; memory.fill(581, 200), spent);
     assert_page_held(&rt, &mut memory, 576, 6);
     assert_eq!(rt; memory.lines.stopped(), spent.err());
     let (account, _bus) = memory.finish();

@@ -14,9 +14,9 @@ fn made_and_accesses(
     reads: u32,
 ) -> Result<(u64, u64), Fail> {
     let mut memory = booted(alloc, SomeBytes, levels, u64::MAX, Place::Line(0), 0, 0)?;
-    assert_eq!(rt; memory.wear(rt, 5, writes, 1), Ok(()));
+    assert_eq!(rt; memory.wear(5, writes, 1), Ok(()));
     for _ in 0..reads {
-        assert!(rt; memory.read(rt, 5).is_ok());
+        assert!(rt; memory.read(5).is_ok());
     }
     let (account, bus) = memory.finish();
     Ok((account.made.len(), bus.asked()))

@@ -3,7 +3,6 @@ use fakes::CountingBus;
 use page_cases::{Memory, SomeBytes, booted, once};
 use sec_base::{Counter, Geometry, MemStop, Place};
 use std::alloc::Global;
-use std::process::Abort;
 use std::test::Fail;
 
 // The first lines of pages 1, 17 and 33.
@@ -14,7 +13,7 @@ const SECOND: u32 = 17 * 64;
 const THIRD: u32 = 33 * 64;
 
 // So many of these calls: a line is filled with a byte, or where that is 0 read.
-fn call(rt: &impl Abort, memory: &mut Memory<SomeBytes>, count: usize) -> Result<(), MemStop> {
+fn call(memory: &mut Memory<SomeBytes>, count: usize) -> Result<(), MemStop> {
     let calls = [
         (FIRST, 1),
         (SECOND, 2),
@@ -26,10 +25,10 @@ fn call(rt: &impl Abort, memory: &mut Memory<SomeBytes>, count: usize) -> Result
     for (number, step) in calls.iter().enumerate() {
         let (line, byte) = *step;
         if number < count && byte == 0 {
-            memory.read(rt, line)?;
+            memory.read(line)?;
         }
         if number < count && byte > 0 {
-            memory.fill(rt, line, byte)?;
+            memory.fill(line, byte)?;
         }
     }
     Ok(())
@@ -56,7 +55,7 @@ fn a_changed_counter_block_is_written_when_it_goes_out(rt: HostRuntime) -> Resul
     ];
     for (count, made, accesses) in rows {
         let mut memory = three_levels(rt.alloc(), Place::Line(0), 0)?;
-        assert_eq!(rt; call(&rt, &mut memory, count), Ok(()), "{count} calls");
+        assert_eq!(rt; call(&mut memory, count), Ok(()), "{count} calls");
         let (account, bus) = memory.finish();
         let counts = (account.made.len(), bus.asked());
         assert_eq!(rt; counts, (made, accesses), "{count} calls");
@@ -67,11 +66,11 @@ fn a_changed_counter_block_is_written_when_it_goes_out(rt: HostRuntime) -> Resul
 #[test]
 fn what_comes_back_is_what_went_out(rt: HostRuntime) -> Result<(), Fail> {
     let mut memory = three_levels(rt.alloc(), Place::Line(0), 0)?;
-    assert_eq!(rt; call(&rt, &mut memory, 6), Ok(()));
-    assert_eq!(rt; memory.read(&rt, FIRST), Ok([3; 64]));
-    assert_eq!(rt; memory.read(&rt, SECOND), Ok([2; 64]));
-    assert_eq!(rt; memory.read(&rt, THIRD), Ok([0; 64]));
-    assert_eq!(rt; memory.fill(&rt, SECOND, 4), Ok(()));
+    assert_eq!(rt; call(&mut memory, 6), Ok(()));
+    assert_eq!(rt; memory.read(FIRST), Ok([3; 64]));
+    assert_eq!(rt; memory.read(SECOND), Ok([2; 64]));
+    assert_eq!(rt; memory.read(THIRD), Ok([0; 64]));
+    assert_eq!(rt; memory.fill(SECOND, 4), Ok(()));
     let (account, _bus) = memory.finish();
     let wanted = [
         once(FIRST),
@@ -97,7 +96,7 @@ fn what_comes_back_is_checked_again(rt: HostRuntime) -> Result<(), Fail> {
                 Err(MemStop::Tampered(place))
             };
             assert_eq!(rt;
-                call(&rt, &mut memory, count),
+                call(&mut memory, count),
                 tampered,
                 "read {k} of {place}, {count} calls"
             );
@@ -110,15 +109,15 @@ fn what_comes_back_is_checked_again(rt: HostRuntime) -> Result<(), Fail> {
 #[test]
 fn a_page_whose_counters_went_out_is_encrypted_anew(rt: HostRuntime) -> Result<(), Fail> {
     let mut memory = three_levels(rt.alloc(), Place::Line(0), 0)?;
-    assert_eq!(rt; memory.fill(&rt, FIRST + 1, 9), Ok(()));
-    assert_eq!(rt; memory.wear(&rt, FIRST, 127, 1), Ok(()));
-    assert_eq!(rt; memory.read(&rt, SECOND), Ok([0; 64]));
-    assert_eq!(rt; memory.read(&rt, THIRD), Ok([0; 64]));
-    assert_eq!(rt; memory.fill(&rt, FIRST, 2), Ok(()));
-    assert_eq!(rt; memory.read(&rt, SECOND), Ok([0; 64]));
-    assert_eq!(rt; memory.read(&rt, THIRD), Ok([0; 64]));
-    assert_eq!(rt; memory.read(&rt, FIRST), Ok([2; 64]));
-    assert_eq!(rt; memory.read(&rt, FIRST + 1), Ok([9; 64]));
+    assert_eq!(rt; memory.fill(FIRST + 1, 9), Ok(()));
+    assert_eq!(rt; memory.wear(FIRST, 127, 1), Ok(()));
+    assert_eq!(rt; memory.read(SECOND), Ok([0; 64]));
+    assert_eq!(rt; memory.read(THIRD), Ok([0; 64]));
+    assert_eq!(rt; memory.fill(FIRST, 2), Ok(()));
+    assert_eq!(rt; memory.read(SECOND), Ok([0; 64]));
+    assert_eq!(rt; memory.read(THIRD), Ok([0; 64]));
+    assert_eq!(rt; memory.read(FIRST), Ok([2; 64]));
+    assert_eq!(rt; memory.read(FIRST + 1), Ok([9; 64]));
     let (account, _bus) = memory.finish();
     let counts = (account.used.len(), account.made.len());
     assert_eq!(rt; counts, (128 + 64, 85 + 128 + 64 + 2));
@@ -138,10 +137,10 @@ fn a_block_that_cannot_go_out_stops_the_call(rt: HostRuntime) -> Result<(), Fail
         let bus = CountingBus::refusing(rt.alloc(), geometry, refused)?;
         let mut memory = Memory::over(rt.alloc(), bus, SomeBytes, geometry, u64::MAX)?;
         let stops = [
-            call(&rt, &mut memory, 2),
-            memory.read(&rt, THIRD).map(drop),
-            memory.read(&rt, FIRST).map(drop),
-            memory.fill(&rt, SECOND, 5),
+            call(&mut memory, 2),
+            memory.read(THIRD).map(drop),
+            memory.read(FIRST).map(drop),
+            memory.fill(SECOND, 5),
         ];
         let refusal = Err(MemStop::NoMemory);
         let wanted = [Ok(()), refusal, refusal, refusal];

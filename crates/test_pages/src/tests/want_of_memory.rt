@@ -17,7 +17,7 @@ fn worn(
     let geometry = Geometry::new(levels).ok_or("no geometry")?;
     let bus = CountingBus::refusing(alloc, geometry, refused)?;
     let mut memory = Memory::over(alloc, bus, SomeBytes, geometry, u64::MAX)?;
-    assert_eq!(rt; memory.wear(rt, 5, writes, 1), Ok(()), "access {refused}");
+    assert_eq!(rt; memory.wear(5, writes, 1), Ok(()), "access {refused}");
     Ok(memory)
 }
 
@@ -29,9 +29,9 @@ fn a_read_that_is_refused_changes_nothing(rt: HostRuntime) -> Result<(), Fail> {
         for refused in before + 1..=before + accesses {
             let mut memory = worn(&rt, rt.alloc(), levels, writes, refused)?;
             let stops = [
-                memory.read(&rt, 5).err(),
-                memory.read(&rt, 5).err(),
-                memory.fill(&rt, 5, 2).err(),
+                memory.read(5).err(),
+                memory.read(5).err(),
+                memory.fill(5, 2).err(),
                 memory.lines.stopped(),
             ];
             assert_eq!(rt; stops, [Some(MemStop::NoMemory); 4], "access {refused}");
@@ -59,9 +59,9 @@ fn a_write_that_is_refused_was_done_in_part(rt: HostRuntime) -> Result<(), Fail>
             let refused = before + at;
             let mut memory = worn(&rt, rt.alloc(), levels, writes, refused)?;
             let stops = [
-                memory.fill(&rt, 5, 2).err(),
-                memory.fill(&rt, 5, 2).err(),
-                memory.read(&rt, 5).err(),
+                memory.fill(5, 2).err(),
+                memory.fill(5, 2).err(),
+                memory.read(5).err(),
                 memory.lines.stopped(),
             ];
             assert_eq!(rt; stops, [Some(MemStop::NoMemory); 4], "access {refused}");

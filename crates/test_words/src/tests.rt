@@ -1,8 +1,8 @@
 // Lines of words. What each asks for is worked out by hand from the commands' arguments and from clap's rules: an option
 // stands anywhere behind its command, its value stands in the next word or behind `=`, after `--` no word is an option,
 // and no option stands twice.
-use super::ProgramForm::{AssemblyText, ElfFile, FlatFile};
-use super::{
+use chip_words::ProgramForm::{AssemblyText, ElfFile, FlatFile};
+use chip_words::{
     Execution, ProgramFile, ProgramForm, Request, Tags, ValueFault, WordsError, default_run,
     read_words,
 };
