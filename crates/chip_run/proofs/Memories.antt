@@ -1,5 +1,5 @@
 -- What a run hands out of its memory, from one that was booted to one that is given up.
-use Rattle.std.proofs.Common.{◌≡◌, ◌≢◌, inl, inr, ℕ, ◌+◌, ◌^◌, ◌<◌, List, [], ◌++◌, length, length-append, Option, Some, None, IfSome, refl, sym, ap, ◌∙◌, subst, arith}
+use Rattle.std.proofs.Common.{◌≡◌, ◌≢◌, inl, inr, ℕ, ◌+◌, ◌^◌, ◌<◌, List, [], ◌++◌, length, length-append, Option, Some, None, IfSome, Contains, refl, sym, ap, ◌∙◌, subst, arith}
 use Rattle.sec_base.specs.Count.{RoseBy}
 use Rattle.sec_base.specs.Evidence.{IsEvidence}
 use Rattle.sec_base.specs.Geometry.{line_count}
@@ -24,7 +24,7 @@ use Rattle.checked_bus.specs.Steps.{IsAccounted, unwritten_in}
 use Rattle.pad_stream.specs.PadBlocks.{ShareNoBlock}
 use Rattle.pad_stream.specs.Pads.{of_lines}
 use Rattle.page_reencrypt.specs.Contents.{AreUnskipped, AreWithin, HoldsSealed, NodesSay, contents_of}
-use Rattle.page_reencrypt.specs.SealedLines.{AccountsForAll, AreNew, AreProtected, CountersRise, IsQuiet, IsUnbooted, Moves, SealedLinesView, contents, enc_key, evidence, levels, lines_of, made, used}
+use Rattle.page_reencrypt.specs.SealedLines.{AccountsForAll, AreNew, AreProtected, CountersRise, IsLineOf, IsQuiet, IsUnbooted, Moves, SealedLinesView, contents, enc_key, evidence, levels, lines_of, made, used}
 use Rattle.cache_set.specs.declared.way.Way.{Way}
 use Rattle.line_cache.specs.LineCache.{contents_over}
 use Rattle.secure_memory.specs.SecureRam.{IsMoved, SecureRamView}
@@ -33,7 +33,7 @@ use Rattle.chip_run.specs.Run.{Terms, EndedAtBoot, unwritten_at}
 use Rattle.chip_run.specs.declared.record.RunRecord.{RunRecord}
 use Rattle.checked_bus.proofs.Steps.{counted_on}
 use Rattle.bonsai_tree.proofs.MadeSlots.{slots_none}
-use Rattle.page_reencrypt.proofs.Moves.{moves_on}
+use Rattle.page_reencrypt.proofs.Moves.{own_moves_on}
 use Rattle.chip_run.proofs.Closing.{unwritten_most}
 use Rattle.chip_run.proofs.Ends.{OfMemory}
 
@@ -54,10 +54,10 @@ begins_accounted tag_of used made history stopped evidence none quiet untampered
 
 -- A run that found no memory to begin with
 
-nothing_within : (limit : ℕ) → AreWithin limit []
-nothing_within limit = record {
+nothing_within : (lines limit : ℕ) → AreWithin lines limit []
+nothing_within lines limit = record {
   started = λ line counter listed. absurd (omega (arith, listed.1));
-  limited = λ line counter listed. absurd (omega (arith, listed.1));
+  limited = λ line counter inside listed. absurd (omega (arith, listed.1));
   seven_bits = λ line counter listed. absurd (omega (arith, listed.1));
 }
 
@@ -79,7 +79,7 @@ nothing_paired lines = refl
 nothing_risen : (levels limit : ℕ) → CountersRise levels limit [] (Some no_memory)
 nothing_risen levels limit = record {
   rising = rising_nothing;
-  within = nothing_within limit;
+  within = nothing_within (line_count levels) limit;
   unskipped = nothing_unskipped (line_count levels);
   paged = λ going. absurd (cc);
   spent = λ page is. absurd (cc);
@@ -169,7 +169,7 @@ same_lines {B} {T} lines bus tagger depth key limit made' evidence' used' bus_is
     ∙ ap (λ (xs : List (ℕ × Counter)). in_words lines bus tagger depth key limit made' evidence' xs) (sym used_is)
 
 module _ {B T : Type 0} (d n : T → List ℕ → List ℕ) (history : B → BusHistory) (bus_moved : B → B → Type 0) (bus : B) (tagger : T) (key : List ℕ) (depth limit : ℕ)
-    (booted lines : SealedLinesView B T) (new : AreNew history bus_moved (tags_of d n) bus tagger key depth limit booted) (moves : Moves history bus_moved (tags_of d n) booted lines) where
+    (booted lines : SealedLinesView B T) (new : AreNew history bus_moved (tags_of d n) bus tagger key depth limit booted) (moves : Moves history bus_moved (tags_of d n) (IsLineOf booted) booted lines) where
   new_accounted : (history bus).lies ≡ 0 → AccountsForAll (tags_of d n) history booted
   new_accounted honest =
       begins_accounted (tags_of d n booted.engine) (used booted) (made booted) (history booted.bus) booted.stopped (evidence booted)
@@ -179,6 +179,13 @@ module _ {B T : Type 0} (d n : T → List ℕ → List ℕ) (history : B → Bus
   run_reads place =
       let same : (history booted.bus).reads place ≡ (history bus).reads place = ap (λ (reads : Place → ℕ). reads place) new.wrote.reads in
       omega (arith, same, moves.step.reads place)
+
+  -- what it encrypted is of lines of the memory
+  run_inside : (line : ℕ) (counter : Counter) → Contains (used lines) (line, counter) → line < line_count depth
+  run_inside line counter listed =
+      let entries : used lines ≡ moves.entries = moves.used_more ∙ ap (λ (used : List (ℕ × Counter)). used ++ moves.entries) new.unused in
+      subst (λ (levels : ℕ). line < line_count levels) new.depth_is
+      (moves.entries_allowed line counter (subst (λ (used : List (ℕ × Counter)). Contains used (line, counter)) entries listed))
 
   pub run_memory : (start : Machine) (budget : ℕ) (report : ReportTerms) (closed : B) (run : RunRecord) → (history bus).lies ≡ 0 → AreProtected d n history lines →
       run.made ≡ made lines → run.used ≡ used lines → length run.used < 2 ^ 64 →
@@ -194,7 +201,8 @@ module _ {B T : Type 0} (d n : T → List ℕ → List ℕ) (history : B → Bus
       record {
         stopped = lines.stopped;
         carries = carries;
-        inside = protected.always.consistent.inside;
+        inside = λ line counter listed.
+            run_inside line counter (subst (λ (used : List (ℕ × Counter)). Contains used (line, counter)) used_is listed);
         paired = protected.always.consistent.paired;
         sealed = protected.always.consistent.sealed;
         nodes = inl protected.always.consistent.nodes;
@@ -223,8 +231,9 @@ module _ {B T : Type 0} (d n : T → List ℕ → List ℕ) (history : B → Bus
 -- what running on made of a memory in which a program was stored
 pub whole_moves : {B T : Type 0} (history : B → BusHistory) (bus_moved : B → B → Type 0) (tags : TagEngineView T → Message → List ℕ) → ((a b c : B) → bus_moved a b → bus_moved b c → bus_moved a c) →
     (opened stored begun ended closed : SecureRamView B T) (storing running : List ℕ) → begun ≡ stored → closed ≡ ended →
-    IsMoved history bus_moved tags opened storing stored → IsMoved history bus_moved tags begun running ended → Moves history bus_moved tags opened.lines closed.lines
+    IsMoved history bus_moved tags opened storing stored → IsMoved history bus_moved tags begun running ended →
+    Moves history bus_moved tags (IsLineOf opened.lines) opened.lines closed.lines
 whole_moves {B} {T} history bus_moved tags bus_moved_on opened stored begun ended closed storing running begins closes before after =
-    subst (λ (m : SecureRamView B T). Moves history bus_moved tags opened.lines m.lines) (sym closes)
-    (moves_on history bus_moved tags bus_moved_on opened.lines stored.lines ended.lines before.moves
-    (subst (λ (m : SecureRamView B T). Moves history bus_moved tags m.lines ended.lines) begins after.moves))
+    subst (λ (m : SecureRamView B T). Moves history bus_moved tags (IsLineOf opened.lines) opened.lines m.lines) (sym closes)
+    (own_moves_on history bus_moved tags bus_moved_on opened.lines stored.lines ended.lines before.moves
+    (subst (λ (m : SecureRamView B T). Moves history bus_moved tags (IsLineOf m.lines) m.lines ended.lines) begins after.moves))

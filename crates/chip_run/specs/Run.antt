@@ -121,7 +121,7 @@ pub record HoldsWithoutEvidence (terms : Terms) (printed : List ℕ) (before aft
   pub no_repeat : NoRepeat run.used
   pub pads_apart : ShareNoBlock terms.enc_key run.used
   pub rising : AreRising run.used
-  pub counters : AreWithin terms.page_limit run.used
+  pub counters : AreWithin (line_count terms.levels) terms.page_limit run.used
   pub spent : (page : ℕ) → run.ending ≡ Spent page → IsSpent (line_count terms.levels) terms.page_limit run.used page
   -- a line whose page counter is M was itself encrypted M times at least; the lines of a page have one page counter,
   -- and where it is M they were encrypted 64 M times at least, unless the run ended in the middle of an overflow; so

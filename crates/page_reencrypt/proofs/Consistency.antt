@@ -1,5 +1,5 @@
 -- What fits together still does when a line was encrypted and tagged under a later counter.
-use Rattle.std.proofs.Common.{◌≡◌, ◌≢◌, ◌⊎◌, inl, inr, ℕ, ◌<◌, Bool, true, false, cond, nat_eq, nat_lt, List, [], ◌∷◌, ◌++◌, length, Option, Some, None, Contains, unwrap_or, refl, ap, sym, ◌∙◌, subst}
+use Rattle.std.proofs.Common.{◌≡◌, ◌≢◌, ◌⊎◌, inl, inr, ℕ, ◌<◌, Bool, true, false, cond, nat_eq, nat_lt, List, [], ◌∷◌, ◌++◌, length, Option, Some, None, unwrap_or, refl, ap, sym, ◌∙◌, subst}
 use Rattle.std.proofs.lemmas.Bool.{cases_eq, lt-ltb}
 use Rattle.std.proofs.lemmas.Bool.Decides.{Decides-eqb}
 use Rattle.std.proofs.lemmas.List.Elements.{Contains-append_left, Contains-push, Contains-push_cases, filter-append}
@@ -96,13 +96,6 @@ module _ (tag_of : Message → List ℕ) (levels : ℕ) (history : BusHistory) (
   abbrev used_now : List (ℕ × Counter)
   used_now = used ++ (line, counter) ∷ []
 
-  now_inside : (other : ℕ) (found : Counter) → Contains used_now (other, found) → other < line_count levels
-  now_inside other found listed =
-      elim (Contains-push_cases used (line, counter) (other, found) listed) [
-        | inl early ↦ kept.inside other found early
-        | inr last ↦ let same : line ≡ other = ap (λ (e : ℕ × Counter). e.0) last in subst (λ (l : ℕ). l < line_count levels) same inside
-      ]
-
   abbrev line_now : List ℕ
   line_now = sealed_line tag_of line counter cipher
 
@@ -165,7 +158,6 @@ module _ (tag_of : Message → List ℕ) (levels : ℕ) (history : BusHistory) (
       NodesAreMade levels made_now history'.written → IsConsistent tag_of levels history' made_now used_now
   consistent_at history' same sealed nodes = record {
     bus_levels = same ∙ kept.bus_levels;
-    inside = now_inside;
     paired = paired_more (line_count levels) made used line counter cipher kept.paired inside;
     long = λ other found bytes listed.
         elim (Contains-push_cases made (Line line counter cipher) (Line other found bytes) listed) [

@@ -87,13 +87,14 @@ next_limited limit counter within going =
     ]
 
 -- a line's counter has seven bits
-seven_bits_by : (limit : ℕ) (used : List (ℕ × Counter)) (line : ℕ) (last : Option Counter) → AreWithin limit used → last_pair line used ≡ last →
-    (unwrap_or last never_written).line < 128
-seven_bits_by limit used line None within is = omega arith
-seven_bits_by limit used line (Some last) within is = within.seven_bits line last (last_listed line used last is)
+seven_bits_by : (lines limit : ℕ) (used : List (ℕ × Counter)) (line : ℕ) (last : Option Counter) → AreWithin lines limit used →
+    last_pair line used ≡ last → (unwrap_or last never_written).line < 128
+seven_bits_by lines limit used line None within is = omega arith
+seven_bits_by lines limit used line (Some last) within is = within.seven_bits line last (last_listed line used last is)
 
-pub counter_seven_bits : (limit : ℕ) (used : List (ℕ × Counter)) (line : ℕ) → AreWithin limit used → (counter_in used line).line < 128
-counter_seven_bits limit used line within = seven_bits_by limit used line (last_pair line used) within refl
+pub counter_seven_bits : (lines limit : ℕ) (used : List (ℕ × Counter)) (line : ℕ) → AreWithin lines limit used →
+    (counter_in used line).line < 128
+counter_seven_bits lines limit used line within = seven_bits_by lines limit used line (last_pair line used) within refl
 
 -- the lines that are encrypted under it
 abbrev encrypted_of : ℕ → Bool → List ℕ
@@ -208,18 +209,25 @@ module _ (counter : Counter) where
         | inr late ↦ inr late
       ]
 
+  -- an entry is of one of the lines
+  pub entry_line : (lines : List ℕ) (other : ℕ) (found : Counter) → Contains (entries lines) (other, found) → Contains lines other
+  entry_line [] other found listed = absurd (omega (arith, listed.1))
+  entry_line (line ∷ lines) other found (zero, within, is) = (zero, omega arith, ap (λ (e : ℕ × Counter). e.0) is)
+  entry_line (line ∷ lines) other found (suc k, within, is) =
+      Contains-skip line lines other (entry_line lines other found (k, omega (arith, within), is))
+
   -- within the limit they stay within it
-  pub within_more : (limit : ℕ) (used : List (ℕ × Counter)) (lines : List ℕ) → AreWithin limit used → counter ≢ never_written →
-      counter.page ≤ limit → counter.line < 128 → AreWithin limit (used ++ entries lines)
-  within_more limit used lines within started limited fits = record {
+  pub within_more : (lines_count limit : ℕ) (used : List (ℕ × Counter)) (lines : List ℕ) → AreWithin lines_count limit used →
+      counter ≢ never_written → counter.page ≤ limit → counter.line < 128 → AreWithin lines_count limit (used ++ entries lines)
+  within_more lines_count limit used lines within started limited fits = record {
     started = λ other found listed.
         elim (entry_cases lines used other found listed) [
           | inl early ↦ within.started other found early
           | inr late ↦ λ none. started (late ∙ none)
         ];
-    limited = λ other found listed.
+    limited = λ other found inside listed.
         elim (entry_cases lines used other found listed) [
-          | inl early ↦ within.limited other found early
+          | inl early ↦ within.limited other found inside early
           | inr late ↦ subst (λ (c : Counter). c.page ≤ limit) late limited
         ];
     seven_bits = λ other found listed.

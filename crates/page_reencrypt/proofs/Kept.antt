@@ -79,13 +79,13 @@ together_by tag_of levels limit counters history made used stopped kept last ris
   tree = tree;
   clean = clean;
   current = say;
-  fresh = λ line. counter_fresh limit used line rise.within;
+  fresh = λ line. counter_fresh (line_count levels) limit used line rise.within;
   paired = kept.paired;
   stored = last;
   rising = rise.rising;
   started = rise.within.started;
   whole_pages = λ page line inside above of_page fresh.
-      let none : counter_in used line ≡ never_written = (counter_fresh limit used line rise.within).1 fresh in
+      let none : counter_in used line ≡ never_written = (counter_fresh (line_count levels) limit used line rise.within).1 fresh in
       let zero_page : (counter_in used line).page ≡ 0 = ap (λ (c : Counter). c.page) none in
       let same : (counter_in used line).page ≡ (counters_in counters made page).page = ap (λ (c : Counter). c.page) (say page inside line of_page) in
       omega (arith, above, zero_page, same);
@@ -97,8 +97,10 @@ module _ {B T : Type 0} (d n : T → List ℕ → List ℕ) (history : B → Bus
 
   -- the limit of a memory that goes on
   module _ (kept : AreProtected d n history m) (going : lasting_stop m.stopped ≡ None) where
-    pub kept_limited : (line : ℕ) → m.engine.evidence ≡ None → (counter_in m.pads.used line).page ≤ m.limit
-    kept_limited line quiet = counter_limited m.limit m.pads.used line (kept.rise quiet).within
+    pub kept_limited : (line : ℕ) → line < line_count m.engine.levels → m.engine.evidence ≡ None →
+        (counter_in m.pads.used line).page ≤ m.limit
+    kept_limited line inside quiet =
+        counter_limited (line_count m.engine.levels) m.limit m.pads.used line inside (kept.rise quiet).within
 
   -- what holds between calls, by the tags and the levels
   abbrev Holds : OutsideView B T → CountersView → Option MemStop → (Message → List ℕ) → ℕ → Type 0

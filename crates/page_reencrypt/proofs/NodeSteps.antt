@@ -96,7 +96,6 @@ module _ (tag_of : Message → List ℕ) (old new : BusHistory) (made made' : Li
       NodesAreMade levels made' new.written → IsConsistent tag_of levels new made' used
   nodes_consistent levels used kept same nodes = record {
     bus_levels = same ∙ kept.bus_levels;
-    inside = kept.inside;
     paired = same_pairs old new made made' lines ∙ kept.paired;
     long = λ line counter cipher listed.
         kept.long line counter cipher (line_before made lines.more line counter cipher lines.no_lines

@@ -20,7 +20,7 @@ use Rattle.page_reencrypt.proofs.Sealing.{listed_one, listed_or_not}
 abbrev pub used_on : List (ℕ × Counter) → Counter → List ℕ → List (ℕ × Counter)
 used_on used counter lines = used ++ map (λ at. (at, counter)) lines
 
-module _ (limit lines_count : ℕ) (used : List (ℕ × Counter)) (line : ℕ) (within : AreWithin limit used) (paged : ArePaged lines_count used)
+module _ (limit lines_count : ℕ) (used : List (ℕ × Counter)) (line : ℕ) (within : AreWithin lines_count limit used) (paged : ArePaged lines_count used)
     (inside : line < lines_count) (below : counter_in used line ≢ last_counter limit) where
   abbrev counter : Counter
   counter = next_counter (counter_in used line)
@@ -91,11 +91,11 @@ module _ (limit lines_count : ℕ) (used : List (ℕ × Counter)) (line : ℕ) (
         ∙ spent.used_up;
   }
 
-  pub within_after : (lines : List ℕ) → AreWithin limit (used_on used counter lines)
+  pub within_after : (lines : List ℕ) → AreWithin lines_count limit (used_on used counter lines)
   within_after lines =
-      within_more counter limit used lines within (next_started (counter_in used line))
-      (next_limited limit (counter_in used line) (counter_limited limit used line within) below)
-      (next_seven_bits (counter_in used line) (counter_seven_bits limit used line within))
+      within_more counter lines_count limit used lines within (next_started (counter_in used line))
+      (next_limited limit (counter_in used line) (counter_limited lines_count limit used line inside within) below)
+      (next_seven_bits (counter_in used line) (counter_seven_bits lines_count limit used line within))
 
 -- The last counter that a limit allows, or another one
 
@@ -135,7 +135,7 @@ module _ (levels limit : ℕ) (used used' : List (ℕ × Counter)) (stopped stop
       let same : used' ≡ used = no_more (used_up last).0 in
       record {
         rising = rising;
-        within = subst (AreWithin limit) (sym same) was.within;
+        within = subst (AreWithin (line_count levels) limit) (sym same) was.within;
         unskipped = subst (AreUnskipped (line_count levels)) (sym same) was.unskipped;
         paged = λ going_on. subst (ArePaged (line_count levels)) (sym same) (was.paged going);
         spent = λ page is.
@@ -152,7 +152,8 @@ module _ (levels limit : ℕ) (used used' : List (ℕ × Counter)) (stopped stop
       let paged = was.paged going in
       record {
         rising = rising;
-        within = subst (AreWithin limit) (sym entries) (within_after limit (line_count levels) used line was.within paged inside below (take count all));
+        within = subst (AreWithin (line_count levels) limit) (sym entries)
+            (within_after limit (line_count levels) used line was.within paged inside below (take count all));
         unskipped = subst (AreUnskipped (line_count levels)) (sym entries)
             (unskipped_after limit (line_count levels) used line was.within paged inside below count was.unskipped);
         paged = λ goes_on.

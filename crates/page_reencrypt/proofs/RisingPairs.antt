@@ -234,24 +234,26 @@ pub before_next : (used : List (ℕ × Counter)) (line : ℕ) (counter next befo
 before_next used line counter next before rising (inl fresh) later listed = absurd (none_listed used line before fresh.0 listed)
 before_next used line counter next before rising (inr had) later listed = last_greatest line used counter next before rising had.0 later listed
 
-limit_by : (limit : ℕ) (used : List (ℕ × Counter)) (line : ℕ) (last : Option Counter) → AreWithin limit used → last_pair line used ≡ last →
-    (unwrap_or last never_written).page ≤ limit
-limit_by limit used line None within is = omega arith
-limit_by limit used line (Some last) within is = within.limited line last (last_listed line used last is)
+limit_by : (lines limit : ℕ) (used : List (ℕ × Counter)) (line : ℕ) (last : Option Counter) → line < lines → AreWithin lines limit used →
+    last_pair line used ≡ last → (unwrap_or last never_written).page ≤ limit
+limit_by lines limit used line None inside within is = omega arith
+limit_by lines limit used line (Some last) inside within is = within.limited line last inside (last_listed line used last is)
 
--- no line's counter is past the limit
-pub counter_limited : (limit : ℕ) (used : List (ℕ × Counter)) (line : ℕ) → AreWithin limit used → (counter_in used line).page ≤ limit
-counter_limited limit used line within = limit_by limit used line (last_pair line used) within refl
+-- no line of the memory has a counter past the limit
+pub counter_limited : (lines limit : ℕ) (used : List (ℕ × Counter)) (line : ℕ) → line < lines → AreWithin lines limit used →
+    (counter_in used line).page ≤ limit
+counter_limited lines limit used line inside within = limit_by lines limit used line (last_pair line used) inside within refl
 
-fresh_by : (limit : ℕ) (used : List (ℕ × Counter)) (line : ℕ) (last : Option Counter) → AreWithin limit used → last_pair line used ≡ last →
-    unwrap_or last never_written ≡ never_written → last ≡ None
-fresh_by limit used line None within is none = refl
-fresh_by limit used line (Some last) within is none = absurd (within.started line last (last_listed line used last is) none)
+fresh_by : (lines limit : ℕ) (used : List (ℕ × Counter)) (line : ℕ) (last : Option Counter) → AreWithin lines limit used →
+    last_pair line used ≡ last → unwrap_or last never_written ≡ never_written → last ≡ None
+fresh_by lines limit used line None within is none = refl
+fresh_by lines limit used line (Some last) within is none = absurd (within.started line last (last_listed line used last is) none)
 
 -- a line without an entry has the counter of one that was never written, and no other line has
-pub counter_fresh : (limit : ℕ) (used : List (ℕ × Counter)) (line : ℕ) → AreWithin limit used → (counter_in used line ≡ never_written) ↔ IsFresh line used
-counter_fresh limit used line within = (
-  λ none. fresh_by limit used line (last_pair line used) within refl none,
+pub counter_fresh : (lines limit : ℕ) (used : List (ℕ × Counter)) (line : ℕ) → AreWithin lines limit used →
+    (counter_in used line ≡ never_written) ↔ IsFresh line used
+counter_fresh lines limit used line within = (
+  λ none. fresh_by lines limit used line (last_pair line used) within refl none,
   λ fresh. ap (λ (last : Option Counter). unwrap_or last never_written) fresh,
 )
 

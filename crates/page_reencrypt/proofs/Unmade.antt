@@ -24,7 +24,6 @@ pub same_consistent : (tag_of : Message → List ℕ) (levels : ℕ) (history hi
     IsConsistent tag_of levels history' made used
 same_consistent tag_of levels history history' made used kept same written = record {
   bus_levels = same ∙ kept.bus_levels;
-  inside = kept.inside;
   paired = kept.paired;
   long = kept.long;
   sealed = subst (HoldsSealed tag_of (line_count levels) made used) (sym written) kept.sealed;

@@ -28,10 +28,11 @@ use Rattle.page_reencrypt.specs.Contents.{bytes_of, contents_of, counter_in, ent
 use Rattle.page_reencrypt.specs.LineLengths.{length-line_bytes}
 use Rattle.page_reencrypt.specs.LineMoves.{WriteMoved, overflow_accesses, write_accesses}
 use Rattle.page_reencrypt.specs.Outside.{IsWrite, OutsideView, outside_of, terms_of}
-use Rattle.page_reencrypt.specs.SealedLines.{AreProtected, AreReread, AreSealedUnder, CountersRise, HadMemory, IsSealedAnew, IsSealedInPart, IsTamperedInWrite, IsUnsealed, Moves, SameCounters, SealedLinesView, contents, lines_of_write}
+use Rattle.page_reencrypt.specs.SealedLines.{AreProtected, AreReread, AreSealedUnder, CountersRise, HadMemory, IsLineOf, IsSealedAnew, IsSealedInPart, IsTamperedInWrite, IsUnsealed, Moves, SameCounters, SealedLinesView, contents, lines_of_write}
 use Rattle.page_reencrypt.specs.Stops.{lasting_stop}
-use Rattle.page_reencrypt.proofs.Entries.{encrypted_itself, encrypted_page, length-page_lines}
+use Rattle.page_reencrypt.proofs.Entries.{encrypted_itself, encrypted_of_page, encrypted_page, entry_line, length-page_lines, taken}
 use Rattle.page_reencrypt.proofs.Kept.{none_before, pages_kept, protected_after, stop_accounted, stop_going, stop_lasts, stop_memory, stop_spent, stop_unwritten}
+use Rattle.page_reencrypt.proofs.LineReads.{beside_inside}
 use Rattle.page_reencrypt.proofs.Moves.{moves_not}
 use Rattle.page_reencrypt.proofs.Nodes.{not_node}
 use Rattle.page_reencrypt.proofs.ReadCalls.{contents_same, lasts_again, lasts_itself}
@@ -72,7 +73,7 @@ pub lasting_write : {B T : Type 0} (history : B → BusHistory) (bus_moved : B �
     ((bus : B) → bus_moved bus bus) → (lines : SealedLinesView B T) (line : ℕ) (bytes : List ℕ) (stop : MemStop) →
     lasting_stop lines.stopped ≡ Some stop → WriteMoved history bus_moved tags lines line bytes (Err stop) lines
 lasting_write history bus_moved tags bus_unmoved lines line bytes stop lasting = record {
-  moves = moves_not history bus_moved tags bus_unmoved lines;
+  moves = moves_not history bus_moved tags (IsLineOf lines) bus_unmoved lines;
   stopped = lasts_itself lines.stopped stop lasting;
   copies = came_not (page_of line) (history lines.bus) lines.engine.made lines.counters;
   cached = λ going. absurd (lasts_again lines.stopped stop lasting going);
@@ -165,8 +166,14 @@ module _ {B T : Type 0} (d n : T → List ℕ → List ℕ) (history : B → Bus
         | inr unlisted ↦ inl (write_same quiet unlisted)
       ])
 
+  -- each line that is encrypted is one of the memory's
+  part_inside : (other : ℕ) (found : Counter) → Contains {X = ℕ × Counter} (map (λ at. (at, w.counter)) part) (other, found) → IsLineOf m other
+  part_inside other found listed =
+      beside_inside m.engine.levels line other inside
+      (encrypted_of_page w.counter line other (taken w.count (lines_encrypted w.counter line) other (entry_line w.counter part other found listed)))
+
   -- how it moves
-  write_moves : Moves history bus_moved (tags_of d n) m after
+  write_moves : Moves history bus_moved (tags_of d n) (IsLineOf m) m after
   write_moves = record {
     bus = w.bus;
     step = w.step;
@@ -174,6 +181,7 @@ module _ {B T : Type 0} (d n : T → List ℕ → List ℕ) (history : B → Bus
     limit = refl;
     entries = map (λ at. (at, w.counter)) part;
     used_more = w.entries;
+    entries_allowed = part_inside;
     accesses =
         let more = subst (λ (s : Option MemStop). unwritten_in (result_err result) ≤ unwritten_in s) (sym stops) (stop_unwritten m.stopped going (result_err result)) in
         record { writes = w.writes.writes; counted = w.writes.counted; at_most = w.writes.at_most; at_least = omega (arith, more, w.writes.at_least) };

@@ -1,5 +1,5 @@
 -- The messages that were tagged, the list of what was used, and what was written outside fit one another.
-use Rattle.std.specs.Prelude.{◌≡◌, ℕ, ◌<◌, List, length, Contains}
+use Rattle.std.specs.Prelude.{◌≡◌, ℕ, List, length, Contains}
 use Rattle.sec_base.specs.declared.counter.Counter.{Counter}
 use Rattle.sec_base.specs.declared.message.Message.{Message}
 use Rattle.sec_base.specs.declared.message.Message.TheVariants.{Line}
@@ -15,7 +15,6 @@ pub record IsConsistent (tag_of : Message → List ℕ) (levels : ℕ) (history 
     (used : List (ℕ × Counter)) : Type 0 where
   pub bus_levels : history.levels ≡ levels
   -- each line's messages were tagged under the counters that it was encrypted under, in the same order
-  pub inside : (line : ℕ) (counter : Counter) → Contains used (line, counter) → line < line_count levels
   pub paired : data_pairs made ≡ of_lines (line_count levels) used
   pub long : (line : ℕ) (counter : Counter) (cipher : List ℕ) → Contains made (Line line counter cipher) → length cipher ≡ 64
   -- what stands outside was encrypted and tagged

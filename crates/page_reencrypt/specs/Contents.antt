@@ -68,11 +68,11 @@ pub record ArePaged (lines : ℕ) (used : List (ℕ × Counter)) : Type 0 where
       (counter_in used line).page ≡ (counter_in used other).page
   pub reached : (line : ℕ) → line < lines → LINES_PER_PAGE * (counter_in used line).page ≤ page_entries used (page_of line)
 
--- No line was encrypted under the counter of one that was never written, or under a page counter past the limit; and a
--- line counter has seven bits.
-pub record AreWithin (limit : ℕ) (used : List (ℕ × Counter)) : Type 0 where
+-- Nothing was encrypted under the counter of a line that was never written; a line counter has seven bits; and no line of the
+-- memory was encrypted under a page counter past the limit.
+pub record AreWithin (lines limit : ℕ) (used : List (ℕ × Counter)) : Type 0 where
   pub started : (line : ℕ) (counter : Counter) → Contains used (line, counter) → counter ≢ never_written
-  pub limited : (line : ℕ) (counter : Counter) → Contains used (line, counter) → counter.page ≤ limit
+  pub limited : (line : ℕ) (counter : Counter) → line < lines → Contains used (line, counter) → counter.page ≤ limit
   pub seven_bits : (line : ℕ) (counter : Counter) → Contains used (line, counter) → counter.line < 128
 
 -- A counter block that was made says of each line of its page the counter of a line that was never written, or one that the

@@ -68,6 +68,10 @@ levels lines = lines.engine.levels
 abbrev pub lines_of : {B T : Type 0} → SealedLinesView B T → ℕ
 lines_of lines = line_count (levels lines)
 
+-- the line is one of the memory's
+abbrev pub IsLineOf : {B T : Type 0} → SealedLinesView B T → ℕ → Type 0
+IsLineOf lines line = line < lines_of lines
+
 -- all bytes, in order
 abbrev pub contents : {B T : Type 0} → SealedLinesView B T → List ℕ
 contents lines = contents_of (enc_key lines) (lines_of lines) (made lines)
@@ -96,7 +100,7 @@ pub record IsProtected (tag_of : Message → List ℕ) (levels : ℕ) (history :
 -- never written, keep to the limit, and skip no page counter; and a page that is spent has a line with the last one.
 pub record CountersRise (levels limit : ℕ) (used : List (ℕ × Counter)) (stopped : Option MemStop) : Type 0 where
   pub rising : AreRising used
-  pub within : AreWithin limit used
+  pub within : AreWithin (line_count levels) limit used
   pub unskipped : AreUnskipped (line_count levels) used
   -- in the middle of an overflow the lines of its page have two page counters
   pub paged : lasting_stop stopped ≡ None → ArePaged (line_count levels) used
@@ -173,6 +177,7 @@ pub record AreNew {B T : Type 0} (history : B → BusHistory) (bus_moved : B →
   pub counted : AreCounted (history bus) (history lines.bus) (length (made lines))
   pub tagger_is : lines.engine.tagger ≡ tagger
   pub depth_is : levels lines ≡ depth
+  pub tree_levels : lines.counters.tree.levels ≡ depth
   pub key_is : enc_key lines ≡ key
   pub limit_is : lines.limit ≡ limit
   pub unused : used lines ≡ []
@@ -186,15 +191,16 @@ pub record AreNew {B T : Type 0} (history : B → BusHistory) (bus_moved : B →
   pub quiet : IsQuiet lines
   pub going : lines.stopped ≡ None
 
--- what calls leave as it was, add to, or carry on
+-- What calls leave as it was, add to, or carry on. What they encrypt is of the lines that are allowed.
 pub record Moves {B T : Type 0} (history : B → BusHistory) (bus_moved : B → B → Type 0) (tags : TagEngineView T → Message → List ℕ)
-    (old new : SealedLinesView B T) : Type 0 where
+    (allowed : ℕ → Type 0) (old new : SealedLinesView B T) : Type 0 where
   pub bus : bus_moved old.bus new.bus
   pub step : StepMoves (history old.bus) old.engine (history new.bus) new.engine
   pub key : enc_key new ≡ enc_key old
   pub limit : new.limit ≡ old.limit
   pub entries : List (ℕ × Counter)
   pub used_more : used new ≡ used old ++ entries
+  pub entries_allowed : (line : ℕ) (counter : Counter) → Contains entries (line, counter) → allowed line
   -- there are as many accesses as reads and messages, but for one message that there was no memory to write
   pub accesses : WritesMessages (history old.bus) (history new.bus) (length step.more) (unwritten_in new.stopped)
   -- after a stop that lasts nothing is done

@@ -32,13 +32,13 @@ use Rattle.bonsai_tree.specs.Tree.{IsFetchPlace, PathWasRead, TreeView}
 use Rattle.page_reencrypt.specs.Contents.{lines_encrypted}
 use Rattle.page_reencrypt.specs.LineMoves.{FitsUnlessStopped, ReadMoved, WriteMoved, overflow_accesses, read_accesses, terms_in, write_accesses}
 use Rattle.page_reencrypt.specs.Outside.{IsLineRead, IsWrite, outside_of}
-use Rattle.page_reencrypt.specs.SealedLines.{CopiesCame, IsUnsealed, Moves, SameCounters, SealedLinesView, made, page_counters, used}
+use Rattle.page_reencrypt.specs.SealedLines.{CopiesCame, IsLineOf, IsUnsealed, Moves, SameCounters, SealedLinesView, made, page_counters, used}
 use Rattle.page_reencrypt.specs.SealedLines.{contents as line_contents, levels as levels_of}
 use Rattle.page_reencrypt.specs.SealedLines as lines
 use Rattle.counter_cache.specs.Counters.{cached_pages as lines_cached}
 use Rattle.page_reencrypt.specs.Stops.{lasting_stop}
 use Rattle.counter_cache.proofs.Havings.{no_copy_below, path_on}
-use Rattle.page_reencrypt.proofs.Moves.{moves_not, moves_on}
+use Rattle.page_reencrypt.proofs.Moves.{moves_not, own_moves_after, own_moves_on}
 use Rattle.page_reencrypt.proofs.ReadCalls.{contents_same}
 use Rattle.page_reencrypt.proofs.Nodes.{not_node}
 use Rattle.page_reencrypt.proofs.Sealing.{listed_or_not}
@@ -78,7 +78,7 @@ module _ {B T : Type 0} (history : B → BusHistory) where
 
   -- what was had before further reads, was had
   module _ (first second third : SealedLinesView B T) (bus_moved : B → B → Type 0) (tags : TagEngineView T → Message → List ℕ)
-      (moves : Moves history bus_moved tags first second) where
+      (moves : Moves history bus_moved tags (IsLineOf first) first second) where
     untagged_before : (line : ℕ) → last_data line (made second) ≡ None → last_data line (made first) ≡ None
     untagged_before line none =
         none_front (data_part line) (made first) moves.step.more (subst (λ (made : List Message). last_data line made ≡ None) moves.step.made none)
@@ -337,10 +337,10 @@ module _ {B T : Type 0} (history : B → BusHistory) (bus_moved : B → B → Ty
     pub missed_moves : ((first second third : B) → bus_moved first second → bus_moved second third → bus_moved first third) →
         (out : Option Way) (answer : Result (List ℕ) MemStop) →
         IsMiss (ReadMoved history bus_moved tags) (WriteMoved history bus_moved tags) out old.lines line answer new.lines →
-        Moves history bus_moved tags old.lines new.lines
+        Moves history bus_moved tags (IsLineOf old.lines) old.lines new.lines
     missed_moves moved_on None answer r = r.moves
     missed_moves moved_on (Some way) answer (inl (stop, is, w)) = w.moves
-    missed_moves moved_on (Some way) answer (inr (mid, w, r)) = moves_on history bus_moved tags moved_on old.lines mid new.lines w.moves r.moves
+    missed_moves moved_on (Some way) answer (inr (mid, w, r)) = own_moves_on history bus_moved tags moved_on old.lines mid new.lines w.moves r.moves
 
     -- the last stop is the call's
     stop_kept : (answer : Result (List ℕ) MemStop) (before : Option MemStop) → before ≡ None → option_or (result_err answer) before ≡ result_err answer
@@ -383,7 +383,9 @@ module _ {B T : Type 0} (history : B → BusHistory) (bus_moved : B → B → Ty
     missed_copies (Some way) answer (inl (stop, is, w)) = written_copies new way (Err stop) w
     missed_copies (Some way) answer (inr (mid, w, r)) =
         let between : SecureRamView B T = record { lines = mid; ways = old.ways } in
-        copies_on history bus_moved tags old between new w.moves r.moves (written_copies between way (Ok tt) w) (read_copies between answer (w.stopped ∙ going) r)
+        copies_on history bus_moved tags (IsLineOf old.lines) old between new w.moves
+        (own_moves_after history bus_moved tags old.lines mid new.lines w.moves r.moves)
+        (written_copies between way (Ok tt) w) (read_copies between answer (w.stopped ∙ going) r)
 
     -- it fits what the chip has of it
     pub missed_fits : (out : Option Way) (answer : Result (List ℕ) MemStop) →
@@ -406,7 +408,7 @@ module _ {B T : Type 0} (history : B → BusHistory) (bus_moved : B → B → Ty
       line_had : stopped new ≡ None → IsQuiet new → LineHad history old new line × PageHad history old new (page_of line)
       line_had still quiet = (called.read quiet (sym stops ∙ still), page_had still)
 
-      pub call_moved : Moves history bus_moved tags old.lines new.lines → CopiesHad history old new → length (held_lines new) ≤ most_held →
+      pub call_moved : Moves history bus_moved tags (IsLineOf old.lines) old.lines new.lines → CopiesHad history old new → length (held_lines new) ≤ most_held →
           IsMoved history bus_moved tags old (line ∷ []) new
       call_moved moves copies few = record {
         moves = moves;
@@ -427,7 +429,7 @@ module _ {B T : Type 0} (history : B → BusHistory) (bus_moved : B → B → Ty
   pub stopped_unmoved : ((bus : B) → bus_moved bus bus) → (memory : SecureRamView B T) (listed : List ℕ) (stop : MemStop) →
       stopped memory ≡ Some stop → IsMoved history bus_moved tags memory listed memory
   stopped_unmoved bus_unmoved memory listed stop is = record {
-    moves = moves_not history bus_moved tags bus_unmoved memory.lines;
+    moves = moves_not history bus_moved tags (IsLineOf memory.lines) bus_unmoved memory.lines;
     stays = λ other was. was;
     few = λ few. few;
     copies = copies_not history memory memory.ways;
@@ -485,7 +487,9 @@ module _ {B T : Type 0} (history : B → BusHistory) (bus_moved : B → B → Ty
   moved_so unmoved moved_on =
       call_moved history bus_moved tags old new line going step.held (leaving cache.lines line) stop called stops_so
       (elim (listed_or_not (places cache.lines) line) [
-        | inl there ↦ subst (λ (l : SealedLinesView B T). Moves history bus_moved tags cache.store l) (sym (step.hit there).0) (moves_not history bus_moved tags unmoved cache.store)
+        | inl there ↦
+            subst (λ (l : SealedLinesView B T). Moves history bus_moved tags (IsLineOf cache.store) cache.store l) (sym (step.hit there).0)
+            (moves_not history bus_moved tags (IsLineOf cache.store) unmoved cache.store)
         | inr out ↦ let m = missed out in missed_moves history bus_moved tags old new line going step.held moved_on (leaving cache.lines line) m.answer m.miss
       ])
       (elim (listed_or_not (places cache.lines) line) [

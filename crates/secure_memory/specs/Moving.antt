@@ -12,8 +12,8 @@ use Rattle.sec_base.proofs.Lists.{none_contained}
 use Rattle.bus_model.specs.BusHistory.{BusHistory}
 use Rattle.tag_engine.specs.TagEngine.{TagEngineView}
 use Rattle.cache_set.specs.declared.way.Way.{Way}
-use Rattle.page_reencrypt.specs.SealedLines.{Moves}
-use Rattle.page_reencrypt.proofs.Moves.{moves_not, moves_on}
+use Rattle.page_reencrypt.specs.SealedLines.{IsLineOf, Moves}
+use Rattle.page_reencrypt.proofs.Moves.{moves_not, own_moves_after, own_moves_on}
 use Rattle.bonsai_tree.proofs.Climbs.{read_up_held, read_up_on}
 use Rattle.secure_memory.specs.SecureRam.{SecureRamView, CopiesHad, IsMoved, LineHad, PageHad, PageRead, WereHad, cached_pages, evidence, held_lines, made, pages_on_chip, stopped}
 
@@ -48,21 +48,21 @@ copies_not history memory ways = record {
 }
 
 module _ {B T : Type 0} (history : B → BusHistory) (bus_moved : B → B → Type 0) (tags : TagEngineView T → Message → List ℕ) where
-  module _ (first second third : SecureRamView B T) where
+  module _ (allowed : ℕ → Type 0) (first second third : SecureRamView B T) where
     -- What was had before further calls is had after them
-    pub line_sooner : (line : ℕ) → Moves history bus_moved tags second.lines third.lines →
+    pub line_sooner : (line : ℕ) → Moves history bus_moved tags allowed second.lines third.lines →
         LineHad history first second line → LineHad history first third line
     line_sooner line moves (inl held) = inl held
     line_sooner line moves (inr (inl untagged)) = inr (inl untagged)
     line_sooner line moves (inr (inr rose)) = inr (inr (omega (arith, rose, moves.step.reads (line_place line))))
 
-    read_sooner : (page : ℕ) → Moves history bus_moved tags second.lines third.lines →
+    read_sooner : (page : ℕ) → Moves history bus_moved tags allowed second.lines third.lines →
         PageRead history first second page → PageRead history first third page
     read_sooner page moves (inl untagged) = inl untagged
     read_sooner page moves (inr rose) = inr (omega (arith, rose, moves.step.reads (Node 0 page)))
 
     -- A page whose counter block the chip held or read is so too after more accesses.
-    pub page_sooner : (page : ℕ) → Moves history bus_moved tags second.lines third.lines →
+    pub page_sooner : (page : ℕ) → Moves history bus_moved tags allowed second.lines third.lines →
         PageHad history first second page → PageHad history first third page
     page_sooner page moves (inl on_chip) = inl on_chip
     page_sooner page moves (inr read) = inr (read_sooner page moves read)
@@ -81,25 +81,25 @@ module _ {B T : Type 0} (history : B → BusHistory) (bus_moved : B → B → Ty
     ]
 
     -- What is had by further calls was had by those before or is had by these
-    line_later : (lines : List ℕ) (line : ℕ) → Moves history bus_moved tags first.lines second.lines → Moves history bus_moved tags second.lines third.lines →
+    line_later : (lines : List ℕ) (line : ℕ) → Moves history bus_moved tags allowed first.lines second.lines → Moves history bus_moved tags allowed second.lines third.lines →
         WereHad history first lines second → LineHad history second third line → LineHad history first third line
     line_later lines line moves more had (inl held) = line_sooner line more (had.held line held).0
     line_later lines line moves more had (inr (inl untagged)) =
         inr (inl (none_front (data_part line) (made first) moves.step.more (subst (λ (made : List Message). last_data line made ≡ None) moves.step.made untagged)))
     line_later lines line moves more had (inr (inr rose)) = inr (inr (omega (arith, rose, moves.step.reads (line_place line))))
 
-    read_later : (page : ℕ) → Moves history bus_moved tags first.lines second.lines → PageRead history second third page → PageRead history first third page
+    read_later : (page : ℕ) → Moves history bus_moved tags allowed first.lines second.lines → PageRead history second third page → PageRead history first third page
     read_later page moves (inl untagged) =
         inl (none_front (node_part 0 page) (made first) moves.step.more (subst (λ (made : List Message). last_node 0 page made ≡ None) moves.step.made untagged))
     read_later page moves (inr rose) = inr (omega (arith, rose, moves.step.reads (Node 0 page)))
 
-    page_later : (lines : List ℕ) (page : ℕ) → Moves history bus_moved tags first.lines second.lines → Moves history bus_moved tags second.lines third.lines →
+    page_later : (lines : List ℕ) (page : ℕ) → Moves history bus_moved tags allowed first.lines second.lines → Moves history bus_moved tags allowed second.lines third.lines →
         WereHad history first lines second → CopiesHad history first second → PageHad history second third page → PageHad history first third page
     page_later lines page moves more had came (inl on_chip) = page_sooner page more (on_chip_had lines had came page on_chip)
     page_later lines page moves more had came (inr read) = inr (read_later page moves read)
 
     -- and so are the blocks and nodes that have copies
-    block_on : (page : ℕ) → Moves history bus_moved tags first.lines second.lines → Moves history bus_moved tags second.lines third.lines →
+    block_on : (page : ℕ) → Moves history bus_moved tags allowed first.lines second.lines → Moves history bus_moved tags allowed second.lines third.lines →
         CopiesHad history first second → Contains (cached_pages second) page ⊎ PageRead history second third page →
         Contains (cached_pages first) page ⊎ PageRead history first third page
     block_on page moves more came (inl cached) = elim (came.blocks page cached) [
@@ -109,7 +109,7 @@ module _ {B T : Type 0} (history : B → BusHistory) (bus_moved : B → B → Ty
     block_on page moves more came (inr read) = inr (read_later page moves read)
 
     -- What holds of the copies over two runs of calls holds over both, one after the other.
-    pub copies_on : Moves history bus_moved tags first.lines second.lines → Moves history bus_moved tags second.lines third.lines →
+    pub copies_on : Moves history bus_moved tags allowed first.lines second.lines → Moves history bus_moved tags allowed second.lines third.lines →
         CopiesHad history first second → CopiesHad history second third → CopiesHad history first third
     copies_on moves more came later = record {
       tree_levels = later.tree_levels ∙ came.tree_levels;
@@ -122,7 +122,7 @@ module _ {B T : Type 0} (history : B → BusHistory) (bus_moved : B → B → Ty
     }
 
     -- The lines of all calls were had
-    had_on : (before after : List ℕ) → Moves history bus_moved tags first.lines second.lines → Moves history bus_moved tags second.lines third.lines →
+    had_on : (before after : List ℕ) → Moves history bus_moved tags allowed first.lines second.lines → Moves history bus_moved tags allowed second.lines third.lines →
         CopiesHad history first second → WereHad history first before second → WereHad history second after third →
         WereHad history first (before ++ after) third
     had_on before after moves more came had later = record {
@@ -138,21 +138,23 @@ module _ {B T : Type 0} (history : B → BusHistory) (bus_moved : B → B → Ty
       (first second third : SecureRamView B T) (before after : List ℕ) →
       IsMoved history bus_moved tags first before second → IsMoved history bus_moved tags second after third →
       IsMoved history bus_moved tags first (before ++ after) third
-  moved_on bus_moved_on first second third before after a b = record {
-    moves = moves_on history bus_moved tags bus_moved_on first.lines second.lines third.lines a.moves b.moves;
-    stays = λ stop is. b.stays stop (a.stays stop is);
-    few = λ few. b.few (a.few few);
-    copies = copies_on first second third a.moves b.moves a.copies b.copies;
-    had = λ going quiet.
-        let was_going = was_none (stopped second) (stopped third) b.stays going in
-        let was_quiet = was_none (evidence second) (evidence third) b.moves.step.evidence quiet in
-        had_on first second third before after a.moves b.moves a.copies (a.had was_going was_quiet) (b.had going quiet);
-  }
+  moved_on bus_moved_on first second third before after a b =
+      let more = own_moves_after history bus_moved tags first.lines second.lines third.lines a.moves b.moves in
+      record {
+        moves = own_moves_on history bus_moved tags bus_moved_on first.lines second.lines third.lines a.moves b.moves;
+        stays = λ stop is. b.stays stop (a.stays stop is);
+        few = λ few. b.few (a.few few);
+        copies = copies_on (IsLineOf first.lines) first second third a.moves more a.copies b.copies;
+        had = λ going quiet.
+            let was_going = was_none (stopped second) (stopped third) b.stays going in
+            let was_quiet = was_none (evidence second) (evidence third) b.moves.step.evidence quiet in
+            had_on (IsLineOf first.lines) first second third before after a.moves more a.copies (a.had was_going was_quiet) (b.had going quiet);
+      }
 
   -- No call makes nothing of a memory
   pub unmoved : ((bus : B) → bus_moved bus bus) → (memory : SecureRamView B T) → IsMoved history bus_moved tags memory [] memory
   unmoved bus_unmoved memory = record {
-    moves = moves_not history bus_moved tags bus_unmoved memory.lines;
+    moves = moves_not history bus_moved tags (IsLineOf memory.lines) bus_unmoved memory.lines;
     stays = λ stop is. is;
     few = λ few. few;
     copies = copies_not history memory memory.ways;

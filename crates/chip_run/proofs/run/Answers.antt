@@ -16,7 +16,7 @@ use Rattle.rv32_run.specs.Session.{CarriesEnding, FollowsWith, IsStop, Reaches}
 use Rattle.rv32_run.proofs.Runs.{opening_begins, opening_follows}
 use Rattle.counter_cache.specs.Counters.{most_blocks}
 use Rattle.line_cache.specs.LineCache.{most_held}
-use Rattle.page_reencrypt.specs.SealedLines.{Moves}
+use Rattle.page_reencrypt.specs.SealedLines.{IsLineOf, Moves}
 use Rattle.secure_memory.specs.SecureRam.{IsQuiet, cached_pages, contents, held_lines, made, stopped}
 use Rattle.chip_run.specs.Report.{signed_report}
 use Rattle.chip_run.proofs.Booted.{has_message}
@@ -62,7 +62,8 @@ returns-in-Err-store_image-clause-run g c =
     c.signed_report-report.ensures run.report (c.finalize-nothing.ensures [] c.new.ensures) run.retired run.ending)
 
 -- what the run made of its memory
-ran : (g : Over) (c : goal.After-close-2 g) → Moves g.B.Bus.history g.B.Bus.moved (tags_of g.T.Tagger.data_tag_of g.T.Tagger.node_tag_of) c.in-Ok.memory.lines c.into_parts-memory.result.0.lines
+ran : (g : Over) (c : goal.After-close-2 g) → Moves g.B.Bus.history g.B.Bus.moved (tags_of g.T.Tagger.data_tag_of g.T.Tagger.node_tag_of)
+    (IsLineOf c.in-Ok.memory.lines) c.in-Ok.memory.lines c.into_parts-memory.result.0.lines
 ran g c =
     whole_moves g.B.Bus.history g.B.Bus.moved (tags_of g.T.Tagger.data_tag_of g.T.Tagger.node_tag_of) g.met.B.Bus.moved_on
     c.in-Ok.memory c.store_image.new.ram c.new-session.result.memory c.finish-ending.new.self.memory c.into_parts-memory.result.0

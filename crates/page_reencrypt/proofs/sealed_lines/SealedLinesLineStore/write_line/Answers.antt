@@ -239,6 +239,7 @@ write_next-written-requires-clause-limited g c =
     let lines = sealed_lines_view c.self.inside in
     let going : lasting_stop lines.stopped ≡ None = sym c.lasting.ensures ∙ c.in_default.is in
     kept_limited g.T.Tagger.data_tag_of g.T.Tagger.node_tag_of g.B.Bus.history g.B.Bus.moved lines c.self.invariant.1 going c.args.line
+    (rw (← c.self.view_is) at c.requires.inside)
 
 pub returns-clause-hit : goal.returns-clause-hit
 returns-clause-hit g c = λ cached quiet short.
