@@ -196,7 +196,8 @@ module _ {B T : Type 0} (history : B → BusHistory) (moved : B → B → Type 0
         ((evidence : Evidence) → got.engine.evidence ≡ None → new.engine.evidence ≡ Some evidence → evidence_place evidence ≡ line_place line) →
         IfOk result (IsReadUnder (tags_of d n got.engine) got.pads.key line counter (history new.bus)) →
         ((at : ℕ) (under : Counter) (sealed : Sealed) (made_count : ℕ) → got.engine.evidence ≡ None →
-        new.engine.evidence ≡ Some (Forgery at under sealed made_count) → (at ≡ line) × (result ≡ Ok (cipher_of got.pads.key line under sealed.cipher))) →
+        new.engine.evidence ≡ Some (Forgery at under sealed made_count) →
+        (at ≡ line) × (made_count ≡ length new.engine.made) × (result ≡ Ok (cipher_of got.pads.key line under sealed.cipher))) →
         ((place : Place) → result ≡ Err (Tampered place) → (place ≡ line_place line)
         × (got.engine.evidence ≡ None → Rose (history got.bus).lies (history new.bus).lies)) →
         ((spent : ℕ) → result ≢ Err (Spent spent)) → IsLineRead terms line old counters new counters' result
@@ -254,7 +255,7 @@ module _ {B T : Type 0} (history : B → BusHistory) (moved : B → B → Type 0
           before_line old.engine.levels page at counter_used sealed made_count got.engine.evidence new.engine.evidence (λ evidence there. node_found evidence quiet there)
           r.evidence is in
           let answered = accepted at counter_used sealed made_count still is in
-          (answered.0, answered.1 ∙ ap (λ (p : PadEngineView). Ok (cipher_of p.key line counter_used sealed.cipher)) got_pads);
+          (answered.0, answered.1, answered.2 ∙ ap (λ (p : PadEngineView). Ok (cipher_of p.key line counter_used sealed.cipher)) got_pads);
       accepted_counters = λ made_at bytes tag quiet is.
           let before = before_node 0 (page_of line) made_at line bytes tag got.engine.evidence new.engine.evidence found r.evidence is in
           let block_is : block ≡ block_of bytes =

@@ -162,7 +162,7 @@ module _ {B T : Type 0} (terms : MemoryTerms B) where
     pub shows : ShowsLies old new
     pub accepted : (at : ℕ) (under : Counter) (sealed : Sealed) (made_count : ℕ) → old.engine.evidence ≡ None →
         new.engine.evidence ≡ Some (Forgery at under sealed made_count) →
-        (at ≡ line) × (result ≡ Ok (cipher_of old.pads.key line under sealed.cipher))
+        (at ≡ line) × (made_count ≡ length new.engine.made) × (result ≡ Ok (cipher_of old.pads.key line under sealed.cipher))
     pub accepted_counters : (made_at : ℕ) (block tag : List ℕ) → old.engine.evidence ≡ None →
         new.engine.evidence ≡ Some (Collision 0 (page_of line) made_at block tag) →
         IfOk result (IsReadUnder terms.tag_of old.pads.key line (counter_of (place_of line) (block_of block)) (terms.history new.bus))

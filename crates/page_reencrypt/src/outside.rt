@@ -1,6 +1,6 @@
 // The memory outside the chip: lines that are encrypted, tagged and checked under counters that are given, and the
 // counters themselves.
-ghost use Rattle.std.specs.Prelude.{◌≡◌, ◌≢◌, ◌+◌, ◌*◌, ◌<◌, ◌≤◌, ◌⊎◌, ◌∷◌, [], ℕ, List, None, Some, Ok, Err, IfOk, IsOk, OnOk, OnErr, Contains};
+ghost use Rattle.std.specs.Prelude.{◌≡◌, ◌≢◌, ◌+◌, ◌*◌, ◌<◌, ◌≤◌, ◌⊎◌, ◌∷◌, [], ℕ, List, None, Some, Ok, Err, IfOk, IsOk, OnOk, OnErr, Contains, length};
 ghost use Rattle.std.specs.Result.{result_err};
 ghost use Rattle.sec_base.specs.Count.{Rose};
 ghost use Rattle.sec_base.specs.Geometry.{line_count, page_count, page_of};
@@ -207,7 +207,8 @@ impl<B: Bus, T: Tagger> Outside<B, T> {
             (B.history self.new.bus)) }
         ensures accepted { (at : ℕ) (under : Counter) (sealed : Sealed) (made_count : ℕ) → self.old.engine.evidence ≡ None →
             self.new.engine.evidence ≡ Some (Forgery at under sealed made_count) →
-            (at ≡ line) × (result ≡ Ok (cipher_of self.old.pads.key line under sealed.cipher)) }
+            (at ≡ line) × (made_count ≡ length self.new.engine.made)
+            × (result ≡ Ok (cipher_of self.old.pads.key line under sealed.cipher)) }
         ensures tampered { (place : Place) → result ≡ Err (Tampered place) → (place ≡ line_place line)
             × (self.old.engine.evidence ≡ None → Rose (B.history self.old.bus).lies (B.history self.new.bus).lies) }
         ensures unspent { (page : ℕ) → result ≢ Err (Spent page) }

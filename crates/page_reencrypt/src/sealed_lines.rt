@@ -198,11 +198,12 @@ impl<B: Bus, T: Tagger> LineStore for SealedLines<B, T> {
         ensures fits { lasting_stop self.new.stopped ≡ None → IsQuiet self.new →
             LinesFit T.data_tag_of T.node_tag_of B.history self.new }
 
-        // What passed though it was never tagged is answered as it was decrypted. Counters that passed so are used as they
-        // were answered.
+        // What passed though it was never tagged is answered as it was decrypted, and no message was made since. Counters that
+        // passed so are used as they were answered.
         ensures accepted { (at : ℕ) (counter : Counter) (sealed : Sealed) (made_count : ℕ) → lasting_stop self.old.stopped ≡ None →
             IsQuiet self.old → evidence self.new ≡ Some (Forgery at counter sealed made_count) →
-            (at ≡ line) × (result ≡ Ok (cipher_of (enc_key self.old) line counter sealed.cipher)) }
+            (at ≡ line) × (made_count ≡ length (made self.new))
+            × (result ≡ Ok (cipher_of (enc_key self.old) line counter sealed.cipher)) }
         ensures accepted_counters { (made_at : ℕ) (block tag : List ℕ) → lasting_stop self.old.stopped ≡ None →
             IsQuiet self.old → evidence self.new ≡ Some (Collision 0 (page_of line) made_at block tag) →
             IfOk result (IsReadUnder (tag_in T.data_tag_of T.node_tag_of self.old) (enc_key self.old) line

@@ -520,15 +520,16 @@ module _ {B T : Type 0} (history : B → BusHistory) (bus_moved : B → B → Ty
       (subst (λ (out : Option Way). IsMiss (ReadMoved history bus_moved tags) (WriteMoved history bus_moved tags) out cache.store line missed.answer store') stays missed.miss).outside
       (ap lasting_stop going)
 
-  -- what passed a check is kept as it was decrypted
+  -- what passed a check is kept as it was decrypted, and no message was made since
   pub accepted_copy : (at : ℕ) (counter : Counter) (sealed : Sealed) (made_count : ℕ) → cache.store.engine.evidence ≡ None →
       store'.engine.evidence ≡ Some (Forgery at counter sealed made_count) →
-      (at ≡ line) × (copy_at lines' line ≡ Some (copied (cipher_of cache.store.pads.key at counter sealed.cipher)))
+      (at ≡ line) × (made_count ≡ length store'.engine.made)
+      × (copy_at lines' line ≡ Some (copied (cipher_of cache.store.pads.key at counter sealed.cipher)))
   accepted_copy at counter sealed made_count quiet found =
       let accepted = alone_read.accepted at counter sealed made_count quiet found in
       let there : copy_at lines' line ≡ Some (copied (cipher_of cache.store.pads.key line counter sealed.cipher)) =
-      subst (λ (answer : Result (List ℕ) MemStop). IfOk answer (λ bytes. copy_at lines' line ≡ Some (copied bytes))) accepted.1 missed.copy in
-      (accepted.0, there ∙ ap (λ (l : ℕ). Some (copied (cipher_of cache.store.pads.key l counter sealed.cipher))) (sym accepted.0))
+      subst (λ (answer : Result (List ℕ) MemStop). IfOk answer (λ bytes. copy_at lines' line ≡ Some (copied bytes))) accepted.2 missed.copy in
+      (accepted.0, accepted.1, there ∙ ap (λ (l : ℕ). Some (copied (cipher_of cache.store.pads.key l counter sealed.cipher))) (sym accepted.0))
 
 -- evidence comes of no line that is held
 pub found_outside : {B T : Type 0} (store store' : SealedLinesView B T) (found : Evidence) → store' ≡ store → store.engine.evidence ≡ None → store'.engine.evidence ≡ Some found → ⊥

@@ -209,11 +209,12 @@ impl<B: Bus, T: Tagger> Ram for SecureRam<B, T> {
         ensures copy { IfOk result (λ n. (copy : List ℕ) → copy_at self.new.ways (line_of addr) ≡ Some copy →
             n ≡ number_at copy (addr % 64) width) }
 
-        // Where no changed line goes out, a line that passed though it was never tagged is answered as it was decrypted.
-        // Counters that passed so are used as they were answered.
+        // Where no changed line goes out, a line that passed though it was never tagged is answered as it was decrypted, and
+        // no message was made since. Counters that passed so are used as they were answered.
         ensures accepted { (at : ℕ) (counter : Counter) (sealed : Sealed) (made_count : ℕ) → stopped self.old ≡ None →
             IsQuiet self.old → leaving self.old.ways (line_of addr) ≡ None →
             evidence self.new ≡ Some (Forgery at counter sealed made_count) → (at ≡ line_of addr)
+            × (made_count ≡ length (made self.new))
             × IfOk result (λ n. n ≡ number_at (cipher_of (enc_key self.old.lines) at counter sealed.cipher) (addr % 64) width) }
         ensures accepted_counters { (made_at : ℕ) (block tag : List ℕ) → stopped self.old ≡ None → IsQuiet self.old →
             leaving self.old.ways (line_of addr) ≡ None →
@@ -293,10 +294,11 @@ impl<B: Bus, T: Tagger> Ram for SecureRam<B, T> {
             copy_at self.new.ways (line_of addr) ≡ Some (with_number copy (addr % 64) width value) }
 
         // Where no changed line goes out, a line that passed though it was never tagged is kept as it was decrypted, with the
-        // number in it.
+        // number in it, and no message was made since.
         ensures accepted { (at : ℕ) (counter : Counter) (sealed : Sealed) (made_count : ℕ) → stopped self.old ≡ None →
             IsQuiet self.old → leaving self.old.ways (line_of addr) ≡ None →
             evidence self.new ≡ Some (Forgery at counter sealed made_count) → (at ≡ line_of addr)
+            × (made_count ≡ length (made self.new))
             × OnOk result (copy_at self.new.ways (line_of addr)
             ≡ Some (with_number (cipher_of (enc_key self.old.lines) at counter sealed.cipher) (addr % 64) width value)) }
     {

@@ -1,5 +1,6 @@
-use Rattle.std.proofs.Common.{◌≡◌, ◌≢◌, None, Err, rules, sym, ◌∙◌}
+use Rattle.std.proofs.Common.{◌≡◌, ◌≢◌, None, Ok, Err, rules, ap, sym, ◌∙◌}
 use Rattle.std.proofs.lemmas.Bool.Decides.{not_from_Decides}
+use Rattle.sec_base.specs.declared.counter.Counter.{Counter}
 use Rattle.sec_base.specs.declared.stop.MemStop.TheVariants.{Tampered}
 use Rattle.sec_base.proofs.SameMessages.{counter_eq-Decides}
 use Rattle.sec_base.proofs.Results.{was_none}
@@ -7,7 +8,7 @@ use Rattle.tag_engine.specs.TagEngine.{tags_of}
 use Rattle.pad_stream.specs.Pad.{cipher_of}
 use Rattle.checked_bus.specs.Steps.{IsAccounted, IsCurrent}
 use Rattle.page_reencrypt.specs.Contents.{line_bytes, never_written}
-use Rattle.page_reencrypt.proofs.LineReads.{current, fresh_bytes, read_found, written_bytes}
+use Rattle.page_reencrypt.proofs.LineReads.{current, fresh_bytes, read_counted, read_found, written_bytes}
 use Rattle.page_reencrypt.proofs.outside.Outside.read.Goals as goal
 
 pub returns-then-eq-clause-value : goal.returns-then-eq-clause-value
@@ -97,3 +98,16 @@ returns-clause-found g c = λ evidence quiet shown.
     read_found (tags_of g.T.Tagger.data_tag_of g.T.Tagger.node_tag_of outside.tags) c.args.line c.args.counter (g.B.Bus.history outside.bus)
     (g.B.Bus.history c.read_line-cipher.new.bus) outside.tags c.read_line-cipher.new.tags c.read_line-cipher.result c.read_line-cipher.ensures.read
     evidence (rw (← c.self.view_is) at quiet) shown
+
+pub returns-clause-accepted : goal.returns-clause-accepted
+returns-clause-accepted g c = λ at under sealed made_count quiet shown.
+    let outside = c.self.inside in
+    let none : outside.tags.evidence ≡ None = rw (← c.self.view_is) at quiet in
+    let accepted = c.in_ok-cipher.ensures.accepted at under sealed made_count none shown in
+    let count = read_counted (tags_of g.T.Tagger.data_tag_of g.T.Tagger.node_tag_of outside.tags) c.args.line c.args.counter (g.B.Bus.history outside.bus)
+    (g.B.Bus.history c.read_line-cipher.new.bus) outside.tags c.read_line-cipher.new.tags c.read_line-cipher.result c.read_line-cipher.ensures.read
+    at under sealed made_count none shown in
+    let plain : c.decrypt.result ≡ cipher_of outside.pads.key c.args.line under sealed.cipher =
+    c.decrypt.ensures.plain ∙ ap (λ (k : Counter). cipher_of outside.pads.key c.args.line k c.in_ok-cipher.field-0) (sym accepted.1)
+    ∙ ap (cipher_of outside.pads.key c.args.line under) accepted.2 in
+    (accepted.0, count, rw (← c.self.view_is) (ap Ok plain))

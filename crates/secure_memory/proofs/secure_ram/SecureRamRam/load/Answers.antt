@@ -1,4 +1,4 @@
-use Rattle.std.proofs.Common.{◌≡◌, ◌+◌, ◌%◌, ◌≤◌, ◌∷◌, [], ℕ, List, Option, Some, None, IfOk, Contains, inl, inr, ap, sym, ◌∙◌, subst, Result, IfErr, OnOk, refl}
+use Rattle.std.proofs.Common.{◌≡◌, ◌+◌, ◌%◌, ◌≤◌, ◌∷◌, [], ℕ, List, length, Option, Some, None, IfOk, Contains, inl, inr, ap, sym, ◌∙◌, subst, Result, IfErr, OnOk, refl}
 use Rattle.std.specs.Option.{option_map, option_or}
 use Rattle.std.specs.Result.{result_err}
 use Rattle.std.proofs.lemmas.Result.{IfOk-weaker}
@@ -137,13 +137,14 @@ returns-clause-accepted g c = λ at counter sealed made_count _.
     let line = line_of c.args.addr in
     subst (λ (m : SecureRamView g.row.B.Denot g.row.T.Denot). m.lines.engine.evidence ≡ None → leaving m.ways line ≡ None →
     c.load.new.self.store.engine.evidence ≡ Some (Forgery at counter sealed made_count) → (at ≡ line)
+    × (made_count ≡ length c.load.new.self.store.engine.made)
     × IfOk c.load.result (λ n. n ≡ number_at (cipher_of (enc_key m.lines) at counter sealed.cipher) (c.args.addr % 64) c.args.width)) c.self.view_is
     (λ quiet stays found. elim (listed_or_not (places cache.lines) line) [
       | inl there ↦ absurd (found_outside cache.store c.load.new.self.store (Forgery at counter sealed made_count) (c.load.ensures.hit there).1 quiet found)
       | inr out ↦
           let accepted = accepted_copy g.B.Bus.history g.B.Bus.moved tags cache c.load.new.self.store c.load.new.self.lines line (result_err c.load.result) (λ bytes. bytes)
           (going g c) stays (c.load.ensures.missed out) at counter sealed made_count quiet found in
-          (accepted.0, IfOk-weaker c.load.result _ _ (λ n number. number _ accepted.1) c.load.ensures.copy)
+          (accepted.0, accepted.1, IfOk-weaker c.load.result _ _ (λ n number. number _ accepted.2) c.load.ensures.copy)
     ])
 
 pub returns-clause-accepted_counters : goal.returns-clause-accepted_counters

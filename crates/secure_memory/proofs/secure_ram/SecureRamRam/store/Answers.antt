@@ -1,4 +1,4 @@
-use Rattle.std.proofs.Common.{◌≡◌, ◌+◌, ◌%◌, ◌≤◌, ◌∷◌, [], ℕ, List, Option, Some, None, OnOk, Contains, inl, inr, ap, sym, ◌∙◌, subst, Result, IfErr, refl}
+use Rattle.std.proofs.Common.{◌≡◌, ◌+◌, ◌%◌, ◌≤◌, ◌∷◌, [], ℕ, List, length, Option, Some, None, OnOk, Contains, inl, inr, ap, sym, ◌∙◌, subst, Result, IfErr, refl}
 use Rattle.std.specs.Option.{option_or}
 use Rattle.std.specs.Result.{result_err}
 use Rattle.sec_base.specs.Geometry.{line_of}
@@ -128,6 +128,7 @@ returns-clause-accepted g c = λ at counter sealed made_count _.
     let line = line_of c.args.addr in
     subst (λ (m : SecureRamView g.row.B.Denot g.row.T.Denot). m.lines.engine.evidence ≡ None → leaving m.ways line ≡ None →
     c.store.new.self.store.engine.evidence ≡ Some (Forgery at counter sealed made_count) → (at ≡ line)
+    × (made_count ≡ length c.store.new.self.store.engine.made)
     × OnOk c.store.result (copy_at c.store.new.self.lines line
     ≡ Some (with_number (cipher_of (enc_key m.lines) at counter sealed.cipher) (c.args.addr % 64) c.args.width c.args.value))) c.self.view_is
     (λ quiet stays found. elim (listed_or_not (places cache.lines) line) [
@@ -135,5 +136,5 @@ returns-clause-accepted g c = λ at counter sealed made_count _.
       | inr out ↦
           let accepted = accepted_copy g.B.Bus.history g.B.Bus.moved tags cache c.store.new.self.store c.store.new.self.lines line (result_err c.store.result) (λ bytes. with_number bytes (c.args.addr % 64) c.args.width c.args.value)
           (going g c) stays (c.store.ensures.missed out) at counter sealed made_count quiet found in
-          (accepted.0, on_ok c.store.result accepted.1)
+          (accepted.0, accepted.1, on_ok c.store.result accepted.2)
     ])
