@@ -47,7 +47,7 @@ unfolding ok_value
 ok_same x y first second one two same = ap (ok_value x) (sym one ∙ same ∙ two)
 
 -- evidence of a line was found where a line was read
-before_line : (levels page at : ℕ) (counter : Counter) (sealed : Sealed) (made_count : ℕ) (before after : Option Evidence) →
+pub before_line : (levels page at : ℕ) (counter : Counter) (sealed : Sealed) (made_count : ℕ) (before after : Option Evidence) →
     ((evidence : Evidence) → before ≡ Some evidence → IsFetchPlace levels page (evidence_place evidence)) →
     ((evidence : Evidence) → before ≡ Some evidence → after ≡ Some evidence) → after ≡ Some (Forgery at counter sealed made_count) → before ≡ None
 before_line levels page at counter sealed made_count None after found stays is = refl

@@ -1,12 +1,15 @@
 -- How lines are encrypted anew: what a line holds is read, it is sealed, and so on line by line.
-use Rattle.std.proofs.Common.{◌≡◌, ◌≢◌, ◌⊎◌, inl, inr, ℕ, zero, suc, ◌+◌, ◌*◌, ◌<◌, ◌≤◌, List, [], ◌∷◌, ◌++◌, length, map, take, Contains, append_assoc, Option, Some, None, Result, Err, refl, ap, sym, ◌∙◌, subst, arith}
+use Rattle.std.proofs.Common.{◌≡◌, ◌≢◌, ◌⊎◌, inl, inr, ℕ, zero, suc, ◌+◌, ◌*◌, ◌<◌, ◌≤◌, List, [], ◌∷◌, ◌++◌, length, map, take, Contains, append_assoc, Option, Some, None, Result, Err, refl, ap, sym, ◌∙◌, subst, arith, length-append}
 use Rattle.std.specs.List.{range_with_len, slice_get}
 use Rattle.std.specs.Result.{result_err}
 use Rattle.std.proofs.lemmas.Bool.{cases_eq}
 use Rattle.std.proofs.lemmas.List.{append-nil}
 use Rattle.std.proofs.lemmas.List.Elements.{Contains-append_cases, Contains-append_right}
 use Rattle.std.proofs.lemmas.List.FromFn.{length-range_with_len}
+use Rattle.std.proofs.lemmas.Option.{same_Some}
 use Rattle.sec_base.specs.declared.counter.Counter.{Counter}
+use Rattle.sec_base.specs.declared.evidence.Evidence.{Evidence}
+use Rattle.sec_base.specs.declared.evidence.Evidence.TheVariants.{Forgery}
 use Rattle.sec_base.specs.declared.message.Message.TheVariants.{Line}
 use Rattle.sec_base.specs.declared.place.Place.{Place}
 use Rattle.sec_base.specs.declared.place.Place.TheVariants.{Line as line_place}
@@ -24,11 +27,12 @@ use Rattle.pad_stream.specs.Pads.{IsBefore}
 use Rattle.checked_bus.specs.Accesses.{AreCounted}
 use Rattle.checked_bus.specs.SealedLine.{sealed_line}
 use Rattle.checked_bus.specs.Steps.{IsAccounted, Moves as StepMoves}
+use Rattle.checked_bus.proofs.Evidences.{by_evidence}
 use Rattle.checked_bus.proofs.Steps.{counted_not, moves_not as step_not}
 use Rattle.checked_bus.proofs.TaggedWrites.{wrote_once}
 use Rattle.split_counter.specs.CounterBlock.{CounterBlockView, counter_of, place_of}
 use Rattle.page_reencrypt.specs.Contents.{line_bytes, page_lines}
-use Rattle.page_reencrypt.specs.Outside.{AreAccounted, AreConsistent, AreSealed, AreSealedInOrder, HasCounter, HaveLast, HaveRisen, LineWrite, MemoryTerms, OutsideView, ShowsLies, terms_of}
+use Rattle.page_reencrypt.specs.Outside.{Accepts, AreAccounted, AreConsistent, AreSealed, AreSealedInOrder, HasCounter, HaveLast, HaveRisen, IsAcceptedBeside, LineWrite, MemoryTerms, OutsideView, ShowsLies, terms_of}
 use Rattle.page_reencrypt.specs.SealedLines.{AreReread}
 use Rattle.page_reencrypt.proofs.Consistency.{last_pair-other}
 use Rattle.page_reencrypt.proofs.Sealing.{all_in_order, listed_not, listed_one, listed_or_not, one_sealed, one_unwritten, only_read, same_terms, sealed_on}
@@ -337,6 +341,33 @@ module _ {B T : Type 0} (history : B → BusHistory) (moved : B → B → Type 0
               (counter_unlisted old.pads.used (range_with_len first place) write.counter counter at (not_in_range first place at (omega (arith, here))) was),
           inl (omega (arith, later, ap (λ (c : Counter). c.page) is)),
         )
+
+    mid_made : length mid.engine.made ≡ length old.engine.made + place
+    mid_made =
+        let made = ap length sealed.step.made ∙ length-append old.engine.made sealed.step.more in omega (arith, made, sealed.as_many, range_long)
+
+    -- what was accepted though it was never tagged is one of the lines so far, or the next one
+    pub page_accepted : (new : OutsideView B T) → first ≡ 64 * page_of write.line → place < 64 →
+        ((evidence : Evidence) → mid.engine.evidence ≡ Some evidence → new.engine.evidence ≡ Some evidence) →
+        Accepts old mid (IsAcceptedBeside write.line (length old.engine.made)) →
+        Accepts mid new (λ found made_count. (found ≡ at) × (at ≢ write.line) × (made_count ≡ length mid.engine.made)) →
+        Accepts old new (IsAcceptedBeside write.line (length old.engine.made))
+    page_accepted new start below stays before now found under answer made_count quiet is =
+        by_evidence mid.engine.evidence
+        (λ none.
+        let there = now found under answer made_count none is in (
+          record {
+            other = found;
+            place_is = refl;
+            of_page = omega (arith, there.0, here, start, below);
+            apart = λ same. there.1 (sym there.0 ∙ same);
+          },
+          omega (arith, there.0, there.2, here, start, below, mid_made),
+        ))
+        (λ evidence some.
+        let same : evidence ≡ Forgery found under answer made_count =
+        same_Some evidence (Forgery found under answer made_count) (sym (stays evidence some) ∙ is) in
+        before found under answer made_count quiet (some ∙ ap (λ (e : Evidence). Some e) same))
 
     module _ (moved_on : (first second third : B) → moved first second → moved second third → moved first third) (new : OutsideView B T) (stop : Option MemStop)
         (is : AreSealedInOrder (terms_of history moved d n mid) write mid (at ∷ []) new stop) where

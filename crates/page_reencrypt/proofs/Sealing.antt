@@ -1,7 +1,7 @@
 -- What encrypting lines under the counter of a write makes of the memory outside: no line, one, and more after others.
 use Rattle.std.proofs.Common.{◌≡◌, ◌≢◌, ◌⊎◌, inl, inr, ℕ, zero, suc, ◌+◌, ◌<◌, ◌≤◌, List, [], ◌∷◌, ◌++◌, length, map, Option, Some, None, Contains, refl, ap, sym, ◌∙◌, subst, arith, append_assoc, length-append}
 use Rattle.std.proofs.lemmas.Bool.{cases_eq}
-use Rattle.std.proofs.lemmas.List.{append-nil, map-append, take_all}
+use Rattle.std.proofs.lemmas.List.{append-nil, length-map, map-append, take_all}
 use Rattle.std.proofs.lemmas.List.Elements.{Contains-append_cases, Contains-append_left, Contains-append_right}
 use Rattle.sec_base.specs.declared.counter.Counter.{Counter}
 use Rattle.sec_base.specs.declared.message.Message.{Message}
@@ -317,6 +317,15 @@ module _ {B T : Type 0} (terms : MemoryTerms B) (write : LineWrite) where
         (unwritten_consistent terms.tag_of terms.levels (terms.history old.bus) old.engine.made old.pads.used at write.counter cipher
         kept inside long (terms.history new.bus) moves.bus_levels (ap (λ (t : BusHistory). t.written) same))
         (λ goes_on. absurd (goes_on refl)) (λ place is. cc) (λ page is. cc)
+
+  -- as many messages were made as lines were encrypted
+  pub made_as_used : (old : OutsideView B T) (lines : List ℕ) (new : OutsideView B T) (stop : Option MemStop) → AreSealed terms write old lines new stop →
+      length new.engine.made + length old.pads.used ≡ length old.engine.made + length new.pads.used
+  made_as_used old lines new stop is =
+      let made = ap length is.step.made ∙ length-append old.engine.made is.step.more in
+      let used = ap length is.entries ∙ length-append old.pads.used (map (λ line. (line, write.counter)) lines) in
+      let mapped = length-map {A = ℕ} {B = ℕ × Counter} in
+      omega (arith, made, used, mapped, is.as_many)
 
   -- all of these lines were sealed
   pub all_in_order : (old : OutsideView B T) (lines : List ℕ) (new : OutsideView B T) (stop : Option MemStop) →

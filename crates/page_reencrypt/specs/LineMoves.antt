@@ -1,10 +1,13 @@
 -- What a read and a write of a line make of the lines outside, with what they answer.
-use Rattle.std.specs.Prelude.{◌≡◌, ◌≢◌, ℕ, ◌+◌, ◌≤◌, List, Result, None, OnOk, Contains}
+use Rattle.std.specs.Prelude.{◌≡◌, ◌≢◌, ℕ, ◌+◌, ◌≤◌, List, Result, Some, None, OnOk, Contains}
 use Rattle.std.specs.Option.{option_or}
 use Rattle.std.specs.Result.{result_err}
 use Rattle.sec_base.specs.Geometry.{page_of}
+use Rattle.sec_base.specs.declared.counter.Counter.{Counter}
+use Rattle.sec_base.specs.declared.evidence.Evidence.TheVariants.{Forgery}
 use Rattle.sec_base.specs.declared.message.Message.{Message}
 use Rattle.sec_base.specs.declared.place.Place.TheVariants.{Line as line_place}
+use Rattle.sec_base.specs.declared.sealed.Sealed.{Sealed}
 use Rattle.sec_base.specs.declared.stop.MemStop.{MemStop}
 use Rattle.bus_model.specs.BusHistory.{BusHistory}
 use Rattle.tag_engine.specs.TagEngine.{TagEngineView}
@@ -12,7 +15,7 @@ use Rattle.split_counter.specs.CounterBlock.{next_counter}
 use Rattle.counter_cache.specs.Counters.{cached_pages, counter_accesses}
 use Rattle.page_reencrypt.specs.Contents.{counter_in}
 use Rattle.page_reencrypt.specs.Outside.{IsLineRead, IsWrite, MemoryTerms, outside_of}
-use Rattle.page_reencrypt.specs.SealedLines.{CopiesCame, FitsTogether, IsLineOf, IsQuiet, Moves, SealedLinesView, WasRead, levels, made, used}
+use Rattle.page_reencrypt.specs.SealedLines.{CopiesCame, FitsTogether, IsAcceptedInWrite, IsLineOf, IsQuiet, Moves, SealedLinesView, WasRead, evidence, levels, made, used}
 use Rattle.page_reencrypt.specs.Stops.{lasting_stop}
 
 -- how many accesses a read of a line makes at most, and a write without an overflow and with one
@@ -69,3 +72,6 @@ module _ {B T : Type 0} (history : B → BusHistory) (bus_moved : B → B → Ty
     pub hit : Contains (cached_pages old.counters) (page_of line) → IsQuiet new → (next_counter (counter_in (used old) line)).line ≢ 0 →
         (history new.bus).accesses ≤ (history old.bus).accesses + 1
     pub hit_overflow : Contains (cached_pages old.counters) (page_of line) → (history new.bus).accesses ≤ (history old.bus).accesses + 127
+    -- what it accepted though it was never tagged
+    pub accepted : (at : ℕ) (counter : Counter) (sealed : Sealed) (made_count : ℕ) → IsQuiet old →
+        evidence new ≡ Some (Forgery at counter sealed made_count) → IsAcceptedInWrite line (used old) (used new) (made new) at made_count

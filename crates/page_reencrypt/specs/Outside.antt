@@ -63,6 +63,16 @@ pub record LineWrite : Type 0 where
   pub bytes : List ℕ
   pub counter : Counter
 
+-- This holds of a line that was accepted since though it was never tagged, if one was, and of how many messages were made by
+-- then.
+abbrev pub Accepts : {B T : Type 0} → OutsideView B T → OutsideView B T → (ℕ → ℕ → Type 0) → Type 0
+Accepts old new is = (at : ℕ) (under : Counter) (sealed : Sealed) (made_count : ℕ) → old.engine.evidence ≡ None →
+    new.engine.evidence ≡ Some (Forgery at under sealed made_count) → is at made_count
+
+-- it is another line of the page, and was read when so many messages were made and those of the page's lines before it
+abbrev pub IsAcceptedBeside : ℕ → ℕ → ℕ → ℕ → Type 0
+IsAcceptedBeside line begun at made_count = IsBeside line (line_place at) × (made_count ≡ begun + place_of at)
+
 -- the counter is the line's last; a line that was never written has that of such a line
 abbrev pub HasCounter : List (ℕ × Counter) → ℕ → Counter → Type 0
 HasCounter used line counter = (IsFresh line used × (counter ≡ never_written))

@@ -298,6 +298,12 @@ pub record IsBeside (line : ℕ) (place : Place) : Type 0 where
   pub of_page : page_of other ≡ page_of line
   pub apart : other ≢ line
 
+-- What a write of the line accepted though it was never tagged is another line of the page. It was read when the lines before
+-- it in the page had been sealed: since then as many messages were made as lines were sealed.
+pub record IsAcceptedInWrite (line : ℕ) (used used' : List (ℕ × Counter)) (made' : List Message) (at made_count : ℕ) : Type 0 where
+  pub beside : IsBeside line (line_place at)
+  pub since : made_count + length used' ≡ length made' + (length used + place_of at)
+
 -- The place is a node that is read to have the page's counters, or that of another line of the page; and an answer was false,
 -- or there was evidence before.
 pub record IsTamperedInWrite {B T : Type 0} (history : B → BusHistory) (line : ℕ) (place : Place) (old new : SealedLinesView B T) : Type 0 where

@@ -28,7 +28,7 @@ ghost use Rattle.split_counter.specs.declared.bumped.Bumped.TheVariants.{Line as
 ghost use Rattle.bonsai_tree.specs.Tree.{IsFetchPlace, PathWasRead};
 ghost use Rattle.counter_cache.specs.Counters.{AreHad, SameCounters, cached_pages, counter_accesses, counters_in};
 ghost use Rattle.page_reencrypt.specs.Contents.{line_bytes, page_lines};
-ghost use Rattle.page_reencrypt.specs.Outside.{AreAccounted, AreConsistent, AreSealedInOrder, CountersFit, CountersSay, DiffersInRoom, HasCounter, HaveLast, HaveLastNodes, HaveRisen, IsNodeStep, NodesSayStill, ShowsLies, terms_of, with_room};
+ghost use Rattle.page_reencrypt.specs.Outside.{Accepts, AreAccounted, AreConsistent, AreSealedInOrder, CountersFit, CountersSay, DiffersInRoom, HasCounter, HaveLast, HaveLastNodes, HaveRisen, IsAcceptedBeside, IsNodeStep, NodesSayStill, ShowsLies, terms_of, with_room};
 ghost use Rattle.page_reencrypt.specs.SealedLines.{AreOfPages, CopiesCame, IsReadUnder};
 
 use bus_model::Bus;
@@ -274,6 +274,8 @@ impl<B: Bus, T: Tagger> Outside<B, T> {
 
         ensures sealed { AreSealedInOrder (terms_of B.history B.moved T.data_tag_of T.node_tag_of self.old)
             (record { line = line; bytes = bytes.now; counter = counter }) self.old (at ∷ []) self.new (result_err result) }
+        ensures accepted { Accepts self.old self.new (λ found made_count.
+            (found ≡ at) × (at ≢ line) × (made_count ≡ length self.old.engine.made)) }
         ensures once { (B.history self.new.bus).accesses ≤ (B.history self.old.bus).accesses + 2 }
         ensures own { at ≡ line → (B.history self.new.bus).accesses ≤ (B.history self.old.bus).accesses + 1 }
     {
@@ -307,6 +309,7 @@ impl<B: Bus, T: Tagger> Outside<B, T> {
 
         ensures sealed { AreSealedInOrder (terms_of B.history B.moved T.data_tag_of T.node_tag_of self.old)
             (record { line = line; bytes = bytes.now; counter = counter }) self.old (page_lines (page_of line)) self.new (result_err result) }
+        ensures accepted { Accepts self.old self.new (IsAcceptedBeside line (length self.old.engine.made)) }
         ensures once { (B.history self.new.bus).accesses ≤ (B.history self.old.bus).accesses + 127 }
     {
         let first = LINES_PER_PAGE * page_of(line);

@@ -23,9 +23,9 @@ ghost use Rattle.split_counter.specs.CounterBlock.{block_of, counter_of, last_co
 ghost use Rattle.bonsai_tree.specs.Tree.{IsFetchPlace, PathWasRead};
 ghost use Rattle.counter_cache.specs.Counters.{cached_pages, counter_accesses};
 ghost use Rattle.page_reencrypt.specs.Contents.{counter_in, entries_of_write};
-ghost use Rattle.page_reencrypt.specs.Outside.{AreConsistent, CountersFit, CountersSay, HasCounter, HaveLast, HaveLastNodes, HaveRisen, IsLineRead, IsWrite, terms_of};
+ghost use Rattle.page_reencrypt.specs.Outside.{Accepts, AreConsistent, CountersFit, CountersSay, HasCounter, HaveLast, HaveLastNodes, HaveRisen, IsLineRead, IsWrite, terms_of};
 ghost use Rattle.page_reencrypt.specs.LineMoves.{ReadMoved, WriteMoved, read_accesses, write_accesses, overflow_accesses};
-ghost use Rattle.page_reencrypt.specs.SealedLines.{AreNew, AreOfPages, AreProtected, AreReread, CopiesCame, HadMemory, IsQuiet, IsReadByCounters, IsReadUnder, IsSealedAnew, IsSealedInPart, IsTamperedInWrite, IsUnbooted, IsUnsealed, LinesFit, SameCounters, contents, enc_key, evidence, levels, lines_of, lines_of_write, made, tag_in, used};
+ghost use Rattle.page_reencrypt.specs.SealedLines.{AreNew, AreOfPages, AreProtected, AreReread, CopiesCame, HadMemory, IsAcceptedInWrite, IsQuiet, IsReadByCounters, IsReadUnder, IsSealedAnew, IsSealedInPart, IsTamperedInWrite, IsUnbooted, IsUnsealed, LinesFit, SameCounters, contents, enc_key, evidence, levels, lines_of, lines_of_write, made, tag_in, used};
 ghost use Rattle.page_reencrypt.specs.Stops.{lasting_stop};
 
 use crate::account::Account;
@@ -324,6 +324,12 @@ impl<B: Bus, T: Tagger> LineStore for SealedLines<B, T> {
         // The lines that were encrypted are those before the one that failed.
         ensures failed { (other : ℕ) → lasting_stop self.old.stopped ≡ None → IsQuiet self.new → result ≡ Err (Tampered (line_place other)) →
             used self.new ≡ used self.old ++ take (place_of other) (entries_of_write line (used self.old)) }
+
+        // What passed though it was never tagged is another line of the page, and was read when those before it were
+        // encrypted.
+        ensures accepted { (at : ℕ) (counter : Counter) (sealed : Sealed) (made_count : ℕ) → IsQuiet self.old →
+            evidence self.new ≡ Some (Forgery at counter sealed made_count) →
+            IsAcceptedInWrite line (used self.old) (used self.new) (made self.new) at made_count }
     {
         if let Some(stop) = lasting(self.stopped) {
             return Err(stop);
@@ -402,6 +408,8 @@ fn write_next<B: Bus, T: Tagger>(
     ensures written { IsWrite (terms_of B.history B.moved T.data_tag_of T.node_tag_of outside.old) limit line bytes.now
         outside.old counters.old outside.new counters.new (result_err result) }
     ensures cached { lasting_stop (result_err result) ≡ None → Contains (cached_pages counters.new) (page_of line) }
+    ensures accepted { Accepts outside.old outside.new
+        (IsAcceptedInWrite line outside.old.pads.used outside.new.pads.used outside.new.engine.made) }
     ensures once { outside.new.engine.evidence ≡ None → (next_counter (counter_in outside.old.pads.used line)).line ≢ 0 →
         ((B.history outside.new.bus).accesses ≤ (B.history outside.old.bus).accesses + write_accesses outside.old.engine.levels)
         × ((other : ℕ) → (B.history outside.new.bus).reads (line_place other) ≡ (B.history outside.old.bus).reads (line_place other)) }

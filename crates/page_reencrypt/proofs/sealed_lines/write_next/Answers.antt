@@ -1,7 +1,8 @@
-use Rattle.std.proofs.Common.{◌≡◌, ◌≤◌, ℕ, inl, Option, Some, None, Contains, Ok, Err, ap, sym, ◌∙◌, subst, arith, rules}
+use Rattle.std.proofs.Common.{◌≡◌, ◌≤◌, ℕ, inl, length, take, Option, Some, None, Contains, Ok, Err, ap, sym, ◌∙◌, subst, arith, rules}
 use Rattle.std.specs.Result.{result_err}
 use Rattle.sec_base.specs.Geometry.{page_of}
 use Rattle.sec_base.specs.declared.counter.Counter.{Counter}
+use Rattle.sec_base.specs.declared.evidence.Evidence.TheVariants.{Forgery}
 use Rattle.sec_base.specs.declared.place.Place.{Place}
 use Rattle.sec_base.specs.declared.place.Place.TheVariants.{Line as line_place}
 use Rattle.sec_base.specs.declared.stop.MemStop.{MemStop}
@@ -10,15 +11,20 @@ use Rattle.sec_base.proofs.Results.{was_none}
 use Rattle.bus_model.specs.BusHistory.{BusHistory}
 use Rattle.tag_engine.specs.TagEngine.{tags_of}
 use Rattle.pad_stream.specs.Pad.{cipher_of}
+use Rattle.pad_stream.specs.PadEngine.{PadEngineView}
 use Rattle.checked_bus.specs.SealedLine.{sealed_line}
 use Rattle.checked_bus.proofs.TaggedWrites.{wrote_once}
 use Rattle.counter_cache.specs.Counters.{cached_pages, counters_in}
-use Rattle.page_reencrypt.specs.Outside.{IsWrite, OutsideView, terms_of}
+use Rattle.page_reencrypt.specs.Contents.{page_lines}
+use Rattle.page_reencrypt.specs.Outside.{IsWrite, LineWrite, OutsideView, terms_of}
 use Rattle.page_reencrypt.specs.SealedLines.{CopiesCame}
 use Rattle.page_reencrypt.specs.Stops.{lasting_stop}
 use Rattle.page_reencrypt.proofs.NextWrites.{HadCounters, counted_up, counter_here, is_last, lasts, line_unwritten, line_written, mid_counters, mid_inside, mid_kept, mid_last, mid_later, mid_rooms, mid_rose, ok_where, page_overflows, page_written, refused_reached, say_same, spent_after, spent_early, stopped_early}
+use Rattle.page_reencrypt.proofs.Nodes.{not_node}
+use Rattle.page_reencrypt.proofs.ReadSteps.{before_line}
 use Rattle.page_reencrypt.proofs.Reaching.{IsReached}
 use Rattle.page_reencrypt.proofs.Reencrypting.{one_access}
+use Rattle.page_reencrypt.proofs.Sealing.{made_as_used}
 use Rattle.page_reencrypt.proofs.sealed_lines.write_next.Goals as goal
 
 pub returns-in_err-block-clause-written : goal.returns-in_err-block-clause-written
@@ -91,6 +97,14 @@ returns-in-Spent-clause-written g c =
     let was_quiet = was_none old.engine.evidence c.get.new.self.engine.evidence e.step.step.evidence quiet in
     here ∙ is_last c.args.limit c.get-2.result full.0 full.1 (subst (λ (k : Counter). k.page ≤ c.args.limit) here (c.requires.limited was_quiet)))
     (λ quiet last. (e.same c.requires.fits quiet, e.once)) copies
+
+pub returns-in_err-block-clause-accepted : goal.returns-in_err-block-clause-accepted
+returns-in_err-block-clause-accepted g c = λ at under sealed made_count quiet is.
+    not_node c.args.outside.now.engine.levels c.page_of-page.result at (c.in_err-block.ensures.found (Forgery at under sealed made_count) quiet is)
+
+pub returns-in-Spent-clause-accepted : goal.returns-in-Spent-clause-accepted
+returns-in-Spent-clause-accepted g c = λ at under sealed made_count quiet is.
+    not_node c.args.outside.now.engine.levels c.page_of-page.result at (c.in_ok-block.ensures.found (Forgery at under sealed made_count) quiet is)
 
 pub returns-in_err-block-clause-cached : goal.returns-in_err-block-clause-cached
 returns-in_err-block-clause-cached g c = λ going.
@@ -200,6 +214,9 @@ returns-in_err-reserve g c =
           ))
           (subst (λ (t : BusHistory). CopiesCame (page_of c.args.line) (h old.bus) old.engine.made counters t c.get.new.counters) (sym same_bus) copies));
       cached = λ going. subst (λ (p : ℕ). Contains (cached_pages c.get.new.counters) p) c.page_of-page.ensures.page e.cached;
+      accepted = λ at under sealed made_count quiet is.
+          not_node old.engine.levels c.page_of-page.result at
+          (e.found (Forgery at under sealed made_count) quiet (sym (ap (λ e. e.evidence) differs.engine) ∙ is));
       once = λ quiet short. (
         omega (arith, e.once, same_accesses),
         λ other. ap (λ (t : BusHistory). t.reads (line_place other)) same_bus ∙ e.step.lines.reads other,
@@ -252,6 +269,8 @@ returns-in-Spent-2 g c =
     let same_accesses = ap (λ (t : BusHistory). t.accesses) same_bus in
     let u = c.in_ok-counter.ensures in
     let bumped_accesses = ap (λ (t : BusHistory). t.accesses) u.idle.0 in
+    let bumped_evidence : c.bump.new.self.engine.evidence ≡ c.get.new.self.engine.evidence = ap (λ e. e.evidence) u.idle.1
+    ∙ ap (λ (o : OutsideView g.row.B.Denot g.row.T.Denot). o.engine.evidence) c.in_ok-reserve.ensures.taken in
     let up = counted_up h m d n old counters c.requires.current c.args.limit c.args.line c.page_of-page.result c.place_of-place.result c.get.new.self c.get.new.counters
     c.in_ok-block.block c.get-2.result c.of.result had (g.met.B.Bus.unmoved c.get.new.self.bus) g.met.B.Bus.moved_on c.reserve.new.self c.bump.new.self c.bump.new.counters
     c.in_ok-counter.field-0 c.in_ok-reserve.ensures.taken u.moved u.idle u.pads u.levels u.copies u.fits u.outcome u.block u.others in
@@ -260,6 +279,8 @@ returns-in-Spent-2 g c =
           c.in_ok-block.block c.get-2.result c.of.result had (g.met.B.Bus.unmoved c.get.new.self.bus) g.met.B.Bus.moved_on c.reserve.new.self c.bump.new.self c.bump.new.counters
           c.in_ok-counter.field-0 up c.args.bytes.now c.requires.risen c.in-Spent-2.is c.in_default.not-Spent;
       cached = λ going. subst (λ (p : ℕ). Contains (cached_pages c.bump.new.counters) p) c.page_of-page.ensures.page u.cached;
+      accepted = λ at under sealed made_count quiet is.
+          not_node old.engine.levels c.page_of-page.result at (e.found (Forgery at under sealed made_count) quiet (sym bumped_evidence ∙ is));
       once = λ quiet short. (
         omega (arith, e.once, same_accesses, bumped_accesses, same_levels),
         λ other. ap (λ (t : BusHistory). t.reads (line_place other)) u.idle.0 ∙ ap (λ (t : BusHistory). t.reads (line_place other)) same_bus ∙ e.step.lines.reads other,
@@ -309,6 +330,8 @@ returns-in_err-seal-in-Line g c =
     let same_accesses = ap (λ (t : BusHistory). t.accesses) same_bus in
     let u = c.in_ok-counter.ensures in
     let bumped_accesses = ap (λ (t : BusHistory). t.accesses) u.idle.0 in
+    let bumped_evidence : c.bump.new.self.engine.evidence ≡ c.get.new.self.engine.evidence = ap (λ e. e.evidence) u.idle.1
+    ∙ ap (λ (o : OutsideView g.row.B.Denot g.row.T.Denot). o.engine.evidence) c.in_ok-reserve.ensures.taken in
     let up = counted_up h m d n old counters c.requires.current c.args.limit c.args.line c.page_of-page.result c.place_of-place.result c.get.new.self c.get.new.counters
     c.in_ok-block.block c.get-2.result c.of.result had (g.met.B.Bus.unmoved c.get.new.self.bus) g.met.B.Bus.moved_on c.reserve.new.self c.bump.new.self c.bump.new.counters
     c.in_ok-counter.field-0 c.in_ok-reserve.ensures.taken u.moved u.idle u.pads u.levels u.copies u.fits u.outcome u.block u.others in
@@ -324,6 +347,9 @@ returns-in_err-seal-in-Line g c =
           (u.is_line c.in-Line.counter (ap (λ o. Ok o) c.in-Line.is)) c.of.ensures.line c.seal.new.self s.used s.made s.undone s.moves s.moved s.honest
           c.requires.risen same_last);
       cached = λ going. subst (λ (p : ℕ). Contains (cached_pages c.bump.new.counters) p) c.page_of-page.ensures.page u.cached;
+      accepted = λ at under sealed made_count quiet is.
+          not_node old.engine.levels c.page_of-page.result at
+          (e.found (Forgery at under sealed made_count) quiet (sym (ap (λ e. e.evidence) s.made ∙ bumped_evidence) ∙ is));
       once = λ quiet short. (
         omega (arith, e.once, same_accesses, bumped_accesses, same_levels, last_accesses),
         λ other. ap (λ (t : BusHistory). t.reads (line_place other)) same_last ∙ ap (λ (t : BusHistory). t.reads (line_place other)) u.idle.0
@@ -374,6 +400,8 @@ returns-in_ok-seal-in-Line g c =
     let same_accesses = ap (λ (t : BusHistory). t.accesses) same_bus in
     let u = c.in_ok-counter.ensures in
     let bumped_accesses = ap (λ (t : BusHistory). t.accesses) u.idle.0 in
+    let bumped_evidence : c.bump.new.self.engine.evidence ≡ c.get.new.self.engine.evidence = ap (λ e. e.evidence) u.idle.1
+    ∙ ap (λ (o : OutsideView g.row.B.Denot g.row.T.Denot). o.engine.evidence) c.in_ok-reserve.ensures.taken in
     let up = counted_up h m d n old counters c.requires.current c.args.limit c.args.line c.page_of-page.result c.place_of-place.result c.get.new.self c.get.new.counters
     c.in_ok-block.block c.get-2.result c.of.result had (g.met.B.Bus.unmoved c.get.new.self.bus) g.met.B.Bus.moved_on c.reserve.new.self c.bump.new.self c.bump.new.counters
     c.in_ok-counter.field-0 c.in_ok-reserve.ensures.taken u.moved u.idle u.pads u.levels u.copies u.fits u.outcome u.block u.others in
@@ -390,6 +418,9 @@ returns-in_ok-seal-in-Line g c =
           (u.is_line c.in-Line.counter (ap (λ o. Ok o) c.in-Line.is)) c.of.ensures.line c.seal.new.self s.used s.made s.undone s.moves s.moved s.honest
           c.requires.risen wrote;
       cached = λ going. subst (λ (p : ℕ). Contains (cached_pages c.bump.new.counters) p) c.page_of-page.ensures.page u.cached;
+      accepted = λ at under sealed made_count quiet is.
+          not_node old.engine.levels c.page_of-page.result at
+          (e.found (Forgery at under sealed made_count) quiet (sym (ap (λ e. e.evidence) s.made ∙ bumped_evidence) ∙ is));
       once = λ quiet short. (
         omega (arith, e.once, same_accesses, bumped_accesses, same_levels, last_accesses),
         λ other. ap (λ (f : Place → ℕ). f (line_place other)) one.reads ∙ ap (λ (t : BusHistory). t.reads (line_place other)) u.idle.0
@@ -506,6 +537,11 @@ returns-in-Page g c =
     let same_accesses = ap (λ (t : BusHistory). t.accesses) same_bus in
     let u = c.in_ok-counter.ensures in
     let bumped_accesses = ap (λ (t : BusHistory). t.accesses) u.idle.0 in
+    let bumped_evidence : c.bump.new.self.engine.evidence ≡ c.get.new.self.engine.evidence = ap (λ e. e.evidence) u.idle.1
+    ∙ ap (λ (o : OutsideView g.row.B.Denot g.row.T.Denot). o.engine.evidence) c.in_ok-reserve.ensures.taken in
+    let bumped_used = ap (λ (p : PadEngineView). length p.used) u.pads
+    ∙ ap (λ (o : OutsideView g.row.B.Denot g.row.T.Denot). length o.pads.used) c.in_ok-reserve.ensures.taken ∙ ap length e.step.used in
+    let write : LineWrite = record { line = c.args.line; bytes = c.args.bytes.now; counter = record { page = c.in-Page.raised; line = 0 } } in
     let up = counted_up h m d n old counters c.requires.current c.args.limit c.args.line c.page_of-page.result c.place_of-place.result c.get.new.self c.get.new.counters
     c.in_ok-block.block c.get-2.result c.of.result had (g.met.B.Bus.unmoved c.get.new.self.bus) g.met.B.Bus.moved_on c.reserve.new.self c.bump.new.self c.bump.new.counters
     c.in_ok-counter.field-0 c.in_ok-reserve.ensures.taken u.moved u.idle u.pads u.levels u.copies u.fits u.outcome u.block u.others in
@@ -516,6 +552,13 @@ returns-in-Page g c =
           c.in_ok-counter.field-0 up c.requires.started e.read c.args.bytes.now c.in-Page.raised c.in-Page.is c.of.ensures.overflow
           c.reencrypt_page.new.self (result_err c.reencrypt_page.result) p.sealed;
       cached = λ going. subst (λ (p : ℕ). Contains (cached_pages c.bump.new.counters) p) c.page_of-page.ensures.page u.cached;
+      accepted = λ at under sealed made_count quiet is.
+          let still = before_line old.engine.levels c.page_of-page.result at under sealed made_count c.bump.new.self.engine.evidence c.reencrypt_page.new.self.engine.evidence
+          (λ evidence there. e.found evidence quiet (sym bumped_evidence ∙ there)) p.sealed.sealed.step.evidence is in
+          let accepted = p.accepted at under sealed made_count still is in
+          let as_many = made_as_used (terms_of h m d n c.bump.new.self) write c.bump.new.self (take p.sealed.count (page_lines (page_of c.args.line)))
+          c.reencrypt_page.new.self (result_err c.reencrypt_page.result) p.sealed.sealed in
+          record { beside = accepted.0; since = omega (arith, accepted.1, as_many, bumped_used) };
       once = λ quiet short. absurd (short (page_overflows h m d n old counters c.requires.current c.args.limit c.args.line c.page_of-page.result c.place_of-place.result c.get.new.self c.get.new.counters
           c.in_ok-block.block c.get-2.result c.of.result had (g.met.B.Bus.unmoved c.get.new.self.bus) g.met.B.Bus.moved_on c.reserve.new.self c.bump.new.self c.bump.new.counters
           c.in_ok-counter.field-0 up c.requires.started e.read c.args.bytes.now c.in-Page.raised c.in-Page.is c.of.ensures.overflow

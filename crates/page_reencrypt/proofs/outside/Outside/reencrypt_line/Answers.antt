@@ -1,9 +1,9 @@
-use Rattle.std.proofs.Common.{◌≡◌, ◌∷◌, [], Option, Some, Ok, Err, ap, sym, subst, arith, rules}
+use Rattle.std.proofs.Common.{◌≡◌, ◌∷◌, [], length, Option, Some, None, Ok, Err, ap, sym, ◌∙◌, subst, arith, rules}
 use Rattle.std.specs.Result.{result_err}
 use Rattle.sec_base.specs.declared.stop.MemStop.{MemStop}
 use Rattle.sec_base.specs.declared.stop.MemStop.TheVariants.{NoMemory}
 use Rattle.sec_base.proofs.Results.{was_none}
-use Rattle.tag_engine.specs.TagEngine.{tags_of}
+use Rattle.tag_engine.specs.TagEngine.{TagEngineView, tags_of}
 use Rattle.pad_stream.specs.Pad.{cipher_of}
 use Rattle.checked_bus.specs.SealedLine.{sealed_line}
 use Rattle.page_reencrypt.specs.Outside.{AreSealedInOrder, LineWrite, OutsideView, terms_of}
@@ -111,4 +111,38 @@ returns-clause-own g c = λ own.
       | then-at-line w ↦
           let same = ap (λ (o : OutsideView g.row.B.Denot g.row.T.Denot). (g.B.Bus.history o.bus).accesses) w.self-is in omega (arith, wrote, same)
       | else-at-line+in_ok-plain w ↦ absurd (w.if-at-line.false own)
+    ]
+
+pub returns-in_err-plain-clause-accepted : goal.returns-in_err-plain-clause-accepted
+returns-in_err-plain-clause-accepted g c = λ found under answer made_count quiet is.
+    let refused = (c.in_err-plain.ensures.accepted found under answer made_count quiet is).2 in absurd (cc)
+
+pub returns-in_err-seal-clause-accepted : goal.returns-in_err-seal-clause-accepted
+returns-in_err-seal-clause-accepted g c = λ found under answer made_count quiet is.
+    let same : c.seal.new.self.engine.evidence ≡ c.if-at-line.self.engine.evidence = ap (λ (e : TagEngineView g.row.T.Denot). e.evidence) c.seal.ensures.made in
+    elim c.if-at-line.branch [
+      | then-at-line w ↦
+          let none : c.if-at-line.self.engine.evidence ≡ None = ap (λ (o : OutsideView g.row.B.Denot g.row.T.Denot). o.engine.evidence) w.self-is ∙ quiet in
+          absurd (cc)
+      | else-at-line+in_ok-plain w ↦
+          let read = w.in_ok-plain.ensures in
+          let was : c.if-at-line.self.engine.evidence ≡ w.read.new.self.engine.evidence =
+          ap (λ (o : OutsideView g.row.B.Denot g.row.T.Denot). o.engine.evidence) w.self-is in
+          let there = read.accepted found under answer made_count quiet (sym (same ∙ was) ∙ is) in
+          (there.0, w.if-at-line.false, there.1 ∙ ap length read.unmade)
+    ]
+
+pub returns-clause-accepted : goal.returns-clause-accepted
+returns-clause-accepted g c = λ found under answer made_count quiet is.
+    let same : c.seal.new.self.engine.evidence ≡ c.if-at-line.self.engine.evidence = ap (λ (e : TagEngineView g.row.T.Denot). e.evidence) c.seal.ensures.made in
+    elim c.if-at-line.branch [
+      | then-at-line w ↦
+          let none : c.if-at-line.self.engine.evidence ≡ None = ap (λ (o : OutsideView g.row.B.Denot g.row.T.Denot). o.engine.evidence) w.self-is ∙ quiet in
+          absurd (cc)
+      | else-at-line+in_ok-plain w ↦
+          let read = w.in_ok-plain.ensures in
+          let was : c.if-at-line.self.engine.evidence ≡ w.read.new.self.engine.evidence =
+          ap (λ (o : OutsideView g.row.B.Denot g.row.T.Denot). o.engine.evidence) w.self-is in
+          let there = read.accepted found under answer made_count quiet (sym (same ∙ was) ∙ is) in
+          (there.0, w.if-at-line.false, there.1 ∙ ap length read.unmade)
     ]

@@ -4,7 +4,7 @@ use Rattle.sec_base.specs.declared.stop.MemStop.{MemStop}
 use Rattle.sec_base.specs.Geometry.{page_of}
 use Rattle.page_reencrypt.specs.Contents.{page_lines}
 use Rattle.page_reencrypt.specs.Outside.{AreSealedInOrder, LineWrite, terms_of}
-use Rattle.page_reencrypt.proofs.Reencrypting.{accesses_passed, accesses_stopped, page_consistent, page_counter, page_done, page_inside, page_last, page_more, page_more_reread, page_pads_room, page_risen, page_room, page_stopped, sealed_none}
+use Rattle.page_reencrypt.proofs.Reencrypting.{accesses_passed, accesses_stopped, page_accepted, page_consistent, page_counter, page_done, page_inside, page_last, page_more, page_more_reread, page_pads_room, page_risen, page_room, page_stopped, sealed_none}
 use Rattle.page_reencrypt.proofs.Sealing.{listed_not}
 use Rattle.page_reencrypt.proofs.outside.Outside.reencrypt_page.Goals as goal
 
@@ -14,6 +14,7 @@ loop-place-init g c = record {
       (record { line = c.args.line; bytes = c.args.bytes.now; counter = c.args.counter }) c.args.self.now c.requires.consistent c.requires.risen c.requires.holds_last
       (g.met.B.Bus.unmoved c.args.self.now.bus);
   reread = λ quiet other listed. absurd (listed_not other listed);
+  accepted = λ at under sealed made_count quiet is. absurd (cc);
   passed = λ before. absurd (omega (arith, before));
   at_most = omega arith;
 }
@@ -80,6 +81,16 @@ returns-in_err-reencrypt_line-clause-sealed g c =
     g.met.B.Bus.moved_on c.reencrypt_line.new.self (Some why) c.in_err-reencrypt_line.ensures.sealed
     (page_of c.args.line) start c.loop-place-test.true (λ is. cc))
 
+pub returns-in_err-reencrypt_line-clause-accepted : goal.returns-in_err-reencrypt_line-clause-accepted
+returns-in_err-reencrypt_line-clause-accepted g c =
+    let write : LineWrite = record { line = c.args.line; bytes = c.args.bytes.now; counter = c.args.counter } in
+    let start : 64 * c.page_of-first.result ≡ 64 * page_of c.args.line = ap (λ (page : ℕ). 64 * page) c.page_of-first.ensures.page in
+    let here : 64 * c.page_of-first.result + c.from.result ≡ 64 * c.page_of-first.result + c.loop-place.place = omega (arith, c.from.ensures) in
+    page_accepted g.B.Bus.history g.B.Bus.moved g.T.Tagger.data_tag_of g.T.Tagger.node_tag_of write c.args.self.now c.loop-place.self
+    (64 * c.page_of-first.result) c.loop-place.place c.loop-place.invariant.sealed c.loop-place.invariant.reread (64 * c.page_of-first.result + c.from.result) here
+    c.reencrypt_line.new.self start c.loop-place-test.true c.in_err-reencrypt_line.ensures.sealed.sealed.step.evidence
+    c.loop-place.invariant.accepted c.in_err-reencrypt_line.ensures.accepted
+
 pub returns-in_err-reencrypt_line-clause-once : goal.returns-in_err-reencrypt_line-clause-once
 returns-in_err-reencrypt_line-clause-once g c =
     let start : 64 * c.page_of-first.result ≡ 64 * page_of c.args.line = ap (λ (page : ℕ). 64 * page) c.page_of-first.ensures.page in
@@ -101,6 +112,10 @@ loop-place-preserved g c =
       reread = page_more_reread g.B.Bus.history g.B.Bus.moved g.T.Tagger.data_tag_of g.T.Tagger.node_tag_of write c.args.self.now c.loop-place.self
           (64 * c.page_of-first.result) c.loop-place.place c.loop-place.invariant.sealed c.loop-place.invariant.reread (64 * c.page_of-first.result + c.from.result) here
           g.met.B.Bus.moved_on c.reencrypt_line.new.self None c.in_ok-reencrypt_line.ensures.sealed refl;
+      accepted = page_accepted g.B.Bus.history g.B.Bus.moved g.T.Tagger.data_tag_of g.T.Tagger.node_tag_of write c.args.self.now c.loop-place.self
+          (64 * c.page_of-first.result) c.loop-place.place c.loop-place.invariant.sealed c.loop-place.invariant.reread (64 * c.page_of-first.result + c.from.result) here
+          c.reencrypt_line.new.self start c.loop-place-test.true c.in_ok-reencrypt_line.ensures.sealed.sealed.step.evidence
+          c.loop-place.invariant.accepted c.in_ok-reencrypt_line.ensures.accepted;
       passed = accesses_passed c.args.line c.loop-place.place (64 * c.page_of-first.result) (64 * c.page_of-first.result + c.from.result)
           (g.B.Bus.history c.args.self.now.bus).accesses (g.B.Bus.history c.loop-place.self.bus).accesses (g.B.Bus.history c.reencrypt_line.new.self.bus).accesses
           start here c.loop-place.invariant.at_most c.loop-place.invariant.passed c.in_ok-reencrypt_line.ensures.once c.in_ok-reencrypt_line.ensures.own;
@@ -113,6 +128,9 @@ returns-clause-sealed g c =
     let start : 64 * c.page_of-first.result ≡ 64 * page_of c.args.line = ap (λ (page : ℕ). 64 * page) c.page_of-first.ensures.page in
     page_done g.B.Bus.history g.B.Bus.moved g.T.Tagger.data_tag_of g.T.Tagger.node_tag_of write c.args.self.now c.loop-place.self
     (64 * c.page_of-first.result) c.loop-place.place c.loop-place.invariant.sealed c.loop-place.invariant.reread (page_of c.args.line) start (omega (arith, c.loop-place-test.false, c.loop-place.auto.place-end))
+
+pub returns-clause-accepted : goal.returns-clause-accepted
+returns-clause-accepted g c = c.loop-place.invariant.accepted
 
 pub returns-clause-once : goal.returns-clause-once
 returns-clause-once g c =

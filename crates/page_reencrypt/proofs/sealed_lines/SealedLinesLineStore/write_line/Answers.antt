@@ -108,7 +108,8 @@ returns-clause-moved g c =
     let stops : c.or-self-inside.result ≡ option_or (result_err c.write_next-written.result) lines.stopped =
     c.or-self-inside.ensures ∙ ap (λ (o : Option MemStop). option_or o lines.stopped) c.err.ensures.value in
     rw (← c.self.view_is) (write_moved g.T.Tagger.data_tag_of g.T.Tagger.node_tag_of g.B.Bus.history g.B.Bus.moved lines c.args.line c.args.bytes.now c.self.invariant.1 going inside new counters
-    c.write_next-written.result c.write_next-written.ensures.written c.or-self-inside.result stops c.write_next-written.ensures.cached c.write_next-written.ensures.once c.write_next-written.ensures.few c.write_next-written.ensures.hit c.write_next-written.ensures.hit_overflow)
+    c.write_next-written.result c.write_next-written.ensures.written c.or-self-inside.result stops c.write_next-written.ensures.cached c.write_next-written.ensures.once c.write_next-written.ensures.few c.write_next-written.ensures.hit c.write_next-written.ensures.hit_overflow
+    c.write_next-written.ensures.accepted)
 
 pub returns-clause-sealed : goal.returns-clause-sealed
 returns-clause-sealed g c =
@@ -248,3 +249,7 @@ returns-clause-hit g c = λ cached quiet short.
 pub returns-clause-hit_overflow : goal.returns-clause-hit_overflow
 returns-clause-hit_overflow g c = λ cached.
     rw (← c.self.view_is) (c.write_next-written.ensures.hit_overflow (rw (← c.self.view_is) at cached))
+
+pub returns-clause-accepted : goal.returns-clause-accepted
+returns-clause-accepted g c = λ at counter sealed made_count quiet found.
+    rw (← c.self.view_is) (c.write_next-written.ensures.accepted at counter sealed made_count (rw (← c.self.view_is) at quiet) found)
