@@ -9,14 +9,14 @@ use Rattle.std.specs.declared.io.Stdout.{Stdout}
 use Rattle.sec_base.specs.Files.{FilesState}
 use Rattle.sec_base.specs.Sink.{GainsFront, IsSilent, SinkState}
 use Rattle.chip_words.specs.Request.{request_of}
+use Rattle.chip_files.specs.Causes.{AsksFront}
+use Rattle.chip_files.specs.Needs.{needs_of}
+use Rattle.chip_device.specs.Buses.{LiesByScript, lies_of, script_followed}
 use Rattle.chip_main.specs.declared.Done.{Done}
 use Rattle.chip_main.specs.declared.status.Status.TheVariants.{NoMemory, Usage}
 use Rattle.chip_main.specs.Status.{code_of}
 use Rattle.chip_main.specs.World.{world}
-use Rattle.chip_main.specs.Buses.{LiesByScript, lies_of, script_followed}
 use Rattle.chip_main.specs.Call.{GivesAsked, GivesDue, SaysStatus}
-use Rattle.chip_main.specs.Causes.{AsksFront}
-use Rattle.chip_main.specs.Needs.{needs_of}
 use Rattle.chip_edge.specs.declared.stream.Stream.{Stream}
 use Rattle.chip_edge.specs.Stream.{fresh_stream, stream_state}
 

@@ -9,18 +9,17 @@ use Rattle.chip_words.specs.Request.{Asked, WordsFault}
 use Rattle.bus_model.specs.BusHistory.{BusHistory}
 use Rattle.chip_run.specs.Run.{RunsProtected, Terms}
 use Rattle.chip_run.specs.declared.RunRecord.{RunRecord}
-use Rattle.chip_main.specs.declared.run_bus.RunBus.{RunBus}
-use Rattle.chip_main.specs.Generated.{RunsGenerated}
+use Rattle.chip_files.specs.declared.refusal.Refusal.{Refusal}
+use Rattle.chip_files.specs.declared.refusal.Refusal.TheVariants.{Usage, WrongValue, Unread, TooLong, Elf, Asm, Script, Report}
+use Rattle.chip_files.specs.declared.stop.Stop.{Stop}
+use Rattle.chip_files.specs.declared.stop.Stop.TheVariants.{Refused as stop_refused, NoMemory as stop_no_memory}
+use Rattle.chip_device.specs.declared.run_bus.RunBus.{RunBus}
+use Rattle.chip_device.specs.Generated.{RunsGenerated}
 use Rattle.chip_main.specs.declared.Done.{Done}
 use Rattle.chip_main.specs.declared.course.Course.{Course}
 use Rattle.chip_main.specs.declared.course.Course.TheVariants.{Refused, NoMemory, Ran, RanPlain, Written, OtherTag, RanGenerated}
-use Rattle.chip_main.specs.declared.refusal.Refusal.{Refusal}
-use Rattle.chip_main.specs.declared.refusal.Refusal.TheVariants.{Usage, WrongValue, Unread, TooLong, Elf, Asm, Script, Report}
-use Rattle.chip_main.specs.declared.stop.Stop.{Stop}
-use Rattle.chip_main.specs.declared.stop.Stop.TheVariants.{Refused as stop_refused, NoMemory as stop_no_memory}
-use Rattle.chip_main.specs.Course.{Outcome, TellsCourse, course_status, status_of}
+use Rattle.chip_main.specs.Course.{Outcome, TellsCourse, course_status, status_of, stopped_course}
 use Rattle.chip_main.specs.Status.{IsResult, Telling, code_of, ending_status, evidence_status, refusal_status, run_status, status_with, text_status, told_status, untold_ending_status}
-use Rattle.chip_main.specs.Stop.{stopped_course}
 use Rattle.chip_main.specs.World.{World}
 
 -- no write failed in a run whose status is a result

@@ -1,6 +1,3 @@
-pub mod DeviceRuns
-pub mod Takings
-pub mod Verdicts
 pub mod Courses
 pub mod RunStatuses
 pub mod Outcomes

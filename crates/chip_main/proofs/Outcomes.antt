@@ -11,20 +11,20 @@ use Rattle.sec_base.specs.declared.sink.SinkStop.TheVariants.{Failed, NoMemory a
 use Rattle.sec_base.specs.Sink.{GainsFront}
 use Rattle.plain_machine.specs.declared.PlainRecord.{PlainRecord}
 use Rattle.chip_run.specs.declared.RunRecord.{RunRecord}
-use Rattle.chip_main.specs.declared.run_bus.RunBus.{RunBus}
+use Rattle.chip_device.specs.declared.run_bus.RunBus.{RunBus}
 use Rattle.chip_words.specs.Request.{Asked, WordsFault, to_assemble, to_bench, to_disassemble, to_measure, to_run, to_run_plain, to_verify}
-use Rattle.chip_main.specs.declared.refusal.Refusal.{Refusal}
-use Rattle.chip_main.specs.declared.refusal.Refusal.TheVariants.{Usage, WrongValue, Unread, TooLong, Elf, Asm, Script, Report}
+use Rattle.chip_files.specs.declared.refusal.Refusal.{Refusal}
+use Rattle.chip_files.specs.declared.refusal.Refusal.TheVariants.{Usage, WrongValue, Unread, TooLong, Elf, Asm, Script, Report}
+use Rattle.chip_files.specs.Needs.{needs_of}
+use Rattle.chip_files.specs.Causes.{IsRefused, Stops}
+use Rattle.chip_device.specs.Buses.{LiesByScript, lies_of, run_history}
 use Rattle.chip_main.specs.declared.course.Course.{Course}
 use Rattle.chip_main.specs.declared.course.Course.TheVariants.{Refused, NoMemory, Ran, RanPlain, Written, OtherTag, RanGenerated}
 use Rattle.chip_main.specs.declared.Done.{Done}
 use Rattle.chip_main.specs.World.{World}
-use Rattle.chip_main.specs.Needs.{needs_of}
-use Rattle.chip_main.specs.Causes.{IsRefused, Stops}
 use Rattle.chip_main.specs.Status.{IsResult, IsStatus, Telling, code_of, ending_status, evidence_status, refusal_status, run_status, status_with, text_status, told_status, untold_ending_status}
 use Rattle.chip_main.specs.declared.status.Status.{Status}
 use Rattle.chip_main.specs.declared.status.Status.TheVariants as status
-use Rattle.chip_main.specs.Buses.{LiesByScript, lies_of, run_history}
 use Rattle.chip_main.specs.Answer.{FileRefused, TellsEnding, TellsPlain, TellsResult, TellsRun}
 use Rattle.chip_main.specs.Requests.{OtherTagRequest, Summarizes, SummarizesRequest}
 use Rattle.chip_words.specs.Texts.{plain_text, record_text, tag_differs_line}

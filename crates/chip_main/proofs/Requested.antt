@@ -8,27 +8,27 @@ use Rattle.plain_machine.specs.declared.PlainRecord.{PlainRecord}
 use Rattle.chip_run.specs.declared.RunRecord.{RunRecord}
 use Rattle.chip_words.specs.declared.fault.ValueFault.{ValueFault}
 use Rattle.chip_words.specs.Request.{Asked, FileAsked, ExecutionAsked, ReportAsked, RunAsked, WordsFault, to_assemble, to_disassemble, to_measure, to_run, to_run_plain, to_verify, to_bench}
-use Rattle.chip_main.specs.declared.refusal.Refusal.{Refusal}
-use Rattle.chip_main.specs.declared.refusal.Refusal.TheVariants.{Usage, WrongValue, Unread, TooLong, Elf, Asm, Script, Report}
-use Rattle.chip_main.specs.declared.run_bus.RunBus.{RunBus}
+use Rattle.chip_files.specs.declared.refusal.Refusal.{Refusal}
+use Rattle.chip_files.specs.declared.refusal.Refusal.TheVariants.{Usage, WrongValue, Unread, TooLong, Elf, Asm, Script, Report}
+use Rattle.chip_files.specs.Taken.{ReadsReport}
+use Rattle.chip_device.specs.declared.run_bus.RunBus.{RunBus}
 use Rattle.chip_main.specs.declared.course.Course.{Course}
 use Rattle.chip_main.specs.declared.course.Course.TheVariants.{Refused, NoMemory, Ran, RanPlain, Written, OtherTag, RanGenerated}
 use Rattle.chip_main.specs.declared.Done.{Done}
 use Rattle.chip_main.specs.World.{World}
-use Rattle.chip_main.specs.Taken.{ReadsReport}
 use Rattle.chip_words.specs.Texts.{tag_differs_line}
+use Rattle.chip_files.specs.Needs.{Need, AreAccepted, HasTold, IsAccepted, IsUnfit, asked_needs, names, needs_of, program_need}
+use Rattle.chip_files.specs.Causes.{Asks, AsksFront, AsksNothing, IsRefused, RunsOut, Stops}
+use Rattle.chip_device.specs.Buses.{LiesByScript, lies_of}
 use Rattle.chip_main.specs.Texts.{elf_file, listing, measurement_line}
-use Rattle.chip_main.specs.Needs.{Need, AreAccepted, HasTold, IsAccepted, IsUnfit, asked_needs, names, needs_of, program_need}
-use Rattle.chip_main.specs.Causes.{Asks, AsksFront, AsksNothing, IsRefused, RunsOut, Stops}
 use Rattle.chip_main.specs.Requests.{OtherTagRequest, PlainlyRunsRequest, RunsRequest, Writes, WritesRequest}
 use Rattle.chip_main.specs.Status.{IsOneOf, code_of, Telling}
 use Rattle.chip_main.specs.declared.status.Status.{Status}
 use Rattle.chip_main.specs.declared.status.Status.TheVariants as status
-use Rattle.chip_main.specs.Buses.{AreBothAnd, LiesByScript, lies_of}
-use Rattle.chip_main.specs.Answer.{Delivers, DeliversReport, DeliversSummary, GivesPlainRun, GivesReport, GivesRun, GivesSummary, GivesText, LacksMemory, PlainlyRan, RanAndTold, TellsOtherTag, TellsPlain, TellsRefusal, TellsResult, Undone, undone_statuses}
+use Rattle.chip_main.specs.Answer.{AreBothAnd, Delivers, DeliversReport, DeliversSummary, GivesPlainRun, GivesReport, GivesRun, GivesSummary, GivesText, LacksMemory, PlainlyRan, RanAndTold, TellsOtherTag, TellsPlain, TellsRefusal, TellsResult, Undone, undone_statuses}
 use Rattle.chip_main.specs.Course.{CameAbout, Outcome, TellsCourse, course_bus, course_run, status_of}
-use Rattle.chip_main.proofs.Courses.{execution_accepted, program_accepted, run_accepted}
-use Rattle.chip_main.proofs.Takings.{asks_more}
+use Rattle.chip_files.proofs.Accepted.{execution_accepted, program_accepted, run_accepted}
+use Rattle.chip_files.proofs.Takings.{asks_more}
 use Rattle.chip_main.proofs.Outcomes.{benched, told_other_tag, told_plain, told_run}
 use Rattle.chip_main.proofs.RunStatuses.{tampers_by_script}
 

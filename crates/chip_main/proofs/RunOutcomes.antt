@@ -12,9 +12,9 @@ use Rattle.plain_machine.specs.declared.PlainRecord.{PlainRecord}
 use Rattle.sec_base.specs.Sink.{IsWritten}
 use Rattle.chip_run.specs.declared.RunRecord.{RunRecord}
 use Rattle.chip_words.specs.Request.{Asked, ExecutionAsked, FileAsked, ReportAsked, RunAsked, WordsFault, to_assemble, to_disassemble, to_measure, to_run, to_run_plain, to_verify, to_bench}
-use Rattle.chip_main.specs.declared.refusal.Refusal.{Refusal}
-use Rattle.chip_main.specs.declared.refusal.Refusal.TheVariants.{Usage, WrongValue, Unread, TooLong, Elf, Asm, Script, Report}
-use Rattle.chip_main.specs.declared.run_bus.RunBus.{RunBus}
+use Rattle.chip_files.specs.declared.refusal.Refusal.{Refusal}
+use Rattle.chip_files.specs.declared.refusal.Refusal.TheVariants.{Usage, WrongValue, Unread, TooLong, Elf, Asm, Script, Report}
+use Rattle.chip_device.specs.declared.run_bus.RunBus.{RunBus}
 use Rattle.chip_main.specs.declared.course.Course.{Course}
 use Rattle.chip_main.specs.declared.course.Course.TheVariants.{Refused, NoMemory, Ran, RanPlain, Written, OtherTag, RanGenerated}
 use Rattle.chip_main.specs.declared.Done.{Done}
@@ -25,12 +25,12 @@ use Rattle.chip_main.specs.Status.{code_of, Telling, ending_status, evidence_sta
 use Rattle.bus_model.specs.BusHistory.{BusHistory}
 use Rattle.chip_run.specs.Run.{RunsProtected}
 use Rattle.sec_base.specs.Program.{Program}
-use Rattle.chip_main.specs.Buses.{AreBothAnd, IsRunAnd, LiesByScript, lies_of, run_history, script_followed}
-use Rattle.chip_main.specs.Device.{terms_of}
-use Rattle.chip_main.specs.Generated.{generated_run}
+use Rattle.chip_device.specs.Buses.{LiesByScript, lies_of, run_history, script_followed}
+use Rattle.chip_device.specs.Device.{terms_of}
+use Rattle.chip_device.specs.Generated.{generated_run}
+use Rattle.chip_main.specs.Answer.{AreBothAnd, IsRunAnd, Ended, IsDone, PlainlyEnded, RanAnd}
 use Rattle.chip_main.specs.Endings.{EndedWithoutEvidence, IsHalted, IsTrapped, IsOutOfSteps, EndedTampered, EndedSpent, EndedWithEvidence}
 use Rattle.chip_main.specs.Requests.{ByCommand, PlainlyRuns, PlainlyRunsRequest, RunsRequest, Summarizes, SummarizesRequest, Writes, WritesReport, WritesRequest}
-use Rattle.chip_main.specs.Answer.{Ended, IsDone, PlainlyEnded, RanAnd}
 use Rattle.chip_main.specs.Course.{CameAbout, Outcome, TellsCourse, course_bus, course_run, course_status, status_of}
 use Rattle.chip_main.proofs.Outcomes.{benched, own_status, told_own}
 use Rattle.chip_main.proofs.RunStatuses.{evidence_cause, halted_cause, halted_of, no_seven, out_of_steps_cause, out_of_steps_of, spent_cause, spent_of, tampered_cause, tampered_of, trapped_cause, trapped_of}

@@ -13,10 +13,10 @@ use Rattle.chip_run.specs.declared.RunRecord.{RunRecord}
 use Rattle.bus_model.specs.FirstLie.{HonestOrCaught, IsCaught}
 use Rattle.sec_base.specs.Program.{Program}
 use Rattle.chip_words.specs.Request.{RunAsked}
-use Rattle.chip_main.specs.declared.run_bus.RunBus.{RunBus}
+use Rattle.chip_device.specs.declared.run_bus.RunBus.{RunBus}
+use Rattle.chip_device.specs.Buses.{LiesByScript, run_history, bus_script}
+use Rattle.chip_device.specs.Device.{device_tag, terms_of}
 use Rattle.chip_main.specs.Answer.{TampersByScript}
-use Rattle.chip_main.specs.Buses.{LiesByScript, run_history, bus_script}
-use Rattle.chip_main.specs.Device.{device_tag, terms_of}
 use Rattle.chip_main.specs.Status.{code_of, ending_status, evidence_status, status_with, run_status}
 use Rattle.chip_main.specs.Endings.{EndedWithoutEvidence, IsHalted, IsTrapped, IsOutOfSteps, EndedTampered, EndedSpent, EndedWithEvidence}
 

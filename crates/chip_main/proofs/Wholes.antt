@@ -15,36 +15,37 @@ use Rattle.chip_run.specs.Run.{RunsProtected}
 use Rattle.chip_run.specs.declared.RunRecord.{RunRecord}
 use Rattle.chip_words.specs.Request.{Asked, ExecutionAsked, FileAsked, ReportAsked, RunAsked, WordsFault, to_assemble, to_disassemble, to_measure, to_run, to_run_plain, to_verify, to_bench}
 use Rattle.sec_base.specs.Program.{Program}
-use Rattle.chip_main.specs.declared.refusal.Refusal.{Refusal}
-use Rattle.chip_main.specs.declared.refusal.Refusal.TheVariants.{Usage, WrongValue, Unread, TooLong, Elf, Asm, Script, Report}
-use Rattle.chip_main.specs.declared.run_bus.RunBus.{RunBus}
+use Rattle.chip_files.specs.declared.refusal.Refusal.{Refusal}
+use Rattle.chip_files.specs.declared.refusal.Refusal.TheVariants.{Usage, WrongValue, Unread, TooLong, Elf, Asm, Script, Report}
+use Rattle.chip_device.specs.declared.run_bus.RunBus.{RunBus}
 use Rattle.chip_main.specs.declared.course.Course.{Course}
 use Rattle.chip_main.specs.declared.course.Course.TheVariants.{Refused, NoMemory, Ran, RanPlain, Written, OtherTag, RanGenerated}
 use Rattle.chip_main.specs.declared.Done.{Done}
 use Rattle.workload_gen.specs.Workload.{workload_of}
+use Rattle.chip_files.specs.Program.{program_of_file}
+use Rattle.chip_device.specs.Device.{terms_of, opening}
+use Rattle.chip_device.specs.PlainRun.{RunsPlain}
 use Rattle.chip_main.specs.World.{World}
-use Rattle.chip_main.specs.Device.{terms_of}
-use Rattle.chip_main.specs.Program.{opening, program_of_file}
-use Rattle.chip_main.specs.PlainRun.{RunsPlain}
 use Rattle.attest_report.specs.declared.refusal.ReportError.{ReportError}
 use Rattle.attest_report.specs.declared.refusal.ReportError.TheVariants.{Tag}
-use Rattle.chip_main.specs.Verdict.{verdict_of}
-use Rattle.chip_main.specs.Needs.{Need, AreAccepted, HasTold, IsAccepted, asked_needs, report_need}
-use Rattle.chip_main.specs.Causes.{IsCause, IsMisformed, IsRefused, Stops}
-use Rattle.chip_main.specs.Taken.{IsInput, IsProgram, Tell}
+use Rattle.chip_files.specs.Verdict.{verdict_of}
+use Rattle.chip_files.specs.Needs.{Need, AreAccepted, HasTold, IsAccepted, asked_needs, report_need}
+use Rattle.chip_files.specs.Causes.{IsCause, IsMisformed, IsRefused, Stops}
+use Rattle.chip_files.specs.Taken.{IsInput, IsProgram, Tell}
+use Rattle.chip_device.specs.Buses.{lies_of, run_history}
+use Rattle.chip_device.specs.Generated.{gathered, generated_execution, generated_run}
 use Rattle.chip_main.specs.Status.{IsOneOf, code_of, Telling, ending_status, run_status, told_status}
 use Rattle.chip_main.specs.declared.status.Status.{Status}
 use Rattle.chip_main.specs.declared.status.Status.TheVariants as status
-use Rattle.chip_main.specs.Buses.{AreBothAnd, lies_of, run_history}
+use Rattle.chip_main.specs.Answer.{AreBothAnd}
 use Rattle.chip_main.specs.Whole.{Faultless, RanWhole, Ready, plain_status, verdict_status, whole_statuses}
-use Rattle.chip_main.specs.Generated.{gathered, generated_execution, generated_run}
 use Rattle.chip_main.specs.Requests.{PlainlyRuns, RunsRequested, Summarizes, Writes, WritesReport}
 use Rattle.chip_main.specs.Course.{CameAbout, Outcome, TellsCourse, course_bus, course_run, status_of}
 use Rattle.chip_main.specs.Texts.{elf_file, listing, measurement_line}
-use Rattle.chip_main.proofs.Courses.{all_accepted, input_accepted, program_accepted}
-use Rattle.chip_main.proofs.Takings.{whole_cause}
+use Rattle.chip_files.proofs.Accepted.{all_accepted, input_accepted, program_accepted}
+use Rattle.chip_files.proofs.Takings.{whole_cause}
+use Rattle.chip_files.proofs.Verdicts.{made_verdict}
 use Rattle.chip_main.proofs.Requested.{WritesOr, accepted_at, asm_came, came_as, dis_came, measure_came, same_bytes, unrefused_bench}
-use Rattle.chip_main.proofs.Verdicts.{made_verdict}
 use Rattle.chip_main.proofs.RunStatuses.{honest_without_evidence, run_status_without_evidence}
 
 -- ---- nothing is refused

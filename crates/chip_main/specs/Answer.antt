@@ -1,5 +1,5 @@
 -- What an answer says of what was done and told.
-use Rattle.std.specs.Prelude.{◌≡◌, ◌≢◌, ◌⊎◌, List, [], ◌∷◌, ℕ, None, Result, Ok, Err, IsTrue}
+use Rattle.std.specs.Prelude.{◌≡◌, ◌≢◌, ◌⊎◌, List, [], ◌∷◌, ℕ, Option, Some, None, Result, Ok, Err, IsTrue}
 use Rattle.sec_base.specs.Count.{Rose}
 use Rattle.sec_base.specs.Files.{FilesState}
 use Rattle.sec_base.specs.Sink.{SinkState, Gains, GainsFront, IsSilent}
@@ -12,20 +12,32 @@ use Rattle.plain_machine.specs.declared.PlainRecord.{PlainRecord}
 use Rattle.chip_run.specs.declared.RunRecord.{RunRecord}
 use Rattle.chip_words.specs.Request.{Asked, ExecutionAsked, FileAsked, ReportAsked, RunAsked, WordsFault, to_run, to_run_plain, to_verify, to_bench}
 use Rattle.chip_words.specs.Texts.{plain_text, record_text, tag_differs_line}
-use Rattle.chip_main.specs.declared.refusal.Refusal.{Refusal}
-use Rattle.chip_main.specs.declared.run_bus.RunBus.{RunBus}
+use Rattle.chip_files.specs.declared.refusal.Refusal.{Refusal}
+use Rattle.chip_files.specs.Needs.{needs_of}
+use Rattle.chip_files.specs.Causes.{IsRefused, RunsOut, Stops}
+use Rattle.chip_device.specs.declared.run_bus.RunBus.{RunBus}
+use Rattle.chip_device.specs.Buses.{bus_script}
+use Rattle.chip_device.specs.Generated.{generated_run}
 use Rattle.chip_main.specs.declared.Done.{Done}
 use Rattle.chip_main.specs.World.{World}
-use Rattle.chip_main.specs.Needs.{needs_of}
-use Rattle.chip_main.specs.Causes.{IsRefused, RunsOut, Stops}
-use Rattle.chip_main.specs.Buses.{IsRunAnd, bus_script}
 use Rattle.chip_main.specs.Endings.{EndedWithoutEvidence, IsHalted}
-use Rattle.chip_main.specs.Generated.{generated_run}
 use Rattle.chip_main.specs.Requests.{ByCommand, FindsOtherTag, PlainlyRuns, RunsRequested, Summarizes, Writes, WritesReport, WritesRequest}
 use Rattle.chip_main.specs.Status.{IsOneOf, Telling, code_of, ending_status, refusal_status, run_status, text_status, told_status}
 use Rattle.chip_main.specs.declared.status.Status.{Status}
 use Rattle.chip_main.specs.declared.status.Status.TheVariants as status
 use Rattle.chip_main.specs.Texts.{refusal_text}
+
+-- ---- a run and its bus
+
+-- both are there, and this holds of them
+abbrev pub AreBothAnd : Option RunRecord → Option RunBus → (RunRecord → RunBus → Type 0) → Type 0
+AreBothAnd None bus P = ⊥
+AreBothAnd (Some run) None P = ⊥
+AreBothAnd (Some run) (Some bus) P = P run bus
+
+-- the same of a call's run and bus
+abbrev pub IsRunAnd : Done → (RunRecord → RunBus → Type 0) → Type 0
+IsRunAnd done P = AreBothAnd done.run done.bus P
 
 -- ---- why each status comes
 

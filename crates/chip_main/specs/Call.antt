@@ -5,20 +5,20 @@ use Rattle.adversary_script.specs.declared.script.ScriptLine.{ScriptLine}
 use Rattle.sec_base.specs.Program.{Program}
 use Rattle.chip_words.specs.Request.{Asked, ExecutionAsked, FileAsked, ReportAsked, RunAsked, WordsFault, to_assemble, to_disassemble, to_measure, to_run, to_run_plain, to_verify, to_bench}
 use Rattle.workload_gen.specs.Workload.{workload_of}
+use Rattle.chip_files.specs.Needs.{Need, HasTold, IsAccepted, IsUnfit, needs_of, report_need}
+use Rattle.chip_files.specs.Causes.{AsksNothing, Stops}
+use Rattle.chip_files.specs.Taken.{Tell}
+use Rattle.chip_files.specs.Verdict.{verdict_of}
+use Rattle.chip_files.specs.declared.refusal.Refusal.TheVariants.{Unread}
+use Rattle.chip_device.specs.Generated.{generated_execution}
 use Rattle.chip_main.specs.World.{World}
-use Rattle.chip_main.specs.Needs.{Need, HasTold, IsAccepted, IsUnfit, needs_of, report_need}
-use Rattle.chip_main.specs.Causes.{AsksNothing, Stops}
 use Rattle.chip_main.specs.Requests.{OtherTagRequest}
-use Rattle.chip_main.specs.Generated.{generated_execution}
-use Rattle.chip_main.specs.Taken.{Tell}
-use Rattle.chip_main.specs.Verdict.{verdict_of}
 use Rattle.chip_main.specs.Endings.{IsTrapped, IsOutOfSteps, EndedTampered, EndedSpent, EndedWithEvidence}
 use Rattle.chip_main.specs.Texts.{elf_file, listing, measurement_line}
 use Rattle.chip_main.specs.Status.{IsOneOf, IsResult, IsStatus, code_of}
 use Rattle.chip_main.specs.Answer.{Ended, FileRefused, GivesPlainRun, GivesReport, GivesRun, GivesSummary, GivesText, IsDone, RanAnd, Undone}
 use Rattle.chip_main.specs.Whole.{Faultless, RanWhole, Ready, verdict_status, whole_statuses}
 use Rattle.chip_main.specs.declared.Done.{Done}
-use Rattle.chip_main.specs.declared.refusal.Refusal.TheVariants.{Unread}
 use Rattle.chip_main.specs.declared.status.Status.TheVariants as status
 
 -- What each status says. WriteFault and NoMemory come of all seven commands, Refused and ReadFault of the six that read

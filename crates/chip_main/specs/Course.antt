@@ -6,19 +6,21 @@ use Rattle.sec_base.specs.declared.sink.SinkStop.TheVariants.{Failed, NoMemory a
 use Rattle.chip_run.specs.declared.RunRecord.{RunRecord}
 use Rattle.chip_words.specs.Request.{Asked, WordsFault}
 use Rattle.chip_words.specs.Texts.{plain_text, record_text, tag_differs_line}
+use Rattle.chip_files.specs.declared.stop.Stop.{Stop}
+use Rattle.chip_files.specs.declared.stop.Stop.TheVariants.{Refused as stop_refused, NoMemory as stop_no_memory}
+use Rattle.chip_files.specs.Needs.{needs_of}
+use Rattle.chip_files.specs.Causes.{IsRefused, RunsOut}
+use Rattle.chip_device.specs.declared.run_bus.RunBus.{RunBus}
+use Rattle.chip_device.specs.Buses.{LiesByScript, run_history, lies_of}
 use Rattle.chip_main.specs.declared.Done.{Done}
-use Rattle.chip_main.specs.declared.run_bus.RunBus.{RunBus}
 use Rattle.chip_main.specs.declared.course.Course.{Course}
 use Rattle.chip_main.specs.declared.course.Course.TheVariants.{Refused, NoMemory, Ran, RanPlain, Written, OtherTag, RanGenerated}
 use Rattle.chip_main.specs.World.{World}
-use Rattle.chip_main.specs.Needs.{needs_of}
-use Rattle.chip_main.specs.Causes.{IsRefused, RunsOut}
 use Rattle.chip_main.specs.Requests.{OtherTagRequest, PlainlyRunsRequest, RunsRequest, SummarizesRequest, WritesRequest}
 use Rattle.chip_main.specs.Texts.{refusal_text}
 use Rattle.chip_main.specs.Status.{IsResult, Telling, code_of, ending_status, refusal_status, run_status, text_status, told_status, untold_ending_status}
 use Rattle.chip_main.specs.declared.status.Status.{Status}
 use Rattle.chip_main.specs.declared.status.Status.TheVariants.{NoMemory as out_of_memory, TagDiffers, WriteFault}
-use Rattle.chip_main.specs.Buses.{LiesByScript, run_history, lies_of}
 
 -- how each course came about, from the request, the files and the sink for what is printed
 abbrev pub CameAbout : Course → Result Asked WordsFault → FilesState → FilesState → SinkState → SinkState → Type 0
@@ -30,6 +32,11 @@ CameAbout (Written telling) request files files' out out' = WritesRequest reques
 CameAbout OtherTag request files files' out out' = OtherTagRequest request files files' × IsSilent out out'
 CameAbout (RanGenerated run bus telling) request files files' out out' =
     SummarizesRequest request files files' out out' run bus telling
+
+-- what a call comes to where a stop ended it
+abbrev pub stopped_course : Stop → Course
+stopped_course (stop_refused refusal) = Refused refusal
+stopped_course stop_no_memory = NoMemory
 
 -- there is nothing to tell
 abbrev pub TellsNothing : SinkState → SinkState → Telling → Type 0

@@ -11,9 +11,9 @@ use Rattle.chip_run.specs.declared.RunRecord.{RunRecord}
 use Rattle.bus_model.specs.FirstLie.{IsCaught, IsOfFirstLie}
 use Rattle.page_reencrypt.specs.Contents.{IsSpent}
 use Rattle.chip_words.specs.Request.{RunAsked}
-use Rattle.chip_main.specs.declared.run_bus.RunBus.{RunBus}
-use Rattle.chip_main.specs.Buses.{run_history}
-use Rattle.chip_main.specs.Device.{device_tag}
+use Rattle.chip_device.specs.declared.run_bus.RunBus.{RunBus}
+use Rattle.chip_device.specs.Buses.{run_history}
+use Rattle.chip_device.specs.Device.{device_tag}
 
 -- the program halted, with any exit code
 abbrev pub IsHalted : Ending → Type 0

@@ -1,14 +1,4 @@
 pub mod World
-pub mod Program
-pub mod Device
-pub mod Verdict
-pub mod Needs
-pub mod Causes
-pub mod Taken
-pub mod Stop
-pub mod PlainRun
-pub mod Buses
-pub mod Generated
 pub mod Endings
 pub mod Texts
 pub mod Status

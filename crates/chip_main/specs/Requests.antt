@@ -13,16 +13,16 @@ use Rattle.chip_run.specs.Run.{RunsProtected}
 use Rattle.chip_run.specs.declared.RunRecord.{RunRecord}
 use Rattle.chip_words.specs.Request.{Asked, ExecutionAsked, FileAsked, ReportAsked, RunAsked, WordsFault, to_assemble, to_disassemble, to_measure, to_run, to_run_plain, to_verify, to_bench}
 use Rattle.chip_words.specs.Texts.{report_text, summary_text}
-use Rattle.chip_main.specs.declared.run_bus.RunBus.{RunBus}
-use Rattle.chip_main.specs.Buses.{IsBusOf, run_history}
-use Rattle.chip_main.specs.Causes.{AsksNothing}
-use Rattle.chip_main.specs.Device.{terms_of}
-use Rattle.chip_main.specs.Generated.{RunsGenerated}
-use Rattle.chip_main.specs.PlainRun.{RunsPlain}
+use Rattle.chip_files.specs.Causes.{AsksNothing}
+use Rattle.chip_files.specs.Taken.{ReadsExecution, ReadsProgram, ReadsReport, ReadsRun}
+use Rattle.chip_files.specs.Verdict.{HasOtherTag, IsMadeBy}
+use Rattle.chip_device.specs.declared.run_bus.RunBus.{RunBus}
+use Rattle.chip_device.specs.Buses.{IsBusOf, run_history}
+use Rattle.chip_device.specs.Device.{terms_of}
+use Rattle.chip_device.specs.Generated.{RunsGenerated}
+use Rattle.chip_device.specs.PlainRun.{RunsPlain}
 use Rattle.chip_main.specs.Status.{Telling}
-use Rattle.chip_main.specs.Taken.{ReadsExecution, ReadsProgram, ReadsReport, ReadsRun}
 use Rattle.chip_main.specs.Texts.{elf_file, listing, measurement_line}
-use Rattle.chip_main.specs.Verdict.{HasOtherTag, IsMadeBy}
 
 -- One statement for each kind of request: for a run on protected memory, for one on the plain machine, for a text of a
 -- file's program, for the check of a report, and for the run of a generated program. No statement holds where the words

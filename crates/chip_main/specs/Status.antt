@@ -6,8 +6,8 @@ use Rattle.sec_base.specs.declared.ending.Ending.TheVariants as ending
 use Rattle.sec_base.specs.declared.sink.SinkStop.{SinkStop}
 use Rattle.sec_base.specs.declared.sink.SinkStop.TheVariants as sink
 use Rattle.chip_run.specs.declared.RunRecord.{RunRecord}
-use Rattle.chip_main.specs.declared.refusal.Refusal.{Refusal}
-use Rattle.chip_main.specs.declared.refusal.Refusal.TheVariants as refusal
+use Rattle.chip_files.specs.declared.refusal.Refusal.{Refusal}
+use Rattle.chip_files.specs.declared.refusal.Refusal.TheVariants as refusal
 use Rattle.chip_main.specs.declared.status.Status.{Status}
 use Rattle.chip_main.specs.declared.status.Status.TheVariants.{Done, Trapped, Usage, Refused, OutOfSteps, Tampered, Spent, Evidence as evidence, ReadFault, WriteFault, NoMemory, TagDiffers}
 

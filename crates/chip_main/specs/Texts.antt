@@ -10,8 +10,8 @@ use Rattle.elf_load.specs.Spelling.{spelled}
 use Rattle.rv32_listing.specs.Listing.{listing_of}
 use Rattle.rv32_asm_syntax.specs.Fault.{asm_fault_code as asm_code, asm_fault_name as asm_name}
 use Rattle.chip_words.specs.Texts.{asm_fault_line, elf_fault_line, long_file_line, read_fault_line, report_fault_line, script_fault_line, usage_text, value_fault_line}
-use Rattle.chip_main.specs.declared.refusal.Refusal.{Refusal}
-use Rattle.chip_main.specs.declared.refusal.Refusal.TheVariants.{Usage, WrongValue, Unread, TooLong, Elf, Asm, Script, Report as report_refused}
+use Rattle.chip_files.specs.declared.refusal.Refusal.{Refusal}
+use Rattle.chip_files.specs.declared.refusal.Refusal.TheVariants.{Usage, WrongValue, Unread, TooLong, Elf, Asm, Script, Report as report_refused}
 
 -- the text of a refusal, a line but where `clap` doesn't take the words
 abbrev pub refusal_text : Refusal → List ℕ

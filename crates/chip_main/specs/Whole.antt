@@ -12,9 +12,9 @@ use Rattle.chip_words.specs.Request.{Asked, ExecutionAsked, FileAsked, asked_pro
 use Rattle.chip_main.specs.declared.Done.{Done}
 use Rattle.chip_main.specs.World.{World}
 use Rattle.sec_base.specs.Program.{Program}
-use Rattle.chip_main.specs.Program.{opening}
-use Rattle.chip_main.specs.Taken.{IsInput, IsProgram, IsScript, Tell}
-use Rattle.chip_main.specs.Buses.{IsRunAnd}
+use Rattle.chip_files.specs.Taken.{IsInput, IsProgram, IsScript, Tell}
+use Rattle.chip_device.specs.Device.{opening}
+use Rattle.chip_main.specs.Answer.{IsRunAnd}
 use Rattle.chip_main.specs.Status.{code_of, ending_status}
 use Rattle.chip_main.specs.declared.status.Status.{Status}
 use Rattle.chip_main.specs.declared.status.Status.TheVariants.{Done as done_status, Refused, Spent, NoMemory, TagDiffers}

@@ -3,9 +3,9 @@ ghost use Rattle.std.specs.Prelude.{◌≡◌};
 ghost use Rattle.std.specs.Option.{option_map};
 ghost use Rattle.chip_main.specs.Status as spec;
 
-use crate::refusal::Refusal;
-use crate::run_bus::RunBus;
 use crate::status::Status;
+use chip_device::RunBus;
+use chip_files::{Refusal, Stop};
 use chip_run::RunRecord;
 use plain_machine::PlainRecord;
 use sec_base::{Ending, SinkStop};
@@ -30,14 +30,24 @@ pub enum Course {
 }
 
 impl Course {
-    ghost use Rattle.chip_main.specs.Course.{course_bus, course_run, course_status, untold_status};
+    ghost use Rattle.chip_main.specs.Course.{course_bus, course_run, course_status, stopped_course, untold_status};
+
+    /// What a call comes to where this stop ended it.
+    pub fn stopped(stop: Stop) -> Self
+        ensures { result ≡ stopped_course stop }
+    {
+        match stop {
+            Stop::Refused(refusal) => Course::Refused(refusal),
+            Stop::NoMemory => Course::NoMemory,
+        }
+    }
 
     /// The status, where the course was told whole.
     pub fn status(&self) -> Status
         ensures { result ≡ course_status self.now }
     {
         match self {
-            Course::Refused(refusal) => refusal.status(),
+            Course::Refused(refusal) => refusal_status(refusal),
             Course::NoMemory => Status::NoMemory,
             Course::Ran(run, _) => run_status(run),
             Course::RanPlain(run) => ending_status(run.ending),
@@ -52,7 +62,7 @@ impl Course {
         ensures { result ≡ untold_status self.now }
     {
         match self {
-            Course::Refused(refusal) => refusal.status(),
+            Course::Refused(refusal) => refusal_status(refusal),
             Course::NoMemory => Status::NoMemory,
             Course::Ran(run, _) => untold_ending_status(run.ending),
             Course::RanPlain(run) => untold_ending_status(run.ending),
@@ -75,6 +85,20 @@ impl Course {
             | Course::Written(_)
             | Course::OtherTag => None,
         }
+    }
+}
+
+fn refusal_status(refusal: &Refusal) -> Status
+    ensures { result ≡ spec.refusal_status refusal.now }
+{
+    match refusal {
+        Refusal::Usage(_) | Refusal::WrongValue(_) => Status::Usage,
+        Refusal::Unread => Status::ReadFault,
+        Refusal::TooLong
+        | Refusal::Elf(_)
+        | Refusal::Asm { .. }
+        | Refusal::Script { .. }
+        | Refusal::Report(_) => Status::Refused,
     }
 }
 

@@ -4,32 +4,24 @@
 ghost use Rattle.std.specs.Prelude.{◌≡◌, ◌≤◌, ◌↔◌, [], IfSome, IsSome};
 ghost use Rattle.chip_words.specs.Request.{request_of};
 ghost use Rattle.chip_words.specs.Words.{texts};
-ghost use Rattle.chip_main.specs.Buses.{LiesByScript, lies_of, script_followed};
+ghost use Rattle.chip_files.specs.Causes.{AsksFront};
+ghost use Rattle.chip_files.specs.Needs.{needs_of};
+ghost use Rattle.chip_device.specs.Buses.{LiesByScript, lies_of, script_followed};
 ghost use Rattle.chip_main.specs.Call.{GivesAsked, GivesDue, SaysStatus};
-ghost use Rattle.chip_main.specs.Causes.{AsksFront};
 ghost use Rattle.chip_main.specs.Course.{course_bus, course_run, status_of};
-ghost use Rattle.chip_main.specs.Needs.{needs_of};
 ghost use Rattle.chip_main.specs.Status.{code_of};
 ghost use Rattle.chip_main.specs.World.{world};
 
 mod course;
-mod device;
-mod generated;
 mod perform;
-mod program;
-mod refusal;
-mod run_bus;
 mod status;
-mod stop;
-mod taking;
 mod telling;
 mod writing;
 
+use chip_device::RunBus;
 use chip_run::RunRecord;
 use course::Course;
 use perform::perform;
-pub use refusal::Refusal;
-pub use run_bus::RunBus;
 use sec_base::{Files, Sink, SinkStop};
 pub use status::Status;
 use std::alloc::Global;

@@ -2,16 +2,13 @@
 ghost use Rattle.std.specs.Prelude.{◌≡◌, ◌≤◌, IfErr, IfOk};
 ghost use Rattle.chip_words.specs.Request.{request_of};
 ghost use Rattle.chip_words.specs.Words.{texts};
-ghost use Rattle.chip_main.specs.Course.{CameAbout, course_status};
+ghost use Rattle.chip_main.specs.Course.{CameAbout, course_status, stopped_course};
 ghost use Rattle.chip_main.specs.Status.{IsResult, code_of};
-ghost use Rattle.chip_main.specs.Stop.{stopped_course};
 
 use crate::course::Course;
-use crate::device::run_on_device;
-use crate::generated::run_generated;
-use crate::stop::Stop;
-use crate::taking::{take_execution, take_program, take_report, take_run};
 use crate::writing::{write_elf_file, write_measurement};
+use chip_device::{run_generated, run_on_device, run_plain};
+use chip_files::{Stop, take_execution, take_program, take_report, take_run};
 use chip_words::{Request, read_words, write_fields, write_summary};
 use rv32_listing::write_listing;
 use sec_base::{Files, Sink};
@@ -33,7 +30,7 @@ pub fn perform<F: Files, O: Sink>(
 {
     match course_of(alloc, words, files, out) {
         Ok(course) => course,
-        Err(stop) => stop.into_course(),
+        Err(stop) => Course::stopped(stop),
     }
 }
 
@@ -61,7 +58,7 @@ fn course_of<F: Files, O: Sink>(
         }
         Request::Plain(execution) => {
             let (image, input) = take_execution(alloc, &execution, files)?;
-            let run = plain_machine::run(alloc, &image, input.as_slice(), execution.steps, out);
+            let run = run_plain(alloc, &image, input.as_slice(), &execution, out);
             Ok(Course::RanPlain(run))
         }
         Request::Asm(file) => {

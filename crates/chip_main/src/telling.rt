@@ -6,7 +6,7 @@ ghost use Rattle.chip_main.specs.Course.{TellsCourse};
 ghost use Rattle.chip_main.specs.Texts.{refusal_text};
 
 use crate::course::Course;
-use crate::refusal::Refusal;
+use chip_files::Refusal;
 use chip_run::RunRecord;
 use chip_words::{
     RunNote, asm_fault_line, elf_fault_line, long_file_line, read_fault_line, report_fault_line,

@@ -4,7 +4,7 @@ use chip_cases::{
     Attack, EXIT_7, STORE_AND_PRINT, STORE_TWICE, attack_files, call_attack, call_by_script,
     make_call, shows,
 };
-use chip_main::RunBus;
+use chip_device::RunBus;
 use std::test::Fail;
 
 const FLIP: &[u8] = b"read data 5 1: flip data 5 0 01\n";

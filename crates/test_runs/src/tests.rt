@@ -5,7 +5,7 @@ use chip_cases::{
     EXIT_7, EXIT_65, PLAIN_ON_INPUT, PRINT_A, RUN, RUN_ON_INPUT, RUN_SMALL, call_program, file,
     make_call, program, shows,
 };
-use chip_main::RunBus;
+use chip_device::RunBus;
 use sec_base::{Ending, Geometry, Sealed};
 use std::alloc::Global;
 use std::process::Abort;

@@ -4,7 +4,6 @@ use Rattle.chip_words.specs.Words.{file_asked, run_asked}
 use Rattle.chip_main.specs.Texts.{elf_file, listing, measurement_line}
 use Rattle.std.proofs.Common.{Ok, refl}
 use Rattle.chip_main.proofs.Courses.{came_refused, came_unread, came_without_memory, writes_of}
-use Rattle.chip_main.proofs.DeviceRuns.{opening_is}
 use Rattle.chip_main.proofs.Faults.{result_ending, result_quiet, result_summed, result_text}
 use Rattle.chip_main.proofs.perform.course_of.Goals as goal
 
@@ -35,28 +34,8 @@ returns-in_ok-run-in-Run-clause-came g c =
 pub returns-in_ok-image-in-Plain-clause-came : goal.returns-in_ok-image-in-Plain-clause-came
 returns-in_ok-image-in-Plain-clause-came g c =
     let taken = c.in_ok-image-in-Plain.ensures.taken in
-    let input = c.in_ok-image-in-Plain.input in
-    let opens = opening_is c.in-Plain.execution.file.geometry taken.0 input c.in_ok-image-in-Plain.image taken.1 in
-    let slice = c.as_slice-in-Plain.ensures in
-    rw (c.in_ok-asked.ensures.taken, c.in-Plain.is) (
-      taken.0,
-      input,
-      taken.2,
-      record {
-        follows = rw (slice, opens) at c.run-run.ensures.follows;
-        whole = rw (slice, opens) at c.run-run.ensures.whole;
-        out_of_steps = rw (slice, opens) at c.run-run.ensures.out_of_steps;
-        budget_used = c.run-run.ensures.budget_used;
-        within = c.run-run.ensures.within;
-        early = c.run-run.ensures.early;
-        write_fault = c.run-run.ensures.write_fault;
-        prints = rw (slice, opens) at c.run-run.ensures.prints;
-        no_memory = rw (slice, opens) at c.run-run.ensures.no_memory;
-        quiet = c.run-run.ensures.quiet;
-        untampered = c.run-run.ensures.untampered;
-        unspent = c.run-run.ensures.unspent;
-      },
-    )
+    rw (c.in_ok-asked.ensures.taken, c.in-Plain.is)
+    (taken.0, c.in_ok-image-in-Plain.input, taken.2, rw c.as_slice-in-Plain.ensures at (c.run_plain-run.ensures.ran taken.0 taken.1))
 
 pub returns-in_ok-image-in-Asm-clause-came : goal.returns-in_ok-image-in-Asm-clause-came
 returns-in_ok-image-in-Asm-clause-came g c =
@@ -97,7 +76,8 @@ returns-in_ok-run-in-Run-clause-quiet g c =
 
 pub returns-in_ok-image-in-Plain-clause-quiet : goal.returns-in_ok-image-in-Plain-clause-quiet
 returns-in_ok-image-in-Plain-clause-quiet g c =
-    λ is. (c.in_ok-image-in-Plain.ensures.quiet, c.run-run.ensures.quiet (result_ending c.run-run.result.ending is))
+    let taken = c.in_ok-image-in-Plain.ensures.taken in
+    λ is. (c.in_ok-image-in-Plain.ensures.quiet, (c.run_plain-run.ensures.ran taken.0 taken.1).quiet (result_ending c.run_plain-run.result.ending is))
 
 pub returns-in_ok-image-in-Asm-clause-quiet : goal.returns-in_ok-image-in-Asm-clause-quiet
 returns-in_ok-image-in-Asm-clause-quiet g c =

@@ -1,0 +1,46 @@
+-- A run on the device, as its pieces were made.
+use Rattle.std.proofs.Common.{◌≡◌, ℕ, List, Result, Ok, Err, refl}
+use Rattle.std.specs.Result.{IsOkAnd}
+use Rattle.sec_base.specs.Geometry.{memory_size}
+use Rattle.sec_base.specs.declared.image.Image.{Image}
+use Rattle.elf_load.specs.Measurement.{measurement_by, measurement_of}
+use Rattle.hmac_tag.specs.DeviceKeys.{keys_of}
+use Rattle.hmac_tag.specs.Tags.{TagKeys, tag_of, xor_tag_of}
+use Rattle.hmac_tag.specs.declared.derivation.Keys.{Keys}
+use Rattle.tag_engine.specs.Tag.{engine_tag}
+use Rattle.rv32_core.specs.Machine.{opening as image_opening}
+use Rattle.sec_base.specs.Program.{IsImageOf, Program}
+use Rattle.chip_words.specs.declared.request.Tags.TheVariants.{Hmac, Xor}
+use Rattle.chip_words.specs.declared.request.Terms.{Terms}
+use Rattle.chip_device.specs.Device.{device_enc_key, device_tag, opening}
+
+-- the tags are the device's, where they are HMACs
+pub hmac_tag_is : (terms : Terms) (tagger : TagKeys) (keys : Keys) (levels : ℕ) → terms.tags ≡ Hmac → tagger ≡ record { line_key = keys.line_key; tree_key = keys.tree_key } → keys ≡ keys_of terms.device_key →
+    engine_tag (tag_of tagger.line_key) (tag_of tagger.tree_key) levels ≡ device_tag terms levels
+unfolding device_tag
+hmac_tag_is terms tagger keys levels tags under derived = rw (tags, under, derived) refl
+
+-- and where they are made by xor
+pub xor_tag_is : (terms : Terms) (tagger : TagKeys) (keys : Keys) (levels : ℕ) → terms.tags ≡ Xor → tagger ≡ record { line_key = keys.line_key; tree_key = keys.tree_key } → keys ≡ keys_of terms.device_key →
+    engine_tag (xor_tag_of tagger.line_key) (xor_tag_of tagger.tree_key) levels ≡ device_tag terms levels
+unfolding device_tag
+xor_tag_is terms tagger keys levels tags under derived = rw (tags, under, derived) refl
+
+-- and so is the key that lines are encrypted under
+pub enc_key_is : (terms : Terms) (keys : Keys) → keys ≡ keys_of terms.device_key → keys.enc_key ≡ device_enc_key terms
+unfolding device_enc_key
+enc_key_is terms keys derived = rw derived refl
+
+-- the machine is the program's as it begins
+pub opening_is : (levels : ℕ) (program : Program) (input : List ℕ) (image : Image) → IsImageOf (memory_size levels) program image → image_opening image input ≡ opening levels program input
+opening_is levels program input image is = rw (is.entry, is.memory, is.segments) refl
+
+-- and so is what was measured
+pub measurement_is : (levels : ℕ) (program : Program) (image : Image) → IsImageOf (memory_size levels) program image →
+    measurement_of image ≡ measurement_by program.entry (memory_size levels) program.segments
+measurement_is levels program image is = rw (is.entry, is.memory, is.segments) refl
+
+-- the program that there is
+pub program_of : {E : Type 0} (made : Result Program E) (P : Program → Type 0) → IsOkAnd made P → (program : Program) × (made ≡ Ok program) × P program
+program_of (Ok program) P holds = (program, refl, holds)
+program_of (Err fault) P holds = absurd holds

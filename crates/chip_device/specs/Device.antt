@@ -1,0 +1,55 @@
+-- The device that a program runs on, by the terms of the run: its keys, the tags of messages, and what the run is of.
+use Rattle.std.specs.Prelude.{List, ℕ}
+use Rattle.sec_base.specs.Geometry.{memory_size}
+use Rattle.sec_base.specs.Program.{Program}
+use Rattle.sec_base.specs.declared.message.Message.{Message}
+use Rattle.elf_load.specs.Measurement.{measurement_by}
+use Rattle.hmac_tag.specs.DeviceKeys.{keys_of}
+use Rattle.hmac_tag.specs.Tags.{tag_of, xor_tag_of}
+use Rattle.tag_engine.specs.Tag.{engine_tag}
+use Rattle.rv32_core.specs.Machine.{Machine, opening_of}
+use Rattle.chip_run.specs.Report.{ReportTerms}
+use Rattle.chip_run.specs.Run.{Terms as RunTerms}
+use Rattle.chip_words.specs.Request.{RunAsked}
+use Rattle.chip_words.specs.declared.request.Tags.{Tags}
+use Rattle.chip_words.specs.declared.request.Tags.TheVariants.{Hmac, Xor}
+use Rattle.chip_words.specs.declared.request.Terms.{Terms}
+
+-- how bytes are tagged under a key
+abbrev pub tag_under : Tags → List ℕ → List ℕ → List ℕ
+tag_under Hmac key = tag_of key
+tag_under Xor key = xor_tag_of key
+
+-- the tag of a message in the memory below a tree of so many levels, under the device's line key or tree key
+unfoldable pub device_tag : Terms → ℕ → Message → List ℕ
+device_tag terms levels message = engine_tag (tag_under terms.tags (keys_of terms.device_key).line_key)
+    (tag_under terms.tags (keys_of terms.device_key).tree_key) levels message
+
+-- the key that lines are encrypted under
+unfoldable pub device_enc_key : Terms → List ℕ
+device_enc_key terms = (keys_of terms.device_key).enc_key
+
+-- the plain machine as the program begins on an input, in the memory of a tree of so many levels
+abbrev pub opening : ℕ → Program → List ℕ → Machine
+opening levels program input = opening_of program.entry (memory_size levels) program.segments input
+
+-- what the report of a run is of, as it was asked for: of this program and this input
+abbrev pub report_terms_of : RunAsked → Program → List ℕ → ReportTerms
+report_terms_of asked program input = record {
+  measurement = measurement_by program.entry (memory_size asked.execution.file.levels) program.segments;
+  input = input;
+  nonce = asked.terms.nonce;
+  report_key = (keys_of asked.terms.device_key).report_key;
+}
+
+-- what a run on protected memory is of, as it was asked for: of this program and this input
+abbrev pub terms_of : RunAsked → Program → List ℕ → RunTerms
+terms_of asked program input = record {
+  start = opening asked.execution.file.levels program input;
+  budget = asked.execution.steps;
+  levels = asked.execution.file.levels;
+  page_limit = asked.terms.page_limit;
+  tag_of = device_tag asked.terms asked.execution.file.levels;
+  enc_key = device_enc_key asked.terms;
+  report = report_terms_of asked program input;
+}

@@ -1,0 +1,4 @@
+pub mod Device
+pub mod PlainRun
+pub mod Buses
+pub mod Generated

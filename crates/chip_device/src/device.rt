@@ -1,0 +1,61 @@
+// The device that programs run on.
+ghost use Rattle.std.specs.Prelude.{◌≡◌, ◌≤◌, IfOk, IfSome, OnErr};
+ghost use Rattle.adversary_script.specs.Script.{FitScript};
+ghost use Rattle.sec_base.specs.Geometry.{memory_size};
+ghost use Rattle.sec_base.specs.Program.{IsImageOf, Program};
+ghost use Rattle.sec_base.specs.Sink.{IsSilent};
+ghost use Rattle.bus_model.specs.BusHistory.{new_history};
+ghost use Rattle.chip_run.specs.Run.{RunsProtected};
+ghost use Rattle.chip_words.specs.Words.{run_asked};
+ghost use Rattle.chip_device.specs.Buses.{IsBusOf, run_history};
+ghost use Rattle.chip_device.specs.Device.{terms_of};
+
+use crate::run_bus::RunBus;
+use adversary_script::Script;
+use chip_run::{RunRecord, Setup, run};
+use chip_words::{ProtectedRun, Tags};
+use hmac_tag::{HmacTagger, XorTagger, derive};
+use sec_base::{Image, NoMemory, Sink};
+use std::alloc::Global;
+
+/// Runs a program on an input as a request asks, on protected memory over a bus that follows the script, where there is
+/// one.
+pub fn run_on_device<O: Sink>(
+    alloc: Global,
+    image: &Image,
+    script: Option<Script>,
+    input: &[u8],
+    asked: &ProtectedRun<'_>,
+    out: &mut O,
+) -> Result<(RunRecord, RunBus), NoMemory>
+    requires size { image.now.size ≡ memory_size asked.now.execution.file.geometry }
+    requires fits { IfSome script (FitScript asked.now.execution.file.geometry) }
+    ensures ran { (program : Program) →
+        IsImageOf (memory_size asked.now.execution.file.geometry) program image.now → IfOk result (λ done.
+        RunsProtected (terms_of (run_asked asked.now) program input.now) (O.state out.old) (O.state out.new)
+        (new_history asked.now.execution.file.geometry) (run_history done.1) done.0) }
+    ensures bus { IfOk result (λ done. IsBusOf script done.1) }
+    ensures silent { OnErr result (IsSilent (O.state out.old) (O.state out.new)) }
+    ensures faults { (O.state out.old).faults ≤ (O.state out.new).faults }
+{
+    let geometry = asked.execution.file.geometry;
+    let bus = RunBus::new(alloc, script, geometry)?;
+    let keys = derive(&asked.terms.device_key);
+    let setup = Setup {
+        geometry,
+        keys,
+        budget: asked.execution.steps,
+        page_limit: asked.terms.page_limit,
+        nonce: asked.terms.nonce,
+    };
+    match asked.terms.tags {
+        Tags::Hmac => {
+            let tagger = HmacTagger::new(&keys);
+            Ok(run(alloc, image, input, &setup, tagger, bus, out))
+        }
+        Tags::Xor => {
+            let tagger = XorTagger::new(&keys);
+            Ok(run(alloc, image, input, &setup, tagger, bus, out))
+        }
+    }
+}

@@ -1,0 +1,104 @@
+// The run of a generated program.
+ghost use Rattle.std.specs.Prelude.{◌≡◌, [], None, IfOk};
+ghost use Rattle.sec_base.specs.Geometry.{memory_size};
+ghost use Rattle.sec_base.specs.Program.{IsImageOf, Program};
+ghost use Rattle.bus_model.specs.BusHistory.{new_history};
+ghost use Rattle.chip_run.specs.Run.{RunsProtected};
+ghost use Rattle.chip_device.specs.Buses.{IsBusOf, run_history};
+ghost use Rattle.chip_device.specs.Device.{terms_of};
+ghost use Rattle.chip_device.specs.Generated.{RunsGenerated, gathered, generated_run};
+
+use crate::device::run_on_device;
+use crate::run_bus::RunBus;
+use chip_run::RunRecord;
+use chip_words::{Execution, ProgramFile, ProgramForm, ProtectedRun, default_run};
+use sec_base::{Image, NoMemory, Sink, SinkStop};
+use std::alloc::Global;
+use std::marker::Model;
+use workload_gen::make;
+
+/// What a program printed, kept in memory.
+#[derive(Debug, Drop)]
+pub struct Printed {
+    bytes: Vec<u8>,
+}
+
+impl Model for Printed {
+    ghost use Rattle.std.specs.Prelude.{List, ℕ};
+
+    ghost Value = { List ℕ };
+
+    ghost view = { λ printed. printed.bytes.items };
+}
+
+impl Printed {
+    /// Nothing yet.
+    pub fn new(alloc: Global) -> Self
+        ensures { result ≡ [] }
+    {
+        Printed {
+            bytes: Vec::new(alloc),
+        }
+    }
+
+    /// All bytes, in order.
+    pub fn as_slice(&self) -> &[u8]
+        ensures { result.now ≡ self.now }
+    {
+        self.bytes.as_slice()
+    }
+}
+
+impl Sink for Printed {
+    ghost state = { gathered };
+
+    fn write(&mut self, piece: &[u8]) -> Result<usize, SinkStop> {
+        if piece.is_empty() {
+            return Ok(0);
+        }
+        self.bytes.extend_from_slice(piece)?;
+        Ok(piece.len())
+    }
+}
+
+/// Runs the generated program of a number on protected memory, on the terms that a run has by default. Fails only if out
+/// of memory.
+pub fn run_generated(alloc: Global, number: u32) -> Result<(RunRecord, RunBus, Printed), NoMemory>
+    ensures ran { IfOk result (λ done. RunsGenerated number done.2 done.0 done.1) }
+{
+    let image = make(alloc, number)?;
+    let mut printed = Printed::new(alloc);
+    let (run, bus) = run_by_default(alloc, &image, &mut printed)?;
+    Ok((run, bus, printed))
+}
+
+// Runs a program as a run does that names no option, on an empty input. Fails only if out of memory.
+fn run_by_default(
+    alloc: Global,
+    image: &Image,
+    printed: &mut Printed,
+) -> Result<(RunRecord, RunBus), NoMemory>
+    requires size { image.now.size ≡ memory_size 4 }
+    ensures ran { (program : Program) → IsImageOf (memory_size 4) program image.now → IfOk result (λ done.
+        RunsProtected (terms_of generated_run program []) (gathered printed.old) (gathered printed.new)
+        (new_history 4) (run_history done.1) done.0) }
+    ensures bus { IfOk result (λ done. IsBusOf None done.1) }
+{
+    let default = default_run("");
+    let file = ProgramFile {
+        name: "",
+        form: ProgramForm::ElfFile,
+        geometry: default.execution.file.geometry,
+    };
+    let execution = Execution {
+        file,
+        input: None,
+        steps: default.execution.steps,
+    };
+    let asked = ProtectedRun {
+        execution,
+        script: None,
+        terms: default.terms,
+    };
+    run_on_device(alloc, image, None, &[], &asked, printed)
+}

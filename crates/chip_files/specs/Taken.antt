@@ -1,0 +1,60 @@
+-- The programs, scripts and inputs that files are, and what was read for a request.
+use Rattle.std.specs.Prelude.{◌≡◌, List, [], ◌∷◌, ℕ, Option, Some, None, IsSome, Ok}
+use Rattle.adversary_script.specs.declared.script.ScriptLine.{ScriptLine}
+use Rattle.sec_base.specs.Files.{FilesState}
+use Rattle.sec_base.specs.Program.{Program}
+use Rattle.chip_words.specs.Request.{ExecutionAsked, FileAsked, ReportAsked, RunAsked}
+use Rattle.chip_files.specs.Program.{program_of_file, script_in}
+use Rattle.chip_files.specs.Needs.{IsAccepted, execution_needs, input_need, program_need, report_need, run_needs, script_need}
+use Rattle.chip_files.specs.Causes.{Asks}
+
+-- the files tell their bytes
+abbrev pub Tell : FilesState → Type 0
+Tell files = IsSome files.held
+
+-- the file can be accepted, and its bytes are this program
+pub record IsProgram (files : FilesState) (file : FileAsked) (program : Program) : Type 0 where
+  pub bytes : List ℕ
+  pub accepted : IsAccepted files (program_need file) bytes
+  pub is : program_of_file file bytes ≡ Ok program
+
+-- the file can be accepted, and its bytes are this script
+pub record IsScriptFile (files : FilesState) (levels : ℕ) (name : List ℕ) (script : List ScriptLine) : Type 0 where
+  pub bytes : List ℕ
+  pub accepted : IsAccepted files (script_need levels name) bytes
+  pub is : script_in levels bytes ≡ Ok script
+
+-- the script is the named file's, and there is none where none is named
+abbrev pub IsScript : FilesState → ℕ → Option (List ℕ) → Option (List ScriptLine) → Type 0
+IsScript files levels None None = Unit {0}
+IsScript files levels (Some name) (Some script) = IsScriptFile files levels name script
+IsScript files levels None (Some script) = ⊥
+IsScript files levels (Some name) None = ⊥
+
+-- the input is the named file's bytes, and nothing where none is named
+abbrev pub IsInput : FilesState → Option (List ℕ) → List ℕ → Type 0
+IsInput files None input = input ≡ []
+IsInput files (Some name) input = IsAccepted files (input_need name) input
+
+-- a program and its input were read and accepted
+pub record ReadsExecution (execution : ExecutionAsked) (old new : FilesState) (program : Program) (input : List ℕ) : Type 0 where
+  pub program_is : IsProgram old execution.file program
+  pub input_is : IsInput old execution.input input
+  pub asked : Asks (execution_needs execution) old new
+
+-- a program, the script of the adversary and the program's input were read and accepted, in this order
+pub record ReadsRun (run : RunAsked) (old new : FilesState) (program : Program) (script : Option (List ScriptLine)) (input : List ℕ) : Type 0 where
+  pub program_is : IsProgram old run.execution.file program
+  pub script_is : IsScript old run.execution.file.levels run.script script
+  pub input_is : IsInput old run.execution.input input
+  pub asked : Asks (run_needs run) old new
+
+-- a program was read and accepted
+pub record ReadsProgram (file : FileAsked) (old new : FilesState) (program : Program) : Type 0 where
+  pub program_is : IsProgram old file program
+  pub asked : Asks (program_need file ∷ []) old new
+
+-- a text that has the form of a report was read
+pub record ReadsReport (report : ReportAsked) (old new : FilesState) (text : List ℕ) : Type 0 where
+  pub accepted : IsAccepted old (report_need report) text
+  pub asked : Asks (report_need report ∷ []) old new

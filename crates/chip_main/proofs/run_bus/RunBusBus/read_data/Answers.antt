@@ -1,4 +1,0 @@
-use Rattle.chip_main.proofs.run_bus.RunBusBus.read_data.Goals as goal
-
-pub returns-in-Script-clause-err : goal.returns-in-Script-clause-err
-returns-in-Script-clause-err c = rw c.in-Script.is c.read_data-in-Script.ensures.err
