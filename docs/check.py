@@ -267,9 +267,9 @@ def drawings(page):
 
 RECORD = re.compile(r"^pub record (\w+)")
 OWN_FIELD = re.compile(r"^  pub (\w+) :")
-# The records whose fields THEOREM has rows of; and the fields of RunsProtected that are their own rows' heads.
-EXPLAINED = ["HoldsWithoutEvidence", "HoldsAlways", "ShowsEvidence"]
-HEADS = {"printed", "always", "without_evidence", "with_evidence"}
+# The groups of the theorem, whose fields THEOREM has rows of; and the field of RunsProtected that holds them, and what was printed.
+EXPLAINED = ["KeepsBudget", "KeepsLists", "FollowsPlain", "KeepsPads", "CatchesLies", "TurnsOver", "ShowsEvidence"]
+HEADS = {"printed", "ran"}
 
 
 def fields():

@@ -1,4 +1,3 @@
 pub mod Device
-pub mod PlainRun
 pub mod Buses
 pub mod Generated

@@ -2,7 +2,8 @@
 ghost use Rattle.std.specs.Prelude.{◌≤◌};
 ghost use Rattle.sec_base.specs.Geometry.{memory_size};
 ghost use Rattle.sec_base.specs.Program.{IsImageOf, Program};
-ghost use Rattle.chip_device.specs.PlainRun.{RunsPlain};
+ghost use Rattle.chip_device.specs.Device.{opening};
+ghost use Rattle.plain_machine.specs.PlainRun.{RunsPlain};
 
 use chip_words::Execution;
 use plain_machine::{PlainRecord, run};
@@ -18,7 +19,7 @@ pub fn run_plain<O: Sink>(
     out: &mut O,
 ) -> PlainRecord
     ensures ran { (program : Program) → IsImageOf (memory_size execution.now.file.geometry) program image.now →
-        RunsPlain execution.now.file.geometry execution.now.steps program input.now
+        RunsPlain (opening execution.now.file.geometry program input.now) execution.now.steps
         (O.state out.old) (O.state out.new) result }
     ensures faults { (O.state out.old).faults ≤ (O.state out.new).faults }
 {

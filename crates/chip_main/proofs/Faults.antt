@@ -77,7 +77,7 @@ result_summed {P} {number} {printed} {run} {bus} runs telling is p = result_told
 -- a run whose status is a result left the sink's faults
 pub result_quiet : {terms : Terms} {out out' : SinkState} {before after : BusHistory} {run : RunRecord} → RunsProtected terms out out' before after run →
     IsResult (code_of (run_status run)) → out'.faults ≡ out.faults
-result_quiet {terms} {out} {out'} {before} {after} {run} runs is = runs.always.quiet (result_run run is)
+result_quiet {terms} {out} {out'} {before} {after} {run} runs is = runs.sink.quiet (result_run run is)
 
 none_rose : {F O N : Type 0} (course : Course) (told : Telling) (note note' : SinkState) → IsResult (code_of (status_of course told)) →
     (IsResult (code_of (course_status course)) → F × O) → OnOk told N → TellsCourse course note note' told → F × O × N

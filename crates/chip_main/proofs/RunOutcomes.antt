@@ -309,7 +309,7 @@ text_failed text old new (Err no_memory) told is = absurd (omega arith)
 summary_failed : (number : ℕ) (run : RunRecord) (bus : RunBus) (telling : Telling) (files files' : FilesState) (out out' : SinkState) → Summarizes number files files' out out' run bus telling → code_of (told_status run telling) ≡ 9 →
     Rose out.faults out'.faults
 summary_failed number run bus (Ok _) files files' out out' summarizes is =
-    let risen : 1 ≤ 0 = summarizes.runs.runs.always.write_fault (run_fault_of run.evidence run.ending is) in absurd (omega arith)
+    let risen : 1 ≤ 0 = summarizes.runs.runs.sink.write_fault (run_fault_of run.evidence run.ending is) in absurd (omega arith)
 summary_failed number run bus (Err Failed) files files' out out' summarizes is = summarizes.written.1
 summary_failed number run bus (Err no_memory) files files' out out' summarizes is = absurd (omega arith)
 
@@ -318,7 +318,7 @@ out_failed : (course : Course) (request : Result Asked WordsFault) (files files'
 out_failed (Refused refusal) request files files' out out' came is = absurd (refusal_no_fault refusal is)
 out_failed NoMemory request files files' out out' came is = absurd (omega arith)
 out_failed (Ran run bus) (Err fault) files files' out out' came is = absurd came
-out_failed (Ran run bus) (Ok (to_run asked)) files files' out out' came is = came.runs.always.write_fault (run_fault_of run.evidence run.ending is)
+out_failed (Ran run bus) (Ok (to_run asked)) files files' out out' came is = came.runs.sink.write_fault (run_fault_of run.evidence run.ending is)
 out_failed (Ran run bus) (Ok (to_run_plain execution)) files files' out out' came is = absurd came
 out_failed (Ran run bus) (Ok (to_assemble file)) files files' out out' came is = absurd came
 out_failed (Ran run bus) (Ok (to_disassemble file)) files files' out out' came is = absurd came
@@ -327,7 +327,7 @@ out_failed (Ran run bus) (Ok (to_verify report)) files files' out out' came is =
 out_failed (Ran run bus) (Ok (to_bench number)) files files' out out' came is = absurd came
 out_failed (RanPlain run) (Err fault) files files' out out' came is = absurd came
 out_failed (RanPlain run) (Ok (to_run asked)) files files' out out' came is = absurd came
-out_failed (RanPlain run) (Ok (to_run_plain execution)) files files' out out' came is = came.3.write_fault (fault_of run.ending is)
+out_failed (RanPlain run) (Ok (to_run_plain execution)) files files' out out' came is = came.3.sink.write_fault (fault_of run.ending is)
 out_failed (RanPlain run) (Ok (to_assemble file)) files files' out out' came is = absurd came
 out_failed (RanPlain run) (Ok (to_disassemble file)) files files' out out' came is = absurd came
 out_failed (RanPlain run) (Ok (to_measure file)) files files' out out' came is = absurd came

@@ -117,7 +117,7 @@ tampered_cause asked program input bus {run = run} runs is =
     let ending = tampered_of run.ending low.1 in
     record {
       no_evidence = low.0;
-      caught = caught (device_tag asked.terms asked.execution.file.levels) run (run_history bus) ending.0 ending.1 (runs.without_evidence low.0).answers;
+      caught = caught (device_tag asked.terms asked.execution.file.levels) run (run_history bus) ending.0 ending.1 (runs.ran.without_evidence low.0).bus.answers;
     }
 
 pub spent_cause : (asked : RunAsked) (program : Program) (input : List ℕ) (bus : RunBus) {old new : SinkState} {before : BusHistory} {run : RunRecord} → RunsProtected (terms_of asked program input) old new before (run_history bus) run → code_of (run_status run) ≡ 6 → EndedSpent asked run bus
@@ -129,14 +129,14 @@ spent_cause asked program input bus {run = run} runs is =
       no_evidence = low.0;
       page = ending.0;
       ended = ending.1;
-      used_up = (runs.without_evidence low.0).spent ending.0 ending.1;
-      below = λ default. (runs.without_evidence low.0).unspent default ending.0 ending.1;
+      used_up = (runs.ran.without_evidence low.0).pads.spent ending.0 ending.1;
+      below = λ default. (runs.ran.without_evidence low.0).pads.unspent default ending.0 ending.1;
     }
 
 pub evidence_cause : (asked : RunAsked) (program : Program) (input : List ℕ) (bus : RunBus) {old new : SinkState} {before : BusHistory} {run : RunRecord} → RunsProtected (terms_of asked program input) old new before (run_history bus) run → code_of (run_status run) ≡ 7 → EndedWithEvidence asked run bus
 evidence_cause asked program input bus {run = run} runs is =
     let found = evidence_of run.evidence run.ending is in
-    let shown = if_some (ShowsEvidence (terms_of asked program input) (run_history bus) run) run.evidence found.0 found.1 runs.with_evidence in
+    let shown = if_some (ShowsEvidence (terms_of asked program input) (run_history bus) run) run.evidence found.0 found.1 runs.ran.with_evidence in
     record {
       evidence = found.0;
       there = found.1;
@@ -155,7 +155,7 @@ same_place {first} {second} ended other = let e : Tampered first ≡ Tampered se
 
 pub tampers_by_script : {terms : Terms} {old new : SinkState} {before : BusHistory} {run : RunRecord} (bus : RunBus) → LiesByScript bus → RunsProtected terms old new before (run_history bus) run → TampersByScript run bus
 tampers_by_script {terms = terms} {run = run} bus by_script runs = λ place none ended.
-    let is = caught terms.tag_of run (run_history bus) place ended (runs.without_evidence none).answers in
+    let is = caught terms.tag_of run (run_history bus) place ended (runs.ran.without_evidence none).bus.answers in
     if_place (λ p. IsTrue (script_may_change (bus_script bus) p)) (run_history bus).lie is.lie place is.first
     (same_place is.ended ended) by_script.first
 
@@ -165,4 +165,4 @@ none_without_lie terms None run told shown none = refl
 none_without_lie terms (Some evidence) run told shown none = let some : 0 < told.lies = shown.first_lie.lies in absurd (omega arith)
 
 pub honest_without_evidence : {terms : Terms} {old new : SinkState} {before told : BusHistory} {run : RunRecord} → RunsProtected terms old new before told run → told.lies ≡ 0 → run.evidence ≡ None
-honest_without_evidence {terms = terms} {told = told} {run = run} runs none = none_without_lie terms run.evidence run told runs.with_evidence none
+honest_without_evidence {terms = terms} {told = told} {run = run} runs none = none_without_lie terms run.evidence run told runs.ran.with_evidence none

@@ -11,7 +11,7 @@ use Rattle.sec_base.specs.declared.sink.SinkStop.TheVariants.{Failed, NoMemory a
 use Rattle.bus_model.specs.BusHistory.{BusHistory, new_history}
 use Rattle.rv32_core.specs.Follows.{IsWhole}
 use Rattle.plain_machine.specs.declared.PlainRecord.{PlainRecord}
-use Rattle.chip_run.specs.Run.{RunsProtected}
+use Rattle.chip_run.specs.Run.{IsCutOff, RunsProtected, Terms}
 use Rattle.chip_run.specs.declared.RunRecord.{RunRecord}
 use Rattle.chip_words.specs.Request.{Asked, ExecutionAsked, FileAsked, ReportAsked, RunAsked, WordsFault, to_assemble, to_disassemble, to_measure, to_run, to_run_plain, to_verify, to_bench}
 use Rattle.sec_base.specs.Program.{Program}
@@ -24,7 +24,7 @@ use Rattle.chip_main.specs.declared.Done.{Done}
 use Rattle.workload_gen.specs.Workload.{workload_of}
 use Rattle.chip_files.specs.Program.{program_of_file}
 use Rattle.chip_device.specs.Device.{terms_of, opening}
-use Rattle.chip_device.specs.PlainRun.{RunsPlain}
+use Rattle.plain_machine.specs.PlainRun.{RunsPlain}
 use Rattle.chip_main.specs.World.{World}
 use Rattle.attest_report.specs.declared.refusal.ReportError.{ReportError}
 use Rattle.attest_report.specs.declared.refusal.ReportError.TheVariants.{Tag}
@@ -137,13 +137,20 @@ other status is = subst (λ (n : ℕ). IsOneOf other_statuses n) (sym is) (1, om
 used_up : (status : ℕ) → status ≡ 6 → IsOneOf other_statuses status
 used_up status is = subst (λ (n : ℕ). IsOneOf other_statuses n) (sym is) (0, omega arith, refl)
 
+-- nothing cut it off
+not_cut_off : {terms : Terms} {out out' : SinkState} {before after : BusHistory} {run : RunRecord} → RunsProtected terms out out' before after run → ¬ Rose out.faults out'.faults →
+    run.ending ≢ memory_ended → ¬ IsCutOff run.ending
+not_cut_off runs quiet had (inl fault) = quiet (runs.sink.write_fault fault)
+not_cut_off runs quiet had (inr gone) = had gone
+
 ran_whole : (asked : RunAsked) (program : Program) (input : List ℕ) (out out' : SinkState) (before : BusHistory) (bus : RunBus) (run : RunRecord) → RunsProtected (terms_of asked program input) out out' before (run_history bus) run → (run_history bus).lies ≡ 0 → ¬ Rose out.faults out'.faults →
     IsOneOf other_statuses (code_of (run_status run)) ⊎ IsRunWhole asked.execution program input (code_of (run_status run)) run bus
 ran_whole asked program input out out' before bus run runs none quiet =
-    let ending_is = run_status_without_evidence run (honest_without_evidence runs none) in
+    let without = honest_without_evidence runs none in
+    let ending_is = run_status_without_evidence run without in
     elim (memory_cases run.ending) [
       | inl gone ↦ inl (other (code_of (run_status run)) (ending_is ∙ ap (λ e. code_of (ending_status e)) gone))
-      | inr had ↦ elim (runs.always.whole quiet none had) [
+      | inr had ↦ elim ((runs.ran.without_evidence without).plain.whole none (not_cut_off runs quiet had)) [
         | inl whole ↦ inr (whole, ending_is)
         | inr spent ↦ inl (used_up (code_of (run_status run)) (ending_is ∙ ap (λ e. code_of (ending_status e)) spent.1))
       ]
@@ -206,7 +213,7 @@ plain_statuses execution program input = plain_status execution program input �
 plain_other : (execution : ExecutionAsked) (program : Program) (input : List ℕ) (status : ℕ) → status ≡ 10 → IsOneOf (plain_statuses execution program input) status
 plain_other execution program input status is = (1, omega arith, sym is)
 
-plainly_whole : (execution : ExecutionAsked) (program : Program) (input : List ℕ) (out out' : SinkState) (run : PlainRecord) → RunsPlain execution.file.levels execution.steps program input out out' run → ¬ Rose out.faults out'.faults →
+plainly_whole : (execution : ExecutionAsked) (program : Program) (input : List ℕ) (out out' : SinkState) (run : PlainRecord) → RunsPlain (opening execution.file.levels program input) execution.steps out out' run → ¬ Rose out.faults out'.faults →
     IsOneOf (plain_statuses execution program input) (code_of (ending_status run.ending))
 plainly_whole execution program input out out' run runs quiet = elim (memory_cases run.ending) [
   | inl gone ↦ plain_other execution program input (code_of (ending_status run.ending)) (ap (λ e. code_of (ending_status e)) gone)
@@ -355,9 +362,9 @@ generated_whole program old new before bus run runs none quiet =
     let ending_is = run_status_without_evidence run without in
     elim (memory_cases run.ending) [
       | inl gone ↦ inl (ending_is ∙ ap (λ e. code_of (ending_status e)) gone)
-      | inr had ↦ elim (runs.always.whole quiet none had) [
+      | inr had ↦ elim ((runs.ran.without_evidence without).plain.whole none (not_cut_off runs quiet had)) [
         | inl whole ↦ inr (whole, ending_is)
-        | inr spent ↦ absurd ((runs.without_evidence without).unspent refl spent.0 spent.1)
+        | inr spent ↦ absurd ((runs.ran.without_evidence without).pads.unspent refl spent.0 spent.1)
       ]
     ]
 

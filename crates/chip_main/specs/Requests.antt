@@ -18,9 +18,9 @@ use Rattle.chip_files.specs.Taken.{ReadsExecution, ReadsProgram, ReadsReport, Re
 use Rattle.chip_files.specs.Verdict.{HasOtherTag, IsMadeBy}
 use Rattle.chip_device.specs.declared.run_bus.RunBus.{RunBus}
 use Rattle.chip_device.specs.Buses.{IsBusOf, run_history}
-use Rattle.chip_device.specs.Device.{terms_of}
+use Rattle.chip_device.specs.Device.{opening, terms_of}
 use Rattle.chip_device.specs.Generated.{RunsGenerated}
-use Rattle.chip_device.specs.PlainRun.{RunsPlain}
+use Rattle.plain_machine.specs.PlainRun.{RunsPlain}
 use Rattle.chip_main.specs.Status.{Telling}
 use Rattle.chip_main.specs.Texts.{elf_file, listing, measurement_line}
 
@@ -53,7 +53,7 @@ pub record RunsRequested (asked : RunAsked) (files files' : FilesState) (out out
 abbrev pub PlainlyRuns : ExecutionAsked → FilesState → FilesState → SinkState → SinkState → PlainRecord → Type 0
 PlainlyRuns execution files files' out out' run =
     (program : Program) × (input : List ℕ) × ReadsExecution execution files files' program input
-    × RunsPlain execution.file.levels execution.steps program input out out' run
+    × RunsPlain (opening execution.file.levels program input) execution.steps out out' run
 
 -- a text of the file's program was written, as far as the answer says
 pub record Writes (file : FileAsked) (text : Image → List ℕ) (files files' : FilesState) (out out' : SinkState) (telling : Telling) : Type 0 where

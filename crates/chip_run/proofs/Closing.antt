@@ -10,7 +10,7 @@ use Rattle.sec_base.specs.declared.stop.MemStop.{MemStop}
 use Rattle.sec_base.specs.declared.stop.MemStop.TheVariants.{Tampered as tampered, Spent as spent, NoMemory as no_memory}
 use Rattle.bus_model.specs.BusHistory.{BusHistory}
 use Rattle.bus_model.specs.FirstLie.{AccountsForLies, HonestOrCaught}
-use Rattle.rv32_run.specs.Session.{CarriesEnding, stop_ending}
+use Rattle.rv32_run.specs.Execution.{CarriesEnding, stop_ending}
 use Rattle.checked_bus.specs.Steps.{unwritten_in}
 use Rattle.page_reencrypt.specs.Stops.{lasting_stop}
 use Rattle.chip_run.specs.Run.{EndsAnywhere, unwritten_at}

@@ -6,4 +6,5 @@ pub mod Memories
 pub mod Turned
 pub mod Reports
 pub mod Runs
+pub mod Ran
 pub mod Outcomes

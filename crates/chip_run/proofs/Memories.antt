@@ -15,10 +15,10 @@ use Rattle.sec_base.specs.declared.stop.MemStop.{MemStop}
 use Rattle.sec_base.specs.declared.stop.MemStop.TheVariants.{Tampered, NoMemory as no_memory}
 use Rattle.bus_model.specs.BusHistory.{BusHistory, NothingWritten}
 use Rattle.tag_engine.specs.Tag.{engine_tag}
-use Rattle.tag_engine.specs.TagEngine.{TagEngineView, tags_of}
+use Rattle.tag_engine.specs.TagEngine.{tags_of}
 use Rattle.pad_stream.proofs.RisingCounters.{rising_nothing}
 use Rattle.rv32_core.specs.Machine.{Machine}
-use Rattle.rv32_run.specs.Session.{CarriesEnding}
+use Rattle.rv32_run.specs.Execution.{CarriesEnding}
 use Rattle.checked_bus.specs.Accesses.{AreCounted, WritesMessages}
 use Rattle.checked_bus.specs.Steps.{IsAccounted, unwritten_in}
 use Rattle.pad_stream.specs.PadBlocks.{ShareNoBlock}
@@ -27,13 +27,11 @@ use Rattle.page_reencrypt.specs.Contents.{AreUnskipped, AreWithin, HoldsSealed, 
 use Rattle.page_reencrypt.specs.SealedLines.{AccountsForAll, AreNew, AreProtected, CountersRise, IsLineOf, IsQuiet, IsUnbooted, Moves, SealedLinesView, contents, enc_key, evidence, levels, lines_of, made, used}
 use Rattle.cache_set.specs.declared.way.Way.{Way}
 use Rattle.line_cache.specs.LineCache.{contents_over}
-use Rattle.secure_memory.specs.SecureRam.{IsMoved, SecureRamView}
 use Rattle.chip_run.specs.Report.{ReportTerms}
 use Rattle.chip_run.specs.Run.{Terms, EndedAtBoot, unwritten_at}
 use Rattle.chip_run.specs.declared.record.RunRecord.{RunRecord}
 use Rattle.checked_bus.proofs.Steps.{counted_on}
 use Rattle.bonsai_tree.proofs.MadeSlots.{slots_none}
-use Rattle.page_reencrypt.proofs.Moves.{own_moves_on}
 use Rattle.chip_run.proofs.Closing.{unwritten_most}
 use Rattle.chip_run.proofs.Ends.{OfMemory}
 
@@ -227,13 +225,3 @@ module _ {B T : Type 0} (d n : T → List ℕ → List ℕ) (history : B → Bus
       ap (λ (made : List Message). contents_over (contents_of key (line_count depth) made) (line_count depth) ways) made_is
       ∙ ap (λ (levels : ℕ). contents_over (contents_of key (line_count levels) (made lines)) (line_count levels) ways) (sym (moves.step.levels ∙ new.depth_is))
       ∙ ap (λ (k : List ℕ). contents_over (contents_of k (line_count (levels lines)) (made lines)) (lines_of lines) ways) (sym (moves.key ∙ new.key_is))
-
--- what running on made of a memory in which a program was stored
-pub whole_moves : {B T : Type 0} (history : B → BusHistory) (bus_moved : B → B → Type 0) (tags : TagEngineView T → Message → List ℕ) → ((a b c : B) → bus_moved a b → bus_moved b c → bus_moved a c) →
-    (opened stored begun ended closed : SecureRamView B T) (storing running : List ℕ) → begun ≡ stored → closed ≡ ended →
-    IsMoved history bus_moved tags opened storing stored → IsMoved history bus_moved tags begun running ended →
-    Moves history bus_moved tags (IsLineOf opened.lines) opened.lines closed.lines
-whole_moves {B} {T} history bus_moved tags bus_moved_on opened stored begun ended closed storing running begins closes before after =
-    subst (λ (m : SecureRamView B T). Moves history bus_moved tags (IsLineOf opened.lines) opened.lines m.lines) (sym closes)
-    (own_moves_on history bus_moved tags bus_moved_on opened.lines stored.lines ended.lines before.moves
-    (subst (λ (m : SecureRamView B T). Moves history bus_moved tags (IsLineOf m.lines) m.lines ended.lines) begins after.moves))

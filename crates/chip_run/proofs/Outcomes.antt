@@ -8,23 +8,27 @@ use Rattle.sec_base.specs.declared.stop.MemStop.{MemStop}
 use Rattle.sec_base.specs.declared.stop.MemStop.TheVariants.{NoMemory as no_memory}
 use Rattle.bus_model.specs.BusHistory.{BusHistory, NothingWritten}
 use Rattle.rv32_core.specs.Machine.{opening_of}
-use Rattle.rv32_run.specs.Session.{stop_ending}
+use Rattle.rv32_run.specs.Execution.{stop_ending}
 use Rattle.page_reencrypt.specs.SealedLines.{IsUnbooted}
 use Rattle.chip_run.specs.Report.{signed_report}
 use Rattle.chip_run.specs.Run.{Terms, RunsProtected}
 use Rattle.chip_run.specs.declared.record.RunRecord.{RunRecord}
-use Rattle.chip_run.proofs.Ends.{OfMemory, runs_protected}
+use Rattle.chip_run.proofs.Ends.{OfMemory, ran_protected}
 use Rattle.chip_run.proofs.Memories.{unbooted_memory}
 use Rattle.chip_run.proofs.Reports.{unreported}
-use Rattle.chip_run.proofs.Runs.{stopped_session}
+use Rattle.chip_run.proofs.Runs.{stopped_instructions, stopped_sink}
 
 -- its memory stopped while the program was stored
 pub storing_stopped : (terms : Terms) (out : SinkState) (before after : BusHistory) (run : RunRecord) (entry size : ℕ) (segments : List Segment) (input : List ℕ) (stop : MemStop) →
     terms.start ≡ opening_of entry size segments input → OfMemory terms before after run → run.retired ≡ 0 → run.ending ≡ stop_ending stop →
     run.report ≡ signed_report terms.report (sha256 []) run.retired run.ending → RunsProtected terms out out before after run
-storing_stopped terms out before after run entry size segments input stop begins memory none ended signed =
-    runs_protected terms out out [] before after run memory
-    (stopped_session terms out before after run entry size segments input stop begins none ended signed memory.reads)
+storing_stopped terms out before after run entry size segments input stop begins memory none ended signed = record {
+  printed = [];
+  sink = stopped_sink out run.ending stop ended;
+  ran = ran_protected terms [] before after run memory
+      (stopped_instructions terms before after run entry size segments input stop begins none ended memory.reads);
+  report = signed;
+}
 
 -- no memory was found for its memory
 pub boot_refused : (terms : Terms) (out : SinkState) (before after : BusHistory) (run : RunRecord) (entry size : ℕ) (segments : List Segment) (input : List ℕ) →

@@ -2,12 +2,11 @@
 use Rattle.std.proofs.Common.{◌≡◌, ◌≢◌, ◌+◌, ◌*◌, ◌<◌, ◌≤◌, ℕ, zero, suc, List, [], ◌++◌, length, replicate, Option, Some, None, Contains, refl, sym, ap, ◌∙◌, subst, arith}
 use Rattle.std.specs.Option.{option_map}
 use Rattle.std.proofs.lemmas.List.{replicate-append-replicate}
-use Rattle.sha2.specs.Sha256.{sha256}
-use Rattle.sec_base.specs.Count.{Rose, RoseBy}
+use Rattle.sec_base.specs.Count.{RoseBy}
 use Rattle.sec_base.specs.Geometry.{line_count, memory_size, page_count, page_of}
 use Rattle.sec_base.specs.LastMessage.{data_pairs, last_at, last_data, last_pair}
 use Rattle.sec_base.specs.Lines.{joined_lines, line_at}
-use Rattle.sec_base.specs.Sink.{SinkState, Gains}
+use Rattle.sec_base.specs.Sink.{SinkState}
 use Rattle.sec_base.proofs.JoinedLines.{line_at-joined_lines}
 use Rattle.sec_base.proofs.LastMessages.{last_pair-data_pairs}
 use Rattle.sec_base.proofs.Writes.{written_after-nil}
@@ -21,11 +20,10 @@ use Rattle.sec_base.specs.declared.segment.Segment.{Segment}
 use Rattle.sec_base.specs.declared.stop.MemStop.{MemStop}
 use Rattle.sec_base.specs.declared.stop.MemStop.TheVariants.{Tampered as tampered, Spent as spent, NoMemory as no_memory}
 use Rattle.bus_model.specs.BusHistory.{BusHistory}
-use Rattle.rv32_core.specs.Effect.{next}
 use Rattle.rv32_core.specs.Follows.{Follows}
 use Rattle.rv32_core.specs.Machine.{Machine, opening_of, plain}
-use Rattle.rv32_core.specs.Outcome.{prints_of}
-use Rattle.rv32_run.specs.Session.{FollowsWith, IsMemoryEnding, IsStop, stop_ending}
+use Rattle.rv32_run.specs.Execution.{FollowsWith, IsMemoryEnding, IsStop, stop_ending}
+use Rattle.rv32_run.specs.Progress.{SinkEnds}
 use Rattle.rv32_run.proofs.Runs.{budget_ends, nothing_follows}
 use Rattle.page_reencrypt.specs.Contents.{bytes_of, contents_of, line_bytes}
 use Rattle.page_reencrypt.specs.LineLengths.{length-contents_of, length-line_bytes}
@@ -34,10 +32,9 @@ use Rattle.cache_set.specs.Cache.{places}
 use Rattle.line_cache.specs.LineCache.{contents_over}
 use Rattle.line_cache.proofs.Lines.{over_nothing, over_unheld}
 use Rattle.line_cache.proofs.Steps.{unheld_none}
-use Rattle.chip_run.specs.Report.{signed_report}
 use Rattle.chip_run.specs.Run.{Terms, IsWrittenOut, most_left}
 use Rattle.chip_run.specs.declared.record.RunRecord.{RunRecord}
-use Rattle.chip_run.proofs.Ends.{OfSession, ReadsTurnover}
+use Rattle.chip_run.proofs.Ends.{OfInstructions, ReadsTurnover}
 use Rattle.chip_run.proofs.Turned.{nothing_turned}
 
 -- A memory of which no line was tagged has zeros
@@ -104,63 +101,59 @@ by_memory (tampered place) = tt
 by_memory (spent page) = tt
 by_memory no_memory = tt
 
-pub stopped_session : (terms : Terms) (out : SinkState) (before after : BusHistory) (run : RunRecord) (entry size : ℕ) (segments : List Segment) (input : List ℕ) (stop : MemStop) →
-    terms.start ≡ opening_of entry size segments input → run.retired ≡ 0 → run.ending ≡ stop_ending stop → run.report ≡ signed_report terms.report (sha256 []) run.retired run.ending →
-    ((place : Place) → RoseBy 0 (before.reads place) (after.reads place)) → OfSession terms out out [] before after run
-stopped_session terms out before after run entry size segments input stop begins none ended signed reads =
+pub stopped_instructions : (terms : Terms) (before after : BusHistory) (run : RunRecord) (entry size : ℕ) (segments : List Segment) (input : List ℕ) (stop : MemStop) →
+    terms.start ≡ opening_of entry size segments input → run.retired ≡ 0 → run.ending ≡ stop_ending stop →
+    ((place : Place) → RoseBy 0 (before.reads place) (after.reads place)) → OfInstructions terms [] before after run
+stopped_instructions terms before after run entry size segments input stop begins none ended reads =
     let stopped : IsMemoryEnding run.ending = subst IsMemoryEnding (sym ended) (by_memory stop) in
     record {
-      gained = sym (written_after-nil out.written);
-      within = omega (arith, none);
-      budget_used = λ is. absurd (no_end_of_steps stop (sym ended ∙ is));
-      early = λ stops some. omega (arith, none, some);
-      write_fault = λ is. absurd (no_fault stop (sym ended ∙ is));
-      faults = omega arith;
-      quiet = λ written. refl;
+      budget = record {
+        within = omega (arith, none);
+        budget_used = λ is. absurd (no_end_of_steps stop (sym ended ∙ is));
+        early = λ stops some. omega (arith, none, some);
+      };
       follows = λ quiet.
           subst (λ (start : Machine). Follows start terms.budget run.retired run.ending []) (sym begins)
           (nothing_follows entry size segments input terms.budget run.retired stop run.ending none ended);
+      cut_short = λ quiet is. absurd (no_fault stop (sym ended ∙ is));
       written_out = λ quiet going. absurd (going stopped);
       out_of_steps = λ quiet going. absurd (going stopped);
-      prints = λ quiet is. absurd (no_fault stop (sym ended ∙ is));
       turned = λ quiet. (
         nothing_turned (λ line. line) 129 terms.start (line_count terms.levels) run.retired (λ line. before.reads (Line line)) (λ line. after.reads (Line line)) none
             (λ line. reads (Line line)),
         nothing_turned page_of 161 terms.start (page_count terms.levels) run.retired (λ page. before.reads (Node 0 page)) (λ page. after.reads (Node 0 page)) none
             (λ page. reads (Node 0 page)),
       );
-      report = signed;
     }
 
--- A run of some instructions, which a session that may do so many ended so
-pub ran_session : (terms : Terms) (out out' : SinkState) (printed : List ℕ) (before after : BusHistory) (run : RunRecord) (finished allowance : ℕ) (ended : Ending) (ways : List (List Way)) (memory : List ℕ) →
-    run.retired ≡ finished → run.ending ≡ ended → allowance ≡ terms.budget → run.report ≡ signed_report terms.report (sha256 printed) run.retired run.ending → contents_over (contents_of terms.enc_key (line_count terms.levels) run.made) (line_count terms.levels) ways ≡ memory →
-    length (places ways) ≤ most_left →
-    Gains out printed out' → finished ≤ allowance → (ended ≡ OutOfSteps → finished ≡ allowance) → (IsStop ended → finished < allowance) →
-    (ended ≡ WriteFault → Rose out.faults out'.faults) → out.faults ≤ out'.faults →
-    (ended ≢ WriteFault → out'.faults ≡ out.faults) →
+pub stopped_sink : (out : SinkState) (ending : Ending) (stop : MemStop) → ending ≡ stop_ending stop → SinkEnds out [] ending out
+stopped_sink out ending stop ended = record {
+  gained = sym (written_after-nil out.written);
+  faults = omega arith;
+  write_fault = λ is. absurd (no_fault stop (sym ended ∙ is));
+  quiet = λ written. refl;
+}
+
+-- A run of some instructions, which an execution that may do so many ended so
+pub ran_instructions : (terms : Terms) (printed : List ℕ) (before after : BusHistory) (run : RunRecord) (finished allowance : ℕ) (ended : Ending) (ways : List (List Way)) (memory : List ℕ) →
+    run.retired ≡ finished → run.ending ≡ ended → allowance ≡ terms.budget → contents_over (contents_of terms.enc_key (line_count terms.levels) run.made) (line_count terms.levels) ways ≡ memory →
+    length (places ways) ≤ most_left → finished ≤ allowance → (ended ≡ OutOfSteps → finished ≡ allowance) → (IsStop ended → finished < allowance) →
     (run.evidence ≡ None → FollowsWith terms.start terms.budget run.retired run.ending memory printed) →
-    (run.evidence ≡ None → ended ≡ WriteFault → 0 < length (prints_of (next (plain terms.start finished).state))) →
-    (run.evidence ≡ None → ReadsTurnover terms before after run) →
-    OfSession terms out out' printed before after run
-ran_session terms out out' printed before after run finished allowance ended ways memory retired_is ending_is budget_is signed outside few gained within budget_used early write_fault faults silent follows prints turned =
+    (run.evidence ≡ None → ReadsTurnover terms before after run) → OfInstructions terms printed before after run
+ran_instructions terms printed before after run finished allowance ended ways memory retired_is ending_is budget_is outside few within budget_used early follows turned =
     let in_time : IsStop run.ending → run.retired < terms.budget = λ stops. omega (arith, retired_is, budget_is, early (subst IsStop ending_is stops)) in
     record {
-      gained = gained;
-      within = omega (arith, retired_is, budget_is, within);
-      budget_used = λ is. retired_is ∙ budget_used (sym ending_is ∙ is) ∙ budget_is;
-      early = λ stops some. in_time stops;
-      write_fault = λ is. write_fault (sym ending_is ∙ is);
-      faults = faults;
-      quiet = λ written. silent (λ is. written (ending_is ∙ is));
+      budget = record {
+        within = omega (arith, retired_is, budget_is, within);
+        budget_used = λ is. retired_is ∙ budget_used (sym ending_is ∙ is) ∙ budget_is;
+        early = λ stops some. in_time stops;
+      };
       follows = λ quiet. (follows quiet).follows;
+      cut_short = λ quiet. (follows quiet).cut_short;
       written_out = λ quiet going.
           written_out terms.enc_key (line_count terms.levels) run.made ways (plain terms.start run.retired).state.memory
           (outside ∙ (follows quiet).leaves going) few;
       out_of_steps = λ quiet going.
           budget_ends terms.start terms.budget run.retired run.ending printed (follows quiet).follows in_time going;
-      prints = λ quiet is.
-          subst (λ (n : ℕ). 0 < length (prints_of (next (plain terms.start n).state))) (sym retired_is) (prints quiet (sym ending_is ∙ is));
       turned = turned;
-      report = signed;
     }

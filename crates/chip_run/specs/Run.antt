@@ -1,36 +1,38 @@
 -- What a run on protected memory comes to.
-use Rattle.std.specs.Prelude.{◌≡◌, ◌≢◌, ◌-◌, ◌^◌, ◌<◌, ◌≤◌, ◌↔◌, ◌⊎◌, ℕ, List, [], None, IfSome, length, Contains}
+use Rattle.std.specs.Prelude.{◌≡◌, ◌≢◌, ◌+◌, ◌-◌, ◌^◌, ◌<◌, ◌≤◌, ◌↔◌, ◌⊎◌, ℕ, List, [], None, IfSome, length, Contains}
 use Rattle.sha2.specs.Sha256.{sha256}
 use Rattle.sec_base.specs.declared.counter.Counter.{Counter}
 use Rattle.sec_base.specs.declared.ending.Ending.{Ending}
 use Rattle.sec_base.specs.declared.ending.Ending.TheVariants.{OutOfSteps, Tampered, Spent, WriteFault, NoMemory}
 use Rattle.sec_base.specs.declared.evidence.Evidence.{Evidence}
+use Rattle.sec_base.specs.declared.image.Image.{Image}
 use Rattle.sec_base.specs.declared.message.Message.{Message}
 use Rattle.sec_base.specs.declared.place.Place.{Place}
 use Rattle.sec_base.specs.declared.place.Place.TheVariants.{Line, Node}
-use Rattle.sec_base.specs.Count.{Rose, RoseBy}
+use Rattle.sec_base.specs.Count.{RoseBy}
 use Rattle.sec_base.specs.Evidence.{IsEvidence}
 use Rattle.sec_base.specs.Gain.{Gain}
 use Rattle.sec_base.specs.Geometry.{line_count, page_count}
 use Rattle.sec_base.specs.LastMessage.{data_pairs}
 use Rattle.sec_base.specs.Lines.{line_at}
-use Rattle.sec_base.specs.Sink.{SinkState, Gains}
+use Rattle.sec_base.specs.Sink.{SinkState}
 use Rattle.bus_model.specs.BusHistory.{BusHistory}
 use Rattle.bus_model.specs.FirstLie.{HonestOrCaught, IsOfFirstLie}
 use Rattle.pad_stream.specs.PadBlocks.{ShareNoBlock}
 use Rattle.pad_stream.specs.Pads.{AreRising, NoRepeat, of_lines}
-use Rattle.rv32_core.specs.Effect.{next}
 use Rattle.rv32_core.specs.Follows.{Follows, IsWhole}
-use Rattle.rv32_core.specs.Machine.{Machine, plain}
-use Rattle.rv32_core.specs.Outcome.{prints_of}
+use Rattle.rv32_core.specs.Machine.{Machine, opening, plain}
 use Rattle.rv32_core.specs.Turnover.{page_turnover, turnover}
-use Rattle.rv32_run.specs.Session.{IsMemoryEnding, IsStop}
+use Rattle.rv32_run.specs.Execution.{IsMemoryEnding, IsStop}
+use Rattle.rv32_run.specs.Progress.{SinkEnds}
+use Rattle.elf_load.specs.Measurement.{measurement_of}
 use Rattle.checked_bus.specs.Accesses.{WritesMessages}
 use Rattle.bonsai_tree.specs.Tree.{NodesAreMade, NodesHoldLast}
 use Rattle.page_reencrypt.specs.Contents.{ArePaged, AreUnskipped, AreWithin, HoldsLast, HoldsSealed, IsSpent, NodesSay, line_bytes}
 use Rattle.page_reencrypt.specs.SealedLines.{IsUnbooted}
 use Rattle.chip_run.specs.Report.{ReportTerms, signed_report}
 use Rattle.chip_run.specs.declared.record.RunRecord.{RunRecord}
+use Rattle.chip_run.specs.declared.record.Setup.{Setup}
 
 -- What a run is of: the plain machine as the program begins on its input, how many instructions may be retired, the
 -- levels of the memory's tree, how high a page counter may rise, the tags of messages, the key that lines are
@@ -43,6 +45,23 @@ pub record Terms : Type 0 where
   pub tag_of : Message → List ℕ
   pub enc_key : List ℕ
   pub report : ReportTerms
+
+-- The terms of a run of a program on an input, as it is set up, under these tags.
+abbrev pub run_terms : Image → List ℕ → Setup → (Message → List ℕ) → Terms
+run_terms image input setup tag_of = record {
+  start = opening image input;
+  budget = setup.budget;
+  levels = setup.geometry;
+  page_limit = setup.page_limit;
+  tag_of = tag_of;
+  enc_key = setup.keys.enc_key;
+  report = record {
+    measurement = measurement_of image;
+    input = input;
+    nonce = setup.nonce;
+    report_key = setup.keys.report_key;
+  };
+}
 
 -- how many lines may stand on the chip alone as a run ends
 abbrev pub most_left : ℕ
@@ -76,20 +95,19 @@ pub record EndedAtBoot (tag_of : Message → List ℕ) (levels : ℕ) (before af
   pub unused : run.used ≡ []
   pub booting : IsUnbooted tag_of levels before after
 
--- Whatever the bus answered.
-pub record HoldsAlways (terms : Terms) (out out' : SinkState) (before after : BusHistory) (run : RunRecord) : Type 0 where
-  -- the budget is kept, and ends the run only where it is used up; the memory and the sink end it only where the budget
-  -- allows one more instruction, or none at all
+-- Refused: a run past its budget, one that the budget ends too early, and one that stops where it was used up.
+pub record KeepsBudget (terms : Terms) (run : RunRecord) : Type 0 where
   pub within : run.retired ≤ terms.budget
   pub budget_used : run.ending ≡ OutOfSteps → run.retired ≡ terms.budget
+  -- the memory and the sink end it only where the budget allows one more instruction, or none at all
   pub early : IsStop run.ending → 0 < terms.budget → run.retired < terms.budget
-  -- a write fault is one of the sink, and where it had one, the run ended so
-  pub write_fault : run.ending ≡ WriteFault → Rose out.faults out'.faults
-  pub faults : out.faults ≤ out'.faults
-  pub quiet : run.ending ≢ WriteFault → out'.faults ≡ out.faults
-  -- each entry of `used` is of a line of the memory, and each line was tagged under the counters that it was encrypted
-  -- under, in the same order
-  pub inside : (line : ℕ) (counter : Counter) → Contains run.used (line, counter) → line < line_count terms.levels
+
+-- Refused: messages that are missing, made up or not written, and a bus that isn't the run's. The lines that the run may
+-- encrypt are those that are allowed.
+pub record KeepsLists (allowed : ℕ → Type 0) (terms : Terms) (before after : BusHistory) (run : RunRecord) : Type 0 where
+  -- each entry of `used` is of an allowed line, and each line of the memory was tagged under the counters that it was
+  -- encrypted under, in the same order
+  pub inside : (line : ℕ) (counter : Counter) → Contains run.used (line, counter) → allowed line
   pub few : length run.used < 2 ^ 64
   pub paired : data_pairs run.made ≡ of_lines (line_count terms.levels) run.used
   -- each line's place that isn't zeros holds what was encrypted and tagged for it, each node's place that isn't zeros a
@@ -103,18 +121,32 @@ pub record HoldsAlways (terms : Terms) (out out' : SinkState) (before after : Bu
   pub accesses : WritesMessages before after (length run.made) (unwritten_at run.ending) ⊎ EndedAtBoot terms.tag_of terms.levels before after run
   pub reads : (place : Place) → RoseBy 0 (before.reads place) (after.reads place)
   pub levels_are : after.levels ≡ terms.levels
-  -- where no answer was false and the sink had no fault, it is the plain machine's run over the whole budget, or a page
-  -- was spent, or it ended out of memory
-  pub whole : ¬ (Rose out.faults out'.faults) → after.lies ≡ 0 → run.ending ≢ NoMemory →
-      IsWhole terms.start terms.budget run.retired run.ending ⊎ ((page : ℕ) × (run.ending ≡ Spent page))
 
--- Where there is no evidence. What rests on counters stands here, since they come from outside.
-pub record HoldsWithoutEvidence (terms : Terms) (printed : List ℕ) (before after : BusHistory) (run : RunRecord) : Type 0 where
+-- the endings that come of the sink or of the emulator
+abbrev pub IsCutOff : Ending → Type 0
+IsCutOff ending = (ending ≡ WriteFault) ⊎ (ending ≡ NoMemory)
+
+-- Refused: any other program, a byte that it doesn't print, a write fault of another instruction, and a memory that isn't
+-- the program's.
+pub record FollowsPlain (terms : Terms) (printed : List ℕ) (after : BusHistory) (run : RunRecord) : Type 0 where
   -- the retired instructions and the printed bytes are a prefix of the plain machine's
   pub follows : Follows terms.start terms.budget run.retired run.ending printed
-  -- no answer of the bus was false, and the run did not end as tampering; or one was, fails its check, was the last
-  -- access, and the run ended as tampering of its place
-  pub answers : HonestOrCaught terms.tag_of run.used run.made after (λ place. run.ending ≡ Tampered place)
+  -- a write fault comes before all was printed that the next instruction prints
+  pub cut_short : run.ending ≡ WriteFault → length printed < length (plain terms.start (run.retired + 1)).output
+  -- where no answer was false (so there is no evidence) and nothing cut it off, it is the plain machine's run over the whole
+  -- budget, or a page was spent
+  pub whole : after.lies ≡ 0 → ¬ IsCutOff run.ending →
+      IsWhole terms.start terms.budget run.retired run.ending ⊎ ((page : ℕ) × (run.ending ≡ Spent page))
+  -- the budget ends it exactly where it is used up by a program that goes on
+  pub out_of_steps : ¬ IsMemoryEnding run.ending → ((run.ending ≡ OutOfSteps)
+      ↔ ((run.retired ≡ terms.budget) × ((plain terms.start terms.budget).exit ≡ None)))
+  -- where the memory did not end it, the last messages are the plain machine's memory
+  pub written_out : ¬ IsMemoryEnding run.ending →
+      IsWrittenOut terms.enc_key (line_count terms.levels) run.made (plain terms.start run.retired).state.memory
+
+-- Refused: a pad that encrypts two lines, a page counter that was skipped, a page that is spent too early, and a node that
+-- says other tags or counters.
+pub record KeepsPads (terms : Terms) (run : RunRecord) : Type 0 where
   -- no two entries of `used` are equal, and no two of their pads share an AES block: each line's counters rise, begin
   -- behind that of a line that was never written, and keep to the limit; a page is spent only where one of its lines has
   -- the last counter that the limit allows
@@ -132,14 +164,15 @@ pub record HoldsWithoutEvidence (terms : Terms) (printed : List ℕ) (before aft
   -- each time a node above level 0 was made, each of its slots had the tag of that child's last message; each counter block
   -- that was made says counters that its lines were encrypted under, or that of a line that was never written
   pub made_nodes : NodesSay terms.tag_of terms.levels run.used run.made
-  -- where the memory did not end it, the last messages are the plain machine's memory
-  pub written_out : ¬ IsMemoryEnding run.ending →
-      IsWrittenOut terms.enc_key (line_count terms.levels) run.made (plain terms.start run.retired).state.memory
-  -- the budget ends it exactly where it is used up by a program that goes on
-  pub out_of_steps : ¬ IsMemoryEnding run.ending → ((run.ending ≡ OutOfSteps)
-      ↔ ((run.retired ≡ terms.budget) × ((plain terms.start terms.budget).exit ≡ None)))
-  -- a write fails only at an instruction that prints
-  pub prints : run.ending ≡ WriteFault → 0 < length (prints_of (next (plain terms.start run.retired).state))
+
+-- Refused: a false answer that did not end the run as tampering of its place, and tampering where no answer was false.
+pub record CatchesLies (terms : Terms) (after : BusHistory) (run : RunRecord) : Type 0 where
+  -- no answer of the bus was false, and the run did not end as tampering; or one was, fails its check, was the last
+  -- access, and the run ended as tampering of its place
+  pub answers : HonestOrCaught terms.tag_of run.used run.made after (λ place. run.ending ≡ Tampered place)
+
+-- Refused: a run that reads its bus too seldom for a chip that holds so little.
+pub record TurnsOver (terms : Terms) (before after : BusHistory) (run : RunRecord) : Type 0 where
   -- the places of the lines were read together at least as often as the run turned over what the chip can hold, and so
   -- were the places of the pages' counter blocks, by pages
   pub turnover : Gain (line_count terms.levels) (λ line. before.reads (Line line)) (λ line. after.reads (Line line))
@@ -147,19 +180,33 @@ pub record HoldsWithoutEvidence (terms : Terms) (printed : List ℕ) (before aft
   pub page_turnover : Gain (page_count terms.levels) (λ page. before.reads (Node 0 page)) (λ page. after.reads (Node 0 page))
       (page_turnover terms.start run.retired)
 
--- What evidence is: what it says, and of the first false answer.
+-- Refused: evidence of a true answer, or that the lists don't bear out. It is what it says, and of the first false answer.
 pub record ShowsEvidence (terms : Terms) (after : BusHistory) (run : RunRecord) (evidence : Evidence) : Type 0 where
   pub genuine : IsEvidence terms.tag_of run.made evidence
   pub first_lie : IsOfFirstLie run.made after evidence
 
--- The theorem. A run on protected memory printed some bytes to the sink; without evidence it follows the plain machine,
--- each false answer of the bus ended it as tampering at that access, and no pad encrypted two lines; or else it hands
--- out evidence: a message that passed a check though it was never tagged, or two unequal blocks of one node with one tag.
--- With evidence or without, its report is of the bytes that it printed.
-pub record RunsProtected (terms : Terms) (out out' : SinkState) (before after : BusHistory) (run : RunRecord) : Type 0 where
-  pub printed : List ℕ
-  pub gained : Gains out printed out'
-  pub report : run.report ≡ signed_report terms.report (sha256 printed) run.retired run.ending
-  pub always : HoldsAlways terms out out' before after run
+-- Where there is no evidence. What rests on counters stands here, since they come from outside.
+pub record HoldsWithoutEvidence (terms : Terms) (printed : List ℕ) (before after : BusHistory) (run : RunRecord) : Type 0 where
+  pub plain : FollowsPlain terms printed after run
+  pub pads : KeepsPads terms run
+  pub bus : CatchesLies terms after run
+  pub caches : TurnsOver terms before after run
+
+-- The theorem, for the bytes that were printed and the lines that may be encrypted. Without evidence a run on protected
+-- memory follows the plain machine, each false answer of the bus ended it as tampering at that access, and no pad encrypted
+-- two lines; or else it hands out evidence: a message that passed a check though it was never tagged, or two unequal blocks
+-- of one node with one tag.
+pub record RanProtected (allowed : ℕ → Type 0) (terms : Terms) (printed : List ℕ) (before after : BusHistory) (run : RunRecord)
+    : Type 0 where
+  pub budget : KeepsBudget terms run
+  pub lists : KeepsLists allowed terms before after run
   pub without_evidence : run.evidence ≡ None → HoldsWithoutEvidence terms printed before after run
   pub with_evidence : IfSome run.evidence (ShowsEvidence terms after run)
+
+-- The theorem of a run that encrypts the lines of its memory alone. With evidence or without, the sink gained what it
+-- printed, and its report is of that.
+pub record RunsProtected (terms : Terms) (out out' : SinkState) (before after : BusHistory) (run : RunRecord) : Type 0 where
+  pub printed : List ℕ
+  pub sink : SinkEnds out printed run.ending out'
+  pub ran : RanProtected (λ line. line < line_count terms.levels) terms printed before after run
+  pub report : run.report ≡ signed_report terms.report (sha256 printed) run.retired run.ending

@@ -1,11 +1,7 @@
 // How a run is closed: its memory is given up, and its record made.
-ghost use Rattle.std.specs.Prelude.{◌≡◌, ◌^◌, ◌<◌, ◌≤◌, [], None, Some, IfSome, length};
-ghost use Rattle.sec_base.specs.Evidence.{IsEvidence};
+ghost use Rattle.std.specs.Prelude.{◌≡◌, [], None};
 ghost use Rattle.sec_base.specs.declared.ending.Ending.TheVariants.{NoMemory as memory_ended};
-ghost use Rattle.pad_stream.specs.PadBlocks.{ShareNoBlock};
-ghost use Rattle.page_reencrypt.specs.SealedLines.{AreProtected, enc_key, tag_in};
-ghost use Rattle.chip_run.specs.Run.{most_left};
-ghost use Rattle.secure_memory.specs.SecureRam.{IsQuiet, evidence as evidence_of, held_lines, made as made_by, used as used_by};
+ghost use Rattle.chip_run.specs.Running.{HandsOut};
 
 use crate::record::RunRecord;
 use bus_model::Bus;
@@ -23,18 +19,8 @@ pub(crate) fn close<B: Bus, T: Tagger>(
 ) -> (RunRecord, B)
     ensures retired { result.0.retired ≡ retired }
     ensures ending { result.0.ending ≡ ending }
-    ensures made { result.0.made ≡ made_by memory }
-    ensures evidence { result.0.evidence ≡ evidence_of memory }
-    ensures used { result.0.used ≡ used_by memory }
-    ensures few { length result.0.used < 2 ^ 64 }
-    ensures few_held { length (held_lines memory) ≤ most_left }
-    ensures apart { IsQuiet memory → ShareNoBlock (enc_key memory.lines) result.0.used }
     ensures report { result.0.report ≡ report }
-    ensures bus { result.1 ≡ memory.lines.bus }
-
-    ensures genuine { IfSome result.0.evidence
-        (IsEvidence (tag_in T.data_tag_of T.node_tag_of memory.lines) result.0.made) }
-    ensures protected { AreProtected T.data_tag_of T.node_tag_of B.history memory.lines }
+    ensures hands_out { HandsOut T.data_tag_of T.node_tag_of B.history memory result.1 result.0 }
 {
     let (account, bus) = memory.finish();
     let Account {

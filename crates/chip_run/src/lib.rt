@@ -5,13 +5,12 @@ ghost use Rattle.std.specs.Prelude.{◌≡◌};
 ghost use Rattle.sec_base.specs.Geometry.{memory_size};
 ghost use Rattle.bus_model.specs.BusHistory.{NothingWritten};
 ghost use Rattle.tag_engine.specs.Tag.{engine_tag};
-ghost use Rattle.elf_load.specs.Measurement.{measurement_of};
-ghost use Rattle.rv32_core.specs.Machine.{opening};
-ghost use Rattle.chip_run.specs.Run.{RunsProtected};
+ghost use Rattle.chip_run.specs.Run.{RunsProtected, run_terms};
 
 mod close;
 mod record;
 mod report;
+mod running;
 #[cfg(test)]
 mod tests;
 
@@ -19,9 +18,9 @@ use bus_model::Bus;
 use close::{close, no_run};
 pub use record::{RunRecord, Setup};
 use report::signed_report;
-use rv32_run::{Session, ending_of, store_image};
-use sec_base::{Image, NoMemoryWith, Sink, Tagger};
-use secure_memory::SecureRam;
+use running::{BootFailure, Running};
+use rv32_run::ending_of;
+use sec_base::{Image, Sink, Tagger};
 use sha2::{Digest, Sha256};
 use std::alloc::Global;
 
@@ -44,45 +43,23 @@ pub fn run<B: Bus, T: Tagger, S: Sink>(
     requires nothing_written { NothingWritten (B.history bus) }
 
     // The theorem of a run, of its program, input, budget, keys, limit and nonce.
-    ensures run { RunsProtected (record {
-      start = opening image.now input.now;
-      budget = setup.now.budget;
-      levels = setup.now.geometry;
-      page_limit = setup.now.page_limit;
-      tag_of = engine_tag (T.data_tag_of tagger) (T.node_tag_of tagger) setup.now.geometry;
-      enc_key = setup.now.keys.enc_key;
-      report = record {
-        measurement = measurement_of image.now;
-        input = input.now;
-        nonce = setup.now.nonce;
-        report_key = setup.now.keys.report_key;
-      };
-    }) (S.state out.old) (S.state out.new) (B.history bus) (B.history result.1) result.0 }
+    ensures run { RunsProtected (run_terms image.now input.now setup.now
+        (engine_tag (T.data_tag_of tagger) (T.node_tag_of tagger) setup.now.geometry))
+        (S.state out.old) (S.state out.new) (B.history bus) (B.history result.1) result.0 }
 
     // The bus is what calls made of the one that was given.
     ensures bus { B.moved bus result.1 }
 {
-    let mut memory = match SecureRam::boot(
-        alloc,
-        bus,
-        tagger,
-        &setup.keys,
-        setup.geometry,
-        setup.page_limit,
-    ) {
-        Ok(memory) => memory,
-        Err(NoMemoryWith(bus)) => return (no_run(alloc), bus),
+    let mut running = match Running::boot(alloc, image, input, setup, tagger, bus) {
+        Ok(running) => running,
+        Err(BootFailure::NoMemory(bus)) => return (no_run(alloc), bus),
+        Err(BootFailure::Stopped(memory, stop)) => {
+            let ending = ending_of(stop);
+            let nothing = Sha256::new().finalize();
+            let report = signed_report(image, input, setup, nothing, 0, ending);
+            return close(memory, 0, ending, report);
+        }
     };
-    if let Err(stop) = store_image(&mut memory, image) {
-        let ending = ending_of(stop);
-        let nothing = Sha256::new().finalize();
-        let report = signed_report(image, input, setup, nothing, 0, ending);
-        return close(memory, 0, ending, report);
-    }
-    let mut session = Session::new(image, input, memory, setup.budget);
-    let ending = session.finish(out);
-    let retired = session.retired();
-    let (memory, calls) = session.into_parts();
-    let report = signed_report(image, input, setup, calls.finish(), retired, ending);
-    close(memory, retired, ending, report)
+    let ending = running.execution.finish(out);
+    running.close(image, input, setup, ending)
 }

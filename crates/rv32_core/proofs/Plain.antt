@@ -1,6 +1,6 @@
 -- The plain machine: one more instruction, a machine that stays as it is, and runs that follow it.
-use Rattle.std.proofs.Common.{◌≡◌, ◌≢◌, ◌<◌, ◌≤◌, ◌↔◌, ℕ, zero, suc, ◌+◌, ◌-◌, List, [], ◌++◌, Option, Some, None, Result, Ok, Err, refl, sym, ap, ◌∙◌, subst, arith, add-zero, add-one, append_assoc}
-use Rattle.std.proofs.lemmas.List.{append-nil}
+use Rattle.std.proofs.Common.{◌≡◌, ◌≢◌, ◌<◌, ◌≤◌, ◌↔◌, ℕ, zero, suc, ◌+◌, ◌-◌, List, [], ◌++◌, length, Option, Some, None, Result, Ok, Err, refl, sym, ap, ◌∙◌, subst, arith, add-zero, add-one, append_assoc}
+use Rattle.std.proofs.lemmas.List.{append-nil, length-append}
 use Rattle.std.proofs.lemmas.Bool.{cond_below, cond_above}
 use Rattle.sec_base.specs.Prefix.{IsPrefix}
 use Rattle.sec_base.specs.declared.ending.Cause.{Cause}
@@ -10,7 +10,7 @@ use Rattle.sec_base.specs.declared.place.Place.{Place}
 use Rattle.rv32_core.specs.State.{State}
 use Rattle.rv32_core.specs.After.{After}
 use Rattle.rv32_core.specs.Effect.{next}
-use Rattle.rv32_core.specs.Machine.{Machine, after_result, one_more_of, one_more, plain}
+use Rattle.rv32_core.specs.Machine.{Machine, after_exit, after_result, alone, one_more_of, one_more, plain}
 use Rattle.sec_base.specs.declared.stop.MemStop.{MemStop}
 use Rattle.rv32_core.specs.declared.step.Step.{Step}
 use Rattle.rv32_core.specs.declared.step.Step.TheVariants.{Retired, Halted as Halted_step}
@@ -26,7 +26,7 @@ unfolding plain
 plain_more start n = rw (add-one n) refl
 
 -- it is retired
-pub one_more_done : (machine : Machine) (after : After) → machine.exit ≡ None → next machine.state ≡ Ok after → one_more machine ≡ record { state = after.state; output = machine.output ++ after.prints; retired = machine.retired + 1; exit = after.exit }
+pub one_more_done : (machine : Machine) (after : After) → machine.exit ≡ None → next machine.state ≡ Ok after → one_more machine ≡ after_exit after.exit after machine
 unfolding one_more
 one_more_done machine after going e =
     ap (λ (exit : Option ℕ). one_more_of exit machine) going ∙ ap (λ (result : Result After Cause). after_result result machine) e
@@ -42,8 +42,12 @@ pub one_more_ended : (machine : Machine) (code : ℕ) → machine.exit ≡ Some 
 unfolding one_more
 one_more_ended machine code ended = ap (λ (exit : Option ℕ). one_more_of exit machine) ended
 
+exit_output : (exit : Option ℕ) (after : After) (machine : Machine) → (after_exit exit after machine).output ≡ machine.output ++ after.prints
+exit_output None after machine = refl
+exit_output (Some code) after machine = refl
+
 done_output : (result : Result After Cause) (machine : Machine) → (after_result result machine).output ≡ machine.output ++ prints_of result
-done_output (Ok after) machine = refl
+done_output (Ok after) machine = exit_output after.exit after machine
 done_output (Err cause) machine = sym (append-nil machine.output)
 
 -- what is printed by then
@@ -75,13 +79,20 @@ plain_trapped start n m cause h going trap =
 -- A machine that goes on: its state, what was printed, and how many instructions were retired
 
 abbrev pub going_on : State → List ℕ → ℕ → Machine
-going_on state printed n = record { state = state; output = printed; retired = n; exit = None }
+going_on state printed n = record { state = state; harts = alone; output = printed; retired = n; exit = None }
+
+-- where there is one hart, its turn comes again
+exit_alone : (exit : Option ℕ) (old new : State) (before printed : List ℕ) (n : ℕ) → after_exit exit (record { state = new; prints = printed; exit = exit }) (going_on old before n)
+    ≡ record { state = new; harts = alone; output = before ++ printed; retired = n + 1; exit = exit }
+exit_alone None old new before printed n = refl
+exit_alone (Some code) old new before printed n = refl
 
 -- an instruction that is retired
-pub plain_stepped : (start : Machine) (n : ℕ) (old new : State) (before printed : List ℕ) (exit : Option ℕ) → plain start n ≡ going_on old before n → next old ≡ Ok (record { state = new; prints = printed; exit = exit }) → plain start (n + 1) ≡ record { state = new; output = before ++ printed; retired = n + 1; exit = exit }
+pub plain_stepped : (start : Machine) (n : ℕ) (old new : State) (before printed : List ℕ) (exit : Option ℕ) → plain start n ≡ going_on old before n → next old ≡ Ok (record { state = new; prints = printed; exit = exit }) → plain start (n + 1) ≡ record { state = new; harts = alone; output = before ++ printed; retired = n + 1; exit = exit }
 plain_stepped start n old new before printed exit here e =
     plain_more start n ∙ ap one_more here
     ∙ one_more_done (going_on old before n) (record { state = new; prints = printed; exit = exit }) refl e
+    ∙ exit_alone exit old new before printed n
 
 prefix_refl : (front whole : List ℕ) → whole ≡ front → IsPrefix front whole
 prefix_refl front whole e = ([], e ∙ sym (append-nil front))
@@ -106,7 +117,7 @@ stopped_follows start budget n state before printed ending here within front end
 }
 
 -- a run that ends as the program does
-pub halted_follows : (start : Machine) (budget n : ℕ) (state : State) (printed : List ℕ) (code : ℕ) → plain start n ≡ record { state = state; output = printed; retired = n; exit = Some code } → n ≤ budget → Follows start budget n (Halted code) printed
+pub halted_follows : (start : Machine) (budget n : ℕ) (state : State) (printed : List ℕ) (code : ℕ) → plain start n ≡ record { state = state; harts = alone; output = printed; retired = n; exit = Some code } → n ≤ budget → Follows start budget n (Halted code) printed
 halted_follows start budget n state printed code here within =
     let exit : (plain start n).exit ≡ Some code = ap (λ (machine : Machine). machine.exit) here in
     let output : (plain start n).output ≡ printed = ap (λ (machine : Machine). machine.output) here in
@@ -159,7 +170,16 @@ step_stops start budget n old new before printed result stop ending here within 
 pub step_fails : (start : Machine) (budget n : ℕ) (old new : State) (before printed : List ℕ) (result : Result Step StepStop) → plain start n ≡ going_on old before n → n ≤ budget → IsOutcome (next old) result old new printed → result ≡ Err WriteFault_step → Follows start budget n WriteFault (before ++ printed)
 step_fails start budget n old new before printed result here within outcome is =
     let fails = subst (λ (r : Result Step StepStop). IsOutcome (next old) r old new printed) is outcome in
-    stopped_follows start budget n old before printed WriteFault here within fails.0 refl
+    stopped_follows start budget n old before printed WriteFault here within fails.0.0 refl
+
+-- and did not print all that its instruction prints
+pub step_cut_short : (start : Machine) (n : ℕ) (old new : State) (before printed : List ℕ) (result : Result Step StepStop) → plain start n ≡ going_on old before n → IsOutcome (next old) result old new printed → result ≡ Err WriteFault_step → length (before ++ printed) < length (plain start (n + 1)).output
+step_cut_short start n old new before printed result here outcome is =
+    let fails = subst (λ (r : Result Step StepStop). IsOutcome (next old) r old new printed) is outcome in
+    let further : length (plain start (n + 1)).output ≡ length (before ++ prints_of (next old)) =
+    ap (λ (machine : Machine). length machine.output) (plain_more start n ∙ ap one_more here)
+    ∙ ap (λ (xs : List ℕ). length xs) (one_more_output (going_on old before n) refl) in
+    omega (arith, further, fails.0.1, length-append before printed, length-append before (prints_of (next old)))
 
 -- Whole runs
 

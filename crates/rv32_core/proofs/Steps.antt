@@ -66,4 +66,5 @@ traps_as instruction (Ok step) old new printed cause outcome stop = (λ e. cc, �
 traps_as instruction (Err (Trap other)) old new printed cause outcome stop =
     let is = outcome.0 in (λ e. cc, λ e. cc)
 traps_as instruction (Err (Mem why)) old new printed cause outcome stop = (λ e. cc, λ e. absurd (nothing_prints instruction cause e stop))
-traps_as instruction (Err WriteFault) old new printed cause outcome stop = (λ e. cc, λ e. absurd (nothing_prints instruction cause e stop))
+traps_as instruction (Err WriteFault) old new printed cause outcome stop =
+    (λ e. cc, λ e. let cut = outcome.0.1 in absurd (nothing_prints instruction cause e (omega (arith, cut))))

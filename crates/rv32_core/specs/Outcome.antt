@@ -36,26 +36,32 @@ abbrev pub IsHalfDone : Result After Cause → State → List ℕ → Type 0
 IsHalfDone (Ok after) old new = (new ≡ old.memory) ⊎ ((new ≡ after.state.memory) ⊎ IsReadInPart after old new)
 IsHalfDone (Err cause) old new = new ≡ old.memory
 
+-- a front part of these bytes, and not all of them
+abbrev pub IsCutShort : List ℕ → List ℕ → Type 0
+IsCutShort printed whole = IsPrefix printed whole × (length printed < length whole)
+
 -- A step led from a state to another, and this was printed, where the plain machine's instruction comes out so:
--- it is that instruction, or that trap with nothing changed, or a stop in the middle of its printing or its reading.
+-- it is that instruction, or that trap with nothing changed, or a stop in the middle of its printing or its reading. A
+-- write fault comes before the instruction's last byte is printed.
 abbrev pub IsOutcome : Result After Cause → Result Step StepStop → State → State → List ℕ → Type 0
 IsOutcome instruction (Ok step) old new printed = instruction ≡ Ok (record { state = new; prints = printed; exit = exit_of step })
 IsOutcome instruction (Err (Trap cause)) old new printed = (instruction ≡ Err cause) × (new.memory ≡ old.memory) × (printed ≡ [])
 IsOutcome instruction (Err (Mem stop)) old new printed =
     IsPrefix printed (prints_of instruction) × IsHalfDone instruction old new.memory
-IsOutcome instruction (Err WriteFault) old new printed = IsPrefix printed (prints_of instruction) × (new.memory ≡ old.memory)
+IsOutcome instruction (Err WriteFault) old new printed =
+    IsCutShort printed (prints_of instruction) × (new.memory ≡ old.memory)
 
 -- A step returns the stop that the memory gave in it, and else none but that the emulator is out of memory.
 abbrev pub CarriesStop : Option MemStop → Result Step StepStop → Type 0
 CarriesStop (Some stop) result = result ≡ Err (Mem stop)
 CarriesStop None result = (stop : MemStop) → result ≡ Err (Mem stop) → stop ≡ NoMemory
 
--- Where the memory did not stop, only an instruction that prints stops otherwise than by a trap.
+-- Where the memory did not stop, only an instruction that prints stops as out of memory.
 abbrev pub IsSinkStop : Result Step StepStop → Result After Cause → Type 0
 IsSinkStop (Ok step) instruction = Unit {0}
 IsSinkStop (Err (Trap cause)) instruction = Unit {0}
 IsSinkStop (Err (Mem stop)) instruction = 0 < length (prints_of instruction)
-IsSinkStop (Err WriteFault) instruction = 0 < length (prints_of instruction)
+IsSinkStop (Err WriteFault) instruction = Unit {0}
 
 -- It went well or trapped. The contracts of private functions alone cite it.
 abbrev pub OnlyTraps : Result Step StepStop → Type 0

@@ -15,7 +15,7 @@ mod step;
 mod transfer;
 
 pub use calls::Calls;
-pub use processor::Core;
+pub use processor::{Core, Processor};
 pub use step::{Step, StepStop};
 
 #[cfg(test)]

@@ -65,6 +65,7 @@ fn print_piece<M: Ram, S: Sink>(
 ) -> Result<(), StepStop>
     requires inside { from + count ≤ M.extent ram.old }
     requires fits { from + count < 2 ^ 32 }
+    requires some { 0 < count }
     requires short { count ≤ 64 }
 
     ensures printed { (printed : List ℕ) × Prints (S.state out.old) calls.old.digest printed (S.state out.new) calls.new.digest

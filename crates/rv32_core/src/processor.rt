@@ -7,7 +7,7 @@ ghost use Rattle.sec_base.specs.declared.ending.Cause.{Cause};
 ghost use Rattle.rv32_core.specs.Effect.{next};
 ghost use Rattle.rv32_core.specs.Outcome.{CarriesStop, IsOutcome, IsSinkStop};
 ghost use Rattle.rv32_core.specs.Printing.{KeepsFaults, Prints};
-ghost use Rattle.rv32_core.specs.State.{next_core, next_core_with, opening_core, register, state_of, with_pc, with_register};
+ghost use Rattle.rv32_core.specs.State.{CoreView, next_core, next_core_with, opening_core, register, state_of, with_pc, with_register};
 ghost use Rattle.rv32_core.specs.TouchedLines.{AreTouched, touched_lines};
 ghost use Rattle.rv32_core.specs.declared.step.Step.{Step};
 ghost use Rattle.rv32_core.specs.declared.step.StepStop.{StepStop};
@@ -20,6 +20,47 @@ use crate::step::{Step, StepStop};
 use rv32_decode::decode;
 use sec_base::{Cause, Ram, Sink};
 use std::marker::Model;
+
+/// A processor, which does a program's instructions one after another.
+pub trait Processor: Drop {
+    /// The core whose turn it is.
+    ghost core: { Self → CoreView };
+
+    /// Its program counter.
+    fn pc(&self) -> u32
+        ensures { result ≡ (core self.now).pc };
+
+    /// Fetches, decodes and does one instruction.
+    fn step<M: Ram, S: Sink>(
+        &mut self,
+        ram: &mut M,
+        calls: &mut Calls,
+        out: &mut S,
+    ) -> Result<Step, StepStop>
+        // Where the memory can be relied on, it is the plain machine's instruction. What the sink took, the digest took too,
+        // also after a stop.
+        ensures outcome { let before = state_of (core self.old) calls.old.services (M.contents ram.old) in
+            (printed : List ℕ) × Prints (S.state out.old) calls.old.digest printed (S.state out.new) calls.new.digest
+            × (IsReliable M.stopped M.sound ram.old ram.new → IsOutcome (next before) result before
+            (state_of (core self.new) calls.new.services (M.contents ram.new)) printed) }
+        ensures stays { OnErr result ((core self.new ≡ core self.old) × (calls.new.services ≡ calls.old.services)) }
+
+        // Where the memory did not stop either, it traps exactly where that instruction does.
+        ensures traps { IsReliable M.stopped M.sound ram.old ram.new → M.stopped ram.new ≡ None → (cause : Cause) →
+            (result ≡ Err (Trap cause)) ↔ (next (state_of (core self.old) calls.old.services (M.contents ram.old)) ≡ Err cause) }
+        ensures mem { M.stopped ram.old ≡ None → CarriesStop (M.stopped ram.new) result }
+        ensures sink_stop { IsReliable M.stopped M.sound ram.old ram.new → M.stopped ram.new ≡ None →
+            IsSinkStop result (next (state_of (core self.old) calls.old.services (M.contents ram.old))) }
+        ensures write_fault { result ≡ Err WriteFault → Rose (S.state out.old).faults (S.state out.new).faults }
+        ensures faults { (S.state out.old).faults ≤ (S.state out.new).faults }
+        ensures quiet { KeepsFaults result (S.state out.old) (S.state out.new) }
+
+        // It touches the lines of that instruction, in order, and after an error a front part of them.
+        ensures moved { GoesOn M.extent M.sound M.moved
+            (λ lines. IsReliable M.stopped M.sound ram.old ram.new →
+            AreTouched result (touched_lines (state_of (core self.old) calls.old.services (M.contents ram.old))) lines)
+            ram.old ram.new };
+}
 
 /// A core of RV32IM: its program counter, a multiple of 4, and its 32 registers, of which the first is 0.
 #[derive(Drop)]
@@ -71,46 +112,6 @@ impl Core {
         self.registers[number as usize]
     }
 
-    /// Fetches, decodes and does one instruction.
-    #[inline(always)]
-    #[tactic(auto, unfolding(crate::specs::Effect::next, crate::specs::TouchedLines::touched_lines))]
-    pub fn step<M: Ram, S: Sink>(
-        &mut self,
-        ram: &mut M,
-        calls: &mut Calls,
-        out: &mut S,
-    ) -> Result<Step, StepStop>
-        // Where the memory can be relied on, it is the plain machine's instruction. What the sink took, the digest took too,
-        // also after a stop.
-        ensures outcome { let before = state_of self.old calls.old.services (M.contents ram.old) in
-            (printed : List ℕ) × Prints (S.state out.old) calls.old.digest printed (S.state out.new) calls.new.digest
-            × (IsReliable M.stopped M.sound ram.old ram.new → IsOutcome (next before) result before
-            (state_of self.new calls.new.services (M.contents ram.new)) printed) }
-        ensures stays { OnErr result ((self.new ≡ self.old) × (calls.new.services ≡ calls.old.services)) }
-
-        // Where the memory did not stop either, it traps exactly where that instruction does.
-        ensures traps { IsReliable M.stopped M.sound ram.old ram.new → M.stopped ram.new ≡ None → (cause : Cause) →
-            (result ≡ Err (Trap cause)) ↔ (next (state_of self.old calls.old.services (M.contents ram.old)) ≡ Err cause) }
-        ensures mem { M.stopped ram.old ≡ None → CarriesStop (M.stopped ram.new) result }
-        ensures sink_stop { IsReliable M.stopped M.sound ram.old ram.new → M.stopped ram.new ≡ None →
-            IsSinkStop result (next (state_of self.old calls.old.services (M.contents ram.old))) }
-        ensures write_fault { result ≡ Err WriteFault → Rose (S.state out.old).faults (S.state out.new).faults }
-        ensures faults { (S.state out.old).faults ≤ (S.state out.new).faults }
-        ensures quiet { KeepsFaults result (S.state out.old) (S.state out.new) }
-
-        // It touches the lines of that instruction, in order, and after an error a front part of them.
-        ensures moved { GoesOn M.extent M.sound M.moved
-            (λ lines. IsReliable M.stopped M.sound ram.old ram.new →
-            AreTouched result (touched_lines (state_of self.old calls.old.services (M.contents ram.old))) lines)
-            ram.old ram.new }
-    {
-        let word = fetch(ram, self.pc)?;
-        match decode(word) {
-            Some(inst) => self.execute(&inst, ram, calls, out),
-            None => Err(StepStop::Trap(Cause::Illegal)),
-        }
-    }
-
     // A value goes to a register; register 0 keeps its 0.
     #[inline]
     pub(crate) fn set_reg(&mut self, number: u8, value: u32)
@@ -148,5 +149,29 @@ impl Core {
         self.set_reg(number, value);
         self.pass();
         Ok(Step::Retired)
+    }
+}
+
+impl Processor for Core {
+    ghost core = { λ core. core };
+
+    #[inline(always)]
+    fn pc(&self) -> u32 {
+        self.pc
+    }
+
+    #[inline(always)]
+    #[tactic(auto, unfolding(crate::specs::Effect::next, crate::specs::TouchedLines::touched_lines))]
+    fn step<M: Ram, S: Sink>(
+        &mut self,
+        ram: &mut M,
+        calls: &mut Calls,
+        out: &mut S,
+    ) -> Result<Step, StepStop> {
+        let word = fetch(ram, self.pc)?;
+        match decode(word) {
+            Some(inst) => self.execute(&inst, ram, calls, out),
+            None => Err(StepStop::Trap(Cause::Illegal)),
+        }
     }
 }

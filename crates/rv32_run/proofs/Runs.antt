@@ -13,7 +13,7 @@ use Rattle.rv32_core.specs.Outcome.{prints_of}
 use Rattle.rv32_core.specs.Machine.{Machine, plain, opening_calls, opening_of}
 use Rattle.rv32_core.specs.Follows.{Follows}
 use Rattle.rv32_core.proofs.Plain.{going_on, stopped_follows, out_of_steps_run}
-use Rattle.rv32_run.specs.Session.{Reaches, IsStop, IsMemoryEnding, FollowsWith, stop_ending, CarriesEnding}
+use Rattle.rv32_run.specs.Execution.{Reaches, IsStop, IsMemoryEnding, FollowsWith, stop_ending, CarriesEnding}
 use Rattle.rv32_run.proofs.Turns.{stop_ends}
 
 -- A program as it begins
@@ -30,7 +30,7 @@ opening_begins entry size segments input core calls memory n is_core services by
     subst (λ (m : ℕ). Reaches (opening_of entry size segments input) m core calls memory []) (sym none)
     (opening_reaches entry size segments input core calls memory is_core services bytes)
 
--- a session that began so follows it
+-- an execution that began so follows it
 pub opening_follows : (entry size : ℕ) (segments : List Segment) (input : List ℕ) (core : CoreView) (calls : ServicesView) (opened memory : List ℕ) (n budget allowance finished retired : ℕ) (ended ending : Ending) (printed : List ℕ) → core ≡ opening_core entry size → calls ≡ opening_calls segments input → opened ≡ opening_memory size segments → n ≡ 0 → budget ≡ allowance → retired ≡ finished → ending ≡ ended → ((start : Machine) (before : List ℕ) → Reaches start n core calls opened before → FollowsWith start budget finished ended memory (before ++ printed)) → FollowsWith (opening_of entry size segments input) allowance retired ending memory printed
 opening_follows entry size segments input core calls opened memory n budget allowance finished retired ended ending printed is_core services bytes none same count is follows =
     let start = opening_of entry size segments input in

@@ -1,5 +1,5 @@
 -- The memories that a run went through.
-use Rattle.std.proofs.Common.{◌≡◌, ◌<◌, ◌⊎◌, inl, inr, ℕ, suc, ◌+◌, List, [], Option, Some, None, Result, Ok, Err, refl, sym, ap, ◌∙◌, subst, arith}
+use Rattle.std.proofs.Common.{◌≡◌, ◌<◌, ◌⊎◌, inl, inr, ℕ, ◌+◌, List, [], Option, Some, None, Result, Ok, Err, refl, sym, ap, ◌∙◌, subst, arith, add-zero}
 use Rattle.std.proofs.lemmas.List.{append-nil}
 use Rattle.sec_base.specs.Prefix.{IsPrefix}
 use Rattle.sec_base.specs.declared.ending.Ending.{Ending}
@@ -13,8 +13,8 @@ use Rattle.rv32_core.specs.Outcome.{IsOutcome, CarriesStop, exit_of}
 use Rattle.rv32_core.specs.TouchedLines.{AreTouched, touched_lines}
 use Rattle.rv32_core.specs.Machine.{Machine, plain}
 use Rattle.rv32_core.proofs.Plain.{going_on, plain_stepped}
-use Rattle.rv32_run.specs.Session.{retired_after}
-use Rattle.rv32_run.specs.Trail.{IsInstruction, IsTrail, HasTrail}
+use Rattle.rv32_run.specs.Execution.{retired_after}
+use Rattle.rv32_run.specs.Trail.{IsInstruction, HasTrail}
 
 -- a step that went well is the plain machine's instruction
 stepped_going : (stopped : Option MemStop) (result : Result Step StepStop) (step : Step) → CarriesStop stopped result → result ≡ Ok step → stopped ≡ None
@@ -33,21 +33,8 @@ step_instruction {M} stopped contents moved start n first last old new before pr
       (subst (λ (r : Result Step StepStop). AreTouched r (touched_lines old) lines) is touched);
 }
 
--- one more instruction
-pub record IsWalked {M : Type 0} (stopped : M → Option MemStop) (contents : M → List ℕ) (moved : M → List ℕ → M → Type 0) (start : Machine) (from to : ℕ) (first last : M) : Type 0 where
-  pub count : ℕ
-  pub counted : from + count ≡ to
-  pub trail : IsTrail stopped contents moved start from count first last
-
-pub walked_on : {M : Type 0} (stopped : M → Option MemStop) (contents : M → List ℕ) (moved : M → List ℕ → M → Type 0) (start : Machine) (from to next : ℕ) (first mid last : M) → next ≡ to + 1 → IsWalked stopped contents moved start from to first mid → IsInstruction stopped contents moved start to mid last → IsWalked stopped contents moved start from next first last
-walked_on {M} stopped contents moved start from to next first mid last more walked step = record {
-  count = suc walked.count;
-  counted = omega (arith, walked.counted, more);
-  trail = (mid, walked.trail, subst (λ (n : ℕ). IsInstruction stopped contents moved start n mid last) (sym walked.counted) step);
-}
-
 -- an ending retires an instruction or none
-retired_or_not : (ending : Ending) (n : ℕ) → (retired_after (Some ending) n ≡ n) ⊎ (retired_after (Some ending) n ≡ n + 1)
+pub retired_or_not : (ending : Ending) (n : ℕ) → (retired_after (Some ending) n ≡ n) ⊎ (retired_after (Some ending) n ≡ n + 1)
 retired_or_not (Halted code) n = inr refl
 retired_or_not _ n = inl refl
 
@@ -56,37 +43,28 @@ pub touched_front : {A E : Type 0} (result : Result A E) (all lines : List ℕ) 
 touched_front (Ok x) all lines same = ([], sym same ∙ sym (append-nil lines))
 touched_front (Err e) all lines part = part
 
--- the last turn of a run
-pub walk_ends : {M : Type 0} (stopped : M → Option MemStop) (contents : M → List ℕ) (moved : M → List ℕ → M → Type 0) (start : Machine) (from to retired : ℕ) (ending : Ending) (first last end : M) (lines : List ℕ) → moved end [] end → retired ≡ retired_after (Some ending) to → moved last lines end → IsPrefix lines (touched_lines (plain start to).state) → (to < retired → IsInstruction stopped contents moved start to last end) → IsWalked stopped contents moved start from to first last → HasTrail stopped contents moved start from retired first end
-walk_ends {M} stopped contents moved start from to retired ending first last end lines still count led part step walked =
+-- a turn that ended a run, which began with it
+pub walk_ends : {M : Type 0} (stopped : M → Option MemStop) (contents : M → List ℕ) (moved : M → List ℕ → M → Type 0) (start : Machine) (from to retired : ℕ) (ending : Ending) (first last end : M) (lines : List ℕ) → moved end [] end → retired ≡ retired_after (Some ending) to → moved last lines end → IsPrefix lines (touched_lines (plain start to).state) → (to < retired → IsInstruction stopped contents moved start to last end) → from ≡ to → first ≡ last → HasTrail stopped contents moved start from retired first end
+walk_ends {M} stopped contents moved start from to retired ending first last end lines still count led part step same here =
     elim (retired_or_not ending to) [
       | inl none ↦ record {
-        count = walked.count;
-        counted = omega (arith, walked.counted, none, count);
+        count = 0;
+        counted = omega (arith, same, none, count);
         last = last;
-        trail = walked.trail;
+        trail = here;
         lines = lines;
         rest = led;
         unretired = subst (λ (n : ℕ). IsPrefix lines (touched_lines (plain start n).state)) (sym (count ∙ none)) part;
       }
       | inr more ↦
           let one : retired ≡ to + 1 = count ∙ more in
-          let on = walked_on stopped contents moved start from to retired first last end one walked (step (omega arith)) in
           record {
-            count = on.count;
-            counted = on.counted;
+            count = 1;
+            counted = omega (arith, same, one);
             last = end;
-            trail = on.trail;
+            trail = (last, here, subst (λ (n : ℕ). IsInstruction stopped contents moved start n last end) (sym (add-zero from ∙ same)) (step (omega (arith, one))));
             lines = [];
             rest = still;
             unretired = (touched_lines (plain start retired).state, refl);
           }
     ]
-
--- a run that begins
-pub walk_begins : {M : Type 0} (stopped : M → Option MemStop) (contents : M → List ℕ) (moved : M → List ℕ → M → Type 0) (start : Machine) (from to : ℕ) (first last : M) → from ≡ to → first ≡ last → IsWalked stopped contents moved start from to first last
-walk_begins {M} stopped contents moved start from to first last same here = record {
-  count = 0;
-  counted = omega (arith, same);
-  trail = here;
-}

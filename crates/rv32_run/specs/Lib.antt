@@ -1,4 +1,5 @@
 pub mod StoredLines
-pub mod SessionView
-pub mod Session
+pub mod ExecutionView
+pub mod Execution
 pub mod Trail
+pub mod Progress

@@ -1,8 +1,8 @@
 //! A program in a memory of any kind, run to its end.
 #![tactic(auto)]
 
+mod execution;
 mod load;
-mod session;
 
+pub use execution::{Execution, ending_of};
 pub use load::store_image;
-pub use session::{Session, ending_of};

@@ -2,7 +2,7 @@
 use crate::counted_ram::CountedRam;
 use crate::watching_bus::WatchingBus;
 use hmac_tag::{HmacTagger, derive};
-use rv32_run::{Session, store_image};
+use rv32_run::{Execution, store_image};
 use sec_base::{Ending, Geometry, MemorySink, Ram};
 use secure_memory::SecureRam;
 use std::alloc::Global;
@@ -40,9 +40,9 @@ fn run_counted(alloc: Global, number: u32) -> Result<(Ending, Made), Fail> {
         most: 0,
     };
     store_image(&mut counted, &image).ok().ok_or("not stored")?;
-    let mut session = Session::new(&image, &[], counted, u64::MAX);
-    let ending = session.finish(&mut out);
-    let (counted, _calls) = session.into_parts();
+    let mut execution = Execution::new(&image, &[], counted, u64::MAX);
+    let ending = execution.finish(&mut out);
+    let (counted, _calls) = execution.into_parts();
     let most = counted.most;
     let (_account, bus) = counted.memory.finish();
     let made = Made {

@@ -77,7 +77,7 @@ returns-in_ok-run-in-Run-clause-quiet g c =
 pub returns-in_ok-image-in-Plain-clause-quiet : goal.returns-in_ok-image-in-Plain-clause-quiet
 returns-in_ok-image-in-Plain-clause-quiet g c =
     let taken = c.in_ok-image-in-Plain.ensures.taken in
-    λ is. (c.in_ok-image-in-Plain.ensures.quiet, (c.run_plain-run.ensures.ran taken.0 taken.1).quiet (result_ending c.run_plain-run.result.ending is))
+    λ is. (c.in_ok-image-in-Plain.ensures.quiet, (c.run_plain-run.ensures.ran taken.0 taken.1).sink.quiet (result_ending c.run_plain-run.result.ending is))
 
 pub returns-in_ok-image-in-Asm-clause-quiet : goal.returns-in_ok-image-in-Asm-clause-quiet
 returns-in_ok-image-in-Asm-clause-quiet g c =

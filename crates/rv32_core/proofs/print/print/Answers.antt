@@ -1,8 +1,8 @@
 use Rattle.std.proofs.Common.{◌≡◌, ◌-◌, List, [], ◌++◌, ◌∙◌, refl, sym, ap, arith, subst, ℕ}
 use Rattle.std.proofs.lemmas.Result.{err_from_is_err_and}
-use Rattle.sec_base.specs.Prefix.{IsPrefix}
+use Rattle.rv32_core.specs.Outcome.{IsCutShort}
 use Rattle.rv32_core.specs.State.{memory_bytes}
-use Rattle.rv32_core.proofs.Printed.{bytes_both, prefix_both, prints_both, prints_nothing, none_from_ok}
+use Rattle.rv32_core.proofs.Printed.{bytes_both, cut_both, prints_both, prints_nothing, none_from_ok}
 use Rattle.rv32_core.proofs.TouchedLines.{no_lines, piece_front, piece_lines, touched_front, untouched}
 use Rattle.rv32_core.proofs.print.print.Goals as goal
 
@@ -64,9 +64,9 @@ returns-in_err-print_piece-clause-printed g c =
       before.printed.0 ++ part.0,
       prints_both before.printed.0 part.0 (g.S.Sink.state c.args.out.now) (g.S.Sink.state c.loop-at.out) (g.S.Sink.state c.print_piece.new.out) c.args.calls.now.digest c.loop-at.calls.digest c.print_piece.new.calls.digest before.printed.1 part.1,
       λ reliable.
-          rw p.1 (prefix_both (g.M.Ram.contents c.args.ram.now) before.printed.0 part.0 c.args.from c.loop-at.at c.piece_length-length.result c.args.count before.begun (omega arith)
+          rw p.1 (cut_both (g.M.Ram.contents c.args.ram.now) before.printed.0 part.0 c.args.from c.loop-at.at c.piece_length-length.result c.args.count before.begun (omega arith)
           (before.printed.2 (reliable.0, lost reliable.1))
-          (subst (λ (m : List ℕ). IsPrefix part.0 (memory_bytes m c.loop-at.at c.piece_length-length.result)) (before.contents (reliable.0, lost reliable.1)) (part.2 (before.stopped reliable.0, reliable.1)))),
+          (subst (λ (m : List ℕ). IsCutShort part.0 (memory_bytes m c.loop-at.at c.piece_length-length.result)) (before.contents (reliable.0, lost reliable.1)) (part.2 (before.stopped reliable.0, reliable.1)))),
     )
 
 pub returns-in_err-print_piece-clause-moved : goal.returns-in_err-print_piece-clause-moved

@@ -1,18 +1,19 @@
--- What a session's turns are, seen from the plain machine.
-use Rattle.std.specs.Prelude.{◌≡◌, ℕ, ◌+◌, List, Option, Some, None}
+-- What an execution's turns are, seen from the plain machine.
+use Rattle.std.specs.Prelude.{◌≡◌, ◌<◌, ℕ, ◌+◌, List, length, Option, Some, None}
 use Rattle.sec_base.specs.Ending.{EndingClass, ByProgram, ByProtection, BySink, ByEmulator, ending_class}
 use Rattle.sec_base.specs.declared.ending.Ending.{Ending}
-use Rattle.sec_base.specs.declared.ending.Ending.TheVariants.{Halted, Tampered, Spent, NoMemory}
+use Rattle.sec_base.specs.declared.ending.Ending.TheVariants.{Halted, Tampered, Spent, WriteFault, NoMemory}
 use Rattle.sec_base.specs.declared.stop.MemStop.{MemStop}
 use Rattle.sec_base.specs.declared.stop.MemStop.TheVariants.{Tampered as tampered, Spent as spent, NoMemory as no_memory}
 use Rattle.rv32_core.specs.State.{CoreView, ServicesView}
-use Rattle.rv32_core.specs.Machine.{Machine, plain}
+use Rattle.rv32_core.specs.Machine.{Machine, alone, plain}
 use Rattle.rv32_core.specs.Follows.{Follows}
 
--- after n instructions the plain machine is in this state, has printed this, and goes on
+-- after n instructions the plain machine of one hart is in this state, has printed this, and goes on
 abbrev pub Reaches : Machine → ℕ → CoreView → ServicesView → List ℕ → List ℕ → Type 0
 Reaches start n core calls memory printed = plain start n ≡ record {
   state = record { core = core; calls = calls; memory = memory };
+  harts = alone;
   output = printed;
   retired = n;
   exit = None;
@@ -33,10 +34,12 @@ IsMemoryClass ByEmulator = Unit {0}
 abbrev pub IsMemoryEnding : Ending → Type 0
 IsMemoryEnding ending = IsMemoryClass (ending_class ending)
 
--- A run follows the plain machine, and where the memory did not end it, leaves the plain machine's memory.
+-- A run follows the plain machine. Where the memory did not end it, it leaves the plain machine's memory, and a write fault
+-- came before all was printed that the next instruction prints.
 pub record FollowsWith (start : Machine) (budget retired : ℕ) (ending : Ending) (memory printed : List ℕ) : Type 0 where
   pub follows : Follows start budget retired ending printed
   pub leaves : ¬ IsMemoryEnding ending → memory ≡ (plain start retired).state.memory
+  pub cut_short : ending ≡ WriteFault → length printed < length (plain start (retired + 1)).output
 
 -- a turn leads on to what the plain machine reaches, or ends as a run that follows it
 abbrev pub Turns : Machine → ℕ → Option Ending → ℕ → CoreView → ServicesView → List ℕ → List ℕ → Type 0

@@ -16,7 +16,7 @@ use Rattle.rv32_core.specs.declared.step.StepStop.TheVariants.{Trap}
 use Rattle.rv32_core.proofs.Printed.{prints_nothing}
 use Rattle.rv32_core.proofs.Steps.{found, fetch_stopped, illegal, going_from_fetch, traps_as}
 use Rattle.rv32_core.proofs.TouchedLines.{fetched_front, touched_after, touched_as, touched_found}
-use Rattle.rv32_core.proofs.processor.Core.step.Goals as goal
+use Rattle.rv32_core.proofs.processor.CoreProcessor.step.Goals as goal
 
 pub returns-in_err-word-clause-outcome : goal.returns-in_err-word-clause-outcome
 returns-in_err-word-clause-outcome g c =

@@ -1,0 +1,122 @@
+-- What a program came to that ran on protected memory, from how it began and what it hands out.
+use Rattle.std.proofs.Common.{◌≡◌, ◌<◌, ℕ, List, [], Some, None, refl, sym, ap, ◌∙◌, subst}
+use Rattle.sec_base.specs.Count.{RoseBy}
+use Rattle.sec_base.specs.Geometry.{line_count}
+use Rattle.sec_base.specs.declared.ending.Ending.{Ending}
+use Rattle.sec_base.specs.declared.message.Message.{Message}
+use Rattle.sec_base.specs.declared.place.Place.{Place}
+use Rattle.bus_model.specs.BusHistory.{BusHistory}
+use Rattle.tag_engine.specs.TagEngine.{TagEngineView, tags_of}
+use Rattle.rv32_core.specs.Machine.{Machine, plain}
+use Rattle.rv32_core.specs.State.{CoreView}
+use Rattle.rv32_run.specs.Execution.{CarriesEnding, FollowsWith}
+use Rattle.rv32_run.specs.ExecutionView.{ExecutionView}
+use Rattle.rv32_run.specs.Progress.{HasEnded, StandsWith}
+use Rattle.counter_cache.specs.Counters.{most_blocks}
+use Rattle.line_cache.specs.LineCache.{most_held}
+use Rattle.page_reencrypt.specs.SealedLines.{IsLineOf, Moves}
+use Rattle.page_reencrypt.proofs.Moves.{own_moves_on}
+use Rattle.secure_memory.specs.SecureRam.{IsQuiet, SecureRamView, cached_pages, contents, held_lines, made, stopped}
+use Rattle.chip_run.specs.Run.{RanProtected, Terms}
+use Rattle.chip_run.specs.Running.{HandsOut, HasBegun, HasRunTo, HasStored, protected_by}
+use Rattle.chip_run.specs.declared.record.RunRecord.{RunRecord}
+use Rattle.chip_run.proofs.Booted.{has_message}
+use Rattle.chip_run.proofs.Ends.{OfInstructions, OfMemory, ReadsTurnover, ran_protected}
+use Rattle.chip_run.proofs.Memories.{run_contents, run_memory, run_reads}
+use Rattle.chip_run.proofs.Runs.{ran_instructions}
+use Rattle.chip_run.proofs.Turned.{IsBooted, few_begun, run_turned}
+
+-- the memory of a machine that was reached before its first instruction
+begins_with : (start reached : Machine) (n : ℕ) → plain start n ≡ reached → n ≡ 0 → reached.state.memory ≡ start.state.memory
+unfolding plain
+begins_with start reached n here none =
+    sym (ap (λ (machine : Machine). machine.state.memory) here) ∙ ap (λ (k : ℕ). (plain start k).state.memory) none
+
+module _ {B T : Type 0} (d n : T → List ℕ → List ℕ) (history : B → BusHistory) (bus_moved : B → B → Type 0)
+    (bus_moved_on : (a b c : B) → bus_moved a b → bus_moved b c → bus_moved a c) (bus : B) (tagger : T) (terms : Terms) where
+  -- what a run hands out of a memory in which its program was stored
+  pub stored_memory : (memory last : SecureRamView B T) (closed : B) (run : RunRecord) → (stored : HasStored d n history bus_moved bus tagger terms memory) →
+      Moves history bus_moved (tags_of d n) (IsLineOf stored.booted.lines) stored.booted.lines last.lines → HandsOut d n history last closed run → (history bus).lies ≡ 0 →
+      CarriesEnding (stopped last) (Some run.ending) → OfMemory terms (history bus) (history closed) run
+  stored_memory memory last closed run stored moves out honest carries =
+      subst (λ (tag_of : Message → List ℕ). OfMemory (record {
+        start = terms.start;
+        budget = terms.budget;
+        levels = terms.levels;
+        page_limit = terms.page_limit;
+        tag_of = tag_of;
+        enc_key = terms.enc_key;
+        report = terms.report;
+      }) (history bus) (history closed) run) (sym stored.tags)
+      (run_memory d n history bus_moved bus tagger terms.enc_key terms.levels terms.page_limit stored.booted.lines last.lines stored.new moves
+      terms.start terms.budget terms.report closed run honest out.protected out.made_is out.used_is out.few out.apart out.evidence_is out.bus_is carries)
+
+  -- its bus
+  pub stored_bus : (memory last : SecureRamView B T) (closed : B) (stored : HasStored d n history bus_moved bus tagger terms memory) →
+      Moves history bus_moved (tags_of d n) (IsLineOf stored.booted.lines) stored.booted.lines last.lines → closed ≡ last.lines.bus → bus_moved bus closed
+  stored_bus memory last closed stored moves is =
+      subst (λ (b : B). bus_moved bus b) (sym is) (bus_moved_on bus stored.booted.lines.bus last.lines.bus stored.new.bus_led moves.bus)
+
+  -- the memory has a message of each page's counter block
+  stored_booted : (memory : SecureRamView B T) → HasStored d n history bus_moved bus tagger terms memory → IsBooted terms.levels memory
+  stored_booted memory stored =
+      let storing = stored.stored.moves in
+      record {
+        levels_are = storing.step.levels ∙ stored.new.depth_is;
+        few = few_begun most_held (held_lines stored.booted) (held_lines memory) (held_lines memory) stored.none_held stored.stored.few refl;
+        few_blocks = few_begun most_blocks (cached_pages stored.booted) (cached_pages memory) (cached_pages memory) stored.none_cached stored.stored.copies.few_blocks refl;
+        tagged = λ page below. has_message _ terms.levels page _ (made memory) storing.step.more stored.new.made_is storing.step.made below;
+      }
+
+  module _ {P : Type 0} (core : P → CoreView) (bus_unmoved : (b : B) → bus_moved b b) (printed : List ℕ) (ending : Ending)
+      (now : ExecutionView P (SecureRamView B T)) (closed : B) (run : RunRecord) (went : HasRunTo core d n history bus_moved bus tagger terms printed ending now)
+      (out : HandsOut d n history now.memory closed run) (retired_is : run.retired ≡ now.retired) (ending_is : run.ending ≡ ending) where
+    -- what the run made of its memory
+    pub ran_moves : Moves history bus_moved (tags_of d n) (IsLineOf went.begun.stored.booted.lines) went.begun.stored.booted.lines now.memory.lines
+    ran_moves =
+        own_moves_on history bus_moved (tags_of d n) bus_moved_on went.begun.stored.booted.lines went.first.memory.lines now.memory.lines
+        went.begun.stored.stored.moves went.ended.moved.moved.moves
+
+    sound_to_end : run.evidence ≡ None → IsQuiet now.memory
+    sound_to_end quiet = sym out.evidence_is ∙ quiet
+
+    -- it began where the plain machine does
+    begun_there : IsQuiet now.memory → StandsWith (protected_by core d n history bus_moved) terms.start went.first []
+    begun_there sound = went.begun.stands (went.ended.moved.lost sound)
+
+    -- and followed it
+    follows : run.evidence ≡ None → FollowsWith terms.start terms.budget run.retired run.ending (contents now.memory) printed
+    follows quiet =
+        let sound = sound_to_end quiet in
+        subst (λ (e : Ending). FollowsWith terms.start terms.budget run.retired e (contents now.memory) printed) (sym ending_is)
+        (subst (λ (k : ℕ). FollowsWith terms.start terms.budget k ending (contents now.memory) printed) (sym retired_is)
+        (subst (λ (b : ℕ). FollowsWith terms.start b now.retired ending (contents now.memory) printed) (went.ended.budget ∙ went.begun.budget)
+        (went.ended.follows sound terms.start [] (begun_there sound))))
+
+    -- it read what it turned over
+    turned : run.evidence ≡ None → ReadsTurnover terms (history bus) (history closed) run
+    turned quiet =
+        let sound = sound_to_end quiet in
+        let there = begun_there sound in
+        run_turned history bus_moved (tags_of d n) bus_unmoved bus_moved_on terms.levels went.first.retired now.retired run.retired terms.start bus closed
+        went.first.memory now.memory went.ended.moved.lines went.ended.moved.moved went.begun.none_retired
+        (begins_with terms.start _ went.first.retired there went.begun.none_retired)
+        (stored_booted went.first.memory went.begun.stored) sound (went.ended.trail sound terms.start [] there) retired_is
+        (run_reads d n history bus_moved bus tagger terms.enc_key terms.levels terms.page_limit went.begun.stored.booted.lines went.first.memory.lines
+        went.begun.stored.new went.begun.stored.stored.moves) out.bus_is
+
+    instructions : OfInstructions terms printed (history bus) (history closed) run
+    instructions =
+        ran_instructions terms printed (history bus) (history closed) run now.retired now.budget ending now.memory.ways (contents now.memory) retired_is ending_is
+        (went.ended.budget ∙ went.begun.budget)
+        (run_contents d n history bus_moved bus tagger terms.enc_key terms.levels terms.page_limit went.begun.stored.booted.lines now.memory.lines
+        went.begun.stored.new ran_moves run now.memory.ways out.made_is)
+        out.few_held went.ended.within went.ended.budget_used went.ended.early follows turned
+
+    carries : CarriesEnding (stopped now.memory) (Some run.ending)
+    carries = subst (λ (e : Ending). CarriesEnding (stopped now.memory) (Some e)) (sym ending_is) went.ended.carries
+
+    pub ran : (history bus).lies ≡ 0 → RanProtected (λ line. line < line_count terms.levels) terms printed (history bus) (history closed) run
+    ran honest =
+        ran_protected terms printed (history bus) (history closed) run
+        (stored_memory went.first.memory now.memory closed run went.begun.stored ran_moves out honest carries) instructions
