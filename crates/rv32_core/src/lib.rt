@@ -5,6 +5,7 @@
 mod access;
 mod arithmetic;
 mod calls;
+mod decoded_words;
 mod execute;
 mod input;
 mod operands;

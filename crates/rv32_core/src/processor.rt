@@ -16,8 +16,8 @@ ghost use Rattle.rv32_core.specs.declared.step.StepStop.TheVariants.{Trap, Write
 
 use crate::access::fetch;
 use crate::calls::Calls;
+use crate::decoded_words::DecodedWords;
 use crate::step::{Step, StepStop};
-use rv32_decode::decode;
 use sec_base::{Cause, Ram, Sink};
 use std::marker::Model;
 
@@ -67,6 +67,7 @@ pub trait Processor: Drop {
 pub struct Core {
     pc: u32,
     registers: [u32; 32],
+    words: DecodedWords,
 }
 
 impl Model for Core {
@@ -92,6 +93,7 @@ impl Core {
         Core {
             pc: entry,
             registers,
+            words: DecodedWords::new(),
         }
     }
 
@@ -169,7 +171,7 @@ impl Processor for Core {
         out: &mut S,
     ) -> Result<Step, StepStop> {
         let word = fetch(ram, self.pc)?;
-        match decode(word) {
+        match self.words.decode(self.pc, word) {
             Some(inst) => self.execute(&inst, ram, calls, out),
             None => Err(StepStop::Trap(Cause::Illegal)),
         }

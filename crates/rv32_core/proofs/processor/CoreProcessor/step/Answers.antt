@@ -51,7 +51,8 @@ returns-in-Some-clause-moved g c =
     (subst (λ (h : CoreView). first ≡ line_of h.pc ∷ []) c.self.view_is one)
     (subst
     (λ (m : List ℕ). AreTouched c.execute.result (data_lines c.in-Some.inst.op c.in-Some.inst (state_of c.args.self.now c.args.calls.now.services m)) second)
-    (c.fetch.ensures.contents there) two))
+    (c.fetch.ensures.contents there)
+    (subst (λ (h : CoreView). AreTouched c.execute.result (data_lines c.in-Some.inst.op c.in-Some.inst (state_of h c.args.calls.now.services (g.M.Ram.contents c.fetch.new.ram))) second) c.self.view_is two)))
 
 pub returns-in-None-clause-outcome : goal.returns-in-None-clause-outcome
 returns-in-None-clause-outcome g c = (
@@ -82,7 +83,8 @@ returns-in-Some-clause-sink_stop g c = λ reliable going.
     (subst
     (λ (m : List ℕ). IsSinkStop c.execute.result (effect c.in-Some.inst.op c.in-Some.inst (state_of c.args.self.now c.args.calls.now.services m)))
     (c.fetch.ensures.contents (reliable.0, there))
-    (c.execute.ensures.sink_stop (going_from_fetch _ c.in_ok-word.word (c.in_ok-word.ensures.mem reliable.0), reliable.1) going))
+    (subst (λ (h : CoreView). IsSinkStop c.execute.result (effect c.in-Some.inst.op c.in-Some.inst (state_of h c.args.calls.now.services (g.M.Ram.contents c.fetch.new.ram)))) c.self.view_is
+    (c.execute.ensures.sink_stop (going_from_fetch _ c.in_ok-word.word (c.in_ok-word.ensures.mem reliable.0), reliable.1) going)))
 
 pub returns-in-Some-clause-traps : goal.returns-in-Some-clause-traps
 returns-in-Some-clause-traps g c = λ reliable going cause.
@@ -100,4 +102,5 @@ returns-in-Some-clause-traps g c = λ reliable going cause.
     (subst
     (λ (m : List ℕ). (c.execute.result ≡ Err (Trap cause)) ↔ (effect c.in-Some.inst.op c.in-Some.inst (state_of c.args.self.now c.args.calls.now.services m) ≡ Err cause))
     (c.fetch.ensures.contents there)
-    (traps_as _ c.execute.result _ _ _ cause (c.execute.ensures.outcome.2 later) (c.execute.ensures.sink_stop later going)))
+    (subst (λ (h : CoreView). (c.execute.result ≡ Err (Trap cause)) ↔ (effect c.in-Some.inst.op c.in-Some.inst (state_of h c.args.calls.now.services (g.M.Ram.contents c.fetch.new.ram)) ≡ Err cause)) c.self.view_is
+    (traps_as _ c.execute.result _ _ _ cause (c.execute.ensures.outcome.2 later) (c.execute.ensures.sink_stop later going))))
