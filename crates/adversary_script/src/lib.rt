@@ -8,8 +8,6 @@ mod lines;
 mod numbers;
 mod places;
 mod script;
-#[cfg(test)]
-mod tests;
 mod triggers;
 mod words;
 

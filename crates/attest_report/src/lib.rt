@@ -5,8 +5,6 @@
 mod ending;
 mod refusal;
 mod report;
-#[cfg(test)]
-mod tests;
 mod text;
 mod verification;
 

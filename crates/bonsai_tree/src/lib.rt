@@ -7,8 +7,6 @@
 mod boot;
 mod node_cache;
 mod slots;
-#[cfg(test)]
-mod tests;
 mod tree;
 
 pub use tree::Tree;

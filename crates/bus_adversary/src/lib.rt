@@ -7,7 +7,5 @@ mod place_bytes;
 mod place_counts;
 mod script_bus;
 mod stored_places;
-#[cfg(test)]
-mod tests;
 
 pub use script_bus::ScriptBus;

@@ -6,8 +6,6 @@ mod bus;
 mod flip_bus;
 mod honest_bus;
 mod lies;
-#[cfg(test)]
-mod tests;
 
 pub use bus::Bus;
 pub use flip_bus::FlipBus;

@@ -4,8 +4,6 @@
 
 mod cache;
 mod cache_set;
-#[cfg(test)]
-mod tests;
 mod way;
 
 pub use cache::Cache;

@@ -5,8 +5,6 @@
 
 mod line;
 mod node;
-#[cfg(test)]
-mod tests;
 
 pub use line::{read_line, write_line};
 pub use node::{read_node, write_node};

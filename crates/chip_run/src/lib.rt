@@ -11,8 +11,6 @@ mod close;
 mod record;
 mod report;
 mod running;
-#[cfg(test)]
-mod tests;
 
 use bus_model::Bus;
 use close::{close, no_run};

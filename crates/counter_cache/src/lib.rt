@@ -4,7 +4,5 @@
 #![tactic(auto)]
 
 mod counters;
-#[cfg(test)]
-mod tests;
 
 pub use counters::Counters;

@@ -9,8 +9,6 @@ mod measurement;
 mod program;
 mod spelling;
 mod table;
-#[cfg(test)]
-mod tests;
 
 pub use fault::{ElfError, ElfFault};
 pub use measurement::measure;

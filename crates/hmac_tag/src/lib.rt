@@ -5,8 +5,6 @@
 mod derivation;
 mod mac;
 mod tagger;
-#[cfg(test)]
-mod tests;
 mod xor_tagger;
 
 pub use derivation::{Keys, derive};

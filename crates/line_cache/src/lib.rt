@@ -4,7 +4,5 @@
 
 mod fetch;
 mod line_cache;
-#[cfg(test)]
-mod tests;
 
 pub use line_cache::LineCache;

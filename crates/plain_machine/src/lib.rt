@@ -7,10 +7,6 @@ ghost use Rattle.rv32_core.specs.Machine.{opening};
 ghost use Rattle.plain_machine.specs.PlainRun.{RunsPlain};
 
 mod ram;
-#[cfg(test)]
-mod tests;
-#[cfg(test)]
-mod vectors;
 
 pub use ram::FlatRam;
 use rv32_run::{Execution, store_image};

@@ -12,8 +12,6 @@ mod labels;
 mod layout;
 mod passes;
 mod program;
-#[cfg(test)]
-mod tests;
 mod values;
 
 pub use fault::AsmError;

@@ -8,9 +8,6 @@ ghost use Rattle.rv32_asm_syntax.specs.Parts.{IsFirstLabel, IsLineCut, lines_lef
 ghost use Rattle.rv32_asm_syntax.specs.Seen.{seen_quoting};
 ghost use Rattle.std.specs.Prelude.{IfSome, length, true, ◌++◌, ◌<◌, ◌∷◌, ◌≡◌};
 
-#[cfg(test)]
-mod tests;
-
 use crate::characters::{is_name, len_before, skip_blanks, trim_blanks};
 
 /// Where a byte of a line stands: outside the strings, in one, or behind a backslash in one.

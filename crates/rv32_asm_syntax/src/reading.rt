@@ -11,9 +11,6 @@ ghost use Rattle.rv32_asm_syntax.specs.declared.fault.LineError.TheVariants as c
 ghost use Rattle.rv32_asm_syntax.specs.declared.fault.LineError.TheVariants.{Fault};
 ghost use Rattle.std.specs.Prelude.{Err, IfOk, None, Ok, OnErr, Some, [], if◌then◌else◌, map, neg_ℤ, option_map, pos, true, ◌<◌, ◌^◌, ◌∷◌, ◌≡◌, ◌≤ℤ◌};
 
-#[cfg(test)]
-mod tests;
-
 use crate::characters::{is_name, skip_blanks, word_len};
 use crate::expressions::expression_of;
 use crate::fault::{AsmFault, LineError};

@@ -18,6 +18,3 @@ mod transfer;
 pub use calls::Calls;
 pub use processor::{Core, Processor};
 pub use step::{Step, StepStop};
-
-#[cfg(test)]
-mod tests;

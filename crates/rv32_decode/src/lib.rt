@@ -12,8 +12,6 @@ ghost use Rattle.std.specs.Prelude.{All, IfSome, IsNone, bit_and, filter, length
 mod fields;
 mod search;
 mod table;
-#[cfg(test)]
-mod tests;
 
 pub use table::{Format, Row, format_of, rows};
 

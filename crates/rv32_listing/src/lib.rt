@@ -6,8 +6,6 @@ ghost use Rattle.sec_base.specs.Sink.{IsWritten};
 ghost use Rattle.std.specs.Prelude.{◌≤◌, ◌≡◌, OnOk};
 
 mod lines;
-#[cfg(test)]
-mod tests;
 
 use lines::write_bytes;
 use sec_base::{Image, Sink, SinkStop};

@@ -12,8 +12,6 @@ use std::alloc::Global;
 mod mnemonics;
 mod registers;
 mod style;
-#[cfg(test)]
-mod tests;
 mod text;
 
 pub use mnemonics::mnemonic_of;

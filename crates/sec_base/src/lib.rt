@@ -22,8 +22,6 @@ mod segment;
 mod sink;
 mod stop;
 mod tagger;
-#[cfg(test)]
-mod tests;
 mod width;
 
 pub use bytes::{Bytes, put};

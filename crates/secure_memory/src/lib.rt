@@ -3,7 +3,5 @@
 #![tactic(auto)]
 
 mod secure_ram;
-#[cfg(test)]
-mod tests;
 
 pub use secure_ram::SecureRam;

@@ -7,8 +7,6 @@
 mod bumped;
 mod counter_block;
 mod packing;
-#[cfg(test)]
-mod tests;
 
 pub use bumped::{Bumped, LAST_LINE_COUNTER};
 pub use counter_block::{CounterBlock, place_of};

@@ -4,7 +4,5 @@
 #![tactic(auto)]
 
 mod tag_engine;
-#[cfg(test)]
-mod tests;
 
 pub use tag_engine::TagEngine;

@@ -8,8 +8,6 @@ ghost use Rattle.workload_gen.specs.EndsInWord.{EndsInWord};
 ghost use Rattle.workload_gen.specs.Text.{workload_text};
 ghost use Rattle.workload_gen.specs.Workload.{with_last_word, workload_of};
 
-#[cfg(test)]
-mod tests;
 mod text;
 
 use rv32_asm::{AsmError, assemble};

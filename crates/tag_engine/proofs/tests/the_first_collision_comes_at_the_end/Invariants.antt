@@ -1,5 +1,0 @@
-use Rattle.std.proofs.Common.{◌≡◌}
-use Rattle.tag_engine.proofs.tests.the_first_collision_comes_at_the_end.Given as goal
-
-abbrev pub invariant-loop-case : goal.invariant-loop-case
-invariant-loop-case g l = l.engine.levels ≡ 2

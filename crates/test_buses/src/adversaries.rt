@@ -1,0 +1,474 @@
+// What is read is worked out by hand from the language of scripts (docs/FORMATS.md). The memory has lines 0 to 255, and
+// nodes 0 0 to 0 3 and 1 0.
+ghost use Rattle.bus_adversary.specs.ScriptBus.{script_history};
+ghost use Rattle.std.specs.Prelude.{IfOk, ◌<◌, ◌≡◌};
+
+use adversary_script::parse;
+use bus_adversary::ScriptBus;
+use bus_model::Bus;
+use sec_base::{Geometry, NoMemory, Sealed};
+use std::alloc::Global;
+use std::process::Abort;
+use std::test::Fail;
+
+const ZEROS: Sealed = Sealed {
+    cipher: [0; 64],
+    tag: [0; 16],
+};
+
+const FIVE: Sealed = Sealed {
+    cipher: [0x05; 64],
+    tag: [0x15; 16],
+};
+
+const SIX: Sealed = Sealed {
+    cipher: [0x06; 64],
+    tag: [0x16; 16],
+};
+
+const TWO: [u8; 64] = [0x22; 64];
+
+const THREE: [u8; 64] = [0x33; 64];
+
+// What was read at lines 5 and 6 and at nodes 0 2 and 0 3, and how many of these answers were false.
+#[derive(Clone, Copy, Debug, PartialEq, Eq)]
+struct FourReads {
+    five: Sealed,
+    six: Sealed,
+    two: [u8; 64],
+    three: [u8; 64],
+    lies: u64,
+}
+
+const AS_WRITTEN: FourReads = FourReads {
+    five: FIVE,
+    six: SIX,
+    two: TWO,
+    three: THREE,
+    lies: 0,
+};
+
+// A bus that follows a script.
+fn bus_of(rt: &impl Abort, alloc: Global, text: &str) -> Result<ScriptBus, Fail>
+    ensures { IfOk result (λ bus. (script_history bus).levels ≡ 1) }
+{
+    let geometry = Geometry::new(1).ok_or("no geometry")?;
+    assert!(rt; text.len() < 1 << 32);
+    let script = parse(alloc, text.as_bytes(), geometry)?;
+    Ok(ScriptBus::new(alloc, script, geometry)?)
+}
+
+// The four places are written by the accesses 1 to 4, and read by 5 to 8.
+fn four_reads(mut bus: ScriptBus) -> Result<FourReads, NoMemory>
+    requires { (script_history bus).levels ≡ 1 }
+{
+    bus.write_data(5, &FIVE)?;
+    bus.write_data(6, &SIX)?;
+    bus.write_node(0, 2, &TWO)?;
+    bus.write_node(0, 3, &THREE)?;
+    let five = bus.read_data(5)?;
+    let six = bus.read_data(6)?;
+    let two = bus.read_node(0, 2)?;
+    let three = bus.read_node(0, 3)?;
+    Ok(FourReads {
+        five,
+        six,
+        two,
+        three,
+        lies: bus.lies(),
+    })
+}
+
+// The four places are read so under this script.
+fn expect(rt: &impl Abort, alloc: Global, text: &str, expected: FourReads) -> Result<(), Fail> {
+    let bus = bus_of(rt, alloc, text)?;
+    assert_eq!(rt; four_reads(bus)?, expected, "{text}");
+    Ok(())
+}
+
+// Nothing is read that wasn't written under these scripts.
+fn expect_as_written(rt: &impl Abort, alloc: Global, texts: &[&str]) -> Result<(), Fail> {
+    for text in texts {
+        expect(rt, alloc, text, AS_WRITTEN)?;
+    }
+    Ok(())
+}
+
+#[test]
+fn bytes_are_set_from_their_offset_on(rt: HostRuntime) -> Result<(), Fail> {
+    let mut line = AS_WRITTEN;
+    line.five.cipher[62] = 0xaa;
+    line.five.cipher[63] = 0xbb;
+    line.five.tag[0] = 0xcc;
+    line.lies = 1;
+    expect(&rt, rt.alloc(), "access 5: set data 5 62 aabbcc", line)?;
+    let mut node = AS_WRITTEN;
+    node.three[62] = 0xaa;
+    node.three[63] = 0xbb;
+    node.lies = 1;
+    expect(&rt, rt.alloc(), "access 5: set node 0 3 62 aabb", node)
+}
+
+#[test]
+fn bytes_are_flipped_from_their_offset_on(rt: HostRuntime) -> Result<(), Fail> {
+    let mut line = AS_WRITTEN;
+    line.six.cipher[63] = 0xf9;
+    line.six.tag[0] = 0x17;
+    line.lies = 1;
+    expect(&rt, rt.alloc(), "access 5: flip data 6 63 ff01", line)?;
+    let mut node = AS_WRITTEN;
+    node.two[0] = 0xdd;
+    node.two[1] = 0x23;
+    node.lies = 1;
+    expect(&rt, rt.alloc(), "access 5: flip node 0 2 0 ff01", node)
+}
+
+#[test]
+fn offsets_64_to_79_are_the_tag(rt: HostRuntime) -> Result<(), Fail> {
+    let mut first = AS_WRITTEN;
+    first.five.tag[0] = 0xff;
+    first.lies = 1;
+    expect(&rt, rt.alloc(), "access 5: set data 5 64 ff", first)?;
+    let mut last = AS_WRITTEN;
+    last.five.tag[15] = 0x95;
+    last.lies = 1;
+    expect(&rt, rt.alloc(), "access 5: flip data 5 79 80", last)?;
+    let mut before = AS_WRITTEN;
+    before.five.cipher[63] = 0xff;
+    before.lies = 1;
+    expect(&rt, rt.alloc(), "access 5: set data 5 63 ff", before)
+}
+
+#[test]
+fn places_are_swapped(rt: HostRuntime) -> Result<(), Fail> {
+    let mut lines = AS_WRITTEN;
+    lines.five = SIX;
+    lines.six = FIVE;
+    lines.lies = 2;
+    expect(&rt, rt.alloc(), "access 5: swap data 5 data 6", lines)?;
+    let mut nodes = AS_WRITTEN;
+    nodes.two = THREE;
+    nodes.three = TWO;
+    nodes.lies = 2;
+    expect(&rt, rt.alloc(), "access 5: swap node 0 3 node 0 2", nodes)?;
+    let mut unwritten = AS_WRITTEN;
+    unwritten.two = [0; 64];
+    unwritten.lies = 1;
+    expect(
+        &rt,
+        rt.alloc(),
+        "access 5: swap node 0 2 node 1 0",
+        unwritten,
+    )?;
+    expect_as_written(&rt, rt.alloc(), &["access 5: swap data 5 data 5"])
+}
+
+// 64 bytes.
+const DIGITS: &str =
+    "000102030405060708090a0b0c0d0e0f101112131415161718191a1b1c1d1e1f000102030405060708090a0b0c0d0e0f101112131415161718191a1b1c1d1e1f";
+
+#[test]
+fn whole_places_are_put(rt: HostRuntime) -> Result<(), Fail> {
+    let mut bytes = [0; 64];
+    for (at, byte) in bytes.iter_mut().enumerate() {
+        *byte = at as u8 % 32;
+    }
+    let mut text = String::new(rt.alloc());
+    text.push_str("access 5: put node 0 3 ")?;
+    text.push_str(DIGITS)?;
+    let mut node = AS_WRITTEN;
+    node.three = bytes;
+    node.lies = 1;
+    expect(&rt, rt.alloc(), text.as_str(), node)?;
+    let mut text = String::new(rt.alloc());
+    text.push_str("access 5: put data 5 ")?;
+    text.push_str(DIGITS)?;
+    text.push_str("e0e1e2e3e4e5e6e7e8e9eaebecedeeef")?;
+    let mut line = AS_WRITTEN;
+    line.five.cipher = bytes;
+    for (at, byte) in line.five.tag.iter_mut().enumerate() {
+        *byte = 0xe0 + at as u8 % 16;
+    }
+    line.lies = 1;
+    expect(&rt, rt.alloc(), text.as_str(), line)
+}
+
+#[test]
+fn registers_keep_what_a_place_held(rt: HostRuntime) -> Result<(), Fail> {
+    let mut replayed = AS_WRITTEN;
+    replayed.five = ZEROS;
+    replayed.lies = 1;
+    let text = "access 1: save 0 data 5\naccess 5: restore 0 data 5";
+    expect(&rt, rt.alloc(), text, replayed)?;
+    let mut spliced = AS_WRITTEN;
+    spliced.six = FIVE;
+    spliced.lies = 1;
+    let text = "access 2: save 15 data 5\naccess 5: restore 15 data 6";
+    expect(&rt, rt.alloc(), text, spliced)?;
+    let mut nodes = AS_WRITTEN;
+    nodes.two = THREE;
+    nodes.lies = 1;
+    let text = "access 5: save 7 node 0 3\naccess 7: restore 7 node 0 2";
+    expect(&rt, rt.alloc(), text, nodes)
+}
+
+#[test]
+fn a_register_keeps_the_last_place(rt: HostRuntime) -> Result<(), Fail> {
+    let mut last = AS_WRITTEN;
+    last.five = SIX;
+    last.lies = 1;
+    let text = "access 5: save 3 data 7\naccess 5: save 3 data 6\naccess 5: restore 3 data 5";
+    expect(&rt, rt.alloc(), text, last)?;
+    let mut other = AS_WRITTEN;
+    other.five = ZEROS;
+    other.lies = 1;
+    let text = "access 5: save 3 data 7\naccess 5: save 4 data 6\naccess 5: restore 3 data 5";
+    expect(&rt, rt.alloc(), text, other)
+}
+
+#[test]
+fn a_register_of_another_kind_does_nothing(rt: HostRuntime) -> Result<(), Fail> {
+    let texts = [
+        "access 5: save 0 data 7\naccess 5: restore 0 node 0 2",
+        "access 5: save 0 node 1 0\naccess 5: restore 0 data 5",
+        "access 1: saveall 0\naccess 5: restore 0 data 5",
+        "access 1: saveall 0\naccess 5: restore 0 node 0 2",
+        "access 5: save 0 data 7\naccess 5: saveall 0\naccess 5: restore 0 data 5",
+        "access 1: save 0 data 5\naccess 5: restoreall 0",
+        "access 1: save 0 node 0 2\naccess 5: restoreall 0",
+        "access 1: saveall 0\naccess 5: save 0 data 5\naccess 5: restoreall 0",
+        "access 5: restore 0 data 5",
+        "access 5: restore 0 node 0 2",
+        "access 5: restoreall 0",
+    ];
+    expect_as_written(&rt, rt.alloc(), &texts)
+}
+
+#[test]
+fn all_places_are_saved_and_put_back(rt: HostRuntime) -> Result<(), Fail> {
+    let mut nothing = AS_WRITTEN;
+    nothing.five = ZEROS;
+    nothing.six = ZEROS;
+    nothing.two = [0; 64];
+    nothing.three = [0; 64];
+    nothing.lies = 4;
+    let text = "access 1: saveall 0\naccess 5: restoreall 0";
+    expect(&rt, rt.alloc(), text, nothing)?;
+    let text = "access 1: set node 0 2 0 ff\naccess 2: saveall 15\naccess 5: restoreall 15";
+    let mut first = AS_WRITTEN;
+    first.six = ZEROS;
+    first.two = [0; 64];
+    first.two[0] = 0xff;
+    first.three = [0; 64];
+    first.lies = 3;
+    expect(&rt, rt.alloc(), text, first)?;
+    let text =
+        "access 2: saveall 0\naccess 3: saveall 0\naccess 5: restoreall 0\naccess 5: set data 5 0 aa\naccess 5: restoreall 0";
+    let mut second = AS_WRITTEN;
+    second.two = [0; 64];
+    second.three = [0; 64];
+    second.lies = 2;
+    expect(&rt, rt.alloc(), text, second)?;
+    let text = "access 2: saveall 0\naccess 4: restoreall 0";
+    let mut written = AS_WRITTEN;
+    written.six = ZEROS;
+    written.two = [0; 64];
+    written.lies = 2;
+    expect(&rt, rt.alloc(), text, written)?;
+    let text = "access 4: saveall 1\naccess 4: saveall 1\naccess 8: restoreall 1";
+    let mut last = AS_WRITTEN;
+    last.three = [0; 64];
+    last.lies = 1;
+    expect(&rt, rt.alloc(), text, last)
+}
+
+#[test]
+fn actions_are_done_in_the_order_of_the_script(rt: HostRuntime) -> Result<(), Fail> {
+    let mut flipped = AS_WRITTEN;
+    flipped.five.cipher[0] = 0xa5;
+    flipped.lies = 1;
+    let text = "access 5: set data 5 0 aa\nread data 5 1: flip data 5 0 0f";
+    expect(&rt, rt.alloc(), text, flipped)?;
+    let mut set = AS_WRITTEN;
+    set.five.cipher[0] = 0xaa;
+    set.lies = 1;
+    let text = "read data 5 1: flip data 5 0 0f\naccess 5: set data 5 0 aa";
+    expect(&rt, rt.alloc(), text, set)
+}
+
+#[test]
+fn an_answer_as_written_is_no_lie(rt: HostRuntime) -> Result<(), Fail> {
+    let texts = [
+        "",
+        "# nothing",
+        "access 9: flip data 5 0 01",
+        "access 1: flip data 5 0 01",
+        "write node 0 3 1: set node 0 3 5 abcd",
+        "access 5: set data 5 79 15",
+        "access 5: flip node 0 2 0 00",
+        "access 5: flip data 5 0 01\naccess 5: flip data 5 0 01",
+        "access 6: flip data 5 0 01",
+        "access 5: flip data 7 0 01\naccess 5: flip node 1 0 0 01",
+    ];
+    expect_as_written(&rt, rt.alloc(), &texts)
+}
+
+// A line is written, and the first byte of line 7 is read.
+fn write_line(bus: &mut ScriptBus, line: u32) -> Result<u8, NoMemory>
+    requires levels { (script_history bus.old).levels ≡ 1 }
+    requires inside { line < 256 }
+    ensures { (script_history bus.new).levels ≡ 1 }
+{
+    bus.write_data(line, &FIVE)?;
+    Ok(bus.read_data(7)?.cipher[0])
+}
+
+// A line is read, and the first byte of line 7.
+fn read_line(bus: &mut ScriptBus, line: u32) -> Result<u8, NoMemory>
+    requires levels { (script_history bus.old).levels ≡ 1 }
+    requires inside { line < 256 }
+    ensures { (script_history bus.new).levels ≡ 1 }
+{
+    bus.read_data(line)?;
+    Ok(bus.read_data(7)?.cipher[0])
+}
+
+fn six_lines(mut bus: ScriptBus) -> Result<([u8; 6], u64), NoMemory>
+    requires { (script_history bus).levels ≡ 1 }
+{
+    let first = write_line(&mut bus, 5)?;
+    let second = read_line(&mut bus, 5)?;
+    let third = write_line(&mut bus, 5)?;
+    let fourth = write_line(&mut bus, 6)?;
+    let fifth = read_line(&mut bus, 5)?;
+    let sixth = read_line(&mut bus, 6)?;
+    Ok(([first, second, third, fourth, fifth, sixth], bus.lies()))
+}
+
+// A node of level 0 is written, and the first byte of node 0 3 is read.
+fn write_node(bus: &mut ScriptBus, index: u32) -> Result<u8, NoMemory>
+    requires levels { (script_history bus.old).levels ≡ 1 }
+    requires inside { index < 4 }
+    ensures { (script_history bus.new).levels ≡ 1 }
+{
+    bus.write_node(0, index, &TWO)?;
+    Ok(bus.read_node(0, 3)?[0])
+}
+
+// A node of level 0 is read, and the first byte of node 0 3.
+fn read_node(bus: &mut ScriptBus, index: u32) -> Result<u8, NoMemory>
+    requires levels { (script_history bus.old).levels ≡ 1 }
+    requires inside { index < 4 }
+    ensures { (script_history bus.new).levels ≡ 1 }
+{
+    bus.read_node(0, index)?;
+    Ok(bus.read_node(0, 3)?[0])
+}
+
+fn six_nodes(mut bus: ScriptBus) -> Result<([u8; 6], u64), NoMemory>
+    requires { (script_history bus).levels ≡ 1 }
+{
+    let first = write_node(&mut bus, 1)?;
+    let second = read_node(&mut bus, 1)?;
+    let third = write_node(&mut bus, 1)?;
+    let fourth = write_node(&mut bus, 2)?;
+    let fifth = read_node(&mut bus, 1)?;
+    let sixth = read_node(&mut bus, 2)?;
+    Ok(([first, second, third, fourth, fifth, sixth], bus.lies()))
+}
+
+// Of these six reads, so many come before a flip at this trigger, and give 0. The others give 1, and are lies.
+fn expect_before(rt: &impl Abort, (reads, lies): ([u8; 6], u64), trigger: &str, before: u8) {
+    let mut at = 0;
+    for read in reads {
+        assert_eq!(rt; read, u8::from(at >= before), "{trigger}");
+        at = at.saturating_add(1);
+    }
+    assert_eq!(rt; lies, u64::from(6u8.saturating_sub(before)), "{trigger}");
+}
+
+fn expect_line_flip(rt: &impl Abort, alloc: Global, trigger: &str, before: u8) -> Result<(), Fail> {
+    let mut text = String::new(alloc);
+    text.push_str(trigger)?;
+    text.push_str(": flip data 7 0 01")?;
+    let bus = bus_of(rt, alloc, text.as_str())?;
+    expect_before(rt, six_lines(bus)?, trigger, before);
+    Ok(())
+}
+
+fn expect_node_flip(rt: &impl Abort, alloc: Global, trigger: &str, before: u8) -> Result<(), Fail> {
+    let mut text = String::new(alloc);
+    text.push_str(trigger)?;
+    text.push_str(": flip node 0 3 0 01")?;
+    let bus = bus_of(rt, alloc, text.as_str())?;
+    expect_before(rt, six_nodes(bus)?, trigger, before);
+    Ok(())
+}
+
+#[test]
+fn accesses_count_from_1(rt: HostRuntime) -> Result<(), Fail> {
+    let rows = [
+        ("access 1", 0),
+        ("access 2", 0),
+        ("access 3", 1),
+        ("access 4", 1),
+        ("access 12", 5),
+        ("access 13", 6),
+        ("access 18446744073709551615", 6),
+    ];
+    for (trigger, before) in rows {
+        expect_line_flip(&rt, rt.alloc(), trigger, before)?;
+        expect_node_flip(&rt, rt.alloc(), trigger, before)?;
+    }
+    Ok(())
+}
+
+#[test]
+fn reads_and_writes_of_a_line_count_from_1(rt: HostRuntime) -> Result<(), Fail> {
+    let rows = [
+        ("read data 5 1", 1),
+        ("read data 5 2", 4),
+        ("read data 5 3", 6),
+        ("write data 5 1", 0),
+        ("write data 5 2", 2),
+        ("write data 5 3", 6),
+        ("write data 6 1", 3),
+        ("read data 6 1", 5),
+        ("read data 7 2", 1),
+        ("write data 7 1", 6),
+        ("read node 0 1 1", 6),
+    ];
+    for (trigger, before) in rows {
+        expect_line_flip(&rt, rt.alloc(), trigger, before)?;
+    }
+    Ok(())
+}
+
+#[test]
+fn reads_and_writes_of_a_node_count_from_1(rt: HostRuntime) -> Result<(), Fail> {
+    let rows = [
+        ("read node 0 1 1", 1),
+        ("read node 0 1 2", 4),
+        ("read node 0 1 3", 6),
+        ("write node 0 1 1", 0),
+        ("write node 0 1 2", 2),
+        ("write node 0 1 3", 6),
+        ("write node 0 2 1", 3),
+        ("read node 0 2 1", 5),
+        ("read node 1 0 1", 6),
+        ("read node 0 3 2", 1),
+        ("read data 1 1", 6),
+    ];
+    for (trigger, before) in rows {
+        expect_node_flip(&rt, rt.alloc(), trigger, before)?;
+    }
+    Ok(())
+}
+
+#[test]
+fn no_count_is_put_back(rt: HostRuntime) -> Result<(), Fail> {
+    let text = "access 1: saveall 0\nread data 5 1: flip data 7 0 01\naccess 8: restoreall 0";
+    let bus = bus_of(&rt, rt.alloc(), text)?;
+    assert_eq!(rt; six_lines(bus)?, ([0, 1, 1, 0, 0, 0], 4));
+    Ok(())
+}

@@ -1,0 +1,145 @@
+// Each public call once with ample memory. A tag is what its tagger says, put together by hand: of a line 0x44, the line
+// and the page's counter, the lowest byte first, the line's own counter, and the first two bytes of the ciphertext; of a
+// node 0x4e, its level, its index, the lowest byte first, and the first ten bytes of its block.
+use bus_model::{Bus, FlipBus, HonestBus};
+use checked_bus::{read_line, read_node, write_line, write_node};
+use fakes::{PrefixTagger, ZeroTagger};
+use sec_base::{Counter, Evidence, Geometry, MemStop, Place, Sealed};
+use std::test::Fail;
+use tag_engine::TagEngine;
+
+const FIRST: Counter = Counter { page: 1, line: 0 };
+
+const SECOND: Counter = Counter { page: 2, line: 3 };
+
+#[test]
+fn what_was_written_last_is_read(rt: HostRuntime) -> Result<(), Fail> {
+    let geometry = Geometry::new(1).ok_or("no geometry")?;
+    let mut bus = HonestBus::new(rt.alloc(), geometry)?;
+    let mut tags = TagEngine::new(rt.alloc(), PrefixTagger, geometry)?;
+    tags.reserve(2)?;
+    write_line(&mut bus, &mut tags, 64, FIRST, &[7; 64])?;
+    assert_eq!(rt; read_line(&mut bus, &mut tags, 64, FIRST), Ok([7; 64]));
+    write_line(&mut bus, &mut tags, 64, SECOND, &[8; 64])?;
+    assert_eq!(rt; read_line(&mut bus, &mut tags, 64, SECOND), Ok([8; 64]));
+    let stale = Err(MemStop::Tampered(Place::Line(64)));
+    assert_eq!(rt; read_line(&mut bus, &mut tags, 64, FIRST), stale);
+    let written = Sealed {
+        cipher: [8; 64],
+        tag: [0x44, 64, 0, 0, 0, 2, 0, 0, 0, 0, 0, 0, 0, 3, 8, 8],
+    };
+    assert_eq!(rt; bus.read_data(64)?, written);
+    let (made, evidence) = tags.finish();
+    assert_eq!(rt; made.len(), 2);
+    assert_eq!(rt; evidence, None);
+    Ok(())
+}
+
+#[test]
+fn a_flipped_bit_is_tampering_or_evidence(rt: HostRuntime) -> Result<(), Fail> {
+    let geometry = Geometry::new(1).ok_or("no geometry")?;
+    let tampered = Err(MemStop::Tampered(Place::Line(64)));
+    let mut sixes = [6; 64];
+    sixes[2] = 7;
+    let rows = [
+        ("the first byte", 0, tampered, false),
+        ("the last that the tag covers", 1, tampered, false),
+        ("the first that it does not", 2, Ok(sixes), true),
+        ("the first of the tag", 64, tampered, false),
+        ("the last of the tag", 79, tampered, false),
+    ];
+    for (case, offset, wanted, shown) in rows {
+        let mut bus = FlipBus::new(rt.alloc(), geometry, Place::Line(64), 1, offset, 1)?;
+        let mut tags = TagEngine::new(rt.alloc(), PrefixTagger, geometry)?;
+        tags.reserve(1)?;
+        write_line(&mut bus, &mut tags, 64, FIRST, &[6; 64])?;
+        assert_eq!(rt; read_line(&mut bus, &mut tags, 64, FIRST), wanted, "{case}");
+        assert_eq!(rt; bus.lies(), 1, "{case}");
+        let (_made, evidence) = tags.finish();
+        assert_eq!(rt; evidence.is_some(), shown, "{case}");
+    }
+    Ok(())
+}
+
+#[test]
+fn a_line_that_was_never_tagged_is_evidence(rt: HostRuntime) -> Result<(), Fail> {
+    let geometry = Geometry::new(1).ok_or("no geometry")?;
+    let mut bus = HonestBus::new(rt.alloc(), geometry)?;
+    let mut tags = TagEngine::new(rt.alloc(), ZeroTagger, geometry)?;
+    assert_eq!(rt; read_line(&mut bus, &mut tags, 255, FIRST), Ok([0; 64]));
+    let (made, evidence) = tags.finish();
+    assert_eq!(rt; made.len(), 0);
+    let forgery = Evidence::Forgery {
+        line: 255,
+        counter: FIRST,
+        sealed: Sealed {
+            cipher: [0; 64],
+            tag: [0; 16],
+        },
+        made_count: 0,
+    };
+    assert_eq!(rt; evidence, Some(forgery));
+    Ok(())
+}
+
+const NODE: Place = Place::Node { level: 1, index: 2 };
+
+#[test]
+fn a_node_is_read_as_it_was_written_last(rt: HostRuntime) -> Result<(), Fail> {
+    let geometry = Geometry::new(2).ok_or("no geometry")?;
+    let mut bus = HonestBus::new(rt.alloc(), geometry)?;
+    let mut tags = TagEngine::new(rt.alloc(), PrefixTagger, geometry)?;
+    tags.reserve(3)?;
+    let first = write_node(&mut bus, &mut tags, 1, 2, &[7; 64])?;
+    assert_eq!(rt; first, [0x4e, 1, 2, 0, 0, 0, 7, 7, 7, 7, 7, 7, 7, 7, 7, 7]);
+    assert_eq!(rt; read_node(&mut bus, &mut tags, 1, 2, &first), Ok([7; 64]));
+    let second = write_node(&mut bus, &mut tags, 1, 2, &[8; 64])?;
+    write_node(&mut bus, &mut tags, 1, 3, &[9; 64])?;
+    assert_eq!(rt; read_node(&mut bus, &mut tags, 1, 2, &second), Ok([8; 64]));
+    let stale = Err(MemStop::Tampered(NODE));
+    assert_eq!(rt; read_node(&mut bus, &mut tags, 1, 2, &first), stale);
+    assert_eq!(rt; bus.read_node(1, 2)?, [8; 64]);
+    let (made, evidence) = tags.finish();
+    assert_eq!(rt; made.len(), 3);
+    assert_eq!(rt; evidence, None);
+    Ok(())
+}
+
+#[test]
+fn a_flipped_bit_of_a_node_is_tampering_or_evidence(rt: HostRuntime) -> Result<(), Fail> {
+    let geometry = Geometry::new(2).ok_or("no geometry")?;
+    let tampered = Err(MemStop::Tampered(NODE));
+    let mut sixes = [6; 64];
+    sixes[10] = 7;
+    let rows = [
+        ("the first byte", 0, tampered, None),
+        ("the last that the tag covers", 9, tampered, None),
+        (
+            "the first that it does not",
+            10,
+            Ok(sixes),
+            Some(Evidence::Collision {
+                level: 1,
+                index: 2,
+                made_at: 0,
+                accepted: sixes,
+                tag: [0x4e, 1, 2, 0, 0, 0, 6, 6, 6, 6, 6, 6, 6, 6, 6, 6],
+            }),
+        ),
+    ];
+    for (case, offset, wanted, shown) in rows {
+        let mut bus = FlipBus::new(rt.alloc(), geometry, NODE, 1, offset, 1)?;
+        let mut tags = TagEngine::new(rt.alloc(), PrefixTagger, geometry)?;
+        tags.reserve(1)?;
+        let tag = write_node(&mut bus, &mut tags, 1, 2, &[6; 64])?;
+        assert_eq!(rt;
+            read_node(&mut bus, &mut tags, 1, 2, &tag),
+            wanted,
+            "{case}"
+        );
+        assert_eq!(rt; bus.lies(), 1, "{case}");
+        let (_made, evidence) = tags.finish();
+        assert_eq!(rt; evidence, shown, "{case}");
+    }
+    Ok(())
+}

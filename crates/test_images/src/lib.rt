@@ -1,0 +1,7 @@
+//! ELF files, flat files, and generated programs.
+#![tactic(auto)]
+
+#[cfg(test)]
+mod elf_files;
+#[cfg(test)]
+mod generated;

@@ -1,0 +1,440 @@
+// The memory over a bus that tells the truth and over one that does not.
+ghost use Rattle.std.specs.Prelude.{◌≡◌, ◌+◌, ◌*◌, ◌%◌, ◌^◌, ◌<◌, ◌≤◌, IfOk};
+ghost use Rattle.sec_base.specs.Place.{place_size};
+ghost use Rattle.bus_model.specs.BusHistory.{new_history};
+ghost use Rattle.secure_memory.specs.SecureRam.{lines_of};
+
+use bus_model::{Bus, FlipBus, HonestBus};
+use fakes::CountingBus;
+use hmac_tag::{HmacTagger, derive};
+use sec_base::{Geometry, MemStop, Place, Ram, Width};
+use secure_memory::SecureRam;
+use std::alloc::Global;
+use std::process::Abort;
+use std::test::Fail;
+
+// The smallest memory, of 256 lines.
+fn smallest() -> Result<Geometry, Fail>
+    ensures { IfOk result (λ geometry. geometry ≡ 1) }
+{
+    Ok(Geometry::new(1).ok_or("no geometry")?)
+}
+
+// Over a bus, under the keys of a device key of zeros.
+fn over<B: Bus + Drop>(
+    alloc: Global,
+    bus: B,
+    geometry: Geometry,
+    page_limit: u64,
+) -> Result<SecureRam<B, HmacTagger>, Fail>
+    requires bus { B.history bus ≡ new_history geometry }
+    requires smallest { geometry ≡ 1 }
+    ensures { IfOk result (λ memory. lines_of memory ≡ 256) }
+{
+    let keys = derive(&[0; 32]);
+    let tagger = HmacTagger::new(&keys);
+    match SecureRam::boot(alloc, bus, tagger, &keys, geometry, page_limit) {
+        Ok(memory) => Ok(memory),
+        Err(_) => Err(Fail::from("no memory")),
+    }
+}
+
+#[test]
+fn a_number_is_stored_with_its_lowest_byte_first(rt: HostRuntime) -> Result<(), Fail> {
+    let geometry = smallest()?;
+    let bus = HonestBus::new(rt.alloc(), geometry)?;
+    let mut memory = over(rt.alloc(), bus, geometry, u64::MAX)?;
+    assert_eq!(rt; memory.size(), 16384);
+    assert_eq!(rt; memory.store(64, Width::Four, 0x89ab_cdef), Ok(()));
+    assert_eq!(rt; memory.load(64, Width::Four), Ok(0x89ab_cdef));
+    assert_eq!(rt; memory.load(64, Width::Two), Ok(0xcdef));
+    assert_eq!(rt; memory.load(67, Width::One), Ok(0x89));
+    assert_eq!(rt; memory.load(60, Width::Four), Ok(0));
+    Ok(())
+}
+
+#[test]
+fn a_store_changes_as_many_bytes_as_its_width(rt: HostRuntime) -> Result<(), Fail> {
+    let geometry = smallest()?;
+    let bus = HonestBus::new(rt.alloc(), geometry)?;
+    let mut memory = over(rt.alloc(), bus, geometry, u64::MAX)?;
+    assert_eq!(rt; memory.store(16380, Width::Two, 0x1_2345), Ok(()));
+    assert_eq!(rt; memory.store(16383, Width::One, 0x1ff), Ok(()));
+    assert_eq!(rt; memory.load(16380, Width::Four), Ok(0xff00_2345));
+    let (account, _bus) = memory.finish();
+    assert_eq!(rt; account.made.len(), 5);
+    assert_eq!(rt; account.used.len(), 0);
+    assert_eq!(rt; account.evidence, None);
+    Ok(())
+}
+
+// Loads from the two other lines of its set, of which the second makes a line go out that was used just before.
+fn send_out<B: Bus>(memory: &mut SecureRam<B, HmacTagger>, line: u32) -> Result<(), MemStop>
+    requires inside { 64 * (line + 129) ≤ 64 * lines_of memory.old }
+    requires fits { 64 * (line + 129) < 2 ^ 32 }
+    ensures extent { lines_of memory.new ≡ lines_of memory.old }
+{
+    memory.load(64 * (line + 64), Width::Four)?;
+    memory.load(64 * (line + 128), Width::Four)?;
+    Ok(())
+}
+
+// A memory whose line 5 is stored to, and goes out, again and again.
+#[derive(Drop)]
+struct Worn {
+    memory: SecureRam<FlipBus, HmacTagger>,
+    ghost small: { 64 * lines_of memory ≡ 16384 },
+}
+
+impl Worn {
+    // Over a bus that flips a bit at the `k`-th read of a line.
+    fn new(alloc: Global, page_limit: u64, line: u32, k: u64) -> Result<Worn, Fail> {
+        let geometry = smallest()?;
+        let bus = FlipBus::new(alloc, geometry, Place::Line(line), k, 0, 1)?;
+        let memory = over(alloc, bus, geometry, page_limit)?;
+        Ok(Worn { memory })
+    }
+
+    fn store(&mut self, value: u32) -> Result<(), MemStop> {
+        self.memory.store(320, Width::Four, value)?;
+        send_out(&mut self.memory, 5)
+    }
+
+    // Stores 1, 2, and so on to the last.
+    fn count_to(&mut self, last: u32) -> Result<(), MemStop> {
+        for value in 1..=last {
+            self.store(value)?;
+        }
+        Ok(())
+    }
+}
+
+// Boot tags five nodes. The page's counters and the node above them stay on the chip, so a write of a line tags none.
+#[test]
+fn a_page_that_is_encrypted_anew_keeps_its_numbers(rt: HostRuntime) -> Result<(), Fail> {
+    for (last, entries) in [(126, 128), (127, 192), (128, 193)] {
+        let mut worn = Worn::new(rt.alloc(), u64::MAX, 0, 0)?;
+        assert_eq!(rt;
+            worn.memory.store(252, Width::Four, 4),
+            Ok(()),
+            "up to {last}"
+        );
+        assert_eq!(rt; send_out(&mut worn.memory, 3), Ok(()), "up to {last}");
+        assert_eq!(rt;
+            worn.memory.store(324, Width::Four, 5),
+            Ok(()),
+            "up to {last}"
+        );
+        assert_eq!(rt; send_out(&mut worn.memory, 5), Ok(()), "up to {last}");
+        assert_eq!(rt; worn.count_to(last), Ok(()), "up to {last}");
+        assert_eq!(rt; worn.memory.load(252, Width::Four), Ok(4), "up to {last}");
+        assert_eq!(rt;
+            worn.memory.load(320, Width::Four),
+            Ok(last),
+            "up to {last}"
+        );
+        assert_eq!(rt; worn.memory.load(324, Width::Four), Ok(5), "up to {last}");
+        assert_eq!(rt; worn.memory.load(384, Width::Four), Ok(0), "up to {last}");
+        assert_eq!(rt; worn.memory.stopped(), None, "up to {last}");
+        let (account, _bus) = worn.memory.finish();
+        assert_eq!(rt; account.used.len(), entries, "up to {last}");
+        assert_eq!(rt; account.made.len(), 5 + entries, "up to {last}");
+    }
+    Ok(())
+}
+
+#[test]
+fn the_first_stop_is_answered_again(rt: HostRuntime) -> Result<(), Fail> {
+    let rows = [
+        (0, 0, 0, MemStop::Spent(0), 128),
+        (1, 9, 1, MemStop::Tampered(Place::Line(9)), 128 + 9),
+    ];
+    for (page_limit, line, k, stop, entries) in rows {
+        let mut worn = Worn::new(rt.alloc(), page_limit, line, k)?;
+        assert_eq!(rt; worn.memory.store(576, Width::Four, 9), Ok(()), "{stop:?}");
+        assert_eq!(rt; send_out(&mut worn.memory, 9), Ok(()), "{stop:?}");
+        assert_eq!(rt; worn.count_to(127), Ok(()), "{stop:?}");
+        assert_eq!(rt; worn.memory.stopped(), None, "{stop:?}");
+        assert_eq!(rt; worn.store(128), Err(stop), "{stop:?}");
+        assert_eq!(rt; worn.store(128), Err(stop), "{stop:?}");
+        assert_eq!(rt; worn.memory.load(320, Width::Four), Err(stop), "{stop:?}");
+        assert_eq!(rt; worn.memory.load(8192, Width::One), Err(stop), "{stop:?}");
+        assert_eq!(rt;
+            worn.memory.store(8192, Width::One, 1),
+            Err(stop),
+            "{stop:?}"
+        );
+        assert_eq!(rt; worn.memory.stopped(), Some(stop), "{stop:?}");
+        let (account, bus) = worn.memory.finish();
+        assert_eq!(rt; account.used.len(), entries, "{stop:?}");
+        assert_eq!(rt; bus.lies(), k, "{stop:?}");
+    }
+    Ok(())
+}
+
+// A memory of four levels over a bus that flips a bit at the `k`-th read of a place.
+#[derive(Drop)]
+struct Flipped {
+    memory: SecureRam<FlipBus, HmacTagger>,
+    ghost large: { 1048576 ≤ 64 * lines_of memory },
+}
+
+impl Flipped {
+    fn new(alloc: Global, place: Place, k: u64) -> Result<Flipped, Fail>
+        requires place { 0 < place_size place }
+    {
+        let geometry = Geometry::new(4).ok_or("no geometry")?;
+        let bus = FlipBus::new(alloc, geometry, place, k, 0, 1)?;
+        let keys = derive(&[0; 32]);
+        let tagger = HmacTagger::new(&keys);
+        let Ok(memory) = SecureRam::boot(alloc, bus, tagger, &keys, geometry, u64::MAX) else {
+            return Err(Fail::from("no memory"));
+        };
+        if memory.size() < 1048576 {
+            return Err(Fail::from("small"));
+        }
+        Ok(Flipped { memory })
+    }
+
+    // Loads from lines of pages 32, 64, 96 and 128. They share a set with line 1, their counter blocks with that of page 0, and
+    // the nodes above these with (1, 0). So all three go out, one after another.
+    fn send_out(&mut self) -> Result<(), MemStop> {
+        self.memory.load(64 * 2049, Width::Four)?;
+        self.memory.load(64 * 4097, Width::Four)?;
+        self.memory.load(64 * 6145, Width::Four)?;
+        self.memory.load(64 * 8193, Width::Four)?;
+        Ok(())
+    }
+}
+
+// Until the line has gone out with its counters and the node above them, the counters were read once, as the line came in. The
+// node was read twice, the second time as its counters went out. The last load reads each of the three.
+#[test]
+fn a_flipped_bit_is_tampering(rt: HostRuntime) -> Result<(), Fail> {
+    let rows = [
+        (Place::Line(1), 1),
+        (Place::Node { level: 0, index: 0 }, 2),
+        (Place::Node { level: 1, index: 0 }, 3),
+    ];
+    for (place, k) in rows {
+        let mut flipped = Flipped::new(rt.alloc(), place, k)?;
+        assert_eq!(rt; flipped.memory.store(64, Width::Four, 7), Ok(()), "{place}");
+        assert!(rt; flipped.memory.held(1), "{place}");
+        assert_eq!(rt; flipped.memory.held_count(), 1, "{place}");
+        assert_eq!(rt; flipped.memory.load(64, Width::Four), Ok(7), "{place}");
+        assert_eq!(rt; flipped.send_out(), Ok(()), "{place}");
+        assert!(rt; !flipped.memory.held(1), "{place}");
+        assert_eq!(rt; flipped.memory.held_count(), 2, "{place}");
+        let tampered = MemStop::Tampered(place);
+        assert_eq!(rt;
+            flipped.memory.load(64, Width::Four),
+            Err(tampered),
+            "{place}"
+        );
+        assert_eq!(rt;
+            flipped.memory.load(0, Width::Four),
+            Err(tampered),
+            "{place}"
+        );
+        let (account, bus) = flipped.memory.finish();
+        assert_eq!(rt; account.evidence, None, "{place}");
+        assert_eq!(rt; bus.lies(), 1, "{place}");
+    }
+    Ok(())
+}
+
+// A memory over a bus that counts, whose line 5 is used.
+#[derive(Drop)]
+struct Counted {
+    memory: SecureRam<CountingBus, HmacTagger>,
+    ghost large: { 16384 ≤ 64 * lines_of memory },
+}
+
+impl Counted {
+    // None where boot is refused.
+    fn new(alloc: Global, levels: u8, refused: u64) -> Result<Option<Counted>, Fail> {
+        let geometry = Geometry::new(levels).ok_or("no geometry")?;
+        let bus = CountingBus::refusing(alloc, geometry, refused)?;
+        let keys = derive(&[0; 32]);
+        let tagger = HmacTagger::new(&keys);
+        let Ok(memory) = SecureRam::boot(alloc, bus, tagger, &keys, geometry, u64::MAX) else {
+            return Ok(None);
+        };
+        if memory.size() < 16384 {
+            return Err(Fail::from("small"));
+        }
+        Ok(Some(Counted { memory }))
+    }
+
+    // So often a number is stored, and the line goes out.
+    fn store(&mut self, count: u32) -> Result<(), MemStop> {
+        for value in 0..count {
+            self.memory.store(320, Width::Four, value)?;
+            send_out(&mut self.memory, 5)?;
+        }
+        Ok(())
+    }
+
+    fn load(&mut self) -> Result<u32, MemStop> {
+        self.memory.load(320, Width::Four)
+    }
+
+    // The address of the line at place 5 of a page.
+    fn line_at(&self, rt: &impl Abort, page: u32) -> u32
+        ensures inside { result + 4 ≤ 64 * lines_of self.now.memory }
+        ensures aligned { result % 4 ≡ 0 }
+    {
+        assert!(rt; page < 4096);
+        let addr = 4096 * page + 320;
+        assert!(rt; addr % 4 == 0);
+        assert!(rt; addr + 4 <= self.memory.size());
+        addr
+    }
+
+    // So often a number is stored at four places, and then so often the four are loaded. Their pages are so many apart.
+    fn go_round(
+        &mut self,
+        rt: &impl Abort,
+        apart: u32,
+        stores: u32,
+        loads: u32,
+    ) -> Result<(), MemStop> {
+        assert!(rt; apart <= 1024);
+        for value in 0..stores {
+            for at in 0..4 {
+                let addr = self.line_at(rt, apart * at);
+                self.memory.store(addr, Width::Four, value)?;
+            }
+        }
+        for _ in 0..loads {
+            for at in 0..4 {
+                let addr = self.line_at(rt, apart * at);
+                self.memory.load(addr, Width::Four)?;
+            }
+        }
+        Ok(())
+    }
+}
+
+// How many accesses boot, so many stores and a load make in all.
+fn accesses(alloc: Global, levels: u8, stores: u32) -> Result<u64, Fail> {
+    let mut counted = Counted::new(alloc, levels, 0)?.ok_or("no memory")?;
+    counted.store(stores).ok().ok_or("a store is refused")?;
+    counted.load().ok().ok_or("the load is refused")?;
+    let Counted { memory } = counted;
+    let (_account, bus) = memory.finish();
+    Ok(bus.asked())
+}
+
+// The first line comes in by a read of the path of its page, L + 1 nodes, and those of two more pages below the same node by one
+// read of their counters each. From then on these stay on the chip: a line comes in by its own read, if it was written, and
+// goes out by its own write. In an overflow the other 63 lines, which were never written, are written too.
+#[test]
+fn calls_make_so_many_accesses_at_each_level(rt: HostRuntime) -> Result<(), Fail> {
+    let nodes = [5, 21, 85, 341, 1365, 5461];
+    for (at, boot) in nodes.iter().enumerate() {
+        let levels = at as u8 + 1;
+        let path = u64::from(levels) + 1;
+        let first = path + 3;
+        let next = 2;
+        let rows = [
+            (0, path),
+            (1, first + 1),
+            (2, first + next + 1),
+            (127, first + 126 * next + 1),
+            (128, first + 127 * next + 63 + 1),
+        ];
+        for (stores, more) in rows {
+            let made = accesses(rt.alloc(), levels, stores)?;
+            assert_eq!(rt; made, *boot + more, "{stores} stores at {levels}");
+        }
+    }
+    Ok(())
+}
+
+// How many accesses boot and so many rounds over four pages make, a quarter of the memory apart.
+fn rounds(
+    rt: &impl Abort,
+    alloc: Global,
+    levels: u8,
+    apart: u32,
+    stores: u32,
+    loads: u32,
+) -> Result<u64, Fail> {
+    let mut counted = Counted::new(alloc, levels, 0)?.ok_or("no memory")?;
+    counted
+        .go_round(rt, apart, stores, loads)
+        .ok()
+        .ok_or("a call is refused")?;
+    let Counted { memory } = counted;
+    let (_account, bus) = memory.finish();
+    Ok(bus.asked())
+}
+
+// Each of the four lines pushes out another one, and with it the counter block of that line's page and the nodes above it, but
+// for those of the three highest levels, which have room for all. Where all of them are changed, a call writes and reads as many
+// as it must; where none is, it reads the path as far as it is gone, and the line.
+#[test]
+fn calls_over_distant_pages_make_so_many_accesses(rt: HostRuntime) -> Result<(), Fail> {
+    let rows = [
+        (1, 1, 2, 1),
+        (2, 4, 2, 1),
+        (3, 16, 5, 2),
+        (4, 64, 8, 3),
+        (5, 256, 12, 4),
+        (6, 1024, 16, 5),
+    ];
+    for (levels, apart, store, load) in rows {
+        let stored = rounds(&rt, rt.alloc(), levels, apart, 3, 0)?;
+        let once_more = rounds(&rt, rt.alloc(), levels, apart, 4, 0)?;
+        assert_eq!(rt; stored.saturating_add(4 * store), once_more, "{levels}");
+        let loaded = rounds(&rt, rt.alloc(), levels, apart, 4, 3)?;
+        let once_more = rounds(&rt, rt.alloc(), levels, apart, 4, 4)?;
+        assert_eq!(rt; loaded.saturating_add(4 * load), once_more, "{levels}");
+    }
+    Ok(())
+}
+
+// At one level boot makes 5 accesses, the first round 5, and the second one 2: the first of them reads the line, and the second
+// writes it.
+#[test]
+fn out_of_memory_a_line_is_written_in_part(rt: HostRuntime) -> Result<(), Fail> {
+    for refused in 1..6u64 {
+        let counted = Counted::new(rt.alloc(), 1, refused)?;
+        assert!(rt; counted.is_none(), "access {refused}");
+    }
+    for refused in 11..13u64 {
+        let mut counted = Counted::new(rt.alloc(), 1, refused)?.ok_or("no memory")?;
+        assert_eq!(rt; counted.store(1), Ok(()), "access {refused}");
+        assert_eq!(rt;
+            counted.store(1),
+            Err(MemStop::NoMemory),
+            "access {refused}"
+        );
+        assert_eq!(rt; counted.load(), Err(MemStop::NoMemory), "access {refused}");
+        let Counted { memory } = counted;
+        let (account, bus) = memory.finish();
+        let entries = if refused < 12 { 1 } else { 2 };
+        assert_eq!(rt; account.made.len(), 5 + entries, "access {refused}");
+        assert_eq!(rt; account.used.len(), entries, "access {refused}");
+        assert_eq!(rt; account.evidence, None, "access {refused}");
+        assert_eq!(rt; bus.asked(), refused, "access {refused}");
+    }
+    Ok(())
+}
+
+// Only the first call makes accesses: it reads the path of a line that was never written.
+#[test]
+fn a_line_that_is_held_makes_no_access(rt: HostRuntime) -> Result<(), Fail> {
+    let mut counted = Counted::new(rt.alloc(), 1, 0)?.ok_or("no memory")?;
+    assert_eq!(rt; counted.memory.store(320, Width::Four, 1), Ok(()));
+    assert_eq!(rt; counted.load(), Ok(1));
+    assert_eq!(rt; counted.memory.store(320, Width::Four, 2), Ok(()));
+    assert_eq!(rt; counted.memory.store(320, Width::Four, 3), Ok(()));
+    assert_eq!(rt; counted.load(), Ok(3));
+    let Counted { memory } = counted;
+    let (account, bus) = memory.finish();
+    assert_eq!(rt; bus.asked(), 5 + 2);
+    assert_eq!(rt; account.made.len(), 5);
+    Ok(())
+}

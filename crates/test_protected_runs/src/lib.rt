@@ -1,0 +1,5 @@
+//! Runs on protected memory, their records and their reports.
+#![tactic(auto)]
+
+#[cfg(test)]
+mod tests;

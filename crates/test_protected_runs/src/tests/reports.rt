@@ -1,0 +1,150 @@
+// The reports of runs on the input `abc` under the nonce 01 02 .. 10. The texts are from Python 3.11: its `struct`,
+// `hashlib` and `hmac`.
+ghost use Rattle.std.specs.Prelude.{◌<◌, ◌≤◌, length};
+ghost use Rattle.sec_base.specs.Place.{place_size};
+
+use super::programs::{EXIT_WITH_65_AGAIN, PRINT_A, PRINT_A_AGAIN, WEAR_LINE_64};
+use super::{LINE_64, flat, keys};
+use attest_report::write_report;
+use bus_model::FlipBus;
+use chip_run::{Setup, run};
+use fakes::ZeroTagger;
+use hmac_tag::HmacTagger;
+use sec_base::{Geometry, Image, MemorySink, Place, Tagger};
+use std::alloc::Global;
+use std::test::Fail;
+
+const EBREAK: [u32; 1] = [0x0010_0073];
+
+// A place that no program here reads, so that no answer is false.
+const NOWHERE: Place = Place::Line(255);
+
+const HALTED: &[u8; 316] = b"\
+    014187fa751bd71f78b94b3c5cbc470f79b7bee7d8f886544ea79353bb69f47e1e\
+    ba7816bf8f01cfea414140de5dae2223b00361a396177a9cb410ff61f20015ad\
+    559aead08264d5795d3909718cdd05abd49572e84fe55590eef31a88a08fdffd\
+    0a0000000000000000010000000102030405060708090a0b0c0d0e0f10\
+    80978ea3a8289de454b82f9a5ea8bf28e79780f08a270785e02d99c95cc75345";
+
+const TRAPPED: &[u8; 316] = b"\
+    01fcb372646f92a83df6a2555c25a9036ad2203d9c763da552884da77826d860b5\
+    ba7816bf8f01cfea414140de5dae2223b00361a396177a9cb410ff61f20015ad\
+    e3b0c44298fc1c149afbf4c8996fb92427ae41e4649b934ca495991b7852b855\
+    000000000000000001050000000102030405060708090a0b0c0d0e0f10\
+    8a90a64044a4faa24f2d2c9054337563cd775451633cdec4e0ad293ddd2501ab";
+
+const OUT_OF_STEPS: &[u8; 316] = b"\
+    014187fa751bd71f78b94b3c5cbc470f79b7bee7d8f886544ea79353bb69f47e1e\
+    ba7816bf8f01cfea414140de5dae2223b00361a396177a9cb410ff61f20015ad\
+    559aead08264d5795d3909718cdd05abd49572e84fe55590eef31a88a08fdffd\
+    090000000000000004000000000102030405060708090a0b0c0d0e0f10\
+    a3221192d307253f9666ad498af3b50325662c7ac63099a75799ae1dfccc5167";
+
+const TAMPERED: &[u8; 316] = b"\
+    01698b55760d8e5f66b9952ede72d6e038d02e0e75081421b337d11b491868d3b6\
+    ba7816bf8f01cfea414140de5dae2223b00361a396177a9cb410ff61f20015ad\
+    559aead08264d5795d3909718cdd05abd49572e84fe55590eef31a88a08fdffd\
+    0a0000000000000005000000000102030405060708090a0b0c0d0e0f10\
+    4562ce33206a4c1783a66c2305c6910bf549518ac161c00718ce797adb8369b0";
+
+const SPENT: &[u8; 316] = b"\
+    01ad7cddc78d019d545d3b9f7243321c2f4becb979c95ff736b06c30abba952a2c\
+    ba7816bf8f01cfea414140de5dae2223b00361a396177a9cb410ff61f20015ad\
+    e3b0c44298fc1c149afbf4c8996fb92427ae41e4649b934ca495991b7852b855\
+    000200000000000006000000000102030405060708090a0b0c0d0e0f10\
+    f3540ddbd1008f5fabbc1f268eeb0f1ff826ceb3424b7c483890a0a73cf059dc";
+
+const WITH_EVIDENCE: &[u8; 316] = b"\
+    0198b2691784f2982c2e9ec8c657866e6324a6b2dd8822d5c830d13eb3c54514b4\
+    ba7816bf8f01cfea414140de5dae2223b00361a396177a9cb410ff61f20015ad\
+    e3b0c44298fc1c149afbf4c8996fb92427ae41e4649b934ca495991b7852b855\
+    080000000000000000400000000102030405060708090a0b0c0d0e0f10\
+    65058f994fa4ef3ce00935d37588065f4c7845f047464dfbdf163167d1363ff1";
+
+// The text of the report of a program of a few words, or nothing where there is none. The lowest bit of the `k`-th
+// answer of a place is flipped, and the writes with these numbers fail.
+fn reported<T: Tagger>(
+    alloc: Global,
+    words: &[u32],
+    limits: (u64, u64),
+    flip: (Place, u64),
+    fails: &[u64],
+    tagger: T,
+) -> Result<Vec<u8>, Fail>
+    requires words { length words.now ≤ 16 }
+    requires place { 0 < place_size flip.0 }
+{
+    let geometry = Geometry::new(1).ok_or("no geometry")?;
+    let image = Image {
+        entry: 0,
+        size: 16384,
+        segments: flat(alloc, words)?,
+    };
+    let setup = Setup {
+        geometry,
+        keys: keys(),
+        budget: limits.0,
+        page_limit: limits.1,
+        nonce: [1, 2, 3, 4, 5, 6, 7, 8, 9, 10, 11, 12, 13, 14, 15, 16],
+    };
+    let bus = FlipBus::new(alloc, geometry, flip.0, flip.1, 0, 1)?;
+    let mut out = MemorySink::new(alloc, fails)?;
+    let (record, _bus) = run(alloc, &image, b"abc", &setup, tagger, bus, &mut out);
+    match record.report {
+        Some(bytes) => {
+            let text = write_report(alloc, &bytes).ok().ok_or("no memory")?;
+            Ok(text.into_vec())
+        }
+        None => Ok(Vec::new(alloc)),
+    }
+}
+
+#[test]
+fn a_report_tells_how_the_program_ended(rt: HostRuntime) -> Result<(), Fail> {
+    let alloc = rt.alloc();
+    let rows: [(u64, &[u8; 316]); 2] = [(2000, HALTED), (9, OUT_OF_STEPS)];
+    for (budget, expected) in rows {
+        let tagger = HmacTagger::new(&keys());
+        let text = reported(alloc, &PRINT_A, (budget, 0), (NOWHERE, 1), &[], tagger)?;
+        assert_eq!(rt; text.as_slice(), expected.as_slice(), "budget {budget}");
+    }
+    let tagger = HmacTagger::new(&keys());
+    let text = reported(alloc, &EBREAK, (2000, 0), (NOWHERE, 1), &[], tagger)?;
+    assert_eq!(rt; text.as_slice(), TRAPPED.as_slice());
+    Ok(())
+}
+
+// The first answer for line 64 is that of the second print.
+#[test]
+fn a_report_tells_how_the_memory_stopped(rt: HostRuntime) -> Result<(), Fail> {
+    let alloc = rt.alloc();
+    let tagger = HmacTagger::new(&keys());
+    let text = reported(alloc, &PRINT_A_AGAIN, (2000, 0), (LINE_64, 1), &[], tagger)?;
+    assert_eq!(rt; text.as_slice(), TAMPERED.as_slice());
+    let tagger = HmacTagger::new(&keys());
+    let text = reported(alloc, &WEAR_LINE_64, (2000, 0), (NOWHERE, 1), &[], tagger)?;
+    assert_eq!(rt; text.as_slice(), SPENT.as_slice());
+    Ok(())
+}
+
+#[test]
+fn a_report_knows_of_no_evidence(rt: HostRuntime) -> Result<(), Fail> {
+    let text = reported(
+        rt.alloc(),
+        &EXIT_WITH_65_AGAIN,
+        (2000, 0),
+        (LINE_64, 1),
+        &[],
+        ZeroTagger,
+    )?;
+    assert_eq!(rt; text.as_slice(), WITH_EVIDENCE.as_slice());
+    Ok(())
+}
+
+#[test]
+fn a_write_fault_makes_no_report(rt: HostRuntime) -> Result<(), Fail> {
+    let tagger = HmacTagger::new(&keys());
+    let text = reported(rt.alloc(), &PRINT_A, (2000, 0), (NOWHERE, 1), &[1], tagger)?;
+    assert!(rt; text.is_empty());
+    Ok(())
+}

@@ -1,0 +1,5 @@
+//! Scripts of an adversary.
+#![tactic(auto)]
+
+#[cfg(test)]
+mod tests;

@@ -1,0 +1,9 @@
+//! MACs, tags with their messages, and reports.
+#![tactic(auto)]
+
+#[cfg(test)]
+mod engines;
+#[cfg(test)]
+mod macs;
+#[cfg(test)]
+mod reports;

@@ -1,0 +1,7 @@
+//! The integrity tree and the counters over it.
+#![tactic(auto)]
+
+#[cfg(test)]
+mod counters;
+#[cfg(test)]
+mod nodes;
