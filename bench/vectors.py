@@ -3,7 +3,7 @@
 
 Each case is one instruction with its operands. GNU as makes its word, qemu-riscv32 runs that word, and what it leaves
 in registers and memory is the case's outcome. It is compared with an evaluation of the manual's text (`evaluate`,
-below); where they differ, or where crates/plain_machine/src/vectors.rt has other tables, the script ends with status 1.
+below); where they differ, or where crates/test_steps/src/vectors.rt has other tables, the script ends with status 1.
 
 It needs Python 3, qemu-user, gcc-riscv64-unknown-elf and binutils-riscv64-unknown-elf.
 """
@@ -15,7 +15,7 @@ import subprocess
 import sys
 import tempfile
 
-KEPT = os.path.join(os.path.dirname(os.path.abspath(__file__)), "../crates/plain_machine/src/vectors.rt")
+KEPT = os.path.join(os.path.dirname(os.path.abspath(__file__)), "../crates/test_steps/src/vectors.rt")
 
 # Where a case's operands and its memory word stand. The operands are loaded from there.
 FIRST, SECOND, CELL = 0x3F8, 0x3FC, 0x400
