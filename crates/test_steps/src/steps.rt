@@ -34,6 +34,14 @@ impl FewBytes {
             self.bytes[at as usize] = (number % 256) as u8;
         }
     }
+
+    fn set_word(&mut self, at: u32, word: u32) {
+        let mut place = at;
+        for byte in word.to_le_bytes() {
+            self.set_byte(place, u32::from(byte));
+            place = place.saturating_add(1);
+        }
+    }
 }
 
 impl Ram for FewBytes {
@@ -102,13 +110,27 @@ fn image(alloc: Global) -> Result<Image, AllocError> {
 
 const ECALL: u32 = 0x73;
 
-// A core at 0 that asks for a service with three arguments.
-fn asking(number: u32, first: u32, second: u32, third: u32) -> Core {
-    let mut core = Core::new(0, 16_384);
-    core.set_reg(17, number);
-    core.set_reg(10, first);
-    core.set_reg(11, second);
-    core.set_reg(12, third);
+// A core at 0 that asks for a service with three arguments: it loaded them from address 64 on, and jumped there.
+fn asking(calls: &mut Calls, number: u32, first: u32, second: u32, third: u32) -> Core {
+    let mut ram = FewBytes::new(0);
+    for (at, word) in [
+        (16, 0x0400_2883), // lw a7, 64(zero)
+        (20, 0x0440_2503), // lw a0, 68(zero)
+        (24, 0x0480_2583), // lw a1, 72(zero)
+        (28, 0x04c0_2603), // lw a2, 76(zero)
+        (32, 0xfe1f_f06f), // jal zero, -32
+        (64, number),
+        (68, first),
+        (72, second),
+        (76, third),
+    ] {
+        ram.set_word(at, word);
+    }
+    let mut core = Core::new(16, 16_384);
+    let mut out = Narrow { left: 0, faults: 0 };
+    for _ in 0..5 {
+        let _ = core.step(&mut ram, calls, &mut out);
+    }
     core
 }
 
@@ -143,14 +165,14 @@ fn services_answer_in_a0(rt: HostRuntime) -> Result<(), Fail> {
     let mut calls = Calls::new(b"hi", &image(rt.alloc())?);
     let mut out = MemorySink::new(rt.alloc(), &[])?;
     for (number, first, second, third, answer) in rows {
-        let mut core = asking(number, first, second, third);
+        let mut core = asking(&mut calls, number, first, second, third);
         let step = core.step(&mut ram, &mut calls, &mut out);
         assert_eq!(rt; step, Ok(Step::Retired), "service {number} of {first}");
         assert_eq!(rt; core.reg(10), answer, "service {number} of {first}");
         assert_eq!(rt; core.pc(), 4);
     }
     assert_eq!(rt; out.bytes(), b"\0hi\0\0".as_slice());
-    let mut core = asking(93, 7, 0, 0);
+    let mut core = asking(&mut calls, 93, 7, 0, 0);
     assert_eq!(rt;
         core.step(&mut ram, &mut calls, &mut out),
         Ok(Step::Halted(7))
@@ -166,7 +188,7 @@ fn pieces_end_at_lines(rt: HostRuntime) -> Result<(), Fail> {
     let mut calls = Calls::new(b"", &image(rt.alloc())?);
     for (fails, printed) in [(1, 0), (2, 4), (3, 68), (4, 132)] {
         let mut out = MemorySink::new(rt.alloc(), &[fails])?;
-        let mut core = asking(64, 1, 60, 140);
+        let mut core = asking(&mut calls, 64, 1, 60, 140);
         assert_eq!(rt;
             core.step(&mut ram, &mut calls, &mut out),
             Err(StepStop::WriteFault)
@@ -175,7 +197,7 @@ fn pieces_end_at_lines(rt: HostRuntime) -> Result<(), Fail> {
         assert_eq!(rt; (core.pc(), core.reg(10)), (0, 1));
     }
     let mut out = MemorySink::new(rt.alloc(), &[5])?;
-    let mut core = asking(64, 1, 60, 140);
+    let mut core = asking(&mut calls, 64, 1, 60, 140);
     assert_eq!(rt;
         core.step(&mut ram, &mut calls, &mut out),
         Ok(Step::Retired)
@@ -195,7 +217,7 @@ fn quotients_at_the_borders(rt: HostRuntime) -> Result<(), Fail> {
     let mut calls = Calls::new(b"", &image(rt.alloc())?);
     let mut out = MemorySink::new(rt.alloc(), &[])?;
     for (word, a, b, answer) in rows {
-        let mut core = asking(0, 0, a, b);
+        let mut core = asking(&mut calls, 0, 0, a, b);
         let step = core.step(&mut FewBytes::new(word), &mut calls, &mut out);
         assert_eq!(rt; step, Ok(Step::Retired), "{word:08x}");
         assert_eq!(rt; core.reg(10), answer, "{word:08x}");
@@ -221,7 +243,7 @@ fn the_first_cause_is_told(rt: HostRuntime) -> Result<(), Fail> {
     let mut calls = Calls::new(b"", &image(rt.alloc())?);
     let mut out = MemorySink::new(rt.alloc(), &[])?;
     for (word, address, cause) in rows {
-        let mut core = asking(0, 1, address, 0);
+        let mut core = asking(&mut calls, 0, 1, address, 0);
         let step = core.step(&mut FewBytes::new(word), &mut calls, &mut out);
         assert_eq!(rt; step, Err(StepStop::Trap(cause)), "{word:08x}");
         assert_eq!(rt; (core.pc(), core.reg(10)), (0, 1), "{word:08x}");
@@ -254,7 +276,7 @@ fn a_jump_out_of_the_memory_is_retired(rt: HostRuntime) -> Result<(), Fail> {
     let mut ram = FewBytes::new(0x0005_8567); // jalr a0, 0(a1)
     let mut calls = Calls::new(b"", &image(rt.alloc())?);
     let mut out = MemorySink::new(rt.alloc(), &[])?;
-    let mut core = asking(0, 0, 16_385, 0);
+    let mut core = asking(&mut calls, 0, 0, 16_385, 0);
     assert_eq!(rt;
         core.step(&mut ram, &mut calls, &mut out),
         Ok(Step::Retired)
@@ -340,7 +362,11 @@ fn the_digest_is_of_what_the_sink_took(rt: HostRuntime) -> Result<(), Fail> {
     for (left, count, answer, digest) in rows {
         let mut calls = Calls::new(b"", &image);
         let mut out = Narrow { left, faults: 0 };
-        let step = asking(64, 1, 60, count).step(&mut with_letters(), &mut calls, &mut out);
+        let step = asking(&mut calls, 64, 1, 60, count).step(
+            &mut with_letters(),
+            &mut calls,
+            &mut out,
+        );
         assert_eq!(rt; step, answer, "{count} bytes to a sink of {left}");
         assert_eq!(rt; calls.finish(), digest, "{count} bytes to a sink of {left}");
     }
@@ -353,7 +379,7 @@ fn the_digest_goes_on_after_a_stop(rt: HostRuntime) -> Result<(), Fail> {
     let mut calls = Calls::new(b"", &image(rt.alloc())?);
     let mut ram = with_letters();
     let mut out = Narrow { left: 5, faults: 0 };
-    let mut core = asking(64, 1, 60, 8);
+    let mut core = asking(&mut calls, 64, 1, 60, 8);
     assert_eq!(rt;
         core.step(&mut ram, &mut calls, &mut out),
         Err(StepStop::WriteFault)
