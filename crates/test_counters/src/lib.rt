@@ -1,0 +1,5 @@
+//! The counters over the integrity tree.
+#![tactic(auto)]
+
+#[cfg(test)]
+mod tests;

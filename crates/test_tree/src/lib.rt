@@ -1,0 +1,5 @@
+//! The integrity tree, call by call.
+#![tactic(auto)]
+
+#[cfg(test)]
+mod tests;
