@@ -16,7 +16,9 @@ mod want_of_memory;
 use bus_model::{Bus, FlipBus, HonestBus};
 use chip_run::{RunRecord, Setup, run};
 use hmac_tag::{HmacTagger, Keys, derive};
-use sec_base::{Bytes, Counter, Geometry, Image, MemorySink, Place, Segment, Segments, Tagger};
+use sec_base::{
+    Bytes, Counter, Ending, Evidence, Geometry, Image, MemorySink, Place, Segment, Segments, Tagger,
+};
 use std::alloc::{AllocError, Global};
 use std::test::Fail;
 
@@ -128,6 +130,28 @@ fn image(
     })
 }
 
+// What is told of a run: how many messages were made, and how many lines were encrypted, among the rest.
+#[derive(Clone, Copy)]
+struct Told {
+    retired: u64,
+    ending: Ending,
+    evidence: Option<Evidence>,
+    made: u64,
+    used: u64,
+}
+
+impl Told {
+    fn of(record: &RunRecord) -> Told {
+        Told {
+            retired: record.retired,
+            ending: record.ending,
+            evidence: record.evidence,
+            made: record.made.len(),
+            used: record.used.len(),
+        }
+    }
+}
+
 // What a program over an honest bus comes to.
 fn outcome(
     alloc: Global,
@@ -199,6 +223,15 @@ fn honest(
     Ok((record, sealed.cipher))
 }
 
+// The same, where nothing that it prints is looked at.
+fn ends(alloc: Global, words: &[u32], page_limit: u64) -> Result<(Told, [u8; 64]), Fail>
+    requires { length words.now ≤ 16 }
+{
+    let mut out = MemorySink::new(alloc, &[])?;
+    let (record, outside) = honest(alloc, words, page_limit, &mut out)?;
+    Ok((Told::of(&record), outside))
+}
+
 // A program of a few words, where the lowest bit of the `k`-th answer of a place is flipped, and how many answers were
 // false.
 fn flipped<T: Tagger>(
@@ -207,7 +240,7 @@ fn flipped<T: Tagger>(
     place: Place,
     k: u64,
     tagger: T,
-) -> Result<(RunRecord, u64), Fail>
+) -> Result<(Told, u64), Fail>
     requires words { length words.now ≤ 16 }
     requires place { 0 < place_size place }
 {
@@ -221,7 +254,20 @@ fn flipped<T: Tagger>(
     let bus = FlipBus::new(alloc, geometry, place, k, 0, 1)?;
     let mut out = MemorySink::new(alloc, &[])?;
     let (record, bus) = run(alloc, &image, &[], &setup, tagger, bus, &mut out);
-    Ok((record, bus.lies()))
+    Ok((Told::of(&record), bus.lies()))
+}
+
+// The same, under the keys of the device.
+fn flipped_under_keys(
+    alloc: Global,
+    words: &[u32],
+    place: Place,
+    k: u64,
+) -> Result<(Told, u64), Fail>
+    requires words { length words.now ≤ 16 }
+    requires place { 0 < place_size place }
+{
+    flipped(alloc, words, place, k, HmacTagger::new(&keys()))
 }
 
 // The counter of a line that was written so often, fewer than 128 times.

@@ -12,6 +12,7 @@ use fakes::ZeroTagger;
 use hmac_tag::HmacTagger;
 use sec_base::{Geometry, Image, MemorySink, Place, Tagger};
 use std::alloc::Global;
+use std::process::Abort;
 use std::test::Fail;
 
 const EBREAK: [u32; 1] = [0x0010_0073];
@@ -61,16 +62,16 @@ const WITH_EVIDENCE: &[u8; 316] = b"\
     080000000000000000400000000102030405060708090a0b0c0d0e0f10\
     65058f994fa4ef3ce00935d37588065f4c7845f047464dfbdf163167d1363ff1";
 
-// The text of the report of a program of a few words, or nothing where there is none. The lowest bit of the `k`-th
-// answer of a place is flipped, and the writes with these numbers fail.
-fn reported<T: Tagger>(
+// The report of a program of a few words, if there is one. The lowest bit of the `k`-th answer of a place is flipped, and the
+// writes with these numbers fail.
+fn report<T: Tagger>(
     alloc: Global,
     words: &[u32],
     limits: (u64, u64),
     flip: (Place, u64),
     fails: &[u64],
     tagger: T,
-) -> Result<Vec<u8>, Fail>
+) -> Result<Option<[u8; 158]>, Fail>
     requires words { length words.now ≤ 16 }
     requires place { 0 < place_size flip.0 }
 {
@@ -80,6 +81,8 @@ fn reported<T: Tagger>(
         size: 16384,
         segments: flat(alloc, words)?,
     };
+    let bus = FlipBus::new(alloc, geometry, flip.0, flip.1, 0, 1)?;
+    let mut out = MemorySink::new(alloc, fails)?;
     let setup = Setup {
         geometry,
         keys: keys(),
@@ -87,56 +90,61 @@ fn reported<T: Tagger>(
         page_limit: limits.1,
         nonce: [1, 2, 3, 4, 5, 6, 7, 8, 9, 10, 11, 12, 13, 14, 15, 16],
     };
-    let bus = FlipBus::new(alloc, geometry, flip.0, flip.1, 0, 1)?;
-    let mut out = MemorySink::new(alloc, fails)?;
     let (record, _bus) = run(alloc, &image, b"abc", &setup, tagger, bus, &mut out);
-    match record.report {
-        Some(bytes) => {
-            let text = write_report(alloc, &bytes).ok().ok_or("no memory")?;
-            Ok(text.into_vec())
-        }
-        None => Ok(Vec::new(alloc)),
-    }
+    Ok(record.report)
+}
+
+// Under the keys of the device, and with no write that fails, the text of the report is this.
+fn reports(
+    rt: &impl Abort,
+    alloc: Global,
+    words: &[u32],
+    limits: (u64, u64),
+    flip: (Place, u64),
+    expected: &[u8],
+) -> Result<(), Fail>
+    requires words { length words.now ≤ 16 }
+    requires place { 0 < place_size flip.0 }
+{
+    let report = report(alloc, words, limits, flip, &[], HmacTagger::new(&keys()))?;
+    let bytes = report.ok_or("no report")?;
+    let text = write_report(alloc, &bytes).ok().ok_or("no memory")?;
+    let text = text.into_vec();
+    assert_eq!(rt; text.as_slice(), expected);
+    Ok(())
 }
 
 #[test]
 fn a_report_tells_how_the_program_ended(rt: HostRuntime) -> Result<(), Fail> {
     let alloc = rt.alloc();
-    let rows: [(u64, &[u8; 316]); 2] = [(2000, HALTED), (9, OUT_OF_STEPS)];
-    for (budget, expected) in rows {
-        let tagger = HmacTagger::new(&keys());
-        let text = reported(alloc, &PRINT_A, (budget, 0), (NOWHERE, 1), &[], tagger)?;
-        assert_eq!(rt; text.as_slice(), expected.as_slice(), "budget {budget}");
-    }
-    let tagger = HmacTagger::new(&keys());
-    let text = reported(alloc, &EBREAK, (2000, 0), (NOWHERE, 1), &[], tagger)?;
-    assert_eq!(rt; text.as_slice(), TRAPPED.as_slice());
-    Ok(())
+    reports(&rt, alloc, &PRINT_A, (2000, 0), (NOWHERE, 1), HALTED)?;
+    reports(&rt, alloc, &PRINT_A, (9, 0), (NOWHERE, 1), OUT_OF_STEPS)?;
+    reports(&rt, alloc, &EBREAK, (2000, 0), (NOWHERE, 1), TRAPPED)
 }
 
 // The first answer for line 64 is that of the second print.
 #[test]
 fn a_report_tells_how_the_memory_stopped(rt: HostRuntime) -> Result<(), Fail> {
     let alloc = rt.alloc();
-    let tagger = HmacTagger::new(&keys());
-    let text = reported(alloc, &PRINT_A_AGAIN, (2000, 0), (LINE_64, 1), &[], tagger)?;
-    assert_eq!(rt; text.as_slice(), TAMPERED.as_slice());
-    let tagger = HmacTagger::new(&keys());
-    let text = reported(alloc, &WEAR_LINE_64, (2000, 0), (NOWHERE, 1), &[], tagger)?;
-    assert_eq!(rt; text.as_slice(), SPENT.as_slice());
-    Ok(())
+    reports(
+        &rt,
+        alloc,
+        &PRINT_A_AGAIN,
+        (2000, 0),
+        (LINE_64, 1),
+        TAMPERED,
+    )?;
+    reports(&rt, alloc, &WEAR_LINE_64, (2000, 0), (NOWHERE, 1), SPENT)
 }
 
 #[test]
 fn a_report_knows_of_no_evidence(rt: HostRuntime) -> Result<(), Fail> {
-    let text = reported(
-        rt.alloc(),
-        &EXIT_WITH_65_AGAIN,
-        (2000, 0),
-        (LINE_64, 1),
-        &[],
-        ZeroTagger,
-    )?;
+    let alloc = rt.alloc();
+    let flip = (LINE_64, 1);
+    let report = report(alloc, &EXIT_WITH_65_AGAIN, (2000, 0), flip, &[], ZeroTagger)?;
+    let bytes = report.ok_or("no report")?;
+    let text = write_report(alloc, &bytes).ok().ok_or("no memory")?;
+    let text = text.into_vec();
     assert_eq!(rt; text.as_slice(), WITH_EVIDENCE.as_slice());
     Ok(())
 }
@@ -144,7 +152,7 @@ fn a_report_knows_of_no_evidence(rt: HostRuntime) -> Result<(), Fail> {
 #[test]
 fn a_write_fault_makes_no_report(rt: HostRuntime) -> Result<(), Fail> {
     let tagger = HmacTagger::new(&keys());
-    let text = reported(rt.alloc(), &PRINT_A, (2000, 0), (NOWHERE, 1), &[1], tagger)?;
-    assert!(rt; text.is_empty());
+    let report = report(rt.alloc(), &PRINT_A, (2000, 0), (NOWHERE, 1), &[1], tagger)?;
+    assert!(rt; report.is_none());
     Ok(())
 }

@@ -4,7 +4,8 @@ use super::{flat, setup};
 use chip_run::run;
 use fakes::CountingBus;
 use hmac_tag::HmacTagger;
-use sec_base::{Ending, Geometry, Image, MemorySink};
+use sec_base::{Ending, Evidence, Geometry, Image, MemorySink};
+use std::alloc::Global;
 use std::test::Fail;
 
 // How a run ends whose bus refuses this access, and how many instructions it retired. Boot makes 5 accesses, and line 0 comes
@@ -22,26 +23,36 @@ fn refused_at(access: u64) -> (Ending, u64) {
     }
 }
 
+// What a run comes to whose bus refuses this access: how it ends, how many instructions it retired, the evidence, whether there
+// is a report, and whether no message was made.
+type Refused = ((Ending, u64), Option<Evidence>, bool, bool);
+
+fn refused_run(alloc: Global, access: u64) -> Result<Refused, Fail> {
+    let geometry = Geometry::new(1).ok_or("no geometry")?;
+    let image = Image {
+        entry: 0,
+        size: 16384,
+        segments: flat(alloc, &STORE_65_TWICE)?,
+    };
+    let bus = CountingBus::refusing(alloc, geometry, access)?;
+    let mut out = MemorySink::new(alloc, &[])?;
+    let setup = setup(geometry, 2000, u64::MAX);
+    let tagger = HmacTagger::new(&setup.keys);
+    let (done, _bus) = run(alloc, &image, &[], &setup, tagger, bus, &mut out);
+    Ok((
+        (done.ending, done.retired),
+        done.evidence,
+        done.report.is_some(),
+        done.made.is_empty(),
+    ))
+}
+
 #[test]
 fn a_run_ends_where_the_bus_is_out_of_memory(rt: HostRuntime) -> Result<(), Fail> {
-    let geometry = Geometry::new(1).ok_or("no geometry")?;
     for refused in 1..15u64 {
-        let image = Image {
-            entry: 0,
-            size: 16384,
-            segments: flat(rt.alloc(), &STORE_65_TWICE)?,
-        };
-        let setup = setup(geometry, 2000, u64::MAX);
-        let tagger = HmacTagger::new(&setup.keys);
-        let bus = CountingBus::refusing(rt.alloc(), geometry, refused)?;
-        let mut out = MemorySink::new(rt.alloc(), &[])?;
-        let (done, _bus) = run(rt.alloc(), &image, &[], &setup, tagger, bus, &mut out);
-        let (ending, retired) = refused_at(refused);
-        assert_eq!(rt; done.ending, ending, "access {refused}");
-        assert_eq!(rt; done.retired, retired, "access {refused}");
-        assert_eq!(rt; done.evidence, None, "access {refused}");
-        assert_eq!(rt; done.report.is_some(), refused == 14, "access {refused}");
-        assert_eq!(rt; done.made.is_empty(), refused < 6, "access {refused}");
+        let end = refused_run(rt.alloc(), refused)?;
+        let expected = (refused_at(refused), None, refused == 14, refused < 6);
+        assert_eq!(rt; end, expected, "access {refused}");
     }
     Ok(())
 }
