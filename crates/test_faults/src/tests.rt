@@ -2,8 +2,8 @@
 // rules, and digests and the report by another program (hashlib, hmac in Python); each line is one piece.
 use crate::forgetful::{ForgetfulFiles, ForgetfulSink};
 use chip_cases::{
-    ASM, DIGEST, DIS, EXIT_7, EXIT_7_BYTES, EXIT_7_ELF, EXIT_7_TEXT, FIELDS, LISTING, MEASURE,
-    PLAIN, PLAIN_ON_INPUT, PRINT_A, REPORT, RUN, RUN_BY_ALL, RUN_SMALL, Shown, VERIFY,
+    ASM, Call, DIGEST, DIS, EXIT_7, EXIT_7_BYTES, EXIT_7_ELF, EXIT_7_TEXT, FIELDS, LISTING,
+    MEASURE, PLAIN, PLAIN_ON_INPUT, PRINT_A, REPORT, RUN, RUN_BY_ALL, RUN_SMALL, Shown, VERIFY,
     call_program, make_call, make_short_call, program, shows, without_report,
 };
 use chip_main::run_words;
@@ -148,6 +148,18 @@ const NEVER: At = At {
     note: 0,
 };
 
+// A command where these fail.
+fn call_failing(alloc: Global, command: Command<'_>, at: At) -> Result<Call, NoMemory> {
+    let mut files = files_of(alloc, command.bytes, &[at.read])?;
+    make_call(alloc, command.words, &mut files, &[at.out], &[at.note])
+}
+
+// What a call wrote, with the line of a report, and its status.
+fn assert_whole(rt: &impl Abort, call: &Call, expected: Shown<'_>) {
+    let shown = shows(call.out.bytes(), call.note.bytes(), call.done.status);
+    assert_eq!(rt; shown, expected);
+}
+
 // What a command comes to where these fail.
 fn check_failing(
     rt: &impl Abort,
@@ -156,10 +168,8 @@ fn check_failing(
     at: At,
     expected: Shown<'_>,
 ) -> Result<(), Fail> {
-    let mut files = files_of(alloc, command.bytes, &[at.read])?;
-    let call = make_call(alloc, command.words, &mut files, &[at.out], &[at.note])?;
-    let shown = shows(call.out.bytes(), call.note.bytes(), call.done.status);
-    assert_eq!(rt; shown, expected);
+    let call = call_failing(alloc, command, at)?;
+    assert_whole(rt, &call, expected);
     Ok(())
 }
 
@@ -172,6 +182,22 @@ struct Wanting {
 }
 
 impl Wanting {
+    // Sinks of which these writes find no memory, and that take so many bytes of a piece at most.
+    fn new(alloc: Global, at: At, most: usize) -> Result<Wanting, NoMemory> {
+        let out = ForgetfulSink::new(alloc, most, at.out)?;
+        let note = ForgetfulSink::new(alloc, most, at.note)?;
+        Ok(Wanting {
+            out,
+            note,
+            status: 0,
+        })
+    }
+
+    fn run(&mut self, alloc: Global, words: &[&str], files: &mut ForgetfulFiles) {
+        let done = run_words(alloc, words, files, &mut self.out, &mut self.note);
+        self.status = done.status;
+    }
+
     fn shown(&self) -> Shown<'_> {
         shows(self.out.bytes(), self.note.bytes(), self.status)
     }
@@ -186,14 +212,9 @@ fn call_wanting(
     most: usize,
 ) -> Result<Wanting, NoMemory> {
     let mut files = ForgetfulFiles::new(files, at.read);
-    let mut out = ForgetfulSink::new(alloc, most, at.out)?;
-    let mut note = ForgetfulSink::new(alloc, most, at.note)?;
-    let done = run_words(alloc, words, &mut files, &mut out, &mut note);
-    Ok(Wanting {
-        out,
-        note,
-        status: done.status,
-    })
+    let mut wanting = Wanting::new(alloc, at, most)?;
+    wanting.run(alloc, words, &mut files);
+    Ok(wanting)
 }
 
 // What a command comes to then.
@@ -219,58 +240,85 @@ fn check_past(rt: &impl Abort, alloc: Global, command: Command<'_>, at: At) -> R
 }
 
 // Each file that is read: nothing is printed. That memory was wanted is not told.
+fn check_reads(rt: &impl Abort, alloc: Global, command: Command<'_>) -> Result<(), Fail> {
+    for before in 0..command.reads {
+        let read = before.saturating_add(1);
+        let at = At { read, ..NEVER };
+        check_failing(rt, alloc, command, at, shows(b"", b"read fault\n", 8))?;
+        check_wanting(rt, alloc, command, at, WHOLE, shows(b"", b"", 10))?;
+    }
+    let read = command.reads.saturating_add(1);
+    check_past(rt, alloc, command, At { read, ..NEVER })
+}
+
 #[test]
 fn each_read_fails_in_turn(rt: HostRuntime) -> Result<(), Fail> {
     for command in COMMANDS {
-        for before in 0..command.reads {
-            let read = before.saturating_add(1);
-            let at = At { read, ..NEVER };
-            let unread = shows(b"", b"read fault\n", 8);
-            check_failing(&rt, rt.alloc(), command, at, unread)?;
-            check_wanting(&rt, rt.alloc(), command, at, WHOLE, shows(b"", b"", 10))?;
-        }
-        let read = command.reads.saturating_add(1);
-        check_past(&rt, rt.alloc(), command, At { read, ..NEVER })?;
+        check_reads(&rt, rt.alloc(), command)?;
     }
     Ok(())
 }
 
 // What is printed stands up to the piece that fails, and nothing is told.
+fn check_printed(rt: &impl Abort, alloc: Global, command: Command<'_>) -> Result<(), Fail> {
+    let count = pieces(command.printed);
+    for before in 0..count {
+        let out = before.saturating_add(1);
+        let at = At { out, ..NEVER };
+        let printed = first_pieces(command.printed, before);
+        check_failing(rt, alloc, command, at, shows(printed, b"", 9))?;
+        check_wanting(rt, alloc, command, at, WHOLE, shows(printed, b"", 10))?;
+    }
+    let out = count.saturating_add(1);
+    check_past(rt, alloc, command, At { out, ..NEVER })
+}
+
 #[test]
 fn each_write_to_out_fails_in_turn(rt: HostRuntime) -> Result<(), Fail> {
     for command in COMMANDS {
-        let count = pieces(command.printed);
-        for before in 0..count {
-            let out = before.saturating_add(1);
-            let at = At { out, ..NEVER };
-            let printed = first_pieces(command.printed, before);
-            check_failing(&rt, rt.alloc(), command, at, shows(printed, b"", 9))?;
-            let expected = shows(printed, b"", 10);
-            check_wanting(&rt, rt.alloc(), command, at, WHOLE, expected)?;
-        }
-        let out = count.saturating_add(1);
-        check_past(&rt, rt.alloc(), command, At { out, ..NEVER })?;
+        check_printed(&rt, rt.alloc(), command)?;
     }
     Ok(())
 }
 
 // What is told stands up to the line that fails. Of a run on protected memory there are four.
+fn check_told(rt: &impl Abort, alloc: Global, command: Command<'_>) -> Result<(), Fail> {
+    let count = pieces(command.told);
+    for before in 0..count {
+        let note = before.saturating_add(1);
+        let at = At { note, ..NEVER };
+        let told = first_pieces(command.told, before);
+        let expected = shows(command.printed, told, 9);
+        check_failing(rt, alloc, command, at, expected)?;
+        let expected = shows(command.printed, told, 10);
+        check_wanting(rt, alloc, command, at, WHOLE, expected)?;
+    }
+    let note = count.saturating_add(1);
+    check_past(rt, alloc, command, At { note, ..NEVER })
+}
+
 #[test]
 fn each_write_to_note_fails_in_turn(rt: HostRuntime) -> Result<(), Fail> {
     for command in COMMANDS {
-        let count = pieces(command.told);
-        for before in 0..count {
-            let note = before.saturating_add(1);
-            let at = At { note, ..NEVER };
-            let told = first_pieces(command.told, before);
-            let expected = shows(command.printed, told, 9);
-            check_failing(&rt, rt.alloc(), command, at, expected)?;
-            let expected = shows(command.printed, told, 10);
-            check_wanting(&rt, rt.alloc(), command, at, WHOLE, expected)?;
-        }
-        let note = count.saturating_add(1);
-        check_past(&rt, rt.alloc(), command, At { note, ..NEVER })?;
+        check_told(&rt, rt.alloc(), command)?;
     }
+    Ok(())
+}
+
+// A command whose sinks take so many bytes of a piece at most.
+fn call_narrow(alloc: Global, command: Command<'_>, most: usize) -> Result<Call, NoMemory> {
+    let mut files = files_of(alloc, command.bytes, &[])?;
+    make_short_call(alloc, command.words, &mut files, most)
+}
+
+fn check_narrow(
+    rt: &impl Abort,
+    alloc: Global,
+    command: Command<'_>,
+    most: usize,
+) -> Result<(), Fail> {
+    let call = call_narrow(alloc, command, most)?;
+    assert_whole(rt, &call, shows(command.printed, command.told, 0));
     Ok(())
 }
 
@@ -279,11 +327,7 @@ fn each_write_to_note_fails_in_turn(rt: HostRuntime) -> Result<(), Fail> {
 fn narrow_sinks_get_the_same_bytes(rt: HostRuntime) -> Result<(), Fail> {
     for command in COMMANDS {
         for most in [1, 7, 64] {
-            let mut files = files_of(rt.alloc(), command.bytes, &[])?;
-            let call = make_short_call(rt.alloc(), command.words, &mut files, most)?;
-            let whole = shows(command.printed, command.told, 0);
-            let shown = shows(call.out.bytes(), call.note.bytes(), call.done.status);
-            assert_eq!(rt; shown, whole);
+            check_narrow(&rt, rt.alloc(), command, most)?;
         }
     }
     Ok(())
@@ -377,16 +421,28 @@ fn check_printing(
     Ok(())
 }
 
+// What a run of the program comes to where a write to `out` fails.
+fn check_cut(
+    rt: &impl Abort,
+    alloc: Global,
+    words: &[&str],
+    out: u64,
+    expected: Shown<'_>,
+) -> Result<(), Fail> {
+    let call = call_program(alloc, words, &PRINT_A_AND_B, &[out], &[])?;
+    assert_eq!(rt; call.shown(), expected);
+    Ok(())
+}
+
 // On the plain machine all is told but the last line.
 #[test]
 fn a_run_ends_where_its_output_fails(rt: HostRuntime) -> Result<(), Fail> {
     for cut in CUTS {
         let (told, status) = cut.failing;
-        let call = call_program(rt.alloc(), &RUN, &PRINT_A_AND_B, &[cut.out], &[])?;
-        assert_eq!(rt; call.shown(), shows(cut.printed, told, status));
-        let call = call_program(rt.alloc(), &PLAIN, &PRINT_A_AND_B, &[cut.out], &[])?;
+        let whole = shows(cut.printed, told, status);
+        check_cut(&rt, rt.alloc(), &RUN, cut.out, whole)?;
         let plain = shows(cut.printed, first_pieces(told, 2), status);
-        assert_eq!(rt; call.shown(), plain);
+        check_cut(&rt, rt.alloc(), &PLAIN, cut.out, plain)?;
     }
     Ok(())
 }
@@ -403,25 +459,64 @@ fn a_run_ends_where_its_output_finds_no_memory(rt: HostRuntime) -> Result<(), Fa
     Ok(())
 }
 
+// The run of the program whose sinks take one byte of a piece.
+fn print_narrow(alloc: Global) -> Result<Call, NoMemory> {
+    let mut files = printing_files(alloc)?;
+    make_short_call(alloc, &RUN, &mut files, 1)
+}
+
 #[test]
 fn a_run_prints_the_same_to_narrow_sinks(rt: HostRuntime) -> Result<(), Fail> {
-    let mut files = printing_files(rt.alloc())?;
-    let call = make_short_call(rt.alloc(), &RUN, &mut files, 1)?;
+    let call = print_narrow(rt.alloc())?;
     let told = b"halted 1\nretired 11\nlies 0\n";
     assert_eq!(rt; call.shown(), shows(b"AB", told, 0));
+    Ok(())
+}
+
+// A run of which a sink fails, where nothing is printed: the writes that fail, and what is told of it.
+#[derive(Clone, Copy)]
+struct Kept<'a> {
+    words: &'a [&'a str],
+    code: &'a [u32],
+    out_fails: &'a [u64],
+    note_fails: &'a [u64],
+    told: &'a [u8],
+    ending: Ending,
+}
+
+const KEPT: [Kept<'static>; 2] = [
+    Kept {
+        words: &RUN,
+        code: &EXIT_7,
+        out_fails: &[],
+        note_fails: &[1],
+        told: b"",
+        ending: Ending::Halted(7),
+    },
+    Kept {
+        words: &RUN_SMALL,
+        code: &PRINT_A,
+        out_fails: &[1],
+        note_fails: &[],
+        told: b"write fault\nretired 7\nlies 0\n",
+        ending: Ending::WriteFault,
+    },
+];
+
+fn check_kept(rt: &impl Abort, alloc: Global, kept: Kept<'_>) -> Result<(), Fail> {
+    let (out_fails, note_fails) = (kept.out_fails, kept.note_fails);
+    let call = call_program(alloc, kept.words, kept.code, out_fails, note_fails)?;
+    let came = (call.shown(), call.ending());
+    assert_eq!(rt; came, (shows(b"", kept.told, 9), Some(kept.ending)));
     Ok(())
 }
 
 // The run is handed back where nothing can be told of it, and where its output ended it.
 #[test]
 fn a_fault_of_a_sink_keeps_the_run(rt: HostRuntime) -> Result<(), Fail> {
-    let call = call_program(rt.alloc(), &RUN, &EXIT_7, &[], &[1])?;
-    assert_eq!(rt; call.shown(), shows(b"", b"", 9));
-    assert_eq!(rt; call.ending(), Some(Ending::Halted(7)));
-    let call = call_program(rt.alloc(), &RUN_SMALL, &PRINT_A, &[1], &[])?;
-    let told = b"write fault\nretired 7\nlies 0\n";
-    assert_eq!(rt; call.shown(), shows(b"", told, 9));
-    assert_eq!(rt; call.ending(), Some(Ending::WriteFault));
+    for kept in KEPT {
+        check_kept(&rt, rt.alloc(), kept)?;
+    }
     Ok(())
 }
 
@@ -519,35 +614,56 @@ const ONE_LINES: [OneLine<'static>; 9] = [
     },
 ];
 
-// What is told, with this status, where the write to `note` with a number fails, and where it finds no memory.
-fn check_one_line(
+fn line_files(alloc: Global, line: OneLine<'_>) -> Result<MemoryFiles, NoMemory> {
+    let mut files = files_of(alloc, line.bytes, &[])?;
+    files.add("s", line.script)?;
+    Ok(files)
+}
+
+fn call_line(alloc: Global, line: OneLine<'_>, note: u64) -> Result<Call, NoMemory> {
+    let mut files = line_files(alloc, line)?;
+    make_call(alloc, line.words, &mut files, &[1], &[note])
+}
+
+// What is told, with this status, where the write to `note` with a number fails.
+fn check_line_failing(
     rt: &impl Abort,
     alloc: Global,
     line: OneLine<'_>,
     note: u64,
-    failing: Shown<'_>,
-    wanting: Shown<'_>,
+    expected: Shown<'_>,
 ) -> Result<(), Fail> {
-    let mut files = files_of(alloc, line.bytes, &[])?;
-    files.add("s", line.script)?;
-    let call = make_call(alloc, line.words, &mut files, &[1], &[note])?;
-    assert_eq!(rt; call.shown(), failing);
+    let call = call_line(alloc, line, note)?;
+    assert_eq!(rt; call.shown(), expected);
+    Ok(())
+}
+
+// The same where it finds no memory.
+fn check_line_wanting(
+    rt: &impl Abort,
+    alloc: Global,
+    line: OneLine<'_>,
+    note: u64,
+    expected: Shown<'_>,
+) -> Result<(), Fail> {
     let at = At {
         read: 0,
         out: 1,
         note,
     };
-    let call = call_wanting(alloc, line.words, files, at, WHOLE)?;
-    assert_eq!(rt; call.shown(), wanting);
+    let call = call_wanting(alloc, line.words, line_files(alloc, line)?, at, WHOLE)?;
+    assert_eq!(rt; call.shown(), expected);
     Ok(())
 }
 
 // The line is one piece, so that a second write is none.
 fn check_one_piece(rt: &impl Abort, alloc: Global, line: OneLine<'_>) -> Result<(), Fail> {
     let untold = shows(b"", b"", line.untold);
-    check_one_line(rt, alloc, line, 1, untold, shows(b"", b"", 10))?;
+    check_line_failing(rt, alloc, line, 1, untold)?;
+    check_line_wanting(rt, alloc, line, 1, shows(b"", b"", 10))?;
     let told = shows(b"", line.told, line.status);
-    check_one_line(rt, alloc, line, 2, told, told)
+    check_line_failing(rt, alloc, line, 2, told)?;
+    check_line_wanting(rt, alloc, line, 2, told)
 }
 
 #[test]
@@ -558,24 +674,23 @@ fn one_line_is_one_piece(rt: HostRuntime) -> Result<(), Fail> {
     Ok(())
 }
 
-// The same of files that are too long: for any program, and for the memory.
+// The same of a file of so many zeros.
+fn check_long(rt: &impl Abort, alloc: Global, length: usize, told: &[u8]) -> Result<(), Fail> {
+    let bytes = vec![in alloc; 0u8; length]?;
+    let line = OneLine {
+        words: &RUN_SMALL,
+        bytes: bytes.as_slice(),
+        script: b"",
+        told,
+        status: 3,
+        untold: 3,
+    };
+    check_one_piece(rt, alloc, line)
+}
+
+// Files that are too long: for any program, and for the memory.
 #[test]
 fn the_line_of_a_long_file_is_one_piece(rt: HostRuntime) -> Result<(), Fail> {
-    let rows: [(usize, &[u8]); 2] = [
-        (1_048_577, b"refused long\n"),
-        (16_385, b"refused elf 9 Segment\n"),
-    ];
-    for (length, told) in rows {
-        let bytes = vec![in rt.alloc(); 0u8; length]?;
-        let line = OneLine {
-            words: &RUN_SMALL,
-            bytes: bytes.as_slice(),
-            script: b"",
-            told,
-            status: 3,
-            untold: 3,
-        };
-        check_one_piece(&rt, rt.alloc(), line)?;
-    }
-    Ok(())
+    check_long(&rt, rt.alloc(), 1_048_577, b"refused long\n")?;
+    check_long(&rt, rt.alloc(), 16_385, b"refused elf 9 Segment\n")
 }
