@@ -1,8 +1,6 @@
-//! Buses, checked accesses of them, and buses that a script tampers with.
+//! Buses, and checked accesses of them.
 #![tactic(auto)]
 
-#[cfg(test)]
-mod adversaries;
 #[cfg(test)]
 mod checks;
 #[cfg(test)]

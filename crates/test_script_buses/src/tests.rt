@@ -58,18 +58,52 @@ fn bus_of(rt: &impl Abort, alloc: Global, text: &str) -> Result<ScriptBus, Fail>
     Ok(ScriptBus::new(alloc, script, geometry)?)
 }
 
-// The four places are written by the accesses 1 to 4, and read by 5 to 8.
-fn four_reads(mut bus: ScriptBus) -> Result<FourReads, NoMemory>
-    requires { (script_history bus).levels ≡ 1 }
+// The lines are written by the accesses 1 and 2.
+fn write_lines(bus: &mut ScriptBus) -> Result<(), NoMemory>
+    requires { (script_history bus.old).levels ≡ 1 }
+    ensures { (script_history bus.new).levels ≡ 1 }
 {
     bus.write_data(5, &FIVE)?;
-    bus.write_data(6, &SIX)?;
+    bus.write_data(6, &SIX)
+}
+
+// The nodes are written by the accesses 3 and 4.
+fn write_nodes(bus: &mut ScriptBus) -> Result<(), NoMemory>
+    requires { (script_history bus.old).levels ≡ 1 }
+    ensures { (script_history bus.new).levels ≡ 1 }
+{
     bus.write_node(0, 2, &TWO)?;
-    bus.write_node(0, 3, &THREE)?;
+    bus.write_node(0, 3, &THREE)
+}
+
+// The lines are read by the accesses 5 and 6.
+fn read_lines(bus: &mut ScriptBus) -> Result<(Sealed, Sealed), NoMemory>
+    requires { (script_history bus.old).levels ≡ 1 }
+    ensures { (script_history bus.new).levels ≡ 1 }
+{
     let five = bus.read_data(5)?;
     let six = bus.read_data(6)?;
+    Ok((five, six))
+}
+
+// The nodes are read by the accesses 7 and 8.
+fn read_nodes(bus: &mut ScriptBus) -> Result<([u8; 64], [u8; 64]), NoMemory>
+    requires { (script_history bus.old).levels ≡ 1 }
+    ensures { (script_history bus.new).levels ≡ 1 }
+{
     let two = bus.read_node(0, 2)?;
     let three = bus.read_node(0, 3)?;
+    Ok((two, three))
+}
+
+// The four places are written, and then read.
+fn four_reads(bus: &mut ScriptBus) -> Result<FourReads, NoMemory>
+    requires { (script_history bus.old).levels ≡ 1 }
+{
+    write_lines(bus)?;
+    write_nodes(bus)?;
+    let (five, six) = read_lines(bus)?;
+    let (two, three) = read_nodes(bus)?;
     Ok(FourReads {
         five,
         six,
@@ -79,10 +113,16 @@ fn four_reads(mut bus: ScriptBus) -> Result<FourReads, NoMemory>
     })
 }
 
+// What is read at the four places under this script.
+fn reads_under(rt: &impl Abort, alloc: Global, text: &str) -> Result<FourReads, Fail> {
+    let mut bus = bus_of(rt, alloc, text)?;
+    Ok(four_reads(&mut bus)?)
+}
+
 // The four places are read so under this script.
 fn expect(rt: &impl Abort, alloc: Global, text: &str, expected: FourReads) -> Result<(), Fail> {
-    let bus = bus_of(rt, alloc, text)?;
-    assert_eq!(rt; four_reads(bus)?, expected, "{text}");
+    let reads = reads_under(rt, alloc, text)?;
+    assert_eq!(rt; reads, expected, "{text}");
     Ok(())
 }
 
@@ -167,30 +207,45 @@ fn places_are_swapped(rt: HostRuntime) -> Result<(), Fail> {
 const DIGITS: &str =
     "000102030405060708090a0b0c0d0e0f101112131415161718191a1b1c1d1e1f000102030405060708090a0b0c0d0e0f101112131415161718191a1b1c1d1e1f";
 
+// The four places are read so once the digits and these were put at a place.
+fn expect_put(
+    rt: &impl Abort,
+    alloc: Global,
+    place: &str,
+    digits: &str,
+    expected: FourReads,
+) -> Result<(), Fail> {
+    let mut text = String::new(alloc);
+    text.push_str("access 5: put ")?;
+    text.push_str(place)?;
+    text.push_str(DIGITS)?;
+    text.push_str(digits)?;
+    expect(rt, alloc, text.as_str(), expected)
+}
+
 #[test]
 fn whole_places_are_put(rt: HostRuntime) -> Result<(), Fail> {
     let mut bytes = [0; 64];
     for (at, byte) in bytes.iter_mut().enumerate() {
         *byte = at as u8 % 32;
     }
-    let mut text = String::new(rt.alloc());
-    text.push_str("access 5: put node 0 3 ")?;
-    text.push_str(DIGITS)?;
     let mut node = AS_WRITTEN;
     node.three = bytes;
     node.lies = 1;
-    expect(&rt, rt.alloc(), text.as_str(), node)?;
-    let mut text = String::new(rt.alloc());
-    text.push_str("access 5: put data 5 ")?;
-    text.push_str(DIGITS)?;
-    text.push_str("e0e1e2e3e4e5e6e7e8e9eaebecedeeef")?;
+    expect_put(&rt, rt.alloc(), "node 0 3 ", "", node)?;
     let mut line = AS_WRITTEN;
     line.five.cipher = bytes;
     for (at, byte) in line.five.tag.iter_mut().enumerate() {
         *byte = 0xe0 + at as u8 % 16;
     }
     line.lies = 1;
-    expect(&rt, rt.alloc(), text.as_str(), line)
+    expect_put(
+        &rt,
+        rt.alloc(),
+        "data 5 ",
+        "e0e1e2e3e4e5e6e7e8e9eaebecedeeef",
+        line,
+    )
 }
 
 #[test]
@@ -333,15 +388,33 @@ fn read_line(bus: &mut ScriptBus, line: u32) -> Result<u8, NoMemory>
     Ok(bus.read_data(7)?.cipher[0])
 }
 
-fn six_lines(mut bus: ScriptBus) -> Result<([u8; 6], u64), NoMemory>
-    requires { (script_history bus).levels ≡ 1 }
+// Three of the reads of line 7, behind the first accesses.
+fn first_lines(bus: &mut ScriptBus) -> Result<[u8; 3], NoMemory>
+    requires { (script_history bus.old).levels ≡ 1 }
+    ensures { (script_history bus.new).levels ≡ 1 }
 {
-    let first = write_line(&mut bus, 5)?;
-    let second = read_line(&mut bus, 5)?;
-    let third = write_line(&mut bus, 5)?;
-    let fourth = write_line(&mut bus, 6)?;
-    let fifth = read_line(&mut bus, 5)?;
-    let sixth = read_line(&mut bus, 6)?;
+    let first = write_line(bus, 5)?;
+    let second = read_line(bus, 5)?;
+    let third = write_line(bus, 5)?;
+    Ok([first, second, third])
+}
+
+// The other three.
+fn last_lines(bus: &mut ScriptBus) -> Result<[u8; 3], NoMemory>
+    requires { (script_history bus.old).levels ≡ 1 }
+    ensures { (script_history bus.new).levels ≡ 1 }
+{
+    let first = write_line(bus, 6)?;
+    let second = read_line(bus, 5)?;
+    let third = read_line(bus, 6)?;
+    Ok([first, second, third])
+}
+
+// The six reads of line 7 under a script, and how many of all answers were false.
+fn six_lines(rt: &impl Abort, alloc: Global, text: &str) -> Result<([u8; 6], u64), Fail> {
+    let mut bus = bus_of(rt, alloc, text)?;
+    let [first, second, third] = first_lines(&mut bus)?;
+    let [fourth, fifth, sixth] = last_lines(&mut bus)?;
     Ok(([first, second, third, fourth, fifth, sixth], bus.lies()))
 }
 
@@ -365,15 +438,33 @@ fn read_node(bus: &mut ScriptBus, index: u32) -> Result<u8, NoMemory>
     Ok(bus.read_node(0, 3)?[0])
 }
 
-fn six_nodes(mut bus: ScriptBus) -> Result<([u8; 6], u64), NoMemory>
-    requires { (script_history bus).levels ≡ 1 }
+// Three of the reads of node 0 3, behind the first accesses.
+fn first_nodes(bus: &mut ScriptBus) -> Result<[u8; 3], NoMemory>
+    requires { (script_history bus.old).levels ≡ 1 }
+    ensures { (script_history bus.new).levels ≡ 1 }
 {
-    let first = write_node(&mut bus, 1)?;
-    let second = read_node(&mut bus, 1)?;
-    let third = write_node(&mut bus, 1)?;
-    let fourth = write_node(&mut bus, 2)?;
-    let fifth = read_node(&mut bus, 1)?;
-    let sixth = read_node(&mut bus, 2)?;
+    let first = write_node(bus, 1)?;
+    let second = read_node(bus, 1)?;
+    let third = write_node(bus, 1)?;
+    Ok([first, second, third])
+}
+
+// The other three.
+fn last_nodes(bus: &mut ScriptBus) -> Result<[u8; 3], NoMemory>
+    requires { (script_history bus.old).levels ≡ 1 }
+    ensures { (script_history bus.new).levels ≡ 1 }
+{
+    let first = write_node(bus, 2)?;
+    let second = read_node(bus, 1)?;
+    let third = read_node(bus, 2)?;
+    Ok([first, second, third])
+}
+
+// The six reads of node 0 3 under a script, and how many of all answers were false.
+fn six_nodes(rt: &impl Abort, alloc: Global, text: &str) -> Result<([u8; 6], u64), Fail> {
+    let mut bus = bus_of(rt, alloc, text)?;
+    let [first, second, third] = first_nodes(&mut bus)?;
+    let [fourth, fifth, sixth] = last_nodes(&mut bus)?;
     Ok(([first, second, third, fourth, fifth, sixth], bus.lies()))
 }
 
@@ -391,8 +482,8 @@ fn expect_line_flip(rt: &impl Abort, alloc: Global, trigger: &str, before: u8) -
     let mut text = String::new(alloc);
     text.push_str(trigger)?;
     text.push_str(": flip data 7 0 01")?;
-    let bus = bus_of(rt, alloc, text.as_str())?;
-    expect_before(rt, six_lines(bus)?, trigger, before);
+    let reads = six_lines(rt, alloc, text.as_str())?;
+    expect_before(rt, reads, trigger, before);
     Ok(())
 }
 
@@ -400,8 +491,8 @@ fn expect_node_flip(rt: &impl Abort, alloc: Global, trigger: &str, before: u8) -
     let mut text = String::new(alloc);
     text.push_str(trigger)?;
     text.push_str(": flip node 0 3 0 01")?;
-    let bus = bus_of(rt, alloc, text.as_str())?;
-    expect_before(rt, six_nodes(bus)?, trigger, before);
+    let reads = six_nodes(rt, alloc, text.as_str())?;
+    expect_before(rt, reads, trigger, before);
     Ok(())
 }
 
@@ -468,7 +559,7 @@ fn reads_and_writes_of_a_node_count_from_1(rt: HostRuntime) -> Result<(), Fail> 
 #[test]
 fn no_count_is_put_back(rt: HostRuntime) -> Result<(), Fail> {
     let text = "access 1: saveall 0\nread data 5 1: flip data 7 0 01\naccess 8: restoreall 0";
-    let bus = bus_of(&rt, rt.alloc(), text)?;
-    assert_eq!(rt; six_lines(bus)?, ([0, 1, 1, 0, 0, 0], 4));
+    let reads = six_lines(&rt, rt.alloc(), text)?;
+    assert_eq!(rt; reads, ([0, 1, 1, 0, 0, 0], 4));
     Ok(())
 }

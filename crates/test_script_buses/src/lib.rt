@@ -1,0 +1,5 @@
+//! Buses that a script tampers with.
+#![tactic(auto)]
+
+#[cfg(test)]
+mod tests;
