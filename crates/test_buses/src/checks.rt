@@ -1,10 +1,16 @@
 // Each public call once with ample memory. A tag is what its tagger says, put together by hand: of a line 0x44, the line
 // and the page's counter, the lowest byte first, the line's own counter, and the first two bytes of the ciphertext; of a
 // node 0x4e, its level, its index, the lowest byte first, and the first ten bytes of its block.
+ghost use Rattle.std.specs.Prelude.{◌<◌, ◌≡◌};
+ghost use Rattle.bus_model.specs.FlipBus.{flip_history};
+ghost use Rattle.bus_model.specs.HonestBus.{honest_history};
+
 use bus_model::{Bus, FlipBus, HonestBus};
 use checked_bus::{read_line, read_node, write_line, write_node};
 use fakes::{PrefixTagger, ZeroTagger};
 use sec_base::{Counter, Evidence, Geometry, MemStop, Place, Sealed};
+use std::alloc::Global;
+use std::process::Abort;
 use std::test::Fail;
 use tag_engine::TagEngine;
 
@@ -12,32 +18,88 @@ const FIRST: Counter = Counter { page: 1, line: 0 };
 
 const SECOND: Counter = Counter { page: 2, line: 3 };
 
-#[test]
-fn what_was_written_last_is_read(rt: HostRuntime) -> Result<(), Fail> {
-    let geometry = Geometry::new(1).ok_or("no geometry")?;
-    let mut bus = HonestBus::new(rt.alloc(), geometry)?;
-    let mut tags = TagEngine::new(rt.alloc(), PrefixTagger, geometry)?;
-    tags.reserve(2)?;
-    write_line(&mut bus, &mut tags, 64, FIRST, &[7; 64])?;
-    assert_eq!(rt; read_line(&mut bus, &mut tags, 64, FIRST), Ok([7; 64]));
-    write_line(&mut bus, &mut tags, 64, SECOND, &[8; 64])?;
-    assert_eq!(rt; read_line(&mut bus, &mut tags, 64, SECOND), Ok([8; 64]));
+// So many messages were made, and this is the evidence.
+fn check_end(rt: &impl Abort, tags: TagEngine<PrefixTagger>, count: u64, wanted: Option<Evidence>) {
+    let (made, evidence) = tags.finish();
+    assert_eq!(rt; (made.len(), evidence), (count, wanted));
+}
+
+// Line 64 is written under one counter and then under another, and is read under the last one alone.
+fn check_line(
+    rt: &impl Abort,
+    bus: &mut HonestBus,
+    tags: &mut TagEngine<PrefixTagger>,
+) -> Result<(), Fail>
+    requires places { (honest_history bus.old).levels ≡ 1 }
+    requires lines { tags.old.levels ≡ 1 }
+    requires room { tags.old.room ≡ 2 }
+{
+    write_line(bus, tags, 64, FIRST, &[7; 64])?;
+    assert_eq!(rt; read_line(bus, tags, 64, FIRST), Ok([7; 64]));
+    write_line(bus, tags, 64, SECOND, &[8; 64])?;
+    assert_eq!(rt; read_line(bus, tags, 64, SECOND), Ok([8; 64]));
     let stale = Err(MemStop::Tampered(Place::Line(64)));
-    assert_eq!(rt; read_line(&mut bus, &mut tags, 64, FIRST), stale);
+    assert_eq!(rt; read_line(bus, tags, 64, FIRST), stale);
     let written = Sealed {
         cipher: [8; 64],
         tag: [0x44, 64, 0, 0, 0, 2, 0, 0, 0, 0, 0, 0, 0, 3, 8, 8],
     };
     assert_eq!(rt; bus.read_data(64)?, written);
-    let (made, evidence) = tags.finish();
-    assert_eq!(rt; made.len(), 2);
-    assert_eq!(rt; evidence, None);
+    Ok(())
+}
+
+#[test]
+fn what_was_written_last_is_read(rt: HostRuntime) -> Result<(), Fail> {
+    let geometry = Geometry::new(1).ok_or("no geometry")?;
+    let mut tags = TagEngine::new(rt.alloc(), PrefixTagger, geometry)?;
+    tags.reserve(2)?;
+    let mut bus = HonestBus::new(rt.alloc(), geometry)?;
+    check_line(&rt, &mut bus, &mut tags)?;
+    check_end(&rt, tags, 2, None);
+    Ok(())
+}
+
+// Line 64 is written, and is read so, which is a false answer.
+fn check_false_line(
+    rt: &impl Abort,
+    bus: &mut FlipBus,
+    tags: &mut TagEngine<PrefixTagger>,
+    wanted: Result<[u8; 64], MemStop>,
+    case: &str,
+) -> Result<(), Fail>
+    requires places { (flip_history bus.old).levels ≡ 1 }
+    requires lines { tags.old.levels ≡ 1 }
+    requires room { tags.old.room ≡ 1 }
+{
+    write_line(bus, tags, 64, FIRST, &[6; 64])?;
+    assert_eq!(rt; read_line(bus, tags, 64, FIRST), wanted, "{case}");
+    assert_eq!(rt; bus.lies(), 1, "{case}");
+    Ok(())
+}
+
+// The same where the byte of line 64 at an offset is flipped, and whether there is evidence then.
+fn check_flipped_line(
+    rt: &impl Abort,
+    alloc: Global,
+    offset: u8,
+    wanted: Result<[u8; 64], MemStop>,
+    shown: bool,
+    case: &str,
+) -> Result<(), Fail>
+    requires { offset < 80 }
+{
+    let geometry = Geometry::new(1).ok_or("no geometry")?;
+    let mut tags = TagEngine::new(alloc, PrefixTagger, geometry)?;
+    tags.reserve(1)?;
+    let mut bus = FlipBus::new(alloc, geometry, Place::Line(64), 1, offset, 1)?;
+    check_false_line(rt, &mut bus, &mut tags, wanted, case)?;
+    let (_made, evidence) = tags.finish();
+    assert_eq!(rt; evidence.is_some(), shown, "{case}");
     Ok(())
 }
 
 #[test]
 fn a_flipped_bit_is_tampering_or_evidence(rt: HostRuntime) -> Result<(), Fail> {
-    let geometry = Geometry::new(1).ok_or("no geometry")?;
     let tampered = Err(MemStop::Tampered(Place::Line(64)));
     let mut sixes = [6; 64];
     sixes[2] = 7;
@@ -49,14 +111,7 @@ fn a_flipped_bit_is_tampering_or_evidence(rt: HostRuntime) -> Result<(), Fail> {
         ("the last of the tag", 79, tampered, false),
     ];
     for (case, offset, wanted, shown) in rows {
-        let mut bus = FlipBus::new(rt.alloc(), geometry, Place::Line(64), 1, offset, 1)?;
-        let mut tags = TagEngine::new(rt.alloc(), PrefixTagger, geometry)?;
-        tags.reserve(1)?;
-        write_line(&mut bus, &mut tags, 64, FIRST, &[6; 64])?;
-        assert_eq!(rt; read_line(&mut bus, &mut tags, 64, FIRST), wanted, "{case}");
-        assert_eq!(rt; bus.lies(), 1, "{case}");
-        let (_made, evidence) = tags.finish();
-        assert_eq!(rt; evidence.is_some(), shown, "{case}");
+        check_flipped_line(&rt, rt.alloc(), offset, wanted, shown, case)?;
     }
     Ok(())
 }
@@ -84,62 +139,97 @@ fn a_line_that_was_never_tagged_is_evidence(rt: HostRuntime) -> Result<(), Fail>
 
 const NODE: Place = Place::Node { level: 1, index: 2 };
 
+// Node 1 2 is written twice and a node beside it once, and is read under its last tag alone.
+fn check_node(
+    rt: &impl Abort,
+    bus: &mut HonestBus,
+    tags: &mut TagEngine<PrefixTagger>,
+) -> Result<(), Fail>
+    requires places { (honest_history bus.old).levels ≡ 2 }
+    requires nodes { tags.old.levels ≡ 2 }
+    requires room { tags.old.room ≡ 3 }
+{
+    let first = write_node(bus, tags, 1, 2, &[7; 64])?;
+    assert_eq!(rt; first, [0x4e, 1, 2, 0, 0, 0, 7, 7, 7, 7, 7, 7, 7, 7, 7, 7]);
+    assert_eq!(rt; read_node(bus, tags, 1, 2, &first), Ok([7; 64]));
+    let second = write_node(bus, tags, 1, 2, &[8; 64])?;
+    write_node(bus, tags, 1, 3, &[9; 64])?;
+    assert_eq!(rt; read_node(bus, tags, 1, 2, &second), Ok([8; 64]));
+    let stale = Err(MemStop::Tampered(NODE));
+    assert_eq!(rt; read_node(bus, tags, 1, 2, &first), stale);
+    assert_eq!(rt; bus.read_node(1, 2)?, [8; 64]);
+    Ok(())
+}
+
 #[test]
 fn a_node_is_read_as_it_was_written_last(rt: HostRuntime) -> Result<(), Fail> {
     let geometry = Geometry::new(2).ok_or("no geometry")?;
-    let mut bus = HonestBus::new(rt.alloc(), geometry)?;
     let mut tags = TagEngine::new(rt.alloc(), PrefixTagger, geometry)?;
     tags.reserve(3)?;
-    let first = write_node(&mut bus, &mut tags, 1, 2, &[7; 64])?;
-    assert_eq!(rt; first, [0x4e, 1, 2, 0, 0, 0, 7, 7, 7, 7, 7, 7, 7, 7, 7, 7]);
-    assert_eq!(rt; read_node(&mut bus, &mut tags, 1, 2, &first), Ok([7; 64]));
-    let second = write_node(&mut bus, &mut tags, 1, 2, &[8; 64])?;
-    write_node(&mut bus, &mut tags, 1, 3, &[9; 64])?;
-    assert_eq!(rt; read_node(&mut bus, &mut tags, 1, 2, &second), Ok([8; 64]));
-    let stale = Err(MemStop::Tampered(NODE));
-    assert_eq!(rt; read_node(&mut bus, &mut tags, 1, 2, &first), stale);
-    assert_eq!(rt; bus.read_node(1, 2)?, [8; 64]);
-    let (made, evidence) = tags.finish();
-    assert_eq!(rt; made.len(), 3);
-    assert_eq!(rt; evidence, None);
+    let mut bus = HonestBus::new(rt.alloc(), geometry)?;
+    check_node(&rt, &mut bus, &mut tags)?;
+    check_end(&rt, tags, 3, None);
+    Ok(())
+}
+
+// Node 1 2 is written, and is read so, which is a false answer.
+fn check_false_node(
+    rt: &impl Abort,
+    bus: &mut FlipBus,
+    tags: &mut TagEngine<PrefixTagger>,
+    wanted: Result<[u8; 64], MemStop>,
+    case: &str,
+) -> Result<(), Fail>
+    requires places { (flip_history bus.old).levels ≡ 2 }
+    requires nodes { tags.old.levels ≡ 2 }
+    requires room { tags.old.room ≡ 1 }
+{
+    let tag = write_node(bus, tags, 1, 2, &[6; 64])?;
+    assert_eq!(rt; read_node(bus, tags, 1, 2, &tag), wanted, "{case}");
+    assert_eq!(rt; bus.lies(), 1, "{case}");
+    Ok(())
+}
+
+// The same where the byte of node 1 2 at an offset is flipped, and the evidence then.
+fn check_flipped_node(
+    rt: &impl Abort,
+    alloc: Global,
+    offset: u8,
+    wanted: Result<[u8; 64], MemStop>,
+    shown: Option<Evidence>,
+    case: &str,
+) -> Result<(), Fail>
+    requires { offset < 64 }
+{
+    let geometry = Geometry::new(2).ok_or("no geometry")?;
+    let mut tags = TagEngine::new(alloc, PrefixTagger, geometry)?;
+    tags.reserve(1)?;
+    let mut bus = FlipBus::new(alloc, geometry, NODE, 1, offset, 1)?;
+    check_false_node(rt, &mut bus, &mut tags, wanted, case)?;
+    let (_made, evidence) = tags.finish();
+    assert_eq!(rt; evidence, shown, "{case}");
     Ok(())
 }
 
 #[test]
 fn a_flipped_bit_of_a_node_is_tampering_or_evidence(rt: HostRuntime) -> Result<(), Fail> {
-    let geometry = Geometry::new(2).ok_or("no geometry")?;
     let tampered = Err(MemStop::Tampered(NODE));
     let mut sixes = [6; 64];
     sixes[10] = 7;
+    let collision = Evidence::Collision {
+        level: 1,
+        index: 2,
+        made_at: 0,
+        accepted: sixes,
+        tag: [0x4e, 1, 2, 0, 0, 0, 6, 6, 6, 6, 6, 6, 6, 6, 6, 6],
+    };
     let rows = [
         ("the first byte", 0, tampered, None),
         ("the last that the tag covers", 9, tampered, None),
-        (
-            "the first that it does not",
-            10,
-            Ok(sixes),
-            Some(Evidence::Collision {
-                level: 1,
-                index: 2,
-                made_at: 0,
-                accepted: sixes,
-                tag: [0x4e, 1, 2, 0, 0, 0, 6, 6, 6, 6, 6, 6, 6, 6, 6, 6],
-            }),
-        ),
+        ("the first that it does not", 10, Ok(sixes), Some(collision)),
     ];
     for (case, offset, wanted, shown) in rows {
-        let mut bus = FlipBus::new(rt.alloc(), geometry, NODE, 1, offset, 1)?;
-        let mut tags = TagEngine::new(rt.alloc(), PrefixTagger, geometry)?;
-        tags.reserve(1)?;
-        let tag = write_node(&mut bus, &mut tags, 1, 2, &[6; 64])?;
-        assert_eq!(rt;
-            read_node(&mut bus, &mut tags, 1, 2, &tag),
-            wanted,
-            "{case}"
-        );
-        assert_eq!(rt; bus.lies(), 1, "{case}");
-        let (_made, evidence) = tags.finish();
-        assert_eq!(rt; evidence, shown, "{case}");
+        check_flipped_node(&rt, rt.alloc(), offset, wanted, shown, case)?;
     }
     Ok(())
 }

@@ -8,6 +8,7 @@ ghost use Rattle.bus_model.specs.HonestBus.{honest_history};
 
 use bus_model::{Bus, FlipBus, HonestBus};
 use sec_base::{Geometry, NoMemory, Place, Sealed};
+use std::process::Abort;
 use std::test::Fail;
 
 const ZEROS: Sealed = Sealed {
@@ -20,15 +21,58 @@ const ONES: Sealed = Sealed {
     tag: [2; 16],
 };
 
+// What is read at line 1023 before it is written and twice behind that, and then at line 1022.
+fn four_lines(bus: &mut HonestBus) -> Result<[Sealed; 4], NoMemory>
+    requires { (honest_history bus.old).levels ≡ 2 }
+{
+    let first = bus.read_data(1023)?;
+    bus.write_data(1023, &ONES)?;
+    let second = bus.read_data(1023)?;
+    let third = bus.read_data(1023)?;
+    let beside = bus.read_data(1022)?;
+    Ok([first, second, third, beside])
+}
+
 #[test]
 fn an_honest_bus_answers_what_was_written(rt: HostRuntime) -> Result<(), Fail> {
     let geometry = Geometry::new(2).ok_or("no geometry")?;
     let mut bus = HonestBus::new(rt.alloc(), geometry)?;
-    assert_eq!(rt; bus.read_data(1023)?, ZEROS);
-    bus.write_data(1023, &ONES)?;
-    assert_eq!(rt; bus.read_data(1023)?, ONES);
-    assert_eq!(rt; bus.read_data(1023)?, ONES);
-    assert_eq!(rt; bus.read_data(1022)?, ZEROS);
+    assert_eq!(rt; four_lines(&mut bus)?, [ZEROS, ONES, ONES, ZEROS]);
+    Ok(())
+}
+
+fn write_five_nodes(bus: &mut HonestBus) -> Result<(), NoMemory>
+    requires { (honest_history bus.old).levels ≡ 2 }
+    ensures { (honest_history bus.new).levels ≡ 2 }
+{
+    bus.write_node(0, 3, &[1; 64])?;
+    bus.write_node(0, 15, &[2; 64])?;
+    bus.write_node(1, 0, &[3; 64])?;
+    bus.write_node(1, 3, &[4; 64])?;
+    bus.write_node(2, 0, &[5; 64])
+}
+
+fn read_five_nodes(bus: &mut HonestBus) -> Result<[[u8; 64]; 5], NoMemory>
+    requires { (honest_history bus.old).levels ≡ 2 }
+    ensures { (honest_history bus.new).levels ≡ 2 }
+{
+    let first = bus.read_node(0, 3)?;
+    let second = bus.read_node(0, 15)?;
+    let third = bus.read_node(1, 0)?;
+    let fourth = bus.read_node(1, 3)?;
+    let fifth = bus.read_node(2, 0)?;
+    Ok([first, second, third, fourth, fifth])
+}
+
+// They are read as they were written, and another node and a line as zeros.
+fn check_nodes(rt: &impl Abort, bus: &mut HonestBus) -> Result<(), Fail>
+    requires { (honest_history bus.old).levels ≡ 2 }
+{
+    write_five_nodes(bus)?;
+    let wanted = [[1; 64], [2; 64], [3; 64], [4; 64], [5; 64]];
+    assert_eq!(rt; read_five_nodes(bus)?, wanted);
+    assert_eq!(rt; bus.read_node(0, 1)?, [0; 64]);
+    assert_eq!(rt; bus.read_data(0)?, ZEROS);
     Ok(())
 }
 
@@ -36,19 +80,7 @@ fn an_honest_bus_answers_what_was_written(rt: HostRuntime) -> Result<(), Fail> {
 fn an_honest_bus_keeps_nodes_apart(rt: HostRuntime) -> Result<(), Fail> {
     let geometry = Geometry::new(2).ok_or("no geometry")?;
     let mut bus = HonestBus::new(rt.alloc(), geometry)?;
-    bus.write_node(0, 3, &[1; 64])?;
-    bus.write_node(0, 15, &[2; 64])?;
-    bus.write_node(1, 0, &[3; 64])?;
-    bus.write_node(1, 3, &[4; 64])?;
-    bus.write_node(2, 0, &[5; 64])?;
-    assert_eq!(rt; bus.read_node(0, 3)?, [1; 64]);
-    assert_eq!(rt; bus.read_node(0, 15)?, [2; 64]);
-    assert_eq!(rt; bus.read_node(1, 0)?, [3; 64]);
-    assert_eq!(rt; bus.read_node(1, 3)?, [4; 64]);
-    assert_eq!(rt; bus.read_node(2, 0)?, [5; 64]);
-    assert_eq!(rt; bus.read_node(0, 1)?, [0; 64]);
-    assert_eq!(rt; bus.read_data(0)?, ZEROS);
-    Ok(())
+    check_nodes(&rt, &mut bus)
 }
 
 // What is read at a line and at a node of level 0, once they were written.
@@ -82,14 +114,22 @@ fn each_size_has_its_last_line_and_node(rt: HostRuntime) -> Result<(), Fail> {
 }
 
 // What is read at line 64 at each of three reads, once ONES were written there.
-fn three_reads(mut bus: FlipBus) -> Result<([Sealed; 3], u64), NoMemory>
-    requires { (flip_history bus).levels ≡ 1 }
+fn read_thrice(bus: &mut FlipBus) -> Result<[Sealed; 3], NoMemory>
+    requires { (flip_history bus.old).levels ≡ 1 }
 {
     bus.write_data(64, &ONES)?;
     let first = bus.read_data(64)?;
     let second = bus.read_data(64)?;
     let third = bus.read_data(64)?;
-    Ok(([first, second, third], bus.lies()))
+    Ok([first, second, third])
+}
+
+// The same, and how many answers were false.
+fn three_reads(mut bus: FlipBus) -> Result<([Sealed; 3], u64), NoMemory>
+    requires { (flip_history bus).levels ≡ 1 }
+{
+    let reads = read_thrice(&mut bus)?;
+    Ok((reads, bus.lies()))
 }
 
 #[test]
@@ -97,18 +137,29 @@ fn a_flip_is_at_every_offset_of_a_line(rt: HostRuntime) -> Result<(), Fail> {
     let geometry = Geometry::new(1).ok_or("no geometry")?;
     for offset in 0..80 {
         let bus = FlipBus::new(rt.alloc(), geometry, Place::Line(64), 2, offset, 0x81)?;
-        let ([first, second, third], lies) = three_reads(bus)?;
+        let (reads, lies) = three_reads(bus)?;
         let mut flipped = ONES;
         if offset < 64 {
             flipped.cipher[offset as usize] = 0x80;
         } else {
             flipped.tag[offset as usize - 64] = 0x83;
         }
-        assert_eq!(rt; first, ONES);
-        assert_eq!(rt; second, flipped, "at {offset}");
-        assert_eq!(rt; third, ONES);
+        assert_eq!(rt; reads, [ONES, flipped, ONES], "at {offset}");
         assert_eq!(rt; lies, 1);
     }
+    Ok(())
+}
+
+// The top node is read so, and then as zeros, and as it is written.
+fn check_flip(rt: &impl Abort, bus: &mut FlipBus, flipped: [u8; 64]) -> Result<(), Fail>
+    requires { (flip_history bus.old).levels ≡ 1 }
+{
+    assert_eq!(rt; bus.read_node(0, 0)?, [0; 64]);
+    assert_eq!(rt; bus.read_node(1, 0)?, flipped);
+    assert_eq!(rt; bus.read_node(1, 0)?, [0; 64]);
+    bus.write_node(1, 0, &[7; 64])?;
+    assert_eq!(rt; bus.read_node(1, 0)?, [7; 64]);
+    assert_eq!(rt; bus.lies(), 1);
     Ok(())
 }
 
@@ -120,12 +171,7 @@ fn a_flip_is_at_every_offset_of_a_node(rt: HostRuntime) -> Result<(), Fail> {
         let mut bus = FlipBus::new(rt.alloc(), geometry, place, 1, offset, 0xff)?;
         let mut flipped = [0; 64];
         flipped[offset as usize] = 0xff;
-        assert_eq!(rt; bus.read_node(0, 0)?, [0; 64]);
-        assert_eq!(rt; bus.read_node(1, 0)?, flipped, "at {offset}");
-        assert_eq!(rt; bus.read_node(1, 0)?, [0; 64]);
-        bus.write_node(1, 0, &[7; 64])?;
-        assert_eq!(rt; bus.read_node(1, 0)?, [7; 64]);
-        assert_eq!(rt; bus.lies(), 1);
+        check_flip(&rt, &mut bus, flipped)?;
     }
     Ok(())
 }
@@ -150,14 +196,22 @@ fn some_flips_are_no_lie(rt: HostRuntime) -> Result<(), Fail> {
 }
 
 // What is read at node 3 of level 0 at each of three reads, once sevens were written there.
-fn three_node_reads(mut bus: FlipBus) -> Result<([[u8; 64]; 3], u64), NoMemory>
-    requires { (flip_history bus).levels ≡ 1 }
+fn read_node_thrice(bus: &mut FlipBus) -> Result<[[u8; 64]; 3], NoMemory>
+    requires { (flip_history bus.old).levels ≡ 1 }
 {
     bus.write_node(0, 3, &[7; 64])?;
     let first = bus.read_node(0, 3)?;
     let second = bus.read_node(0, 3)?;
     let third = bus.read_node(0, 3)?;
-    Ok(([first, second, third], bus.lies()))
+    Ok([first, second, third])
+}
+
+// The same, and how many answers were false.
+fn three_node_reads(mut bus: FlipBus) -> Result<([[u8; 64]; 3], u64), NoMemory>
+    requires { (flip_history bus).levels ≡ 1 }
+{
+    let reads = read_node_thrice(&mut bus)?;
+    Ok((reads, bus.lies()))
 }
 
 #[test]
