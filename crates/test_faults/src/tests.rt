@@ -4,7 +4,7 @@ use crate::forgetful::{ForgetfulFiles, ForgetfulSink};
 use chip_cases::{
     ASM, Call, DIGEST, DIS, EXIT_7, EXIT_7_BYTES, EXIT_7_ELF, EXIT_7_TEXT, FIELDS, LISTING,
     MEASURE, PLAIN, PLAIN_ON_INPUT, PRINT_A, REPORT, RUN, RUN_BY_ALL, RUN_SMALL, Shown, VERIFY,
-    call_program, make_call, make_short_call, program, shows, without_report,
+    call_program, file, make_call, make_short_call, program, shows, without_report,
 };
 use chip_main::run_words;
 use sec_base::{Ending, MemoryFiles, NoMemory};
@@ -90,12 +90,16 @@ const COMMANDS: [Command<'static>; 7] = [
 // More bytes than a piece has.
 const WHOLE: usize = 1_000_000;
 
-// The file `f`, a script and an input without a byte. Reads with these numbers fail.
-fn files_of(alloc: Global, bytes: &[u8], fails: &[u64]) -> Result<MemoryFiles, NoMemory> {
-    let mut files = MemoryFiles::new(alloc, fails)?;
-    files.add("f", bytes)?;
+// A script and an input without a byte.
+fn add_empty(files: &mut MemoryFiles) -> Result<(), NoMemory> {
     files.add("s", b"")?;
-    files.add("i", b"")?;
+    files.add("i", b"")
+}
+
+// These beside the file `f`. Reads with these numbers fail.
+fn files_of(alloc: Global, bytes: &[u8], fails: &[u64]) -> Result<MemoryFiles, NoMemory> {
+    let mut files = file(alloc, bytes, fails)?;
+    add_empty(&mut files)?;
     Ok(files)
 }
 
