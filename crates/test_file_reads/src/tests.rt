@@ -1,9 +1,29 @@
 // How files are read. What is told is worked out by hand from the limits of files and their order.
 use chip_cases::{
-    ASM, DIS, DIS_ELF, EXIT_7_ELF, MEASURE, MEASURE_ELF, PLAIN, PLAIN_ON_INPUT, RUN, RUN_BY_ALL,
-    RUN_ELF, RUN_SMALL, VERIFY, call_without_files, call_zeros, file, make_call, shows,
+    ASM, Call, DIS, DIS_ELF, EXIT_7_ELF, MEASURE, MEASURE_ELF, PLAIN, PLAIN_ON_INPUT, RUN,
+    RUN_BY_ALL, RUN_ELF, RUN_SMALL, Shown, VERIFY, call_without_files, call_zeros, file, make_call,
+    shows,
 };
+use sec_base::NoMemory;
+use std::alloc::Global;
+use std::fmt::Debug;
+use std::process::Abort;
 use std::test::Fail;
+
+// What a call shows. It is the only function here that drops a call.
+fn check_call<R>(
+    rt: &impl Abort,
+    call: Result<Call, NoMemory>,
+    shown: Shown<'_>,
+    row: &R,
+) -> Result<(), NoMemory>
+where
+    R: Debug,
+{
+    let call = call?;
+    assert_eq!(rt; call.shown(), shown, "{row:?}");
+    Ok(())
+}
 
 // The words, how many zeros the flat file has, what is told, and the status.
 const FLAT_LENGTHS: [(&[&str], usize, &[u8], u8); 7] = [
@@ -24,8 +44,8 @@ const FLAT_LENGTHS: [(&[&str], usize, &[u8], u8); 7] = [
 #[test]
 fn flat_files_have_limits(rt: HostRuntime) -> Result<(), Fail> {
     for (words, length, told, status) in FLAT_LENGTHS {
-        let call = call_zeros(rt.alloc(), words, length)?;
-        assert_eq!(rt; call.shown(), shows(b"", told, status), "{words:?}");
+        let call = call_zeros(rt.alloc(), words, length);
+        check_call(&rt, call, shows(b"", told, status), &words)?;
     }
     Ok(())
 }
@@ -44,8 +64,8 @@ const LENGTHS: [(&[&str], usize, &[u8]); 7] = [
 #[test]
 fn other_files_have_limits(rt: HostRuntime) -> Result<(), Fail> {
     for (words, length, told) in LENGTHS {
-        let call = call_zeros(rt.alloc(), words, length)?;
-        assert_eq!(rt; call.shown(), shows(b"", told, 3), "{words:?}");
+        let call = call_zeros(rt.alloc(), words, length);
+        check_call(&rt, call, shows(b"", told, 3), &words)?;
     }
     Ok(())
 }
@@ -71,14 +91,24 @@ const INPUTS: [(&[&str], &[u8], usize, &[u8], u8); 3] = [
     (&PLAIN_ON_INPUT, b"", 1_048_577, b"refused long\n", 3),
 ];
 
+// A call on the program `f` and the input `i` of so many zeros.
+fn call_on_zeros(
+    alloc: Global,
+    words: &[&str],
+    program: &[u8],
+    length: usize,
+) -> Result<Call, NoMemory> {
+    let input = vec![in alloc; 0u8; length]?;
+    let mut files = file(alloc, program, &[])?;
+    files.add("i", input.as_slice())?;
+    make_call(alloc, words, &mut files, &[], &[])
+}
+
 #[test]
 fn an_input_has_a_limit(rt: HostRuntime) -> Result<(), Fail> {
     for (words, program, length, told, status) in INPUTS {
-        let input = vec![in rt.alloc(); 0u8; length]?;
-        let mut files = file(rt.alloc(), program, &[])?;
-        files.add("i", input.as_slice())?;
-        let call = make_call(rt.alloc(), words, &mut files, &[], &[])?;
-        assert_eq!(rt; call.shown(), shows(b"", told, status), "{words:?}");
+        let call = call_on_zeros(rt.alloc(), words, program, length);
+        check_call(&rt, call, shows(b"", told, status), &words)?;
     }
     Ok(())
 }
@@ -116,26 +146,41 @@ const ORDERS: [(&[&str], &[u8], &[u8], u64, &[u8], u8); 8] = [
     ),
 ];
 
+// A call whose read of this number fails.
+fn call_on_fault(
+    alloc: Global,
+    words: &[&str],
+    program: &[u8],
+    script: &[u8],
+    fails: u64,
+) -> Result<Call, NoMemory> {
+    let mut files = file(alloc, program, &[fails])?;
+    files.add("s", script)?;
+    files.add("i", b"")?;
+    make_call(alloc, words, &mut files, &[], &[])
+}
+
 // Each file has its form before the next one is read: the program, the script, and then the input.
 #[test]
 fn files_are_read_in_order(rt: HostRuntime) -> Result<(), Fail> {
     for (words, program, script, fails, told, status) in ORDERS {
-        let mut files = file(rt.alloc(), program, &[fails])?;
-        files.add("s", script)?;
-        files.add("i", b"")?;
-        let call = make_call(rt.alloc(), words, &mut files, &[], &[])?;
-        assert_eq!(rt; call.shown(), shows(b"", told, status), "read {fails}");
+        let call = call_on_fault(rt.alloc(), words, program, script, fails);
+        check_call(&rt, call, shows(b"", told, status), &fails)?;
     }
     Ok(())
 }
 
-// The second read would fail.
+// A call on a program that is too long. The second read would fail.
+fn call_long_program(alloc: Global) -> Result<Call, NoMemory> {
+    let zeros = vec![in alloc; 0u8; 1_048_577]?;
+    let mut files = file(alloc, zeros.as_slice(), &[2])?;
+    make_call(alloc, &PLAIN_ON_INPUT, &mut files, &[], &[])
+}
+
 #[test]
 fn a_long_program_is_refused_before_its_input_is_read(rt: HostRuntime) -> Result<(), Fail> {
-    let zeros = vec![in rt.alloc(); 0u8; 1_048_577]?;
-    let mut files = file(rt.alloc(), zeros.as_slice(), &[2])?;
-    let call = make_call(rt.alloc(), &PLAIN_ON_INPUT, &mut files, &[], &[])?;
-    assert_eq!(rt; call.shown(), shows(b"", b"refused long\n", 3));
+    let call = call_long_program(rt.alloc());
+    check_call(&rt, call, shows(b"", b"refused long\n", 3), &PLAIN_ON_INPUT)?;
     Ok(())
 }
 
@@ -144,8 +189,8 @@ const ABSENT: [&[&str]; 3] = [&RUN, &RUN_ELF, &VERIFY];
 #[test]
 fn a_file_that_is_not_there_is_a_fault(rt: HostRuntime) -> Result<(), Fail> {
     for words in ABSENT {
-        let call = call_without_files(rt.alloc(), words)?;
-        assert_eq!(rt; call.shown(), shows(b"", b"read fault\n", 8), "{words:?}");
+        let call = call_without_files(rt.alloc(), words);
+        check_call(&rt, call, shows(b"", b"read fault\n", 8), &words)?;
     }
     Ok(())
 }

@@ -1,10 +1,11 @@
 // Reports of runs, from an independent model in Python (hashlib, hmac, cryptography).
 use chip_cases::{
-    EXIT_7, MEASURE, PLAIN, PRINT_A, REPORT, REPORT_OF_KEY, REPORT_TARGET, RUN, RUN_SMALL,
-    call_program, file, make_call, program,
+    Call, EXIT_7, MEASURE, PLAIN, PRINT_A, REPORT, REPORT_OF_KEY, REPORT_TARGET, RUN, RUN_SMALL,
+    Shown, call_program, file, make_call, program, shows,
 };
 use sec_base::{MemoryFiles, NoMemory};
 use std::alloc::{AllocError, Global};
+use std::process::Abort;
 use std::test::Fail;
 
 // Of the program that exits with 7 in 16 KiB; of an empty program; of one that prints the front of its input.
@@ -200,17 +201,35 @@ fn with_report(alloc: Global, told: &[u8], report: &[u8; 316]) -> Result<Vec<u8>
     Ok(text)
 }
 
+fn call_run(alloc: Global, run: Reported<'static>) -> Result<Call, NoMemory> {
+    let mut files = run_files(alloc, run.code)?;
+    let mut words = Vec::from_slice(alloc, &RUN)?;
+    words.extend_from_slice(run.options)?;
+    make_call(alloc, words.as_slice(), &mut files, &[], &[])
+}
+
+// All that a call tells, a report too. It is the only function here that drops a call.
+fn check_call(
+    rt: &impl Abort,
+    call: Result<Call, NoMemory>,
+    shown: Shown<'_>,
+) -> Result<(), NoMemory> {
+    let call = call?;
+    let answer = shows(call.out.bytes(), call.note.bytes(), call.done.status);
+    assert_eq!(rt; answer, shown);
+    Ok(())
+}
+
+fn check_run(rt: &impl Abort, alloc: Global, run: Reported<'static>) -> Result<(), NoMemory> {
+    let told = with_report(alloc, run.told, run.report)?;
+    let shown = shows(run.printed, told.as_slice(), run.status);
+    check_call(rt, call_run(alloc, run), shown)
+}
+
 #[test]
 fn runs_are_reported(rt: HostRuntime) -> Result<(), Fail> {
     for run in REPORTED {
-        let mut words = Vec::from_slice(rt.alloc(), &RUN)?;
-        words.extend_from_slice(run.options)?;
-        let mut files = run_files(rt.alloc(), run.code)?;
-        let call = make_call(rt.alloc(), words.as_slice(), &mut files, &[], &[])?;
-        let told = with_report(rt.alloc(), run.told, run.report)?;
-        assert_eq!(rt; call.out.bytes(), run.printed);
-        assert_eq!(rt; call.note.bytes(), told.as_slice());
-        assert_eq!(rt; call.done.status, run.status);
+        check_run(&rt, rt.alloc(), run)?;
     }
     Ok(())
 }
@@ -218,27 +237,30 @@ fn runs_are_reported(rt: HostRuntime) -> Result<(), Fail> {
 // A run on the plain machine, one whose output fails, and one whose record is told in part.
 #[test]
 fn no_report_is_told(rt: HostRuntime) -> Result<(), Fail> {
-    let call = call_program(rt.alloc(), &PLAIN, &EXIT_7, &[], &[])?;
-    assert_eq!(rt; call.note.bytes(), b"halted 7\nretired 3\n".as_slice());
-    let call = call_program(rt.alloc(), &RUN_SMALL, &PRINT_A, &[1], &[])?;
-    assert_eq!(rt;
-        call.note.bytes(),
-        b"write fault\nretired 7\nlies 0\n".as_slice()
-    );
-    let call = call_program(rt.alloc(), &RUN, &EXIT_7, &[], &[4])?;
-    assert_eq!(rt;
-        call.note.bytes(),
-        b"halted 7\nretired 3\nlies 0\n".as_slice()
-    );
-    assert_eq!(rt; call.done.status, 9);
+    let call = call_program(rt.alloc(), &PLAIN, &EXIT_7, &[], &[]);
+    check_call(&rt, call, shows(b"", b"halted 7\nretired 3\n", 0))?;
+    let call = call_program(rt.alloc(), &RUN_SMALL, &PRINT_A, &[1], &[]);
+    let told = b"write fault\nretired 7\nlies 0\n";
+    check_call(&rt, call, shows(b"", told, 9))?;
+    let call = call_program(rt.alloc(), &RUN, &EXIT_7, &[], &[4]);
+    let told = b"halted 7\nretired 3\nlies 0\n";
+    check_call(&rt, call, shows(b"", told, 9))?;
     Ok(())
+}
+
+// The digits of a measurement in a report, with a line feed.
+fn measurement_in(alloc: Global, report: &[u8; 316]) -> Result<Vec<u8>, AllocError> {
+    let report = report.as_slice();
+    let mut digits = report[2..66].to_vec(alloc)?;
+    digits.push(b'\n')?;
+    Ok(digits)
 }
 
 // The 64 digits of a measurement are those that a report has behind its version.
 #[test]
 fn a_measurement_is_that_of_the_report(rt: HostRuntime) -> Result<(), Fail> {
-    let call = call_program(rt.alloc(), &MEASURE, &EXIT_7, &[], &[])?;
-    let report = REPORT.as_slice();
-    assert!(rt; call.out.bytes().starts_with(&report[2..66]));
+    let digits = measurement_in(rt.alloc(), REPORT)?;
+    let call = call_program(rt.alloc(), &MEASURE, &EXIT_7, &[], &[]);
+    check_call(&rt, call, shows(digits.as_slice(), b"", 0))?;
     Ok(())
 }

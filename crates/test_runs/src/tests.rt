@@ -2,12 +2,12 @@
 // and the machine's rules.
 use bus_model::{Bus, HonestBus};
 use chip_cases::{
-    EXIT_7, EXIT_65, PLAIN_ON_INPUT, PRINT_A, RUN, RUN_ON_INPUT, RUN_SMALL, call_program, file,
-    make_call, program, shows,
+    Call, EXIT_7, EXIT_65, PLAIN_ON_INPUT, PRINT_A, RUN, RUN_ON_INPUT, RUN_SMALL, Shown,
+    call_program, file, make_call, program, shows,
 };
 use chip_device::RunBus;
-use sec_base::{Ending, Geometry, Sealed};
-use std::alloc::Global;
+use sec_base::{Ending, Geometry, NoMemory, Sealed};
+use std::alloc::{AllocError, Global};
 use std::process::Abort;
 use std::test::Fail;
 
@@ -69,24 +69,39 @@ struct Case<'a> {
     status: u8,
 }
 
+// What a call shows, and whether its bus is handed back.
+fn check_call(
+    rt: &impl Abort,
+    call: Result<Call, NoMemory>,
+    shown: Shown<'_>,
+    has_bus: bool,
+) -> Result<(), NoMemory> {
+    let call = call?;
+    let answer = (call.shown(), call.done.bus.is_some());
+    assert_eq!(rt; answer, (shown, has_bus));
+    Ok(())
+}
+
+// What a run on protected memory tells where the plain machine tells this.
+fn without_lies(alloc: Global, told: &[u8]) -> Result<Vec<u8>, AllocError> {
+    let mut text = told.to_vec(alloc)?;
+    text.extend_from_slice(b"lies 0\n")?;
+    Ok(text)
+}
+
 // The same on the plain machine and on protected memory.
-fn check_program(rt: &impl Abort, alloc: Global, case: Case<'_>) -> Result<(), Fail> {
+fn check_program(rt: &impl Abort, alloc: Global, case: Case<'_>) -> Result<(), NoMemory> {
     let [name, value] = case.option;
     let words = ["chip", "plain", "f", "--flat", name, value];
-    let call = call_program(alloc, &words, case.code, &[], &[])?;
-    assert_eq!(rt; call.shown(), shows(case.printed, case.told, case.status));
-    assert!(rt; call.done.bus.is_none());
+    let call = call_program(alloc, &words, case.code, &[], &[]);
+    let shown = shows(case.printed, case.told, case.status);
+    check_call(rt, call, shown, false)?;
 
-    let mut text = case.told.to_vec(alloc)?;
-    text.extend_from_slice(b"lies 0\n")?;
+    let told = without_lies(alloc, case.told)?;
     let words = ["chip", "run", "f", "--flat", name, value];
-    let call = call_program(alloc, &words, case.code, &[], &[])?;
-    assert_eq!(rt;
-        call.shown(),
-        shows(case.printed, text.as_slice(), case.status)
-    );
-    assert!(rt; call.done.bus.is_some());
-    Ok(())
+    let call = call_program(alloc, &words, case.code, &[], &[]);
+    let shown = shows(case.printed, told.as_slice(), case.status);
+    check_call(rt, call, shown, true)
 }
 
 const ENDS: [Case<'static>; 10] = [
@@ -242,12 +257,9 @@ fn programs_trap(rt: HostRuntime) -> Result<(), Fail> {
 #[test]
 fn a_run_is_handed_back(rt: HostRuntime) -> Result<(), Fail> {
     let call = call_program(rt.alloc(), &RUN, &EXIT_7, &[], &[])?;
-    assert_eq!(rt;
-        call.shown(),
-        shows(b"", b"halted 7\nretired 3\nlies 0\n", 0)
-    );
-    assert_eq!(rt; call.ending(), Some(Ending::Halted(7)));
-    assert_eq!(rt; call.done.lies, 0);
+    let answer = (call.shown(), call.ending(), call.done.lies);
+    let shown = shows(b"", b"halted 7\nretired 3\nlies 0\n", 0);
+    assert_eq!(rt; answer, (shown, Some(Ending::Halted(7)), 0));
     Ok(())
 }
 
@@ -256,32 +268,35 @@ fn a_run_is_handed_back(rt: HostRuntime) -> Result<(), Fail> {
 fn a_run_has_a_page_limit(rt: HostRuntime) -> Result<(), Fail> {
     for limit in ["1000", "18446744073709551615"] {
         let words = ["chip", "run", "f", "--flat", "--page-limit", limit];
-        let call = call_program(rt.alloc(), &words, &EXIT_65, &[], &[])?;
-        assert_eq!(rt;
-            call.shown(),
-            shows(b"", b"halted 65\nretired 6\nlies 0\n", 0)
-        );
+        let call = call_program(rt.alloc(), &words, &EXIT_65, &[], &[]);
+        let told = b"halted 65\nretired 6\nlies 0\n";
+        check_call(&rt, call, shows(b"", told, 0), true)?;
     }
     Ok(())
 }
 
-// What the program that copies its input prints and tells.
+// A call on the program that copies its input.
+fn call_on_input(alloc: Global, words: &[&str], input: &[u8]) -> Result<Call, NoMemory> {
+    let code = program(alloc, &COPY_4)?;
+    let mut files = file(alloc, code.as_slice(), &[])?;
+    files.add("i", input)?;
+    make_call(alloc, words, &mut files, &[], &[])
+}
+
+// What it prints and tells.
 fn check_input(
     rt: &impl Abort,
     alloc: Global,
     input: &[u8],
     printed: &[u8],
     told: &[u8],
-) -> Result<(), Fail> {
-    let code = program(alloc, &COPY_4)?;
-    let mut files = file(alloc, code.as_slice(), &[])?;
-    files.add("i", input)?;
-    let call = make_call(alloc, &PLAIN_ON_INPUT, &mut files, &[], &[])?;
-    assert_eq!(rt; call.shown(), shows(printed, told, 0));
-    let call = make_call(alloc, &RUN_ON_INPUT, &mut files, &[], &[])?;
-    assert_eq!(rt; call.out.bytes(), printed);
-    assert_eq!(rt; call.done.status, 0);
-    Ok(())
+) -> Result<(), NoMemory> {
+    let call = call_on_input(alloc, &PLAIN_ON_INPUT, input);
+    check_call(rt, call, shows(printed, told, 0), false)?;
+
+    let told = without_lies(alloc, told)?;
+    let call = call_on_input(alloc, &RUN_ON_INPUT, input);
+    check_call(rt, call, shows(printed, told.as_slice(), 0), true)
 }
 
 #[test]
@@ -293,28 +308,33 @@ fn programs_read_their_input(rt: HostRuntime) -> Result<(), Fail> {
     Ok(())
 }
 
+// A call on a program that does nothing and fills 16 KiB.
+fn call_full(alloc: Global) -> Result<Call, NoMemory> {
+    let code = vec![in alloc; NOTHING; 4096]?;
+    call_program(alloc, &RUN_SMALL, code.as_slice(), &[], &[])
+}
+
 #[test]
 fn a_program_fills_the_memory(rt: HostRuntime) -> Result<(), Fail> {
-    let code = vec![in rt.alloc(); NOTHING; 4096]?;
-    let call = call_program(rt.alloc(), &RUN_SMALL, code.as_slice(), &[], &[])?;
     let told = b"trapped outside memory pc 00004000\nretired 4096\nlies 0\n";
-    assert_eq!(rt; call.shown(), shows(b"", told, 1));
+    check_call(&rt, call_full(rt.alloc()), shows(b"", told, 1), true)?;
     Ok(())
 }
+
+const SEALED: Sealed = Sealed {
+    cipher: [1; 64],
+    tag: [2; 16],
+};
 
 #[test]
 fn a_run_bus_answers_what_was_written(rt: HostRuntime) -> Result<(), Fail> {
     let geometry = Geometry::new(1).ok_or("no geometry")?;
     let mut bus = RunBus::Honest(HonestBus::new(rt.alloc(), geometry)?);
-    let sealed = Sealed {
-        cipher: [1; 64],
-        tag: [2; 16],
-    };
-    bus.write_data(255, &sealed)?;
-    bus.write_node(1, 0, &[3; 64])?;
-    assert_eq!(rt; bus.read_data(255)?, sealed);
-    assert_eq!(rt; bus.read_node(1, 0)?, [3; 64]);
-    assert_eq!(rt; bus.read_node(0, 0)?, [0; 64]);
-    assert_eq!(rt; bus.lies(), 0);
+    let writes = [bus.write_data(255, &SEALED), bus.write_node(1, 0, &[3; 64])];
+    let line = bus.read_data(255);
+    let nodes = [bus.read_node(1, 0), bus.read_node(0, 0)];
+    let answers = (writes, line, nodes, bus.lies());
+    let expected = ([Ok(()); 2], Ok(SEALED), [Ok([3; 64]), Ok([0; 64])], 0);
+    assert_eq!(rt; answers, expected);
     Ok(())
 }

@@ -1,8 +1,29 @@
 // Checks of reports. The reports are from an independent model in Python (hashlib, hmac, cryptography).
 use chip_cases::{
-    Case, FIELDS, REPORT, REPORT_OF_KEY, REPORT_TARGET, VERIFY, call_file, edited, shows,
+    Call, Case, FIELDS, REPORT, REPORT_OF_KEY, REPORT_TARGET, Shown, VERIFY, call_file, edited,
+    shows,
 };
+use sec_base::NoMemory;
+use std::alloc::Global;
+use std::fmt::Debug;
+use std::process::Abort;
 use std::test::Fail;
+
+// What a call shows. A check of a report runs nothing. It is the only function here that drops a call.
+fn check_call<R>(
+    rt: &impl Abort,
+    call: Result<Call, NoMemory>,
+    shown: Shown<'_>,
+    row: &R,
+) -> Result<(), NoMemory>
+where
+    R: Debug,
+{
+    let call = call?;
+    let answer = (call.shown(), call.done.run.is_none());
+    assert_eq!(rt; answer, (shown, true), "{row:?}");
+    Ok(())
+}
 
 const FIELDS_OF_TRAP: &[u8] = b"\
 measurement 62d39fefb0b76f925ef988ba3f0e3bb96ab2a99b5d9d8f68670621fb0a7e2333
@@ -78,9 +99,7 @@ const CASES: [Case<'static>; 6] = [
 #[test]
 fn reports_are_checked(rt: HostRuntime) -> Result<(), Fail> {
     for case in CASES {
-        let call = case.call(rt.alloc())?;
-        assert_eq!(rt; call.shown(), case.shown());
-        assert!(rt; call.done.run.is_none());
+        check_call(&rt, case.call(rt.alloc()), case.shown(), &case.words)?;
     }
     Ok(())
 }
@@ -93,25 +112,35 @@ const EDITS: [((usize, u8), &[u8], u8); 4] = [
     ((2, b'2'), b"report tag differs\n", 11),
 ];
 
+fn call_edited(alloc: Global, edit: (usize, u8)) -> Result<Call, NoMemory> {
+    let text = edited(alloc, REPORT, &[edit])?;
+    call_file(alloc, &VERIFY, text.as_slice())
+}
+
 #[test]
 fn each_digit_is_checked(rt: HostRuntime) -> Result<(), Fail> {
     for (edit, told, status) in EDITS {
-        let text = edited(rt.alloc(), REPORT, &[edit])?;
-        let call = call_file(rt.alloc(), &VERIFY, text.as_slice())?;
-        assert_eq!(rt; call.shown(), shows(b"", told, status), "{edit:?}");
+        let call = call_edited(rt.alloc(), edit);
+        check_call(&rt, call, shows(b"", told, status), &edit)?;
     }
     Ok(())
 }
 
-// In upper case and with one line feed a report is the same; with its last digit cut off it is none.
+// A call on the report in upper case and with one line feed.
+fn call_upper(alloc: Global) -> Result<Call, NoMemory> {
+    let mut text = REPORT.as_slice().to_ascii_uppercase(alloc)?;
+    text.push(b'\n')?;
+    call_file(alloc, &VERIFY, text.as_slice())
+}
+
+// So it is the same report; with its last digit cut off it is none.
 #[test]
 fn a_report_has_its_form(rt: HostRuntime) -> Result<(), Fail> {
+    let call = call_upper(rt.alloc());
+    check_call(&rt, call, shows(FIELDS, b"", 0), &"upper case")?;
     let report = REPORT.as_slice();
-    let mut text = report.to_ascii_uppercase(rt.alloc())?;
-    text.push(b'\n')?;
-    let call = call_file(rt.alloc(), &VERIFY, text.as_slice())?;
-    assert_eq!(rt; call.shown(), shows(FIELDS, b"", 0));
-    let call = call_file(rt.alloc(), &VERIFY, &report[..315])?;
-    assert_eq!(rt; call.shown(), shows(b"", b"refused report 1 Length\n", 3));
+    let call = call_file(rt.alloc(), &VERIFY, &report[..315]);
+    let told = b"refused report 1 Length\n";
+    check_call(&rt, call, shows(b"", told, 3), &"cut off")?;
     Ok(())
 }
