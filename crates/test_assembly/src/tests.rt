@@ -1,8 +1,11 @@
 // Assembly texts. The bytes are put together by hand from the formats' tables, and so are the lines of the faults.
 use chip_cases::{
-    ASM, EXIT_7_ELF, EXIT_7_TEXT, PRINT_TWICE, RUN_ELF, STORE_200_TIMES, STORE_AND_PRINT,
-    STORE_TWICE, call_assembled, call_file, file, make_call, shows,
+    ASM, Call, EXIT_7_ELF, EXIT_7_TEXT, PRINT_TWICE, RUN_ELF, STORE_200_TIMES, STORE_AND_PRINT,
+    STORE_TWICE, Shown, call_assembled, call_file, file, make_call, shows,
 };
+use sec_base::NoMemory;
+use std::alloc::Global;
+use std::process::Abort;
 use std::test::Fail;
 
 const ASM_SMALL: [&str; 5] = ["chip", "asm", "f", "--levels", "1"];
@@ -39,17 +42,37 @@ li a7, 93
 ecall
 ";
 
+fn check_shown(rt: &impl Abort, shown: Shown<'_>, expected: Shown<'_>) {
+    assert_eq!(rt; shown, expected);
+}
+
+// A call is made and compared here, so that no test holds one: that makes the proof of a test cheap.
+fn check(
+    rt: &impl Abort,
+    alloc: Global,
+    words: &[&str],
+    text: &[u8],
+    expected: Shown<'_>,
+) -> Result<(), Fail> {
+    let call = call_file(alloc, words, text)?;
+    check_shown(rt, call.shown(), expected);
+    Ok(())
+}
+
+// An empty text is one segment of length 0.
+fn empty_elf(alloc: Global) -> Result<Vec<u8>, NoMemory> {
+    let mut bytes = Vec::from_slice(alloc, &EXIT_7_ELF[..68])?;
+    bytes.extend_from_slice(&[0, 0, 0, 0, 0, 0, 0, 0, 7, 0, 0, 0, 1, 0, 0, 0])?;
+    Ok(bytes)
+}
+
 #[test]
 fn texts_are_assembled(rt: HostRuntime) -> Result<(), Fail> {
-    let call = call_file(rt.alloc(), &ASM, EXIT_7_TEXT)?;
-    assert_eq!(rt; call.shown(), shows(&EXIT_7_ELF, b"", 0));
-
-    // An empty text is one segment of length 0.
-    let call = call_file(rt.alloc(), &ASM, b"")?;
-    let mut empty = Vec::from_slice(rt.alloc(), &EXIT_7_ELF[..68])?;
-    empty.extend_from_slice(&[0, 0, 0, 0, 0, 0, 0, 0, 7, 0, 0, 0, 1, 0, 0, 0])?;
-    assert_eq!(rt; call.shown(), shows(empty.as_slice(), b"", 0));
-    Ok(())
+    let expected = shows(&EXIT_7_ELF, b"", 0);
+    check(&rt, rt.alloc(), &ASM, EXIT_7_TEXT, expected)?;
+    let empty = empty_elf(rt.alloc())?;
+    let expected = shows(empty.as_slice(), b"", 0);
+    check(&rt, rt.alloc(), &ASM, b"", expected)
 }
 
 const PROGRAMS: [(&[u8], &[u8], &[u8]); 6] = [
@@ -61,17 +84,26 @@ const PROGRAMS: [(&[u8], &[u8], &[u8]); 6] = [
     (READ_UNTOUCHED, b"", b"halted 64\nretired 15\nlies 0\n"),
 ];
 
+fn check_assembled(
+    rt: &impl Abort,
+    alloc: Global,
+    words: &[&str],
+    text: &[u8],
+    expected: Shown<'_>,
+) -> Result<(), Fail> {
+    let call = call_assembled(alloc, words, text, &[])?;
+    check_shown(rt, call.shown(), expected);
+    Ok(())
+}
+
 #[test]
 fn assembled_programs_run(rt: HostRuntime) -> Result<(), Fail> {
     for (text, printed, told) in PROGRAMS {
-        let call = call_assembled(rt.alloc(), &RUN_ELF, text, &[])?;
-        assert_eq!(rt; call.shown(), shows(printed, told, 0));
+        check_assembled(&rt, rt.alloc(), &RUN_ELF, text, shows(printed, told, 0))?;
     }
     let call = call_assembled(rt.alloc(), &RUN_ELF, PRINT_TWICE, &[2])?;
-    assert_eq!(rt;
-        call.shown(),
-        shows(b"A", b"write fault\nretired 8\nlies 0\n", 9)
-    );
+    let told = b"write fault\nretired 8\nlies 0\n";
+    check_shown(&rt, call.shown(), shows(b"A", told, 9));
     Ok(())
 }
 
@@ -93,8 +125,8 @@ const LIMITS: [(&str, &[u8], &[u8], u8); 4] = [
 fn a_page_is_spent_at_its_limit(rt: HostRuntime) -> Result<(), Fail> {
     for (limit, text, told, status) in LIMITS {
         let words = ["chip", "run", "f", "--page-limit", limit];
-        let call = call_assembled(rt.alloc(), &words, text, &[])?;
-        assert_eq!(rt; call.shown(), shows(b"", told, status));
+        let expected = shows(b"", told, status);
+        check_assembled(&rt, rt.alloc(), &words, text, expected)?;
     }
     Ok(())
 }
@@ -123,53 +155,91 @@ const REFUSED: [(&[u8], &[u8]); 15] = [
 #[test]
 fn texts_are_refused(rt: HostRuntime) -> Result<(), Fail> {
     for (text, told) in REFUSED {
-        let call = call_file(rt.alloc(), &ASM, text)?;
-        assert_eq!(rt; call.shown(), shows(b"", told, 3));
+        check(&rt, rt.alloc(), &ASM, text, shows(b"", told, 3))?;
     }
     Ok(())
 }
 
+// How long the file is that is printed, and the status.
+fn length_and_status(alloc: Global, text: &[u8]) -> Result<(usize, u8), NoMemory> {
+    let call = call_file(alloc, &ASM_SMALL, text)?;
+    Ok((call.out.bytes().len(), call.done.status))
+}
+
 #[test]
 fn texts_fit_the_memory(rt: HostRuntime) -> Result<(), Fail> {
-    let call = call_file(rt.alloc(), &ASM_SMALL, b".space 16385\n")?;
-    assert_eq!(rt; call.shown(), shows(b"", b"refused asm 1 6 Large\n", 3));
-    let call = call_file(rt.alloc(), &ASM_SMALL, b".space 16384\n")?;
-    assert_eq!(rt; call.out.bytes().len(), 16468);
-    assert_eq!(rt; call.done.status, 0);
+    let expected = shows(b"", b"refused asm 1 6 Large\n", 3);
+    check(&rt, rt.alloc(), &ASM_SMALL, b".space 16385\n", expected)?;
+    let (length, status) = length_and_status(rt.alloc(), b".space 16384\n")?;
+    assert_eq!(rt; length, 16468);
+    assert_eq!(rt; status, 0);
     Ok(())
+}
+
+// Three instructions, and then blanks.
+fn text_of_limit(alloc: Global) -> Result<Vec<u8>, NoMemory> {
+    let mut text = Vec::from_slice(alloc, EXIT_7_TEXT)?;
+    text.resize(1048576, b' ')?;
+    Ok(text)
 }
 
 #[test]
 fn a_text_fills_its_limit(rt: HostRuntime) -> Result<(), Fail> {
-    // Three instructions, and then blanks.
-    let mut text = Vec::from_slice(rt.alloc(), EXIT_7_TEXT)?;
-    text.resize(1048576, b' ')?;
-    let call = call_file(rt.alloc(), &ASM, text.as_slice())?;
-    assert_eq!(rt; call.shown(), shows(&EXIT_7_ELF, b"", 0));
-    Ok(())
+    let text = text_of_limit(rt.alloc())?;
+    let expected = shows(&EXIT_7_ELF, b"", 0);
+    check(&rt, rt.alloc(), &ASM, text.as_slice(), expected)
+}
+
+// The text is assembled where the writes with these numbers fail.
+fn call_cut(
+    alloc: Global,
+    text: &[u8],
+    out_fails: &[u64],
+    note_fails: &[u64],
+) -> Result<Call, NoMemory> {
+    let mut files = file(alloc, text, &[])?;
+    make_call(alloc, &ASM, &mut files, out_fails, note_fails)
 }
 
 // The write that fails, and what stands then.
 const CUTS: [(u64, &[u8], u8); 2] = [(1, b"", 9), (2, &EXIT_7_ELF, 0)];
 
+fn check_cut_out(
+    rt: &impl Abort,
+    alloc: Global,
+    fails: u64,
+    expected: Shown<'_>,
+) -> Result<(), Fail> {
+    let call = call_cut(alloc, EXIT_7_TEXT, &[fails], &[])?;
+    check_shown(rt, call.shown(), expected);
+    Ok(())
+}
+
 #[test]
 fn a_file_is_one_piece(rt: HostRuntime) -> Result<(), Fail> {
     for (fails, printed, status) in CUTS {
-        let mut files = file(rt.alloc(), EXIT_7_TEXT, &[])?;
-        let call = make_call(rt.alloc(), &ASM, &mut files, &[fails], &[])?;
-        assert_eq!(rt; call.shown(), shows(printed, b"", status));
+        check_cut_out(&rt, rt.alloc(), fails, shows(printed, b"", status))?;
     }
     Ok(())
 }
 
 const TOLD: [(u64, &[u8]); 2] = [(1, b""), (2, b"refused asm 1 1 Unknown\n")];
 
+fn check_cut_note(
+    rt: &impl Abort,
+    alloc: Global,
+    fails: u64,
+    expected: Shown<'_>,
+) -> Result<(), Fail> {
+    let call = call_cut(alloc, b"frob\n", &[], &[fails])?;
+    check_shown(rt, call.shown(), expected);
+    Ok(())
+}
+
 #[test]
 fn a_fault_of_note_keeps_a_refused_text(rt: HostRuntime) -> Result<(), Fail> {
     for (fails, told) in TOLD {
-        let mut files = file(rt.alloc(), b"frob\n", &[])?;
-        let call = make_call(rt.alloc(), &ASM, &mut files, &[], &[fails])?;
-        assert_eq!(rt; call.shown(), shows(b"", told, 3));
+        check_cut_note(&rt, rt.alloc(), fails, shows(b"", told, 3))?;
     }
     Ok(())
 }

@@ -1,10 +1,13 @@
 // Runs over a memory that an adversary changes by a script. Each expected text and status is that of an independent model
 // in Python (hashlib, hmac, cryptography).
 use chip_cases::{
-    Attack, EXIT_7, STORE_AND_PRINT, STORE_TWICE, attack_files, call_attack, call_by_script,
-    make_call, shows,
+    Attack, Call, EXIT_7, STORE_AND_PRINT, STORE_TWICE, Shown, attack_files, call_attack,
+    call_by_script, make_call, shows,
 };
 use chip_device::RunBus;
+use sec_base::NoMemory;
+use std::alloc::Global;
+use std::process::Abort;
 use std::test::Fail;
 
 const FLIP: &[u8] = b"read data 5 1: flip data 5 0 01\n";
@@ -117,12 +120,26 @@ tag cdd9bd2ef93fe00084eb9f1953edd103
     },
 ];
 
+fn check_shown(rt: &impl Abort, shown: Shown<'_>, expected: Shown<'_>) {
+    assert_eq!(rt; shown, expected);
+}
+
+fn check_true(rt: &impl Abort, holds: bool) {
+    assert!(rt; holds);
+}
+
+// A call is made and compared here, so that no test holds one: that makes the proof of a test cheap.
+fn check_attack(rt: &impl Abort, alloc: Global, attack: Attack<'_>) -> Result<(), Fail> {
+    let call = call_attack(alloc, attack)?;
+    check_shown(rt, call.shown(), attack.shown());
+    check_true(rt, matches!(call.done.bus, Some(RunBus::Script(_))));
+    Ok(())
+}
+
 #[test]
 fn attacks_come_to_what_they_do(rt: HostRuntime) -> Result<(), Fail> {
     for attack in ATTACKS {
-        let call = call_attack(rt.alloc(), attack)?;
-        assert_eq!(rt; call.shown(), attack.shown());
-        assert!(rt; matches!(call.done.bus, Some(RunBus::Script(_))));
+        check_attack(&rt, rt.alloc(), attack)?;
     }
     Ok(())
 }
@@ -156,12 +173,28 @@ const SMALL_RUN_BY_SCRIPT: [&str; 8] = [
     "chip", "run", "f", "--flat", "--levels", "1", "--script", "s",
 ];
 
+fn check_lies(rt: &impl Abort, lies: u64, expected: u64) {
+    assert_eq!(rt; lies, expected);
+}
+
+fn check_boot(
+    rt: &impl Abort,
+    alloc: Global,
+    script: &[u8],
+    expected: Shown<'_>,
+    lies: u64,
+) -> Result<(), Fail> {
+    let call = call_by_script(alloc, &SMALL_RUN_BY_SCRIPT, &EXIT_7, script)?;
+    check_shown(rt, call.shown(), expected);
+    check_lies(rt, call.done.lies, lies);
+    Ok(())
+}
+
 #[test]
 fn accesses_are_counted_from_boot_on(rt: HostRuntime) -> Result<(), Fail> {
     for (script, told, status) in BOOTS {
-        let call = call_by_script(rt.alloc(), &SMALL_RUN_BY_SCRIPT, &EXIT_7, script)?;
-        assert_eq!(rt; call.shown(), shows(b"", told, status));
-        assert_eq!(rt; call.done.lies, u64::from(status == 5));
+        let lies = u64::from(status == 5);
+        check_boot(&rt, rt.alloc(), script, shows(b"", told, status), lies)?;
     }
     Ok(())
 }
@@ -192,12 +225,23 @@ const REFUSED: [(&[u8], &[u8]); 8] = [
     ),
 ];
 
+fn check_run(
+    rt: &impl Abort,
+    alloc: Global,
+    script: &[u8],
+    expected: Shown<'_>,
+    is_run: bool,
+) -> Result<(), Fail> {
+    let call = call_by_script(alloc, &RUN_BY_SCRIPT, &EXIT_7, script)?;
+    check_shown(rt, call.shown(), expected);
+    check_true(rt, call.done.run.is_some() == is_run);
+    Ok(())
+}
+
 #[test]
 fn scripts_are_refused(rt: HostRuntime) -> Result<(), Fail> {
     for (script, told) in REFUSED {
-        let call = call_by_script(rt.alloc(), &RUN_BY_SCRIPT, &EXIT_7, script)?;
-        assert_eq!(rt; call.shown(), shows(b"", told, 3));
-        assert!(rt; call.done.run.is_none());
+        check_run(&rt, rt.alloc(), script, shows(b"", told, 3), false)?;
     }
     Ok(())
 }
@@ -212,21 +256,24 @@ const LENGTHS: [(usize, &[u8], u8); 2] = [
 fn a_script_has_a_limit(rt: HostRuntime) -> Result<(), Fail> {
     for (length, told, status) in LENGTHS {
         let comment = vec![in rt.alloc(); b'#'; length]?;
-        let call = call_by_script(rt.alloc(), &RUN_BY_SCRIPT, &EXIT_7, comment.as_slice())?;
-        assert_eq!(rt; call.shown(), shows(b"", told, status));
-        assert_eq!(rt; call.done.run.is_some(), status == 0);
+        let expected = shows(b"", told, status);
+        check_run(&rt, rt.alloc(), comment.as_slice(), expected, status == 0)?;
     }
     Ok(())
+}
+
+// The sixth write to `note` fails.
+fn call_cut(alloc: Global) -> Result<Call, NoMemory> {
+    let mut files = attack_files(alloc, STORE_AND_PRINT, FLIP_TWO_PIECES)?;
+    let words = ["chip", "run", "p", "--script", "s", "--tags", "xor"];
+    make_call(alloc, &words, &mut files, &[], &[6])
 }
 
 // A line of evidence is one piece.
 #[test]
 fn a_fault_of_note_cuts_evidence(rt: HostRuntime) -> Result<(), Fail> {
-    let alloc = rt.alloc();
-    let mut files = attack_files(alloc, STORE_AND_PRINT, FLIP_TWO_PIECES)?;
-    let words = ["chip", "run", "p", "--script", "s", "--tags", "xor"];
-    let call = make_call(alloc, &words, &mut files, &[], &[6])?;
+    let call = call_cut(rt.alloc())?;
     let told = b"halted 64\nretired 20\nlies 1\nevidence forgery data 5\ncounter 0 1\n";
-    assert_eq!(rt; call.shown(), shows(b"A", told, 9));
+    check_shown(&rt, call.shown(), shows(b"A", told, 9));
     Ok(())
 }

@@ -1,7 +1,9 @@
 // Generated programs. What each prints is from an independent model in Python.
-use chip_cases::{RUN, call_without_files, file, make_call, shows};
+use chip_cases::{Call, RUN, Shown, call_without_files, file, make_call, shows};
 use chip_main::Done;
-use sec_base::{Ending, MemoryFiles};
+use sec_base::{Ending, MemoryFiles, NoMemory};
+use std::alloc::Global;
+use std::process::Abort;
 use std::test::Fail;
 use workload_gen::make;
 
@@ -24,44 +26,91 @@ const PROGRAMS: [(&str, &[u8], u32); 3] = [
     ),
 ];
 
+fn check_shown(rt: &impl Abort, shown: Shown<'_>, expected: Shown<'_>) {
+    assert_eq!(rt; shown, expected);
+}
+
+fn check_ending(rt: &impl Abort, ending: Option<Ending>, code: u32) {
+    assert_eq!(rt; ending, Some(Ending::Halted(code)));
+}
+
+// There was a bus, and it was told no lies.
+fn check_bus(rt: &impl Abort, has_bus: bool, lies: u64) {
+    assert!(rt; has_bus);
+    assert_eq!(rt; lies, 0);
+}
+
+// A call is made and compared here, so that no test holds one: that makes the proof of a test cheap.
+fn check_summary(
+    rt: &impl Abort,
+    alloc: Global,
+    number: &str,
+    text: &[u8],
+    code: u32,
+) -> Result<(), Fail> {
+    let call = call_without_files(alloc, &["chip", "bench", number])?;
+    check_shown(rt, call.shown(), shows(text, b"", 0));
+    check_ending(rt, call.ending(), code);
+    check_bus(rt, call.done.bus.is_some(), call.done.lies);
+    Ok(())
+}
+
 #[test]
 fn generated_programs_are_summed_up(rt: HostRuntime) -> Result<(), Fail> {
     for (number, text, code) in PROGRAMS {
-        let call = call_without_files(rt.alloc(), &["chip", "bench", number])?;
-        assert_eq!(rt; call.shown(), shows(text, b"", 0));
-        assert_eq!(rt; call.ending(), Some(Ending::Halted(code)));
-        assert!(rt; call.done.bus.is_some());
-        assert_eq!(rt; call.done.lies, 0);
+        check_summary(&rt, rt.alloc(), number, text, code)?;
     }
     Ok(())
 }
 
-fn report(done: &Done) -> Option<[u8; 158]> {
+type Report = Option<[u8; 158]>;
+
+fn report(done: &Done) -> Report {
     match &done.run {
         Some(run) => run.report,
         None => None,
     }
 }
 
+// The file `f` is program 1.
+fn generated_file(alloc: Global) -> Result<MemoryFiles, Fail> {
+    let image = make(alloc, 1)?;
+    let segment = image.segments.get(0).ok_or("no segment")?;
+    Ok(file(alloc, segment.bytes.as_slice(), &[])?)
+}
+
+fn report_of(alloc: Global, words: &[&str], files: &mut MemoryFiles) -> Result<Report, NoMemory> {
+    let call = make_call(alloc, words, files, &[], &[])?;
+    Ok(report(&call.done))
+}
+
+// Of the program as it is generated, and of a run of the file.
+fn two_reports(alloc: Global) -> Result<(Report, Report), Fail> {
+    let mut files = generated_file(alloc)?;
+    let benched = report_of(alloc, &["chip", "bench", "1"], &mut files)?;
+    let run = report_of(alloc, &RUN, &mut files)?;
+    Ok((benched, run))
+}
+
 // A run of the same bytes that names no option has the same report: the defaults of the two are the same.
 #[test]
 fn generated_programs_run_on_the_defaults(rt: HostRuntime) -> Result<(), Fail> {
-    let image = make(rt.alloc(), 1)?;
-    let segment = image.segments.get(0).ok_or("no segment")?;
-    let mut files = file(rt.alloc(), segment.bytes.as_slice(), &[])?;
-    let benched = make_call(rt.alloc(), &["chip", "bench", "1"], &mut files, &[], &[])?;
-    let run = make_call(rt.alloc(), &RUN, &mut files, &[], &[])?;
-    assert!(rt; report(&run.done).is_some());
-    assert_eq!(rt; report(&benched.done), report(&run.done));
+    let (benched, run) = two_reports(rt.alloc())?;
+    assert!(rt; run.is_some());
+    assert_eq!(rt; benched, run);
     Ok(())
+}
+
+fn call_cut(alloc: Global) -> Result<Call, NoMemory> {
+    let mut files = MemoryFiles::new(alloc, &[])?;
+    make_call(alloc, &["chip", "bench", "0"], &mut files, &[2], &[1])
 }
 
 // Its second line can't be written; nothing is told of it.
 #[test]
 fn a_fault_of_out_cuts_the_summary(rt: HostRuntime) -> Result<(), Fail> {
-    let mut files = MemoryFiles::new(rt.alloc(), &[])?;
-    let call = make_call(rt.alloc(), &["chip", "bench", "0"], &mut files, &[2], &[1])?;
-    assert_eq!(rt; call.shown(), shows(b"number 0\n", b"", 9));
-    assert_eq!(rt; call.ending(), Some(Ending::Halted(3)));
+    let call = call_cut(rt.alloc())?;
+    check_shown(&rt, call.shown(), shows(b"number 0\n", b"", 9));
+    check_ending(&rt, call.ending(), 3);
     Ok(())
 }

@@ -1,8 +1,11 @@
 // Programs from ELF files, and ELF files that are refused. The bytes are put together by hand from the format's tables.
 use chip_cases::{
-    Case, DIS_ELF, EXIT_7_ELF, LISTING, MEASURE_ELF, PLAIN, PLAIN_ELF, RUN_ELF, call_file, edited,
-    shows,
+    Call, Case, DIS_ELF, EXIT_7_ELF, LISTING, MEASURE_ELF, PLAIN, PLAIN_ELF, RUN_ELF, Shown,
+    call_file, edited, shows,
 };
+use sec_base::NoMemory;
+use std::alloc::Global;
+use std::process::Abort;
 use std::test::Fail;
 
 // The program that exits with 7, and over its first word a segment with addi a0, zero, 8.
@@ -25,6 +28,9 @@ const OVERLAPPING_LISTING: &[u8] = b"00000000 00700513 addi a0, zero, 7
 00000008 00000073 ecall
 00000000 00800513 addi a0, zero, 8
 ";
+
+// The words of a call, and other bytes of its file.
+type Row<'a> = (&'a [&'a str], &'a [(usize, u8)]);
 
 const CASES: [Case<'static>; 6] = [
     Case {
@@ -72,12 +78,41 @@ const CASES: [Case<'static>; 6] = [
     },
 ];
 
+fn check_shown(rt: &impl Abort, row: Row<'_>, shown: Shown<'_>, expected: Shown<'_>) {
+    let (words, edits) = row;
+    assert_eq!(rt; shown, expected, "{words:?} {edits:?}");
+}
+
+// A call is made and compared here, so that no test holds one: that makes the proof of a test cheap.
+fn check_case(rt: &impl Abort, alloc: Global, case: Case<'_>) -> Result<(), Fail> {
+    let call = case.call(alloc)?;
+    check_shown(rt, (case.words, &[]), call.shown(), case.shown());
+    Ok(())
+}
+
 #[test]
 fn elf_files_are_programs(rt: HostRuntime) -> Result<(), Fail> {
     for case in CASES {
-        let words = case.words;
-        assert_eq!(rt; case.call(rt.alloc())?.shown(), case.shown(), "{words:?}");
+        check_case(&rt, rt.alloc(), case)?;
     }
+    Ok(())
+}
+
+// A call on the file with other bytes here and there.
+fn call_edited(alloc: Global, row: Row<'_>) -> Result<Call, NoMemory> {
+    let (words, edits) = row;
+    let bytes = edited(alloc, &EXIT_7_ELF, edits)?;
+    call_file(alloc, words, bytes.as_slice())
+}
+
+fn check_edited(
+    rt: &impl Abort,
+    alloc: Global,
+    row: Row<'_>,
+    expected: Shown<'_>,
+) -> Result<(), Fail> {
+    let call = call_edited(alloc, row)?;
+    check_shown(rt, row, call.shown(), expected);
     Ok(())
 }
 
@@ -109,9 +144,8 @@ const FAULTS: [(&[(usize, u8)], &[u8]); 14] = [
 #[test]
 fn elf_files_are_refused(rt: HostRuntime) -> Result<(), Fail> {
     for (edits, told) in FAULTS {
-        let bytes = edited(rt.alloc(), &EXIT_7_ELF, edits)?;
-        let call = call_file(rt.alloc(), &MEASURE_ELF, bytes.as_slice())?;
-        assert_eq!(rt; call.shown(), shows(b"", told, 3), "{edits:?}");
+        let row = (MEASURE_ELF.as_slice(), edits);
+        check_edited(&rt, rt.alloc(), row, shows(b"", told, 3))?;
     }
     Ok(())
 }
@@ -120,14 +154,18 @@ const COMMANDS: [&[&str]; 4] = [&RUN_ELF, &PLAIN_ELF, &DIS_ELF, &MEASURE_ELF];
 
 #[test]
 fn each_command_refuses_an_elf_file(rt: HostRuntime) -> Result<(), Fail> {
-    let bytes = edited(rt.alloc(), &EXIT_7_ELF, &[(24, 2)])?;
     for words in COMMANDS {
-        let call = call_file(rt.alloc(), words, bytes.as_slice())?;
+        let row = (words, [(24, 2)].as_slice());
         let told = b"refused elf 10 Entry\n";
-        assert_eq!(rt; call.shown(), shows(b"", told, 3), "{words:?}");
-        let call = call_file(rt.alloc(), words, &EXIT_7_ELF[..51])?;
-        let told = b"refused elf 1 Short\n";
-        assert_eq!(rt; call.shown(), shows(b"", told, 3), "{words:?}");
+        check_edited(&rt, rt.alloc(), row, shows(b"", told, 3))?;
+        let short = Case {
+            words,
+            bytes: &EXIT_7_ELF[..51],
+            printed: b"",
+            told: b"refused elf 1 Short\n",
+            status: 3,
+        };
+        check_case(&rt, rt.alloc(), short)?;
     }
     Ok(())
 }
@@ -146,22 +184,30 @@ const BOUNDS: [(&[&str], &[(usize, u8)], &[u8], u8); 2] = [
 #[test]
 fn elf_files_at_their_bounds_are_taken(rt: HostRuntime) -> Result<(), Fail> {
     for (words, edits, told, status) in BOUNDS {
-        let bytes = edited(rt.alloc(), &EXIT_7_ELF, edits)?;
-        let call = call_file(rt.alloc(), words, bytes.as_slice())?;
-        assert_eq!(rt; call.shown(), shows(b"", told, status), "{words:?}");
+        let row = (words, edits);
+        check_edited(&rt, rt.alloc(), row, shows(b"", told, status))?;
     }
     Ok(())
 }
 
 // Behind the segments there are zeros that no header speaks of, up to a length.
+fn call_long(alloc: Global, length: usize) -> Result<Call, NoMemory> {
+    let mut bytes = Vec::from_slice(alloc, &EXIT_7_ELF)?;
+    bytes.resize(length, 0)?;
+    call_file(alloc, &PLAIN_ELF, bytes.as_slice())
+}
+
+fn check_long(rt: &impl Abort, alloc: Global, length: usize) -> Result<(), Fail> {
+    let call = call_long(alloc, length)?;
+    let expected = shows(b"", b"halted 7\nretired 3\n", 0);
+    check_shown(rt, (&PLAIN_ELF, &[(length, 0)]), call.shown(), expected);
+    Ok(())
+}
+
 #[test]
 fn long_elf_files_are_programs(rt: HostRuntime) -> Result<(), Fail> {
     for length in [1_048_577, 8_388_608] {
-        let mut bytes = Vec::from_slice(rt.alloc(), &EXIT_7_ELF)?;
-        bytes.resize(length, 0)?;
-        let call = call_file(rt.alloc(), &PLAIN_ELF, bytes.as_slice())?;
-        let told = b"halted 7\nretired 3\n";
-        assert_eq!(rt; call.shown(), shows(b"", told, 0), "length {length}");
+        check_long(&rt, rt.alloc(), length)?;
     }
     Ok(())
 }

@@ -1,8 +1,11 @@
 // Listings of programs, and their measurements. Each digest is worked out by another program.
 use chip_cases::{
-    Case, DIGEST, DIS, DIS_ELF, EXIT_7_BYTES, EXIT_7_ELF, LISTING, MEASURE, MEASURE_ELF, file,
-    make_call, shows,
+    Call, Case, DIGEST, DIS, DIS_ELF, EXIT_7_BYTES, EXIT_7_ELF, LISTING, MEASURE, MEASURE_ELF,
+    Shown, file, make_call, shows,
 };
+use sec_base::NoMemory;
+use std::alloc::Global;
+use std::process::Abort;
 use std::test::Fail;
 
 // In 16 KiB of memory.
@@ -61,12 +64,40 @@ const CASES: [Case<'static>; 7] = [
     },
 ];
 
+fn check_shown(rt: &impl Abort, words: &[&str], shown: Shown<'_>, expected: Shown<'_>) {
+    assert_eq!(rt; shown, expected, "{words:?}");
+}
+
+// A call is made and compared here, so that no test holds one: that makes the proof of a test cheap.
+fn check_case(rt: &impl Abort, alloc: Global, case: Case<'_>) -> Result<(), Fail> {
+    let call = case.call(alloc)?;
+    check_shown(rt, case.words, call.shown(), case.shown());
+    Ok(())
+}
+
 #[test]
 fn programs_are_listed_and_measured(rt: HostRuntime) -> Result<(), Fail> {
     for case in CASES {
-        let words = case.words;
-        assert_eq!(rt; case.call(rt.alloc())?.shown(), case.shown(), "{words:?}");
+        check_case(&rt, rt.alloc(), case)?;
     }
+    Ok(())
+}
+
+// The write to `out` with this number fails.
+fn call_cut(alloc: Global, words: &[&str], fails: u64) -> Result<Call, NoMemory> {
+    let mut files = file(alloc, EXIT_7_BYTES, &[])?;
+    make_call(alloc, words, &mut files, &[fails], &[])
+}
+
+fn check_cut(
+    rt: &impl Abort,
+    alloc: Global,
+    words: &[&str],
+    fails: u64,
+    expected: Shown<'_>,
+) -> Result<(), Fail> {
+    let call = call_cut(alloc, words, fails)?;
+    check_shown(rt, words, call.shown(), expected);
     Ok(())
 }
 
@@ -81,9 +112,7 @@ const CUTS: [(&[&str], u64, &[u8], u8); 4] = [
 #[test]
 fn a_line_is_one_piece(rt: HostRuntime) -> Result<(), Fail> {
     for (words, fails, printed, status) in CUTS {
-        let mut files = file(rt.alloc(), EXIT_7_BYTES, &[])?;
-        let call = make_call(rt.alloc(), words, &mut files, &[fails], &[])?;
-        assert_eq!(rt; call.shown(), shows(printed, b"", status), "{words:?}");
+        check_cut(&rt, rt.alloc(), words, fails, shows(printed, b"", status))?;
     }
     Ok(())
 }

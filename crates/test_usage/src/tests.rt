@@ -1,6 +1,8 @@
 // Words that are no request. What is told is worked out by hand, and of `clap` it is its own text.
-use chip_cases::{call_without_files, make_call, shows};
-use sec_base::MemoryFiles;
+use chip_cases::{Call, Shown, call_without_files, make_call, shows};
+use sec_base::{MemoryFiles, NoMemory};
+use std::alloc::Global;
+use std::process::Abort;
 use std::test::Fail;
 
 const OTHER_WORDS: [&[&str]; 18] = [
@@ -24,23 +26,56 @@ const OTHER_WORDS: [&[&str]; 18] = [
     &["chip", "bench", "0", "--flat"],
 ];
 
+fn call_is_usage(alloc: Global, words: &[&str]) -> Result<bool, NoMemory> {
+    let call = call_without_files(alloc, words)?;
+    Ok(call.is_usage())
+}
+
 #[test]
 fn other_words_are_usage(rt: HostRuntime) -> Result<(), Fail> {
     for words in OTHER_WORDS {
-        let call = call_without_files(rt.alloc(), words)?;
-        assert!(rt; call.is_usage(), "{words:?}");
+        let is_usage = call_is_usage(rt.alloc(), words)?;
+        assert!(rt; is_usage, "{words:?}");
     }
     Ok(())
+}
+
+fn tells_first(alloc: Global, words: &[&str], told: &[u8]) -> Result<bool, NoMemory> {
+    let call = call_without_files(alloc, words)?;
+    Ok(call.note.bytes().starts_with(told))
 }
 
 // The lines that stand first where `clap` refuses the words; the text is one piece behind `usage`.
 #[test]
 fn usage_says_what_is_wrong(rt: HostRuntime) -> Result<(), Fail> {
     let words = ["chip", "run", "f", "--levels", "7"];
-    let call = call_without_files(rt.alloc(), &words)?;
     let told =
         b"usage\nerror: invalid value '7' for '--levels <L>': 7 is not in 1..=6\n".as_slice();
-    assert!(rt; call.note.bytes().starts_with(told));
+    let is_told = tells_first(rt.alloc(), &words, told)?;
+    assert!(rt; is_told);
+    Ok(())
+}
+
+fn check_shown(rt: &impl Abort, words: &[&str], shown: Shown<'_>, expected: Shown<'_>) {
+    assert_eq!(rt; shown, expected, "{words:?}");
+}
+
+// The write to `note` with this number fails.
+fn call_cut(alloc: Global, words: &[&str], fails: u64) -> Result<Call, NoMemory> {
+    let mut files = MemoryFiles::new(alloc, &[])?;
+    make_call(alloc, words, &mut files, &[], &[fails])
+}
+
+// A call is made and compared here, so that no test holds one: that makes the proof of a test cheap.
+fn check_cut(
+    rt: &impl Abort,
+    alloc: Global,
+    words: &[&str],
+    fails: u64,
+    told: &[u8],
+) -> Result<(), Fail> {
+    let call = call_cut(alloc, words, fails)?;
+    check_shown(rt, words, call.shown(), shows(b"", told, 2));
     Ok(())
 }
 
@@ -55,9 +90,7 @@ const CUTS: [(&[&str], u64, &[u8]); 4] = [
 #[test]
 fn a_fault_of_note_keeps_a_refusal(rt: HostRuntime) -> Result<(), Fail> {
     for (words, fails, told) in CUTS {
-        let mut files = MemoryFiles::new(rt.alloc(), &[])?;
-        let call = make_call(rt.alloc(), words, &mut files, &[], &[fails])?;
-        assert_eq!(rt; call.shown(), shows(b"", told, 2), "{words:?}");
+        check_cut(&rt, rt.alloc(), words, fails, told)?;
     }
     Ok(())
 }
@@ -81,12 +114,17 @@ const OTHER_VALUES: [(&[&str], &[u8]); 7] = [
     ),
 ];
 
+fn check(rt: &impl Abort, alloc: Global, words: &[&str], told: &[u8]) -> Result<(), Fail> {
+    let call = call_without_files(alloc, words)?;
+    check_shown(rt, words, call.shown(), shows(b"", told, 2));
+    Ok(())
+}
+
 // The first of tags, key and nonce is told, before any file is read: there is none.
 #[test]
 fn tags_keys_and_nonces_are_checked(rt: HostRuntime) -> Result<(), Fail> {
     for (words, told) in OTHER_VALUES {
-        let call = call_without_files(rt.alloc(), words)?;
-        assert_eq!(rt; call.shown(), shows(b"", told, 2), "{words:?}");
+        check(&rt, rt.alloc(), words, told)?;
     }
     Ok(())
 }
