@@ -1,3 +1,4 @@
+pub mod Marks
 pub mod LastPlaces
 pub mod Forgeries
 pub mod Collisions

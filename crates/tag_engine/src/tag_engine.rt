@@ -4,6 +4,7 @@ ghost use Rattle.sec_base.specs.Evidence.{IsEvidence};
 ghost use Rattle.sec_base.specs.Geometry.{IsNode, line_count};
 ghost use Rattle.sec_base.specs.LastMessage.{last_at, last_node, node_part};
 ghost use Rattle.sec_base.specs.declared.message.Message.TheVariants.{Line, Node};
+ghost use Rattle.tag_engine.specs.Tag.{marked};
 ghost use Rattle.tag_engine.specs.TagEngine.{after_check_data, after_check_node, after_make, collision_of, forgery_of, new_engine, tags_of, with_room};
 
 use sec_base::{
@@ -206,7 +207,7 @@ impl<T: Tagger> TagEngine<T> {
     fn line_tag(&self, line: u32, counter: Counter, cipher: &[u8; 64]) -> [u8; 16]
         ensures { result ≡ tags_of T.data_tag_of T.node_tag_of self.now (Line line counter cipher.now) }
     {
-        self.tagger.data_tag(&data_message(line, counter, cipher))
+        mark(self.tagger.data_tag(&data_message(line, counter, cipher)))
     }
 
     // The tag of a node's message.
@@ -214,7 +215,7 @@ impl<T: Tagger> TagEngine<T> {
     fn node_tag(&self, level: u8, index: u32, block: &[u8; 64]) -> [u8; 16]
         ensures { result ≡ tags_of T.data_tag_of T.node_tag_of self.now (Node level index block.now) }
     {
-        self.tagger.node_tag(&node_message(level, index, block))
+        mark(self.tagger.node_tag(&node_message(level, index, block)))
     }
 
     // What a check shows that a node passed: that its block is not the last one, and has the same tag.
@@ -250,6 +251,16 @@ impl<T: Tagger> TagEngine<T> {
             Message::Line { .. } => None,
         }
     }
+}
+
+// A tagger's bytes with the lowest bit of the last one set, so that no tag is zeros.
+#[tactic(auto, using(crate::proofs::Marks::is_marked))]
+fn mark(bytes: [u8; 16]) -> [u8; 16]
+    ensures { result ≡ marked bytes }
+{
+    let mut tag = bytes;
+    tag[15] |= 1;
+    tag
 }
 
 // What a check shows that a sealed line passed: that its message is none of those made.

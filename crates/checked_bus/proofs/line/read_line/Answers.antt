@@ -7,6 +7,7 @@ use Rattle.tag_engine.specs.TagEngine.{after_check_data, tags_of}
 use Rattle.tag_engine.proofs.Upkeep.{failed_check}
 use Rattle.checked_bus.proofs.CheckedReads.{read_moves, read_once, read_others, read_accepted, tampered_lied, shown_lied, read_honest}
 use Rattle.checked_bus.proofs.Evidences.{none_or}
+use Rattle.tag_engine.proofs.Marks.{marked_long}
 use Rattle.checked_bus.proofs.line.read_line.Goals as goal
 
 -- Refused, out of memory
@@ -19,7 +20,8 @@ unfolding engine_tag
 returns-in_err-sealed-clause-honest g c = λ used current was.
     read_honest (tags_of g.T.Tagger.data_tag_of g.T.Tagger.node_tag_of c.args.tags.now) c.args.line c.args.counter
     (g.B.Bus.history c.args.bus.now) (g.B.Bus.history c.read_data.new.self) c.args.tags.now c.args.tags.now
-    (λ cipher. g.met.T.Tagger.data_tag_long c.args.tags.now.tagger (data_bytes c.args.line c.args.counter cipher))
+    (λ cipher. marked_long (g.T.Tagger.data_tag_of c.args.tags.now.tagger (data_bytes c.args.line c.args.counter cipher))
+    (g.met.T.Tagger.data_tag_long c.args.tags.now.tagger (data_bytes c.args.line c.args.counter cipher)))
     used current c.from_residual.result (returns-in_err-sealed-clause-read g c) was
 
 -- Failed
@@ -63,7 +65,8 @@ unfolding engine_tag
 returns-then-not-check_data-clause-honest g c = λ used current was.
     read_honest (tags_of g.T.Tagger.data_tag_of g.T.Tagger.node_tag_of c.args.tags.now) c.args.line c.args.counter
     (g.B.Bus.history c.args.bus.now) (g.B.Bus.history c.read_data.new.self) c.args.tags.now c.check_data.new.self
-    (λ cipher. g.met.T.Tagger.data_tag_long c.args.tags.now.tagger (data_bytes c.args.line c.args.counter cipher))
+    (λ cipher. marked_long (g.T.Tagger.data_tag_of c.args.tags.now.tagger (data_bytes c.args.line c.args.counter cipher))
+    (g.met.T.Tagger.data_tag_long c.args.tags.now.tagger (data_bytes c.args.line c.args.counter cipher)))
     used current (Err (Tampered (line_place c.args.line))) (returns-then-not-check_data-clause-read g c) was
 
 pub returns-then-not-check_data-clause-tampered : goal.returns-then-not-check_data-clause-tampered
@@ -73,7 +76,8 @@ returns-then-not-check_data-clause-tampered g c = λ place is. (
   λ used current.
       tampered_lied (tags_of g.T.Tagger.data_tag_of g.T.Tagger.node_tag_of c.args.tags.now) c.args.line c.args.counter
       (g.B.Bus.history c.args.bus.now) (g.B.Bus.history c.read_data.new.self) c.args.tags.now c.check_data.new.self
-      (λ cipher. g.met.T.Tagger.data_tag_long c.args.tags.now.tagger (data_bytes c.args.line c.args.counter cipher))
+      (λ cipher. marked_long (g.T.Tagger.data_tag_of c.args.tags.now.tagger (data_bytes c.args.line c.args.counter cipher))
+      (g.met.T.Tagger.data_tag_long c.args.tags.now.tagger (data_bytes c.args.line c.args.counter cipher)))
       used current (returns-then-not-check_data-clause-read g c).1,
 )
 
@@ -83,7 +87,8 @@ returns-then-not-check_data-clause-shown g c = λ used current quiet.
     none_or c.check_data.new.self.evidence
     (shown_lied (tags_of g.T.Tagger.data_tag_of g.T.Tagger.node_tag_of c.args.tags.now) c.args.line c.args.counter
     (g.B.Bus.history c.args.bus.now) (g.B.Bus.history c.read_data.new.self) c.args.tags.now c.check_data.new.self
-    (λ cipher. g.met.T.Tagger.data_tag_long c.args.tags.now.tagger (data_bytes c.args.line c.args.counter cipher))
+    (λ cipher. marked_long (g.T.Tagger.data_tag_of c.args.tags.now.tagger (data_bytes c.args.line c.args.counter cipher))
+    (g.met.T.Tagger.data_tag_long c.args.tags.now.tagger (data_bytes c.args.line c.args.counter cipher)))
     used current (Err (Tampered (line_place c.args.line))) (returns-then-not-check_data-clause-read g c) quiet)
 
 -- Passed
@@ -114,7 +119,8 @@ unfolding engine_tag
 returns-clause-honest g c = λ used current was.
     read_honest (tags_of g.T.Tagger.data_tag_of g.T.Tagger.node_tag_of c.args.tags.now) c.args.line c.args.counter
     (g.B.Bus.history c.args.bus.now) (g.B.Bus.history c.read_data.new.self) c.args.tags.now c.check_data.new.self
-    (λ cipher. g.met.T.Tagger.data_tag_long c.args.tags.now.tagger (data_bytes c.args.line c.args.counter cipher))
+    (λ cipher. marked_long (g.T.Tagger.data_tag_of c.args.tags.now.tagger (data_bytes c.args.line c.args.counter cipher))
+    (g.met.T.Tagger.data_tag_long c.args.tags.now.tagger (data_bytes c.args.line c.args.counter cipher)))
     used current (Ok c.in_ok-sealed.sealed.cipher) (returns-clause-read g c) was
 
 pub returns-clause-accepted : goal.returns-clause-accepted
@@ -129,5 +135,6 @@ returns-clause-shown g c = λ used current quiet.
     none_or c.check_data.new.self.evidence
     (shown_lied (tags_of g.T.Tagger.data_tag_of g.T.Tagger.node_tag_of c.args.tags.now) c.args.line c.args.counter
     (g.B.Bus.history c.args.bus.now) (g.B.Bus.history c.read_data.new.self) c.args.tags.now c.check_data.new.self
-    (λ cipher. g.met.T.Tagger.data_tag_long c.args.tags.now.tagger (data_bytes c.args.line c.args.counter cipher))
+    (λ cipher. marked_long (g.T.Tagger.data_tag_of c.args.tags.now.tagger (data_bytes c.args.line c.args.counter cipher))
+    (g.met.T.Tagger.data_tag_long c.args.tags.now.tagger (data_bytes c.args.line c.args.counter cipher)))
     used current (Ok c.in_ok-sealed.sealed.cipher) (returns-clause-read g c) quiet)
