@@ -1,16 +1,18 @@
 -- Calls that read and write nodes of a level and of those above it, one after another.
-use Rattle.std.proofs.Common.{◌≡◌, ◌≢◌, ◌⊎◌, inl, inr, ℕ, zero, suc, ◌+◌, ◌-◌, ◌/◌, ◌^◌, ◌<◌, ◌≤◌, List, length, Option, Some, None, refl, ap, sym, ◌∙◌, subst, arith, length-append}
+use Rattle.std.proofs.Common.{◌≡◌, ◌≢◌, ◌⊎◌, inl, inr, ℕ, zero, suc, ◌+◌, ◌-◌, ◌/◌, ◌^◌, ◌<◌, ◌≤◌, List, ◌++◌, length, Option, Some, None, refl, ap, sym, ◌∙◌, subst, arith, length-append}
 use Rattle.std.proofs.lemmas.Bool.{cases_lt}
 use Rattle.std.proofs.lemmas.Nat.{pow-add}
 use Rattle.std.proofs.Math.Nat.{div-div-eq-div-mul}
 use Rattle.sec_base.specs.Count.{Rose, RoseBy}
 use Rattle.sec_base.specs.Evidence.{evidence_place}
+use Rattle.sec_base.specs.LastMessage.{last_node, node_part}
 use Rattle.sec_base.specs.declared.evidence.Evidence.{Evidence}
 use Rattle.sec_base.specs.declared.message.Message.{Message}
 use Rattle.sec_base.specs.declared.place.Place.{Place}
 use Rattle.sec_base.specs.declared.place.Place.TheVariants.{Node as node_place}
 use Rattle.sec_base.specs.declared.stop.MemStop.{MemStop}
 use Rattle.sec_base.specs.declared.stop.MemStop.TheVariants.{NoMemory}
+use Rattle.sec_base.proofs.LastMessages.{none_front}
 use Rattle.sec_base.proofs.Results.{was_none, some_or_none}
 use Rattle.bus_model.specs.BusHistory.{BusHistory}
 use Rattle.tag_engine.specs.TagEngine.{TagEngineView, tags_of}
@@ -22,7 +24,7 @@ use Rattle.checked_bus.proofs.Writes.{none_more, writes_not, writes_on}
 use Rattle.bonsai_tree.specs.Climb.{Climbs}
 use Rattle.bonsai_tree.specs.Node.{CachedNode}
 use Rattle.bonsai_tree.specs.NodeCache.{AreNodeCaches, level_cache}
-use Rattle.bonsai_tree.specs.Tree.{HoldsTree, IsNodeFrom, NodesAreMade, NodesHoldLast, SlotsAreTags, TreeView, WasReadUp, above, cached_node}
+use Rattle.bonsai_tree.specs.Tree.{HoldsTree, IsNodeFrom, NodeCame, NodesAreMade, NodesHoldLast, SlotsAreTags, TreeView, WasReadUp, above, cached_node}
 use Rattle.bonsai_tree.proofs.Nodes.{same_tags, some_not_none}
 
 -- Which nodes were read
@@ -68,24 +70,43 @@ pub above_on : (levels index lower more : ℕ) → above levels (above levels in
 above_on levels index lower more =
     div-div-eq-div-mul index (4 ^ lower) (4 ^ more) ∙ sym (ap (λ (n : ℕ). index / n) (pow-add 4 lower more))
 
-pub read_up_on : (tree mid : TreeView) (level index : ℕ) (first second third : BusHistory) → mid.levels ≡ tree.levels →
+-- a node that was never made by more messages was never made before
+pub unmade_before : (made made' more : List Message) → made' ≡ made ++ more → (level index : ℕ) → last_node level index made' ≡ None →
+    last_node level index made ≡ None
+unmade_before made made' more is level index none =
+    none_front (node_part level index) made more (subst (λ (m : List Message). last_node level index m ≡ None) is none)
+
+-- what came, came by a call before others, and by one after others
+pub came_before : (made : List Message) (level index : ℕ) (first second third : BusHistory) →
+    ((place : Place) → RoseBy 0 (second.reads place) (third.reads place)) → NodeCame made level index first second → NodeCame made level index first third
+came_before made level index first second third after (inl none) = inl none
+came_before made level index first second third after (inr rose) = inr (omega (arith, rose, after (node_place level index)))
+
+pub came_after : (made made' : List Message) (level index : ℕ) (first second third : BusHistory) →
+    ((place : Place) → RoseBy 0 (first.reads place) (second.reads place)) →
+    (last_node level index made' ≡ None → last_node level index made ≡ None) → NodeCame made' level index second third →
+    NodeCame made level index first third
+came_after made made' level index first second third before unmade (inl none) = inl (unmade none)
+came_after made made' level index first second third before unmade (inr rose) = inr (omega (arith, rose, before (node_place level index)))
+
+pub read_up_on : (tree mid : TreeView) (made made' : List Message) (level index : ℕ) (first second third : BusHistory) → mid.levels ≡ tree.levels →
     ((place : Place) → RoseBy 0 (first.reads place) (second.reads place)) → ((place : Place) → RoseBy 0 (second.reads place) (third.reads place)) →
-    ((at_level at : ℕ) → cached_node mid at_level at ≢ None → WasReadUp tree at_level at first second) →
-    WasReadUp mid level index second third → WasReadUp tree level index first third
-read_up_on tree mid level index first second third levels before after read more_read = record {
+    ((at_level at : ℕ) → last_node at_level at made' ≡ None → last_node at_level at made ≡ None) →
+    ((at_level at : ℕ) → cached_node mid at_level at ≢ None → WasReadUp tree made at_level at first second) →
+    WasReadUp mid made' level index second third → WasReadUp tree made level index first third
+read_up_on tree mid made made' level index first second third levels before after unmade read more_read = record {
   rose = λ more inside none.
       let same_above : (k : ℕ) → above mid.levels index k ≡ above tree.levels index k = λ k. refl in
       elim (find_copy mid level index more) [
         | inl none_mid ↦
-            let rose : Rose (second.reads (node_place (level + more) (above mid.levels index more))) (third.reads (node_place (level + more) (above mid.levels index more))) =
-            more_read.rose more (omega (arith, levels)) none_mid in
-            omega (arith, rose, before (node_place (level + more) (above tree.levels index more)))
+            came_after made made' (level + more) (above tree.levels index more) first second third before (unmade (level + more) (above tree.levels index more))
+            (more_read.rose more (omega (arith, levels)) none_mid)
         | inr found ↦
             let back : found.lower + (more - found.lower) ≡ more = omega (arith, found.within) in
             let level_is : level + found.lower + (more - found.lower) ≡ level + more = omega (arith, found.within) in
             let index_is : above tree.levels (above tree.levels index found.lower) (more - found.lower) ≡ above tree.levels index more =
             above_on tree.levels index found.lower (more - found.lower) ∙ ap (λ (k : ℕ). above tree.levels index k) back in
-            let up : WasReadUp tree (level + found.lower) (above tree.levels index found.lower) first second =
+            let up : WasReadUp tree made (level + found.lower) (above tree.levels index found.lower) first second =
             read (level + found.lower) (above tree.levels index found.lower) found.copied in
             let none_up : (lower : ℕ) → lower ≤ more - found.lower →
             cached_node tree (level + found.lower + lower) (above tree.levels (above tree.levels index found.lower) lower) ≡ None =
@@ -94,19 +115,19 @@ read_up_on tree mid level index first second third levels before after read more
             ap (λ (k : ℕ). cached_node tree k (above tree.levels (above tree.levels index found.lower) lower)) sum
             ∙ ap (λ (i : ℕ). cached_node tree (level + (found.lower + lower)) i) (above_on tree.levels index found.lower lower)
             ∙ none (found.lower + lower) (omega (arith, found.within)) in
-            let rose : Rose (first.reads (node_place (level + found.lower + (more - found.lower)) (above tree.levels (above tree.levels index found.lower) (more - found.lower))))
-            (second.reads (node_place (level + found.lower + (more - found.lower)) (above tree.levels (above tree.levels index found.lower) (more - found.lower)))) =
+            let came : NodeCame made (level + found.lower + (more - found.lower)) (above tree.levels (above tree.levels index found.lower) (more - found.lower)) first second =
             up.rose (more - found.lower) (omega (arith, level_is)) none_up in
-            let here : Rose (first.reads (node_place (level + more) (above tree.levels index more))) (second.reads (node_place (level + more) (above tree.levels index more))) =
-            subst (λ (k : ℕ). Rose (first.reads (node_place k (above tree.levels index more))) (second.reads (node_place k (above tree.levels index more)))) level_is
-            (subst (λ (i : ℕ). Rose (first.reads (node_place (level + found.lower + (more - found.lower)) i)) (second.reads (node_place (level + found.lower + (more - found.lower)) i))) index_is rose) in
-            omega (arith, here, after (node_place (level + more) (above tree.levels index more)))
+            let here : NodeCame made (level + more) (above tree.levels index more) first second =
+            subst (λ (k : ℕ). NodeCame made k (above tree.levels index more) first second) level_is
+            (subst (λ (i : ℕ). NodeCame made (level + found.lower + (more - found.lower)) i first second) index_is came) in
+            came_before made (level + more) (above tree.levels index more) first second third after here
       ];
 }
 
 -- a node that had a copy
-pub read_up_held : (tree : TreeView) (level index : ℕ) (old new : BusHistory) → cached_node tree level index ≢ None → WasReadUp tree level index old new
-read_up_held tree level index old new held = record {
+pub read_up_held : (tree : TreeView) (made : List Message) (level index : ℕ) (old new : BusHistory) → cached_node tree level index ≢ None →
+    WasReadUp tree made level index old new
+read_up_held tree made level index old new held = record {
   rose = λ more inside none.
       let first : cached_node tree (level + 0) (above tree.levels index 0) ≡ None = none 0 (omega arith) in
       let level_is : level + 0 ≡ level = omega arith in
@@ -149,6 +170,7 @@ module _ {T : Type 0} (d n : T → List ℕ → List ℕ) where
     last = λ level index low. refl;
     blocks = λ level low. refl;
     written = λ level index low. refl;
+    reads = λ level index low. refl;
     holds = λ was remembered. holds was;
     honest = λ was used accounted. accounted;
     lied = λ was quiet place is. absurd (cc);
@@ -162,7 +184,8 @@ module _ {T : Type 0} (d n : T → List ℕ → List ℕ) where
     made_blocks = λ was. was;
     last_blocks = λ remembered was. was;
     slots = λ was quiet tagged. tagged;
-    read = λ level index copied. read_up_held tree level index history history (held level index copied);
+    read = λ was quiet level index copied. read_up_held tree engine.made level index history history (held level index copied);
+    unread = λ was quiet level index none. refl;
   }
 
   -- nothing was done
@@ -184,6 +207,7 @@ module _ {T : Type 0} (d n : T → List ℕ → List ℕ) where
     last = λ level index low. refl;
     blocks = λ level low. refl;
     written = λ level index low. refl;
+    reads = λ level index low. refl;
     holds = λ holds remembered. absurd (remembered refl);
     honest = λ holds used was. ended_accounted (tags_of d n engine) used engine.made history NoMemory engine.evidence (λ place is. cc) was;
     lied = λ holds quiet place is. absurd (cc);
@@ -199,7 +223,8 @@ module _ {T : Type 0} (d n : T → List ℕ → List ℕ) where
     made_blocks = λ was. was;
     last_blocks = λ remembered was. absurd (remembered refl);
     slots = λ was quiet tagged. tagged;
-    read = λ level index held. read_up_held tree level index history history held;
+    read = λ holds quiet level index held. read_up_held tree engine.made level index history history held;
+    unread = λ holds quiet level index none. refl;
   }
 
   -- and of a level above
@@ -215,6 +240,7 @@ module _ {T : Type 0} (d n : T → List ℕ → List ℕ) where
     last = λ level index low. climbs.last level index (omega arith);
     blocks = λ level low. climbs.blocks level (omega arith);
     written = λ level index low. climbs.written level index (omega arith);
+    reads = λ level index low. climbs.reads level index (omega arith);
     holds = climbs.holds;
     honest = climbs.honest;
     lied = climbs.lied;
@@ -229,6 +255,7 @@ module _ {T : Type 0} (d n : T → List ℕ → List ℕ) where
     last_blocks = climbs.last_blocks;
     slots = climbs.slots;
     read = climbs.read;
+    unread = climbs.unread;
   }
 
   -- one call after another
@@ -259,6 +286,7 @@ module _ {T : Type 0} (d n : T → List ℕ → List ℕ) where
         last = λ level index low. more.last level index low ∙ climbs.last level index low;
         blocks = λ level low. more.blocks level low ∙ climbs.blocks level low;
         written = λ level index low. more.written level index low ∙ climbs.written level index low;
+        reads = λ level index low. more.reads level index low ∙ climbs.reads level index low;
         holds = λ holds remembered. more.holds (climbs.holds holds going) remembered;
         honest = λ holds used was.
             subst (λ (t : Message → List ℕ). IsAccounted t used engine''.made third stop engine''.evidence) tags
@@ -310,6 +338,13 @@ module _ {T : Type 0} (d n : T → List ℕ → List ℕ) where
             (more.slots (climbs.holds holds going) quiet
             (subst (λ (k : ℕ). SlotsAreTags (tags_of d n engine') k engine'.made) (sym climbs.levels)
             (subst (λ (t : Message → List ℕ). SlotsAreTags t tree.levels engine'.made) (sym tags) (climbs.slots holds still tagged)))));
-        read = λ level index held.
-            read_up_on tree mid level index first second third climbs.levels climbs.moves.reads more.moves.reads climbs.read (more.read level index held);
+        read = λ holds quiet level index held.
+            let still : engine'.evidence ≡ None = was_none engine'.evidence engine''.evidence more.moves.evidence quiet in
+            read_up_on tree mid engine.made engine'.made level index first second third climbs.levels climbs.moves.reads more.moves.reads
+            (unmade_before engine.made engine'.made climbs.moves.more climbs.moves.made) (climbs.read holds still)
+            (more.read (climbs.holds holds going) quiet level index held);
+        unread = λ holds quiet level index none.
+            let still : engine'.evidence ≡ None = was_none engine'.evidence engine''.evidence more.moves.evidence quiet in
+            more.unread (climbs.holds holds going) quiet level index none
+            ∙ climbs.unread holds still level index (unmade_before engine'.made engine''.made more.moves.more more.moves.made level index none);
       }

@@ -3,6 +3,8 @@ pub mod Copies
 pub mod SlotTags
 pub mod LevelBlocks
 pub mod Nodes
+pub mod KeptReads
+pub mod NewTrees
 pub mod Puts
 pub mod MadeSlots
 pub mod Views
@@ -12,8 +14,3 @@ pub mod NodeCalls
 pub mod WrittenBack
 pub mod OutFor
 pub mod PathCalls
-pub mod Boots
-pub mod BootSlots
-pub mod BootSteps
-pub mod OfBoot
-pub mod WholeBoots

@@ -1,16 +1,15 @@
 -- Nodes that were made have in their slots the tags of the last messages of their children.
-use Rattle.std.proofs.Common.{◌≡◌, ◌⊎◌, inl, inr, ℕ, ◌+◌, ◌-◌, ◌*◌, ◌/◌, ◌%◌, ◌<◌, List, [], ◌∷◌, ◌++◌, fold, Option, Some, None, refl, ap, sym, ◌∙◌, subst, arith}
-use Rattle.std.specs.Option.{option_map, option_or}
+use Rattle.std.proofs.Common.{◌≡◌, ◌⊎◌, inl, inr, ℕ, ◌+◌, ◌-◌, ◌*◌, ◌/◌, ◌%◌, ◌<◌, List, [], ◌∷◌, ◌++◌, Contains, refl, ap, sym, ◌∙◌, subst, arith}
 use Rattle.std.proofs.lemmas.List.{append-nil}
-use Rattle.std.proofs.lemmas.List.Sums.{fold-append}
+use Rattle.std.proofs.lemmas.List.Elements.{Contains-append_right}
 use Rattle.sec_base.specs.Geometry.{IsNode}
-use Rattle.sec_base.specs.LastMessage.{after_item, last_at, last_node, last_of, node_part}
+use Rattle.sec_base.specs.LastMessage.{last_node}
 use Rattle.sec_base.specs.declared.message.Message.{Message}
 use Rattle.sec_base.specs.declared.message.Message.TheVariants.{Node}
 use Rattle.sec_base.specs.declared.place.Place.{Place}
 use Rattle.sec_base.proofs.Numbers.{child_is}
-use Rattle.bonsai_tree.specs.Node.{block_or_zeros, tag_in_slot, tag_of_last}
-use Rattle.bonsai_tree.specs.Tree.{IsTagOfLast, IsTree, SlotsAreTags, TreeView, current_block}
+use Rattle.bonsai_tree.specs.Node.{tag_in_slot, tag_of_last}
+use Rattle.bonsai_tree.specs.Tree.{IsTree, SlotsAreTags, TreeView, current_block}
 use Rattle.bonsai_tree.proofs.Nodes.{kept_below}
 
 -- an item of two lists, one after the other, stands in the first or in the second
@@ -34,58 +33,28 @@ one_item : {A : Type 0} (only item : A) (before after : List A) → only ∷ [] 
 one_item only item [] after is = let same : only ≡ item = cc in (refl, same)
 one_item only item (x ∷ before) after is = let none : [] ≡ before ++ item ∷ after = cc in absurd (none_is before after item none)
 
--- the last item that has a part is the same behind other items
-last_next : {B : Type 0} (seen other : ℕ × Option (ℕ × B)) (part : Option B) (found : B) →
-    (option_map (λ (p : ℕ × B). p.1) seen.1 ≡ Some found → option_map (λ (p : ℕ × B). p.1) other.1 ≡ Some found) →
-    option_map (λ (p : ℕ × B). p.1) (option_or (option_map (λ (x : B). (seen.0, x)) part) seen.1) ≡ Some found →
-    option_map (λ (p : ℕ × B). p.1) (option_or (option_map (λ (x : B). (other.0, x)) part) other.1) ≡ Some found
-last_next seen other None found so is = so is
-last_next seen other (Some x) found so is = is
-
-last_behind : {A B : Type 0} (part : A → Option B) (items : List A) (seen other : ℕ × Option (ℕ × B)) (found : B) →
-    (option_map (λ (p : ℕ × B). p.1) seen.1 ≡ Some found → option_map (λ (p : ℕ × B). p.1) other.1 ≡ Some found) →
-    option_map (λ (p : ℕ × B). p.1) (fold (after_item part) seen items).1 ≡ Some found →
-    option_map (λ (p : ℕ × B). p.1) (fold (after_item part) other items).1 ≡ Some found
-last_behind part [] seen other found so is = so is
-last_behind part (item ∷ items) seen other found so is =
-    last_behind part items (after_item part seen item) (after_item part other item) found (last_next seen other (part item) found so) is
-
-last_appended : {A B : Type 0} (part : A → Option B) (front items : List A) (found : B) → last_of part items ≡ Some found →
-    last_of part (front ++ items) ≡ Some found
-unfolding last_at
-last_appended {A} {B} part front items found is =
-    let start : ℕ × Option (ℕ × B) = (0, None) in
-    ap (λ (seen : ℕ × Option (ℕ × B)). option_map (λ (p : ℕ × B). p.1) seen.1) (fold-append (after_item part) start front items)
-    ∙ last_behind part items start (fold (after_item part) start front) found (λ none. absurd (cc)) is
-
 module _ (tag_of : Message → List ℕ) where
-  -- the tag of a last message is one behind other messages
-  tag_behind : (made more : List Message) (level index : ℕ) (tag : List ℕ) → IsTagOfLast tag_of more level index tag →
-      IsTagOfLast tag_of (made ++ more) level index tag
-  tag_behind made more level index tag is = record {
-    block = is.block;
-    last = last_appended (node_part level index) made more is.block is.last;
-    tag_is = is.tag_is;
-  }
-
   pub slots_none : (levels : ℕ) → SlotsAreTags tag_of levels []
   slots_none levels = record { tagged = λ before after level index at block is inside. absurd (none_is before after (Node (level + 1) index block) is) }
 
-  pub slots_both : (levels : ℕ) (made more : List Message) → SlotsAreTags tag_of levels made → SlotsAreTags tag_of levels more →
-      SlotsAreTags tag_of levels (made ++ more)
-  slots_both levels made more was is = record {
+  -- more messages, of no node
+  pub slots_on : (levels : ℕ) (made more : List Message) → ((level index : ℕ) (block : List ℕ) → ¬ Contains more (Node level index block)) →
+      SlotsAreTags tag_of levels made → SlotsAreTags tag_of levels (made ++ more)
+  slots_on levels made more no_node was = record {
     tagged = λ before after level index at block splits inside.
         elim (item_in made more before after (Node (level + 1) index block) splits) [
           | inl first ↦ was.tagged before first.0 level index at block first.1 inside
           | inr second ↦
-              subst (λ (m : List Message). IsTagOfLast tag_of m level (4 * index + at) (tag_in_slot at block)) (sym second.1)
-              (tag_behind made second.0 level (4 * index + at) (tag_in_slot at block) (is.tagged second.0 after level index at block second.2 inside))
+              absurd (no_node (level + 1) index block
+              (subst (λ (m : List Message). Contains m (Node (level + 1) index block)) (sym second.2)
+              (Contains-append_right second.0 (Node (level + 1) index block ∷ after) (Node (level + 1) index block) (0, omega arith, refl))))
         ];
   }
 
   -- one message more
   pub slots_more : (levels : ℕ) (made : List Message) (level index : ℕ) (block : List ℕ) → SlotsAreTags tag_of levels made →
-      ((lower at : ℕ) → level ≡ lower + 1 → at < 4 → IsTagOfLast tag_of made lower (4 * index + at) (tag_in_slot at block)) →
+      ((lower at : ℕ) → level ≡ lower + 1 → at < 4 →
+      tag_in_slot at block ≡ tag_of_last tag_of lower (4 * index + at) (last_node lower (4 * index + at) made)) →
       SlotsAreTags tag_of levels (made ++ Node level index block ∷ [])
   slots_more levels made level index block was own = record {
     tagged = λ before after lower parent at bytes splits inside.
@@ -99,29 +68,24 @@ module _ (tag_of : Message → List ℕ) where
               let index_same : index ≡ parent = cc in
               let block_same : block ≡ bytes = cc in
               let before_is : made ≡ before = sym (second.1 ∙ ap (λ (m : List Message). made ++ m) one.0 ∙ append-nil made) in
-              subst (λ (m : List Message). IsTagOfLast tag_of m lower (4 * parent + at) (tag_in_slot at bytes)) before_is
-              (subst (λ (i : ℕ). IsTagOfLast tag_of made lower (4 * i + at) (tag_in_slot at bytes)) index_same
-              (subst (λ (b : List ℕ). IsTagOfLast tag_of made lower (4 * index + at) (tag_in_slot at b)) block_same (own lower at level_same inside)))
+              subst (λ (m : List Message). tag_in_slot at bytes ≡ tag_of_last tag_of lower (4 * parent + at) (last_node lower (4 * parent + at) m)) before_is
+              (subst (λ (i : ℕ). tag_in_slot at bytes ≡ tag_of_last tag_of lower (4 * i + at) (last_node lower (4 * i + at) made)) index_same
+              (subst (λ (b : List ℕ). tag_in_slot at b ≡ tag_of_last tag_of lower (4 * index + at) (last_node lower (4 * index + at) made)) block_same
+              (own lower at level_same inside)))
         ];
   }
 
-  -- where the tree fits, each slot of a node's current block has the tag of the child's last message
+  -- where the tree fits, each slot of a node's current block has the tag that is kept of the child
   pub current_slots : (tree : TreeView) (made : List Message) (written : Place → List ℕ) (level index at : ℕ) → IsTree tag_of tree made written →
-      IsNode tree.levels (level + 1) index → at < 4 → IsTagOfLast tag_of made level (4 * index + at) (tag_in_slot at (current_block tree made (level + 1) index))
+      IsNode tree.levels (level + 1) index → at < 4 →
+      tag_in_slot at (current_block tree made (level + 1) index) ≡ tag_of_last tag_of level (4 * index + at) (last_node level (4 * index + at) made)
   current_slots tree made written level index at fits node inside =
       let back : level + 1 - 1 ≡ level = omega arith in
       let child : IsNode tree.levels level (4 * index + at) =
       subst (λ (k : ℕ). IsNode tree.levels k (4 * index + at)) back (child_is tree.levels (level + 1) index at node (omega arith) inside) in
-      let last : last_node level (4 * index + at) made ≡ Some (block_or_zeros (last_node level (4 * index + at) made)) = fits.made_all level (4 * index + at) child in
       let slot_is : (4 * index + at) % 4 ≡ at = omega arith in
       let parent_is : (4 * index + at) / 4 ≡ index = omega arith in
-      record {
-        block = block_or_zeros (last_node level (4 * index + at) made);
-        last = last;
-        tag_is =
-            sym (ap (λ (s : ℕ). tag_in_slot s (current_block tree made (level + 1) ((4 * index + at) / 4))) slot_is
-            ∙ ap (λ (i : ℕ). tag_in_slot at (current_block tree made (level + 1) i)) parent_is)
-            ∙ sym (kept_below tree made level (4 * index + at) (omega (arith, node.0)))
-            ∙ fits.slots level (4 * index + at) child
-            ∙ ap (λ (o : Option (List ℕ)). tag_of_last tag_of level (4 * index + at) o) last;
-      }
+      sym (ap (λ (s : ℕ). tag_in_slot s (current_block tree made (level + 1) ((4 * index + at) / 4))) slot_is
+      ∙ ap (λ (i : ℕ). tag_in_slot at (current_block tree made (level + 1) i)) parent_is)
+      ∙ sym (kept_below tree made level (4 * index + at) (omega (arith, node.0)))
+      ∙ fits.slots level (4 * index + at) child

@@ -2,7 +2,6 @@
 use Rattle.std.proofs.Common.{◌≡◌, ◌≢◌, ◌⊎◌, inl, inr, ℕ, ◌+◌, ◌*◌, ◌/◌, ◌<◌, ◌≤◌, false, max, List, [], ◌∷◌, ◌++◌, length, Option, Some, None, Result, refl, ap, sym, ◌∙◌, subst, arith, ◌-◌}
 use Rattle.std.specs.Result.{result_err}
 use Rattle.std.proofs.lemmas.Bool.{cases_lt}
-use Rattle.sec_base.specs.Count.{Rose}
 use Rattle.sec_base.specs.Evidence.{evidence_place}
 use Rattle.sec_base.specs.Geometry.{IsNode}
 use Rattle.sec_base.specs.LastMessage.{last_node}
@@ -17,18 +16,19 @@ use Rattle.sec_base.specs.declared.stop.MemStop.TheVariants.{Tampered, Spent, No
 use Rattle.sec_base.proofs.Results.{stop_is, was_none}
 use Rattle.bus_model.specs.BusHistory.{BusHistory}
 use Rattle.tag_engine.specs.TagEngine.{TagEngineView, tags_of, with_room}
-use Rattle.checked_bus.specs.Steps.{IsAccounted, IsCurrentNode, WritesOnce, unwritten_in}
+use Rattle.checked_bus.specs.Steps.{IsAccounted, WritesOnce, unwritten_in}
 use Rattle.checked_bus.proofs.CheckedReads.{ended_accounted}
 use Rattle.checked_bus.proofs.Writes.{none_more}
+use Rattle.bonsai_tree.specs.KeptRead.{IsKeptNode, ReadsKept}
 use Rattle.bonsai_tree.specs.Climb.{Climbs}
-use Rattle.bonsai_tree.specs.Node.{CachedNode, block_or_zeros, current_of, level_blocks, tag_in_slot}
+use Rattle.bonsai_tree.specs.Node.{CachedNode, block_or_zeros, current_of, level_blocks, tag_in_slot, tag_of_last}
 use Rattle.bonsai_tree.specs.NodeCache.{AreNodeCaches, OtherLevels, level_cache}
-use Rattle.bonsai_tree.specs.Tree.{HoldsTree, IsNodeFrom, IsTagOfLast, IsTree, NodesAreMade, NodesHoldLast, SlotsAreTags, TreeView, WasReadUp, above, cached_node, current_block, kept_tag}
+use Rattle.bonsai_tree.specs.Tree.{HoldsTree, IsNodeFrom, IsTree, NodeCame, NodesAreMade, NodesHoldLast, SlotsAreTags, TreeView, WasReadUp, above, cached_node, current_block, kept_tag}
 use Rattle.bonsai_tree.specs.Writing.{WritesNodes}
 use Rattle.bonsai_tree.proofs.Climbs.{climbs_recached, read_up_held}
 use Rattle.bonsai_tree.proofs.MadeSlots.{current_slots, slots_more}
 use Rattle.bonsai_tree.proofs.LevelBlocks.{blocks_other}
-use Rattle.bonsai_tree.proofs.Nodes.{NodeRead, SameNode, is_current, same_or_not, same_tags}
+use Rattle.bonsai_tree.proofs.Nodes.{SameNode, is_kept, same_or_not, same_tags}
 use Rattle.bonsai_tree.proofs.NodeWrites.{NodeWritten, is_put}
 use Rattle.bonsai_tree.proofs.Puts.{IsPut, PutsTag, tree_put, tree_recached}
 
@@ -90,25 +90,27 @@ module _ {T : Type 0} (d n : T → List ℕ → List ℕ) where
 
   module _ (tree : TreeView) (level index : ℕ) (tag : List ℕ) (old new : BusHistory) (engine engine' : TagEngineView T) (result : Result (List ℕ) MemStop)
       (node : IsNode tree.levels level index) (is_tag : tag ≡ kept_tag tree engine.made level index)
-      (read : NodeRead (tags_of d n) level index tag old engine new engine' result) where
+      (read : ReadsKept (tags_of d n) level index tag old engine new engine' result) where
     tags_same : tags_of d n engine' ≡ tags_of d n engine
     tags_same = same_tags d n old new engine engine' read.moves
 
-    pub read_current : HoldsTree (tags_of d n) tree old engine → engine.evidence ≡ None → IsCurrentNode (tags_of d n engine) engine.made old.written level index tag
-    read_current holds quiet =
-        subst (λ (t : List ℕ). IsCurrentNode (tags_of d n engine) engine.made old.written level index t) (sym is_tag)
-        (is_current (tags_of d n engine) tree engine.made old.written level index node (holds.fits quiet))
+    pub kept_node : HoldsTree (tags_of d n) tree old engine → engine.evidence ≡ None → IsKeptNode (tags_of d n engine) engine.made old.written level index tag
+    kept_node holds quiet =
+        subst (λ (t : List ℕ). IsKeptNode (tags_of d n engine) engine.made old.written level index t) (sym is_tag)
+        (is_kept (tags_of d n engine) tree engine.made old.written level index node (holds.fits quiet))
+
+    quiet_before : engine'.evidence ≡ None → engine.evidence ≡ None
+    quiet_before quiet = was_none engine.evidence engine'.evidence read.moves.evidence quiet
 
     read_fits : HoldsTree (tags_of d n) tree old engine → engine'.evidence ≡ None → IsTree (tags_of d n engine') tree engine'.made new.written
     read_fits holds quiet =
-        let was : engine.evidence ≡ None = was_none engine.evidence engine'.evidence read.moves.evidence quiet in
         subst (λ (t : Message → List ℕ). IsTree t tree engine'.made new.written) (sym tags_same)
-        (subst (λ (m : List Message). IsTree (tags_of d n engine) tree m new.written) (sym read.once.made)
-        (subst (λ (w : Place → List ℕ). IsTree (tags_of d n engine) tree engine.made w) (sym read.once.written) (holds.fits was)))
+        (subst (λ (m : List Message). IsTree (tags_of d n engine) tree m new.written) (sym read.made)
+        (subst (λ (w : Place → List ℕ). IsTree (tags_of d n engine) tree engine.made w) (sym read.written) (holds.fits (quiet_before quiet))))
 
     pub climbs_read : Climbs (tags_of d n) level tree old engine tree new engine' (result_err result)
     climbs_read =
-        let none : length read.moves.more ≡ 0 = none_more engine.made engine'.made read.moves.more read.once.made read.moves.made in
+        let none : length read.moves.more ≡ 0 = none_more engine.made engine'.made read.moves.more read.made read.moves.made in
         record {
           moves = read.moves;
           lines = read.lines;
@@ -116,27 +118,30 @@ module _ {T : Type 0} (d n : T → List ℕ → List ℕ) where
           root = refl;
           nodes = λ are. are;
           copies = λ other low. refl;
-          last = λ other at low. ap (λ (m : List Message). last_node other at m) read.once.made;
-          blocks = λ other low. ap (λ (m : List Message). level_blocks other m) read.once.made;
-          written = λ other at low. ap (λ (w : Place → List ℕ). w (node_place other at)) read.once.written;
+          last = λ other at low. ap (λ (m : List Message). last_node other at m) read.made;
+          blocks = λ other low. ap (λ (m : List Message). level_blocks other m) read.made;
+          written = λ other at low. ap (λ (w : Place → List ℕ). w (node_place other at)) read.written;
+          reads = λ other at low. read.alone other at (λ same. omega (arith, same.0, low));
           holds = λ holds going. record { fits = λ quiet. read_fits holds quiet };
-          honest = λ holds used was. read.honest used (λ quiet. read_current holds quiet) was;
-          lied = λ holds quiet place is. (read.tampered place (stop_is result (Tampered place) is)).1 (read_current holds quiet);
-          shown = λ holds quiet some. read.shown (read_current holds quiet) quiet some;
+          honest = λ holds used was. read.honest used (λ quiet. kept_node holds quiet) was;
+          lied = λ holds quiet place is. (read.tampered place (stop_is result (Tampered place) is)).1 (kept_node holds quiet);
+          shown = λ holds quiet some. read.shown (kept_node holds quiet) quiet some;
           tampered = λ place is. here_from tree.levels level index place node (read.tampered place (stop_is result (Tampered place) is)).0;
           found = λ quiet evidence is. here_from tree.levels level index (evidence_place evidence) node (read.found evidence quiet is);
           unspent = λ spent is. read.unspent spent (stop_is result (Spent spent) is);
-          room = omega (arith, read.once.room);
-          no_rise = omega (arith, read.once.room);
-          writes = record { writes = 0; counted = read.once.counted; at_most = omega arith; at_least = omega (arith, none) };
+          room = omega (arith, read.room);
+          no_rise = omega (arith, read.room);
+          writes = record { writes = 0; counted = read.counted; at_most = omega arith; at_least = omega (arith, none) };
           made_blocks = λ was.
-              subst (λ (m : List Message). NodesAreMade tree.levels m new.written) (sym read.once.made)
-              (subst (λ (w : Place → List ℕ). NodesAreMade tree.levels engine.made w) (sym read.once.written) was);
+              subst (λ (m : List Message). NodesAreMade tree.levels m new.written) (sym read.made)
+              (subst (λ (w : Place → List ℕ). NodesAreMade tree.levels engine.made w) (sym read.written) was);
           last_blocks = λ remembered was.
-              subst (λ (m : List Message). NodesHoldLast tree.levels m new.written) (sym read.once.made)
-              (subst (λ (w : Place → List ℕ). NodesHoldLast tree.levels engine.made w) (sym read.once.written) was);
-          slots = λ holds quiet tagged. subst (λ (m : List Message). SlotsAreTags (tags_of d n engine) tree.levels m) (sym read.once.made) tagged;
-          read = λ other at held. read_up_held tree other at old new held;
+              subst (λ (m : List Message). NodesHoldLast tree.levels m new.written) (sym read.made)
+              (subst (λ (w : Place → List ℕ). NodesHoldLast tree.levels engine.made w) (sym read.written) was);
+          slots = λ holds quiet tagged. subst (λ (m : List Message). SlotsAreTags (tags_of d n engine) tree.levels m) (sym read.made) tagged;
+          read = λ holds quiet other at held. read_up_held tree engine.made other at old new held;
+          unread = λ holds quiet other at none.
+              read.unread (kept_node holds (quiet_before quiet)) other at (ap (λ (m : List Message). last_node other at m) (sym read.made) ∙ none);
         }
 
     -- and its block is kept as a copy
@@ -145,12 +150,12 @@ module _ {T : Type 0} (d n : T → List ℕ → List ℕ) where
         (put : cached_node tree' level index ≡ Some (record { block = block; changed = false }))
         (same : (other at : ℕ) → ¬ (SameNode level index other at) → cached_node tree' other at ≡ cached_node tree other at)
         (parent : level < tree.levels → cached_node tree (level + 1) (index / 4) ≢ None)
-        (known : IsCurrentNode (tags_of d n engine) engine.made old.written level index tag → engine'.evidence ≡ None → last_node level index engine.made ≡ Some block) where
+        (known : IsKeptNode (tags_of d n engine) engine.made old.written level index tag → engine'.evidence ≡ None →
+        block ≡ block_or_zeros (last_node level index engine.made)) where
       block_last : HoldsTree (tags_of d n) tree old engine → engine'.evidence ≡ None → block_or_zeros (last_node level index engine'.made) ≡ block
       block_last holds quiet =
-          let was : engine.evidence ≡ None = was_none engine.evidence engine'.evidence read.moves.evidence quiet in
-          ap (λ (m : List Message). block_or_zeros (last_node level index m)) read.once.made
-          ∙ ap (λ (o : Option (List ℕ)). block_or_zeros o) (known (read_current holds was) quiet)
+          ap (λ (m : List Message). block_or_zeros (last_node level index m)) read.made
+          ∙ sym (known (kept_node holds (quiet_before quiet)) quiet)
 
       put_fits : HoldsTree (tags_of d n) tree old engine → engine'.evidence ≡ None → IsTree (tags_of d n engine') tree' engine'.made new.written
       put_fits holds quiet =
@@ -175,8 +180,8 @@ module _ {T : Type 0} (d n : T → List ℕ → List ℕ) where
                 ∙ sym (ap (λ (k : ℕ). block_or_zeros (last_node k at engine'.made)) here.0 ∙ ap (λ (i : ℕ). block_or_zeros (last_node level i engine'.made)) here.1)
           ])
 
-      read_here : WasReadUp tree level index old new
-      read_here = record {
+      read_here : HoldsTree (tags_of d n) tree old engine → engine'.evidence ≡ None → WasReadUp tree engine.made level index old new
+      read_here holds quiet = record {
         rose = λ more inside none. elim (cases_lt 0 more) [
           | inl some ↦
               let first : cached_node tree (level + 1) (index / 4) ≡ None =
@@ -184,13 +189,13 @@ module _ {T : Type 0} (d n : T → List ℕ → List ℕ) where
               absurd (parent (omega (arith, inside, some)) first)
           | inr zero_more ↦
               let going : result_err result ≢ Some NoMemory = λ (e : result_err result ≡ Some NoMemory). cc in
-              let rose : Rose (old.reads (node_place level index)) (new.reads (node_place level index)) = read.once.rose going in
+              let came : NodeCame engine.made level index old new = read.came (kept_node holds (quiet_before quiet)) going in
               let level_is : level ≡ level + more = omega (arith, zero_more) in
               let none_more_is : 0 ≡ more = omega (arith, zero_more) in
               let index_is : index ≡ above tree.levels index more =
               subst (λ (k : ℕ). index ≡ above tree.levels index k) none_more_is (omega arith) in
-              subst (λ (k : ℕ). Rose (old.reads (node_place k (above tree.levels index more))) (new.reads (node_place k (above tree.levels index more)))) level_is
-              (subst (λ (i : ℕ). Rose (old.reads (node_place level i)) (new.reads (node_place level i))) index_is rose)
+              subst (λ (k : ℕ). NodeCame engine.made k (above tree.levels index more) old new) level_is
+              (subst (λ (i : ℕ). NodeCame engine.made level i old new) index_is came)
         ];
       }
 
@@ -208,6 +213,7 @@ module _ {T : Type 0} (d n : T → List ℕ → List ℕ) where
             last = climbs.last;
             blocks = climbs.blocks;
             written = climbs.written;
+            reads = climbs.reads;
             holds = λ holds going. record { fits = λ quiet. put_fits holds quiet };
             honest = climbs.honest;
             lied = climbs.lied;
@@ -221,12 +227,13 @@ module _ {T : Type 0} (d n : T → List ℕ → List ℕ) where
             made_blocks = climbs.made_blocks;
             last_blocks = climbs.last_blocks;
             slots = climbs.slots;
-            read = λ other at held. elim (same_or_not level index other at) [
-              | inr apart ↦ read_up_held tree other at old new (λ none. held (same other at apart ∙ none))
+            read = λ holds quiet other at held. elim (same_or_not level index other at) [
+              | inr apart ↦ read_up_held tree engine.made other at old new (λ none. held (same other at apart ∙ none))
               | inl here ↦
-                  subst (λ (k : ℕ). WasReadUp tree k at old new) (sym here.0)
-                  (subst (λ (i : ℕ). WasReadUp tree level i old new) (sym here.1) read_here)
+                  subst (λ (k : ℕ). WasReadUp tree engine.made k at old new) (sym here.0)
+                  (subst (λ (i : ℕ). WasReadUp tree engine.made level i old new) (sym here.1) (read_here holds quiet))
             ];
+            unread = climbs.unread;
           }
 
   -- Writes of a node
@@ -253,11 +260,6 @@ module _ {T : Type 0} (d n : T → List ℕ → List ℕ) where
         evidence = wrote.evidence;
         room = let room : max engine.room 1 ≤ engine'.room + length wrote.moves.more = wrote.room in omega (arith, room);
         reads = wrote.reads;
-        lies = wrote.lies;
-        lie = wrote.lie;
-        most = wrote.most;
-        idle = wrote.idle;
-        exact = wrote.exact;
         writes = wrote.writes;
         made_blocks = wrote.made_blocks;
         last_blocks = wrote.last_blocks;
@@ -313,6 +315,7 @@ module _ {T : Type 0} (d n : T → List ℕ → List ℕ) where
     last = last;
     blocks = blocks;
     written = written;
+    reads = λ other at low. ap (λ (reads : Place → ℕ). reads (node_place other at)) wrote.reads;
     holds = holds;
     honest = λ was used accounted.
         let tags : tags_of d n engine' ≡ tags_of d n engine = same_tags d n old new engine engine' wrote.moves in
@@ -328,7 +331,8 @@ module _ {T : Type 0} (d n : T → List ℕ → List ℕ) where
     made_blocks = wrote.made_blocks;
     last_blocks = λ remembered was. wrote.last_blocks (none_unwritten stop can remembered) was;
     slots = slots;
-    read = λ other at copied. read_up_held tree other at old new (held other at copied);
+    read = λ was quiet other at copied. read_up_held tree engine.made other at old new (held other at copied);
+    unread = λ was quiet other at none. ap (λ (reads : Place → ℕ). reads (node_place other at)) wrote.reads;
   }
 
   -- a node was written whose parent has a copy, and its tag put into that
@@ -368,6 +372,7 @@ module _ {T : Type 0} (d n : T → List ℕ → List ℕ) where
         let same_evidence : engine'.evidence ≡ engine.evidence =
         ap (λ (e : TagEngineView T). e.evidence) write.made ∙ ap (λ (e : TagEngineView T). e.evidence) taken_is in
         let was : engine.evidence ≡ None = sym same_evidence ∙ quiet in
+        let kept_of : ℕ → ℕ → List ℕ = λ lower at. tag_of_last (tags_of d n engine) lower at (last_node lower at engine.made) in
         let made_is : engine'.made ≡ engine.made ++ Node level index block ∷ [] =
         ap (λ (e : TagEngineView T). e.made) write.made ∙ ap (λ (m : List Message). m ++ Node level index block ∷ []) made_before in
         subst (λ (m : List Message). SlotsAreTags (tags_of d n engine) tree.levels m) (sym made_is)
@@ -375,8 +380,8 @@ module _ {T : Type 0} (d n : T → List ℕ → List ℕ) where
         (λ lower at above inside. elim is_current_block [
           | inl first ↦ absurd (omega (arith, first, above))
           | inr is ↦
-              subst (λ (b : List ℕ). IsTagOfLast (tags_of d n engine) engine.made lower (4 * index + at) (tag_in_slot at b)) is
-              (subst (λ (k : ℕ). IsTagOfLast (tags_of d n engine) engine.made lower (4 * index + at) (tag_in_slot at (current_block tree engine.made k index))) (sym above)
+              subst (λ (b : List ℕ). tag_in_slot at b ≡ kept_of lower (4 * index + at)) is
+              (subst (λ (k : ℕ). tag_in_slot at (current_block tree engine.made k index) ≡ kept_of lower (4 * index + at)) (sym above)
               (current_slots (tags_of d n engine) tree engine.made old.written lower index at (holds.fits was)
               (subst (λ (k : ℕ). IsNode tree.levels k index) above node) inside))
         ]))

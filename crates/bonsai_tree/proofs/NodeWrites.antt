@@ -134,11 +134,6 @@ module _ {T : Type 0} (d n : T → List ℕ → List ℕ) (level index : ℕ) (b
     evidence = ap (λ (e : TagEngineView T). e.evidence) write.made;
     room = room_left;
     reads = once.reads;
-    lies = once.lies;
-    lie = once.lie;
-    most = omega (arith, once.once, one_message);
-    idle = λ none. absurd (omega (arith, none, one_message));
-    exact = λ none some. once.once ∙ ap (λ (k : ℕ). more_by k old.accesses) (sym one_message);
     writes = record { writes = 1; counted = once.counted; at_most = omega (arith, one_message); at_least = omega (arith, one_message) };
     made_blocks = made_kept levels (inl (is_put once).stored);
     last_blocks = λ none. last_kept levels once;
@@ -152,11 +147,6 @@ module _ {T : Type 0} (d n : T → List ℕ → List ℕ) (level index : ℕ) (b
     evidence = ap (λ (e : TagEngineView T). e.evidence) write.made;
     room = room_left;
     reads = ap (λ (t : BusHistory). t.reads) same;
-    lies = ap (λ (t : BusHistory). t.lies) same;
-    lie = ap (λ (t : BusHistory). t.lie) same;
-    most = let is : new.accesses ≡ old.accesses = ap (λ (t : BusHistory). t.accesses) same in omega (arith, is);
-    idle = λ none. absurd (omega (arith, none, one_message));
-    exact = λ none some. absurd (omega (arith, none));
     writes = record {
       writes = 0;
       counted = subst (λ (t : BusHistory). AreCounted old t 0) (sym same) (counted_not old);
@@ -167,118 +157,3 @@ module _ {T : Type 0} (d n : T → List ℕ → List ℕ) (level index : ℕ) (b
     last_blocks = λ none. absurd (omega (arith, none));
     honest = write.honest;
   }
-
--- by the answer of the write
-pub written_or_not : {T : Type 0} (d n : T → List ℕ → List ℕ) (level index : ℕ) (block : List ℕ) (old new : BusHistory) (engine engine' : TagEngineView T)
-    (result : Result (List ℕ) NoMemory) (levels : ℕ) → NodeWritten (tags_of d n) level index block old engine new engine' →
-    OnOk result (WritesOnce (node_place level index) block old new) → OnErr result (new ≡ old) →
-    WritesNodes (tags_of d n) levels old engine new engine' (unwritten_in (want_of result))
-written_or_not d n level index block old new engine engine' (Ok tag) levels write once same =
-    written_once d n level index block old new engine engine' write levels once
-written_or_not d n level index block old new engine engine' (Err stop) levels write once same =
-    written_not d n level index block old new engine engine' write levels same
-
--- a write makes one access, or none where it is refused
-pub write_most : (place : Place) (bytes : List ℕ) (old new : BusHistory) (result : Result (List ℕ) NoMemory) → OnOk result (WritesOnce place bytes old new) →
-    OnErr result (new ≡ old) → new.accesses ≤ old.accesses + 1
-write_most place bytes old new (Ok tag) once same = omega (arith, once.once)
-write_most place bytes old new (Err stop) once same =
-    let is : new.accesses ≡ old.accesses = ap (λ (t : BusHistory). t.accesses) same in omega (arith, is)
-
-pub write_fewer : (first mid new : BusHistory) (before all : ℕ) (result : Result (List ℕ) NoMemory) → mid.accesses ≤ first.accesses + before → all ≡ before + 1 →
-    OnErr result (new ≡ mid) → OnErr result (new.accesses < first.accesses + all)
-write_fewer first mid new before all (Ok tag) most sum same = tt
-write_fewer first mid new before all (Err stop) most sum same =
-    let is : new.accesses ≡ mid.accesses = ap (λ (t : BusHistory). t.accesses) same in omega (arith, is, most, sum)
-
-counts_after : (first more all before between after : ℕ) → all ≡ first + more → 0 < all →
-    (first ≡ 0 → between ≡ before) → (0 < first → between ≡ more_by first before) →
-    (more ≡ 0 → after ≡ between) → (0 < more → after ≡ more_by more between) → after ≡ more_by all before
-counts_after first more all before between after sum some idle exact idle_more exact_more =
-    elim (cases_lt 0 first) [
-      | inl some_first ↦ elim (cases_lt 0 more) [
-        | inl some_more ↦ omega (arith, exact some_first, exact_more some_more)
-        | inr no_more ↦ let none : more ≡ 0 = omega arith in omega (arith, exact some_first, idle_more none)
-      ]
-      | inr no_first ↦ let none_first : first ≡ 0 = omega arith in elim (cases_lt 0 more) [
-        | inl some_more ↦ omega (arith, idle none_first, exact_more some_more)
-        | inr no_more ↦ absurd (omega arith)
-      ]
-    ]
-
-module _ {T : Type 0} (d n : T → List ℕ → List ℕ) (levels : ℕ) where
-  pub writes_none : (history : BusHistory) (engine : TagEngineView T) → WritesNodes (tags_of d n) levels history engine history engine 0
-  writes_none history engine = record {
-    moves = record {
-      bus_levels = refl;
-      levels = refl;
-      tagger = refl;
-      more = [];
-      made = sym (append-nil engine.made);
-      evidence = λ evidence is. is;
-      reads = λ place. omega arith;
-      accesses = omega arith;
-      lies = omega arith;
-    };
-    lines = same_lines_not history engine.made;
-    evidence = refl;
-    room = omega arith;
-    reads = refl;
-    lies = refl;
-    lie = refl;
-    most = omega arith;
-    idle = λ none. refl;
-    exact = λ none some. absurd (omega (arith, some));
-    writes = writes_not history;
-    made_blocks = λ was. was;
-    last_blocks = λ none was. was;
-    honest = λ used more was. record {
-      account = record {
-        answers = λ quiet. still_honest (tags_of d n engine) more engine.made history None
-            (none_lied (tags_of d n engine) used engine.made history (was.account.answers quiet)) (λ place is. absurd (cc));
-        shown = was.account.shown;
-      };
-      genuine = was.genuine;
-    };
-  }
-
-  pub writes_after : (first second third : BusHistory) (engine engine' engine'' : TagEngineView T) (unwritten : ℕ) →
-      WritesNodes (tags_of d n) levels first engine second engine' 0 → WritesNodes (tags_of d n) levels second engine' third engine'' unwritten →
-      WritesNodes (tags_of d n) levels first engine third engine'' unwritten
-  writes_after first second third engine engine' engine'' unwritten wrote more =
-      let tags : tags_of d n engine' ≡ tags_of d n engine = same_tags d n first second engine engine' wrote.moves in
-      let moves : Moves first engine third engine'' = moves_on first second third engine engine' engine'' wrote.moves more.moves in
-      let long : length moves.more ≡ length wrote.moves.more + length more.moves.more =
-      omega (
-        arith,
-        ap length moves.made,
-        ap length wrote.moves.made,
-        ap length more.moves.made,
-        length-append engine.made moves.more,
-        length-append engine.made wrote.moves.more,
-        length-append engine'.made more.moves.more,
-      ) in
-      record {
-        moves = moves;
-        lines = same_lines_on first second third engine.made engine'.made engine''.made wrote.lines more.lines;
-        evidence = more.evidence ∙ wrote.evidence;
-        room = omega (arith, wrote.room, more.room, long);
-        reads = more.reads ∙ wrote.reads;
-        lies = more.lies ∙ wrote.lies;
-        lie = more.lie ∙ wrote.lie;
-        most = omega (arith, wrote.most, more.most, long);
-        idle = λ none.
-            let first_same : second.accesses ≡ first.accesses = wrote.idle (omega (arith, none, long)) in
-            more.idle (omega (arith, none, long)) ∙ first_same;
-        exact = λ none some. counts_after (length wrote.moves.more) (length more.moves.more) (length moves.more) first.accesses second.accesses third.accesses
-            long some wrote.idle (wrote.exact refl) more.idle (more.exact none);
-        writes = subst (λ (k : ℕ). WritesMessages first third k unwritten) (sym long)
-            (writes_on first second third (length wrote.moves.more) (length more.moves.more) unwritten
-            more.moves.bus_levels more.moves.reads more.moves.accesses wrote.writes more.writes);
-        made_blocks = λ was. more.made_blocks (wrote.made_blocks was);
-        last_blocks = λ none was. more.last_blocks none (wrote.last_blocks refl was);
-        honest = λ used entries was.
-            subst (λ (t : Message → List ℕ). IsAccounted t entries engine''.made third None engine''.evidence) tags
-            (more.honest used entries
-            (subst (λ (t : Message → List ℕ). IsAccounted t used engine'.made second None engine'.evidence) (sym tags) (wrote.honest used used was)));
-      }

@@ -20,6 +20,7 @@ use Rattle.tag_engine.specs.TagEngine.{TagEngineView, collision_of, tags_of}
 use Rattle.tag_engine.proofs.Collisions.{collides}
 use Rattle.checked_bus.specs.Checks.{IsCheckedNode}
 use Rattle.checked_bus.specs.Steps.{IsAccounted, IsCurrentNode, Moves, ReadsOnce, SameLines}
+use Rattle.bonsai_tree.specs.KeptRead.{IsKeptNode}
 use Rattle.bonsai_tree.specs.Node.{block_or_zeros, tag_in_slot, tag_of_last}
 use Rattle.bonsai_tree.specs.Tree.{TreeView, IsTree, current_block, kept_tag}
 
@@ -60,20 +61,6 @@ some_not_none evidence shown some none = cc
 
 -- A read of a node
 
-pub record NodeRead {T : Type 0} (tags : TagEngineView T → Message → List ℕ) (level index : ℕ) (tag : List ℕ) (old : BusHistory) (engine : TagEngineView T)
-    (new : BusHistory) (engine' : TagEngineView T) (result : Result (List ℕ) MemStop) : Type 0 where
-  pub moves : Moves old engine new engine'
-  pub once : ReadsOnce (node_place level index) old engine new engine' (result_err result)
-  pub lines : SameLines old engine.made new engine'.made
-  pub honest : (used : List (ℕ × Counter)) → (engine.evidence ≡ None → IsCurrentNode (tags engine) engine.made old.written level index tag) →
-      IsAccounted (tags engine) used engine.made old None engine.evidence → IsAccounted (tags engine) used engine'.made new (result_err result) engine'.evidence
-  pub shown : IsCurrentNode (tags engine) engine.made old.written level index tag → engine.evidence ≡ None →
-      engine'.evidence ≢ None → Rose old.lies new.lies
-  pub found : (evidence : Evidence) → engine.evidence ≡ None → engine'.evidence ≡ Some evidence → evidence_place evidence ≡ node_place level index
-  pub tampered : (place : Place) → result ≡ Err (Tampered place) → (place ≡ node_place level index)
-      × (IsCurrentNode (tags engine) engine.made old.written level index tag → Rose old.lies new.lies)
-  pub unspent : (page : ℕ) → result ≢ Err (Spent page)
-
 found_by : (tag_of : Message → List ℕ) (made : List Message) (level index : ℕ) (block tag : List ℕ) (before : Option Evidence) (evidence : Evidence) → before ≡ None →
     option_or before (collision_of tag_of made level index block tag true) ≡ Some evidence → evidence_place evidence ≡ node_place level index
 found_by tag_of made level index block tag None evidence none shown =
@@ -100,14 +87,16 @@ same_tags {T} d n old new engine engine' moves =
     ap (λ (tagger : T). tags_of d n (record engine' { tagger = tagger })) moves.tagger
     ∙ ap (λ (levels : ℕ). tags_of d n (record engine { levels = levels })) moves.levels
 
--- where the tree fits, the tag that is kept of a node is that of its last block
-pub is_current : (tag_of : Message → List ℕ) (tree : TreeView) (made : List Message) (written : Place → List ℕ) (level index : ℕ) →
-    IsNode tree.levels level index → IsTree tag_of tree made written → IsCurrentNode tag_of made written level index (kept_tag tree made level index)
-is_current tag_of tree made written level index node fits =
-    let last : last_node level index made ≡ Some (block_or_zeros (last_node level index made)) = fits.made_all level index node in
-    record {
-      block = block_or_zeros (last_node level index made);
-      last = last;
-      tagged = fits.slots level index node ∙ ap (λ (o : Option (List ℕ)). tag_of_last tag_of level index o) last;
-      stored = fits.stored level index node;
-    }
+kept_by : (tag_of : Message → List ℕ) (made : List Message) (written : Place → List ℕ) (level index : ℕ) (tag : List ℕ) (last : Option (List ℕ)) →
+    last_node level index made ≡ last → tag ≡ tag_of_last tag_of level index last → written (node_place level index) ≡ block_or_zeros last →
+    IsKeptNode tag_of made written level index tag
+kept_by tag_of made written level index tag None is tagged stored = inl (tagged, is)
+kept_by tag_of made written level index tag (Some block) is tagged stored =
+    inr (record { block = block; last = is; tagged = tagged; stored = stored })
+
+-- where the tree fits, the tag that is kept of a node is that of its last block, or zeros where it was never made
+pub is_kept : (tag_of : Message → List ℕ) (tree : TreeView) (made : List Message) (written : Place → List ℕ) (level index : ℕ) →
+    IsNode tree.levels level index → IsTree tag_of tree made written → IsKeptNode tag_of made written level index (kept_tag tree made level index)
+is_kept tag_of tree made written level index node fits =
+    kept_by tag_of made written level index (kept_tag tree made level index) (last_node level index made) refl
+    (fits.slots level index node) (fits.stored level index node)

@@ -1,15 +1,18 @@
 -- Copies that go out, and what they go out for, over calls.
-use Rattle.std.proofs.Common.{◌≡◌, ◌≢◌, inl, inr, ℕ, ◌%◌, Some, None, Result, Ok, Err, ap, sym, ◌∙◌, subst, arith}
+use Rattle.std.proofs.Common.{◌≡◌, ◌≢◌, inl, inr, ℕ, ◌%◌, List, Some, None, Result, Ok, Err, ap, sym, ◌∙◌, subst, arith}
 use Rattle.std.specs.Prelude.{OnOk}
-use Rattle.sec_base.specs.Count.{Rose, RoseBy}
+use Rattle.sec_base.specs.Count.{RoseBy}
+use Rattle.sec_base.specs.Geometry.{IsNode}
+use Rattle.sec_base.specs.LastMessage.{last_node}
+use Rattle.sec_base.specs.declared.message.Message.{Message}
 use Rattle.sec_base.specs.declared.place.Place.{Place}
 use Rattle.sec_base.specs.declared.place.Place.TheVariants.{Node as node_place}
 use Rattle.sec_base.specs.declared.stop.MemStop.{MemStop}
 use Rattle.bus_model.specs.BusHistory.{BusHistory}
 use Rattle.bonsai_tree.specs.Climb.{MakesRoom}
 use Rattle.bonsai_tree.specs.Node.{CachedNode}
-use Rattle.bonsai_tree.specs.Tree.{GoesOutFor, TreeView, WasReadBeside, cached_node}
-use Rattle.bonsai_tree.proofs.Climbs.{copy_or_not}
+use Rattle.bonsai_tree.specs.Tree.{CameBeside, GoesOutFor, NodeCame, TreeView, cached_node}
+use Rattle.bonsai_tree.proofs.Climbs.{came_after, came_before, copy_or_not}
 use Rattle.bonsai_tree.proofs.Nodes.{SameNode, same_or_not}
 
 -- a fact of a call that was no refusal, from another
@@ -17,39 +20,55 @@ pub on_ok : {A P Q : Type 0} (result : Result A MemStop) → OnOk result P → (
 on_ok (Ok value) fact then = then fact
 on_ok (Err stop) fact then = tt
 
-beside_on : (level index : ℕ) (first second third fourth : BusHistory) → ((place : Place) → RoseBy 0 (first.reads place) (second.reads place)) →
-    ((place : Place) → RoseBy 0 (third.reads place) (fourth.reads place)) → WasReadBeside level index second third → WasReadBeside level index first fourth
-beside_on level index first second third fourth before after beside = record {
+-- what came beside, by a call before others, and by one after others
+beside_before : (levels : ℕ) (made : List Message) (level index : ℕ) (first second third : BusHistory) →
+    ((place : Place) → RoseBy 0 (second.reads place) (third.reads place)) → CameBeside levels made level index first second →
+    CameBeside levels made level index first third
+beside_before levels made level index first second third after beside = record {
   other = beside.other;
+  node = beside.node;
   differs = beside.differs;
   set = beside.set;
-  rose = omega (arith, before (node_place level beside.other), beside.rose, after (node_place level beside.other));
+  came = came_before made level beside.other first second third after beside.came;
+}
+
+beside_after : (levels mid_levels : ℕ) (made made' : List Message) (level index : ℕ) (first second third : BusHistory) → mid_levels ≡ levels →
+    ((place : Place) → RoseBy 0 (first.reads place) (second.reads place)) →
+    ((other at : ℕ) → last_node other at made' ≡ None → last_node other at made ≡ None) → CameBeside mid_levels made' level index second third →
+    CameBeside levels made level index first third
+beside_after levels mid_levels made made' level index first second third same before unmade beside = record {
+  other = beside.other;
+  node = subst (λ (k : ℕ). IsNode k level beside.other) same beside.node;
+  differs = beside.differs;
+  set = beside.set;
+  came = came_after made made' level beside.other first second third before (unmade level beside.other) beside.came;
 }
 
 -- no copy went out
-pub out_kept : (tree tree' : TreeView) (old new : BusHistory) → ((level index : ℕ) → cached_node tree level index ≢ None → cached_node tree' level index ≢ None) →
-    GoesOutFor tree old tree' new
-out_kept tree tree' old new kept = record { out = λ level index held none. absurd (kept level index held none) }
+pub out_kept : (tree tree' : TreeView) (old new : BusHistory) (made : List Message) → ((level index : ℕ) → cached_node tree level index ≢ None → cached_node tree' level index ≢ None) →
+    GoesOutFor tree old made tree' new
+out_kept tree tree' old new made kept = record { out = λ level index held none. absurd (kept level index held none) }
 
 -- one call after another
-pub out_on : (tree mid tree' : TreeView) (first second third : BusHistory) → ((place : Place) → RoseBy 0 (first.reads place) (second.reads place)) →
-    ((place : Place) → RoseBy 0 (second.reads place) (third.reads place)) → GoesOutFor tree first mid second → GoesOutFor mid second tree' third →
-    GoesOutFor tree first tree' third
-out_on tree mid tree' first second third before after goes more = record {
+pub out_on : (tree mid tree' : TreeView) (first second third : BusHistory) (made made' : List Message) → mid.levels ≡ tree.levels →
+    ((place : Place) → RoseBy 0 (first.reads place) (second.reads place)) → ((place : Place) → RoseBy 0 (second.reads place) (third.reads place)) →
+    ((level index : ℕ) → last_node level index made' ≡ None → last_node level index made ≡ None) →
+    GoesOutFor tree first made mid second → GoesOutFor mid second made' tree' third → GoesOutFor tree first made tree' third
+out_on tree mid tree' first second third made made' levels before after unmade goes more = record {
   out = λ level index held none. elim (copy_or_not (cached_node mid level index)) [
-    | inl gone ↦ beside_on level index first first second third (λ place. omega arith) after (goes.out level index held gone)
-    | inr still ↦ beside_on level index first second third third before (λ place. omega arith) (more.out level index still none)
+    | inl gone ↦ beside_before tree.levels made level index first second third after (goes.out level index held gone)
+    | inr still ↦ beside_after tree.levels mid.levels made made' level index first second third levels before unmade (more.out level index still none)
   ];
 }
 
 -- no copy goes out, or a victim's
-pub room_kept : (level index : ℕ) (tree : TreeView) (history : BusHistory) → MakesRoom level index tree history tree history
-room_kept level index tree history = record { out = λ other at held none. absurd (held none) }
+pub room_kept : (level index : ℕ) (tree : TreeView) (history : BusHistory) (made : List Message) → MakesRoom level index tree history made tree history
+room_kept level index tree history made = record { out = λ other at held none. absurd (held none) }
 
-pub room_made : (level index victim : ℕ) (tree mid tree' : TreeView) (old new : BusHistory) → victim % 8 ≡ index % 8 →
+pub room_made : (level index victim : ℕ) (tree mid tree' : TreeView) (old new : BusHistory) (made : List Message) → victim % 8 ≡ index % 8 →
     ((other at : ℕ) → ¬ (SameNode level victim other at) → cached_node tree' other at ≡ cached_node mid other at) →
-    GoesOutFor tree old mid new → MakesRoom level index tree old tree' new
-room_made level index victim tree mid tree' old new beside same goes = record {
+    GoesOutFor tree old made mid new → MakesRoom level index tree old made tree' new
+room_made level index victim tree mid tree' old new made beside same goes = record {
   out = λ other at held none. elim (same_or_not level victim other at) [
     | inl here ↦ inl (here.0, ap (λ (i : ℕ). i % 8) here.1 ∙ beside)
     | inr apart ↦ inr (goes.out other at held (sym (same other at apart) ∙ none))
@@ -57,31 +76,38 @@ room_made level index victim tree mid tree' old new beside same goes = record {
 }
 
 -- a node came in, for which there was room
-pub out_came : (level index : ℕ) (tree start mid high tree' : TreeView) (first second third fourth : BusHistory) →
+pub out_came : (level index : ℕ) (tree start mid high tree' : TreeView) (first second third fourth : BusHistory) (made made' made'' : List Message) →
+    IsNode tree.levels level index → start.levels ≡ tree.levels → mid.levels ≡ tree.levels →
     ((other at : ℕ) → cached_node start other at ≡ cached_node tree other at) → cached_node tree level index ≡ None →
     ((place : Place) → RoseBy 0 (first.reads place) (second.reads place)) → ((place : Place) → RoseBy 0 (second.reads place) (third.reads place)) →
     ((place : Place) → RoseBy 0 (third.reads place) (fourth.reads place)) →
-    MakesRoom level index start first mid second → GoesOutFor mid second high third →
+    ((other at : ℕ) → last_node other at made' ≡ None → last_node other at made ≡ None) →
+    ((other at : ℕ) → last_node other at made'' ≡ None → last_node other at made ≡ None) →
+    MakesRoom level index start first made mid second → GoesOutFor mid second made' high third →
     ((other at : ℕ) → cached_node high other at ≢ None → cached_node tree' other at ≢ None) →
-    Rose (third.reads (node_place level index)) (fourth.reads (node_place level index)) → GoesOutFor tree first tree' fourth
-out_came level index tree start mid high tree' first second third fourth same absent stays on after room goes kept rose =
+    NodeCame made'' level index third fourth → GoesOutFor tree first made tree' fourth
+out_came level index tree start mid high tree' first second third fourth made made' made'' node starts levels same absent stays on after unmade unmade_all room goes kept came_in =
     let last : (place : Place) → RoseBy 0 (second.reads place) (fourth.reads place) = λ place. omega (arith, on place, after place) in
-    let came : Rose (first.reads (node_place level index)) (fourth.reads (node_place level index)) =
-    omega (arith, stays (node_place level index), on (node_place level index), rose) in
+    let early : (place : Place) → RoseBy 0 (first.reads place) (third.reads place) = λ place. omega (arith, stays place, on place) in
+    let came : NodeCame made level index first fourth = came_after made made'' level index first third fourth early (unmade_all level index) came_in in
     record {
       out = λ other at held none. elim (copy_or_not (cached_node mid other at)) [
         | inl gone ↦ elim (room.out other at (λ (no : cached_node start other at ≡ None). held (sym (same other at) ∙ no)) gone) [
           | inl wanted ↦ record {
             other = index;
+            node = subst (λ (k : ℕ). IsNode tree.levels k index) (sym wanted.0) node;
             differs = λ (is : index ≡ at).
                 held (ap (λ (k : ℕ). cached_node tree k at) wanted.0 ∙ ap (λ (i : ℕ). cached_node tree level i) (sym is) ∙ absent);
             set = sym wanted.1;
-            rose = subst (λ (k : ℕ). Rose (first.reads (node_place k index)) (fourth.reads (node_place k index))) (sym wanted.0) came;
+            came = subst (λ (k : ℕ). NodeCame made k index first fourth) (sym wanted.0) came;
           }
-          | inr beside ↦ beside_on other at first first second fourth (λ place. omega arith) last beside
+          | inr beside ↦ subst (λ (k : ℕ). CameBeside k made other at first fourth) starts
+              (beside_before start.levels made other at first second fourth last beside)
         ]
         | inr still ↦ elim (copy_or_not (cached_node high other at)) [
-          | inl gone ↦ beside_on other at first second third fourth stays after (goes.out other at still gone)
+          | inl gone ↦
+              beside_before tree.levels made other at first third fourth after
+              (beside_after tree.levels mid.levels made made' other at first second third levels stays unmade (goes.out other at still gone))
           | inr there ↦ absurd (kept other at there none)
         ]
       ];

@@ -1,5 +1,5 @@
 -- What a fetch and an update come to.
-use Rattle.std.proofs.Common.{◌≡◌, ◌≢◌, inl, inr, ℕ, ◌+◌, ◌-◌, ◌*◌, ◌/◌, ◌^◌, ◌<◌, ◌≤◌, List, ◌++◌, length, Option, Some, None, Result, Ok, Err, refl, ap, sym, ◌∙◌, subst, arith, length-append}
+use Rattle.std.proofs.Common.{◌≡◌, ◌≢◌, ◌⊎◌, inl, inr, ℕ, ◌+◌, ◌-◌, ◌*◌, ◌/◌, ◌^◌, ◌<◌, ◌≤◌, List, ◌++◌, length, Option, Some, None, Result, Ok, Err, refl, ap, sym, ◌∙◌, subst, arith, length-append}
 use Rattle.std.specs.Prelude.{IfOk, OnOk}
 use Rattle.std.specs.Result.{result_err}
 use Rattle.std.proofs.lemmas.Bool.{cases_lt}
@@ -21,14 +21,15 @@ use Rattle.sec_base.proofs.Results.{was_none, some_or_none}
 use Rattle.bus_model.specs.BusHistory.{BusHistory}
 use Rattle.tag_engine.specs.TagEngine.{TagEngineView, tags_of}
 use Rattle.checked_bus.specs.Accesses.{WritesMessages}
-use Rattle.checked_bus.specs.Checks.{IsCheckedNode}
-use Rattle.checked_bus.specs.Steps.{IsCurrentNode, ReadsOnce, unwritten_in}
+use Rattle.checked_bus.specs.Steps.{unwritten_in}
+use Rattle.tag_engine.proofs.Marks.{engine_tag_some}
 use Rattle.bonsai_tree.specs.Climb.{Climbs}
-use Rattle.bonsai_tree.specs.Node.{block_or_zeros, page_block, path_index}
-use Rattle.bonsai_tree.specs.Tree.{TreeView, HoldsTree, IsFetchPlace, IsNodeFrom, PathWasRead, SamePages, WasReadUp, above, cached_node, kept_tag, path_accesses, present_accesses}
-use Rattle.bonsai_tree.proofs.Climbs.{climbs_on, climbs_up}
-use Rattle.bonsai_tree.proofs.Nodes.{NodeRead, same_tags}
-use Rattle.bonsai_tree.proofs.NodeCalls.{climbs_read, read_current}
+use Rattle.bonsai_tree.specs.KeptRead.{IsKeptNode, ReadsKept}
+use Rattle.bonsai_tree.specs.Node.{block_or_zeros, no_block, no_tag, page_block, path_index}
+use Rattle.bonsai_tree.specs.Tree.{TreeView, HoldsTree, IsFetchPlace, IsKept, IsNodeFrom, IsReadByTag, NodeCame, PathWasRead, SamePages, WasReadUp, above, cached_node, kept_tag, path_accesses, present_accesses}
+use Rattle.bonsai_tree.proofs.Climbs.{came_after, came_before, climbs_on, climbs_up, unmade_before}
+use Rattle.bonsai_tree.proofs.Nodes.{same_tags}
+use Rattle.bonsai_tree.proofs.NodeCalls.{climbs_read, kept_node}
 
 -- where it is no refusal
 pub ok_of : {A P : Type 0} (result : Result A MemStop) → (result_err result ≡ None → P) → OnOk result P
@@ -59,15 +60,6 @@ path_more levels =
     let some : 2 ≤ 2 ^ (levels + 1) = pow-le-pow_right {n = 2} (omega arith) {i = 1} {j = levels + 1} (omega arith) in
     omega (arith, same, some)
 
--- a read is one access
-pub read_most : {T : Type 0} (old new : BusHistory) (engine engine' : TagEngineView T) (place : Place) (stop : Option MemStop) →
-    ReadsOnce place old engine new engine' stop → new.accesses ≤ old.accesses + 1
-read_most old new engine engine' place stop read =
-    elim read.once [
-      | inl once ↦ omega (arith, once)
-      | inr none ↦ let same : new.accesses ≡ old.accesses = ap (λ (t : BusHistory). t.accesses) (read.refused none).0 in omega (arith, same)
-    ]
-
 -- where a node of level 1 has a copy, the path above it was read
 path_up : (levels page level more : ℕ) → level ≡ 1 + more → path_index levels level page ≡ above levels (page / 4) more
 path_up levels page level more is =
@@ -76,22 +68,21 @@ path_up levels page level more is =
     ap (λ (n : ℕ). page / n) exponent ∙ sym (div-div-eq-div-mul page 4 (4 ^ more))
 
 pub path_read : (tree : TreeView) (page from : ℕ) (made : List Message) (old mid new : BusHistory) → 1 ≤ from →
-    ((place : Place) → Rose (old.reads place) (mid.reads place) → Rose (old.reads place) (new.reads place)) →
-    WasReadUp tree 1 (page / 4) old mid → (level : ℕ) → from ≤ level → level ≤ tree.levels →
+    ((place : Place) → RoseBy 0 (mid.reads place) (new.reads place)) →
+    WasReadUp tree made 1 (page / 4) old mid → (level : ℕ) → from ≤ level → level ≤ tree.levels →
     ((lower : ℕ) → 1 ≤ lower → lower ≤ level → cached_node tree lower (path_index tree.levels lower page) ≡ None) →
-    Rose (old.reads (node_place level (path_index tree.levels level page))) (new.reads (node_place level (path_index tree.levels level page)))
+    NodeCame made level (path_index tree.levels level page) old new
 path_read tree page from made old mid new some stays up level low high none =
-    let more : ℕ = level - 1 in
     let level_is : level ≡ 1 + (level - 1) = omega (arith, low, some) in
     let index_is : path_index tree.levels level page ≡ above tree.levels (page / 4) (level - 1) = path_up tree.levels page level (level - 1) level_is in
-    let rose : Rose (old.reads (node_place (1 + (level - 1)) (above tree.levels (page / 4) (level - 1)))) (mid.reads (node_place (1 + (level - 1)) (above tree.levels (page / 4) (level - 1)))) =
+    let came : NodeCame made (1 + (level - 1)) (above tree.levels (page / 4) (level - 1)) old mid =
     up.rose (level - 1) (omega (arith, high, low, some))
     (λ lower few.
     ap (λ (i : ℕ). cached_node tree (1 + lower) i) (sym (path_up tree.levels page (1 + lower) lower refl))
     ∙ none (1 + lower) (omega arith) (omega (arith, few, low, some))) in
-    stays (node_place level (path_index tree.levels level page))
-    (subst (λ (k : ℕ). Rose (old.reads (node_place k (path_index tree.levels level page))) (mid.reads (node_place k (path_index tree.levels level page)))) (sym level_is)
-    (subst (λ (i : ℕ). Rose (old.reads (node_place (1 + (level - 1)) i)) (mid.reads (node_place (1 + (level - 1)) i))) (sym index_is) rose))
+    came_before made level (path_index tree.levels level page) old mid new stays
+    (subst (λ (k : ℕ). NodeCame made k (path_index tree.levels level page) old mid) (sym level_is)
+    (subst (λ (i : ℕ). NodeCame made (1 + (level - 1)) i old mid) (sym index_is) came))
 
 module _ {T : Type 0} (d n : T → List ℕ → List ℕ) where
   -- the messages that were made more
@@ -111,7 +102,7 @@ module _ {T : Type 0} (d n : T → List ℕ → List ℕ) where
   -- A fetch: the node above the page's is had, and then the page's own is read
   module _ (tree tree' : TreeView) (page : ℕ) (tag : List ℕ) (old mid new : BusHistory) (engine engine' engine'' : TagEngineView T) (result : Result (List ℕ) MemStop)
       (node : IsNode tree.levels 0 page) (climbs : Climbs (tags_of d n) (0 + 1) tree old engine tree' mid engine' None)
-      (is_tag : (made : List Message) → tag ≡ kept_tag tree' made 0 page) (read : NodeRead (tags_of d n) 0 page tag mid engine' new engine'' result) where
+      (is_tag : (made : List Message) → tag ≡ kept_tag tree' made 0 page) (read : ReadsKept (tags_of d n) 0 page tag mid engine' new engine'' result) where
     node_here : IsNode tree'.levels 0 page
     node_here = subst (λ (k : ℕ). IsNode k 0 page) (sym climbs.levels) node
 
@@ -123,20 +114,27 @@ module _ {T : Type 0} (d n : T → List ℕ → List ℕ) where
 
     pub fetched_pages : SamePages old engine.made new engine''.made
     fetched_pages = record {
-      last = λ at. ap (λ (made : List Message). last_node 0 at made) read.once.made ∙ climbs.last 0 at (omega arith);
-      written = λ at. ap (λ (w : Place → List ℕ). w (node_place 0 at)) read.once.written ∙ climbs.written 0 at (omega arith);
+      last = λ at. ap (λ (made : List Message). last_node 0 at made) read.made ∙ climbs.last 0 at (omega arith);
+      written = λ at. ap (λ (w : Place → List ℕ). w (node_place 0 at)) read.written ∙ climbs.written 0 at (omega arith);
     }
 
-    block_by : (answer : Result (List ℕ) MemStop) → IfOk answer (λ block. last_node 0 page engine'.made ≡ Some block) → IfOk answer (λ block. block ≡ page_block page engine.made)
-    block_by (Ok block) is = sym (ap (λ (o : Option (List ℕ)). block_or_zeros o) (sym (climbs.last 0 page (omega arith)) ∙ is))
+    still_quiet : engine''.evidence ≡ None → engine'.evidence ≡ None
+    still_quiet quiet = was_none engine'.evidence engine''.evidence read.moves.evidence quiet
+
+    holds_mid : HoldsTree (tags_of d n) tree old engine → HoldsTree (tags_of d n) tree' mid engine'
+    holds_mid holds = climbs.holds holds (λ (e : None ≡ Some NoMemory). cc)
+
+    fetched_kept : HoldsTree (tags_of d n) tree old engine → engine''.evidence ≡ None → IsKeptNode (tags_of d n engine') engine'.made mid.written 0 page tag
+    fetched_kept holds quiet =
+        kept_node d n tree' 0 page tag mid new engine' engine'' result node_here (is_tag engine'.made) read (holds_mid holds) (still_quiet quiet)
+
+    block_by : (answer : Result (List ℕ) MemStop) → IfOk answer (λ block. block ≡ block_or_zeros (last_node 0 page engine'.made)) →
+        IfOk answer (λ block. block ≡ page_block page engine.made)
+    block_by (Ok block) is = is ∙ ap (λ (o : Option (List ℕ)). block_or_zeros o) (climbs.last 0 page (omega arith))
     block_by (Err stop) is = tt
 
-    pub fetched_block : (IsCurrentNode (tags_of d n engine') engine'.made mid.written 0 page tag → engine''.evidence ≡ None →
-        IfOk result (λ block. last_node 0 page engine'.made ≡ Some block)) →
-        HoldsTree (tags_of d n) tree old engine → engine''.evidence ≡ None → IfOk result (λ block. block ≡ page_block page engine.made)
-    fetched_block known holds quiet =
-        let still : engine'.evidence ≡ None = was_none engine'.evidence engine''.evidence read.moves.evidence quiet in
-        block_by result (known (read_current d n tree' 0 page tag mid new engine' engine'' result node_here (is_tag engine'.made) read (climbs.holds holds (λ (e : None ≡ Some NoMemory). cc)) still) quiet)
+    pub fetched_block : HoldsTree (tags_of d n) tree old engine → engine''.evidence ≡ None → IfOk result (λ block. block ≡ page_block page engine.made)
+    fetched_block holds quiet = block_by result (read.block (fetched_kept holds quiet) quiet)
 
     pub fetched_found : (evidence : Evidence) → engine.evidence ≡ None → engine''.evidence ≡ Some evidence → IsFetchPlace tree.levels page (evidence_place evidence)
     fetched_found evidence quiet is =
@@ -148,53 +146,76 @@ module _ {T : Type 0} (d n : T → List ℕ → List ℕ) where
               inr (subst (λ (e : Evidence). IsNodeFrom tree.levels 1 (evidence_place e)) same (climbs.found quiet shown.0 shown.1))
         ]
 
-    pub fetched_accepted : ((made_at : ℕ) (bytes under : List ℕ) → engine'.evidence ≡ None → engine''.evidence ≡ Some (Collision 0 page made_at bytes under) → result ≡ Ok bytes) →
-        (made_at : ℕ) (bytes under : List ℕ) → engine.evidence ≡ None → engine''.evidence ≡ Some (Collision 0 page made_at bytes under) → result ≡ Ok bytes
-    fetched_accepted accepted made_at bytes under quiet is =
+    pub fetched_accepted : (made_at : ℕ) (bytes under : List ℕ) → engine.evidence ≡ None →
+        engine''.evidence ≡ Some (Collision 0 page made_at bytes under) → result ≡ Ok bytes
+    fetched_accepted made_at bytes under quiet is =
         elim (some_or_none engine'.evidence) [
-          | inl still ↦ accepted made_at bytes under still is
+          | inl still ↦ read.accepted made_at bytes under still is
           | inr shown ↦
               let kept : engine''.evidence ≡ Some shown.0 = read.moves.evidence shown.0 shown.1 in
               let same : Collision 0 page made_at bytes under ≡ shown.0 = cc in
               absurd (not_from_one tree.levels page (evidence_place shown.0) (sym (ap evidence_place same)) (climbs.found quiet shown.0 shown.1))
         ]
 
-    tagged_by : (answer : Result (List ℕ) MemStop) → IsCheckedNode (tags_of d n engine') 0 page tag mid new engine' engine'' answer →
-        IfOk answer (λ block. tags_of d n engine (Node 0 page block) ≡ kept_tag tree' engine''.made 0 page)
-    tagged_by (Ok block) passed =
-        let tags : tags_of d n engine' ≡ tags_of d n engine = same_tags d n old mid engine engine' climbs.moves in
-        sym (ap (λ (t : Message → List ℕ). t (Node 0 page block)) tags)
-        ∙ ap (λ (b : List ℕ). tags_of d n engine' (Node 0 page b)) passed.given ∙ sym passed.tagged ∙ is_tag engine''.made
-    tagged_by (Err stop) passed = tt
+    kept_by : (answer : Result (List ℕ) MemStop) →
+        IfOk answer (λ block. ((tag ≡ no_tag) × (block ≡ no_block)) ⊎ (tags_of d n engine' (Node 0 page block) ≡ tag)) →
+        IfOk answer (IsKept (tags_of d n engine) tree' engine''.made 0 page)
+    kept_by (Ok block) (inl none) = inl (sym (is_tag engine''.made) ∙ none.0, none.1)
+    kept_by (Ok block) (inr tagged) =
+        inr (sym (ap (λ (t : Message → List ℕ). t (Node 0 page block)) (same_tags d n old mid engine engine' climbs.moves)) ∙ tagged ∙ is_tag engine''.made)
+    kept_by (Err stop) passed = tt
 
-    pub fetched_checked : IsCheckedNode (tags_of d n engine') 0 page tag mid new engine' engine'' result →
-        IfOk result (λ block. tags_of d n engine (Node 0 page block) ≡ kept_tag tree' engine''.made 0 page)
-    fetched_checked checked = tagged_by result checked
+    pub fetched_checked : IfOk result (IsKept (tags_of d n engine) tree' engine''.made 0 page)
+    fetched_checked = kept_by result read.checked
 
-    pub fetched_read : result_err result ≡ None → cached_node tree' 1 (page / 4) ≢ None → PathWasRead tree engine.made 0 page old new
-    fetched_read going held = record {
+    by_kept : (answer : Result (List ℕ) MemStop) → result_err answer ≡ result_err result →
+        IfOk answer (λ block. ((tag ≡ no_tag) × (block ≡ no_block)) ⊎ (tags_of d n engine' (Node 0 page block) ≡ tag)) →
+        OnOk answer (IsReadByTag (kept_tag tree' engine''.made 0 page) page old new)
+    by_kept (Ok block) going (inl none) =
+        let idle : new ≡ mid = (read.unasked none.0).0 in
+        inl (sym (is_tag engine''.made) ∙ none.0, ap (λ (t : BusHistory). t.reads (node_place 0 page)) idle ∙ climbs.reads 0 page (omega arith))
+    by_kept (Ok block) going (inr tagged) =
+        let some : tag ≢ no_tag = λ none. engine_tag_some (d engine'.tagger) (n engine'.tagger) engine'.levels (Node 0 page block) (tagged ∙ none) in
+        let remembered : result_err result ≢ Some NoMemory = λ is. let no : None ≡ Some NoMemory = going ∙ is in absurd (cc) in
+        let rose : Rose (mid.reads (node_place 0 page)) (new.reads (node_place 0 page)) = read.asked some remembered in
+        let same : mid.reads (node_place 0 page) ≡ old.reads (node_place 0 page) = climbs.reads 0 page (omega arith) in
+        inr (λ none. some (is_tag engine''.made ∙ none), subst (λ (count : ℕ). Rose count (new.reads (node_place 0 page))) same rose)
+    by_kept (Err stop) going passed = tt
+
+    -- its block is read exactly where a tag is kept of it, and that of no other page
+    pub fetched_by_tag : OnOk result (IsReadByTag (kept_tag tree' engine''.made 0 page) page old new)
+    fetched_by_tag = by_kept result refl read.checked
+
+    pub fetched_alone : (other : ℕ) → other ≢ page → new.reads (node_place 0 other) ≡ old.reads (node_place 0 other)
+    fetched_alone other apart = read.alone 0 other (λ same. apart same.1) ∙ climbs.reads 0 other (omega arith)
+
+    pub fetched_read : HoldsTree (tags_of d n) tree old engine → engine''.evidence ≡ None → result_err result ≡ None →
+        cached_node tree' 1 (page / 4) ≢ None → PathWasRead tree engine.made 0 page old new
+    fetched_read holds quiet going held = record {
       rose = λ level low high none.
-          inr (elim (cases_lt 0 level) [
-            | inl some ↦ path_read tree page 1 engine.made old mid new (omega arith)
-                (λ place rose. omega (arith, rose, read.moves.reads place)) (climbs.read 1 (page / 4) held) level (omega (arith, some)) high
+          elim (cases_lt 0 level) [
+            | inl some ↦ path_read tree page 1 engine.made old mid new (omega arith) read.moves.reads
+                (climbs.read holds (still_quiet quiet) 1 (page / 4) held) level (omega (arith, some)) high
                 (λ lower above_none_lower few. none lower (omega arith) few)
             | inr first ↦
                 let zero_is : 0 ≡ level = omega (arith, first) in
                 let index_is : page ≡ path_index tree.levels 0 page = omega arith in
                 let remembered : result_err result ≢ Some NoMemory = λ (e : result_err result ≡ Some NoMemory). cc in
-                let rose : Rose (mid.reads (node_place 0 page)) (new.reads (node_place 0 page)) = read.once.rose remembered in
-                let here : Rose (old.reads (node_place 0 page)) (new.reads (node_place 0 page)) = omega (arith, rose, climbs.moves.reads (node_place 0 page)) in
-                subst (λ (k : ℕ). Rose (old.reads (node_place k (path_index tree.levels k page))) (new.reads (node_place k (path_index tree.levels k page)))) zero_is
-                (subst (λ (i : ℕ). Rose (old.reads (node_place 0 i)) (new.reads (node_place 0 i))) index_is here)
-          ]);
+                let here : NodeCame engine.made 0 page old new =
+                came_after engine.made engine'.made 0 page old mid new climbs.moves.reads
+                (unmade_before engine.made engine'.made climbs.moves.more climbs.moves.made 0 page)
+                (read.came (fetched_kept holds quiet) remembered) in
+                subst (λ (k : ℕ). NodeCame engine.made k (path_index tree.levels k page) old new) zero_is
+                (subst (λ (i : ℕ). NodeCame engine.made 0 i old new) index_is here)
+          ];
     }
 
   -- An update: the node above the page's is had, and then the page's own is written
-  pub updated_read : (tree tree' : TreeView) (page : ℕ) (old mid new : BusHistory) (engine engine' : TagEngineView T) →
+  pub updated_read : (tree tree' : TreeView) (page : ℕ) (old mid new : BusHistory) (engine engine' engine'' : TagEngineView T) →
       Climbs (tags_of d n) (0 + 1) tree old engine tree' mid engine' None → ((place : Place) → RoseBy 0 (mid.reads place) (new.reads place)) →
-      cached_node tree' 1 (page / 4) ≢ None → PathWasRead tree engine.made 1 page old new
-  updated_read tree tree' page old mid new engine engine' climbs stays held = record {
+      engine''.evidence ≡ engine'.evidence → cached_node tree' 1 (page / 4) ≢ None →
+      HoldsTree (tags_of d n) tree old engine → engine''.evidence ≡ None → PathWasRead tree engine.made 1 page old new
+  updated_read tree tree' page old mid new engine engine' engine'' climbs stays same held holds quiet = record {
     rose = λ level low high none.
-        inr (path_read tree page 1 engine.made old mid new (omega arith)
-        (λ place rose. omega (arith, rose, stays place)) (climbs.read 1 (page / 4) held) level low high none);
+        path_read tree page 1 engine.made old mid new (omega arith) stays (climbs.read holds (sym same ∙ quiet) 1 (page / 4) held) level low high none;
   }

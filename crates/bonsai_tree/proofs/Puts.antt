@@ -34,7 +34,6 @@ tree_recached tag_of tree tree' made written was levels root same clean =
                 kept_top tree' made level index (omega (arith, levels)) ∙ root ∙ sym (kept_top tree made level index top)
                 ∙ was.slots level index (node_as level index node)
           ];
-      made_all = λ level index node. was.made_all level index (node_as level index node);
       stored = λ level index node. was.stored level index (node_as level index node);
       clean = λ level index copy node found. clean level index copy (node_as level index node) found;
       long = λ level index node.
@@ -153,16 +152,6 @@ module _ (tag_of : Message → List ℕ) (tree tree' : TreeView) (made made' : L
         ]
       ]
 
-  made_after : (other at : ℕ) → IsNode tree.levels other at → last_node other at made' ≡ Some (block_or_zeros (last_node other at made'))
-  made_after other at inside =
-      elim (same_or_not level index other at) [
-        | inl same ↦
-            let own : last_node other at made' ≡ Some block =
-            ap (λ (k : ℕ). last_node k at made') same.0 ∙ ap (λ (i : ℕ). last_node level i made') same.1 ∙ put.own in
-            rw own refl
-        | inr apart ↦ rw (put.others other at apart) (was.made_all other at inside)
-      ]
-
   stored_after : (other at : ℕ) → IsNode tree.levels other at → written' (node_place other at) ≡ block_or_zeros (last_node other at made')
   stored_after other at inside =
       elim (same_or_not level index other at) [
@@ -228,7 +217,6 @@ module _ (tag_of : Message → List ℕ) (tree tree' : TreeView) (made made' : L
       λ other at inside. subst (λ (k : ℕ). IsNode k other at) puts.levels inside in
       record {
         slots = λ other at inside. slots_after other at (node_as other at inside);
-        made_all = λ other at inside. made_after other at (node_as other at inside);
         stored = λ other at inside. stored_after other at (node_as other at inside);
         clean = λ other at copy inside found. clean_after other at copy (node_as other at inside) found;
         long = λ other at inside. long_after other at (node_as other at inside);

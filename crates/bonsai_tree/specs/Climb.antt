@@ -19,7 +19,7 @@ use Rattle.checked_bus.specs.Accesses.{WritesMessages}
 use Rattle.checked_bus.specs.Steps.{IsAccounted, Moves, SameLines, unwritten_in}
 use Rattle.bonsai_tree.specs.Node.{level_blocks, times_made}
 use Rattle.bonsai_tree.specs.NodeCache.{AreNodeCaches, level_cache, node_sets}
-use Rattle.bonsai_tree.specs.Tree.{HoldsTree, IsNodeFrom, NodesAreMade, NodesHoldLast, SlotsAreTags, TreeView, WasReadBeside, WasReadUp, WritesBack, cached_node}
+use Rattle.bonsai_tree.specs.Tree.{HoldsTree, IsNodeFrom, NodesAreMade, NodesHoldLast, SlotsAreTags, TreeView, CameBeside, UnmadeAreUnread, WasReadUp, WritesBack, cached_node}
 
 -- What a call on nodes of the level `from` and above makes of the tree, the bus and the tag engine.
 pub record Climbs {T : Type 0} (tags : TagEngineView T → Message → List ℕ) (from : ℕ) (tree : TreeView) (old : BusHistory)
@@ -34,6 +34,7 @@ pub record Climbs {T : Type 0} (tags : TagEngineView T → Message → List ℕ)
   pub last : (level index : ℕ) → level < from → last_node level index engine'.made ≡ last_node level index engine.made
   pub blocks : (level : ℕ) → level < from → level_blocks level engine'.made ≡ level_blocks level engine.made
   pub written : (level index : ℕ) → level < from → new.written (node_place level index) ≡ old.written (node_place level index)
+  pub reads : (level index : ℕ) → level < from → new.reads (node_place level index) ≡ old.reads (node_place level index)
   -- the tree fits still; false answers are accounted for, and both tampering and evidence come only where one was
   pub holds : HoldsTree tags tree old engine → stop ≢ Some NoMemory → HoldsTree tags tree' new engine'
   pub honest : HoldsTree tags tree old engine → (used : List (ℕ × Counter)) →
@@ -52,11 +53,13 @@ pub record Climbs {T : Type 0} (tags : TagEngineView T → Message → List ℕ)
   pub writes : WritesMessages old new (length moves.more) (unwritten_in stop)
   pub made_blocks : NodesAreMade tree.levels engine.made old.written → NodesAreMade tree.levels engine'.made new.written
   pub last_blocks : stop ≢ Some NoMemory → NodesHoldLast tree.levels engine.made old.written → NodesHoldLast tree.levels engine'.made new.written
-  -- slots of nodes that were made have the tags of their children's last messages
+  -- slots of nodes that were made have the tags of their children's last messages, or zeros
   pub slots : HoldsTree tags tree old engine → engine'.evidence ≡ None → SlotsAreTags (tags engine) tree.levels engine.made →
       SlotsAreTags (tags engine) tree.levels engine'.made
-  -- what has a copy was read, or had one
-  pub read : (level index : ℕ) → cached_node tree' level index ≢ None → WasReadUp tree level index old new
+  -- what has a copy came, or had one; a node that was never made is not read
+  pub read : HoldsTree tags tree old engine → engine'.evidence ≡ None → (level index : ℕ) → cached_node tree' level index ≢ None →
+      WasReadUp tree engine.made level index old new
+  pub unread : HoldsTree tags tree old engine → engine'.evidence ≡ None → UnmadeAreUnread old engine'.made new
 
 -- no node
 abbrev pub NoNode : ℕ → ℕ → List ℕ → Type 0
@@ -72,13 +75,14 @@ IsVictim level way stop other at bytes =
     IsBlockOf level way.place way.copy other at bytes × (way.changed ≡ true) × ((stop ≡ None) ⊎ (stop ≡ Some NoMemory))
 
 -- Nodes from a level up are written back, and what was made below it is as said, of each node once at most.
-pub record WritesUp (from : ℕ) (Own : ℕ → ℕ → List ℕ → Type 0) (tree : TreeView) (old : BusHistory) (made : List Message) (tree' : TreeView)
+pub record WritesUp (quiet : Type 0) (from : ℕ) (Own : ℕ → ℕ → List ℕ → Type 0) (tree : TreeView) (old : BusHistory) (made : List Message) (tree' : TreeView)
     (new : BusHistory) (made' : List Message) (stop : Option MemStop) : Type 0 where
-  pub back : WritesBack from tree old made tree' new made' stop
+  pub back : WritesBack quiet from tree old made tree' new made' stop
   pub own : (level index : ℕ) (block : List ℕ) → level < from → Contains back.more (Node level index block) → Own level index block
   pub once : (level index : ℕ) → level < from → times_made level index back.more ≤ 1
 
--- A copy goes out for a node, which may not be read yet, or for another that is read.
-pub record MakesRoom (level index : ℕ) (tree : TreeView) (old : BusHistory) (tree' : TreeView) (new : BusHistory) : Type 0 where
+-- A copy goes out for a node, which may not have come yet, or for another that came.
+pub record MakesRoom (level index : ℕ) (tree : TreeView) (old : BusHistory) (made : List Message) (tree' : TreeView) (new : BusHistory)
+    : Type 0 where
   pub out : (other at : ℕ) → cached_node tree other at ≢ None → cached_node tree' other at ≡ None →
-      ((other ≡ level) × (at % node_sets ≡ index % node_sets)) ⊎ WasReadBeside other at old new
+      ((other ≡ level) × (at % node_sets ≡ index % node_sets)) ⊎ CameBeside tree.levels made other at old new

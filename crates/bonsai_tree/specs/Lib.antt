@@ -1,7 +1,6 @@
 pub mod Node
 pub mod NodeCache
 pub mod Tree
-pub mod Boot
 pub mod Writing
+pub mod KeptRead
 pub mod Climb
-pub mod Booting

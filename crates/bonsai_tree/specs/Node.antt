@@ -33,9 +33,13 @@ tag_in_slot slot block = take TAG_LEN (drop (TAG_LEN * slot) block)
 abbrev pub with_tag : ℕ → List ℕ → List ℕ → List ℕ
 with_tag slot tag block = take (TAG_LEN * slot) block ++ tag ++ drop (TAG_LEN * slot + TAG_LEN) block
 
+-- the tag that is kept of a node that was never made: zeros, which are no message's tag
+abbrev pub no_tag : List ℕ
+no_tag = replicate TAG_LEN 0
+
 -- the tag that is kept of a node: that of its last block; zeros where it has none
 abbrev pub tag_of_last : (Message → List ℕ) → ℕ → ℕ → Option (List ℕ) → List ℕ
-tag_of_last tag_of level index None = replicate TAG_LEN 0
+tag_of_last tag_of level index None = no_tag
 tag_of_last tag_of level index (Some block) = tag_of (Node level index block)
 
 -- the node of a level on the path of a page: the page's own on level 0, the top node on the highest
@@ -59,7 +63,9 @@ level_blocks level made = filter_map (level_part level) made
 unfoldable pub times_made : ℕ → ℕ → List Message → ℕ
 times_made level index made = length (filter_map (node_part level index) made)
 
--- how many copies there are, one or none
-abbrev pub copy_count : Option CachedNode → ℕ
-copy_count None = 0
-copy_count (Some copy) = 1
+-- how often a node may be made before it is read again, by its copy and its last block: once, where it has a copy or was
+-- never made
+abbrev pub unread_count : Option CachedNode → Option (List ℕ) → ℕ
+unread_count (Some copy) last = 1
+unread_count None None = 1
+unread_count None (Some block) = 0

@@ -9,7 +9,7 @@ use Rattle.sec_base.specs.Place.{zeros_of}
 use Rattle.sec_base.specs.declared.message.Message.{Message}
 use Rattle.sec_base.specs.declared.message.Message.TheVariants.{Node}
 use Rattle.sec_base.specs.declared.place.Place.{Place}
-use Rattle.sec_base.specs.declared.place.Place.TheVariants.{Line as line_place, Node as node_place}
+use Rattle.sec_base.specs.declared.place.Place.TheVariants.{Node as node_place}
 use Rattle.sec_base.specs.declared.stop.MemStop.{MemStop}
 use Rattle.sec_base.specs.declared.stop.MemStop.TheVariants.{NoMemory as no_memory}
 use Rattle.sec_base.specs.declared.stop.NoMemory.{NoMemory}
@@ -17,10 +17,10 @@ use Rattle.cache_set.specs.declared.way.Way.{Way}
 use Rattle.bus_model.specs.BusHistory.{BusHistory}
 use Rattle.tag_engine.specs.TagEngine.{TagEngineView}
 use Rattle.checked_bus.specs.Steps.{unwritten_in}
-use Rattle.bonsai_tree.specs.Node.{CachedNode, block_or_zeros, copy_count, current_of, path_index, tag_in_slot, tag_of_last, times_made}
+use Rattle.bonsai_tree.specs.Node.{CachedNode, block_or_zeros, current_of, no_block, no_tag, path_index, tag_in_slot, tag_of_last, times_made, unread_count}
 use Rattle.bonsai_tree.specs.NodeCache.{copied_nodes, node_copy, node_sets}
 
--- the levels, the root register, which is the tag of the top node, and the copies of nodes on the chip
+-- the levels, the root register, which has the tag that is kept of the top node, and the copies of nodes on the chip
 pub record TreeView : Type 0 where
   pub levels : ℕ
   pub root : List ℕ
@@ -50,15 +50,18 @@ kept_tag tree made level index =
     (current_block tree made (parent tree.levels level index).0 (parent tree.levels level index).1)
     else tree.root
 
+-- what may be answered for a node: zeros, where no tag is kept of it; else a block with the tag that is kept
+abbrev pub IsKept : (Message → List ℕ) → TreeView → List Message → ℕ → ℕ → List ℕ → Type 0
+IsKept tag_of tree made level index block =
+    ((kept_tag tree made level index ≡ no_tag) × (block ≡ no_block)) ⊎ (tag_of (Node level index block) ≡ kept_tag tree made level index)
+
 -- The tree fits the messages and what stands outside.
 pub record IsTree (tag_of : Message → List ℕ) (tree : TreeView) (made : List Message) (written : Place → List ℕ) : Type 0 where
-  -- each node's tag is kept by its parent, and that of the top node in the root register
+  -- the tag of each node's last block is kept by its parent, and that of the top node in the root register; zeros are, of
+  -- a node that was never made
   pub slots : (level index : ℕ) → IsNode tree.levels level index →
       kept_tag tree made level index ≡ tag_of_last tag_of level index (last_node level index made)
-  -- each node was made
-  pub made_all : (level index : ℕ) → IsNode tree.levels level index →
-      last_node level index made ≡ Some (block_or_zeros (last_node level index made))
-  -- each node's place holds its last block, and a copy that did not change is that block
+  -- each node's place holds its last block, or zeros where it was never made, and a copy that did not change is the same
   pub stored : (level index : ℕ) → IsNode tree.levels level index →
       written (node_place level index) ≡ block_or_zeros (last_node level index made)
   pub clean : (level index : ℕ) (copy : CachedNode) → IsNode tree.levels level index →
@@ -70,48 +73,59 @@ pub record HoldsTree {T : Type 0} (tags : TagEngineView T → Message → List �
     (engine : TagEngineView T) : Type 0 where
   pub fits : engine.evidence ≡ None → IsTree (tags engine) tree engine.made history.written
 
+-- the tree fitted as a call began, and there is no evidence as it ends
+abbrev pub EndsQuietly : {T : Type 0} → (TagEngineView T → Message → List ℕ) → TreeView → BusHistory → TagEngineView T → TagEngineView T → Type 0
+EndsQuietly tags tree history engine engine' = HoldsTree tags tree history engine × (engine'.evidence ≡ None)
+
 -- Each node's place holds zeros or a block that was made for it.
 pub record NodesAreMade (levels : ℕ) (made : List Message) (written : Place → List ℕ) : Type 0 where
   pub holds : (level index : ℕ) → IsNode levels level index →
       (written (node_place level index) ≡ zeros_of (node_place level index))
       ⊎ Contains made (Node level index (written (node_place level index)))
 
--- Each node's place holds the last block that was made for it.
+-- The place of each node that was made holds its last block.
 pub record NodesHoldLast (levels : ℕ) (made : List Message) (written : Place → List ℕ) : Type 0 where
   pub holds : (level index : ℕ) (block : List ℕ) → IsNode levels level index → last_node level index made ≡ Some block →
       written (node_place level index) ≡ block
 
--- a tag is that of the last message that was made of this node
-pub record IsTagOfLast (tag_of : Message → List ℕ) (made : List Message) (level index : ℕ) (tag : List ℕ) : Type 0 where
-  pub block : List ℕ
-  pub last : last_node level index made ≡ Some block
-  pub tag_is : tag ≡ tag_of (Node level index block)
-
--- Each time a node above level 0 was made, each of its slots had the tag of that child's last message.
+-- Each time a node above level 0 was made, each of its slots had the tag of that child's last message, or zeros where the
+-- child was never made.
 pub record SlotsAreTags (tag_of : Message → List ℕ) (levels : ℕ) (made : List Message) : Type 0 where
   pub tagged : (before after : List Message) (level index at : ℕ) (block : List ℕ) →
       made ≡ before ++ Node (level + 1) index block ∷ after → at < arity levels →
-      IsTagOfLast tag_of before level (child levels index at) (tag_in_slot at block)
+      tag_in_slot at block ≡ tag_of_last tag_of level (child levels index at) (last_node level (child levels index at) before)
+
+-- a node's place was read, or the node was never made before the call
+abbrev pub NodeCame : List Message → ℕ → ℕ → BusHistory → BusHistory → Type 0
+NodeCame made level index old new =
+    (last_node level index made ≡ None) ⊎ Rose (old.reads (node_place level index)) (new.reads (node_place level index))
+
+-- the place of a page's block was read exactly where a tag is kept of it
+abbrev pub IsReadByTag : List ℕ → ℕ → BusHistory → BusHistory → Type 0
+IsReadByTag tag page old new = ((tag ≡ no_tag) × (new.reads (node_place 0 page) ≡ old.reads (node_place 0 page)))
+    ⊎ ((tag ≢ no_tag) × Rose (old.reads (node_place 0 page)) (new.reads (node_place 0 page)))
+
+-- no place was read of a node that was never made
+abbrev pub UnmadeAreUnread : BusHistory → List Message → BusHistory → Type 0
+UnmadeAreUnread old made' new = (level index : ℕ) → last_node level index made' ≡ None →
+    new.reads (node_place level index) ≡ old.reads (node_place level index)
 
 -- The nodes on a page's path were read from a level on, up to the lowest one with a copy on the chip; where none has one,
 -- all of them. A node that was never made is not read.
 pub record PathWasRead (tree : TreeView) (made : List Message) (from page : ℕ) (old new : BusHistory) : Type 0 where
   pub rose : (level : ℕ) → from ≤ level → level ≤ tree.levels →
       ((lower : ℕ) → from ≤ lower → lower ≤ level → cached_node tree lower (path_index tree.levels lower page) ≡ None) →
-      (last_node level (path_index tree.levels level page) made ≡ None)
-      ⊎ Rose (old.reads (node_place level (path_index tree.levels level page)))
-      (new.reads (node_place level (path_index tree.levels level page)))
+      NodeCame made level (path_index tree.levels level page) old new
 
 -- a node so many levels above another, on the path to the top
 abbrev pub above : ℕ → ℕ → ℕ → ℕ
 above levels index more = index / arity levels ^ more
 
--- The nodes from a node up were read, up to the lowest one that had a copy.
-pub record WasReadUp (tree : TreeView) (level index : ℕ) (old new : BusHistory) : Type 0 where
+-- The nodes from a node up were read, up to the lowest one that had a copy. A node that was never made is not read.
+pub record WasReadUp (tree : TreeView) (made : List Message) (level index : ℕ) (old new : BusHistory) : Type 0 where
   pub rose : (more : ℕ) → level + more ≤ tree.levels →
       ((lower : ℕ) → lower ≤ more → cached_node tree (level + lower) (above tree.levels index lower) ≡ None) →
-      Rose (old.reads (node_place (level + more) (above tree.levels index more)))
-      (new.reads (node_place (level + more) (above tree.levels index more)))
+      NodeCame made (level + more) (above tree.levels index more) old new
 
 -- a place is that of a node of this level or of one above it
 pub record IsNodeFrom (levels from : ℕ) (place : Place) : Type 0 where
@@ -131,15 +145,6 @@ pub record SamePages (old : BusHistory) (made : List Message) (new : BusHistory)
   pub last : (page : ℕ) → last_node 0 page made' ≡ last_node 0 page made
   pub written : (page : ℕ) → new.written (node_place 0 page) ≡ old.written (node_place 0 page)
 
--- No place was read and no line's place was written; no answer was false.
-pub record OnlyWroteNodes (old new : BusHistory) : Type 0 where
-  pub levels : new.levels ≡ old.levels
-  pub lies : new.lies ≡ old.lies
-  pub lie : new.lie ≡ old.lie
-  pub reads : new.reads ≡ old.reads
-  pub lines : (line : ℕ) → new.written (line_place line) ≡ old.written (line_place line)
-  pub accesses : RoseBy 0 old.accesses new.accesses
-
 -- a node of which a child has one of these messages
 pub record HasChild (levels : ℕ) (more : List Message) (level index : ℕ) : Type 0 where
   pub below : ℕ
@@ -148,40 +153,43 @@ pub record HasChild (levels : ℕ) (more : List Message) (level index : ℕ) : T
   pub listed : Contains more (Node below child block)
   pub parent_is : parent levels below child ≡ (level, index)
 
--- a copy that is as it was, or was read and is not changed, or is of a node of which a child has one of these messages
-abbrev pub IsCopyAfter : TreeView → BusHistory → BusHistory → List Message → ℕ → ℕ → CachedNode → Type 0
-IsCopyAfter tree old new more level index copy =
+-- a copy that is as it was, or came and is not changed, or is of a node of which a child has one of these messages
+abbrev pub IsCopyAfter : Type 0 → TreeView → BusHistory → List Message → BusHistory → List Message → ℕ → ℕ → CachedNode → Type 0
+IsCopyAfter quiet tree old made new more level index copy =
     (cached_node tree level index ≡ Some copy)
-    ⊎ (((copy.changed ≡ false) × Rose (old.reads (node_place level index)) (new.reads (node_place level index)))
-    ⊎ HasChild tree.levels more level index)
+    ⊎ (((copy.changed ≡ false) × (quiet → NodeCame made level index old new)) ⊎ HasChild tree.levels more level index)
 
--- Nodes of a level and of those above it are written back.
-pub record WritesBack (from : ℕ) (tree : TreeView) (old : BusHistory) (made : List Message) (tree' : TreeView) (new : BusHistory)
+-- Nodes of a level and of those above it are written back. What was read is said where the call was quiet: where the tree
+-- fitted before it and there is no evidence after it.
+pub record WritesBack (quiet : Type 0) (from : ℕ) (tree : TreeView) (old : BusHistory) (made : List Message) (tree' : TreeView) (new : BusHistory)
     (made' : List Message) (stop : Option MemStop) : Type 0 where
   pub more : List Message
   pub made_more : made' ≡ made ++ more
   -- what was made of a node is a copy that was changed, unless a child of it was made
   pub changed : (level index : ℕ) (block : List ℕ) → from ≤ level → Contains more (Node level index block) →
       (cached_node tree level index ≡ Some (record { block = block; changed = true })) ⊎ HasChild tree.levels more level index
-  -- a node was made once at most for each copy of it that was there or was read, and that is gone; out of memory, one
-  -- message of each node does not count
-  pub once_a_copy : (level index : ℕ) → from ≤ level →
-      RoseBy (times_made level index more + copy_count (cached_node tree' level index)
-      - (copy_count (cached_node tree level index) + unwritten_in stop))
+  -- a node was made once at most for each copy of it that was there, was read, or came unread since the node had never been
+  -- made, and that is gone; out of memory, one message of each node does not count
+  pub once_a_copy : quiet → (level index : ℕ) → from ≤ level →
+      RoseBy (times_made level index more + unread_count (cached_node tree' level index) (last_node level index made')
+      - (unread_count (cached_node tree level index) (last_node level index made) + unwritten_in stop))
       (old.reads (node_place level index)) (new.reads (node_place level index))
-  -- a copy is as it was, or was read and is not changed, unless a child of its node was made
-  pub copies : (level index : ℕ) (copy : CachedNode) → cached_node tree' level index ≡ Some copy → IsCopyAfter tree old new more level index copy
+  -- a copy is as it was, or came and is not changed, unless a child of its node was made
+  pub copies : (level index : ℕ) (copy : CachedNode) → cached_node tree' level index ≡ Some copy →
+      IsCopyAfter quiet tree old made new more level index copy
 
--- another node of the set that a node is in was read
-pub record WasReadBeside (level index : ℕ) (old new : BusHistory) : Type 0 where
+-- another node of the set that a node is in came
+pub record CameBeside (levels : ℕ) (made : List Message) (level index : ℕ) (old new : BusHistory) : Type 0 where
   pub other : ℕ
+  pub node : IsNode levels level other
   pub differs : other ≢ index
   pub set : other % node_sets ≡ index % node_sets
-  pub rose : Rose (old.reads (node_place level other)) (new.reads (node_place level other))
+  pub came : NodeCame made level other old new
 
--- Where a copy was evicted, another node of its set was read: one read is enough for both ways of the set.
-pub record GoesOutFor (tree : TreeView) (old : BusHistory) (tree' : TreeView) (new : BusHistory) : Type 0 where
-  pub out : (level index : ℕ) → cached_node tree level index ≢ None → cached_node tree' level index ≡ None → WasReadBeside level index old new
+-- Where a copy was evicted, another node of its set came: one is enough for both ways of the set.
+pub record GoesOutFor (tree : TreeView) (old : BusHistory) (made : List Message) (tree' : TreeView) (new : BusHistory) : Type 0 where
+  pub out : (level index : ℕ) → cached_node tree level index ≢ None → cached_node tree' level index ≡ None →
+      CameBeside tree.levels made level index old new
 
 -- the stop of a call that can only find no memory
 abbrev pub want_of : {A : Type 0} → Result A NoMemory → Option MemStop

@@ -1,6 +1,5 @@
 -- What writes of nodes make of the bus and the tag engine. It serves private contracts alone.
-use Rattle.std.specs.Prelude.{◌≡◌, ℕ, ◌+◌, ◌≤◌, ◌<◌, List, length, None}
-use Rattle.sec_base.specs.Count.{more_by}
+use Rattle.std.specs.Prelude.{◌≡◌, ℕ, ◌+◌, ◌≤◌, List, length, None}
 use Rattle.sec_base.specs.declared.counter.Counter.{Counter}
 use Rattle.sec_base.specs.declared.message.Message.{Message}
 use Rattle.bus_model.specs.BusHistory.{BusHistory}
@@ -17,11 +16,6 @@ pub record WritesNodes {T : Type 0} (tags : TagEngineView T → Message → List
   pub evidence : engine'.evidence ≡ engine.evidence
   pub room : engine.room ≤ engine'.room + length moves.more
   pub reads : new.reads ≡ old.reads
-  pub lies : new.lies ≡ old.lies
-  pub lie : new.lie ≡ old.lie
-  pub most : new.accesses ≤ old.accesses + length moves.more
-  pub idle : length moves.more ≡ 0 → new.accesses ≡ old.accesses
-  pub exact : unwritten ≡ 0 → 0 < length moves.more → new.accesses ≡ more_by (length moves.more) old.accesses
   pub writes : WritesMessages old new (length moves.more) unwritten
   pub made_blocks : NodesAreMade levels engine.made old.written → NodesAreMade levels engine'.made new.written
   pub last_blocks : unwritten ≡ 0 → NodesHoldLast levels engine.made old.written → NodesHoldLast levels engine'.made new.written

@@ -1,9 +1,10 @@
 // The tree, of which the chip keeps the root register and copies of nodes.
 ghost use Rattle.std.specs.Prelude.{true, ◌≡◌, ◌≢◌, ◌⊎◌, ◌+◌, ◌-◌, ◌*◌, ◌/◌, ◌<◌, ◌≤◌, ◌++◌, ◌∷◌, ℕ, List, [], None, Some, Ok, Err, IfOk, OnOk, OnErr, length};
 ghost use Rattle.std.specs.Result.{result_err};
-ghost use Rattle.sec_base.specs.Count.{Rose, more_by};
+ghost use Rattle.sec_base.specs.Count.{Rose};
 ghost use Rattle.sec_base.specs.Geometry.{IsNode, page_count, parent, slot};
 ghost use Rattle.sec_base.specs.LastMessage.{last_node};
+ghost use Rattle.sec_base.specs.Place.{IsPlace};
 ghost use Rattle.sec_base.specs.declared.counter.Counter.{Counter};
 ghost use Rattle.sec_base.specs.Evidence.{evidence_place};
 ghost use Rattle.sec_base.specs.declared.evidence.Evidence.{Evidence};
@@ -19,13 +20,12 @@ ghost use Rattle.cache_set.specs.Cache.{set_at};
 ghost use Rattle.tag_engine.specs.TagEngine.{tags_of};
 ghost use Rattle.checked_bus.specs.Accesses.{WritesMessages};
 ghost use Rattle.checked_bus.specs.Steps.{IsAccounted, Moves, SameLines, unwritten_in};
-ghost use Rattle.bonsai_tree.specs.Boot.{AreOfBoot, NodesAreBooted, boot_messages, node_count};
+ghost use Rattle.bonsai_tree.specs.KeptRead.{ReadsKept};
 ghost use Rattle.bonsai_tree.specs.Climb.{Climbs, IsBlockOf, IsVictim, MakesRoom, NoNode, WritesUp};
-ghost use Rattle.bonsai_tree.specs.Node.{CachedNode, block_or_zeros, level_blocks, no_block, page_block, with_tag};
+ghost use Rattle.bonsai_tree.specs.Node.{CachedNode, block_or_zeros, level_blocks, no_tag, page_block, with_tag};
 ghost use Rattle.bonsai_tree.specs.NodeCache.{AreNodeCaches, IsLatestNode, OtherLevels, OtherNodes, level_cache, most_copies, node_way};
-ghost use Rattle.bonsai_tree.specs.Tree.{GoesOutFor, HoldsTree, IsFetchPlace, IsMarked, IsNodeFrom, NodesAreMade, NodesHoldLast, OnlyWroteNodes, PathWasRead, SamePages, SlotsAreTags, WasReadUp, WritesBack, cached_node, cached_nodes, current_block, kept_tag, path_accesses, present_accesses, want_of};
+ghost use Rattle.bonsai_tree.specs.Tree.{EndsQuietly, GoesOutFor, HoldsTree, IsFetchPlace, IsKept, IsMarked, IsReadByTag, IsNodeFrom, NodeCame, NodesAreMade, NodesHoldLast, PathWasRead, SamePages, SlotsAreTags, UnmadeAreUnread, WasReadUp, WritesBack, cached_node, cached_nodes, current_block, kept_tag, path_accesses, present_accesses, want_of};
 
-use crate::boot::boot_tree;
 use crate::node_cache::NodeCache;
 use crate::slots::{put_tag, slot_tag};
 use bus_model::Bus;
@@ -36,7 +36,11 @@ use std::alloc::Global;
 use std::marker::Model;
 use tag_engine::TagEngine;
 
-/// The tree over the counter blocks of all pages. The chip keeps the tag of its top node, and copies of nodes.
+// The tag that is kept of a node that was never made.
+const NO_TAG: [u8; 16] = [0; 16];
+
+/// The tree over the counter blocks of all pages. The chip keeps the tag of its top node, and copies of nodes. A node that
+/// was never made (no message of it was tagged) is zeros, and so is the tag that is kept of it.
 #[derive(Drop)]
 pub struct Tree {
     root: [u8; 16],
@@ -55,9 +59,9 @@ impl Model for Tree {
 }
 
 impl Tree {
-    /// A tree whose counter blocks are zeros, without a copy on the chip: each node is written, its children before it, and
-    /// none is read. Memory for the copies and for all messages is taken first, so that after that only the bus can be out
-    /// of memory.
+    /// A tree of which no node was made, without a copy on the chip: its counter blocks are zeros, and so is the root
+    /// register. It makes no access and no message. It takes memory for the copies alone, and is refused only where there is
+    /// none.
     pub fn boot<B: Bus, T: Tagger>(
         alloc: Global,
         geometry: Geometry,
@@ -70,41 +74,24 @@ impl Tree {
         requires nothing_made { tags.old.made ≡ [] }
 
         ensures levels { IfOk result (λ tree. tree.levels ≡ geometry) }
-
-        // All nodes are made and written, each once and in order.
-        ensures made { OnOk result (tags.new.made ≡ boot_messages (tags_of T.data_tag_of T.node_tag_of tags.old) geometry) }
-        ensures count { OnOk result (length tags.new.made ≡ node_count geometry) }
-        ensures accesses { OnOk result ((B.history bus.new).accesses ≡ more_by (node_count geometry) (B.history bus.old).accesses) }
-        ensures stored { OnOk result (NodesHoldLast geometry tags.new.made (B.history bus.new).written) }
-        ensures slots { OnOk result (SlotsAreTags (tags_of T.data_tag_of T.node_tag_of tags.old) geometry tags.new.made) }
-        ensures zeros { OnOk result ((page : ℕ) → page < page_count geometry → page_block page tags.new.made ≡ no_block) }
-        ensures holds { IfOk result (λ tree. HoldsTree (tags_of T.data_tag_of T.node_tag_of) tree (B.history bus.new) tags.new) }
+        ensures root { IfOk result (λ tree. tree.root ≡ no_tag) }
         ensures empty { IfOk result (λ tree. (level : ℕ) → cached_nodes tree level ≡ []) }
-
-        // A refusal comes before anything was done, or there was memory for the messages of all nodes.
-        ensures reserved { OnErr result (((B.history bus.new ≡ B.history bus.old) × (tags.new ≡ tags.old))
-            ⊎ (node_count geometry ≤ length tags.new.made + tags.new.room)) }
-        ensures fewer { OnErr result ((B.history bus.new).accesses < (B.history bus.old).accesses + node_count geometry) }
+        ensures holds { IfOk result (λ tree. HoldsTree (tags_of T.data_tag_of T.node_tag_of) tree (B.history bus.new) tags.new) }
 
         // Whether memory was there or not.
-        ensures quiet { tags.new.evidence ≡ tags.old.evidence }
-        ensures only { OnlyWroteNodes (B.history bus.old) (B.history bus.new) }
-        ensures moves { Moves (B.history bus.old) tags.old (B.history bus.new) tags.new }
-        ensures lines { SameLines (B.history bus.old) tags.old.made (B.history bus.new) tags.new.made }
-        ensures made_blocks { NodesAreMade geometry tags.new.made (B.history bus.new).written }
-        ensures of_boot { AreOfBoot (tags_of T.data_tag_of T.node_tag_of tags.old) geometry tags.new.made }
-        ensures booted { NodesAreBooted (tags_of T.data_tag_of T.node_tag_of tags.old) geometry (B.history bus.new).written }
-        ensures writes { (more : List Message) → tags.new.made ≡ tags.old.made ++ more →
-            WritesMessages (B.history bus.old) (B.history bus.new) (length more) (unwritten_in (want_of result)) }
-        ensures moved { B.moved bus.old bus.new }
+        ensures bus { bus.new ≡ bus.old }
+        ensures tags { tags.new ≡ tags.old }
     {
         let nodes = NodeCache::new(alloc, geometry)?;
-        let root = boot_tree(geometry, bus, tags)?;
-        Ok(Tree { root, nodes })
+        Ok(Tree {
+            root: NO_TAG,
+            nodes,
+        })
     }
 
     /// The counter block of a page: the nodes above it are had from the top down, each from its copy or from its place, where
-    /// it is checked against the tag that its parent keeps, the top node against the root register. A copy that goes out for
+    /// it is checked against the tag that its parent keeps, the top node against the root register; a node of which no tag is
+    /// kept is zeros, without an access. A copy that goes out for
     /// another is written first, if it was changed, and its tag is put into its parent, which is had for that. It is refused as
     /// tampering of the first node that has another tag, where nothing more is read, and out of memory.
     pub fn fetch<B: Bus, T: Tagger>(
@@ -146,12 +133,22 @@ impl Tree {
         ensures at_place { (place : Place) → result ≡ Err (Tampered place) → IsFetchPlace self.old.levels page place }
         ensures unspent { (spent : ℕ) → result ≢ Err (Spent spent) }
 
-        // Whatever was answered, it has the tag that is kept of it by the node above it, which has a copy.
-        ensures checked { IfOk result (λ block. tags_of T.data_tag_of T.node_tag_of tags.old (Node 0 page block)
-            ≡ kept_tag self.new tags.new.made 0 page) }
+        // Whatever was answered, it has the tag that is kept of it by the node above it, which has a copy; or it is zeros, and
+        // none is kept.
+        ensures checked { IfOk result (IsKept (tags_of T.data_tag_of T.node_tag_of tags.old) self.new tags.new.made 0 page) }
         ensures parent { OnOk result (cached_node self.new 1 (parent self.old.levels 0 page).1 ≢ None) }
 
-        ensures read { OnOk result (PathWasRead self.old tags.old.made 0 page (B.history bus.old) (B.history bus.new)) }
+        // With evidence or without, the page's block is read exactly where a tag is kept of it, and no other page's is.
+        ensures by_tag { OnOk result (IsReadByTag (kept_tag self.new tags.new.made 0 page) page (B.history bus.old) (B.history bus.new)) }
+        ensures alone { (other : ℕ) → other ≢ page →
+            (B.history bus.new).reads (node_place 0 other) ≡ (B.history bus.old).reads (node_place 0 other) }
+
+        // Where there is no evidence, the nodes of its path were read, up to the lowest one with a copy, but those that were
+        // never made: none of these is read.
+        ensures read { HoldsTree (tags_of T.data_tag_of T.node_tag_of) self.old (B.history bus.old) tags.old →
+            tags.new.evidence ≡ None → OnOk result (PathWasRead self.old tags.old.made 0 page (B.history bus.old) (B.history bus.new)) }
+        ensures unread { HoldsTree (tags_of T.data_tag_of T.node_tag_of) self.old (B.history bus.old) tags.old →
+            tags.new.evidence ≡ None → UnmadeAreUnread (B.history bus.old) tags.new.made (B.history bus.new) }
         ensures hit { cached_node self.old 1 (parent self.old.levels 0 page).1 ≢ None →
             (B.history bus.new).accesses ≤ (B.history bus.old).accesses + 1 }
         ensures hit_made { cached_node self.old 1 (parent self.old.levels 0 page).1 ≢ None → tags.new.made ≡ tags.old.made }
@@ -163,22 +160,26 @@ impl Tree {
         ensures lines { SameLines (B.history bus.old) tags.old.made (B.history bus.new) tags.new.made }
         ensures moved { B.moved bus.old bus.new }
 
-        // What has a copy on the chip was read, with the nodes above it, unless it had one.
+        // What has a copy on the chip was read, with the nodes above it, unless it had one or was never made.
         ensures few_copies { (level : ℕ) → length (cached_nodes self.new level) ≤ most_copies }
-        ensures new_copies { (level index : ℕ) → cached_node self.new level index ≢ None →
-            WasReadUp self.old level index (B.history bus.old) (B.history bus.new) }
+        ensures new_copies { HoldsTree (tags_of T.data_tag_of T.node_tag_of) self.old (B.history bus.old) tags.old →
+            tags.new.evidence ≡ None → (level index : ℕ) → cached_node self.new level index ≢ None →
+            WasReadUp self.old tags.old.made level index (B.history bus.old) (B.history bus.new) }
 
-        // Each time a node above level 0 was made, each of its slots had the tag of that child's last message.
+        // Each time a node above level 0 was made, each of its slots had the tag of that child's last message, or zeros where the
+        // child was never made.
         ensures slots { HoldsTree (tags_of T.data_tag_of T.node_tag_of) self.old (B.history bus.old) tags.old →
             tags.new.evidence ≡ None → SlotsAreTags (tags_of T.data_tag_of T.node_tag_of tags.old) self.old.levels tags.old.made →
             SlotsAreTags (tags_of T.data_tag_of T.node_tag_of tags.old) self.old.levels tags.new.made }
-        // What is made of a node above level 0 is a copy that was changed, unless a child of it was made in the call. It is made
-        // once at most for each copy of it that was there before or was read in the call, and that is gone after it; out of
-        // memory, once more.
-        ensures written_back { WritesBack 1 self.old (B.history bus.old) tags.old.made self.new (B.history bus.new) tags.new.made (result_err result) }
-        // Unless the call is refused, a copy is evicted only where another node of its set is read: one read is enough for both
-        // ways of the set.
-        ensures out_for { OnOk result (GoesOutFor self.old (B.history bus.old) self.new (B.history bus.new)) }
+        // What is made of a node above level 0 is a copy that was changed, unless a child of it was made in the call. Where there
+        // is no evidence, it is made once at most for each copy of it that was there before, was read in the call, or came unread
+        // since the node had never been made, and that is gone after it; out of memory, once more.
+        ensures written_back { WritesBack (EndsQuietly (tags_of T.data_tag_of T.node_tag_of) self.old (B.history bus.old) tags.old tags.new)
+            1 self.old (B.history bus.old) tags.old.made self.new (B.history bus.new) tags.new.made (result_err result) }
+        // Unless the call is refused, a copy is evicted only where another node of its set came: one is enough for both ways of
+        // the set.
+        ensures out_for { HoldsTree (tags_of T.data_tag_of T.node_tag_of) self.old (B.history bus.old) tags.old →
+            tags.new.evidence ≡ None → OnOk result (GoesOutFor self.old (B.history bus.old) tags.old.made self.new (B.history bus.new)) }
 
         // What was made was written.
         ensures made_blocks { NodesAreMade self.old.levels tags.old.made (B.history bus.old).written →
@@ -190,12 +191,12 @@ impl Tree {
     {
         self.parent_present(bus, tags, 0, page)?;
         let tag = self.kept_tag(0, page);
-        read_node(bus, tags, 0, page, &tag)
+        read_kept(bus, tags, 0, page, &tag)
     }
 
     /// Gives a page a new counter block: the nodes above it are had as in `fetch`, then the block is written, and its tag put
     /// into the copy of the node above it. Memory for each message is taken right before its write. It is refused as tampering
-    /// of a node above the page's, where the page keeps its block, and out of memory, where it has the old or the new one.
+    /// of a node above level 0, where the page keeps its block, and out of memory, where it has the old or the new one.
     pub fn update<B: Bus, T: Tagger>(
         &mut self,
         bus: &mut B,
@@ -243,7 +244,16 @@ impl Tree {
         // The node above the page's block keeps its tag: it has a copy then, marked as changed.
         ensures parent { OnOk result (IsMarked self.new 1 (parent self.old.levels 0 page).1) }
 
-        ensures read { OnOk result (PathWasRead self.old tags.old.made 1 page (B.history bus.old) (B.history bus.new)) }
+        // No page's block is read.
+        ensures no_block_read { (other : ℕ) →
+            (B.history bus.new).reads (node_place 0 other) ≡ (B.history bus.old).reads (node_place 0 other) }
+
+        // Where there is no evidence, the nodes above it were read, up to the lowest one with a copy, but those that were never
+        // made: none of these is read.
+        ensures read { HoldsTree (tags_of T.data_tag_of T.node_tag_of) self.old (B.history bus.old) tags.old →
+            tags.new.evidence ≡ None → OnOk result (PathWasRead self.old tags.old.made 1 page (B.history bus.old) (B.history bus.new)) }
+        ensures unread { HoldsTree (tags_of T.data_tag_of T.node_tag_of) self.old (B.history bus.old) tags.old →
+            tags.new.evidence ≡ None → UnmadeAreUnread (B.history bus.old) tags.new.made (B.history bus.new) }
         ensures hit { cached_node self.old 1 (parent self.old.levels 0 page).1 ≢ None →
             (B.history bus.new).accesses ≤ (B.history bus.old).accesses + 1 }
         ensures hit_made { cached_node self.old 1 (parent self.old.levels 0 page).1 ≢ None →
@@ -256,22 +266,26 @@ impl Tree {
         ensures lines { SameLines (B.history bus.old) tags.old.made (B.history bus.new) tags.new.made }
         ensures moved { B.moved bus.old bus.new }
 
-        // What has a copy on the chip was read, with the nodes above it, unless it had one.
+        // What has a copy on the chip was read, with the nodes above it, unless it had one or was never made.
         ensures few_copies { (level : ℕ) → length (cached_nodes self.new level) ≤ most_copies }
-        ensures new_copies { (level index : ℕ) → cached_node self.new level index ≢ None →
-            WasReadUp self.old level index (B.history bus.old) (B.history bus.new) }
+        ensures new_copies { HoldsTree (tags_of T.data_tag_of T.node_tag_of) self.old (B.history bus.old) tags.old →
+            tags.new.evidence ≡ None → (level index : ℕ) → cached_node self.new level index ≢ None →
+            WasReadUp self.old tags.old.made level index (B.history bus.old) (B.history bus.new) }
 
-        // Each time a node above level 0 was made, each of its slots had the tag of that child's last message.
+        // Each time a node above level 0 was made, each of its slots had the tag of that child's last message, or zeros where the
+        // child was never made.
         ensures slots { HoldsTree (tags_of T.data_tag_of T.node_tag_of) self.old (B.history bus.old) tags.old →
             tags.new.evidence ≡ None → SlotsAreTags (tags_of T.data_tag_of T.node_tag_of tags.old) self.old.levels tags.old.made →
             SlotsAreTags (tags_of T.data_tag_of T.node_tag_of tags.old) self.old.levels tags.new.made }
-        // What is made of a node above level 0 is a copy that was changed, unless a child of it was made in the call. It is made
-        // once at most for each copy of it that was there before or was read in the call, and that is gone after it; out of
-        // memory, once more.
-        ensures written_back { WritesBack 1 self.old (B.history bus.old) tags.old.made self.new (B.history bus.new) tags.new.made (result_err result) }
-        // Unless the call is refused, a copy is evicted only where another node of its set is read: one read is enough for both
-        // ways of the set.
-        ensures out_for { OnOk result (GoesOutFor self.old (B.history bus.old) self.new (B.history bus.new)) }
+        // What is made of a node above level 0 is a copy that was changed, unless a child of it was made in the call. Where there
+        // is no evidence, it is made once at most for each copy of it that was there before, was read in the call, or came unread
+        // since the node had never been made, and that is gone after it; out of memory, once more.
+        ensures written_back { WritesBack (EndsQuietly (tags_of T.data_tag_of T.node_tag_of) self.old (B.history bus.old) tags.old tags.new)
+            1 self.old (B.history bus.old) tags.old.made self.new (B.history bus.new) tags.new.made (result_err result) }
+        // Unless the call is refused, a copy is evicted only where another node of its set came: one is enough for both ways of
+        // the set.
+        ensures out_for { HoldsTree (tags_of T.data_tag_of T.node_tag_of) self.old (B.history bus.old) tags.old →
+            tags.new.evidence ≡ None → OnOk result (GoesOutFor self.old (B.history bus.old) tags.old.made self.new (B.history bus.new)) }
 
         // What was made was written.
         ensures made_blocks { NodesAreMade self.old.levels tags.old.made (B.history bus.old).written →
@@ -286,7 +300,7 @@ impl Tree {
         Ok(())
     }
 
-    // Has a node of a level above level 0 on the chip, as the most recently used one of its set.
+    // Brings a node of a level above level 0 onto the chip, as the most recently used one of its set.
     #[cycle(present)]
     fn present<B: Bus, T: Tagger>(
         &mut self,
@@ -302,13 +316,15 @@ impl Tree {
 
         ensures climbs { Climbs (tags_of T.data_tag_of T.node_tag_of) level
             self.old (B.history bus.old) tags.old self.new (B.history bus.new) tags.new (result_err result) }
-        ensures back { WritesUp level NoNode
+        ensures back { WritesUp (EndsQuietly (tags_of T.data_tag_of T.node_tag_of) self.old (B.history bus.old) tags.old tags.new)
+            level NoNode
             self.old (B.history bus.old) tags.old.made self.new (B.history bus.new) tags.new.made (result_err result) }
         ensures once { (B.history bus.new).accesses ≤ (B.history bus.old).accesses + present_accesses self.old.levels level }
         ensures few { length tags.new.made ≤ length tags.old.made + present_accesses self.old.levels level }
         ensures hit { cached_node self.old level index ≢ None → (B.history bus.new ≡ B.history bus.old) × (tags.new ≡ tags.old) }
         ensures latest { OnOk result (IsLatestNode self.new.caches level index) }
-        ensures out_for { OnOk result (GoesOutFor self.old (B.history bus.old) self.new (B.history bus.new)) }
+        ensures out_for { HoldsTree (tags_of T.data_tag_of T.node_tag_of) self.old (B.history bus.old) tags.old →
+            tags.new.evidence ≡ None → OnOk result (GoesOutFor self.old (B.history bus.old) tags.old.made self.new (B.history bus.new)) }
         ensures moved { B.moved bus.old bus.new }
     {
         if self.nodes.touch(level, index) {
@@ -336,13 +352,15 @@ impl Tree {
 
         ensures climbs { Climbs (tags_of T.data_tag_of T.node_tag_of) level
             self.old (B.history bus.old) tags.old self.new (B.history bus.new) tags.new (result_err result) }
-        ensures back { WritesUp level NoNode
+        ensures back { WritesUp (EndsQuietly (tags_of T.data_tag_of T.node_tag_of) self.old (B.history bus.old) tags.old tags.new)
+            level NoNode
             self.old (B.history bus.old) tags.old.made self.new (B.history bus.new) tags.new.made (result_err result) }
         ensures once { (B.history bus.new).accesses ≤ (B.history bus.old).accesses + (present_accesses self.old.levels (level + 1) + 1) }
         ensures few { length tags.new.made ≤ length tags.old.made + (present_accesses self.old.levels (level + 1) + 1) }
         ensures absent { OnOk result (node_way self.new.caches level index ≡ None) }
         ensures room { OnOk result (HasRoom (set_at (level_cache self.new.caches level) index)) }
-        ensures out_for { OnOk result (MakesRoom level index self.old (B.history bus.old) self.new (B.history bus.new)) }
+        ensures out_for { HoldsTree (tags_of T.data_tag_of T.node_tag_of) self.old (B.history bus.old) tags.old →
+            tags.new.evidence ≡ None → OnOk result (MakesRoom level index self.old (B.history bus.old) tags.old.made self.new (B.history bus.new)) }
         ensures moved { B.moved bus.old bus.new }
     {
         let Some(victim) = self.nodes.victim(level, index) else {
@@ -373,12 +391,14 @@ impl Tree {
 
         ensures climbs { Climbs (tags_of T.data_tag_of T.node_tag_of) level
             self.old (B.history bus.old) tags.old self.new (B.history bus.new) tags.new (result_err result) }
-        ensures back { WritesUp (level + 1) (IsVictim level victim.now (result_err result))
+        ensures back { WritesUp (EndsQuietly (tags_of T.data_tag_of T.node_tag_of) self.old (B.history bus.old) tags.old tags.new)
+            (level + 1) (IsVictim level victim.now (result_err result))
             self.old (B.history bus.old) tags.old.made self.new (B.history bus.new) tags.new.made (result_err result) }
         ensures once { (B.history bus.new).accesses ≤ (B.history bus.old).accesses + (present_accesses self.old.levels (level + 1) + 1) }
         ensures few { length tags.new.made ≤ length tags.old.made + (present_accesses self.old.levels (level + 1) + 1) }
         ensures copies { level_cache self.new.caches level ≡ level_cache self.old.caches level }
-        ensures out_for { OnOk result (GoesOutFor self.old (B.history bus.old) self.new (B.history bus.new)) }
+        ensures out_for { HoldsTree (tags_of T.data_tag_of T.node_tag_of) self.old (B.history bus.old) tags.old →
+            tags.new.evidence ≡ None → OnOk result (GoesOutFor self.old (B.history bus.old) tags.old.made self.new (B.history bus.new)) }
         ensures last { OnOk result (HoldsTree (tags_of T.data_tag_of T.node_tag_of) self.new (B.history bus.new) tags.new →
             tags.new.evidence ≡ None → victim.now.copy ≡ block_or_zeros (last_node level victim.now.place tags.new.made)) }
         ensures moved { B.moved bus.old bus.new }
@@ -391,7 +411,7 @@ impl Tree {
         Ok(())
     }
 
-    // Has the parent of a node on the chip. The top node has none.
+    // Brings the parent of a node onto the chip. The top node has none.
     #[cycle(present)]
     fn parent_present<B: Bus, T: Tagger>(
         &mut self,
@@ -406,14 +426,16 @@ impl Tree {
 
         ensures climbs { Climbs (tags_of T.data_tag_of T.node_tag_of) (level + 1)
             self.old (B.history bus.old) tags.old self.new (B.history bus.new) tags.new (result_err result) }
-        ensures back { WritesUp (level + 1) NoNode
+        ensures back { WritesUp (EndsQuietly (tags_of T.data_tag_of T.node_tag_of) self.old (B.history bus.old) tags.old tags.new)
+            (level + 1) NoNode
             self.old (B.history bus.old) tags.old.made self.new (B.history bus.new) tags.new.made (result_err result) }
         ensures once { (B.history bus.new).accesses ≤ (B.history bus.old).accesses + present_accesses self.old.levels (level + 1) }
         ensures few { length tags.new.made ≤ length tags.old.made + present_accesses self.old.levels (level + 1) }
         ensures hit { cached_node self.old (level + 1) (parent self.old.levels level index).1 ≢ None →
             (B.history bus.new ≡ B.history bus.old) × (tags.new ≡ tags.old) }
         ensures latest { level < self.old.levels → OnOk result (IsLatestNode self.new.caches (level + 1) (parent self.old.levels level index).1) }
-        ensures out_for { OnOk result (GoesOutFor self.old (B.history bus.old) self.new (B.history bus.new)) }
+        ensures out_for { HoldsTree (tags_of T.data_tag_of T.node_tag_of) self.old (B.history bus.old) tags.old →
+            tags.new.evidence ≡ None → OnOk result (GoesOutFor self.old (B.history bus.old) tags.old.made self.new (B.history bus.new)) }
         ensures some { 0 < self.old.levels }
         ensures nodes { AreNodeCaches self.new.levels self.new.caches }
         ensures moved { B.moved bus.old bus.new }
@@ -425,7 +447,7 @@ impl Tree {
         self.present(bus, tags, level + 1, geometry.parent(level, index).1)
     }
 
-    // Reads a node whose parent is on the chip, checks it against the tag that is kept of it, and keeps a copy.
+    // Brings a node whose parent is on the chip, by the tag that is kept of it: as it is read, or zeros.
     fn read_in<B: Bus, T: Tagger>(
         &mut self,
         bus: &mut B,
@@ -443,17 +465,19 @@ impl Tree {
 
         ensures climbs { Climbs (tags_of T.data_tag_of T.node_tag_of) level
             self.old (B.history bus.old) tags.old self.new (B.history bus.new) tags.new (result_err result) }
-        ensures back { WritesUp level NoNode
+        ensures back { WritesUp (EndsQuietly (tags_of T.data_tag_of T.node_tag_of) self.old (B.history bus.old) tags.old tags.new)
+            level NoNode
             self.old (B.history bus.old) tags.old.made self.new (B.history bus.new) tags.new.made (result_err result) }
         ensures once { (B.history bus.new).accesses ≤ (B.history bus.old).accesses + 1 }
         ensures few { length tags.new.made ≤ length tags.old.made + 1 }
         ensures latest { OnOk result (IsLatestNode self.new.caches level index) }
-        ensures came { OnOk result (Rose ((B.history bus.old).reads (node_place level index)) ((B.history bus.new).reads (node_place level index))) }
+        ensures came { HoldsTree (tags_of T.data_tag_of T.node_tag_of) self.old (B.history bus.old) tags.old →
+            tags.new.evidence ≡ None → OnOk result (NodeCame tags.old.made level index (B.history bus.old) (B.history bus.new)) }
         ensures kept { (other at : ℕ) → cached_node self.old other at ≢ None → cached_node self.new other at ≢ None }
         ensures moved { B.moved bus.old bus.new }
     {
         let tag = self.kept_tag(level, index);
-        let block = read_node(bus, tags, level, index, &tag)?;
+        let block = read_kept(bus, tags, level, index, &tag)?;
         self.nodes.put(level, index, block);
         Ok(())
     }
@@ -476,7 +500,8 @@ impl Tree {
 
         ensures climbs { Climbs (tags_of T.data_tag_of T.node_tag_of) level
             self.old (B.history bus.old) tags.old self.new (B.history bus.new) tags.new (want_of result) }
-        ensures back { WritesUp (level + 1) (IsBlockOf level index block.now)
+        ensures back { WritesUp (EndsQuietly (tags_of T.data_tag_of T.node_tag_of) self.old (B.history bus.old) tags.old tags.new)
+            (level + 1) (IsBlockOf level index block.now)
             self.old (B.history bus.old) tags.old.made self.new (B.history bus.new) tags.new.made (want_of result) }
         ensures once { (B.history bus.new).accesses ≤ (B.history bus.old).accesses + 1 }
         ensures few { length tags.new.made ≤ length tags.old.made + 1 }
@@ -492,6 +517,7 @@ impl Tree {
         ensures beside { (at : ℕ) → at ≢ index →
             (B.history bus.new).written (node_place level at) ≡ (B.history bus.old).written (node_place level at) }
         ensures quiet { tags.new.evidence ≡ tags.old.evidence }
+        ensures reads { (B.history bus.new).reads ≡ (B.history bus.old).reads }
         ensures moved { B.moved bus.old bus.new }
     {
         tags.reserve(1)?;
@@ -538,4 +564,27 @@ impl Tree {
         put_tag(&mut block, geometry.slot(index), tag);
         self.nodes.change(above, at, block);
     }
+}
+
+// The block of a node, by the tag that is kept of it: zeros, without an access, where none is kept; else read from its place and
+// checked.
+fn read_kept<B: Bus, T: Tagger>(
+    bus: &mut B,
+    tags: &mut TagEngine<T>,
+    level: u8,
+    index: u32,
+    tag: &[u8; 16],
+) -> Result<[u8; 64], MemStop>
+    requires place { IsPlace (B.history bus.old).levels (node_place level index) }
+    requires node { IsNode tags.old.levels level index }
+
+    ensures read { ReadsKept (tags_of T.data_tag_of T.node_tag_of) level index tag.now
+        (B.history bus.old) tags.old (B.history bus.new) tags.new result }
+    ensures moved { B.moved bus.old bus.new }
+    ensures long { IfOk result (λ block. length block ≡ 64) }
+{
+    if *tag == NO_TAG {
+        return Ok([0; 64]);
+    }
+    read_node(bus, tags, level, index, tag)
 }

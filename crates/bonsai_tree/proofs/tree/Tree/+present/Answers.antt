@@ -1,20 +1,21 @@
-use Rattle.std.proofs.Common.{◌≡◌, inl, inr, ◌+◌, ℕ, true, List, length, Option, Some, None, refl, ap, sym, ◌∙◌, subst, arith, rules}
+use Rattle.std.proofs.Common.{◌≡◌, ◌≢◌, inl, inr, ◌+◌, ℕ, true, List, length, Option, Some, None, refl, ap, sym, ◌∙◌, subst, arith, rules}
 use Rattle.std.specs.Option.{option_map}
 use Rattle.std.specs.Result.{result_err}
 use Rattle.sec_base.specs.declared.stop.MemStop.{MemStop}
 use Rattle.sec_base.specs.declared.stop.MemStop.TheVariants.{NoMemory}
+use Rattle.sec_base.proofs.Results.{was_none}
 use Rattle.cache_set.specs.declared.way.Way.{Way}
 use Rattle.cache_set.specs.Cache.{way_at}
 use Rattle.tag_engine.specs.TagEngine.{tags_of}
 use Rattle.bonsai_tree.specs.Climb.{Climbs, IsBlockOf, IsVictim, NoNode, WritesUp}
 use Rattle.bonsai_tree.specs.NodeCache.{AreNodeCaches, copy_of, node_way}
-use Rattle.bonsai_tree.specs.Tree.{TreeView}
-use Rattle.bonsai_tree.proofs.Climbs.{climbs_not, climbs_on, climbs_up}
+use Rattle.bonsai_tree.specs.Tree.{EndsQuietly, TreeView}
+use Rattle.bonsai_tree.proofs.Climbs.{climbs_not, climbs_on, climbs_up, unmade_before}
 use Rattle.bonsai_tree.proofs.NodeCalls.{climbs_dropped, climbs_touched}
 use Rattle.bonsai_tree.proofs.Accesses.{present_first, present_second}
 use Rattle.bonsai_tree.proofs.Views.{all_as, levels_as, not_held, others_as, root_as, same_as, tree_of}
 use Rattle.bonsai_tree.proofs.OutFor.{on_ok, out_came, out_kept, out_on, room_kept, room_made}
-use Rattle.bonsai_tree.proofs.WrittenBack.{up_as, up_on, up_same, up_victim, up_wider}
+use Rattle.bonsai_tree.proofs.WrittenBack.{up_as, up_climbed, up_same, up_victim, up_wider}
 use Rattle.bonsai_tree.proofs.tree.Tree.+present.Goals as goal
 
 pub parent_present-returns-then-level-levels-clause-climbs : goal.parent_present-returns-then-level-levels-clause-climbs
@@ -198,43 +199,43 @@ present-returns-clause-hit g t c = λ held.
 
 pub parent_present-returns-then-level-levels-clause-back : goal.parent_present-returns-then-level-levels-clause-back
 parent_present-returns-then-level-levels-clause-back g t c =
-    up_same (c.args.level + 1) NoNode c.args.self.now c.args.self.now (g.B.Bus.history c.args.bus.now) (g.B.Bus.history c.args.bus.now) c.args.tags.now.made c.args.tags.now.made None (λ place. omega arith) refl (λ level index. refl)
+    up_same _ (c.args.level + 1) NoNode c.args.self.now c.args.self.now (g.B.Bus.history c.args.bus.now) (g.B.Bus.history c.args.bus.now) c.args.tags.now.made c.args.tags.now.made None (λ place. omega arith) refl (λ level index. refl)
 
 pub write_back-returns-then-not-victim-clause-back : goal.write_back-returns-then-not-victim-clause-back
 write_back-returns-then-not-victim-clause-back g t c =
-    up_same (c.args.level + 1) (IsVictim c.args.level c.args.victim.now None) c.args.self.now c.args.self.now (g.B.Bus.history c.args.bus.now) (g.B.Bus.history c.args.bus.now) c.args.tags.now.made c.args.tags.now.made None (λ place. omega arith) refl (λ level index. refl)
+    up_same _ (c.args.level + 1) (IsVictim c.args.level c.args.victim.now None) c.args.self.now c.args.self.now (g.B.Bus.history c.args.bus.now) (g.B.Bus.history c.args.bus.now) c.args.tags.now.made c.args.tags.now.made None (λ place. omega arith) refl (λ level index. refl)
 
 pub write_back-returns-in_err-parent_present-clause-back : goal.write_back-returns-in_err-parent_present-clause-back
 write_back-returns-in_err-parent_present-clause-back g t c =
     let why = c.in_err-parent_present.field-0.0 in
     let stop : result_err c.from_residual.result ≡ Some why = search rules in
-    subst (λ (s : Option MemStop). WritesUp (c.args.level + 1) (IsVictim c.args.level c.args.victim.now s) c.args.self.now (g.B.Bus.history c.args.bus.now) c.args.tags.now.made c.parent_present.new.self (g.B.Bus.history c.parent_present.new.bus) c.parent_present.new.tags.made s) (sym stop)
-    (up_as (c.args.level + 1) NoNode (IsVictim c.args.level c.args.victim.now (Some why)) c.args.self.now c.parent_present.new.self (g.B.Bus.history c.args.bus.now) (g.B.Bus.history c.parent_present.new.bus) c.args.tags.now.made c.parent_present.new.tags.made (Some why) (λ other at bytes none. absurd none)
+    subst (λ (s : Option MemStop). WritesUp (EndsQuietly (tags_of g.T.Tagger.data_tag_of g.T.Tagger.node_tag_of) c.args.self.now (g.B.Bus.history c.args.bus.now) c.args.tags.now c.parent_present.new.tags) (c.args.level + 1) (IsVictim c.args.level c.args.victim.now s) c.args.self.now (g.B.Bus.history c.args.bus.now) c.args.tags.now.made c.parent_present.new.self (g.B.Bus.history c.parent_present.new.bus) c.parent_present.new.tags.made s) (sym stop)
+    (up_as _ (c.args.level + 1) NoNode (IsVictim c.args.level c.args.victim.now (Some why)) c.args.self.now c.parent_present.new.self (g.B.Bus.history c.args.bus.now) (g.B.Bus.history c.parent_present.new.bus) c.args.tags.now.made c.parent_present.new.tags.made (Some why) (λ other at bytes none. absurd none)
     c.in_err-parent_present.ensures.back)
 
 pub write_back-returns-in_err-write_below-clause-back : goal.write_back-returns-in_err-write_below-clause-back
 write_back-returns-in_err-write_below-clause-back g t c =
     let stop : result_err c.from_residual-in_err-write_below.result ≡ Some NoMemory = search rules in
     let changed : c.args.victim.now.changed ≡ true = search rules in
-    subst (λ (s : Option MemStop). WritesUp (c.args.level + 1) (IsVictim c.args.level c.args.victim.now s) c.args.self.now (g.B.Bus.history c.args.bus.now) c.args.tags.now.made c.write_below.new.self (g.B.Bus.history c.write_below.new.bus) c.write_below.new.tags.made s) (sym stop)
-    (up_on (c.args.level + 1) (IsVictim c.args.level c.args.victim.now (Some NoMemory)) c.args.self.now c.parent_present.new.self c.write_below.new.self (g.B.Bus.history c.args.bus.now) (g.B.Bus.history c.parent_present.new.bus) (g.B.Bus.history c.write_below.new.bus) c.args.tags.now.made c.parent_present.new.tags.made c.write_below.new.tags.made (Some NoMemory)
-    c.in_ok-parent_present.ensures.climbs.moves.reads c.in_err-write_below.ensures.climbs.moves.reads
+    subst (λ (s : Option MemStop). WritesUp (EndsQuietly (tags_of g.T.Tagger.data_tag_of g.T.Tagger.node_tag_of) c.args.self.now (g.B.Bus.history c.args.bus.now) c.args.tags.now c.write_below.new.tags) (c.args.level + 1) (IsVictim c.args.level c.args.victim.now s) c.args.self.now (g.B.Bus.history c.args.bus.now) c.args.tags.now.made c.write_below.new.self (g.B.Bus.history c.write_below.new.bus) c.write_below.new.tags.made s) (sym stop)
+    (up_climbed g.T.Tagger.data_tag_of g.T.Tagger.node_tag_of (c.args.level + 1) (c.args.level + 1) (IsVictim c.args.level c.args.victim.now (Some NoMemory)) c.args.self.now c.parent_present.new.self c.write_below.new.self (g.B.Bus.history c.args.bus.now) (g.B.Bus.history c.parent_present.new.bus) (g.B.Bus.history c.write_below.new.bus) c.args.tags.now c.parent_present.new.tags c.write_below.new.tags (Some NoMemory)
+    c.in_ok-parent_present.ensures.climbs c.in_err-write_below.ensures.climbs.moves
     c.in_ok-parent_present.ensures.back
-    (up_as (c.args.level + 1) (IsBlockOf c.args.level c.args.victim.now.place c.args.victim.now.copy) (IsVictim c.args.level c.args.victim.now (Some NoMemory)) c.parent_present.new.self c.write_below.new.self (g.B.Bus.history c.parent_present.new.bus) (g.B.Bus.history c.write_below.new.bus) c.parent_present.new.tags.made c.write_below.new.tags.made (Some NoMemory)
+    (up_as _ (c.args.level + 1) (IsBlockOf c.args.level c.args.victim.now.place c.args.victim.now.copy) (IsVictim c.args.level c.args.victim.now (Some NoMemory)) c.parent_present.new.self c.write_below.new.self (g.B.Bus.history c.parent_present.new.bus) (g.B.Bus.history c.write_below.new.bus) c.parent_present.new.tags.made c.write_below.new.tags.made (Some NoMemory)
     (λ other at bytes is. (is, changed, inr refl)) c.in_err-write_below.ensures.back))
 
 pub write_back-returns-clause-back : goal.write_back-returns-clause-back
 write_back-returns-clause-back g t c =
     let changed : c.args.victim.now.changed ≡ true = search rules in
-    up_on (c.args.level + 1) (IsVictim c.args.level c.args.victim.now None) c.args.self.now c.parent_present.new.self c.write_below.new.self (g.B.Bus.history c.args.bus.now) (g.B.Bus.history c.parent_present.new.bus) (g.B.Bus.history c.write_below.new.bus) c.args.tags.now.made c.parent_present.new.tags.made c.write_below.new.tags.made None
-    c.in_ok-parent_present.ensures.climbs.moves.reads c.in_ok-write_below.ensures.climbs.moves.reads
+    up_climbed g.T.Tagger.data_tag_of g.T.Tagger.node_tag_of (c.args.level + 1) (c.args.level + 1) (IsVictim c.args.level c.args.victim.now None) c.args.self.now c.parent_present.new.self c.write_below.new.self (g.B.Bus.history c.args.bus.now) (g.B.Bus.history c.parent_present.new.bus) (g.B.Bus.history c.write_below.new.bus) c.args.tags.now c.parent_present.new.tags c.write_below.new.tags None
+    c.in_ok-parent_present.ensures.climbs c.in_ok-write_below.ensures.climbs.moves
     c.in_ok-parent_present.ensures.back
-    (up_as (c.args.level + 1) (IsBlockOf c.args.level c.args.victim.now.place c.args.victim.now.copy) (IsVictim c.args.level c.args.victim.now None) c.parent_present.new.self c.write_below.new.self (g.B.Bus.history c.parent_present.new.bus) (g.B.Bus.history c.write_below.new.bus) c.parent_present.new.tags.made c.write_below.new.tags.made None
+    (up_as _ (c.args.level + 1) (IsBlockOf c.args.level c.args.victim.now.place c.args.victim.now.copy) (IsVictim c.args.level c.args.victim.now None) c.parent_present.new.self c.write_below.new.self (g.B.Bus.history c.parent_present.new.bus) (g.B.Bus.history c.write_below.new.bus) c.parent_present.new.tags.made c.write_below.new.tags.made None
     (λ other at bytes is. (is, changed, inl refl)) c.in_ok-write_below.ensures.back)
 
 pub make_room-returns-in_default-clause-back : goal.make_room-returns-in_default-clause-back
 make_room-returns-in_default-clause-back g t c =
-    up_same c.args.level NoNode c.args.self.now c.args.self.now (g.B.Bus.history c.args.bus.now) (g.B.Bus.history c.args.bus.now) c.args.tags.now.made c.args.tags.now.made None (λ place. omega arith) refl (λ level index. refl)
+    up_same _ c.args.level NoNode c.args.self.now c.args.self.now (g.B.Bus.history c.args.bus.now) (g.B.Bus.history c.args.bus.now) c.args.tags.now.made c.args.tags.now.made None (λ place. omega arith) refl (λ level index. refl)
 
 pub make_room-returns-in_err-write_back-clause-back : goal.make_room-returns-in_err-write_back-clause-back
 make_room-returns-in_err-write_back-clause-back g t c =
@@ -242,8 +243,8 @@ make_room-returns-in_err-write_back-clause-back g t c =
     let stop : result_err c.from_residual.result ≡ Some why = search rules in
     let way : node_way c.args.self.now.caches c.args.level c.in-Some.victim.place ≡ Some c.in-Some.victim =
     sym (ap (λ (v : TreeView). node_way v.caches c.args.level c.in-Some.victim.place) c.self.view_is) ∙ c.in-Some.ensures.way in
-    subst (λ (s : Option MemStop). WritesUp c.args.level NoNode c.args.self.now (g.B.Bus.history c.args.bus.now) c.args.tags.now.made c.write_back.new.self (g.B.Bus.history c.write_back.new.bus) c.write_back.new.tags.made s) (sym stop)
-    (up_victim c.args.level c.in-Some.victim c.args.self.now c.write_back.new.self c.write_back.new.self (g.B.Bus.history c.args.bus.now) (g.B.Bus.history c.write_back.new.bus) c.args.tags.now.made c.write_back.new.tags.made (Some why)
+    subst (λ (s : Option MemStop). WritesUp (EndsQuietly (tags_of g.T.Tagger.data_tag_of g.T.Tagger.node_tag_of) c.args.self.now (g.B.Bus.history c.args.bus.now) c.args.tags.now c.write_back.new.tags) c.args.level NoNode c.args.self.now (g.B.Bus.history c.args.bus.now) c.args.tags.now.made c.write_back.new.self (g.B.Bus.history c.write_back.new.bus) c.write_back.new.tags.made s) (sym stop)
+    (up_victim _ c.args.level c.in-Some.victim c.args.self.now c.write_back.new.self c.write_back.new.self (g.B.Bus.history c.args.bus.now) (g.B.Bus.history c.write_back.new.bus) c.args.tags.now.made c.write_back.new.tags.made (Some why)
     c.in_err-write_back.ensures.climbs.moves.reads (ap (option_map copy_of) way)
     (λ at. ap (λ (cache : List (List Way)). option_map copy_of (way_at cache at)) c.in_err-write_back.ensures.copies)
     (λ none. absurd (cc)) (λ copy found. found) (λ other at apart. refl) c.in_err-write_back.ensures.back)
@@ -252,7 +253,7 @@ pub make_room-returns-clause-back : goal.make_room-returns-clause-back
 make_room-returns-clause-back g t c =
     let way : node_way c.args.self.now.caches c.args.level c.in-Some.victim.place ≡ Some c.in-Some.victim =
     sym (ap (λ (v : TreeView). node_way v.caches c.args.level c.in-Some.victim.place) c.self.view_is) ∙ c.in-Some.ensures.way in
-    up_victim c.args.level c.in-Some.victim c.args.self.now c.write_back.new.self (tree_of c.self-2.inside.root c.remove.new.self) (g.B.Bus.history c.args.bus.now) (g.B.Bus.history c.write_back.new.bus) c.args.tags.now.made c.write_back.new.tags.made None
+    up_victim _ c.args.level c.in-Some.victim c.args.self.now c.write_back.new.self (tree_of c.self-2.inside.root c.remove.new.self) (g.B.Bus.history c.args.bus.now) (g.B.Bus.history c.write_back.new.bus) c.args.tags.now.made c.write_back.new.tags.made None
     c.in_ok-write_back.ensures.climbs.moves.reads (ap (option_map copy_of) way)
     (λ at. ap (λ (cache : List (List Way)). option_map copy_of (way_at cache at)) c.in_ok-write_back.ensures.copies)
     (λ going. ap (option_map copy_of) c.remove.ensures.removed)
@@ -262,17 +263,19 @@ make_room-returns-clause-back g t c =
 
 pub present-returns-then-touch-clause-back : goal.present-returns-then-touch-clause-back
 present-returns-then-touch-clause-back g t c =
-    up_same c.args.level NoNode c.args.self.now (tree_of c.self.inside.root c.touch.new.self) (g.B.Bus.history c.args.bus.now) (g.B.Bus.history c.args.bus.now) c.args.tags.now.made c.args.tags.now.made None (λ place. omega arith) refl
+    up_same _ c.args.level NoNode c.args.self.now (tree_of c.self.inside.root c.touch.new.self) (g.B.Bus.history c.args.bus.now) (g.B.Bus.history c.args.bus.now) c.args.tags.now.made c.args.tags.now.made None (λ place. omega arith) refl
     (all_as c.args.self.now c.self.inside.root c.self.inside.nodes c.touch.new.self c.self.view_is c.if-touch.ensures.same)
 
 pub present-returns-in_err-make_room-clause-back : goal.present-returns-in_err-make_room-clause-back
 present-returns-in_err-make_room-clause-back g t c =
     let why = c.in_err-make_room.field-0.0 in
     let stop : result_err c.from_residual.result ≡ Some why = search rules in
-    subst (λ (s : Option MemStop). WritesUp c.args.level NoNode c.args.self.now (g.B.Bus.history c.args.bus.now) c.args.tags.now.made c.make_room.new.self (g.B.Bus.history c.make_room.new.bus) c.make_room.new.tags.made s) (sym stop)
-    (up_on c.args.level NoNode c.args.self.now (tree_of c.self.inside.root c.touch.new.self) c.make_room.new.self (g.B.Bus.history c.args.bus.now) (g.B.Bus.history c.args.bus.now) (g.B.Bus.history c.make_room.new.bus) c.args.tags.now.made c.args.tags.now.made c.make_room.new.tags.made (Some why)
-    (λ place. omega arith) c.in_err-make_room.ensures.climbs.moves.reads
-    (up_same c.args.level NoNode c.args.self.now (tree_of c.self.inside.root c.touch.new.self) (g.B.Bus.history c.args.bus.now) (g.B.Bus.history c.args.bus.now) c.args.tags.now.made c.args.tags.now.made None (λ place. omega arith) refl
+    subst (λ (s : Option MemStop). WritesUp (EndsQuietly (tags_of g.T.Tagger.data_tag_of g.T.Tagger.node_tag_of) c.args.self.now (g.B.Bus.history c.args.bus.now) c.args.tags.now c.make_room.new.tags) c.args.level NoNode c.args.self.now (g.B.Bus.history c.args.bus.now) c.args.tags.now.made c.make_room.new.self (g.B.Bus.history c.make_room.new.bus) c.make_room.new.tags.made s) (sym stop)
+    (up_climbed g.T.Tagger.data_tag_of g.T.Tagger.node_tag_of c.args.level c.args.level NoNode c.args.self.now (tree_of c.self.inside.root c.touch.new.self) c.make_room.new.self (g.B.Bus.history c.args.bus.now) (g.B.Bus.history c.args.bus.now) (g.B.Bus.history c.make_room.new.bus) c.args.tags.now c.args.tags.now c.make_room.new.tags (Some why)
+    (climbs_touched g.T.Tagger.data_tag_of g.T.Tagger.node_tag_of c.args.level c.args.self.now (tree_of c.self.inside.root c.touch.new.self) (g.B.Bus.history c.args.bus.now) c.args.tags.now
+    (levels_as c.args.self.now c.self.inside.root c.self.inside.nodes c.touch.new.self c.self.view_is c.if-touch.ensures.levels) (root_as c.args.self.now c.self.inside.root c.self.inside.nodes c.touch.new.self c.self.view_is) c.if-touch.ensures.nodes
+    (others_as c.args.self.now c.self.inside.root c.self.inside.nodes c.touch.new.self c.self.view_is c.args.level c.if-touch.ensures.others) (all_as c.args.self.now c.self.inside.root c.self.inside.nodes c.touch.new.self c.self.view_is c.if-touch.ensures.same)) c.in_err-make_room.ensures.climbs.moves
+    (up_same _ c.args.level NoNode c.args.self.now (tree_of c.self.inside.root c.touch.new.self) (g.B.Bus.history c.args.bus.now) (g.B.Bus.history c.args.bus.now) c.args.tags.now.made c.args.tags.now.made None (λ place. omega arith) refl
     (all_as c.args.self.now c.self.inside.root c.self.inside.nodes c.touch.new.self c.self.view_is c.if-touch.ensures.same))
     c.in_err-make_room.ensures.back)
 
@@ -280,30 +283,48 @@ pub present-returns-in_err-parent_present-clause-back : goal.present-returns-in_
 present-returns-in_err-parent_present-clause-back g t c =
     let why = c.in_err-parent_present.field-0.0 in
     let stop : result_err c.from_residual-in_err-parent_present.result ≡ Some why = search rules in
-    subst (λ (s : Option MemStop). WritesUp c.args.level NoNode c.args.self.now (g.B.Bus.history c.args.bus.now) c.args.tags.now.made c.parent_present.new.self (g.B.Bus.history c.parent_present.new.bus) c.parent_present.new.tags.made s) (sym stop)
-    (up_on c.args.level NoNode c.args.self.now c.make_room.new.self c.parent_present.new.self (g.B.Bus.history c.args.bus.now) (g.B.Bus.history c.make_room.new.bus) (g.B.Bus.history c.parent_present.new.bus) c.args.tags.now.made c.make_room.new.tags.made c.parent_present.new.tags.made (Some why)
-    c.in_ok-make_room.ensures.climbs.moves.reads c.in_err-parent_present.ensures.climbs.moves.reads
-    (up_on c.args.level NoNode c.args.self.now (tree_of c.self.inside.root c.touch.new.self) c.make_room.new.self (g.B.Bus.history c.args.bus.now) (g.B.Bus.history c.args.bus.now) (g.B.Bus.history c.make_room.new.bus) c.args.tags.now.made c.args.tags.now.made c.make_room.new.tags.made None
-    (λ place. omega arith) c.in_ok-make_room.ensures.climbs.moves.reads
-    (up_same c.args.level NoNode c.args.self.now (tree_of c.self.inside.root c.touch.new.self) (g.B.Bus.history c.args.bus.now) (g.B.Bus.history c.args.bus.now) c.args.tags.now.made c.args.tags.now.made None (λ place. omega arith) refl
+    subst (λ (s : Option MemStop). WritesUp (EndsQuietly (tags_of g.T.Tagger.data_tag_of g.T.Tagger.node_tag_of) c.args.self.now (g.B.Bus.history c.args.bus.now) c.args.tags.now c.parent_present.new.tags) c.args.level NoNode c.args.self.now (g.B.Bus.history c.args.bus.now) c.args.tags.now.made c.parent_present.new.self (g.B.Bus.history c.parent_present.new.bus) c.parent_present.new.tags.made s) (sym stop)
+    (up_climbed g.T.Tagger.data_tag_of g.T.Tagger.node_tag_of c.args.level c.args.level NoNode c.args.self.now c.make_room.new.self c.parent_present.new.self (g.B.Bus.history c.args.bus.now) (g.B.Bus.history c.make_room.new.bus) (g.B.Bus.history c.parent_present.new.bus) c.args.tags.now c.make_room.new.tags c.parent_present.new.tags (Some why)
+    (climbs_on g.T.Tagger.data_tag_of g.T.Tagger.node_tag_of c.args.level c.args.self.now (tree_of c.self.inside.root c.touch.new.self) c.make_room.new.self (g.B.Bus.history c.args.bus.now) (g.B.Bus.history c.args.bus.now) (g.B.Bus.history c.make_room.new.bus) c.args.tags.now c.args.tags.now c.make_room.new.tags None
+    (climbs_touched g.T.Tagger.data_tag_of g.T.Tagger.node_tag_of c.args.level c.args.self.now (tree_of c.self.inside.root c.touch.new.self) (g.B.Bus.history c.args.bus.now) c.args.tags.now
+    (levels_as c.args.self.now c.self.inside.root c.self.inside.nodes c.touch.new.self c.self.view_is c.if-touch.ensures.levels) (root_as c.args.self.now c.self.inside.root c.self.inside.nodes c.touch.new.self c.self.view_is) c.if-touch.ensures.nodes
+    (others_as c.args.self.now c.self.inside.root c.self.inside.nodes c.touch.new.self c.self.view_is c.args.level c.if-touch.ensures.others) (all_as c.args.self.now c.self.inside.root c.self.inside.nodes c.touch.new.self c.self.view_is c.if-touch.ensures.same))
+    c.in_ok-make_room.ensures.climbs) c.in_err-parent_present.ensures.climbs.moves
+    (up_climbed g.T.Tagger.data_tag_of g.T.Tagger.node_tag_of c.args.level c.args.level NoNode c.args.self.now (tree_of c.self.inside.root c.touch.new.self) c.make_room.new.self (g.B.Bus.history c.args.bus.now) (g.B.Bus.history c.args.bus.now) (g.B.Bus.history c.make_room.new.bus) c.args.tags.now c.args.tags.now c.make_room.new.tags None
+    (climbs_touched g.T.Tagger.data_tag_of g.T.Tagger.node_tag_of c.args.level c.args.self.now (tree_of c.self.inside.root c.touch.new.self) (g.B.Bus.history c.args.bus.now) c.args.tags.now
+    (levels_as c.args.self.now c.self.inside.root c.self.inside.nodes c.touch.new.self c.self.view_is c.if-touch.ensures.levels) (root_as c.args.self.now c.self.inside.root c.self.inside.nodes c.touch.new.self c.self.view_is) c.if-touch.ensures.nodes
+    (others_as c.args.self.now c.self.inside.root c.self.inside.nodes c.touch.new.self c.self.view_is c.args.level c.if-touch.ensures.others) (all_as c.args.self.now c.self.inside.root c.self.inside.nodes c.touch.new.self c.self.view_is c.if-touch.ensures.same)) c.in_ok-make_room.ensures.climbs.moves
+    (up_same _ c.args.level NoNode c.args.self.now (tree_of c.self.inside.root c.touch.new.self) (g.B.Bus.history c.args.bus.now) (g.B.Bus.history c.args.bus.now) c.args.tags.now.made c.args.tags.now.made None (λ place. omega arith) refl
     (all_as c.args.self.now c.self.inside.root c.self.inside.nodes c.touch.new.self c.self.view_is c.if-touch.ensures.same))
     c.in_ok-make_room.ensures.back)
-    (up_wider c.args.level (c.args.level + 1) c.make_room.new.self c.parent_present.new.self (g.B.Bus.history c.make_room.new.bus) (g.B.Bus.history c.parent_present.new.bus) c.make_room.new.tags.made c.parent_present.new.tags.made (Some why) (omega arith)
+    (up_wider _ c.args.level (c.args.level + 1) c.make_room.new.self c.parent_present.new.self (g.B.Bus.history c.make_room.new.bus) (g.B.Bus.history c.parent_present.new.bus) c.make_room.new.tags.made c.parent_present.new.tags.made (Some why) (omega arith)
     c.in_err-parent_present.ensures.climbs.moves.reads
     (λ other at low. ap (λ (cache : List (List Way)). option_map copy_of (way_at cache at)) (c.in_err-parent_present.ensures.climbs.copies other low)) c.in_err-parent_present.ensures.back))
 
 pub present-returns-clause-back : goal.present-returns-clause-back
 present-returns-clause-back g t c =
-    up_on c.args.level NoNode c.args.self.now c.parent_present.new.self c.read_in.new.self (g.B.Bus.history c.args.bus.now) (g.B.Bus.history c.parent_present.new.bus) (g.B.Bus.history c.read_in.new.bus) c.args.tags.now.made c.parent_present.new.tags.made c.read_in.new.tags.made (result_err c.read_in.result)
-    (λ place. omega (arith, c.in_ok-make_room.ensures.climbs.moves.reads place, c.in_ok-parent_present.ensures.climbs.moves.reads place)) c.read_in.ensures.climbs.moves.reads
-    (up_on c.args.level NoNode c.args.self.now c.make_room.new.self c.parent_present.new.self (g.B.Bus.history c.args.bus.now) (g.B.Bus.history c.make_room.new.bus) (g.B.Bus.history c.parent_present.new.bus) c.args.tags.now.made c.make_room.new.tags.made c.parent_present.new.tags.made None
-    c.in_ok-make_room.ensures.climbs.moves.reads c.in_ok-parent_present.ensures.climbs.moves.reads
-    (up_on c.args.level NoNode c.args.self.now (tree_of c.self.inside.root c.touch.new.self) c.make_room.new.self (g.B.Bus.history c.args.bus.now) (g.B.Bus.history c.args.bus.now) (g.B.Bus.history c.make_room.new.bus) c.args.tags.now.made c.args.tags.now.made c.make_room.new.tags.made None
-    (λ place. omega arith) c.in_ok-make_room.ensures.climbs.moves.reads
-    (up_same c.args.level NoNode c.args.self.now (tree_of c.self.inside.root c.touch.new.self) (g.B.Bus.history c.args.bus.now) (g.B.Bus.history c.args.bus.now) c.args.tags.now.made c.args.tags.now.made None (λ place. omega arith) refl
+    up_climbed g.T.Tagger.data_tag_of g.T.Tagger.node_tag_of c.args.level c.args.level NoNode c.args.self.now c.parent_present.new.self c.read_in.new.self (g.B.Bus.history c.args.bus.now) (g.B.Bus.history c.parent_present.new.bus) (g.B.Bus.history c.read_in.new.bus) c.args.tags.now c.parent_present.new.tags c.read_in.new.tags (result_err c.read_in.result)
+    (climbs_on g.T.Tagger.data_tag_of g.T.Tagger.node_tag_of c.args.level c.args.self.now c.make_room.new.self c.parent_present.new.self (g.B.Bus.history c.args.bus.now) (g.B.Bus.history c.make_room.new.bus) (g.B.Bus.history c.parent_present.new.bus) c.args.tags.now c.make_room.new.tags c.parent_present.new.tags None
+    (climbs_on g.T.Tagger.data_tag_of g.T.Tagger.node_tag_of c.args.level c.args.self.now (tree_of c.self.inside.root c.touch.new.self) c.make_room.new.self (g.B.Bus.history c.args.bus.now) (g.B.Bus.history c.args.bus.now) (g.B.Bus.history c.make_room.new.bus) c.args.tags.now c.args.tags.now c.make_room.new.tags None
+    (climbs_touched g.T.Tagger.data_tag_of g.T.Tagger.node_tag_of c.args.level c.args.self.now (tree_of c.self.inside.root c.touch.new.self) (g.B.Bus.history c.args.bus.now) c.args.tags.now
+    (levels_as c.args.self.now c.self.inside.root c.self.inside.nodes c.touch.new.self c.self.view_is c.if-touch.ensures.levels) (root_as c.args.self.now c.self.inside.root c.self.inside.nodes c.touch.new.self c.self.view_is) c.if-touch.ensures.nodes
+    (others_as c.args.self.now c.self.inside.root c.self.inside.nodes c.touch.new.self c.self.view_is c.args.level c.if-touch.ensures.others) (all_as c.args.self.now c.self.inside.root c.self.inside.nodes c.touch.new.self c.self.view_is c.if-touch.ensures.same))
+    c.in_ok-make_room.ensures.climbs)
+    (climbs_up g.T.Tagger.data_tag_of g.T.Tagger.node_tag_of c.args.level (c.args.level + 1) c.make_room.new.self c.parent_present.new.self (g.B.Bus.history c.make_room.new.bus) (g.B.Bus.history c.parent_present.new.bus) c.make_room.new.tags c.parent_present.new.tags None (omega arith) c.in_ok-parent_present.ensures.climbs)) c.read_in.ensures.climbs.moves
+    (up_climbed g.T.Tagger.data_tag_of g.T.Tagger.node_tag_of c.args.level c.args.level NoNode c.args.self.now c.make_room.new.self c.parent_present.new.self (g.B.Bus.history c.args.bus.now) (g.B.Bus.history c.make_room.new.bus) (g.B.Bus.history c.parent_present.new.bus) c.args.tags.now c.make_room.new.tags c.parent_present.new.tags None
+    (climbs_on g.T.Tagger.data_tag_of g.T.Tagger.node_tag_of c.args.level c.args.self.now (tree_of c.self.inside.root c.touch.new.self) c.make_room.new.self (g.B.Bus.history c.args.bus.now) (g.B.Bus.history c.args.bus.now) (g.B.Bus.history c.make_room.new.bus) c.args.tags.now c.args.tags.now c.make_room.new.tags None
+    (climbs_touched g.T.Tagger.data_tag_of g.T.Tagger.node_tag_of c.args.level c.args.self.now (tree_of c.self.inside.root c.touch.new.self) (g.B.Bus.history c.args.bus.now) c.args.tags.now
+    (levels_as c.args.self.now c.self.inside.root c.self.inside.nodes c.touch.new.self c.self.view_is c.if-touch.ensures.levels) (root_as c.args.self.now c.self.inside.root c.self.inside.nodes c.touch.new.self c.self.view_is) c.if-touch.ensures.nodes
+    (others_as c.args.self.now c.self.inside.root c.self.inside.nodes c.touch.new.self c.self.view_is c.args.level c.if-touch.ensures.others) (all_as c.args.self.now c.self.inside.root c.self.inside.nodes c.touch.new.self c.self.view_is c.if-touch.ensures.same))
+    c.in_ok-make_room.ensures.climbs) c.in_ok-parent_present.ensures.climbs.moves
+    (up_climbed g.T.Tagger.data_tag_of g.T.Tagger.node_tag_of c.args.level c.args.level NoNode c.args.self.now (tree_of c.self.inside.root c.touch.new.self) c.make_room.new.self (g.B.Bus.history c.args.bus.now) (g.B.Bus.history c.args.bus.now) (g.B.Bus.history c.make_room.new.bus) c.args.tags.now c.args.tags.now c.make_room.new.tags None
+    (climbs_touched g.T.Tagger.data_tag_of g.T.Tagger.node_tag_of c.args.level c.args.self.now (tree_of c.self.inside.root c.touch.new.self) (g.B.Bus.history c.args.bus.now) c.args.tags.now
+    (levels_as c.args.self.now c.self.inside.root c.self.inside.nodes c.touch.new.self c.self.view_is c.if-touch.ensures.levels) (root_as c.args.self.now c.self.inside.root c.self.inside.nodes c.touch.new.self c.self.view_is) c.if-touch.ensures.nodes
+    (others_as c.args.self.now c.self.inside.root c.self.inside.nodes c.touch.new.self c.self.view_is c.args.level c.if-touch.ensures.others) (all_as c.args.self.now c.self.inside.root c.self.inside.nodes c.touch.new.self c.self.view_is c.if-touch.ensures.same)) c.in_ok-make_room.ensures.climbs.moves
+    (up_same _ c.args.level NoNode c.args.self.now (tree_of c.self.inside.root c.touch.new.self) (g.B.Bus.history c.args.bus.now) (g.B.Bus.history c.args.bus.now) c.args.tags.now.made c.args.tags.now.made None (λ place. omega arith) refl
     (all_as c.args.self.now c.self.inside.root c.self.inside.nodes c.touch.new.self c.self.view_is c.if-touch.ensures.same))
     c.in_ok-make_room.ensures.back)
-    (up_wider c.args.level (c.args.level + 1) c.make_room.new.self c.parent_present.new.self (g.B.Bus.history c.make_room.new.bus) (g.B.Bus.history c.parent_present.new.bus) c.make_room.new.tags.made c.parent_present.new.tags.made None (omega arith)
+    (up_wider _ c.args.level (c.args.level + 1) c.make_room.new.self c.parent_present.new.self (g.B.Bus.history c.make_room.new.bus) (g.B.Bus.history c.parent_present.new.bus) c.make_room.new.tags.made c.parent_present.new.tags.made None (omega arith)
     c.in_ok-parent_present.ensures.climbs.moves.reads
     (λ other at low. ap (λ (cache : List (List Way)). option_map copy_of (way_at cache at)) (c.in_ok-parent_present.ensures.climbs.copies other low)) c.in_ok-parent_present.ensures.back))
     c.read_in.ensures.back
@@ -317,39 +338,60 @@ write_back-returns-clause-copies g t c =
 
 pub parent_present-returns-then-level-levels-clause-out_for : goal.parent_present-returns-then-level-levels-clause-out_for
 parent_present-returns-then-level-levels-clause-out_for g t c =
-    out_kept c.args.self.now c.args.self.now (g.B.Bus.history c.args.bus.now) (g.B.Bus.history c.args.bus.now) (λ level index held. held)
+    λ holds quiet. out_kept c.args.self.now c.args.self.now (g.B.Bus.history c.args.bus.now) (g.B.Bus.history c.args.bus.now) c.args.tags.now.made (λ level index held. held)
 
 pub write_back-returns-then-not-victim-clause-out_for : goal.write_back-returns-then-not-victim-clause-out_for
 write_back-returns-then-not-victim-clause-out_for g t c =
-    out_kept c.args.self.now c.args.self.now (g.B.Bus.history c.args.bus.now) (g.B.Bus.history c.args.bus.now) (λ level index held. held)
+    λ holds quiet. out_kept c.args.self.now c.args.self.now (g.B.Bus.history c.args.bus.now) (g.B.Bus.history c.args.bus.now) c.args.tags.now.made (λ level index held. held)
 
 pub write_back-returns-clause-out_for : goal.write_back-returns-clause-out_for
 write_back-returns-clause-out_for g t c =
+    λ holds quiet.
+    let climbs = c.in_ok-parent_present.ensures.climbs in
+    let still = was_none c.parent_present.new.tags.evidence c.write_below.new.tags.evidence c.in_ok-write_below.ensures.climbs.moves.evidence quiet in
     out_on c.args.self.now c.parent_present.new.self c.write_below.new.self (g.B.Bus.history c.args.bus.now) (g.B.Bus.history c.parent_present.new.bus) (g.B.Bus.history c.write_below.new.bus)
-    c.in_ok-parent_present.ensures.climbs.moves.reads c.in_ok-write_below.ensures.climbs.moves.reads c.in_ok-parent_present.ensures.out_for
-    (out_kept c.parent_present.new.self c.write_below.new.self (g.B.Bus.history c.parent_present.new.bus) (g.B.Bus.history c.write_below.new.bus) c.in_ok-write_below.ensures.kept)
+    c.args.tags.now.made c.parent_present.new.tags.made climbs.levels climbs.moves.reads c.in_ok-write_below.ensures.climbs.moves.reads
+    (unmade_before c.args.tags.now.made c.parent_present.new.tags.made climbs.moves.more climbs.moves.made) (c.in_ok-parent_present.ensures.out_for holds still)
+    (out_kept c.parent_present.new.self c.write_below.new.self (g.B.Bus.history c.parent_present.new.bus) (g.B.Bus.history c.write_below.new.bus) c.parent_present.new.tags.made c.in_ok-write_below.ensures.kept)
 
 pub make_room-returns-in_default-clause-out_for : goal.make_room-returns-in_default-clause-out_for
-make_room-returns-in_default-clause-out_for g t c = room_kept c.args.level c.args.index c.args.self.now (g.B.Bus.history c.args.bus.now)
+make_room-returns-in_default-clause-out_for g t c = λ holds quiet. room_kept c.args.level c.args.index c.args.self.now (g.B.Bus.history c.args.bus.now) c.args.tags.now.made
 
 pub make_room-returns-clause-out_for : goal.make_room-returns-clause-out_for
 make_room-returns-clause-out_for g t c =
+    λ holds quiet.
     room_made c.args.level c.args.index c.in-Some.victim.place c.args.self.now c.write_back.new.self (tree_of c.self-2.inside.root c.remove.new.self) (g.B.Bus.history c.args.bus.now) (g.B.Bus.history c.write_back.new.bus)
-    c.in-Some.ensures.beside
+    c.args.tags.now.made c.in-Some.ensures.beside
     (same_as c.write_back.new.self c.self-2.inside.root c.self-2.inside.nodes c.remove.new.self c.self-2.view_is c.args.level c.in-Some.victim.place c.remove.ensures.same)
-    c.in_ok-write_back.ensures.out_for
+    (c.in_ok-write_back.ensures.out_for holds quiet)
 
 pub present-returns-then-touch-clause-out_for : goal.present-returns-then-touch-clause-out_for
 present-returns-then-touch-clause-out_for g t c =
-    out_kept c.args.self.now (tree_of c.self.inside.root c.touch.new.self) (g.B.Bus.history c.args.bus.now) (g.B.Bus.history c.args.bus.now)
+    λ holds quiet.
+    out_kept c.args.self.now (tree_of c.self.inside.root c.touch.new.self) (g.B.Bus.history c.args.bus.now) (g.B.Bus.history c.args.bus.now) c.args.tags.now.made
     (λ level index held none. held (sym (all_as c.args.self.now c.self.inside.root c.self.inside.nodes c.touch.new.self c.self.view_is c.if-touch.ensures.same level index) ∙ none))
 
 pub present-returns-clause-out_for : goal.present-returns-clause-out_for
-present-returns-clause-out_for g t c =
-    on_ok c.read_in.result c.read_in.ensures.came
+present-returns-clause-out_for g t c = λ holds quiet.
+    let same = all_as c.args.self.now c.self.inside.root c.self.inside.nodes c.touch.new.self c.self.view_is c.if-touch.ensures.same in
+    let levels = levels_as c.args.self.now c.self.inside.root c.self.inside.nodes c.touch.new.self c.self.view_is c.if-touch.ensures.levels in
+    let touched =
+    climbs_touched g.T.Tagger.data_tag_of g.T.Tagger.node_tag_of c.args.level c.args.self.now (tree_of c.self.inside.root c.touch.new.self) (g.B.Bus.history c.args.bus.now) c.args.tags.now
+    levels (root_as c.args.self.now c.self.inside.root c.self.inside.nodes c.touch.new.self c.self.view_is) c.if-touch.ensures.nodes
+    (others_as c.args.self.now c.self.inside.root c.self.inside.nodes c.touch.new.self c.self.view_is c.args.level c.if-touch.ensures.others) same in
+    let room = c.in_ok-make_room.ensures.climbs in
+    let parent = c.in_ok-parent_present.ensures.climbs in
+    let going : None ≢ Some NoMemory = λ (e : None ≡ Some NoMemory). cc in
+    let holds_touched = touched.holds holds going in
+    let holds_room = room.holds holds_touched going in
+    let quiet_parent = was_none c.parent_present.new.tags.evidence c.read_in.new.tags.evidence c.read_in.ensures.climbs.moves.evidence quiet in
+    let quiet_room = was_none c.make_room.new.tags.evidence c.parent_present.new.tags.evidence parent.moves.evidence quiet_parent in
+    let unmade = unmade_before c.args.tags.now.made c.make_room.new.tags.made room.moves.more room.moves.made in
+    on_ok c.read_in.result (c.read_in.ensures.came (parent.holds holds_room going) quiet)
     (out_came c.args.level c.args.index c.args.self.now (tree_of c.self.inside.root c.touch.new.self) c.make_room.new.self c.parent_present.new.self c.read_in.new.self
     (g.B.Bus.history c.args.bus.now) (g.B.Bus.history c.make_room.new.bus) (g.B.Bus.history c.parent_present.new.bus) (g.B.Bus.history c.read_in.new.bus)
-    (all_as c.args.self.now c.self.inside.root c.self.inside.nodes c.touch.new.self c.self.view_is c.if-touch.ensures.same)
+    c.args.tags.now.made c.make_room.new.tags.made c.parent_present.new.tags.made c.requires.node levels (room.levels ∙ levels) same
     (not_held c.args.self.now c.self.inside.root c.self.inside.nodes c.args.level c.args.index c.self.view_is (c.if-touch.ensures.absent refl))
-    c.in_ok-make_room.ensures.climbs.moves.reads c.in_ok-parent_present.ensures.climbs.moves.reads c.read_in.ensures.climbs.moves.reads
-    c.in_ok-make_room.ensures.out_for c.in_ok-parent_present.ensures.out_for c.read_in.ensures.kept)
+    room.moves.reads parent.moves.reads c.read_in.ensures.climbs.moves.reads unmade
+    (λ other at none. unmade other at (unmade_before c.make_room.new.tags.made c.parent_present.new.tags.made parent.moves.more parent.moves.made other at none))
+    (c.in_ok-make_room.ensures.out_for holds_touched quiet_room) (c.in_ok-parent_present.ensures.out_for holds_room quiet_parent) c.read_in.ensures.kept)

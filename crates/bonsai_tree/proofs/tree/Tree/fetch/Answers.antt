@@ -1,4 +1,4 @@
-use Rattle.std.proofs.Common.{◌≡◌, ℕ, ◌+◌, ◌/◌, ◌≤◌, List, length, Option, Some, refl, ap, sym, ◌∙◌, subst, arith, rules}
+use Rattle.std.proofs.Common.{◌≡◌, ℕ, ◌+◌, ◌/◌, ◌≤◌, List, length, Option, Some, None, refl, ap, sym, ◌∙◌, subst, arith, rules}
 use Rattle.std.specs.Result.{result_err}
 use Rattle.sec_base.specs.Geometry.{IsNode}
 use Rattle.sec_base.specs.declared.evidence.Evidence.TheVariants.{Collision}
@@ -6,43 +6,30 @@ use Rattle.sec_base.specs.declared.message.Message.{Message}
 use Rattle.sec_base.specs.declared.place.Place.TheVariants.{Node as node_place}
 use Rattle.sec_base.specs.declared.stop.MemStop.{MemStop}
 use Rattle.sec_base.specs.declared.stop.MemStop.TheVariants.{NoMemory, Tampered}
-use Rattle.sec_base.proofs.Results.{stop_is}
+use Rattle.sec_base.proofs.Results.{stop_is, was_none}
 use Rattle.bus_model.specs.BusHistory.{BusHistory}
 use Rattle.tag_engine.specs.TagEngine.{TagEngineView, tags_of}
 use Rattle.checked_bus.specs.Accesses.{WritesMessages}
 use Rattle.checked_bus.specs.Steps.{unwritten_in}
 use Rattle.bonsai_tree.specs.Climb.{Climbs, NoNode, WritesUp}
 use Rattle.bonsai_tree.specs.Node.{level_blocks}
-use Rattle.bonsai_tree.specs.Tree.{WritesBack, path_accesses}
+use Rattle.bonsai_tree.specs.Tree.{EndsQuietly, WritesBack, path_accesses}
+use Rattle.bonsai_tree.proofs.Climbs.{unmade_before}
 use Rattle.bonsai_tree.proofs.Copies.{few_copies}
-use Rattle.bonsai_tree.proofs.Nodes.{NodeRead, node_found}
 use Rattle.bonsai_tree.proofs.OutFor.{out_kept, out_on}
-use Rattle.bonsai_tree.proofs.PathCalls.{climb_room, climb_writes, fetched, fetched_accepted, fetched_block, fetched_checked, fetched_found, fetched_pages, fetched_read, not_from_one, ok_of, page_node, path_more, read_most, stop_of_err}
+use Rattle.bonsai_tree.proofs.PathCalls.{climb_room, climb_writes, fetched, fetched_accepted, fetched_alone, fetched_block, fetched_by_tag, fetched_checked, fetched_found, fetched_pages, fetched_read, not_from_one, ok_of, page_node, path_more, stop_of_err}
 use Rattle.bonsai_tree.proofs.Views.{latest_cached}
-use Rattle.bonsai_tree.proofs.WrittenBack.{up_on, up_same}
+use Rattle.bonsai_tree.proofs.WrittenBack.{up_climbed, up_same}
 use Rattle.bonsai_tree.proofs.tree.Tree.fetch.Given.{Over}
 use Rattle.bonsai_tree.proofs.tree.Tree.fetch.Goals as goal
 
-own_node : (g : Over) (c : goal.After-read_node g) → IsNode c.args.self.now.levels 0 c.args.page
+own_node : (g : Over) (c : goal.After-read_kept g) → IsNode c.args.self.now.levels 0 c.args.page
 own_node g c = page_node c.args.self.now.levels c.args.page c.requires.page
 
--- the read of the page's own node
-own_read : (g : Over) (c : goal.After-read_node g) → NodeRead (tags_of g.T.Tagger.data_tag_of g.T.Tagger.node_tag_of) 0 c.args.page c.kept_tag-tag.result (g.B.Bus.history c.parent_present.new.bus) c.parent_present.new.tags (g.B.Bus.history c.read_node.new.bus) c.read_node.new.tags c.read_node.result
-own_read g c = record {
-  moves = c.read_node.ensures.moves;
-  once = c.read_node.ensures.once;
-  lines = c.read_node.ensures.lines;
-  honest = c.read_node.ensures.honest;
-  shown = c.read_node.ensures.shown;
-  found = node_found (tags_of g.T.Tagger.data_tag_of g.T.Tagger.node_tag_of c.parent_present.new.tags) 0 c.args.page c.kept_tag-tag.result (g.B.Bus.history c.parent_present.new.bus) (g.B.Bus.history c.read_node.new.bus) c.parent_present.new.tags c.read_node.new.tags c.read_node.result c.read_node.ensures.read;
-  tampered = c.read_node.ensures.tampered;
-  unspent = c.read_node.ensures.unspent;
-}
-
 -- the whole call
-whole : (g : Over) (c : goal.After-read_node g) → Climbs (tags_of g.T.Tagger.data_tag_of g.T.Tagger.node_tag_of) 0 c.args.self.now (g.B.Bus.history c.args.bus.now) c.args.tags.now c.parent_present.new.self (g.B.Bus.history c.read_node.new.bus) c.read_node.new.tags (result_err c.read_node.result)
+whole : (g : Over) (c : goal.After-read_kept g) → Climbs (tags_of g.T.Tagger.data_tag_of g.T.Tagger.node_tag_of) 0 c.args.self.now (g.B.Bus.history c.args.bus.now) c.args.tags.now c.parent_present.new.self (g.B.Bus.history c.read_kept.new.bus) c.read_kept.new.tags (result_err c.read_kept.result)
 whole g c =
-    fetched g.T.Tagger.data_tag_of g.T.Tagger.node_tag_of c.args.self.now c.parent_present.new.self c.args.page c.kept_tag-tag.result (g.B.Bus.history c.args.bus.now) (g.B.Bus.history c.parent_present.new.bus) (g.B.Bus.history c.read_node.new.bus) c.args.tags.now c.parent_present.new.tags c.read_node.new.tags c.read_node.result (own_node g c) c.in_ok-parent_present.ensures.climbs c.kept_tag-tag.ensures (own_read g c)
+    fetched g.T.Tagger.data_tag_of g.T.Tagger.node_tag_of c.args.self.now c.parent_present.new.self c.args.page c.kept_tag-tag.result (g.B.Bus.history c.args.bus.now) (g.B.Bus.history c.parent_present.new.bus) (g.B.Bus.history c.read_kept.new.bus) c.args.tags.now c.parent_present.new.tags c.read_kept.new.tags c.read_kept.result (own_node g c) c.in_ok-parent_present.ensures.climbs c.kept_tag-tag.ensures c.read_kept.ensures.read
 
 pub returns-in_err-parent_present-clause-accepted : goal.returns-in_err-parent_present-clause-accepted
 returns-in_err-parent_present-clause-accepted g c = λ made_at bytes tag quiet is.
@@ -66,7 +53,7 @@ returns-in_err-parent_present-clause-writes g c = λ more is.
 
 pub returns-clause-holds : goal.returns-clause-holds
 returns-clause-holds g c = λ holds memory.
-    (whole g c).holds holds (λ is. memory (stop_is c.read_node.result NoMemory is))
+    (whole g c).holds holds (λ is. memory (stop_is c.read_kept.result NoMemory is))
 
 pub returns-in_err-parent_present-clause-holds : goal.returns-in_err-parent_present-clause-holds
 returns-in_err-parent_present-clause-holds g c = λ holds memory.
@@ -75,11 +62,11 @@ returns-in_err-parent_present-clause-holds g c = λ holds memory.
 
 pub returns-clause-block : goal.returns-clause-block
 returns-clause-block g c =
-    fetched_block g.T.Tagger.data_tag_of g.T.Tagger.node_tag_of c.args.self.now c.parent_present.new.self c.args.page c.kept_tag-tag.result (g.B.Bus.history c.args.bus.now) (g.B.Bus.history c.parent_present.new.bus) (g.B.Bus.history c.read_node.new.bus) c.args.tags.now c.parent_present.new.tags c.read_node.new.tags c.read_node.result (own_node g c) c.in_ok-parent_present.ensures.climbs c.kept_tag-tag.ensures (own_read g c) c.read_node.ensures.known
+    fetched_block g.T.Tagger.data_tag_of g.T.Tagger.node_tag_of c.args.self.now c.parent_present.new.self c.args.page c.kept_tag-tag.result (g.B.Bus.history c.args.bus.now) (g.B.Bus.history c.parent_present.new.bus) (g.B.Bus.history c.read_kept.new.bus) c.args.tags.now c.parent_present.new.tags c.read_kept.new.tags c.read_kept.result (own_node g c) c.in_ok-parent_present.ensures.climbs c.kept_tag-tag.ensures c.read_kept.ensures.read
 
 pub returns-clause-pages : goal.returns-clause-pages
 returns-clause-pages g c =
-    fetched_pages g.T.Tagger.data_tag_of g.T.Tagger.node_tag_of c.args.self.now c.parent_present.new.self c.args.page c.kept_tag-tag.result (g.B.Bus.history c.args.bus.now) (g.B.Bus.history c.parent_present.new.bus) (g.B.Bus.history c.read_node.new.bus) c.args.tags.now c.parent_present.new.tags c.read_node.new.tags c.read_node.result (own_node g c) c.in_ok-parent_present.ensures.climbs c.kept_tag-tag.ensures (own_read g c)
+    fetched_pages g.T.Tagger.data_tag_of g.T.Tagger.node_tag_of c.args.self.now c.parent_present.new.self c.args.page c.kept_tag-tag.result (g.B.Bus.history c.args.bus.now) (g.B.Bus.history c.parent_present.new.bus) (g.B.Bus.history c.read_kept.new.bus) c.args.tags.now c.parent_present.new.tags c.read_kept.new.tags c.read_kept.result (own_node g c) c.in_ok-parent_present.ensures.climbs c.kept_tag-tag.ensures c.read_kept.ensures.read
 
 pub returns-clause-honest : goal.returns-clause-honest
 returns-clause-honest g c = λ used holds was.
@@ -87,11 +74,11 @@ returns-clause-honest g c = λ used holds was.
 
 pub returns-clause-accepted : goal.returns-clause-accepted
 returns-clause-accepted g c =
-    fetched_accepted g.T.Tagger.data_tag_of g.T.Tagger.node_tag_of c.args.self.now c.parent_present.new.self c.args.page c.kept_tag-tag.result (g.B.Bus.history c.args.bus.now) (g.B.Bus.history c.parent_present.new.bus) (g.B.Bus.history c.read_node.new.bus) c.args.tags.now c.parent_present.new.tags c.read_node.new.tags c.read_node.result (own_node g c) c.in_ok-parent_present.ensures.climbs c.kept_tag-tag.ensures (own_read g c) (λ made_at bytes under still is. (c.read_node.ensures.accepted 0 c.args.page made_at bytes under still is).3)
+    fetched_accepted g.T.Tagger.data_tag_of g.T.Tagger.node_tag_of c.args.self.now c.parent_present.new.self c.args.page c.kept_tag-tag.result (g.B.Bus.history c.args.bus.now) (g.B.Bus.history c.parent_present.new.bus) (g.B.Bus.history c.read_kept.new.bus) c.args.tags.now c.parent_present.new.tags c.read_kept.new.tags c.read_kept.result (own_node g c) c.in_ok-parent_present.ensures.climbs c.kept_tag-tag.ensures c.read_kept.ensures.read
 
 pub returns-clause-found : goal.returns-clause-found
 returns-clause-found g c =
-    fetched_found g.T.Tagger.data_tag_of g.T.Tagger.node_tag_of c.args.self.now c.parent_present.new.self c.args.page c.kept_tag-tag.result (g.B.Bus.history c.args.bus.now) (g.B.Bus.history c.parent_present.new.bus) (g.B.Bus.history c.read_node.new.bus) c.args.tags.now c.parent_present.new.tags c.read_node.new.tags c.read_node.result (own_node g c) c.in_ok-parent_present.ensures.climbs c.kept_tag-tag.ensures (own_read g c)
+    fetched_found g.T.Tagger.data_tag_of g.T.Tagger.node_tag_of c.args.self.now c.parent_present.new.self c.args.page c.kept_tag-tag.result (g.B.Bus.history c.args.bus.now) (g.B.Bus.history c.parent_present.new.bus) (g.B.Bus.history c.read_kept.new.bus) c.args.tags.now c.parent_present.new.tags c.read_kept.new.tags c.read_kept.result (own_node g c) c.in_ok-parent_present.ensures.climbs c.kept_tag-tag.ensures c.read_kept.ensures.read
 
 pub returns-clause-shown : goal.returns-clause-shown
 returns-clause-shown g c =
@@ -99,15 +86,15 @@ returns-clause-shown g c =
 
 pub returns-clause-tampered : goal.returns-clause-tampered
 returns-clause-tampered g c = λ place is holds quiet.
-    (whole g c).lied holds quiet place (stop_of_err c.read_node.result (Tampered place) is)
+    (whole g c).lied holds quiet place (stop_of_err c.read_kept.result (Tampered place) is)
 
 pub returns-clause-checked : goal.returns-clause-checked
 returns-clause-checked g c =
-    fetched_checked g.T.Tagger.data_tag_of g.T.Tagger.node_tag_of c.args.self.now c.parent_present.new.self c.args.page c.kept_tag-tag.result (g.B.Bus.history c.args.bus.now) (g.B.Bus.history c.parent_present.new.bus) (g.B.Bus.history c.read_node.new.bus) c.args.tags.now c.parent_present.new.tags c.read_node.new.tags c.read_node.result (own_node g c) c.in_ok-parent_present.ensures.climbs c.kept_tag-tag.ensures (own_read g c) c.read_node.ensures.read
+    fetched_checked g.T.Tagger.data_tag_of g.T.Tagger.node_tag_of c.args.self.now c.parent_present.new.self c.args.page c.kept_tag-tag.result (g.B.Bus.history c.args.bus.now) (g.B.Bus.history c.parent_present.new.bus) (g.B.Bus.history c.read_kept.new.bus) c.args.tags.now c.parent_present.new.tags c.read_kept.new.tags c.read_kept.result (own_node g c) c.in_ok-parent_present.ensures.climbs c.kept_tag-tag.ensures c.read_kept.ensures.read
 
 pub returns-clause-parent : goal.returns-clause-parent
 returns-clause-parent g c =
-    ok_of c.read_node.result (λ going.
+    ok_of c.read_kept.result (λ going.
     let inside : 1 ≤ c.parent_present.new.self.levels = omega (arith, c.in_ok-parent_present.ensures.climbs.levels, c.in_ok-parent_present.ensures.some) in
     latest_cached c.parent_present.new.self 1 (c.args.page / 4) c.in_ok-parent_present.ensures.nodes (omega arith) inside
     (c.in_ok-parent_present.ensures.latest c.in_ok-parent_present.ensures.some))
@@ -115,13 +102,14 @@ returns-clause-parent g c =
 pub returns-clause-read : goal.returns-clause-read
 returns-clause-read g c =
     let inside : 1 ≤ c.parent_present.new.self.levels = omega (arith, c.in_ok-parent_present.ensures.climbs.levels, c.in_ok-parent_present.ensures.some) in
-    ok_of c.read_node.result (λ going. fetched_read g.T.Tagger.data_tag_of g.T.Tagger.node_tag_of c.args.self.now c.parent_present.new.self c.args.page c.kept_tag-tag.result (g.B.Bus.history c.args.bus.now) (g.B.Bus.history c.parent_present.new.bus) (g.B.Bus.history c.read_node.new.bus) c.args.tags.now c.parent_present.new.tags c.read_node.new.tags c.read_node.result (own_node g c) c.in_ok-parent_present.ensures.climbs c.kept_tag-tag.ensures (own_read g c) going
+    λ holds quiet.
+    ok_of c.read_kept.result (λ going. fetched_read g.T.Tagger.data_tag_of g.T.Tagger.node_tag_of c.args.self.now c.parent_present.new.self c.args.page c.kept_tag-tag.result (g.B.Bus.history c.args.bus.now) (g.B.Bus.history c.parent_present.new.bus) (g.B.Bus.history c.read_kept.new.bus) c.args.tags.now c.parent_present.new.tags c.read_kept.new.tags c.read_kept.result (own_node g c) c.in_ok-parent_present.ensures.climbs c.kept_tag-tag.ensures c.read_kept.ensures.read holds quiet going
     (latest_cached c.parent_present.new.self 1 (c.args.page / 4) c.in_ok-parent_present.ensures.nodes (omega arith) inside
     (c.in_ok-parent_present.ensures.latest c.in_ok-parent_present.ensures.some)))
 
 pub returns-clause-once : goal.returns-clause-once
 returns-clause-once g c =
-    omega (arith, c.in_ok-parent_present.ensures.once, path_more c.args.self.now.levels, read_most (g.B.Bus.history c.parent_present.new.bus) (g.B.Bus.history c.read_node.new.bus) c.parent_present.new.tags c.read_node.new.tags (node_place 0 c.args.page) (result_err c.read_node.result) c.read_node.ensures.once)
+    omega (arith, c.in_ok-parent_present.ensures.once, path_more c.args.self.now.levels, c.read_kept.ensures.read.most)
 
 pub returns-clause-few_copies : goal.returns-clause-few_copies
 returns-clause-few_copies g c = λ level. few_copies c.parent_present.new.self.levels c.parent_present.new.self.caches level c.in_ok-parent_present.ensures.nodes
@@ -132,8 +120,8 @@ returns-clause-new_copies g c =
 
 pub returns-clause-room : goal.returns-clause-room
 returns-clause-room g c =
-    climb_room g.T.Tagger.data_tag_of g.T.Tagger.node_tag_of 0 (path_accesses c.args.self.now.levels) c.args.self.now c.parent_present.new.self (g.B.Bus.history c.args.bus.now) (g.B.Bus.history c.read_node.new.bus) c.args.tags.now c.read_node.new.tags (result_err c.read_node.result) (whole g c)
-    (omega (arith, c.in_ok-parent_present.ensures.few, path_more c.args.self.now.levels, ap length c.read_node.ensures.once.made))
+    climb_room g.T.Tagger.data_tag_of g.T.Tagger.node_tag_of 0 (path_accesses c.args.self.now.levels) c.args.self.now c.parent_present.new.self (g.B.Bus.history c.args.bus.now) (g.B.Bus.history c.read_kept.new.bus) c.args.tags.now c.read_kept.new.tags (result_err c.read_kept.result) (whole g c)
+    (omega (arith, c.in_ok-parent_present.ensures.few, path_more c.args.self.now.levels, ap length c.read_kept.ensures.read.made))
 
 pub returns-clause-slots : goal.returns-clause-slots
 returns-clause-slots g c =
@@ -141,14 +129,14 @@ returns-clause-slots g c =
 
 pub returns-clause-writes : goal.returns-clause-writes
 returns-clause-writes g c = λ more is.
-    climb_writes g.T.Tagger.data_tag_of g.T.Tagger.node_tag_of 0 c.args.self.now c.parent_present.new.self (g.B.Bus.history c.args.bus.now) (g.B.Bus.history c.read_node.new.bus) c.args.tags.now c.read_node.new.tags (result_err c.read_node.result) (whole g c) more is
+    climb_writes g.T.Tagger.data_tag_of g.T.Tagger.node_tag_of 0 c.args.self.now c.parent_present.new.self (g.B.Bus.history c.args.bus.now) (g.B.Bus.history c.read_kept.new.bus) c.args.tags.now c.read_kept.new.tags (result_err c.read_kept.result) (whole g c) more is
 
 pub returns-in_err-parent_present-clause-no_page : goal.returns-in_err-parent_present-clause-no_page
 returns-in_err-parent_present-clause-no_page g c = c.in_err-parent_present.ensures.climbs.blocks 0 (omega arith)
 
 pub returns-clause-no_page : goal.returns-clause-no_page
 returns-clause-no_page g c =
-    ap (λ (made : List Message). level_blocks 0 made) c.read_node.ensures.once.made ∙ c.in_ok-parent_present.ensures.climbs.blocks 0 (omega arith)
+    ap (λ (made : List Message). level_blocks 0 made) c.read_kept.ensures.read.made ∙ c.in_ok-parent_present.ensures.climbs.blocks 0 (omega arith)
 
 -- where the node above it has a copy
 pub returns-in_err-parent_present-clause-hit : goal.returns-in_err-parent_present-clause-hit
@@ -165,25 +153,26 @@ pub returns-clause-hit : goal.returns-clause-hit
 returns-clause-hit g c = λ held.
     let same : (g.B.Bus.history c.parent_present.new.bus).accesses ≡ (g.B.Bus.history c.args.bus.now).accesses =
     ap (λ (history : BusHistory). history.accesses) (c.in_ok-parent_present.ensures.hit held).0 in
-    omega (arith, same, read_most (g.B.Bus.history c.parent_present.new.bus) (g.B.Bus.history c.read_node.new.bus) c.parent_present.new.tags c.read_node.new.tags (node_place 0 c.args.page) (result_err c.read_node.result) c.read_node.ensures.once)
+    omega (arith, same, c.read_kept.ensures.read.most)
 
 pub returns-clause-hit_made : goal.returns-clause-hit_made
 returns-clause-hit_made g c = λ held.
-    c.read_node.ensures.once.made ∙ ap (λ (engine : TagEngineView g.row.T.Denot). engine.made) (c.in_ok-parent_present.ensures.hit held).1
+    c.read_kept.ensures.read.made ∙ ap (λ (engine : TagEngineView g.row.T.Denot). engine.made) (c.in_ok-parent_present.ensures.hit held).1
 
 pub returns-in_err-parent_present-clause-written_back : goal.returns-in_err-parent_present-clause-written_back
 returns-in_err-parent_present-clause-written_back g c =
     let why = c.in_err-parent_present.field-0.0 in
     let stop : result_err c.from_residual.result ≡ Some why = search rules in
-    subst (λ (s : Option MemStop). WritesBack 1 c.args.self.now (g.B.Bus.history c.args.bus.now) c.args.tags.now.made c.parent_present.new.self (g.B.Bus.history c.parent_present.new.bus) c.parent_present.new.tags.made s) (sym stop)
+    subst (λ (s : Option MemStop). WritesBack (EndsQuietly (tags_of g.T.Tagger.data_tag_of g.T.Tagger.node_tag_of) c.args.self.now (g.B.Bus.history c.args.bus.now) c.args.tags.now c.parent_present.new.tags) 1 c.args.self.now (g.B.Bus.history c.args.bus.now) c.args.tags.now.made c.parent_present.new.self (g.B.Bus.history c.parent_present.new.bus) c.parent_present.new.tags.made s) (sym stop)
     c.in_err-parent_present.ensures.back.back
 
 -- nodes over the whole call
-nodes_back : (g : Over) (c : goal.After-read_node g) → WritesUp 1 NoNode c.args.self.now (g.B.Bus.history c.args.bus.now) c.args.tags.now.made c.parent_present.new.self (g.B.Bus.history c.read_node.new.bus) c.read_node.new.tags.made (result_err c.read_node.result)
+nodes_back : (g : Over) (c : goal.After-read_kept g) → WritesUp (EndsQuietly (tags_of g.T.Tagger.data_tag_of g.T.Tagger.node_tag_of) c.args.self.now (g.B.Bus.history c.args.bus.now) c.args.tags.now c.read_kept.new.tags)
+    1 NoNode c.args.self.now (g.B.Bus.history c.args.bus.now) c.args.tags.now.made c.parent_present.new.self (g.B.Bus.history c.read_kept.new.bus) c.read_kept.new.tags.made (result_err c.read_kept.result)
 nodes_back g c =
-    up_on 1 NoNode c.args.self.now c.parent_present.new.self c.parent_present.new.self (g.B.Bus.history c.args.bus.now) (g.B.Bus.history c.parent_present.new.bus) (g.B.Bus.history c.read_node.new.bus) c.args.tags.now.made c.parent_present.new.tags.made c.read_node.new.tags.made (result_err c.read_node.result)
-    c.in_ok-parent_present.ensures.climbs.moves.reads c.read_node.ensures.moves.reads c.in_ok-parent_present.ensures.back
-    (up_same 1 NoNode c.parent_present.new.self c.parent_present.new.self (g.B.Bus.history c.parent_present.new.bus) (g.B.Bus.history c.read_node.new.bus) c.parent_present.new.tags.made c.read_node.new.tags.made (result_err c.read_node.result) c.read_node.ensures.moves.reads c.read_node.ensures.once.made (λ level index. refl))
+    up_climbed g.T.Tagger.data_tag_of g.T.Tagger.node_tag_of 1 1 NoNode c.args.self.now c.parent_present.new.self c.parent_present.new.self (g.B.Bus.history c.args.bus.now) (g.B.Bus.history c.parent_present.new.bus) (g.B.Bus.history c.read_kept.new.bus) c.args.tags.now c.parent_present.new.tags c.read_kept.new.tags (result_err c.read_kept.result)
+    c.in_ok-parent_present.ensures.climbs c.read_kept.ensures.read.moves c.in_ok-parent_present.ensures.back
+    (up_same _ 1 NoNode c.parent_present.new.self c.parent_present.new.self (g.B.Bus.history c.parent_present.new.bus) (g.B.Bus.history c.read_kept.new.bus) c.parent_present.new.tags.made c.read_kept.new.tags.made (result_err c.read_kept.result) c.read_kept.ensures.read.moves.reads c.read_kept.ensures.read.made (λ level index. refl))
 
 pub returns-clause-written_back : goal.returns-clause-written_back
 returns-clause-written_back g c = (nodes_back g c).back
@@ -203,13 +192,13 @@ pub kept_tag-tag-requires-clause-node : goal.kept_tag-tag-requires-clause-node
 kept_tag-tag-requires-clause-node g c =
     subst (λ (k : ℕ). IsNode k 0 c.args.page) (sym c.in_ok-parent_present.ensures.climbs.levels) (page_node c.args.self.now.levels c.args.page c.requires.page)
 
-pub read_node-requires-clause-place : goal.read_node-requires-clause-place
-read_node-requires-clause-place g c =
+pub read_kept-requires-clause-place : goal.read_kept-requires-clause-place
+read_kept-requires-clause-place g c =
     subst (λ (k : ℕ). IsNode k 0 c.args.page) (sym (c.in_ok-parent_present.ensures.climbs.moves.bus_levels ∙ c.requires.bus))
     (page_node c.args.self.now.levels c.args.page c.requires.page)
 
-pub read_node-requires-clause-node : goal.read_node-requires-clause-node
-read_node-requires-clause-node g c =
+pub read_kept-requires-clause-node : goal.read_kept-requires-clause-node
+read_kept-requires-clause-node g c =
     subst (λ (k : ℕ). IsNode k 0 c.args.page) (sym (c.in_ok-parent_present.ensures.climbs.moves.levels ∙ c.requires.engine))
     (page_node c.args.self.now.levels c.args.page c.requires.page)
 
@@ -218,8 +207,28 @@ returns-clause-lines g c = (whole g c).lines
 
 -- what copies go out for
 pub returns-clause-out_for : goal.returns-clause-out_for
-returns-clause-out_for g c =
-    ok_of c.read_node.result (λ going.
-    out_on c.args.self.now c.parent_present.new.self c.parent_present.new.self (g.B.Bus.history c.args.bus.now) (g.B.Bus.history c.parent_present.new.bus) (g.B.Bus.history c.read_node.new.bus)
-    c.in_ok-parent_present.ensures.climbs.moves.reads c.read_node.ensures.moves.reads c.in_ok-parent_present.ensures.out_for
-    (out_kept c.parent_present.new.self c.parent_present.new.self (g.B.Bus.history c.parent_present.new.bus) (g.B.Bus.history c.read_node.new.bus) (λ level index held. held)))
+returns-clause-out_for g c = λ holds quiet.
+    let climbs = c.in_ok-parent_present.ensures.climbs in
+    let still = was_none c.parent_present.new.tags.evidence c.read_kept.new.tags.evidence c.read_kept.ensures.read.moves.evidence quiet in
+    ok_of c.read_kept.result (λ going.
+    out_on c.args.self.now c.parent_present.new.self c.parent_present.new.self (g.B.Bus.history c.args.bus.now) (g.B.Bus.history c.parent_present.new.bus) (g.B.Bus.history c.read_kept.new.bus)
+    c.args.tags.now.made c.parent_present.new.tags.made climbs.levels climbs.moves.reads c.read_kept.ensures.read.moves.reads
+    (unmade_before c.args.tags.now.made c.parent_present.new.tags.made climbs.moves.more climbs.moves.made) (c.in_ok-parent_present.ensures.out_for holds still)
+    (out_kept c.parent_present.new.self c.parent_present.new.self (g.B.Bus.history c.parent_present.new.bus) (g.B.Bus.history c.read_kept.new.bus) c.parent_present.new.tags.made (λ level index held. held)))
+
+pub returns-clause-unread : goal.returns-clause-unread
+returns-clause-unread g c = (whole g c).unread
+
+pub returns-in_err-parent_present-clause-unread : goal.returns-in_err-parent_present-clause-unread
+returns-in_err-parent_present-clause-unread g c = c.in_err-parent_present.ensures.climbs.unread
+
+pub returns-clause-by_tag : goal.returns-clause-by_tag
+returns-clause-by_tag g c =
+    fetched_by_tag g.T.Tagger.data_tag_of g.T.Tagger.node_tag_of c.args.self.now c.parent_present.new.self c.args.page c.kept_tag-tag.result (g.B.Bus.history c.args.bus.now) (g.B.Bus.history c.parent_present.new.bus) (g.B.Bus.history c.read_kept.new.bus) c.args.tags.now c.parent_present.new.tags c.read_kept.new.tags c.read_kept.result (own_node g c) c.in_ok-parent_present.ensures.climbs c.kept_tag-tag.ensures c.read_kept.ensures.read
+
+pub returns-clause-alone : goal.returns-clause-alone
+returns-clause-alone g c =
+    fetched_alone g.T.Tagger.data_tag_of g.T.Tagger.node_tag_of c.args.self.now c.parent_present.new.self c.args.page c.kept_tag-tag.result (g.B.Bus.history c.args.bus.now) (g.B.Bus.history c.parent_present.new.bus) (g.B.Bus.history c.read_kept.new.bus) c.args.tags.now c.parent_present.new.tags c.read_kept.new.tags c.read_kept.result (own_node g c) c.in_ok-parent_present.ensures.climbs c.kept_tag-tag.ensures c.read_kept.ensures.read
+
+pub returns-in_err-parent_present-clause-alone : goal.returns-in_err-parent_present-clause-alone
+returns-in_err-parent_present-clause-alone g c = λ other apart. c.in_err-parent_present.ensures.climbs.reads 0 other (omega arith)

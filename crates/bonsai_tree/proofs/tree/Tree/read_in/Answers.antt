@@ -1,17 +1,18 @@
 use Rattle.std.proofs.Common.{◌≡◌, ◌+◌, ◌/◌, false, Option, Some, None, Ok, Err, refl, ap, sym, subst, arith, rules}
 use Rattle.std.specs.Option.{option_map}
 use Rattle.std.specs.Result.{result_err}
+use Rattle.sec_base.proofs.Results.{was_none}
 use Rattle.sec_base.specs.declared.stop.MemStop.{MemStop}
 use Rattle.sec_base.specs.declared.stop.MemStop.TheVariants.{NoMemory}
 use Rattle.tag_engine.specs.TagEngine.{tags_of}
 use Rattle.bonsai_tree.specs.Climb.{Climbs, NoNode, WritesUp}
 use Rattle.bonsai_tree.specs.NodeCache.{AreNodeCaches, copy_of}
-use Rattle.bonsai_tree.specs.Tree.{TreeView}
-use Rattle.bonsai_tree.proofs.Nodes.{node_found}
-use Rattle.bonsai_tree.proofs.NodeCalls.{climbs_put, climbs_read}
+use Rattle.bonsai_tree.specs.Tree.{EndsQuietly, HoldsTree, NodeCame, TreeView}
+use Rattle.bonsai_tree.proofs.NodeCalls.{climbs_put, climbs_read, kept_node}
 use Rattle.bonsai_tree.proofs.OutFor.{kept_at}
 use Rattle.bonsai_tree.proofs.Views.{latest_cached, levels_as, others_as, root_as, same_as, tree_of}
 use Rattle.bonsai_tree.proofs.WrittenBack.{up_put, up_same}
+use Rattle.bonsai_tree.proofs.tree.Tree.read_in.Given.{Over}
 use Rattle.bonsai_tree.proofs.tree.Tree.read_in.Goals as goal
 
 pub returns-in_err-block-clause-climbs : goal.returns-in_err-block-clause-climbs
@@ -19,40 +20,18 @@ returns-in_err-block-clause-climbs g c =
     let why = c.in_err-block.field-0.0 in
     let stop : result_err c.from_residual.result ≡ Some why = search rules in
     subst (λ (s : Option MemStop). Climbs (tags_of g.T.Tagger.data_tag_of g.T.Tagger.node_tag_of) c.args.level c.args.self.now
-    (g.B.Bus.history c.args.bus.now) c.args.tags.now c.args.self.now (g.B.Bus.history c.read_node.new.bus) c.read_node.new.tags s) (sym stop)
+    (g.B.Bus.history c.args.bus.now) c.args.tags.now c.args.self.now (g.B.Bus.history c.read_kept.new.bus) c.read_kept.new.tags s) (sym stop)
     (climbs_read g.T.Tagger.data_tag_of g.T.Tagger.node_tag_of c.args.self.now c.args.level c.args.index c.kept_tag-tag.result
-    (g.B.Bus.history c.args.bus.now) (g.B.Bus.history c.read_node.new.bus) c.args.tags.now c.read_node.new.tags (Err why) c.requires.node
-    (c.kept_tag-tag.ensures c.args.tags.now.made)
-    (record {
-      moves = c.in_err-block.ensures.moves;
-      once = c.in_err-block.ensures.once;
-      lines = c.in_err-block.ensures.lines;
-      honest = c.in_err-block.ensures.honest;
-      shown = c.in_err-block.ensures.shown;
-      found = node_found (tags_of g.T.Tagger.data_tag_of g.T.Tagger.node_tag_of c.args.tags.now) c.args.level c.args.index c.kept_tag-tag.result
-          (g.B.Bus.history c.args.bus.now) (g.B.Bus.history c.read_node.new.bus) c.args.tags.now c.read_node.new.tags c.read_node.result c.read_node.ensures.read;
-      tampered = c.in_err-block.ensures.tampered;
-      unspent = c.in_err-block.ensures.unspent;
-    }))
+    (g.B.Bus.history c.args.bus.now) (g.B.Bus.history c.read_kept.new.bus) c.args.tags.now c.read_kept.new.tags (Err why) c.requires.node
+    (c.kept_tag-tag.ensures c.args.tags.now.made) c.in_err-block.ensures.read)
 
 pub returns-clause-climbs : goal.returns-clause-climbs
 returns-clause-climbs g c =
     let are : AreNodeCaches c.args.self.now.levels c.args.self.now.caches =
     subst (λ (v : TreeView). AreNodeCaches v.levels v.caches) c.self.view_is c.self.invariant in
     climbs_put g.T.Tagger.data_tag_of g.T.Tagger.node_tag_of c.args.self.now c.args.level c.args.index c.kept_tag-tag.result
-    (g.B.Bus.history c.args.bus.now) (g.B.Bus.history c.read_node.new.bus) c.args.tags.now c.read_node.new.tags (Ok c.in_ok-block.block) c.requires.node
-    (c.kept_tag-tag.ensures c.args.tags.now.made)
-    (record {
-      moves = c.in_ok-block.ensures.moves;
-      once = c.in_ok-block.ensures.once;
-      lines = c.in_ok-block.ensures.lines;
-      honest = c.in_ok-block.ensures.honest;
-      shown = c.in_ok-block.ensures.shown;
-      found = node_found (tags_of g.T.Tagger.data_tag_of g.T.Tagger.node_tag_of c.args.tags.now) c.args.level c.args.index c.kept_tag-tag.result
-          (g.B.Bus.history c.args.bus.now) (g.B.Bus.history c.read_node.new.bus) c.args.tags.now c.read_node.new.tags c.read_node.result c.read_node.ensures.read;
-      tampered = c.in_ok-block.ensures.tampered;
-      unspent = c.in_ok-block.ensures.unspent;
-    })
+    (g.B.Bus.history c.args.bus.now) (g.B.Bus.history c.read_kept.new.bus) c.args.tags.now c.read_kept.new.tags (Ok c.in_ok-block.block) c.requires.node
+    (c.kept_tag-tag.ensures c.args.tags.now.made) c.in_ok-block.ensures.read
     (tree_of c.self.inside.root c.put.new.self) c.in_ok-block.block refl
     (levels_as c.args.self.now c.self.inside.root c.self.inside.nodes c.put.new.self c.self.view_is c.put.ensures.levels)
     (root_as c.args.self.now c.self.inside.root c.self.inside.nodes c.put.new.self c.self.view_is) c.put.ensures.nodes
@@ -61,24 +40,35 @@ returns-clause-climbs g c =
     (ap (λ o. option_map copy_of o) c.put.ensures.put)
     (same_as c.args.self.now c.self.inside.root c.self.inside.nodes c.put.new.self c.self.view_is c.args.level c.args.index c.put.ensures.same)
     (λ below. latest_cached c.args.self.now (c.args.level + 1) (c.args.index / 4) are (omega arith) (omega arith) (c.requires.parent below))
-    c.in_ok-block.ensures.known
+    c.in_ok-block.ensures.read.block
+
+-- it came, where the tree fits
+came_in : (g : Over) (c : goal.After-put g) → HoldsTree (tags_of g.T.Tagger.data_tag_of g.T.Tagger.node_tag_of) c.args.self.now (g.B.Bus.history c.args.bus.now) c.args.tags.now →
+    c.read_kept.new.tags.evidence ≡ None → NodeCame c.args.tags.now.made c.args.level c.args.index (g.B.Bus.history c.args.bus.now) (g.B.Bus.history c.read_kept.new.bus)
+came_in g c holds quiet =
+    c.in_ok-block.ensures.read.came
+    (kept_node g.T.Tagger.data_tag_of g.T.Tagger.node_tag_of c.args.self.now c.args.level c.args.index c.kept_tag-tag.result
+    (g.B.Bus.history c.args.bus.now) (g.B.Bus.history c.read_kept.new.bus) c.args.tags.now c.read_kept.new.tags (Ok c.in_ok-block.block) c.requires.node
+    (c.kept_tag-tag.ensures c.args.tags.now.made) c.in_ok-block.ensures.read holds
+    (was_none c.args.tags.now.evidence c.read_kept.new.tags.evidence c.in_ok-block.ensures.read.moves.evidence quiet))
+    (λ (e : None ≡ Some NoMemory). cc)
 
 pub returns-in_err-block-clause-back : goal.returns-in_err-block-clause-back
 returns-in_err-block-clause-back g c =
     let why = c.in_err-block.field-0.0 in
     let stop : result_err c.from_residual.result ≡ Some why = search rules in
-    subst (λ (s : Option MemStop). WritesUp c.args.level NoNode c.args.self.now (g.B.Bus.history c.args.bus.now) c.args.tags.now.made c.args.self.now (g.B.Bus.history c.read_node.new.bus) c.read_node.new.tags.made s) (sym stop)
-    (up_same c.args.level NoNode c.args.self.now c.args.self.now (g.B.Bus.history c.args.bus.now) (g.B.Bus.history c.read_node.new.bus) c.args.tags.now.made c.read_node.new.tags.made (Some why) c.in_err-block.ensures.moves.reads c.in_err-block.ensures.once.made (λ level index. refl))
+    subst (λ (s : Option MemStop). WritesUp (EndsQuietly (tags_of g.T.Tagger.data_tag_of g.T.Tagger.node_tag_of) c.args.self.now (g.B.Bus.history c.args.bus.now) c.args.tags.now c.read_kept.new.tags) c.args.level NoNode c.args.self.now (g.B.Bus.history c.args.bus.now) c.args.tags.now.made c.args.self.now (g.B.Bus.history c.read_kept.new.bus) c.read_kept.new.tags.made s) (sym stop)
+    (up_same _ c.args.level NoNode c.args.self.now c.args.self.now (g.B.Bus.history c.args.bus.now) (g.B.Bus.history c.read_kept.new.bus) c.args.tags.now.made c.read_kept.new.tags.made (Some why) c.in_err-block.ensures.read.moves.reads c.in_err-block.ensures.read.made (λ level index. refl))
 
 pub returns-clause-back : goal.returns-clause-back
 returns-clause-back g c =
-    up_put c.args.level NoNode c.args.level c.args.index c.in_ok-block.block c.args.self.now (tree_of c.self.inside.root c.put.new.self) (g.B.Bus.history c.args.bus.now) (g.B.Bus.history c.read_node.new.bus) c.args.tags.now.made c.read_node.new.tags.made None
-    c.in_ok-block.ensures.moves.reads c.in_ok-block.ensures.once.made (ap (λ o. option_map copy_of o) c.put.ensures.put)
+    up_put _ c.args.level NoNode c.args.level c.args.index c.in_ok-block.block c.args.self.now (tree_of c.self.inside.root c.put.new.self) (g.B.Bus.history c.args.bus.now) (g.B.Bus.history c.read_kept.new.bus) c.args.tags.now.made c.read_kept.new.tags.made None
+    c.in_ok-block.ensures.read.moves.reads c.in_ok-block.ensures.read.made (ap (λ o. option_map copy_of o) c.put.ensures.put)
     (same_as c.args.self.now c.self.inside.root c.self.inside.nodes c.put.new.self c.self.view_is c.args.level c.args.index c.put.ensures.same)
-    (c.in_ok-block.ensures.once.rose (λ (e : None ≡ Some NoMemory). cc))
+    (λ calm. came_in g c calm.0 calm.1)
 
 pub returns-clause-came : goal.returns-clause-came
-returns-clause-came g c = c.in_ok-block.ensures.once.rose (λ (e : None ≡ Some NoMemory). cc)
+returns-clause-came g c = came_in g c
 
 pub returns-clause-kept : goal.returns-clause-kept
 returns-clause-kept g c =

@@ -3,23 +3,25 @@ use Rattle.std.specs.Result.{result_err}
 use Rattle.sec_base.specs.Geometry.{IsNode}
 use Rattle.sec_base.specs.declared.message.Message.{Message}
 use Rattle.sec_base.specs.declared.message.Message.TheVariants.{Node}
+use Rattle.sec_base.specs.declared.place.Place.{Place}
+use Rattle.sec_base.specs.declared.place.Place.TheVariants.{Node as node_place}
 use Rattle.sec_base.specs.declared.stop.MemStop.{MemStop}
 use Rattle.sec_base.specs.declared.stop.MemStop.TheVariants.{Tampered, NoMemory}
-use Rattle.sec_base.proofs.Results.{stop_is, on_err}
+use Rattle.sec_base.proofs.Results.{stop_is, on_err, was_none}
 use Rattle.bus_model.specs.BusHistory.{BusHistory}
 use Rattle.tag_engine.specs.TagEngine.{TagEngineView, tags_of}
 use Rattle.checked_bus.specs.Accesses.{WritesMessages}
 use Rattle.checked_bus.specs.Steps.{IsAccounted, unwritten_in}
-use Rattle.bonsai_tree.specs.Climb.{Climbs, IsBlockOf, WritesUp}
+use Rattle.bonsai_tree.specs.Climb.{Climbs, IsBlockOf}
 use Rattle.bonsai_tree.specs.Node.{level_blocks}
-use Rattle.bonsai_tree.specs.Tree.{WritesBack, path_accesses}
-use Rattle.bonsai_tree.proofs.Climbs.{climbs_on, climbs_up}
+use Rattle.bonsai_tree.specs.Tree.{EndsQuietly, WritesBack, path_accesses}
+use Rattle.bonsai_tree.proofs.Climbs.{climbs_on, climbs_up, unmade_before}
 use Rattle.bonsai_tree.proofs.Copies.{few_copies}
 use Rattle.bonsai_tree.proofs.LevelBlocks.{blocks_after}
 use Rattle.bonsai_tree.proofs.OutFor.{out_kept, out_on}
 use Rattle.bonsai_tree.proofs.PathCalls.{climb_room, climb_writes, page_node, path_more, stop_of_err, updated_read}
 use Rattle.bonsai_tree.proofs.Views.{latest_cached}
-use Rattle.bonsai_tree.proofs.WrittenBack.{up_on}
+use Rattle.bonsai_tree.proofs.WrittenBack.{up_climbed}
 use Rattle.bonsai_tree.proofs.tree.Tree.update.Given.{Over}
 use Rattle.bonsai_tree.proofs.tree.Tree.update.Goals as goal
 
@@ -234,7 +236,7 @@ returns-clause-last_blocks g c = λ was remembered.
 pub returns-clause-read : goal.returns-clause-read
 returns-clause-read g c =
     let inside : 1 ≤ c.parent_present.new.self.levels = omega (arith, c.in_ok-parent_present.ensures.climbs.levels, c.in_ok-parent_present.ensures.some) in
-    updated_read g.T.Tagger.data_tag_of g.T.Tagger.node_tag_of c.args.self.now c.parent_present.new.self c.args.page (g.B.Bus.history c.args.bus.now) (g.B.Bus.history c.parent_present.new.bus) (g.B.Bus.history c.write_below.new.bus) c.args.tags.now c.parent_present.new.tags c.in_ok-parent_present.ensures.climbs c.in_ok-write_below.ensures.climbs.moves.reads
+    updated_read g.T.Tagger.data_tag_of g.T.Tagger.node_tag_of c.args.self.now c.parent_present.new.self c.args.page (g.B.Bus.history c.args.bus.now) (g.B.Bus.history c.parent_present.new.bus) (g.B.Bus.history c.write_below.new.bus) c.args.tags.now c.parent_present.new.tags c.write_below.new.tags c.in_ok-parent_present.ensures.climbs c.in_ok-write_below.ensures.climbs.moves.reads c.in_ok-write_below.ensures.quiet
     (latest_cached c.parent_present.new.self 1 (c.args.page / 4) c.in_ok-parent_present.ensures.nodes (omega arith) inside
     (c.in_ok-parent_present.ensures.latest c.in_ok-parent_present.ensures.some))
 
@@ -325,22 +327,22 @@ pub returns-in_err-parent_present-clause-written_back : goal.returns-in_err-pare
 returns-in_err-parent_present-clause-written_back g c =
     let why = c.in_err-parent_present.field-0.0 in
     let stop : result_err c.from_residual.result ≡ Some why = search rules in
-    subst (λ (s : Option MemStop). WritesBack 1 c.args.self.now (g.B.Bus.history c.args.bus.now) c.args.tags.now.made c.parent_present.new.self (g.B.Bus.history c.parent_present.new.bus) c.parent_present.new.tags.made s) (sym stop)
+    subst (λ (s : Option MemStop). WritesBack (EndsQuietly (tags_of g.T.Tagger.data_tag_of g.T.Tagger.node_tag_of) c.args.self.now (g.B.Bus.history c.args.bus.now) c.args.tags.now c.parent_present.new.tags) 1 c.args.self.now (g.B.Bus.history c.args.bus.now) c.args.tags.now.made c.parent_present.new.self (g.B.Bus.history c.parent_present.new.bus) c.parent_present.new.tags.made s) (sym stop)
     c.in_err-parent_present.ensures.back.back
 
 pub returns-in_err-write_below-clause-written_back : goal.returns-in_err-write_below-clause-written_back
 returns-in_err-write_below-clause-written_back g c =
     let stop : result_err c.from_residual-in_err-write_below.result ≡ Some NoMemory = search rules in
-    let nodes : WritesUp 1 (IsBlockOf 0 c.args.page c.args.block.now) c.args.self.now (g.B.Bus.history c.args.bus.now) c.args.tags.now.made c.write_below.new.self (g.B.Bus.history c.write_below.new.bus) c.write_below.new.tags.made (Some NoMemory) =
-    up_on 1 (IsBlockOf 0 c.args.page c.args.block.now) c.args.self.now c.parent_present.new.self c.write_below.new.self (g.B.Bus.history c.args.bus.now) (g.B.Bus.history c.parent_present.new.bus) (g.B.Bus.history c.write_below.new.bus) c.args.tags.now.made c.parent_present.new.tags.made c.write_below.new.tags.made (Some NoMemory)
-    c.in_ok-parent_present.ensures.climbs.moves.reads c.in_err-write_below.ensures.climbs.moves.reads c.in_ok-parent_present.ensures.back c.in_err-write_below.ensures.back in
-    subst (λ (s : Option MemStop). WritesBack 1 c.args.self.now (g.B.Bus.history c.args.bus.now) c.args.tags.now.made c.write_below.new.self (g.B.Bus.history c.write_below.new.bus) c.write_below.new.tags.made s) (sym stop) nodes.back
+    let nodes =
+    up_climbed g.T.Tagger.data_tag_of g.T.Tagger.node_tag_of 1 1 (IsBlockOf 0 c.args.page c.args.block.now) c.args.self.now c.parent_present.new.self c.write_below.new.self (g.B.Bus.history c.args.bus.now) (g.B.Bus.history c.parent_present.new.bus) (g.B.Bus.history c.write_below.new.bus) c.args.tags.now c.parent_present.new.tags c.write_below.new.tags (Some NoMemory)
+    c.in_ok-parent_present.ensures.climbs c.in_err-write_below.ensures.climbs.moves c.in_ok-parent_present.ensures.back c.in_err-write_below.ensures.back in
+    subst (λ (s : Option MemStop). WritesBack (EndsQuietly (tags_of g.T.Tagger.data_tag_of g.T.Tagger.node_tag_of) c.args.self.now (g.B.Bus.history c.args.bus.now) c.args.tags.now c.write_below.new.tags) 1 c.args.self.now (g.B.Bus.history c.args.bus.now) c.args.tags.now.made c.write_below.new.self (g.B.Bus.history c.write_below.new.bus) c.write_below.new.tags.made s) (sym stop) nodes.back
 
 pub returns-clause-written_back : goal.returns-clause-written_back
 returns-clause-written_back g c =
-    let nodes : WritesUp 1 (IsBlockOf 0 c.args.page c.args.block.now) c.args.self.now (g.B.Bus.history c.args.bus.now) c.args.tags.now.made c.write_below.new.self (g.B.Bus.history c.write_below.new.bus) c.write_below.new.tags.made None =
-    up_on 1 (IsBlockOf 0 c.args.page c.args.block.now) c.args.self.now c.parent_present.new.self c.write_below.new.self (g.B.Bus.history c.args.bus.now) (g.B.Bus.history c.parent_present.new.bus) (g.B.Bus.history c.write_below.new.bus) c.args.tags.now.made c.parent_present.new.tags.made c.write_below.new.tags.made None
-    c.in_ok-parent_present.ensures.climbs.moves.reads c.in_ok-write_below.ensures.climbs.moves.reads c.in_ok-parent_present.ensures.back c.in_ok-write_below.ensures.back in
+    let nodes =
+    up_climbed g.T.Tagger.data_tag_of g.T.Tagger.node_tag_of 1 1 (IsBlockOf 0 c.args.page c.args.block.now) c.args.self.now c.parent_present.new.self c.write_below.new.self (g.B.Bus.history c.args.bus.now) (g.B.Bus.history c.parent_present.new.bus) (g.B.Bus.history c.write_below.new.bus) c.args.tags.now c.parent_present.new.tags c.write_below.new.tags None
+    c.in_ok-parent_present.ensures.climbs c.in_ok-write_below.ensures.climbs.moves c.in_ok-parent_present.ensures.back c.in_ok-write_below.ensures.back in
     nodes.back
 
 pub returns-in_err-parent_present-clause-no_rise : goal.returns-in_err-parent_present-clause-no_rise
@@ -360,10 +362,34 @@ returns-in_err-parent_present-clause-last_blocks g c = λ was memory.
 -- what copies go out for
 pub returns-clause-out_for : goal.returns-clause-out_for
 returns-clause-out_for g c =
+    λ holds quiet.
+    let climbs = c.in_ok-parent_present.ensures.climbs in
+    let still = was_none c.parent_present.new.tags.evidence c.write_below.new.tags.evidence c.in_ok-write_below.ensures.climbs.moves.evidence quiet in
     out_on c.args.self.now c.parent_present.new.self c.write_below.new.self (g.B.Bus.history c.args.bus.now) (g.B.Bus.history c.parent_present.new.bus) (g.B.Bus.history c.write_below.new.bus)
-    c.in_ok-parent_present.ensures.climbs.moves.reads c.in_ok-write_below.ensures.climbs.moves.reads c.in_ok-parent_present.ensures.out_for
-    (out_kept c.parent_present.new.self c.write_below.new.self (g.B.Bus.history c.parent_present.new.bus) (g.B.Bus.history c.write_below.new.bus) c.in_ok-write_below.ensures.kept)
+    c.args.tags.now.made c.parent_present.new.tags.made climbs.levels climbs.moves.reads c.in_ok-write_below.ensures.climbs.moves.reads
+    (unmade_before c.args.tags.now.made c.parent_present.new.tags.made climbs.moves.more climbs.moves.made) (c.in_ok-parent_present.ensures.out_for holds still)
+    (out_kept c.parent_present.new.self c.write_below.new.self (g.B.Bus.history c.parent_present.new.bus) (g.B.Bus.history c.write_below.new.bus) c.parent_present.new.tags.made c.in_ok-write_below.ensures.kept)
 
 pub write_below-requires-clause-node : goal.write_below-requires-clause-node
 write_below-requires-clause-node g c =
     subst (λ (k : ℕ). IsNode k 0 c.args.page) (sym c.in_ok-parent_present.ensures.climbs.levels) (page_node c.args.self.now.levels c.args.page c.requires.page)
+
+pub returns-clause-unread : goal.returns-clause-unread
+returns-clause-unread g c = (whole g c).unread
+
+pub returns-in_err-write_below-clause-unread : goal.returns-in_err-write_below-clause-unread
+returns-in_err-write_below-clause-unread g c = (whole_refused g c).unread
+
+pub returns-in_err-parent_present-clause-unread : goal.returns-in_err-parent_present-clause-unread
+returns-in_err-parent_present-clause-unread g c = c.in_err-parent_present.ensures.climbs.unread
+
+pub returns-clause-no_block_read : goal.returns-clause-no_block_read
+returns-clause-no_block_read g c = λ other.
+    ap (λ (reads : Place → ℕ). reads (node_place 0 other)) c.in_ok-write_below.ensures.reads ∙ c.in_ok-parent_present.ensures.climbs.reads 0 other (omega arith)
+
+pub returns-in_err-write_below-clause-no_block_read : goal.returns-in_err-write_below-clause-no_block_read
+returns-in_err-write_below-clause-no_block_read g c = λ other.
+    ap (λ (reads : Place → ℕ). reads (node_place 0 other)) c.in_err-write_below.ensures.reads ∙ c.in_ok-parent_present.ensures.climbs.reads 0 other (omega arith)
+
+pub returns-in_err-parent_present-clause-no_block_read : goal.returns-in_err-parent_present-clause-no_block_read
+returns-in_err-parent_present-clause-no_block_read g c = λ other. c.in_err-parent_present.ensures.climbs.reads 0 other (omega arith)

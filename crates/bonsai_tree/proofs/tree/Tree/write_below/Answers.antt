@@ -3,11 +3,12 @@ use Rattle.std.specs.Option.{option_map}
 use Rattle.sec_base.specs.declared.stop.MemStop.{MemStop}
 use Rattle.sec_base.specs.declared.stop.MemStop.TheVariants.{NoMemory}
 use Rattle.sec_base.proofs.Results.{on_err}
+use Rattle.bus_model.specs.BusHistory.{BusHistory}
 use Rattle.tag_engine.specs.TagEngine.{TagEngineView, tags_of}
 use Rattle.bonsai_tree.specs.Climb.{Climbs, IsBlockOf, WritesUp}
 use Rattle.bonsai_tree.specs.Node.{CachedNode, with_tag}
 use Rattle.bonsai_tree.specs.NodeCache.{copy_of}
-use Rattle.bonsai_tree.specs.Tree.{cached_node, want_of}
+use Rattle.bonsai_tree.specs.Tree.{EndsQuietly, cached_node, want_of}
 use Rattle.bonsai_tree.proofs.Climbs.{climbs_refused}
 use Rattle.bonsai_tree.proofs.NodeCalls.{blocks_apart, climbs_wrote, held_copy, last_apart, made_one, no_rise_one, put_holds, put_slots, puts_held, writes_taken, written_apart}
 use Rattle.bonsai_tree.proofs.NodeWrites.{NodeWritten, own, written_not, written_once}
@@ -121,8 +122,8 @@ returns-clause-one_at_most g c = inr (returns-clause-made g c)
 pub returns-in_err-reserve-clause-back : goal.returns-in_err-reserve-clause-back
 returns-in_err-reserve-clause-back g c =
     let stop : want_of c.from_residual.result ≡ Some NoMemory = search rules in
-    subst (λ (s : Option MemStop). WritesUp (c.args.level + 1) (IsBlockOf c.args.level c.args.index c.args.block.now) c.args.self.now (g.B.Bus.history c.args.bus.now) c.args.tags.now.made c.args.self.now (g.B.Bus.history c.args.bus.now) c.reserve.new.self.made s) (sym stop)
-    (up_same (c.args.level + 1) (IsBlockOf c.args.level c.args.index c.args.block.now) c.args.self.now c.args.self.now (g.B.Bus.history c.args.bus.now) (g.B.Bus.history c.args.bus.now) c.args.tags.now.made c.reserve.new.self.made (Some NoMemory)
+    subst (λ (s : Option MemStop). WritesUp (EndsQuietly (tags_of g.T.Tagger.data_tag_of g.T.Tagger.node_tag_of) c.args.self.now (g.B.Bus.history c.args.bus.now) c.args.tags.now c.reserve.new.self) (c.args.level + 1) (IsBlockOf c.args.level c.args.index c.args.block.now) c.args.self.now (g.B.Bus.history c.args.bus.now) c.args.tags.now.made c.args.self.now (g.B.Bus.history c.args.bus.now) c.reserve.new.self.made s) (sym stop)
+    (up_same _ (c.args.level + 1) (IsBlockOf c.args.level c.args.index c.args.block.now) c.args.self.now c.args.self.now (g.B.Bus.history c.args.bus.now) (g.B.Bus.history c.args.bus.now) c.args.tags.now.made c.reserve.new.self.made (Some NoMemory)
     (λ place. omega arith) (ap (λ (e : TagEngineView g.row.T.Denot). e.made) c.in_err-reserve.ensures.refused) (λ level index. refl))
 
 pub returns-in_err-tag-clause-back : goal.returns-in_err-tag-clause-back
@@ -130,8 +131,8 @@ returns-in_err-tag-clause-back g c =
     let write : NodeWritten (tags_of g.T.Tagger.data_tag_of g.T.Tagger.node_tag_of) c.args.level c.args.index c.args.block.now (g.B.Bus.history c.args.bus.now) c.reserve.new.self (g.B.Bus.history c.write_node.new.bus) c.write_node.new.tags =
     record { made = c.in_err-tag.ensures.made; moves = c.in_err-tag.ensures.moves; lines = c.in_err-tag.ensures.lines; others = c.in_err-tag.ensures.others; honest = c.in_err-tag.ensures.honest } in
     let stop : want_of c.from_residual-in_err-tag.result ≡ Some NoMemory = search rules in
-    subst (λ (s : Option MemStop). WritesUp (c.args.level + 1) (IsBlockOf c.args.level c.args.index c.args.block.now) c.args.self.now (g.B.Bus.history c.args.bus.now) c.args.tags.now.made c.args.self.now (g.B.Bus.history c.write_node.new.bus) c.write_node.new.tags.made s) (sym stop)
-    (up_made c.args.level c.args.index c.args.block.now c.args.self.now c.args.self.now (g.B.Bus.history c.args.bus.now) (g.B.Bus.history c.write_node.new.bus) c.args.tags.now.made c.write_node.new.tags.made (Some NoMemory)
+    subst (λ (s : Option MemStop). WritesUp (EndsQuietly (tags_of g.T.Tagger.data_tag_of g.T.Tagger.node_tag_of) c.args.self.now (g.B.Bus.history c.args.bus.now) c.args.tags.now c.write_node.new.tags) (c.args.level + 1) (IsBlockOf c.args.level c.args.index c.args.block.now) c.args.self.now (g.B.Bus.history c.args.bus.now) c.args.tags.now.made c.args.self.now (g.B.Bus.history c.write_node.new.bus) c.write_node.new.tags.made s) (sym stop)
+    (up_made _ c.args.level c.args.index c.args.block.now c.args.self.now c.args.self.now (g.B.Bus.history c.args.bus.now) (g.B.Bus.history c.write_node.new.bus) c.args.tags.now.made c.write_node.new.tags.made (Some NoMemory)
     c.in_err-tag.ensures.moves.reads
     (made_one g.T.Tagger.data_tag_of g.T.Tagger.node_tag_of c.args.self.now c.args.self.now c.args.level c.args.index c.args.block.now [] (g.B.Bus.history c.args.bus.now) (g.B.Bus.history c.write_node.new.bus) c.args.tags.now c.reserve.new.self c.write_node.new.tags c.in_ok-reserve.ensures.taken write) (λ other at apart. refl) (λ other at held. held))
 
@@ -148,7 +149,7 @@ returns-clause-back g c =
       put = c.keep_tag.ensures.put found.0 found.1;
       same = λ other at apart. ap (option_map copy_of) (c.keep_tag.ensures.same other at apart);
     } in
-    up_made c.args.level c.args.index c.args.block.now c.args.self.now c.keep_tag.new.self (g.B.Bus.history c.args.bus.now) (g.B.Bus.history c.write_node.new.bus) c.args.tags.now.made c.write_node.new.tags.made None
+    up_made _ c.args.level c.args.index c.args.block.now c.args.self.now c.keep_tag.new.self (g.B.Bus.history c.args.bus.now) (g.B.Bus.history c.write_node.new.bus) c.args.tags.now.made c.write_node.new.tags.made None
     c.in_ok-tag.ensures.moves.reads (returns-clause-made g c) puts.same (puts_held c.args.self.now c.keep_tag.new.self c.args.level c.args.index c.in_ok-tag.tag puts)
 
 pub returns-clause-marked : goal.returns-clause-marked
@@ -164,3 +165,9 @@ returns-clause-kept g c =
     kept_at (c.args.level + 1) (c.args.index / 4) c.args.self.now c.keep_tag.new.self
     (record { block = with_tag (c.args.index % 4) c.in_ok-tag.tag found.0.block; changed = true })
     (c.keep_tag.ensures.put found.0 found.1) (λ other at apart. ap (option_map copy_of) (c.keep_tag.ensures.same other at apart))
+
+pub returns-clause-reads : goal.returns-clause-reads
+returns-clause-reads g c = c.in_ok-tag.ensures.once.reads
+
+pub returns-in_err-tag-clause-reads : goal.returns-in_err-tag-clause-reads
+returns-in_err-tag-clause-reads g c = ap (λ (history : BusHistory). history.reads) c.in_err-tag.ensures.err

@@ -1,0 +1,139 @@
+-- A node that is had by the tag that is kept of it.
+use Rattle.std.proofs.Common.{◌≡◌, ◌≢◌, ◌⊎◌, inl, inr, ℕ, ◌+◌, ◌≤◌, List, Option, Some, None, Result, Ok, Err, refl, ap, sym, ◌∙◌, arith}
+use Rattle.std.specs.Prelude.{IfOk}
+use Rattle.std.specs.Result.{result_err}
+use Rattle.sec_base.specs.Count.{Rose, more_by}
+use Rattle.sec_base.specs.LastMessage.{last_node}
+use Rattle.sec_base.specs.declared.counter.Counter.{Counter}
+use Rattle.sec_base.specs.declared.evidence.Evidence.TheVariants.{Collision}
+use Rattle.sec_base.specs.declared.message.Message.{Message}
+use Rattle.sec_base.specs.declared.message.Message.TheVariants.{Node}
+use Rattle.sec_base.specs.declared.place.Place.{Place}
+use Rattle.sec_base.specs.declared.place.Place.TheVariants.{Node as node_place}
+use Rattle.sec_base.specs.declared.stop.MemStop.{MemStop}
+use Rattle.sec_base.specs.declared.stop.MemStop.TheVariants.{Tampered, Spent, NoMemory}
+use Rattle.bus_model.specs.BusHistory.{BusHistory}
+use Rattle.tag_engine.specs.TagEngine.{TagEngineView, tags_of}
+use Rattle.tag_engine.proofs.Marks.{engine_tag_some}
+use Rattle.checked_bus.specs.Checks.{IsCheckedNode}
+use Rattle.checked_bus.specs.Steps.{IsAccounted, IsCurrentNode, Moves, ReadsOnce, SameLines, SamePlace}
+use Rattle.checked_bus.proofs.Steps.{counted_not, moves_not, same_lines_not}
+use Rattle.bonsai_tree.specs.KeptRead.{IsKeptNode, ReadsKept}
+use Rattle.bonsai_tree.specs.Node.{block_or_zeros, no_block, no_tag}
+use Rattle.bonsai_tree.proofs.Nodes.{node_found, same_or_not}
+
+-- a node that was never made is zeros, and nothing is done for it
+pub reads_none : {T : Type 0} (d n : T → List ℕ → List ℕ) (level index : ℕ) (tag : List ℕ) (history : BusHistory) (engine : TagEngineView T) → tag ≡ no_tag →
+    ReadsKept (tags_of d n) level index tag history engine history engine (Ok no_block)
+reads_none d n level index tag history engine none =
+    let unmade : IsKeptNode (tags_of d n engine) engine.made history.written level index tag → last_node level index engine.made ≡ None =
+    λ kept. elim kept [
+      | inl never ↦ never.1
+      | inr current ↦
+          absurd (engine_tag_some (d engine.tagger) (n engine.tagger) engine.levels (Node level index current.block) (sym current.tagged ∙ none))
+    ] in
+    record {
+      moves = moves_not history engine;
+      lines = same_lines_not history engine.made;
+      made = refl;
+      room = refl;
+      written = refl;
+      counted = counted_not history;
+      most = omega arith;
+      checked = inl (none, refl);
+      block = λ kept quiet. sym (ap (λ (last : Option (List ℕ)). block_or_zeros last) (unmade kept));
+      unasked = λ is. (refl, refl, refl);
+      asked = λ some going. absurd (some none);
+      alone = λ other at apart. refl;
+      came = λ kept going. inl (unmade kept);
+      unread = λ kept other at last. refl;
+      honest = λ used kept was. was;
+      shown = λ kept quiet some. absurd (some quiet);
+      found = λ evidence quiet is. absurd (cc);
+      accepted = λ made_at bytes under quiet is. absurd (cc);
+      tampered = λ place is. absurd (cc);
+      unspent = λ page is. absurd (cc);
+    }
+
+checked_by : {T : Type 0} (tag_of : Message → List ℕ) (level index : ℕ) (tag : List ℕ) (old new : BusHistory) (engine engine' : TagEngineView T)
+    (result : Result (List ℕ) MemStop) → IsCheckedNode tag_of level index tag old new engine engine' result →
+    IfOk result (λ block. ((tag ≡ no_tag) × (block ≡ no_block)) ⊎ (tag_of (Node level index block) ≡ tag))
+checked_by tag_of level index tag old new engine engine' (Ok block) passed =
+    inr (ap (λ (b : List ℕ). tag_of (Node level index b)) passed.given ∙ sym passed.tagged)
+checked_by tag_of level index tag old new engine engine' (Err stop) refused = tt
+
+last_by : (last : Option (List ℕ)) (result : Result (List ℕ) MemStop) → IfOk result (λ block. last ≡ Some block) →
+    IfOk result (λ block. block ≡ block_or_zeros last)
+last_by last (Ok block) is = sym (ap (λ (found : Option (List ℕ)). block_or_zeros found) is)
+last_by last (Err stop) is = tt
+
+-- one that was made is read and checked
+module _ {T : Type 0} (d n : T → List ℕ → List ℕ) (level index : ℕ) (tag : List ℕ) (old new : BusHistory) (engine engine' : TagEngineView T)
+    (result : Result (List ℕ) MemStop) (some : tag ≢ no_tag) (read : IsCheckedNode (tags_of d n engine) level index tag old new engine engine' result)
+    (moves : Moves old engine new engine') (once : ReadsOnce (node_place level index) old engine new engine' (result_err result))
+    (others : (other : Place) → other ≢ node_place level index → SamePlace other old engine.made new engine'.made)
+    (lines : SameLines old engine.made new engine'.made) where
+  is_current : IsKeptNode (tags_of d n engine) engine.made old.written level index tag →
+      IsCurrentNode (tags_of d n engine) engine.made old.written level index tag
+  is_current kept = elim kept [
+    | inl never ↦ absurd (some never.0)
+    | inr current ↦ current
+  ]
+
+  one_access : new.accesses ≤ old.accesses + 1
+  one_access = elim once.once [
+    | inl one ↦ omega (arith, one)
+    | inr refused ↦
+        let same : new.accesses ≡ old.accesses = ap (λ (t : BusHistory). t.accesses) (once.refused refused).0 in
+        omega (arith, same)
+  ]
+
+  unread_beside : (other at : ℕ) → ¬ ((other ≡ level) × (at ≡ index)) → new.reads (node_place other at) ≡ old.reads (node_place other at)
+  unread_beside other at apart =
+      (others (node_place other at) (λ (same : node_place other at ≡ node_place level index).
+      let level_same : other ≡ level = cc in let index_same : at ≡ index = cc in apart (level_same, index_same))).reads
+
+  others_unread : IsKeptNode (tags_of d n engine) engine.made old.written level index tag → (other at : ℕ) → last_node other at engine.made ≡ None →
+      new.reads (node_place other at) ≡ old.reads (node_place other at)
+  others_unread kept other at none = elim (same_or_not level index other at) [
+    | inl same ↦
+        let current = is_current kept in
+        let here : last_node other at engine.made ≡ Some current.block =
+        ap (λ (k : ℕ). last_node k at engine.made) same.0 ∙ ap (λ (i : ℕ). last_node level i engine.made) same.1 ∙ current.last in
+        absurd (cc)
+    | inr apart ↦ unread_beside other at apart
+  ]
+
+  pub reads_made : ((used : List (ℕ × Counter)) → (engine.evidence ≡ None → IsCurrentNode (tags_of d n engine) engine.made old.written level index tag) →
+      IsAccounted (tags_of d n engine) used engine.made old None engine.evidence →
+      IsAccounted (tags_of d n engine) used engine'.made new (result_err result) engine'.evidence) →
+      (IsCurrentNode (tags_of d n engine) engine.made old.written level index tag → engine'.evidence ≡ None →
+      IfOk result (λ block. last_node level index engine.made ≡ Some block)) →
+      ((at_level at made_at : ℕ) (bytes under : List ℕ) → engine.evidence ≡ None → engine'.evidence ≡ Some (Collision at_level at made_at bytes under) →
+      (at_level ≡ level) × (at ≡ index) × (under ≡ tag) × (result ≡ Ok bytes)) →
+      ((place : Place) → result ≡ Err (Tampered place) → (place ≡ node_place level index)
+      × (IsCurrentNode (tags_of d n engine) engine.made old.written level index tag → Rose old.lies new.lies)) →
+      (IsCurrentNode (tags_of d n engine) engine.made old.written level index tag → engine.evidence ≡ None → engine'.evidence ≢ None → Rose old.lies new.lies) →
+      ((page : ℕ) → result ≢ Err (Spent page)) → ReadsKept (tags_of d n) level index tag old engine new engine' result
+  reads_made honest known accepted tampered shown unspent = record {
+    moves = moves;
+    lines = lines;
+    made = once.made;
+    room = once.room;
+    written = once.written;
+    counted = once.counted;
+    most = one_access;
+    checked = checked_by (tags_of d n engine) level index tag old new engine engine' result read;
+    block = λ kept quiet. last_by (last_node level index engine.made) result (known (is_current kept) quiet);
+    unasked = λ none. absurd (some none);
+    asked = λ is going. once.rose going;
+    alone = unread_beside;
+    came = λ kept going. inr (once.rose going);
+    unread = others_unread;
+    honest = λ used kept was. honest used (λ quiet. is_current (kept quiet)) was;
+    shown = λ kept quiet some. shown (is_current kept) quiet some;
+    found = node_found (tags_of d n engine) level index tag old new engine engine' result read;
+    accepted = λ made_at bytes under quiet is. (accepted level index made_at bytes under quiet is).3;
+    tampered = λ place is. ((tampered place is).0, λ kept. (tampered place is).1 (is_current kept));
+    unspent = unspent;
+  }
