@@ -87,6 +87,17 @@ same_pages blocks blocks' page cache there same other listed = elim (cases_eq ot
 pub few_blocks : (levels : ℕ) (blocks : List (List Way)) → AreBlocks levels blocks → length (places blocks) ≤ most_blocks
 few_blocks levels blocks are = omega (arith, few_in block_sets 0 blocks are.cache.sets_are, are.cache.counted)
 
+some_inside : (levels page : ℕ) (found : Option Way) → ((way : Way) → found ≡ Some way → page < page_count levels) → IsSome found → page < page_count levels
+some_inside levels page None inside found = absurd (cc)
+some_inside levels page (Some way) inside found = inside way refl
+
+-- they are of the memory
+pub pages_inside : (levels levels' : ℕ) (blocks : List (List Way)) → levels ≡ levels' → AreBlocks levels blocks → (page : ℕ) → Contains (places blocks) page →
+    page < page_count levels'
+pages_inside levels levels' blocks same are page listed =
+    subst (λ (l : ℕ). page < page_count l) same
+    (some_inside levels page (way_at blocks page) (are.pages page) (found_at block_sets blocks page are.cache listed))
+
 -- where a page's own copy stays, and those of all others
 pub stays_all : (counters counters' : CountersView) (page : ℕ) →
     (Contains (cached_pages counters) page → cached_block counters' page ≡ cached_block counters page) →

@@ -1,20 +1,20 @@
 -- The counters that a page's current block spells.
-use Rattle.std.proofs.Common.{◌≡◌, ℕ, List, Option, Some, None, refl, ap, ◌∙◌}
+use Rattle.std.proofs.Common.{◌≡◌, ℕ, List, [], Option, Some, None, refl, ap}
 use Rattle.std.specs.Option.{option_map}
 use Rattle.sec_base.specs.declared.message.Message.{Message}
-use Rattle.sec_base.specs.LastMessage.{last_node}
+use Rattle.sec_base.specs.LastMessage.{last_at, last_node}
 use Rattle.cache_set.specs.declared.way.Way.{Way}
 use Rattle.cache_set.specs.Cache.{copy_at, way_at}
 use Rattle.split_counter.specs.Digits.{digits_of, number_of}
 use Rattle.split_counter.specs.CounterBlock.{block_of, new_block}
-use Rattle.bonsai_tree.specs.Node.{current_of, no_block, page_block}
+use Rattle.bonsai_tree.specs.Node.{current_of, page_block}
 use Rattle.bonsai_tree.specs.NodeCache.{copy_of}
 use Rattle.counter_cache.specs.Counters.{CountersView, counters_in}
 
--- blocks of zeros spell counters that are all 0
-pub zeros_are_new : (page : ℕ) (made : List Message) → page_block page made ≡ no_block → block_of (page_block page made) ≡ new_block
-unfolding block_of digits_of number_of
-zeros_are_new page made zeros = ap block_of zeros ∙ refl
+-- where nothing was made, all counters are 0
+pub none_are_new : (page : ℕ) → block_of (page_block page []) ≡ new_block
+unfolding block_of digits_of number_of last_at
+none_are_new page = refl
 
 copy_is_current : (found : Option Way) (last : Option (List ℕ)) (bytes : List ℕ) → option_map (λ way. way.copy) found ≡ Some bytes →
     current_of (option_map copy_of found) last ≡ bytes

@@ -4,17 +4,16 @@ use Rattle.sec_base.specs.Evidence.{evidence_place}
 use Rattle.sec_base.specs.declared.evidence.Evidence.{Evidence}
 use Rattle.sec_base.specs.declared.evidence.Evidence.TheVariants.{Collision}
 use Rattle.sec_base.specs.declared.message.Message.{Message}
-use Rattle.sec_base.specs.declared.message.Message.TheVariants.{Node}
 use Rattle.sec_base.specs.declared.place.Place.TheVariants.{Node as node_place}
 use Rattle.sec_base.proofs.Results.{some_or_none}
 use Rattle.bonsai_tree.specs.Node.{CachedNode}
-use Rattle.bonsai_tree.specs.Tree.{TreeView, IsNodeFrom, kept_tag}
+use Rattle.bonsai_tree.specs.Tree.{TreeView, IsKept, IsNodeFrom}
 use Rattle.bonsai_tree.proofs.PathCalls.{not_from_one}
 use Rattle.counter_cache.specs.Counters.{CountersView, IsCopyOrTagged, IsHad, cached_block}
 
 -- a block that was fetched
 pub had_tagged : (tag_of : Message → List ℕ) (counters counters' : CountersView) (made' : List Message) (page : ℕ) (before after : Option Evidence) (bytes : List ℕ) →
-    cached_block counters page ≡ None → tag_of (Node 0 page bytes) ≡ kept_tag counters'.tree made' 0 page →
+    cached_block counters page ≡ None → IsKept tag_of counters'.tree made' 0 page bytes →
     (before ≡ None → (made_at : ℕ) (shown tag : List ℕ) → after ≡ Some (Collision 0 page made_at shown tag) → bytes ≡ shown) →
     IsHad tag_of counters counters' made' page before after bytes
 had_tagged tag_of counters counters' made' page before after bytes none tagged accepted = record {

@@ -1,10 +1,10 @@
 -- Calls that have a block on the chip, one after another, and how they are made of calls of the tree and of changes of copies.
-use Rattle.std.proofs.Common.{◌≡◌, ◌≢◌, ◌⊎◌, inl, inr, ℕ, ◌+◌, ◌-◌, ◌/◌, ◌^◌, ◌≤◌, true, false, List, ◌++◌, length, Option, Some, None, refl, ap, sym, ◌∙◌, subst, arith, length-append}
+use Rattle.std.proofs.Common.{◌≡◌, ◌≢◌, ◌⊎◌, inl, inr, ℕ, ◌+◌, ◌/◌, ◌^◌, ◌≤◌, true, false, List, ◌++◌, length, Option, Some, None, refl, ap, sym, ◌∙◌, subst, arith, length-append}
 use Rattle.std.specs.List.{Contains}
 use Rattle.std.proofs.lemmas.Bool.{cases_eq}
 use Rattle.sec_base.specs.Count.{Rose, RoseBy}
 use Rattle.sec_base.specs.Evidence.{evidence_place}
-use Rattle.sec_base.specs.LastMessage.{last_node, node_part}
+use Rattle.sec_base.specs.LastMessage.{last_node}
 use Rattle.sec_base.specs.declared.counter.Counter.{Counter}
 use Rattle.sec_base.specs.declared.evidence.Evidence.{Evidence}
 use Rattle.sec_base.specs.declared.message.Message.{Message}
@@ -12,7 +12,6 @@ use Rattle.sec_base.specs.declared.place.Place.{Place}
 use Rattle.sec_base.specs.declared.place.Place.TheVariants.{Node as node_place}
 use Rattle.sec_base.specs.declared.stop.MemStop.{MemStop}
 use Rattle.sec_base.specs.declared.stop.MemStop.TheVariants.{Tampered, Spent, NoMemory}
-use Rattle.sec_base.proofs.LastMessages.{none_front}
 use Rattle.sec_base.proofs.Results.{was_none, some_or_none}
 use Rattle.bus_model.specs.BusHistory.{BusHistory}
 use Rattle.tag_engine.specs.TagEngine.{TagEngineView, tags_of}
@@ -22,8 +21,8 @@ use Rattle.checked_bus.proofs.Steps.{moves_not, moves_on, same_lines_not, same_l
 use Rattle.checked_bus.proofs.Writes.{writes_on}
 use Rattle.split_counter.specs.CounterBlock.{block_of}
 use Rattle.bonsai_tree.specs.Node.{CachedNode, block_or_zeros, current_of, page_block}
-use Rattle.bonsai_tree.specs.Tree.{HoldsTree, IsFetchPlace, IsNodeFrom, NodesAreMade, NodesHoldLast, PathWasRead, SlotsAreTags, TreeView, WasReadUp, above, cached_node}
-use Rattle.bonsai_tree.proofs.Climbs.{above_on, find_copy, read_up_held, read_up_on, unchanged_writes}
+use Rattle.bonsai_tree.specs.Tree.{HoldsTree, IsFetchPlace, IsNodeFrom, NodeCame, NodesAreMade, NodesHoldLast, PathWasRead, SlotsAreTags, TreeView, UnmadeAreUnread, WasReadUp, above, cached_node}
+use Rattle.bonsai_tree.proofs.Climbs.{came_after, came_before, read_up_held, read_up_on, unchanged_writes, unmade_before}
 use Rattle.bonsai_tree.proofs.Nodes.{same_tags, some_not_none}
 use Rattle.bonsai_tree.proofs.PathCalls.{not_from_one}
 use Rattle.counter_cache.specs.Counters.{AreBlocks, CameFrom, CountersView, HasFewNodes, HoldsCounters, SameCounters, cached_block, cached_pages, counters_in, current_page}
@@ -52,7 +51,9 @@ pub record TreeCall {T : Type 0} (tags : TagEngineView T → Message → List �
   pub last_blocks : stop ≢ Some NoMemory → NodesHoldLast tree.levels engine.made old.written → NodesHoldLast tree.levels engine'.made new.written
   pub slots : HoldsTree tags tree old engine → engine'.evidence ≡ None → SlotsAreTags (tags engine) tree.levels engine.made →
       SlotsAreTags (tags engine) tree.levels engine'.made
-  pub read : (level index : ℕ) → cached_node tree' level index ≢ None → WasReadUp tree level index old new
+  pub read : HoldsTree tags tree old engine → engine'.evidence ≡ None → (level index : ℕ) → cached_node tree' level index ≢ None →
+      WasReadUp tree engine.made level index old new
+  pub unread : HoldsTree tags tree old engine → engine'.evidence ≡ None → UnmadeAreUnread old engine'.made new
 
 -- the page has no copy that was changed
 abbrev pub IsUnchanged : CountersView → ℕ → Type 0
@@ -68,21 +69,6 @@ current_same (Some copy) last last' same = refl
 
 none_unchanged : (found : Option CachedNode) → found ≡ None → (copy : CachedNode) → found ≡ Some copy → copy.changed ≡ false
 none_unchanged found none copy some = absurd (cc)
-
-came_before : (made : List Message) (first second third : BusHistory) (page : ℕ) → ((place : Place) → RoseBy 0 (second.reads place) (third.reads place)) →
-    CameFrom made first second page → CameFrom made first third page
-came_before made first second third page stays (inl none) = inl none
-came_before made first second third page stays (inr rose) = inr (omega (arith, rose, stays (node_place 0 page)))
-
-came_after : (made made' : List Message) (first second third : BusHistory) (page : ℕ) → ((place : Place) → RoseBy 0 (first.reads place) (second.reads place)) →
-    (last_node 0 page made' ≡ None → last_node 0 page made ≡ None) → CameFrom made' second third page → CameFrom made first third page
-came_after made made' first second third page before unmade (inl none) = inl (unmade none)
-came_after made made' first second third page before unmade (inr rose) = inr (omega (arith, rose, before (node_place 0 page)))
-
-pub unmade_before : (made made' more : List Message) → made' ≡ made ++ more → (level index : ℕ) → last_node level index made' ≡ None →
-    last_node level index made ≡ None
-unmade_before made made' more is level index none =
-    none_front (node_part level index) made more (subst (λ (m : List Message). last_node level index m ≡ None) is none)
 
 held_before : (found before : Option CachedNode) → found ≢ None → ((copy : CachedNode) → found ≡ Some copy → before ≡ Some copy) → before ≢ None
 held_before None before held fewer = absurd (held refl)
@@ -115,8 +101,9 @@ module _ {T : Type 0} (d n : T → List ℕ → List ℕ) (Where : Place → Typ
     made_blocks = λ was. was;
     last_blocks = λ remembered was. was;
     slots = λ holds quiet tagged. tagged;
-    read = λ level index held. read_up_held counters.tree level index history history held;
-    copied = λ page held. inl held;
+    read = λ holds quiet level index held. read_up_held counters.tree engine.made level index history history held;
+    unread = λ holds quiet level index none. refl;
+    copied = λ holds quiet page held. inl held;
   }
 
   -- one call after another
@@ -195,17 +182,25 @@ module _ {T : Type 0} (d n : T → List ℕ → List ℕ) (Where : Place → Typ
             (more.slots (has.holds holds going) quiet
             (subst (λ (k : ℕ). SlotsAreTags (tags_of d n engine') k engine'.made) (sym has.levels)
             (subst (λ (t : Message → List ℕ). SlotsAreTags t counters.tree.levels engine'.made) (sym tags) (has.slots holds still tagged)))));
-        read = λ level index held.
-            read_up_on counters.tree mid.tree level index first second third has.levels has.moves.reads more.moves.reads has.read (more.read level index held);
-        copied = λ page held.
-            elim (more.copied page held) [
-              | inl was ↦ elim (has.copied page was) [
+        read = λ holds quiet level index held.
+            let still : engine'.evidence ≡ None = was_none engine'.evidence engine''.evidence more.moves.evidence quiet in
+            read_up_on counters.tree mid.tree engine.made engine'.made level index first second third has.levels has.moves.reads more.moves.reads
+            (unmade_before engine.made engine'.made has.moves.more has.moves.made) (has.read holds still)
+            (more.read (has.holds holds going) quiet level index held);
+        unread = λ holds quiet level index none.
+            let still : engine'.evidence ≡ None = was_none engine'.evidence engine''.evidence more.moves.evidence quiet in
+            more.unread (has.holds holds going) quiet level index none
+            ∙ has.unread holds still level index (unmade_before engine'.made engine''.made more.moves.more more.moves.made level index none);
+        copied = λ holds quiet page held.
+            let still : engine'.evidence ≡ None = was_none engine'.evidence engine''.evidence more.moves.evidence quiet in
+            elim (more.copied (has.holds holds going) quiet page held) [
+              | inl was ↦ elim (has.copied holds still page was) [
                 | inl before ↦ inl before
-                | inr came ↦ inr (came.0, came_before engine.made first second third page more.moves.reads came.1)
+                | inr came ↦ inr (came.0, came_before engine.made 0 page first second third more.moves.reads came.1)
               ]
               | inr came ↦ inr (
                 came.0,
-                came_after engine.made engine'.made first second third page has.moves.reads
+                came_after engine.made engine'.made 0 page first second third has.moves.reads
                     (unmade_before engine.made engine'.made has.moves.more has.moves.made 0 page) came.1,
               )
             ];
@@ -244,8 +239,9 @@ module _ {T : Type 0} (d n : T → List ℕ → List ℕ) (Where : Place → Typ
     made_blocks = call.made_blocks;
     last_blocks = call.last_blocks;
     slots = λ holds. call.slots holds.tree;
-    read = call.read;
-    copied = λ page held. inl held;
+    read = λ holds. call.read holds.tree;
+    unread = λ holds. call.unread holds.tree;
+    copied = λ holds quiet page held. inl held;
   }
 
   -- a change of copies alone
@@ -277,9 +273,10 @@ module _ {T : Type 0} (d n : T → List ℕ → List ℕ) (Where : Place → Typ
     made_blocks = λ was. was;
     last_blocks = λ remembered was. was;
     slots = λ holds quiet tagged. tagged;
-    read = λ level index held.
-        read_up_held counters.tree level index history history (subst (λ (t : TreeView). cached_node t level index ≢ None) tree held);
-    copied = λ page held. inl (held_before (cached_block counters' page) (cached_block counters page) held (fewer page));
+    read = λ holds quiet level index held.
+        read_up_held counters.tree engine.made level index history history (subst (λ (t : TreeView). cached_node t level index ≢ None) tree held);
+    unread = λ holds quiet level index none. refl;
+    copied = λ holds quiet page held. inl (held_before (cached_block counters' page) (cached_block counters page) held (fewer page));
   }
 
   -- all copies are the same
@@ -317,7 +314,8 @@ module _ {T : Type 0} (d n : T → List ℕ → List ℕ) (Where : Place → Typ
       (call : TreeCall (tags_of d n) Where counters.tree old engine tree' new engine' None)
       (pages : (other : ℕ) → last_node 0 other engine'.made ≡ last_node 0 other engine.made)
       (known : HoldsTree (tags_of d n) counters.tree old engine → engine'.evidence ≡ None → block ≡ page_block page engine.made)
-      (own : Where (node_place 0 page)) (came : CameFrom engine.made old new page)
+      (own : Where (node_place 0 page))
+      (came : HoldsTree (tags_of d n) counters.tree old engine → engine'.evidence ≡ None → CameFrom engine.made old new page)
       (tree_is : counters'.tree ≡ tree') (are : AreBlocks tree'.levels counters'.blocks) (absent : cached_block counters page ≡ None)
       (put : cached_block counters' page ≡ Some (record { block = block; changed = false }))
       (same : (other : ℕ) → other ≢ page → cached_block counters' other ≡ cached_block counters other) where
@@ -371,10 +369,12 @@ module _ {T : Type 0} (d n : T → List ℕ → List ℕ) (Where : Place → Typ
       made_blocks = before.made_blocks;
       last_blocks = before.last_blocks;
       slots = before.slots;
-      read = λ level index held. call.read level index (subst (λ (t : TreeView). cached_node t level index ≢ None) tree_is held);
-      copied = λ other held. elim (cases_eq other page) [
+      read = λ holds quiet level index held.
+          call.read holds.tree quiet level index (subst (λ (t : TreeView). cached_node t level index ≢ None) tree_is held);
+      unread = before.unread;
+      copied = λ holds quiet other held. elim (cases_eq other page) [
         | inr apart ↦ inl (λ none. held (same other apart ∙ none))
-        | inl here ↦ inr (subst (λ (p : ℕ). Where (node_place 0 p) × CameFrom engine.made old new p) (sym here) (own, came))
+        | inl here ↦ inr (subst (λ (p : ℕ). Where (node_place 0 p) × CameFrom engine.made old new p) (sym here) (own, came holds.tree quiet))
       ];
     }
 
@@ -418,7 +418,8 @@ has_as d n Some_of All_of counters counters' old new engine engine' stop wider h
   last_blocks = has.last_blocks;
   slots = has.slots;
   read = has.read;
-  copied = λ page held. elim (has.copied page held) [
+  unread = has.unread;
+  copied = λ holds quiet page held. elim (has.copied holds quiet page held) [
     | inl before ↦ inl before
     | inr came ↦ inr (wider (node_place 0 page) came.0, came.1)
   ];
@@ -447,54 +448,47 @@ module _ {T : Type 0} (d n : T → List ℕ → List ℕ) (page : ℕ) (counters
       subst (λ (k : ℕ). WritesMessages old new k (unwritten_in stop)) same has.writes
 
   -- the pages that have a copy
-  pub has_pages : AreBlocks counters'.tree.levels counters'.blocks → (other : ℕ) → Contains (cached_pages counters') other →
+  pub has_pages : AreBlocks counters'.tree.levels counters'.blocks → HoldsCounters (tags_of d n) counters old engine →
+      engine'.evidence ≡ None → (other : ℕ) → Contains (cached_pages counters') other →
       Contains (cached_pages counters) other ⊎ ((other ≡ page) × CameFrom engine.made old new page)
-  has_pages are other cached = elim (has.copied other (cached_held counters' other are.cache cached)) [
+  has_pages are holds quiet other cached = elim (has.copied holds quiet other (cached_held counters' other are.cache cached)) [
     | inl held ↦ inl (held_cached counters other held)
     | inr came ↦
         let is : other ≡ page = fetched_page counters.tree.levels page other came.0 in
         inr (is, subst (λ (p : ℕ). CameFrom engine.made old new p) is came.1)
   ]
 
-zero_more : (lower : ℕ) → lower ≡ 0 + lower
+zero_more : (lower : ℕ) → 0 + lower ≡ lower
 zero_more lower = omega arith
 
--- The path of a page was read, also where a call came between that brought nodes in
+-- The path of a page is what is read up from its own node.
+path_up : (tree : TreeView) (made : List Message) (page : ℕ) (old new : BusHistory) → PathWasRead tree made 0 page old new →
+    WasReadUp tree made 0 page old new
+path_up tree made page old new path = record {
+  rose = λ more inside none.
+      subst (λ (k : ℕ). NodeCame made k (above tree.levels page more) old new) (sym (zero_more more))
+      (path.rose more (omega arith) (omega (arith, inside))
+      (λ lower from_zero few. ap (λ (k : ℕ). cached_node tree k (above tree.levels page lower)) (sym (zero_more lower)) ∙ none lower few));
+}
+
+up_path : (tree : TreeView) (made : List Message) (page : ℕ) (old new : BusHistory) → WasReadUp tree made 0 page old new →
+    PathWasRead tree made 0 page old new
+up_path tree made page old new up = record {
+  rose = λ level low high none.
+      subst (λ (k : ℕ). NodeCame made k (above tree.levels page level) old new) (zero_more level)
+      (up.rose level (omega (arith, high))
+      (λ lower few. ap (λ (k : ℕ). cached_node tree k (above tree.levels page lower)) (zero_more lower) ∙ none lower (omega arith) few));
+}
+
+-- it was read, also where a call came between that brought nodes in
 pub path_on : (tree mid : TreeView) (page : ℕ) (made made' : List Message) (first second third : BusHistory) → mid.levels ≡ tree.levels →
     ((place : Place) → RoseBy 0 (first.reads place) (second.reads place)) → ((place : Place) → RoseBy 0 (second.reads place) (third.reads place)) →
-    ((level index : ℕ) → cached_node mid level index ≢ None → WasReadUp tree level index first second) →
+    ((level index : ℕ) → cached_node mid level index ≢ None → WasReadUp tree made level index first second) →
     ((level index : ℕ) → last_node level index made' ≡ None → last_node level index made ≡ None) →
     PathWasRead mid made' 0 page second third → PathWasRead tree made 0 page first third
-path_on tree mid page made made' first second third levels before after read unmade path = record {
-  rose = λ level low high none.
-      let level_is : 0 + level ≡ level = omega arith in
-      elim (find_copy mid 0 page level) [
-        | inl none_mid ↦ elim (path.rose level (omega arith) (omega (arith, levels, high))
-            (λ lower from_zero few. ap (λ (k : ℕ). cached_node mid k (above mid.levels page lower)) (zero_more lower) ∙ none_mid lower few)) [
-              | inl none_made ↦ inl (unmade level (page / 4 ^ level) none_made)
-              | inr rose ↦ inr (omega (arith, rose, before (node_place level (page / 4 ^ level))))
-            ]
-        | inr found ↦
-            let up : WasReadUp tree (0 + found.lower) (page / 4 ^ found.lower) first second = read (0 + found.lower) (page / 4 ^ found.lower) found.copied in
-            let back : found.lower + (level - found.lower) ≡ level = omega (arith, found.within) in
-            let here : 0 + found.lower + (level - found.lower) ≡ level = omega (arith, found.within) in
-            let index_is : page / 4 ^ found.lower / 4 ^ (level - found.lower) ≡ page / 4 ^ level =
-            above_on tree.levels page found.lower (level - found.lower) ∙ ap (λ (k : ℕ). page / 4 ^ k) back in
-            let none_up : (lower : ℕ) → lower ≤ level - found.lower → cached_node tree (0 + found.lower + lower) (page / 4 ^ found.lower / 4 ^ lower) ≡ None =
-            λ lower few.
-            let sum : 0 + found.lower + lower ≡ found.lower + lower = omega arith in
-            ap (λ (k : ℕ). cached_node tree k (page / 4 ^ found.lower / 4 ^ lower)) sum
-            ∙ ap (λ (i : ℕ). cached_node tree (found.lower + lower) i) (above_on tree.levels page found.lower lower)
-            ∙ none (found.lower + lower) (omega arith) (omega (arith, few, found.within)) in
-            let rose : Rose (first.reads (node_place (0 + found.lower + (level - found.lower)) (page / 4 ^ found.lower / 4 ^ (level - found.lower))))
-            (second.reads (node_place (0 + found.lower + (level - found.lower)) (page / 4 ^ found.lower / 4 ^ (level - found.lower)))) =
-            up.rose (level - found.lower) (omega (arith, here, high)) none_up in
-            let there : Rose (first.reads (node_place level (page / 4 ^ level))) (second.reads (node_place level (page / 4 ^ level))) =
-            subst (λ (k : ℕ). Rose (first.reads (node_place k (page / 4 ^ level))) (second.reads (node_place k (page / 4 ^ level)))) here
-            (subst (λ (i : ℕ). Rose (first.reads (node_place (0 + found.lower + (level - found.lower)) i)) (second.reads (node_place (0 + found.lower + (level - found.lower)) i))) index_is rose) in
-            inr (omega (arith, there, after (node_place level (page / 4 ^ level))))
-      ];
-}
+path_on tree mid page made made' first second third levels before after read unmade path =
+    up_path tree made page first third
+    (read_up_on tree mid made made' 0 page first second third levels before after unmade read (path_up mid made' page second third path))
 
 -- level 0 has no copies in the tree
 pub no_copy_below : (tree : TreeView) (lower page : ℕ) → lower ≤ 0 → cached_node tree lower (page / 4 ^ lower) ≡ None

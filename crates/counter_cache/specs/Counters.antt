@@ -1,14 +1,11 @@
 -- What contracts see of the counters of all pages: the tree over their counter blocks, and the copies of counter blocks.
 use Rattle.std.specs.Prelude.{◌≡◌, ◌⊎◌, ℕ, ◌*◌, ◌%◌, ◌<◌, ◌≤◌, List, [], ◌∷◌, ◌++◌, length, true, false, Option, Some, None}
 use Rattle.std.specs.Option.{option_map}
-use Rattle.sec_base.specs.Count.{Rose}
 use Rattle.sec_base.specs.Geometry.{page_count}
 use Rattle.sec_base.specs.LastMessage.{last_node}
 use Rattle.sec_base.specs.declared.evidence.Evidence.{Evidence}
 use Rattle.sec_base.specs.declared.evidence.Evidence.TheVariants.{Collision}
 use Rattle.sec_base.specs.declared.message.Message.{Message}
-use Rattle.sec_base.specs.declared.message.Message.TheVariants.{Node}
-use Rattle.sec_base.specs.declared.place.Place.TheVariants.{Node as node_place}
 use Rattle.cache_set.specs.declared.way.Way.{Way}
 use Rattle.cache_set.specs.CacheSet.{without}
 use Rattle.cache_set.specs.Cache.{IsCache, place_of, places, set_at, victim_for, way_at}
@@ -18,7 +15,7 @@ use Rattle.split_counter.specs.declared.bumped.Bumped.{Bumped}
 use Rattle.split_counter.specs.CounterBlock.{CounterBlockView, after_bump, block_of, bumped, counter_of}
 use Rattle.bonsai_tree.specs.Node.{CachedNode, current_of, level_blocks, page_block}
 use Rattle.bonsai_tree.specs.NodeCache.{copy_of, most_copies}
-use Rattle.bonsai_tree.specs.Tree.{HoldsTree, TreeView, cached_nodes, kept_tag, path_accesses}
+use Rattle.bonsai_tree.specs.Tree.{HoldsTree, IsKept, NodeCame, TreeView, cached_nodes, path_accesses}
 
 -- how many sets of two ways there are, and how many copies at most
 abbrev pub block_sets : ℕ
@@ -115,14 +112,15 @@ SameCounters counters made counters' made' = (page : ℕ) → counters_in counte
 abbrev pub counter_accesses : ℕ → ℕ
 counter_accesses levels = 2 * path_accesses levels
 
--- a page's block was never made, or was read from its place
+-- a page's block was never made before the call, or was read from its place
 abbrev pub CameFrom : List Message → BusHistory → BusHistory → ℕ → Type 0
-CameFrom made old new page = (last_node 0 page made ≡ None) ⊎ Rose (old.reads (node_place 0 page)) (new.reads (node_place 0 page))
+CameFrom made old new page = NodeCame made 0 page old new
 
--- The block is the copy that a page has; where it has none, one with the tag that the tree keeps of the page's block after it.
+-- The block is the copy that a page has; where it has none, one with the tag that the tree keeps of the page's block after it,
+-- or zeros, where it keeps none.
 abbrev pub IsCopyOrTagged : Option CachedNode → (Message → List ℕ) → TreeView → List Message → ℕ → List ℕ → Type 0
 IsCopyOrTagged (Some copy) tag_of tree made page block = block ≡ copy.block
-IsCopyOrTagged None tag_of tree made page block = tag_of (Node 0 page block) ≡ kept_tag tree made 0 page
+IsCopyOrTagged None tag_of tree made page block = IsKept tag_of tree made 0 page block
 
 -- The block of a page that a call had, as it was answered.
 pub record IsHad (tag_of : Message → List ℕ) (counters counters' : CountersView) (made' : List Message) (page : ℕ) (before after : Option Evidence)

@@ -14,10 +14,10 @@ use Rattle.bus_model.specs.BusHistory.{BusHistory}
 use Rattle.tag_engine.specs.TagEngine.{TagEngineView}
 use Rattle.checked_bus.specs.Accesses.{WritesMessages}
 use Rattle.checked_bus.specs.Steps.{IsAccounted, Moves, SameLines, unwritten_in}
-use Rattle.bonsai_tree.specs.Tree.{NodesAreMade, NodesHoldLast, SlotsAreTags, WasReadUp, cached_node}
+use Rattle.bonsai_tree.specs.Tree.{NodesAreMade, NodesHoldLast, SlotsAreTags, UnmadeAreUnread, WasReadUp, cached_node}
 use Rattle.counter_cache.specs.Counters.{AreBlocks, CameFrom, CountersView, HasFewNodes, HoldsCounters, SameCounters, cached_block}
 
--- The places that are read are among these.
+-- The places that tampering and evidence may name are among these.
 pub record Has {T : Type 0} (tags : TagEngineView T → Message → List ℕ) (Where : Place → Type 0) (counters : CountersView) (old : BusHistory)
     (engine : TagEngineView T) (counters' : CountersView) (new : BusHistory) (engine' : TagEngineView T) (stop : Option MemStop) : Type 0 where
   pub moves : Moves old engine new engine'
@@ -44,10 +44,12 @@ pub record Has {T : Type 0} (tags : TagEngineView T → Message → List ℕ) (W
   pub made_blocks : NodesAreMade counters.tree.levels engine.made old.written → NodesAreMade counters.tree.levels engine'.made new.written
   pub last_blocks : stop ≢ Some NoMemory → NodesHoldLast counters.tree.levels engine.made old.written →
       NodesHoldLast counters.tree.levels engine'.made new.written
-  -- slots of nodes that were made have the tags of their children's last messages
+  -- slots of nodes that were made have the tags of their children's last messages, or zeros
   pub slots : HoldsCounters tags counters old engine → engine'.evidence ≡ None → SlotsAreTags (tags engine) counters.tree.levels engine.made →
       SlotsAreTags (tags engine) counters.tree.levels engine'.made
-  -- what has a copy was read, or had one
-  pub read : (level index : ℕ) → cached_node counters'.tree level index ≢ None → WasReadUp counters.tree level index old new
-  pub copied : (page : ℕ) → cached_block counters' page ≢ None →
+  -- what has a copy was read, or had one, or was never made; what was never made is not read
+  pub read : HoldsCounters tags counters old engine → engine'.evidence ≡ None → (level index : ℕ) →
+      cached_node counters'.tree level index ≢ None → WasReadUp counters.tree engine.made level index old new
+  pub unread : HoldsCounters tags counters old engine → engine'.evidence ≡ None → UnmadeAreUnread old engine'.made new
+  pub copied : HoldsCounters tags counters old engine → engine'.evidence ≡ None → (page : ℕ) → cached_block counters' page ≢ None →
       (cached_block counters page ≢ None) ⊎ (Where (node_place 0 page) × CameFrom engine.made old new page)

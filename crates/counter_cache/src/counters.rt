@@ -1,8 +1,8 @@
 // The counters of all pages, by the tree over their blocks and copies of these.
 ghost use Rattle.std.specs.Prelude.{true, false, ◌≡◌, ◌≢◌, ◌⊎◌, ◌+◌, ◌^◌, ◌<◌, ◌≤◌, ◌++◌, ◌∷◌, ℕ, List, [], None, Some, Ok, Err, IfOk, IsOk, OnOk, OnErr, Contains, length};
 ghost use Rattle.std.specs.Result.{result_err};
-ghost use Rattle.sec_base.specs.Count.{Rose, more_by};
-ghost use Rattle.sec_base.specs.Geometry.{page_count};
+ghost use Rattle.sec_base.specs.Count.{Rose};
+ghost use Rattle.sec_base.specs.Geometry.{page_count, parent};
 ghost use Rattle.sec_base.specs.LastMessage.{last_node};
 ghost use Rattle.sec_base.specs.declared.counter.Counter.{Counter};
 ghost use Rattle.sec_base.specs.Evidence.{evidence_place};
@@ -10,6 +10,7 @@ ghost use Rattle.sec_base.specs.declared.evidence.Evidence.{Evidence};
 ghost use Rattle.sec_base.specs.declared.evidence.Evidence.TheVariants.{Collision};
 ghost use Rattle.sec_base.specs.declared.message.Message.{Message};
 ghost use Rattle.sec_base.specs.declared.place.Place.{Place};
+ghost use Rattle.sec_base.specs.declared.place.Place.TheVariants.{Node as node_place};
 ghost use Rattle.sec_base.specs.declared.stop.MemStop.TheVariants.{Tampered, Spent as stop_spent, NoMemory as no_memory};
 ghost use Rattle.bus_model.specs.BusHistory.{NothingWritten};
 ghost use Rattle.cache_set.specs.CacheSet.{HasRoom, without};
@@ -19,10 +20,9 @@ ghost use Rattle.checked_bus.specs.Accesses.{WritesMessages};
 ghost use Rattle.checked_bus.specs.Steps.{IsAccounted, Moves, SameLines, unwritten_in};
 ghost use Rattle.split_counter.specs.declared.bumped.Bumped.TheVariants.{Line, Page, Spent};
 ghost use Rattle.split_counter.specs.CounterBlock.{IsCounterBlock, after_bump, block_of, bumped, counter_number, counter_of, new_block};
-ghost use Rattle.bonsai_tree.specs.Boot.{AreOfBoot, NodesAreBooted, boot_messages, node_count};
-ghost use Rattle.bonsai_tree.specs.Node.{CachedNode, level_blocks, page_block};
+ghost use Rattle.bonsai_tree.specs.Node.{CachedNode, level_blocks, no_tag, page_block};
 ghost use Rattle.bonsai_tree.specs.NodeCache.{most_copies};
-ghost use Rattle.bonsai_tree.specs.Tree.{IsFetchPlace, IsNodeFrom, NodesAreMade, NodesHoldLast, OnlyWroteNodes, PathWasRead, SlotsAreTags, WasReadUp, cached_node, cached_nodes, path_accesses, want_of};
+ghost use Rattle.bonsai_tree.specs.Tree.{IsFetchPlace, IsNodeFrom, NodesAreMade, NodesHoldLast, PathWasRead, SlotsAreTags, UnmadeAreUnread, WasReadUp, cached_node, cached_nodes, path_accesses};
 ghost use Rattle.counter_cache.specs.Counters.{AreCopies, AreHad, CameFrom, HoldsCounters, IsBumped, IsHad, LeavesClean, OnlyLeavingIsMade, SameCounters, cached_block, cached_pages, counter_accesses, counters_in, leaving_page, left_by, most_blocks, set_of, ways_beside};
 ghost use Rattle.counter_cache.specs.Having.{Has};
 
@@ -54,8 +54,8 @@ impl Model for Counters {
 }
 
 impl Counters {
-    /// Counters that are all 0: the tree is booted over blocks of zeros, without a copy. Only the bus can be out of memory
-    /// after the first write.
+    /// Counters that are all 0: no block was ever made, and none has a copy. It makes no access and no message. It takes
+    /// memory for the copies alone, and is refused only where there is none.
     pub fn boot<B: Bus, T: Tagger>(
         alloc: Global,
         geometry: Geometry,
@@ -68,32 +68,17 @@ impl Counters {
         requires nothing_made { tags.old.made ≡ [] }
 
         ensures levels { IfOk result (λ counters. counters.tree.levels ≡ geometry) }
-        ensures zeros { IfOk result (λ counters. (page : ℕ) → page < page_count geometry →
-            counters_in counters tags.new.made page ≡ new_block) }
+        ensures root { IfOk result (λ counters. counters.tree.root ≡ no_tag) }
         ensures empty { IfOk result (λ counters. cached_pages counters ≡ []) }
         ensures empty_nodes { IfOk result (λ counters. (level : ℕ) → cached_nodes counters.tree level ≡ []) }
+        ensures zeros { IfOk result (λ counters. (page : ℕ) → page < page_count geometry →
+            counters_in counters tags.new.made page ≡ new_block) }
         ensures holds { IfOk result (λ counters.
             HoldsCounters (tags_of T.data_tag_of T.node_tag_of) counters (B.history bus.new) tags.new) }
 
-        // All nodes are made and written, each once and in order.
-        ensures made { OnOk result (tags.new.made ≡ boot_messages (tags_of T.data_tag_of T.node_tag_of tags.old) geometry) }
-        ensures count { OnOk result (length tags.new.made ≡ node_count geometry) }
-        ensures slots { OnOk result (SlotsAreTags (tags_of T.data_tag_of T.node_tag_of tags.old) geometry tags.new.made) }
-        ensures accesses { OnOk result ((B.history bus.new).accesses ≡ more_by (node_count geometry) (B.history bus.old).accesses) }
-        ensures stored { OnOk result (NodesHoldLast geometry tags.new.made (B.history bus.new).written) }
-        ensures fewer { OnErr result ((B.history bus.new).accesses < (B.history bus.old).accesses + node_count geometry) }
-
         // Whether memory was there or not.
-        ensures quiet { tags.new.evidence ≡ tags.old.evidence }
-        ensures only { OnlyWroteNodes (B.history bus.old) (B.history bus.new) }
-        ensures moves { Moves (B.history bus.old) tags.old (B.history bus.new) tags.new }
-        ensures lines { SameLines (B.history bus.old) tags.old.made (B.history bus.new) tags.new.made }
-        ensures made_blocks { NodesAreMade geometry tags.new.made (B.history bus.new).written }
-        ensures of_boot { AreOfBoot (tags_of T.data_tag_of T.node_tag_of tags.old) geometry tags.new.made }
-        ensures booted { NodesAreBooted (tags_of T.data_tag_of T.node_tag_of tags.old) geometry (B.history bus.new).written }
-        ensures writes { (more : List Message) → tags.new.made ≡ tags.old.made ++ more →
-            WritesMessages (B.history bus.old) (B.history bus.new) (length more) (unwritten_in (want_of result)) }
-        ensures moved { B.moved bus.old bus.new }
+        ensures bus { bus.new ≡ bus.old }
+        ensures tags { tags.new ≡ tags.old }
     {
         let blocks = Cache::new(alloc)?;
         let tree = Tree::boot(alloc, geometry, bus, tags)?;
@@ -145,10 +130,18 @@ impl Counters {
         ensures checked { IfOk result (AreHad (tags_of T.data_tag_of T.node_tag_of tags.old) self.old self.new tags.new.made page
             tags.old.evidence tags.new.evidence) }
 
-        // A block without a copy is read from its place, after the nodes above it up to the lowest one that has a copy. A block
-        // that has one makes no access.
-        ensures read { ¬ Contains (cached_pages self.old) page →
+        // A block without a copy is had by the node above it, which has a copy then, and no other page's block is read. Where
+        // there is no evidence, it is read from its place, and so are the nodes above it up to the lowest one that has a copy;
+        // but none is read that was never made. A block that has a copy makes no access.
+        ensures parent { ¬ Contains (cached_pages self.old) page →
+            OnOk result (cached_node self.new.tree 1 (parent self.old.tree.levels 0 page).1 ≢ None) }
+        ensures alone { (other : ℕ) → other ≢ page →
+            (B.history bus.new).reads (node_place 0 other) ≡ (B.history bus.old).reads (node_place 0 other) }
+        ensures read { HoldsCounters (tags_of T.data_tag_of T.node_tag_of) self.old (B.history bus.old) tags.old →
+            tags.new.evidence ≡ None → ¬ Contains (cached_pages self.old) page →
             OnOk result (PathWasRead self.old.tree tags.old.made 0 page (B.history bus.old) (B.history bus.new)) }
+        ensures unread { HoldsCounters (tags_of T.data_tag_of T.node_tag_of) self.old (B.history bus.old) tags.old →
+            tags.new.evidence ≡ None → UnmadeAreUnread (B.history bus.old) tags.new.made (B.history bus.new) }
         ensures idle { Contains (cached_pages self.old) page → (B.history bus.new ≡ B.history bus.old) × (tags.new ≡ tags.old) }
         ensures cached { OnOk result (Contains (cached_pages self.new) page) }
         ensures latest { OnOk result (IsLatest self.new.blocks page) }
@@ -157,11 +150,14 @@ impl Counters {
         ensures room { tags.old.room ≤ tags.new.room + counter_accesses self.old.tree.levels }
         ensures no_rise { tags.new.room ≤ tags.old.room }
         ensures few_copies { length (cached_pages self.new) ≤ most_blocks }
-        ensures new_copies { (other : ℕ) → Contains (cached_pages self.new) other → Contains (cached_pages self.old) other
+        ensures pages { (other : ℕ) → Contains (cached_pages self.new) other → other < page_count self.old.tree.levels }
+        ensures new_copies { HoldsCounters (tags_of T.data_tag_of T.node_tag_of) self.old (B.history bus.old) tags.old →
+            tags.new.evidence ≡ None → (other : ℕ) → Contains (cached_pages self.new) other → Contains (cached_pages self.old) other
             ⊎ ((other ≡ page) × CameFrom tags.old.made (B.history bus.old) (B.history bus.new) page) }
         ensures few_nodes { (level : ℕ) → length (cached_nodes self.new.tree level) ≤ most_copies }
-        ensures new_nodes { (level index : ℕ) → cached_node self.new.tree level index ≢ None →
-            WasReadUp self.old.tree level index (B.history bus.old) (B.history bus.new) }
+        ensures new_nodes { HoldsCounters (tags_of T.data_tag_of T.node_tag_of) self.old (B.history bus.old) tags.old →
+            tags.new.evidence ≡ None → (level index : ℕ) → cached_node self.new.tree level index ≢ None →
+            WasReadUp self.old.tree tags.old.made level index (B.history bus.old) (B.history bus.new) }
 
         // The least recently used copy of a full set goes out for a block that comes. Where it was not changed, there are no more
         // accesses than a fetch may make. All others stay as they are, and in their order. A page whose call is refused has no
@@ -257,10 +253,18 @@ impl Counters {
         ensures at_place { (at : Place) → result ≡ Err (Tampered at) → IsFetchPlace self.old.tree.levels page at }
         ensures unspent { (spent : ℕ) → result ≢ Err (stop_spent spent) }
 
-        // A block without a copy is read from its place, after the nodes above it up to the lowest one that has a copy. A block
-        // that has one makes no access.
-        ensures read { ¬ Contains (cached_pages self.old) page →
+        // A block without a copy is had by the node above it, which has a copy then, and no other page's block is read. Where
+        // there is no evidence, it is read from its place, and so are the nodes above it up to the lowest one that has a copy;
+        // but none is read that was never made. A block that has a copy makes no access.
+        ensures parent { ¬ Contains (cached_pages self.old) page →
+            OnOk result (cached_node self.new.tree 1 (parent self.old.tree.levels 0 page).1 ≢ None) }
+        ensures alone { (other : ℕ) → other ≢ page →
+            (B.history bus.new).reads (node_place 0 other) ≡ (B.history bus.old).reads (node_place 0 other) }
+        ensures read { HoldsCounters (tags_of T.data_tag_of T.node_tag_of) self.old (B.history bus.old) tags.old →
+            tags.new.evidence ≡ None → ¬ Contains (cached_pages self.old) page →
             OnOk result (PathWasRead self.old.tree tags.old.made 0 page (B.history bus.old) (B.history bus.new)) }
+        ensures unread { HoldsCounters (tags_of T.data_tag_of T.node_tag_of) self.old (B.history bus.old) tags.old →
+            tags.new.evidence ≡ None → UnmadeAreUnread (B.history bus.old) tags.new.made (B.history bus.new) }
         ensures idle { Contains (cached_pages self.old) page → (B.history bus.new ≡ B.history bus.old) × (tags.new ≡ tags.old) }
         ensures hit { Contains (cached_pages self.old) page → IsOk result }
         ensures cached { OnOk result (Contains (cached_pages self.new) page) }
@@ -270,11 +274,14 @@ impl Counters {
         ensures room { tags.old.room ≤ tags.new.room + counter_accesses self.old.tree.levels }
         ensures no_rise { tags.new.room ≤ tags.old.room }
         ensures few_copies { length (cached_pages self.new) ≤ most_blocks }
-        ensures new_copies { (other : ℕ) → Contains (cached_pages self.new) other → Contains (cached_pages self.old) other
+        ensures pages { (other : ℕ) → Contains (cached_pages self.new) other → other < page_count self.old.tree.levels }
+        ensures new_copies { HoldsCounters (tags_of T.data_tag_of T.node_tag_of) self.old (B.history bus.old) tags.old →
+            tags.new.evidence ≡ None → (other : ℕ) → Contains (cached_pages self.new) other → Contains (cached_pages self.old) other
             ⊎ ((other ≡ page) × CameFrom tags.old.made (B.history bus.old) (B.history bus.new) page) }
         ensures few_nodes { (level : ℕ) → length (cached_nodes self.new.tree level) ≤ most_copies }
-        ensures new_nodes { (level index : ℕ) → cached_node self.new.tree level index ≢ None →
-            WasReadUp self.old.tree level index (B.history bus.old) (B.history bus.new) }
+        ensures new_nodes { HoldsCounters (tags_of T.data_tag_of T.node_tag_of) self.old (B.history bus.old) tags.old →
+            tags.new.evidence ≡ None → (level index : ℕ) → cached_node self.new.tree level index ≢ None →
+            WasReadUp self.old.tree tags.old.made level index (B.history bus.old) (B.history bus.new) }
 
         // Copies go and stay as in `get`, but the page's own has the new counters and is changed, unless the line is spent.
         ensures goes { (other : ℕ) → leaving_page self.old page ≡ Some other → OnOk result (cached_block self.new other ≡ None) }
@@ -312,7 +319,7 @@ impl Counters {
         Ok(outcome)
     }
 
-    // Has a page's block on the chip, as the most recently used one of its set.
+    // Brings a page's block onto the chip, as the most recently used one of its set.
     fn bring<B: Bus, T: Tagger>(
         &mut self,
         bus: &mut B,
@@ -337,8 +344,13 @@ impl Counters {
             tags.new.evidence ≡ Some (Collision 0 page made_at bytes tag) → IsOk result }
         ensures hit { Contains (cached_pages self.old) page → IsOk result × (cached_block self.new page ≡ cached_block self.old page)
             × (B.history bus.new ≡ B.history bus.old) × (tags.new ≡ tags.old) }
-        ensures read { ¬ Contains (cached_pages self.old) page →
+        ensures read { HoldsCounters (tags_of T.data_tag_of T.node_tag_of) self.old (B.history bus.old) tags.old →
+            tags.new.evidence ≡ None → ¬ Contains (cached_pages self.old) page →
             OnOk result (PathWasRead self.old.tree tags.old.made 0 page (B.history bus.old) (B.history bus.new)) }
+        ensures parent { ¬ Contains (cached_pages self.old) page →
+            OnOk result (cached_node self.new.tree 1 (parent self.old.tree.levels 0 page).1 ≢ None) }
+        ensures alone { (other : ℕ) → other ≢ page →
+            (B.history bus.new).reads (node_place 0 other) ≡ (B.history bus.old).reads (node_place 0 other) }
         ensures goes { (other : ℕ) → leaving_page self.old page ≡ Some other → OnOk result (cached_block self.new other ≡ None) }
         ensures stays { (other : ℕ) → other ≢ page → leaving_page self.old page ≢ Some other →
             cached_block self.new other ≡ cached_block self.old other }
@@ -389,6 +401,8 @@ impl Counters {
         ensures stays { (other : ℕ) → leaving_page self.old page ≢ Some other → cached_block self.new other ≡ cached_block self.old other }
         ensures left { OnOk result (set_at self.new.blocks page ≡ left_by (leaving_page self.old page) (set_at self.old.blocks page)) }
         ensures other_sets { (other : ℕ) → set_of other ≢ set_of page → set_at self.new.blocks other ≡ set_at self.old.blocks other }
+        ensures no_block_read { (other : ℕ) →
+            (B.history bus.new).reads (node_place 0 other) ≡ (B.history bus.old).reads (node_place 0 other) }
         ensures idle { LeavesClean self.old page → (B.history bus.new).accesses ≡ (B.history bus.old).accesses }
         ensures written { OnlyLeavingIsMade self.old page tags.old.made tags.new.made }
         ensures moved { B.moved bus.old bus.new }
@@ -423,6 +437,8 @@ impl Counters {
         ensures last { OnOk result (HoldsCounters (tags_of T.data_tag_of T.node_tag_of) self.new (B.history bus.new) tags.new →
             tags.new.evidence ≡ None → victim.now.copy ≡ page_block victim.now.place tags.new.made) }
         ensures others { (other : ℕ) → other ≢ victim.now.place → last_node 0 other tags.new.made ≡ last_node 0 other tags.old.made }
+        ensures no_block_read { (other : ℕ) →
+            (B.history bus.new).reads (node_place 0 other) ≡ (B.history bus.old).reads (node_place 0 other) }
         ensures idle { victim.now.changed ≡ false → (B.history bus.new).accesses ≡ (B.history bus.old).accesses }
         ensures written { (level_blocks 0 tags.new.made ≡ level_blocks 0 tags.old.made) ⊎ ((victim.now.changed ≡ true)
             × (level_blocks 0 tags.new.made ≡ level_blocks 0 tags.old.made ++ (victim.now.place, victim.now.copy) ∷ [])) }

@@ -17,7 +17,7 @@ use Rattle.bonsai_tree.specs.Node.{current_of}
 use Rattle.bonsai_tree.specs.NodeCache.{copy_of}
 use Rattle.bonsai_tree.specs.Tree.{cached_node}
 use Rattle.counter_cache.specs.Counters.{CountersView, cached_block, cached_pages, counters_in}
-use Rattle.counter_cache.proofs.BlockCopies.{blocks_put, few_blocks, same_pages}
+use Rattle.counter_cache.proofs.BlockCopies.{blocks_put, few_blocks, pages_inside, same_pages}
 use Rattle.counter_cache.proofs.Blocks.{counters_of_copy}
 use Rattle.counter_cache.proofs.Hads.{had_over}
 use Rattle.counter_cache.proofs.Havings.{holds_changed}
@@ -77,16 +77,21 @@ returns-clause-cached g c =
 pub returns-clause-few_copies : goal.returns-clause-few_copies
 returns-clause-few_copies g c = few_blocks c.self.inside.tree.levels c.change.new.self (invariant_of-self g c).blocks
 
+pub returns-clause-pages : goal.returns-clause-pages
+returns-clause-pages g c =
+    pages_inside c.self.inside.tree.levels c.args.self.now.tree.levels c.change.new.self
+    (ap (λ (v : CountersView). v.tree.levels) c.self.view_is ∙ c.get.ensures.levels) (invariant_of-self g c).blocks
+
 pub returns-clause-new_copies : goal.returns-clause-new_copies
-returns-clause-new_copies g c = λ other listed.
-    c.get.ensures.new_copies other
+returns-clause-new_copies g c = λ holds quiet other listed.
+    c.get.ensures.new_copies holds quiet other
     (subst (λ (v : CountersView). Contains (cached_pages v) other) c.self.view_is
     (same_pages c.self.inside.blocks c.change.new.self c.args.page c.change.ensures.cache
     (subst (λ (v : CountersView). Contains (cached_pages v) c.args.page) (sym c.self.view_is) c.in_ok-block.ensures.cached) c.change.ensures.same other listed))
 
 pub returns-clause-new_nodes : goal.returns-clause-new_nodes
-returns-clause-new_nodes g c = λ level index held.
-    c.get.ensures.new_nodes level index (subst (λ (v : CountersView). cached_node v.tree level index ≢ None) c.self.view_is held)
+returns-clause-new_nodes g c = λ holds quiet level index held.
+    c.get.ensures.new_nodes holds quiet level index (subst (λ (v : CountersView). cached_node v.tree level index ≢ None) c.self.view_is held)
 
 pub returns-clause-checked : goal.returns-clause-checked
 returns-clause-checked g c =

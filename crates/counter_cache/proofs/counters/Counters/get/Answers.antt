@@ -8,13 +8,18 @@ use Rattle.checked_bus.specs.Accesses.{WritesMessages}
 use Rattle.checked_bus.specs.Steps.{unwritten_in}
 use Rattle.split_counter.specs.CounterBlock.{block_of}
 use Rattle.counter_cache.specs.Counters.{CountersView}
-use Rattle.counter_cache.proofs.BlockCopies.{few_blocks, latest_cached, stays_all}
+use Rattle.counter_cache.proofs.BlockCopies.{few_blocks, latest_cached, pages_inside, stays_all}
 use Rattle.counter_cache.proofs.Havings.{going, has_pages, has_writes}
 use Rattle.counter_cache.proofs.counters.Counters.get.Goals as goal
 
 pub returns-in_err-bring-clause-few_copies : goal.returns-in_err-bring-clause-few_copies
 returns-in_err-bring-clause-few_copies g c =
     few_blocks c.bring.new.self.tree.levels c.bring.new.self.blocks c.in_err-bring.ensures.copies.blocks
+
+pub returns-in_err-bring-clause-pages : goal.returns-in_err-bring-clause-pages
+returns-in_err-bring-clause-pages g c =
+    pages_inside c.bring.new.self.tree.levels c.args.self.now.tree.levels c.bring.new.self.blocks c.in_err-bring.ensures.has.levels
+    c.in_err-bring.ensures.copies.blocks
 
 pub returns-in_err-bring-clause-new_copies : goal.returns-in_err-bring-clause-new_copies
 returns-in_err-bring-clause-new_copies g c =
@@ -56,6 +61,11 @@ returns-clause-cached g c =
 pub returns-clause-few_copies : goal.returns-clause-few_copies
 returns-clause-few_copies g c =
     few_blocks c.bring.new.self.tree.levels c.bring.new.self.blocks c.in_ok-bring.ensures.copies.blocks
+
+pub returns-clause-pages : goal.returns-clause-pages
+returns-clause-pages g c =
+    pages_inside c.bring.new.self.tree.levels c.args.self.now.tree.levels c.bring.new.self.blocks c.in_ok-bring.ensures.has.levels
+    c.in_ok-bring.ensures.copies.blocks
 
 pub returns-clause-new_copies : goal.returns-clause-new_copies
 returns-clause-new_copies g c =
