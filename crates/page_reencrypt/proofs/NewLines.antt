@@ -9,18 +9,14 @@ use Rattle.sec_base.specs.declared.place.Place.TheVariants.{Line as line_place, 
 use Rattle.bus_model.specs.BusHistory.{BusHistory, NothingWritten}
 use Rattle.tag_engine.specs.TagEngine.{TagEngineView, new_engine, tags_of}
 use Rattle.pad_stream.specs.PadEngine.{PadEngineView, new_pads}
-use Rattle.checked_bus.specs.Steps.{Moves as StepMoves, SameLines}
 use Rattle.split_counter.specs.CounterBlock.{CounterBlockView, counter_of, new_block, place_of}
-use Rattle.bonsai_tree.specs.Boot.{boot_messages}
-use Rattle.bonsai_tree.specs.Tree.{IsTree, NodesAreMade, NodesHoldLast, SlotsAreTags}
+use Rattle.bonsai_tree.specs.Tree.{NodesAreMade, NodesHoldLast}
+use Rattle.bonsai_tree.proofs.MadeSlots.{slots_none}
 use Rattle.counter_cache.specs.Counters.{CountersView, HoldsCounters, cached_pages, counters_in}
 use Rattle.page_reencrypt.specs.Consistency.{IsConsistent}
 use Rattle.page_reencrypt.specs.Contents.{HoldsLast, NodesSay}
 use Rattle.page_reencrypt.specs.SealedLines.{AreOfPages, AreProtected, CountersRise, IsOfPage, SealedLinesView}
 use Rattle.page_reencrypt.proofs.Kept.{protected_after}
-use Rattle.page_reencrypt.proofs.NodeSteps.{lines_last, nodes_consistent}
-use Rattle.page_reencrypt.proofs.SayingNodes.{boot_says}
-use Rattle.page_reencrypt.proofs.Unmade.{same_tags}
 
 no_pairs : data_pairs [] ≡ []
 unfolding data_pairs
@@ -66,77 +62,63 @@ empty_nodes levels history same empty = record {
   holds = λ level index inside. inl (empty.zeros (node_place level index) (subst (λ (l : ℕ). IsNode l level index) (sym same) inside));
 }
 
-module _ {B T : Type 0} (d n : T → List ℕ → List ℕ) (history : B → BusHistory) (bus_moved : B → B → Type 0) (first bus : B) (tagger : T) (key : List ℕ) (levels limit : ℕ)
-    (start engine : TagEngineView T) (pads : PadEngineView) (counters : CountersView) (new : start ≡ new_engine tagger levels) (unused : pads ≡ new_pads key)
-    (same : (history first).levels ≡ levels) (empty : NothingWritten (history first))
-    (tree_levels : counters.tree.levels ≡ levels) (moves : StepMoves (history first) start (history bus) engine) (lines : SameLines (history first) start.made (history bus) engine.made)
-    (made_blocks : NodesAreMade levels engine.made (history bus).written) (stored : NodesHoldLast levels engine.made (history bus).written)
-    (quiet : engine.evidence ≡ start.evidence)
-    (holds : HoldsCounters (tags_of d n) counters (history bus) engine)
-    (zeros : (page : ℕ) → page < page_count levels → counters_in counters engine.made page ≡ new_block)
-    (uncached : cached_pages counters ≡ []) (slots : SlotsAreTags (tags_of d n start) levels engine.made)
-    (made_is : engine.made ≡ boot_messages (tags_of d n start) levels) where
-  abbrev begun : SealedLinesView B T
-  begun = record { bus = first; engine = start; pads = pads; counters = counters; limit = limit; stopped = None }
+new_nodes : (levels : ℕ) (history : BusHistory) → NodesHoldLast levels [] history.written
+unfolding last_at
+new_nodes levels history = record { holds = λ level index block inside last. absurd (cc) }
 
-  no_messages : start.made ≡ []
+new_said : (tag_of : Message → List ℕ) (levels : ℕ) → NodesSay tag_of levels [] []
+new_said tag_of levels = record {
+  slots = slots_none tag_of levels;
+  blocks = record { said = λ page line block listed of_page. absurd (omega (arith, listed.1)) };
+}
+
+module _ {B T : Type 0} (d n : T → List ℕ → List ℕ) (history : B → BusHistory) (bus_moved : B → B → Type 0) (bus : B) (tagger : T) (key : List ℕ) (levels limit : ℕ)
+    (engine : TagEngineView T) (pads : PadEngineView) (counters : CountersView) (new : engine ≡ new_engine tagger levels) (unused : pads ≡ new_pads key)
+    (same : (history bus).levels ≡ levels) (empty : NothingWritten (history bus)) (tree_levels : counters.tree.levels ≡ levels)
+    (holds : HoldsCounters (tags_of d n) counters (history bus) engine)
+    (zeros : (page : ℕ) → page < page_count levels → counters_in counters engine.made page ≡ new_block) (uncached : cached_pages counters ≡ []) where
+  abbrev begun : SealedLinesView B T
+  begun = record { bus = bus; engine = engine; pads = pads; counters = counters; limit = limit; stopped = None }
+
+  abbrev tag_of : Message → List ℕ
+  tag_of = tags_of d n engine
+
+  no_messages : engine.made ≡ []
   no_messages = ap (λ (e : TagEngineView T). e.made) new
 
-  levels_are : start.levels ≡ levels
+  levels_are : engine.levels ≡ levels
   levels_are = ap (λ (e : TagEngineView T). e.levels) new
-
-  no_evidence : start.evidence ≡ None
-  no_evidence = ap (λ (e : TagEngineView T). e.evidence) new
 
   no_entries : pads.used ≡ []
   no_entries = ap (λ (p : PadEngineView). p.used) unused
 
-  abbrev tag_of : Message → List ℕ
-  tag_of = tags_of d n start
+  history_levels : (history bus).levels ≡ engine.levels
+  history_levels = same ∙ sym levels_are
 
-  was_consistent : IsConsistent tag_of start.levels (history first) start.made pads.used
-  was_consistent =
-      subst (λ (l : ℕ). IsConsistent tag_of l (history first) start.made pads.used) (sym levels_are)
-      (subst (λ (made : List Message). IsConsistent tag_of levels (history first) made pads.used) (sym no_messages)
-      (subst (λ (u : List (ℕ × Counter)). IsConsistent tag_of levels (history first) [] u) (sym no_entries)
-      (new_consistent tag_of levels (history first) same empty (empty_nodes levels (history first) same empty))))
+  consistent : IsConsistent tag_of engine.levels (history bus) engine.made pads.used
+  consistent =
+      subst (λ (made : List Message). IsConsistent tag_of engine.levels (history bus) made pads.used) (sym no_messages)
+      (subst (λ (u : List (ℕ × Counter)). IsConsistent tag_of engine.levels (history bus) [] u) (sym no_entries)
+      (new_consistent tag_of engine.levels (history bus) history_levels empty (empty_nodes engine.levels (history bus) history_levels empty)))
 
-  now_consistent : IsConsistent tag_of start.levels (history bus) engine.made pads.used
-  now_consistent =
-      nodes_consistent tag_of (history first) (history bus) start.made engine.made lines start.levels pads.used was_consistent moves.bus_levels
-      (subst (λ (l : ℕ). NodesAreMade l engine.made (history bus).written) (sym levels_are) made_blocks)
-
-  now_last : HoldsLast tag_of (line_count start.levels) engine.made (history bus).written
-  now_last =
-      lines_last tag_of (history first) (history bus) start.made engine.made lines (line_count start.levels)
-      (subst (λ (made : List Message). HoldsLast tag_of (line_count start.levels) made (history first).written) (sym no_messages)
-      (new_last tag_of (line_count start.levels) (history first)))
-
-  now_tree : IsTree tag_of counters.tree engine.made (history bus).written
-  now_tree =
-      subst (λ (t : Message → List ℕ). IsTree t counters.tree engine.made (history bus).written) (same_tags d n start engine moves.tagger moves.levels)
-      (holds.tree.fits (quiet ∙ no_evidence))
-
-  now_says : (page : ℕ) → page < page_count start.levels → IsOfPage pads.used page (counters_in counters engine.made page)
-  now_says page inside =
+  says : (page : ℕ) → page < page_count engine.levels → IsOfPage pads.used page (counters_in counters engine.made page)
+  says page inside =
       subst (λ (u : List (ℕ × Counter)). IsOfPage u page (counters_in counters engine.made page)) (sym no_entries)
       (new_says (counters_in counters engine.made page) page (zeros page (subst (λ (l : ℕ). page < page_count l) levels_are inside)))
 
-  no_pages : AreOfPages start.levels counters
+  no_pages : AreOfPages engine.levels counters
   no_pages = λ page cached.
       let listed : Contains [] page = subst (λ (pages : List ℕ). Contains pages page) uncached cached in
       absurd (omega (arith, listed.1))
 
-  now_said : NodesSay tag_of start.levels pads.used engine.made
-  now_said =
-      subst (λ (l : ℕ). NodesSay tag_of l pads.used engine.made) (sym levels_are)
-      (record { slots = slots; blocks = boot_says tag_of levels pads.used engine.made made_is })
-
-  pub boot_protected : AreProtected d n history (record { bus = bus; engine = engine; pads = pads; counters = counters; limit = limit; stopped = None })
+  pub boot_protected : AreProtected d n history begun
   boot_protected =
-      protected_after d n history bus_moved begun (record { bus = bus; engine = engine; pads = pads }) counters None moves.tagger moves.levels (tree_levels ∙ sym levels_are)
-      no_pages now_consistent
-      (λ goes_on. now_last) (λ goes_on. subst (λ (l : ℕ). NodesHoldLast l engine.made (history bus).written) (sym levels_are) stored)
-      (λ still. subst (λ (u : List (ℕ × Counter)). CountersRise start.levels limit u None) (sym no_entries) (new_rise start.levels limit))
-      (λ still. now_said)
-      (λ goes_on. record { tree = record { fits = λ still. now_tree }; clean = holds.clean }) (λ goes_on still. now_says)
+      protected_after d n history bus_moved begun (record { bus = bus; engine = engine; pads = pads }) counters None refl refl (tree_levels ∙ sym levels_are)
+      no_pages consistent
+      (λ goes_on. subst (λ (made : List Message). HoldsLast tag_of (line_count engine.levels) made (history bus).written) (sym no_messages)
+      (new_last tag_of (line_count engine.levels) (history bus)))
+      (λ goes_on. subst (λ (made : List Message). NodesHoldLast engine.levels made (history bus).written) (sym no_messages) (new_nodes engine.levels (history bus)))
+      (λ still. subst (λ (u : List (ℕ × Counter)). CountersRise engine.levels limit u None) (sym no_entries) (new_rise engine.levels limit))
+      (λ still. subst (NodesSay tag_of engine.levels pads.used) (sym no_messages)
+      (subst (λ (u : List (ℕ × Counter)). NodesSay tag_of engine.levels u []) (sym no_entries) (new_said tag_of engine.levels)))
+      (λ goes_on. record { tree = record { fits = holds.tree.fits }; clean = holds.clean }) (λ goes_on still. says)

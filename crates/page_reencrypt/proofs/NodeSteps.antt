@@ -86,13 +86,13 @@ module _ (tag_of : Message → List ℕ) (old new : BusHistory) (made made' : Li
         ]);
   }
 
-  pub lines_last : (count : ℕ) → HoldsLast tag_of count made old.written → HoldsLast tag_of count made' new.written
+  lines_last : (count : ℕ) → HoldsLast tag_of count made old.written → HoldsLast tag_of count made' new.written
   lines_last count was = record {
     holds = λ line counter cipher inside last.
         lines.written line ∙ was.holds line counter cipher inside (sym (same_last_data old new made made' line lines) ∙ last);
   }
 
-  pub nodes_consistent : (levels : ℕ) (used : List (ℕ × Counter)) → IsConsistent tag_of levels old made used → new.levels ≡ old.levels →
+  nodes_consistent : (levels : ℕ) (used : List (ℕ × Counter)) → IsConsistent tag_of levels old made used → new.levels ≡ old.levels →
       NodesAreMade levels made' new.written → IsConsistent tag_of levels new made' used
   nodes_consistent levels used kept same nodes = record {
     bus_levels = same ∙ kept.bus_levels;

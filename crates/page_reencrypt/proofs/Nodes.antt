@@ -1,5 +1,5 @@
 -- What holds of the nodes where lines alone are touched, and of the lines where nodes alone are.
-use Rattle.std.proofs.Common.{◌≡◌, ◌≢◌, ◌⊎◌, inl, inr, ℕ, cond, nat_lt, List, [], ◌∷◌, ◌++◌, length, Option, Some, None, Contains, refl, ap, sym, ◌∙◌, subst, arith}
+use Rattle.std.proofs.Common.{◌≡◌, ◌≢◌, ◌⊎◌, inl, inr, ℕ, cond, nat_lt, List, [], ◌∷◌, ◌++◌, length, Option, None, Contains, refl, ap, sym, ◌∙◌, subst, arith}
 use Rattle.std.proofs.lemmas.List.Elements.{Contains-append_cases, Contains-append_left}
 use Rattle.sec_base.specs.declared.counter.Counter.{Counter}
 use Rattle.sec_base.specs.declared.message.Message.{Message}
@@ -68,8 +68,6 @@ module _ (tag_of : Message → List ℕ) (tree : TreeView) (made made' : List Me
     slots = λ level index inside.
         kept_same level index ∙ was.slots level index inside
         ∙ ap (λ (l : Option (List ℕ)). tag_of_last tag_of level index l) (sym (last level index));
-    made_all = λ level index inside.
-        last level index ∙ was.made_all level index inside ∙ ap (λ (l : Option (List ℕ)). Some (block_or_zeros l)) (sym (last level index));
     stored = λ level index inside. same level index ∙ was.stored level index inside ∙ ap block_or_zeros (sym (last level index));
     clean = λ level index copy inside is unchanged. was.clean level index copy inside is unchanged ∙ ap block_or_zeros (sym (last level index));
     long = λ level index inside. ap length (block_same level index) ∙ was.long level index inside;

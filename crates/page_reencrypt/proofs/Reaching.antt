@@ -9,8 +9,7 @@ use Rattle.sec_base.specs.declared.stop.MemStop.{MemStop}
 use Rattle.sec_base.specs.declared.stop.MemStop.TheVariants.{Tampered, Spent}
 use Rattle.sec_base.specs.Count.{Rose, RoseBy}
 use Rattle.sec_base.specs.Geometry.{line_count, page_of}
-use Rattle.sec_base.specs.LastMessage.{data_pairs, last_data, last_node, node_part, IsFresh}
-use Rattle.sec_base.proofs.LastMessages.{none_front}
+use Rattle.sec_base.specs.LastMessage.{data_pairs, last_data, last_node, IsFresh}
 use Rattle.sec_base.proofs.Results.{was_none}
 use Rattle.bus_model.specs.BusHistory.{BusHistory}
 use Rattle.tag_engine.specs.TagEngine.{TagEngineView, with_room as tags_with_room}
@@ -23,14 +22,14 @@ use Rattle.checked_bus.specs.Steps.{unwritten_in}
 use Rattle.checked_bus.proofs.Steps.{counted_not, data_pairs-append, moves_on as step_on, same_lines_not, same_lines_on}
 use Rattle.split_counter.specs.CounterBlock.{last_counter, next_counter}
 use Rattle.bonsai_tree.specs.Node.{path_index}
-use Rattle.bonsai_tree.specs.Tree.{IsFetchPlace, NodesHoldLast, PathWasRead, TreeView, WasReadUp, above, cached_node}
-use Rattle.bonsai_tree.proofs.Climbs.{above_none, read_up_on}
+use Rattle.bonsai_tree.specs.Tree.{IsFetchPlace, NodesHoldLast, PathWasRead, TreeView, UnmadeAreUnread, above}
+use Rattle.bonsai_tree.proofs.Climbs.{came_after, came_before, read_up_held, read_up_on, unmade_before}
 use Rattle.counter_cache.specs.Counters.{CountersView, SameCounters, cached_pages, counter_accesses, counters_in}
 use Rattle.checked_bus.proofs.Writes.{writes_on}
 use Rattle.page_reencrypt.specs.Consistency.{IsConsistent}
 use Rattle.page_reencrypt.specs.Contents.{HoldsLast, NodesSay, bytes_of, counter_in, line_bytes, lines_encrypted}
 use Rattle.page_reencrypt.specs.Outside.{AreAccounted, AreConsistent, AreSealedInOrder, CountersFit, CountersSay, HaveLast, HaveLastNodes, HaveRisen, IsNodeStep, IsWrite, MemoryTerms, NodesSayStill, OutsideView, ShowsLies}
-use Rattle.page_reencrypt.specs.SealedLines.{AreReread, CopiesCame}
+use Rattle.page_reencrypt.specs.SealedLines.{AreReread, CopiesCame, KeepsFew}
 use Rattle.page_reencrypt.specs.Stops.{lasting_stop}
 use Rattle.page_reencrypt.proofs.NodeSteps.{same_last_data}
 use Rattle.page_reencrypt.proofs.Nodes.{counters_same, fits_same, nodes_last, not_node}
@@ -47,58 +46,58 @@ writes_none history unwritten = record { writes = 0; counted = counted_not histo
 
 -- The copies on the chip came
 
-copied_not : (tree : TreeView) (level index : ℕ) (history : BusHistory) → cached_node tree level index ≢ None → WasReadUp tree level index history history
-copied_not tree level index history copied = record {
-  rose = λ more inside none.
-      let first : cached_node tree level index ≡ None =
-      subst (λ (at : ℕ). cached_node tree at index ≡ None) (omega arith)
-      (subst (λ (at : ℕ). cached_node tree (level + 0) at ≡ None) (above_none tree.levels index) (none 0 (omega arith))) in absurd (copied first);
-}
+pub few_not : (counters : CountersView) → KeepsFew counters counters
+few_not counters = record { blocks = λ few. few; nodes = λ level few. few }
+
+few_on : (counters counters' counters'' : CountersView) → KeepsFew counters counters' → KeepsFew counters' counters'' → KeepsFew counters counters''
+few_on counters counters' counters'' a b = record { blocks = λ few. b.blocks (a.blocks few); nodes = λ level few. b.nodes level (a.nodes level few) }
 
 pub came_not : (page : ℕ) (history : BusHistory) (made : List Message) (counters : CountersView) → CopiesCame page history made counters history counters
 came_not page history made counters = record {
-  few_blocks = λ few. few;
-  few_nodes = λ level few. few;
   blocks = λ other cached. inl cached;
-  nodes = λ level index copied. copied_not counters.tree level index history copied;
+  nodes = λ level index copied. read_up_held counters.tree made level index history history copied;
 }
 
 -- and more was read since
-pub came_more : (page : ℕ) (first second third : BusHistory) (made : List Message) (counters counters' : CountersView) →
+came_more : (page : ℕ) (first second third : BusHistory) (made : List Message) (counters counters' : CountersView) →
     CopiesCame page first made counters second counters' → ((place : Place) → RoseBy 0 (second.reads place) (third.reads place)) →
     CopiesCame page first made counters third counters'
 came_more page first second third made counters counters' a more = record {
-  few_blocks = a.few_blocks;
-  few_nodes = a.few_nodes;
   blocks = λ other cached.
       elim (a.blocks other cached) [
         | inl had ↦ inl had
-        | inr (own, inl never) ↦ inr (own, inl never)
-        | inr (own, inr rose) ↦ inr (own, inr (omega (arith, rose, more (node_place 0 page))))
+        | inr own ↦ inr (own.0, came_before made 0 page first second third more own.1)
       ];
   nodes = λ level index copied. record {
     rose = λ up inside none.
-        let rose = (a.nodes level index copied).rose up inside none in
-        omega (arith, rose, more (node_place (level + up) (above counters.tree.levels index up)));
+        came_before made (level + up) (above counters.tree.levels index up) first second third more ((a.nodes level index copied).rose up inside none);
   };
 }
 
-pub came_on : {T : Type 0} (page : ℕ) (first second third : BusHistory) (engine engine' engine'' : TagEngineView T) (counters counters' counters'' : CountersView) →
+came_on : {T : Type 0} (page : ℕ) (first second third : BusHistory) (engine engine' engine'' : TagEngineView T) (counters counters' counters'' : CountersView) →
     counters'.tree.levels ≡ counters.tree.levels → StepMoves first engine second engine' → StepMoves second engine' third engine'' →
     CopiesCame page first engine.made counters second counters' → CopiesCame page second engine'.made counters' third counters'' →
     CopiesCame page first engine.made counters third counters''
-came_on page first second third engine engine' engine'' counters counters' counters'' levels step more a b = record {
-  few_blocks = λ few. b.few_blocks (a.few_blocks few);
-  few_nodes = λ level few. b.few_nodes level (a.few_nodes level few);
-  blocks = λ other cached.
-      elim (b.blocks other cached) [
-        | inl had ↦ (came_more page first second third engine.made counters counters' a more.reads).blocks other had
-        | inr (own, inl never) ↦
-            inr (own, inl (none_front (node_part 0 page) engine.made step.more (subst (λ (made : List Message). last_node 0 page made ≡ None) step.made never)))
-        | inr (own, inr rose) ↦ inr (own, inr (omega (arith, rose, step.reads (node_place 0 page))))
-      ];
-  nodes = λ level index copied.
-      read_up_on counters.tree counters'.tree level index first second third levels step.reads more.reads a.nodes (b.nodes level index copied);
+came_on page first second third engine engine' engine'' counters counters' counters'' levels step more a b =
+    let unmade : (level index : ℕ) → last_node level index engine'.made ≡ None → last_node level index engine.made ≡ None =
+    unmade_before engine.made engine'.made step.more step.made in
+    record {
+      blocks = λ other cached.
+          elim (b.blocks other cached) [
+            | inl had ↦ (came_more page first second third engine.made counters counters' a more.reads).blocks other had
+            | inr own ↦ inr (own.0, came_after engine.made engine'.made 0 page first second third step.reads (unmade 0 page) own.1)
+          ];
+      nodes = λ level index copied.
+          read_up_on counters.tree counters'.tree engine.made engine'.made level index first second third levels step.reads more.reads unmade a.nodes
+          (b.nodes level index copied);
+    }
+
+-- a path was read, and more was read since
+pub path_more : (tree : TreeView) (made : List Message) (page : ℕ) (first second third : BusHistory) →
+    ((place : Place) → RoseBy 0 (second.reads place) (third.reads place)) → PathWasRead tree made 0 page first second → PathWasRead tree made 0 page first third
+path_more tree made page first second third more path = record {
+  rose = λ level above inside uncached.
+      came_before made level (path_index tree.levels level page) first second third more (path.rose level above inside uncached);
 }
 
 module _ {B T : Type 0} (terms : MemoryTerms B) where
@@ -110,6 +109,53 @@ module _ {B T : Type 0} (terms : MemoryTerms B) where
     pub accounted : AreAccounted terms old None → AreAccounted terms new stop
     pub shows : ShowsLies terms old new
     pub nodes : NodesSayStill terms old new
+
+  -- What came onto the chip on a call on a line of a page, and that no node was read that was never made.
+  pub record HasCome (page : ℕ) (old : OutsideView B T) (counters : CountersView) (new : OutsideView B T) (counters' : CountersView) : Type 0 where
+    pub few : KeepsFew counters counters'
+    pub copies : new.engine.evidence ≡ None → CopiesCame page (terms.history old.bus) old.engine.made counters (terms.history new.bus) counters'
+    pub unread : new.engine.evidence ≡ None → UnmadeAreUnread (terms.history old.bus) new.engine.made (terms.history new.bus)
+
+  -- no node was touched since
+  pub come_more : (page : ℕ) (first second third : OutsideView B T) (counters counters' : CountersView) →
+      ((place : Place) → RoseBy 0 ((terms.history second.bus).reads place) ((terms.history third.bus).reads place)) →
+      (third.engine.evidence ≡ None → second.engine.evidence ≡ None) →
+      ((level index : ℕ) → (terms.history third.bus).reads (node_place level index) ≡ (terms.history second.bus).reads (node_place level index)) →
+      ((level index : ℕ) → last_node level index third.engine.made ≡ last_node level index second.engine.made) →
+      HasCome page first counters second counters' → HasCome page first counters third counters'
+  come_more page first second third counters counters' more was_quiet reads last come = record {
+    few = come.few;
+    copies = λ quiet.
+        came_more page (terms.history first.bus) (terms.history second.bus) (terms.history third.bus) first.engine.made counters counters' (come.copies (was_quiet quiet)) more;
+    unread = λ quiet level index none. reads level index ∙ come.unread (was_quiet quiet) level index (sym (last level index) ∙ none);
+  }
+
+  -- memory was taken since, at most
+  pub come_idle : (page : ℕ) (first second third : OutsideView B T) (counters counters' : CountersView) → third.bus ≡ second.bus →
+      third.engine.made ≡ second.engine.made → third.engine.evidence ≡ second.engine.evidence →
+      HasCome page first counters second counters' → HasCome page first counters third counters'
+  come_idle page first second third counters counters' bus made evidence =
+      let same : terms.history third.bus ≡ terms.history second.bus = ap terms.history bus in
+      come_more page first second third counters counters' (λ place. omega (arith, ap (λ (h : BusHistory). h.reads place) same)) (λ quiet. sym evidence ∙ quiet)
+      (λ level index. ap (λ (h : BusHistory). h.reads (node_place level index)) same) (λ level index. ap (last_node level index) made)
+
+  -- and then came more
+  pub come_on : (page : ℕ) (first second third : OutsideView B T) (counters counters' counters'' : CountersView) → counters'.tree.levels ≡ counters.tree.levels →
+      StepMoves (terms.history first.bus) first.engine (terms.history second.bus) second.engine →
+      StepMoves (terms.history second.bus) second.engine (terms.history third.bus) third.engine →
+      HasCome page first counters second counters' → HasCome page second counters' third counters'' → HasCome page first counters third counters''
+  come_on page first second third counters counters' counters'' levels step more a b =
+      let was_quiet : third.engine.evidence ≡ None → second.engine.evidence ≡ None =
+      λ quiet. was_none second.engine.evidence third.engine.evidence more.evidence quiet in
+      record {
+        few = few_on counters counters' counters'' a.few b.few;
+        copies = λ quiet.
+            came_on page (terms.history first.bus) (terms.history second.bus) (terms.history third.bus) first.engine second.engine third.engine
+            counters counters' counters'' levels step more (a.copies (was_quiet quiet)) (b.copies quiet);
+        unread = λ quiet level index none.
+            b.unread quiet level index none
+            ∙ a.unread (was_quiet quiet) level index (unmade_before second.engine.made third.engine.made more.more more.made level index none);
+      }
 
   pub node_step_on : ((first second third : B) → terms.moved first second → terms.moved second third → terms.moved first third) →
       (first second third : OutsideView B T) (stop : Option MemStop) → IsNodeStep terms first second None → IsNodeStep terms second third stop →
@@ -306,9 +352,8 @@ module _ {B T : Type 0} (terms : MemoryTerms B) where
         (new.engine.evidence ≡ None → counter_in old.pads.used line ≡ last_counter limit →
         SameCounters counters old.engine.made counters' new.engine.made
         × ((terms.history new.bus).accesses ≤ (terms.history old.bus).accesses + counter_accesses terms.levels)) →
-        CopiesCame (page_of line) (terms.history old.bus) old.engine.made counters (terms.history new.bus) counters' →
-        IsWrite terms limit line bytes old counters new counters' stop
-    early_write limit line bytes rose stopped say reserved tampered spent used_up copies = record {
+        HasCome (page_of line) old counters new counters' → IsWrite terms limit line bytes old counters new counters' stop
+    early_write limit line bytes rose stopped say reserved tampered spent used_up come = record {
       bus = reached.node.bus;
       step = reached.node.step;
       levels = reached.levels;
@@ -338,8 +383,10 @@ module _ {B T : Type 0} (terms : MemoryTerms B) where
             | inl same ↦ inl (refl, same)
             | inr roomy ↦ let used = ap length reached.node.used in inr (omega (arith, used, roomy.0), roomy.1)
           ];
-      path = λ none. absurd (stopped none);
-      copies = copies;
+      unread = come.unread;
+      path = λ quiet none. absurd (stopped none);
+      few = come.few;
+      copies = come.copies;
       accounted = reached.accounted;
       shows = reached.shows;
       nodes = reached.nodes;
@@ -416,6 +463,11 @@ module _ {B T : Type 0} (terms : MemoryTerms B) where
         (say_on terms.tag_of terms.levels mid.pads.used (map (λ at. (at, counter)) part) mid.engine.made sealed.sealed.step.more lines_alone
         (reached.nodes (late_quiet quiet) was)))
 
+    -- and no node was read
+    late_come : HasCome (page_of line) old counters mid counters' → HasCome (page_of line) old counters new counters'
+    late_come =
+        come_more (page_of line) old mid new counters counters' sealed.sealed.step.reads late_quiet sealed.sealed.nodes.reads sealed.sealed.nodes.last
+
     late_reread : new.engine.evidence ≡ None → AreReread line part old.pads.used (terms.history old.bus) (terms.history new.bus)
     late_reread quiet = λ other listed differs.
         elim (sealed.reread quiet other listed differs) [
@@ -426,12 +478,11 @@ module _ {B T : Type 0} (terms : MemoryTerms B) where
     pub late_write : ((first second third : B) → terms.moved first second → terms.moved second third → terms.moved first third) → (limit : ℕ) → (new.engine.evidence ≡ None → counter ≡ next_counter (counter_in old.pads.used line)) →
         (new.engine.evidence ≡ None → counter_in old.pads.used line ≢ last_counter limit) →
         (stop ≡ None → CountersSay terms new counters') → 64 ≤ mid.pads.room → length old.engine.made + 64 ≤ length mid.engine.made + mid.engine.room →
-        (¬ Contains (cached_pages counters) (page_of line) →
+        (mid.engine.evidence ≡ None → ¬ Contains (cached_pages counters) (page_of line) →
         PathWasRead counters.tree old.engine.made 0 (page_of line) (terms.history old.bus) (terms.history mid.bus)) →
         ((place : Place) → stop ≡ Some (Tampered place) → counter.line ≡ 0) → (lasting_stop stop ≡ None → stop ≡ None) →
-        CopiesCame (page_of line) (terms.history old.bus) old.engine.made counters (terms.history mid.bus) counters' →
-        IsWrite terms limit line bytes old counters new counters' stop
-    late_write moved_on limit next below say entries_room room path overflow going copies = record {
+        HasCome (page_of line) old counters mid counters' → IsWrite terms limit line bytes old counters new counters' stop
+    late_write moved_on limit next below say entries_room room path overflow going come = record {
       bus = moved_on old.bus mid.bus new.bus reached.node.bus sealed.sealed.bus;
       step = whole_step;
       levels = reached.levels;
@@ -471,16 +522,12 @@ module _ {B T : Type 0} (terms : MemoryTerms B) where
             omega (arith, used, mapped, before, entries_room, sealed.sealed.pads_room),
             omega (arith, made, room, sealed.sealed.room, sealed.sealed.as_many),
           );
-      path = λ none missed. record {
-        rose = λ level above inside uncached.
-            elim ((path missed).rose level above inside uncached) [
-              | inl never ↦ inl never
-              | inr rose ↦
-                  let on = sealed.sealed.step.reads (node_place level (path_index counters.tree.levels level (page_of line))) in inr (omega (arith, rose, on))
-            ];
-      };
-      copies = came_more (page_of line) (terms.history old.bus) (terms.history mid.bus) (terms.history new.bus) old.engine.made counters counters' copies
-          sealed.sealed.step.reads;
+      unread = (late_come come).unread;
+      path = λ quiet none missed.
+          path_more counters.tree old.engine.made (page_of line) (terms.history old.bus) (terms.history mid.bus) (terms.history new.bus) sealed.sealed.step.reads
+          (path (late_quiet quiet) missed);
+      few = come.few;
+      copies = (late_come come).copies;
       accounted = λ was. sealed.sealed.accounted (reached.accounted was);
       shows = shows_on old mid new reached.node.step sealed.sealed.step reached.shows sealed.sealed.shows;
       nodes = late_nodes_say;

@@ -24,12 +24,12 @@ use Rattle.page_reencrypt.specs.Contents.{ArePaged, AreUnskipped, AreWithin, IsS
 use Rattle.page_reencrypt.specs.LineLengths.{length-line_bytes}
 use Rattle.page_reencrypt.specs.LineMoves.{ReadMoved}
 use Rattle.page_reencrypt.specs.Outside.{CountersSay, IsLineRead, MemoryTerms, OutsideView, outside_of, terms_of}
-use Rattle.page_reencrypt.specs.SealedLines.{AreProtected, CountersRise, IsLineOf, IsUnsealed, SealedLinesView, contents}
+use Rattle.page_reencrypt.specs.SealedLines.{AreOfPages, AreProtected, CountersRise, IsLineOf, IsUnsealed, SealedLinesView, contents}
 use Rattle.page_reencrypt.specs.Stops.{lasting_stop}
-use Rattle.page_reencrypt.proofs.Kept.{none_before, pages_kept, protected_after, stop_accounted, stop_lasts, stop_memory, stop_spent, stop_unwritten}
+use Rattle.page_reencrypt.proofs.Kept.{none_before, protected_after, stop_accounted, stop_lasts, stop_memory, stop_spent, stop_unwritten}
 use Rattle.page_reencrypt.proofs.Moves.{moves_not}
 use Rattle.page_reencrypt.proofs.NodeSteps.{last_data-nodes}
-use Rattle.page_reencrypt.proofs.Reaching.{came_not}
+use Rattle.page_reencrypt.proofs.Reaching.{came_not, few_not}
 use Rattle.page_reencrypt.proofs.RisingPairs.{last_none}
 use Rattle.page_reencrypt.proofs.Unmade.{same_tags}
 
@@ -51,9 +51,11 @@ pub lasting_read : {B T : Type 0} (history : B → BusHistory) (bus_moved : B �
     lasting_stop lines.stopped ≡ Some stop → ReadMoved history bus_moved tags lines line (Err stop) lines
 lasting_read history bus_moved tags bus_unmoved lines line stop lasting = record {
   moves = moves_not history bus_moved tags (IsLineOf lines) bus_unmoved lines;
-  read = record { path = λ going uncached. absurd (cc); read = λ going quiet. absurd (cc) };
+  read = record { path = λ going quiet uncached. absurd (cc); read = λ going quiet. absurd (cc) };
   stopped = lasts_itself lines.stopped stop lasting;
-  copies = came_not (page_of line) (history lines.bus) lines.engine.made lines.counters;
+  few_copies = few_not lines.counters;
+  copies = λ quiet. came_not (page_of line) (history lines.bus) lines.engine.made lines.counters;
+  unread = λ quiet level index none. refl;
   cached = tt;
   fits = λ going quiet. absurd (cc);
   outside = λ going. absurd (cc);
@@ -134,10 +136,10 @@ module _ {B T : Type 0} (d n : T → List ℕ → List ℕ) (history : B → Bus
       ∙ ap (counter_of (place_of other)) (sym (r.same quiet page))
 
   -- what held holds after it
-  pub read_kept : AreProtected d n history after
-  read_kept =
+  pub read_kept : AreOfPages m.engine.levels counters → AreProtected d n history after
+  read_kept pages =
       protected_after d n history bus_moved m new counters stopped r.step.tagger r.step.levels (r.levels ∙ kept.tree_levels)
-      (pages_kept m.engine.levels line (history m.bus) (history new.bus) m.engine.made m.counters counters inside r.copies kept.pages) r.consistent (λ goes_on. r.holds_last)
+      pages r.consistent (λ goes_on. r.holds_last)
       (λ goes_on. r.nodes_hold_last (stop_memory m.stopped going (result_err result) (λ is. goes_on (stops ∙ is)))) read_rises
       (λ quiet. r.nodes quiet (kept.nodes (was_quiet quiet)))
       (λ goes_on. r.fits (not_stopped goes_on)) read_says
@@ -157,8 +159,9 @@ module _ {B T : Type 0} (d n : T → List ℕ → List ℕ) (history : B → Bus
   }
 
   -- how it moves
-  pub read_moved : OnOk result (Contains (cached_pages counters) (page_of line)) → ReadMoved history bus_moved (tags_of d n) m line result after
-  read_moved cached = record {
+  pub read_moved : AreOfPages m.engine.levels counters → OnOk result (Contains (cached_pages counters) (page_of line)) →
+      ReadMoved history bus_moved (tags_of d n) m line result after
+  read_moved pages cached = record {
     moves = record {
       bus = r.bus;
       step = r.step;
@@ -180,7 +183,7 @@ module _ {B T : Type 0} (d n : T → List ℕ → List ℕ) (history : B → Bus
           (r.accounted before)));
     };
     read = record {
-      path = λ goes_on uncached. r.path (not_stopped goes_on) uncached;
+      path = λ goes_on quiet uncached. r.path quiet (not_stopped goes_on) uncached;
       read = λ goes_on quiet.
           elim (r.rose quiet (not_stopped goes_on)) [
             | inl fresh ↦ inl (last_none (line_count m.engine.levels) m.engine.made m.pads.used line kept.always.consistent.paired inside fresh)
@@ -188,8 +191,10 @@ module _ {B T : Type 0} (d n : T → List ℕ → List ℕ) (history : B → Bus
           ];
     };
     stopped = stops;
+    few_copies = r.few;
     copies = r.copies;
+    unread = r.unread;
     cached = cached;
-    fits = read_kept.fits;
+    fits = (read_kept pages).fits;
     outside = λ going. r;
   }

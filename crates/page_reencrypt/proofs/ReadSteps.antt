@@ -26,7 +26,6 @@ use Rattle.checked_bus.specs.Steps.{unwritten_in}
 use Rattle.checked_bus.proofs.Steps.{moves_on as step_on}
 use Rattle.split_counter.specs.CounterBlock.{CounterBlockView, block_of, counter_of, place_of}
 use Rattle.bonsai_tree.specs.Tree.{IsFetchPlace, PathWasRead}
-use Rattle.bonsai_tree.specs.Node.{path_index}
 use Rattle.counter_cache.specs.Counters.{AreHad, CountersView, IsCopyOrTagged, SameCounters, cached_block, cached_pages, counter_accesses, counters_in}
 use Rattle.checked_bus.proofs.Writes.{writes_on}
 use Rattle.page_reencrypt.specs.Consistency.{IsConsistent}
@@ -34,7 +33,7 @@ use Rattle.page_reencrypt.specs.Contents.{HoldsLast, NodesSay, bytes_of, line_by
 use Rattle.page_reencrypt.specs.Outside.{AreAccounted, CountersFit, IsLineRead, MemoryTerms, OutsideView, ShowsLies, terms_of}
 use Rattle.page_reencrypt.specs.SealedLines.{CopiesCame, IsReadUnder}
 use Rattle.page_reencrypt.proofs.Nodes.{fits_same, nodes_last, not_node}
-use Rattle.page_reencrypt.proofs.Reaching.{IsReached, came_more, reached_data, shows_on}
+use Rattle.page_reencrypt.proofs.Reaching.{HasCome, IsReached, come_more, path_more, reached_data, shows_on}
 use Rattle.page_reencrypt.proofs.Sealing.{same_terms}
 use Rattle.page_reencrypt.proofs.Unmade.{same_consistent}
 
@@ -91,9 +90,8 @@ module _ {B T : Type 0} (history : B → BusHistory) (moved : B → B → Type 0
       ((evidence : Evidence) → old.engine.evidence ≡ None → new.engine.evidence ≡ Some evidence → IsFetchPlace old.engine.levels page (evidence_place evidence)) →
       ((place : Place) → why ≡ Tampered place → IsFetchPlace old.engine.levels page place
       × (old.engine.evidence ≡ None → Rose (history old.bus).lies (history new.bus).lies)) →
-      ((spent : ℕ) → why ≢ Spent spent) → CopiesCame page (history old.bus) old.engine.made counters (history new.bus) counters' →
-      IsLineRead terms line old counters new counters' (Err why)
-  unread new counters' why reached pads once still same found tampered unspent copies = record {
+      ((spent : ℕ) → why ≢ Spent spent) → HasCome terms page old counters new counters' → IsLineRead terms line old counters new counters' (Err why)
+  unread new counters' why reached pads once still same found tampered unspent come = record {
     bus = reached.node.bus;
     step = reached.node.step;
     pairs = reached.node.pairs;
@@ -109,10 +107,12 @@ module _ {B T : Type 0} (history : B → BusHistory) (moved : B → B → Type 0
     nodes_hold_last = reached.node.nodes_hold_last;
     fits = λ none. absurd (cc);
     same = same;
-    copies = subst (λ (p : ℕ). CopiesCame p (history old.bus) old.engine.made counters (history new.bus) counters') page_is copies;
+    few = come.few;
+    copies = λ quiet. subst (λ (p : ℕ). CopiesCame p (history old.bus) old.engine.made counters (history new.bus) counters') page_is (come.copies quiet);
     nodes = reached.nodes;
     value = λ quiet. tt;
-    path = λ none. absurd (cc);
+    unread = come.unread;
+    path = λ quiet none. absurd (cc);
     rose = λ quiet none. absurd (cc);
     fresh = λ quiet fresh. reached.node.lines.reads line;
     accounted = reached.accounted;
@@ -134,7 +134,8 @@ module _ {B T : Type 0} (history : B → BusHistory) (moved : B → B → Type 0
       (got_pads : got.pads ≡ old.pads) (place_is : place ≡ place_of line) (inside : line < line_count old.engine.levels)
       (new : OutsideView B T) (counter : Counter) (result : Result (List ℕ) MemStop) (counter_is : counter ≡ counter_of place block)
       (r : StepMoves (history got.bus) got.engine (history new.bus) new.engine) (unmade : new.engine.made ≡ got.engine.made) (pads : new.pads ≡ got.pads)
-      (unwritten : (history new.bus).written ≡ (history got.bus).written) where
+      (unwritten : (history new.bus).written ≡ (history got.bus).written)
+      (nodes : (level index : ℕ) → (history new.bus).reads (node_place level index) ≡ (history got.bus).reads (node_place level index)) where
     abbrev whole_step : StepMoves (history old.bus) old.engine (history new.bus) new.engine
     whole_step =
         let step = step_on (history old.bus) (history got.bus) (history new.bus) old.engine got.engine new.engine a.node.step r in
@@ -176,11 +177,16 @@ module _ {B T : Type 0} (history : B → BusHistory) (moved : B → B → Type 0
         ap (λ (p : PadEngineView). line_bytes p.key got.engine.made line) got_pads
         ∙ ap (bytes_of old.pads.key line) (reached_data terms old counters got counters' None a line)
 
+    read_come : HasCome terms page old counters got counters' → HasCome terms (page_of line) old counters new counters'
+    read_come come =
+        come_more terms (page_of line) old got new counters counters' r.reads got_quiet nodes (λ level index. ap (last_node level index) unmade)
+        (subst (λ (p : ℕ). HasCome terms p old counters got counters') page_is come)
+
     pub line_read : (history got.bus).accesses ≤ (history old.bus).accesses + counter_accesses old.engine.levels →
         (Contains (cached_pages counters) (page_of line) → (history got.bus).accesses ≡ (history old.bus).accesses) →
         (got.engine.evidence ≡ None → SameCounters counters old.engine.made counters' got.engine.made) →
-        CopiesCame page (history old.bus) old.engine.made counters (history got.bus) counters' →
-        (¬ Contains (cached_pages counters) page → PathWasRead counters.tree old.engine.made 0 page (history old.bus) (history got.bus)) →
+        HasCome terms page old counters got counters' →
+        (got.engine.evidence ≡ None → ¬ Contains (cached_pages counters) page → PathWasRead counters.tree old.engine.made 0 page (history old.bus) (history got.bus)) →
         ((evidence : Evidence) → old.engine.evidence ≡ None → got.engine.evidence ≡ Some evidence → IsFetchPlace old.engine.levels page (evidence_place evidence)) →
         ((made_at : ℕ) (bytes tag : List ℕ) → old.engine.evidence ≡ None →
         got.engine.evidence ≡ Some (Collision 0 page made_at bytes tag) → block ≡ block_of bytes) →
@@ -201,7 +207,7 @@ module _ {B T : Type 0} (history : B → BusHistory) (moved : B → B → Type 0
         ((place : Place) → result ≡ Err (Tampered place) → (place ≡ line_place line)
         × (got.engine.evidence ≡ None → Rose (history got.bus).lies (history new.bus).lies)) →
         ((spent : ℕ) → result ≢ Err (Spent spent)) → IsLineRead terms line old counters new counters' result
-    line_read got_once still same copies path node_found node_accepted had went counted once alone value fresh rose accounted shows found under accepted tampered unspent = record {
+    line_read got_once still same come path node_found node_accepted had went counted once alone value fresh rose accounted shows found under accepted tampered unspent = record {
       bus = went;
       step = whole_step;
       pairs = a.node.pairs;
@@ -224,20 +230,17 @@ module _ {B T : Type 0} (history : B → BusHistory) (moved : B → B → Type 0
           (λ level index. ap (λ (made : List Message). last_node level index made) unmade);
       fits = λ none. read_fits;
       same = λ quiet other. ap (λ (made : List Message). counters_in counters' made other) unmade ∙ same (got_quiet quiet) other;
-      copies = subst (λ (p : ℕ). CopiesCame p (history old.bus) old.engine.made counters (history new.bus) counters') page_is
-          (came_more page (history old.bus) (history got.bus) (history new.bus) old.engine.made counters counters' copies r.reads);
+      few = come.few;
+      copies = (read_come come).copies;
       nodes = λ quiet was.
           subst (λ (p : PadEngineView). NodesSay terms.tag_of terms.levels p.used new.engine.made) (sym pads)
           (subst (NodesSay terms.tag_of terms.levels got.pads.used) (sym unmade) (a.nodes (got_quiet quiet) was));
       value = λ quiet. if_ok _ _ result (λ bytes is. is ∙ got_bytes) (value quiet);
-      path = λ none missed. record {
-        rose = λ level above within uncached.
-            let on = r.reads (node_place level (path_index counters.tree.levels level (page_of line))) in
-            elim ((subst (λ (p : ℕ). ¬ Contains (cached_pages counters) p → PathWasRead counters.tree old.engine.made 0 p (history old.bus) (history got.bus)) page_is path missed).rose level above within uncached) [
-              | inl never ↦ inl never
-              | inr rose ↦ inr (omega (arith, rose, on))
-            ];
-      };
+      unread = (read_come come).unread;
+      path = λ quiet none missed.
+          path_more counters.tree old.engine.made (page_of line) (history old.bus) (history got.bus) (history new.bus) r.reads
+          (subst (λ (p : ℕ). ¬ Contains (cached_pages counters) p → PathWasRead counters.tree old.engine.made 0 p (history old.bus) (history got.bus)) page_is
+          (path (got_quiet quiet)) missed);
       rose = λ quiet none.
           elim (rose (got_quiet quiet) (λ memory. let stop : result_err result ≡ Some NoMemory = ap result_err memory in cc)) [
             | inl was ↦ inl (subst (λ (p : PadEngineView). IsFresh line p.used) got_pads was)

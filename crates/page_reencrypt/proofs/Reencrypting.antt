@@ -12,7 +12,7 @@ use Rattle.sec_base.specs.declared.evidence.Evidence.{Evidence}
 use Rattle.sec_base.specs.declared.evidence.Evidence.TheVariants.{Forgery}
 use Rattle.sec_base.specs.declared.message.Message.TheVariants.{Line}
 use Rattle.sec_base.specs.declared.place.Place.{Place}
-use Rattle.sec_base.specs.declared.place.Place.TheVariants.{Line as line_place}
+use Rattle.sec_base.specs.declared.place.Place.TheVariants.{Line as line_place, Node as node_place}
 use Rattle.sec_base.specs.declared.stop.MemStop.{MemStop}
 use Rattle.sec_base.specs.declared.stop.MemStop.TheVariants.{Tampered, Spent, NoMemory}
 use Rattle.sec_base.specs.Count.{Rose}
@@ -150,21 +150,22 @@ module _ {B T : Type 0} (history : B → BusHistory) (moved : B → B → Type 0
   -- nothing was done yet
   pub sealed_none : moved old.bus old.bus → AreSealed (terms old) write old [] old None
   sealed_none unmoved =
-      only_read (terms old) write old old None unmoved (step_not (history old.bus) old.engine) refl (omega arith) refl refl (counted_not (history old.bus)) kept rose last
+      only_read (terms old) write old old None unmoved (step_not (history old.bus) old.engine) refl (omega arith) refl refl (λ level index. refl) (counted_not (history old.bus)) kept rose last
       (λ was. was) (λ quiet. inl quiet) (λ place is. absurd (cc)) (λ page is. cc)
 
   -- another line of the page was read
   pub read_sealed : (at : ℕ) (new : OutsideView B T) (result : Result (List ℕ) MemStop) → at ≢ write.line → page_of at ≡ page_of write.line →
       moved old.bus new.bus → StepMoves (history old.bus) old.engine (history new.bus) new.engine → new.engine.made ≡ old.engine.made →
       new.engine.room ≡ old.engine.room → new.pads ≡ old.pads → (history new.bus).written ≡ (history old.bus).written →
+      ((level index : ℕ) → (history new.bus).reads (node_place level index) ≡ (history old.bus).reads (node_place level index)) →
       AreCounted (history old.bus) (history new.bus) 0 →
       (AreAccounted (terms old) old None → AreAccounted (terms old) new (result_err result)) →
       ShowsLies (terms old) old new →
       ((place : Place) → result ≡ Err (Tampered place) → (place ≡ line_place at)
       × (old.engine.evidence ≡ None → Rose (history old.bus).lies (history new.bus).lies)) →
       ((page : ℕ) → result ≢ Err (Spent page)) → AreSealed (terms old) write old [] new (result_err result)
-  read_sealed at new result apart of_page went moves made room pads written counted accounted shows tampered unspent =
-      only_read (terms old) write old new (result_err result) went moves made (omega (arith, room)) pads written counted kept rose last accounted shows
+  read_sealed at new result apart of_page went moves made room pads written unread counted accounted shows tampered unspent =
+      only_read (terms old) write old new (result_err result) went moves made (omega (arith, room)) pads written unread counted kept rose last accounted shows
       (λ place is.
       let there = tampered place (stop_is result (Tampered place) is) in
       (record { other = at; place_is = there.0; of_page = of_page; apart = apart }, there.1))

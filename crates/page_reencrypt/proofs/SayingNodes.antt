@@ -1,8 +1,8 @@
 -- What was made of nodes says tags of their children and counters of their lines, also where more was made and used.
-use Rattle.std.proofs.Common.{◌≡◌, ◌⊎◌, inl, inr, ℕ, zero, suc, ◌+◌, ◌<◌, ◌≤◌, true, List, [], ◌∷◌, ◌++◌, length, slice_index, Option, Some, None, Contains, IsSome, unwrap_or, refl, ap, sym, ◌∙◌, subst, arith}
+use Rattle.std.proofs.Common.{◌≡◌, ◌⊎◌, inl, inr, ℕ, zero, suc, ◌<◌, ◌≤◌, true, List, [], ◌∷◌, ◌++◌, length, Option, Some, None, Contains, IsSome, unwrap_or, refl, ap, sym, ◌∙◌, subst, arith}
 use Rattle.std.specs.Option.{option_map}
-use Rattle.std.proofs.lemmas.List.{append-nil, append_cancel_left, get_or-replicate}
-use Rattle.std.proofs.lemmas.List.Elements.{All-contains, Contains-append_cases, Contains-append_left, Contains-append_right}
+use Rattle.std.proofs.lemmas.List.{append-nil, append_cancel_left}
+use Rattle.std.proofs.lemmas.List.Elements.{Contains-append_cases, Contains-append_left}
 use Rattle.sec_base.specs.Geometry.{page_count, page_of}
 use Rattle.sec_base.specs.LastMessage.{data_pairs, last_node, last_pair}
 use Rattle.sec_base.specs.declared.counter.Counter.{Counter}
@@ -13,15 +13,11 @@ use Rattle.cache_set.specs.Cache.{way_at}
 use Rattle.cache_set.proofs.Listed.{listed_at}
 use Rattle.bus_model.specs.BusHistory.{BusHistory}
 use Rattle.checked_bus.specs.Steps.{SameLines}
-use Rattle.split_counter.specs.Digits.{digits_of, number_of}
-use Rattle.split_counter.specs.CounterBlock.{block_of, counter_of, new_block, place_of}
-use Rattle.bonsai_tree.specs.Boot.{boot_block, boot_messages}
-use Rattle.bonsai_tree.specs.Node.{CachedNode, current_of, level_blocks, no_block}
+use Rattle.split_counter.specs.CounterBlock.{block_of, counter_of, place_of}
+use Rattle.bonsai_tree.specs.Node.{CachedNode, current_of, level_blocks}
 use Rattle.bonsai_tree.specs.NodeCache.{copy_of}
-use Rattle.bonsai_tree.specs.Tree.{SlotsAreTags}
-use Rattle.bonsai_tree.proofs.Boots.{IsOfBoot, messages-of_boot}
 use Rattle.bonsai_tree.proofs.LevelBlocks.{block_listed, blocks-append}
-use Rattle.bonsai_tree.proofs.MadeSlots.{slots_both}
+use Rattle.bonsai_tree.proofs.MadeSlots.{slots_on}
 use Rattle.counter_cache.specs.Counters.{CountersView, OnlyLeavingIsMade, cached_block, counters_in, leaving_page}
 use Rattle.page_reencrypt.specs.Contents.{BlocksSayEntries, NodesSay, counter_in, never_written}
 use Rattle.page_reencrypt.specs.SealedLines.{AreOfPages, IsOfPage}
@@ -53,18 +49,10 @@ module _ (tag_of : Message → List ℕ) (levels : ℕ) (used entries : List (�
         | inr late ↦ absurd (no_node more level index block lines late)
       ]
 
-  no_slots : SlotsAreTags tag_of levels more
-  no_slots = record {
-    tagged = λ before after level index at block is inside.
-        absurd (no_node more (level + 1) index block lines
-        (subst (λ (m : List Message). Contains m (Node (level + 1) index block)) (sym is)
-        (Contains-append_right before (Node (level + 1) index block ∷ after) (Node (level + 1) index block) (0, omega arith, refl))));
-  }
-
   -- lines were tagged since, and entries were added
   pub say_on : NodesSay tag_of levels used made → NodesSay tag_of levels (used ++ entries) (made ++ more)
   say_on was = record {
-    slots = slots_both tag_of levels made more was.slots no_slots;
+    slots = slots_on tag_of levels made more (λ level index block. no_node more level index block lines) was.slots;
     blocks = record {
       said = λ page line block listed of_page.
           elim (was.blocks.said page line block (node_before 0 page block listed) of_page) [
@@ -143,29 +131,4 @@ says_had levels used counters page old new made made' lines pages says only was 
             copy_says used made counters other line block copy
             (says other (copied_page levels counters other (record { block = block; changed = true }) pages copy)) of_page
       ];
-}
-
--- A memory of which no line was written
-
-zeros_are_new : block_of no_block ≡ new_block
-unfolding block_of digits_of number_of
-zeros_are_new = refl
-
-zeros_say : (line : ℕ) → counter_of (place_of line) (block_of no_block) ≡ never_written
-zeros_say line =
-    let zero_line : slice_index new_block.lines (place_of line) ≡ 0 = get_or-replicate 64 (place_of line) 0 0 (omega arith) in
-    ap (counter_of (place_of line)) zeros_are_new ∙ ap (λ (n : ℕ). let c : Counter = record { page = 0; line = n } in c) zero_line
-
-boot_zeros : (tag_of : Message → List ℕ) (levels page : ℕ) → boot_block tag_of levels 0 page ≡ no_block
-unfolding boot_block
-boot_zeros tag_of levels page = refl
-
--- each block says the counters of such lines
-pub boot_says : (tag_of : Message → List ℕ) (levels : ℕ) (used : List (ℕ × Counter)) (made : List Message) → made ≡ boot_messages tag_of levels → BlocksSayEntries used made
-boot_says tag_of levels used made is = record {
-  said = λ page line block listed of_page.
-      let booted : block ≡ boot_block tag_of levels 0 page =
-      All-contains (IsOfBoot tag_of levels) (boot_messages tag_of levels) (Node 0 page block) (messages-of_boot tag_of levels levels 0)
-      (subst (λ (m : List Message). Contains m (Node 0 page block)) is listed) in
-      inl (ap (λ (b : List ℕ). counter_of (place_of line) (block_of b)) (booted ∙ boot_zeros tag_of levels page) ∙ zeros_say line);
 }

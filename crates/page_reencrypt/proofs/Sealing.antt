@@ -97,12 +97,13 @@ module _ {B T : Type 0} (terms : MemoryTerms B) (write : LineWrite) where
   pub only_read : (old new : OutsideView B T) (stop : Option MemStop) → terms.moved old.bus new.bus →
       StepMoves (terms.history old.bus) old.engine (terms.history new.bus) new.engine → new.engine.made ≡ old.engine.made →
       old.engine.room ≤ new.engine.room → new.pads ≡ old.pads → (terms.history new.bus).written ≡ (terms.history old.bus).written →
+      ((level index : ℕ) → (terms.history new.bus).reads (node_place level index) ≡ (terms.history old.bus).reads (node_place level index)) →
       AreCounted (terms.history old.bus) (terms.history new.bus) 0 → AreConsistent terms old → HaveRisen terms old → HaveLast terms old →
       (AreAccounted terms old None → AreAccounted terms new stop) → ShowsLies terms old new →
       ((place : Place) → stop ≡ Some (Tampered place) → IsBeside write.line place
       × (old.engine.evidence ≡ None → Rose (terms.history old.bus).lies (terms.history new.bus).lies)) →
       ((page : ℕ) → stop ≢ Some (Spent page)) → AreSealed terms write old [] new stop
-  only_read old new stop moved moves made room pads written counted kept risen last accounted shows tampered unspent = record {
+  only_read old new stop moved moves made room pads written unread counted kept risen last accounted shows tampered unspent = record {
     bus = moved;
     step = record {
       bus_levels = moves.bus_levels;
@@ -116,6 +117,7 @@ module _ {B T : Type 0} (terms : MemoryTerms B) (write : LineWrite) where
       lies = moves.lies;
     };
     nodes = record {
+      reads = unread;
       written = λ level index. ap (λ (w : Place → List ℕ). w (node_place level index)) written;
       last = λ level index. ap (last_node level index) made;
     };
@@ -244,15 +246,17 @@ module _ {B T : Type 0} (terms : MemoryTerms B) (write : LineWrite) where
     was_quiet quiet = sym (ap (λ (e : TagEngineView T). e.evidence) made) ∙ quiet
 
     one_with : (stop : Option MemStop) (writes : ℕ) → AreCounted (terms.history old.bus) (terms.history new.bus) writes → writes ≤ 1 → 1 ≤ writes + unwritten_in stop →
+        (terms.history new.bus).reads ≡ (terms.history old.bus).reads →
         ((level index : ℕ) → (terms.history new.bus).written (node_place level index) ≡ (terms.history old.bus).written (node_place level index)) →
         ((other : ℕ) → other ≢ at → (terms.history new.bus).written (line_place other) ≡ (terms.history old.bus).written (line_place other)) →
         IsConsistent terms.tag_of terms.levels (terms.history new.bus) made_now used_now →
         (stop ≢ Some NoMemory → HoldsLast terms.tag_of (line_count terms.levels) made_now (terms.history new.bus).written) →
         ((place : Place) → stop ≢ Some (Tampered place)) → ((page : ℕ) → stop ≢ Some (Spent page)) → AreSealed terms write old (at ∷ []) new stop
-    one_with stop writes counted most least nodes lines fits lasts untampered unspent = record {
+    one_with stop writes counted most least reads nodes lines fits lasts untampered unspent = record {
       bus = moved;
       step = step;
       nodes = record {
+        reads = λ level index. ap (λ (f : Place → ℕ). f (node_place level index)) reads;
         written = nodes;
         last = λ level index. ap (last_node level index) made_is ∙ last_node-line old.engine.made at write.counter cipher level index;
       };
@@ -293,7 +297,7 @@ module _ {B T : Type 0} (terms : MemoryTerms B) (write : LineWrite) where
     one_sealed wrote =
         let once = wrote_once (line_place at) (sealed_line terms.tag_of at write.counter cipher) (terms.history old.bus) (terms.history new.bus) wrote in
         let long : length cipher ≡ 64 = length-cipher_of old.pads.key at write.counter plain in
-        one_with None 1 once.counted (omega arith) (omega arith)
+        one_with None 1 once.counted (omega arith) (omega arith) once.reads
         (λ level index. ap (λ (w : Place → List ℕ). w (node_place level index)) once.written
         ∙ node_there at (sealed_line terms.tag_of at write.counter cipher) (terms.history old.bus).written level index)
         (λ other differs.
@@ -312,7 +316,7 @@ module _ {B T : Type 0} (terms : MemoryTerms B) (write : LineWrite) where
     one_unwritten same =
         let long : length cipher ≡ 64 = length-cipher_of old.pads.key at write.counter plain in
         one_with (Some NoMemory) 0 (subst (λ (t : BusHistory). AreCounted (terms.history old.bus) t 0) (sym same) (counted_not (terms.history old.bus)))
-        (omega arith) (omega arith) (λ level index. ap (λ (t : BusHistory). t.written (node_place level index)) same)
+        (omega arith) (omega arith) (ap (λ (t : BusHistory). t.reads) same) (λ level index. ap (λ (t : BusHistory). t.written (node_place level index)) same)
         (λ other differs. ap (λ (t : BusHistory). t.written (line_place other)) same)
         (unwritten_consistent terms.tag_of terms.levels (terms.history old.bus) old.engine.made old.pads.used at write.counter cipher
         kept inside long (terms.history new.bus) moves.bus_levels (ap (λ (t : BusHistory). t.written) same))
@@ -367,6 +371,7 @@ module _ {B T : Type 0} (terms : MemoryTerms B) (write : LineWrite) where
           lies = step.lies;
         };
         nodes = record {
+          reads = λ level index. b.nodes.reads level index ∙ a.nodes.reads level index;
           written = λ level index. b.nodes.written level index ∙ a.nodes.written level index;
           last = λ level index. b.nodes.last level index ∙ a.nodes.last level index;
         };

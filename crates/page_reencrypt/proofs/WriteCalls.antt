@@ -28,15 +28,15 @@ use Rattle.page_reencrypt.specs.Contents.{bytes_of, contents_of, counter_in, ent
 use Rattle.page_reencrypt.specs.LineLengths.{length-line_bytes}
 use Rattle.page_reencrypt.specs.LineMoves.{WriteMoved, overflow_accesses, write_accesses}
 use Rattle.page_reencrypt.specs.Outside.{Accepts, IsWrite, OutsideView, outside_of, terms_of}
-use Rattle.page_reencrypt.specs.SealedLines.{AreProtected, AreReread, AreSealedUnder, CountersRise, HadMemory, IsAcceptedInWrite, IsLineOf, IsSealedAnew, IsSealedInPart, IsTamperedInWrite, IsUnsealed, Moves, SameCounters, SealedLinesView, contents, lines_of_write}
+use Rattle.page_reencrypt.specs.SealedLines.{AreOfPages, AreProtected, AreReread, AreSealedUnder, CountersRise, HadMemory, IsAcceptedInWrite, IsLineOf, IsSealedAnew, IsSealedInPart, IsTamperedInWrite, IsUnsealed, Moves, SameCounters, SealedLinesView, contents, lines_of_write}
 use Rattle.page_reencrypt.specs.Stops.{lasting_stop}
 use Rattle.page_reencrypt.proofs.Entries.{encrypted_itself, encrypted_of_page, encrypted_page, entry_line, length-page_lines, taken}
-use Rattle.page_reencrypt.proofs.Kept.{none_before, pages_kept, protected_after, stop_accounted, stop_going, stop_lasts, stop_memory, stop_spent, stop_unwritten}
+use Rattle.page_reencrypt.proofs.Kept.{none_before, protected_after, stop_accounted, stop_going, stop_lasts, stop_memory, stop_spent, stop_unwritten}
 use Rattle.page_reencrypt.proofs.LineReads.{beside_inside}
 use Rattle.page_reencrypt.proofs.Moves.{moves_not}
 use Rattle.page_reencrypt.proofs.Nodes.{not_node}
 use Rattle.page_reencrypt.proofs.ReadCalls.{contents_same, lasts_again, lasts_itself}
-use Rattle.page_reencrypt.proofs.Reaching.{came_not}
+use Rattle.page_reencrypt.proofs.Reaching.{came_not, few_not}
 use Rattle.page_reencrypt.proofs.Rises.{rises_after, used_on}
 use Rattle.page_reencrypt.proofs.Sealing.{listed_or_not}
 use Rattle.page_reencrypt.proofs.Unmade.{same_tags}
@@ -75,7 +75,9 @@ pub lasting_write : {B T : Type 0} (history : B → BusHistory) (bus_moved : B �
 lasting_write history bus_moved tags bus_unmoved lines line bytes stop lasting = record {
   moves = moves_not history bus_moved tags (IsLineOf lines) bus_unmoved lines;
   stopped = lasts_itself lines.stopped stop lasting;
-  copies = came_not (page_of line) (history lines.bus) lines.engine.made lines.counters;
+  few_copies = few_not lines.counters;
+  copies = λ quiet. came_not (page_of line) (history lines.bus) lines.engine.made lines.counters;
+  unread = λ quiet level index none. refl;
   cached = λ going. absurd (lasts_again lines.stopped stop lasting going);
   fits = λ going quiet. absurd (cc);
   outside = λ going. absurd (cc);
@@ -118,10 +120,10 @@ module _ {B T : Type 0} (d n : T → List ℕ → List ℕ) (history : B → Bus
   had_memory goes_on = stop_memory m.stopped going (result_err result) (λ is. goes_on (stops ∙ is))
 
   -- what held holds after it
-  pub write_kept : AreProtected d n history after
-  write_kept =
+  pub write_kept : AreOfPages m.engine.levels counters → AreProtected d n history after
+  write_kept pages =
       protected_after d n history bus_moved m new counters stopped w.step.tagger w.step.levels (w.levels ∙ kept.tree_levels)
-      (pages_kept m.engine.levels line (history m.bus) (history new.bus) m.engine.made m.counters counters inside w.copies kept.pages) w.consistent (λ goes_on. w.holds_last (had_memory goes_on))
+      pages w.consistent (λ goes_on. w.holds_last (had_memory goes_on))
       (λ goes_on. w.nodes_hold_last (had_memory goes_on)) write_rises
       (λ quiet. w.nodes quiet (kept.nodes (was_quiet quiet))) (λ goes_on. w.fits (still_going goes_on)) (λ goes_on. w.current (still_going goes_on))
 
@@ -196,7 +198,7 @@ module _ {B T : Type 0} (d n : T → List ℕ → List ℕ) (history : B → Bus
         (w.accounted before)));
   }
 
-  module _ (cached : lasting_stop (result_err result) ≡ None → Contains (cached_pages counters) (page_of line))
+  module _ (pages : AreOfPages m.engine.levels counters) (cached : lasting_stop (result_err result) ≡ None → Contains (cached_pages counters) (page_of line))
       (once : new.engine.evidence ≡ None → (next_counter (counter_in m.pads.used line)).line ≢ 0 →
       ((history new.bus).accesses ≤ (history m.bus).accesses + write_accesses m.engine.levels)
       × ((other : ℕ) → (history new.bus).reads (line_place other) ≡ (history m.bus).reads (line_place other)))
@@ -209,9 +211,11 @@ module _ {B T : Type 0} (d n : T → List ℕ → List ℕ) (history : B → Bus
     write_moved = record {
       moves = write_moves;
       stopped = stops;
+      few_copies = w.few;
       copies = w.copies;
+      unread = w.unread;
       cached = cached;
-      fits = write_kept.fits;
+      fits = (write_kept pages).fits;
       outside = λ going. w;
       once = once;
       few = few;

@@ -81,8 +81,8 @@ pub record BlocksSayEntries (used : List (ℕ × Counter)) (made : List Message)
   pub said : (page line : ℕ) (block : List ℕ) → Contains made (Node 0 page block) → page_of line ≡ page →
       (counter_of (place_of line) (block_of block) ≡ never_written) ⊎ Contains used (line, counter_of (place_of line) (block_of block))
 
--- What was made of nodes says tags and counters alone: each slot the tag of that child's last message, and each counter block
--- counters of its lines.
+-- What was made of nodes says tags and counters alone: each slot the tag of that child's last message, or zeros where it was
+-- never made, and each counter block counters of its lines.
 pub record NodesSay (tag_of : Message → List ℕ) (levels : ℕ) (used : List (ℕ × Counter)) (made : List Message) : Type 0 where
   pub slots : SlotsAreTags tag_of levels made
   pub blocks : BlocksSayEntries used made

@@ -12,7 +12,7 @@ ghost use Rattle.sec_base.specs.declared.evidence.Evidence.{Evidence};
 ghost use Rattle.sec_base.specs.declared.evidence.Evidence.TheVariants.{Collision, Forgery};
 ghost use Rattle.sec_base.specs.declared.message.Message.TheVariants.{Line};
 ghost use Rattle.sec_base.specs.declared.place.Place.{Place};
-ghost use Rattle.sec_base.specs.declared.place.Place.TheVariants.{Line as line_place};
+ghost use Rattle.sec_base.specs.declared.place.Place.TheVariants.{Line as line_place, Node as node_place};
 ghost use Rattle.sec_base.specs.declared.sealed.Sealed.{Sealed};
 ghost use Rattle.sec_base.specs.declared.stop.MemStop.TheVariants.{Tampered, Spent, NoMemory as no_memory};
 ghost use Rattle.bus_model.specs.BusHistory.{after_write};
@@ -25,11 +25,11 @@ ghost use Rattle.checked_bus.specs.SealedLine.{sealed_line};
 ghost use Rattle.checked_bus.specs.Steps.{IsAccounted, Moves as StepMoves};
 ghost use Rattle.split_counter.specs.CounterBlock.{CounterBlockView, IsCounterBlock, after_bump, block_of, bumped, counter_of, place_of};
 ghost use Rattle.split_counter.specs.declared.bumped.Bumped.TheVariants.{Line as line_counter};
-ghost use Rattle.bonsai_tree.specs.Tree.{IsFetchPlace, PathWasRead};
+ghost use Rattle.bonsai_tree.specs.Tree.{IsFetchPlace, PathWasRead, UnmadeAreUnread};
 ghost use Rattle.counter_cache.specs.Counters.{AreHad, SameCounters, cached_pages, counter_accesses, counters_in};
 ghost use Rattle.page_reencrypt.specs.Contents.{line_bytes, page_lines};
 ghost use Rattle.page_reencrypt.specs.Outside.{Accepts, AreAccounted, AreConsistent, AreSealedInOrder, CountersFit, CountersSay, DiffersInRoom, HasCounter, HaveLast, HaveLastNodes, HaveRisen, IsAcceptedBeside, IsNodeStep, NodesSayStill, ShowsLies, terms_of, with_room};
-ghost use Rattle.page_reencrypt.specs.SealedLines.{AreOfPages, CopiesCame, IsReadUnder};
+ghost use Rattle.page_reencrypt.specs.SealedLines.{AreOfPages, CopiesCame, IsReadUnder, KeepsFew};
 
 use bus_model::Bus;
 use checked_bus::{read_line, write_line};
@@ -101,14 +101,21 @@ impl<B: Bus, T: Tagger> Outside<B, T> {
             CountersSay (terms_of B.history B.moved T.data_tag_of T.node_tag_of self.old) self.old counters.old →
             NodesSayStill (terms_of B.history B.moved T.data_tag_of T.node_tag_of self.old) self.old self.new }
 
-        // A page without a copy has its block read from its place, after the nodes above it up to the lowest one that has a copy,
-        // and has a copy then. One with a copy makes no access.
-        ensures read { ¬ Contains (cached_pages counters.old) page →
+        // A page without a copy has its block read from its place, and so are the nodes above it up to the lowest one that has a copy,
+        // but for those that were never made, and has a copy then. One with a copy makes no access.
+        ensures read { CountersFit (terms_of B.history B.moved T.data_tag_of T.node_tag_of self.old) self.old counters.old →
+            self.new.engine.evidence ≡ None → ¬ Contains (cached_pages counters.old) page →
             OnOk result (PathWasRead counters.old.tree self.old.engine.made 0 page (B.history self.old.bus) (B.history self.new.bus)) }
         ensures idle { Contains (cached_pages counters.old) page →
             (B.history self.new.bus ≡ B.history self.old.bus) × (self.new.engine ≡ self.old.engine) }
         ensures cached { OnOk result (Contains (cached_pages counters.new) page) }
-        ensures copies { CopiesCame page (B.history self.old.bus) self.old.engine.made counters.old (B.history self.new.bus) counters.new }
+        ensures few_copies { KeepsFew counters.old counters.new }
+        ensures copies { CountersFit (terms_of B.history B.moved T.data_tag_of T.node_tag_of self.old) self.old counters.old →
+            self.new.engine.evidence ≡ None →
+            CopiesCame page (B.history self.old.bus) self.old.engine.made counters.old (B.history self.new.bus) counters.new }
+        ensures unread { CountersFit (terms_of B.history B.moved T.data_tag_of T.node_tag_of self.old) self.old counters.old →
+            self.new.engine.evidence ≡ None → UnmadeAreUnread (B.history self.old.bus) self.new.engine.made (B.history self.new.bus) }
+        ensures pages { AreOfPages self.old.engine.levels counters.new }
 
         // A false answer is shown as evidence or taken for tampering.
         ensures accounted { CountersFit (terms_of B.history B.moved T.data_tag_of T.node_tag_of self.old) self.old counters.old →
@@ -151,7 +158,11 @@ impl<B: Bus, T: Tagger> Outside<B, T> {
         ensures pads { self.new.pads ≡ self.old.pads }
         ensures levels { counters.new.tree.levels ≡ counters.old.tree.levels }
         ensures cached { Contains (cached_pages counters.new) page }
-        ensures copies { CopiesCame page (B.history self.old.bus) self.old.engine.made counters.old (B.history self.new.bus) counters.new }
+        ensures few_copies { KeepsFew counters.old counters.new }
+        ensures copies { CountersFit (terms_of B.history B.moved T.data_tag_of T.node_tag_of self.old) self.old counters.old →
+            self.new.engine.evidence ≡ None →
+            CopiesCame page (B.history self.old.bus) self.old.engine.made counters.old (B.history self.new.bus) counters.new }
+        ensures pages { AreOfPages self.old.engine.levels counters.new }
 
         // Where the counters fit or there is evidence, they still do, and the line's counter is the next one.
         ensures fits { CountersFit (terms_of B.history B.moved T.data_tag_of T.node_tag_of self.old) self.old counters.old →
@@ -194,6 +205,8 @@ impl<B: Bus, T: Tagger> Outside<B, T> {
         ensures once { (B.history self.new.bus).accesses ≤ (B.history self.old.bus).accesses + 1 }
         ensures alone { (other : ℕ) → other ≢ line →
             (B.history self.new.bus).reads (line_place other) ≡ (B.history self.old.bus).reads (line_place other) }
+        ensures nodes { (level index : ℕ) →
+            (B.history self.new.bus).reads (node_place level index) ≡ (B.history self.old.bus).reads (node_place level index) }
         ensures rose { self.old.engine.evidence ≡ None → result ≢ Err no_memory → IsFresh line self.old.pads.used
             ⊎ Rose ((B.history self.old.bus).reads (line_place line)) ((B.history self.new.bus).reads (line_place line)) }
 

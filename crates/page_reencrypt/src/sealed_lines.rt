@@ -15,17 +15,16 @@ ghost use Rattle.sec_base.specs.declared.sealed.Sealed.{Sealed};
 ghost use Rattle.sec_base.specs.declared.stop.MemStop.{MemStop};
 ghost use Rattle.sec_base.specs.declared.stop.MemStop.TheVariants.{Tampered, Spent};
 ghost use Rattle.bus_model.specs.BusHistory.{NothingWritten};
-ghost use Rattle.tag_engine.specs.Tag.{engine_tag};
 ghost use Rattle.tag_engine.specs.TagEngine.{tags_of};
 ghost use Rattle.pad_stream.specs.Pad.{cipher_of};
 ghost use Rattle.pad_stream.specs.PadBlocks.{ShareNoBlock};
 ghost use Rattle.split_counter.specs.CounterBlock.{block_of, counter_of, last_counter, next_counter, place_of};
-ghost use Rattle.bonsai_tree.specs.Tree.{IsFetchPlace, PathWasRead};
+ghost use Rattle.bonsai_tree.specs.Tree.{IsFetchPlace, PathWasRead, UnmadeAreUnread};
 ghost use Rattle.counter_cache.specs.Counters.{cached_pages, counter_accesses};
 ghost use Rattle.page_reencrypt.specs.Contents.{counter_in, entries_of_write};
 ghost use Rattle.page_reencrypt.specs.Outside.{Accepts, AreConsistent, CountersFit, CountersSay, HasCounter, HaveLast, HaveLastNodes, HaveRisen, IsLineRead, IsWrite, terms_of};
 ghost use Rattle.page_reencrypt.specs.LineMoves.{ReadMoved, WriteMoved, read_accesses, write_accesses, overflow_accesses};
-ghost use Rattle.page_reencrypt.specs.SealedLines.{AreNew, AreOfPages, AreProtected, AreReread, CopiesCame, HadMemory, IsAcceptedInWrite, IsQuiet, IsReadByCounters, IsReadUnder, IsSealedAnew, IsSealedInPart, IsTamperedInWrite, IsUnbooted, IsUnsealed, LinesFit, SameCounters, contents, enc_key, evidence, levels, lines_of, lines_of_write, made, tag_in, used};
+ghost use Rattle.page_reencrypt.specs.SealedLines.{AreNew, AreOfPages, AreProtected, AreReread, CopiesCame, HadMemory, IsAcceptedInWrite, IsQuiet, IsReadByCounters, IsReadUnder, IsSealedAnew, IsSealedInPart, IsTamperedInWrite, IsUnsealed, KeepsFew, LinesFit, SameCounters, contents, enc_key, evidence, levels, lines_of, lines_of_write, made, tag_in, used};
 ghost use Rattle.page_reencrypt.specs.Stops.{lasting_stop};
 
 use crate::account::Account;
@@ -66,7 +65,7 @@ impl<B: Bus, T: Tagger> Model for SealedLines<B, T> {
 }
 
 impl<B: Bus, T: Tagger> SealedLines<B, T> {
-    /// A memory that was never written, over a bus to which nothing was written: its tree is written to the bus. Out of
+    /// A memory that was never written, over a bus to which nothing was written. It makes no access of the bus. Out of
     /// memory, the tagger is dropped, and the bus comes back.
     pub fn boot(
         alloc: Global,
@@ -79,10 +78,9 @@ impl<B: Bus, T: Tagger> SealedLines<B, T> {
         requires levels { (B.history bus).levels ≡ geometry }
         requires nothing_written { NothingWritten (B.history bus) }
 
-        ensures new { IfOk result (AreNew B.history B.moved (tags_of T.data_tag_of T.node_tag_of) bus tagger enc_key.now geometry page_limit) }
+        ensures new { IfOk result (AreNew bus tagger enc_key.now geometry page_limit) }
         ensures fits { IfOk result (LinesFit T.data_tag_of T.node_tag_of B.history) }
-        ensures refused { IfErr result (λ refusal. IsUnbooted (engine_tag (T.data_tag_of tagger) (T.node_tag_of tagger) geometry) geometry
-            (B.history bus) (B.history refusal.0) × B.moved bus refusal.0) }
+        ensures refused { IfErr result (λ refusal. refusal.0 ≡ bus) }
     {
         let Ok(mut tags) = TagEngine::new(alloc, tagger, geometry) else {
             return Err(NoMemoryWith(bus));
@@ -214,8 +212,12 @@ impl<B: Bus, T: Tagger> LineStore for SealedLines<B, T> {
             (enc_key self.old) self.old.counters self.new.counters (made self.new) line (evidence self.old) (evidence self.new)
             (B.history self.new.bus)) }
 
-        // What has a copy on the chip had one before, or was read. Where the line was read, the counter block of its page has one.
-        ensures copies { CopiesCame (page_of line) (B.history self.old.bus) (made self.old) self.old.counters (B.history self.new.bus) self.new.counters }
+        // What has a copy on the chip had one before, or was read or never made; and no node is read that was never made. Where
+        // the line was read, the counter block of its page has a copy.
+        ensures few_copies { KeepsFew self.old.counters self.new.counters }
+        ensures copies { IsQuiet self.new →
+            CopiesCame (page_of line) (B.history self.old.bus) (made self.old) self.old.counters (B.history self.new.bus) self.new.counters }
+        ensures unread { IsQuiet self.new → UnmadeAreUnread (B.history self.old.bus) (made self.new) (B.history self.new.bus) }
         ensures cached { OnOk result (Contains (cached_pages self.new.counters) (page_of line)) }
 
         // Evidence comes only of a false answer.
@@ -271,13 +273,16 @@ impl<B: Bus, T: Tagger> LineStore for SealedLines<B, T> {
         ensures fits { lasting_stop self.new.stopped ≡ None → IsQuiet self.new →
             LinesFit T.data_tag_of T.node_tag_of B.history self.new }
 
-        // The path of the page is read, unless its counters were on the chip. With an overflow each other line of the page that
-        // was written before is read from its place.
-        ensures path { lasting_stop self.old.stopped ≡ None → ¬ Contains (cached_pages self.old.counters) (page_of line) →
+        // The path of the page is read, unless its counters were on the chip, but for nodes that were never made. With an overflow
+        // each other line of the page that was written before is read from its place.
+        ensures path { lasting_stop self.old.stopped ≡ None → IsQuiet self.new → ¬ Contains (cached_pages self.old.counters) (page_of line) →
             OnOk result (PathWasRead self.old.counters.tree (made self.old) 0 (page_of line) (B.history self.old.bus) (B.history self.new.bus)) }
         ensures reread { IsQuiet self.new → OnOk result (AreReread line (lines_of_write line self.old) (used self.old)
             (B.history self.old.bus) (B.history self.new.bus)) }
-        ensures copies { CopiesCame (page_of line) (B.history self.old.bus) (made self.old) self.old.counters (B.history self.new.bus) self.new.counters }
+        ensures few_copies { KeepsFew self.old.counters self.new.counters }
+        ensures copies { IsQuiet self.new →
+            CopiesCame (page_of line) (B.history self.old.bus) (made self.old) self.old.counters (B.history self.new.bus) self.new.counters }
+        ensures unread { IsQuiet self.new → UnmadeAreUnread (B.history self.old.bus) (made self.new) (B.history self.new.bus) }
 
         // Where the line was written, with an overflow too, or is spent, the counter block of its page has a copy on the chip.
         ensures cached { lasting_stop (result_err result) ≡ None → Contains (cached_pages self.new.counters) (page_of line) }
@@ -379,6 +384,7 @@ fn read_at<B: Bus, T: Tagger>(
     ensures read { IsLineRead (terms_of B.history B.moved T.data_tag_of T.node_tag_of outside.old) line
         outside.old counters.old outside.new counters.new result }
     ensures cached { OnOk result (Contains (cached_pages counters.new) (page_of line)) }
+    ensures pages { AreOfPages outside.old.engine.levels counters.new }
 {
     let block = outside.get(counters, page_of(line))?;
     outside.read(line, block.get(place_of(line)))
@@ -408,6 +414,7 @@ fn write_next<B: Bus, T: Tagger>(
     ensures written { IsWrite (terms_of B.history B.moved T.data_tag_of T.node_tag_of outside.old) limit line bytes.now
         outside.old counters.old outside.new counters.new (result_err result) }
     ensures cached { lasting_stop (result_err result) ≡ None → Contains (cached_pages counters.new) (page_of line) }
+    ensures pages { AreOfPages outside.old.engine.levels counters.new }
     ensures accepted { Accepts outside.old outside.new
         (IsAcceptedInWrite line outside.old.pads.used outside.new.pads.used outside.new.engine.made) }
     ensures once { outside.new.engine.evidence ≡ None → (next_counter (counter_in outside.old.pads.used line)).line ≢ 0 →

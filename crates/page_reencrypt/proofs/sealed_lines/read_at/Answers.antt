@@ -40,8 +40,10 @@ returns-in_err-block g c =
           (unread h m d n old counters c.args.line c.page_of.result c.page_of.ensures.page c.get.new.self c.get.new.counters why reached e.pads e.once still (e.same c.requires.fits) e.found
           (λ place same.
           let there = e.tampered place (ap (λ (s : MemStop). Err s) same) in (there.0, there.1 c.requires.fits))
-          (λ page same. e.unspent page (ap (λ (s : MemStop). Err s) same)) e.copies);
+          (λ page same. e.unspent page (ap (λ (s : MemStop). Err s) same))
+          (record { few = e.few_copies; copies = e.copies c.requires.fits; unread = e.unread c.requires.fits }));
       cached = subst (λ (r : Result (List ℕ) MemStop). OnOk r (Contains (cached_pages c.get.new.counters) (page_of c.args.line))) (sym is) tt;
+      pages = e.pages;
     }
 
 pub read-requires-clause-counter : goal.read-requires-clause-counter
@@ -68,7 +70,7 @@ read-requires-clause-counter g c = λ quiet.
       page_is = c.page_of.ensures.page;
       place_is = c.place_of.ensures.place;
       same = e.same c.requires.fits;
-      copies = e.copies;
+      come = record { few = e.few_copies; copies = e.copies c.requires.fits; unread = e.unread c.requires.fits };
       block_is = e.block c.requires.fits;
       is_block = e.is_block;
       counter_is = c.get-2.ensures.counter;
@@ -104,10 +106,12 @@ returns g c =
     record {
       read = line_read h m d n old counters c.args.line c.page_of.result c.page_of.ensures.page c.get.new.self c.get.new.counters c.place_of.result
           c.in_ok-block.block got e.pads c.place_of.ensures.place c.requires.inside c.read.new.self c.get-2.result c.read.result c.get-2.ensures.counter
-          r.moves r.unmade r.pads r.unwritten e.once still (e.same c.requires.fits) e.copies e.read e.found
+          r.moves r.unmade r.pads r.unwritten r.nodes e.once still (e.same c.requires.fits)
+          (record { few = e.few_copies; copies = e.copies c.requires.fits; unread = e.unread c.requires.fits }) (e.read c.requires.fits) e.found
           (λ made_at bytes tag quiet is. ok_same c.in_ok-block.block (block_of bytes) (Ok c.in_ok-block.block) (Ok (block_of bytes)) refl refl (e.accepted made_at bytes tag quiet is))
           (e.checked c.in_ok-block.block refl)
           (g.met.B.Bus.moved_on old.bus c.get.new.self.bus c.read.new.self.bus e.step.bus r.moved) r.counted r.once r.alone r.value r.fresh r.rose
           r.accounted r.shows r.found r.under r.accepted r.tampered r.unspent;
       cached = on_success c.read.result (λ none. subst (λ (p : ℕ). Contains (cached_pages c.get.new.counters) p) c.page_of.ensures.page e.cached);
+      pages = e.pages;
     }

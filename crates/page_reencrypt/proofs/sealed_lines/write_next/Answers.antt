@@ -17,12 +17,12 @@ use Rattle.checked_bus.proofs.TaggedWrites.{wrote_once}
 use Rattle.counter_cache.specs.Counters.{cached_pages, counters_in}
 use Rattle.page_reencrypt.specs.Contents.{page_lines}
 use Rattle.page_reencrypt.specs.Outside.{IsWrite, LineWrite, OutsideView, terms_of}
-use Rattle.page_reencrypt.specs.SealedLines.{CopiesCame}
+use Rattle.page_reencrypt.specs.SealedLines.{AreOfPages}
 use Rattle.page_reencrypt.specs.Stops.{lasting_stop}
 use Rattle.page_reencrypt.proofs.NextWrites.{HadCounters, counted_up, counter_here, is_last, lasts, line_unwritten, line_written, mid_counters, mid_inside, mid_kept, mid_last, mid_later, mid_rooms, mid_rose, ok_where, page_overflows, page_written, refused_reached, say_same, spent_after, spent_early, stopped_early}
 use Rattle.page_reencrypt.proofs.Nodes.{not_node}
 use Rattle.page_reencrypt.proofs.ReadSteps.{before_line}
-use Rattle.page_reencrypt.proofs.Reaching.{IsReached}
+use Rattle.page_reencrypt.proofs.Reaching.{HasCome, IsReached, come_idle}
 use Rattle.page_reencrypt.proofs.Reencrypting.{one_access}
 use Rattle.page_reencrypt.proofs.Sealing.{made_as_used}
 use Rattle.page_reencrypt.proofs.sealed_lines.write_next.Goals as goal
@@ -46,15 +46,16 @@ returns-in_err-block-clause-written g c =
       shows = e.shows c.requires.fits;
       nodes = e.nodes c.requires.pages c.requires.fits c.requires.current;
     } in
-    let copies : CopiesCame (page_of c.args.line) (h old.bus) old.engine.made counters (h c.get.new.self.bus) c.get.new.counters =
-    subst (λ (p : ℕ). CopiesCame p (h old.bus) old.engine.made counters (h c.get.new.self.bus) c.get.new.counters) c.page_of-page.ensures.page e.copies in
+    let come : HasCome (terms_of h m d n old) (page_of c.args.line) old counters c.get.new.self c.get.new.counters =
+    subst (λ (p : ℕ). HasCome (terms_of h m d n old) p old counters c.get.new.self c.get.new.counters) c.page_of-page.ensures.page
+    (record { few = e.few_copies; copies = e.copies c.requires.fits; unread = e.unread c.requires.fits }) in
     subst (λ (s : Option MemStop). IsWrite (terms_of h m d n old) c.args.limit c.args.line c.args.bytes.now old counters c.get.new.self c.get.new.counters s) (sym stop)
     (stopped_early h m d n old counters c.get.new.self c.get.new.counters why reached c.args.limit c.args.line c.args.bytes.now c.requires.risen
     (λ page is. e.unspent page (ap (λ (s : MemStop). Err s) is)) (inl (e.same c.requires.fits))
     (λ place is.
     let there = e.tampered place (ap (λ (s : MemStop). Err s) is) in
     (rw (← c.page_of-page.ensures.page) there.0, there.1 c.requires.fits))
-    (λ quiet last. (e.same c.requires.fits quiet, e.once)) copies)
+    (λ quiet last. (e.same c.requires.fits quiet, e.once)) come)
 
 pub returns-in-Spent-clause-written : goal.returns-in-Spent-clause-written
 returns-in-Spent-clause-written g c =
@@ -80,14 +81,15 @@ returns-in-Spent-clause-written g c =
       page_is = c.page_of-page.ensures.page;
       place_is = c.place_of-place.ensures.place;
       same = e.same c.requires.fits;
-      copies = e.copies;
+      come = record { few = e.few_copies; copies = e.copies c.requires.fits; unread = e.unread c.requires.fits };
       block_is = e.block c.requires.fits;
       is_block = e.is_block;
       counter_is = c.get-2.ensures.counter;
       foreseen_is = c.of.ensures.outcome;
     } in
-    let copies : CopiesCame (page_of c.args.line) (h old.bus) old.engine.made counters (h c.get.new.self.bus) c.get.new.counters =
-    subst (λ (p : ℕ). CopiesCame p (h old.bus) old.engine.made counters (h c.get.new.self.bus) c.get.new.counters) c.page_of-page.ensures.page e.copies in
+    let come : HasCome (terms_of h m d n old) (page_of c.args.line) old counters c.get.new.self c.get.new.counters =
+    subst (λ (p : ℕ). HasCome (terms_of h m d n old) p old counters c.get.new.self c.get.new.counters) c.page_of-page.ensures.page
+    (record { few = e.few_copies; copies = e.copies c.requires.fits; unread = e.unread c.requires.fits }) in
     spent_early h m d n old counters c.get.new.self c.get.new.counters c.page_of-page.result got c.args.limit c.args.line c.args.bytes.now c.requires.risen
     (say_same h m d n old counters c.requires.current c.get.new.self c.get.new.counters None got (e.same c.requires.fits)) (inl (e.same c.requires.fits)) c.page_of-page.ensures.page
     (λ quiet.
@@ -96,7 +98,7 @@ returns-in-Spent-clause-written g c =
     let full = c.of.ensures.spent.0 c.in-Spent.is in
     let was_quiet = was_none old.engine.evidence c.get.new.self.engine.evidence e.step.step.evidence quiet in
     here ∙ is_last c.args.limit c.get-2.result full.0 full.1 (subst (λ (k : Counter). k.page ≤ c.args.limit) here (c.requires.limited was_quiet)))
-    (λ quiet last. (e.same c.requires.fits quiet, e.once)) copies
+    (λ quiet last. (e.same c.requires.fits quiet, e.once)) come
 
 pub returns-in_err-block-clause-accepted : goal.returns-in_err-block-clause-accepted
 returns-in_err-block-clause-accepted g c = λ at under sealed made_count quiet is.
@@ -116,6 +118,12 @@ returns-in_err-block-clause-cached g c = λ going.
 pub returns-in-Spent-clause-cached : goal.returns-in-Spent-clause-cached
 returns-in-Spent-clause-cached g c = λ going.
     subst (λ (p : ℕ). Contains (cached_pages c.get.new.counters) p) c.page_of-page.ensures.page c.in_ok-block.ensures.cached
+
+pub returns-in_err-block-clause-pages : goal.returns-in_err-block-clause-pages
+returns-in_err-block-clause-pages g c = c.in_err-block.ensures.pages
+
+pub returns-in-Spent-clause-pages : goal.returns-in-Spent-clause-pages
+returns-in-Spent-clause-pages g c = c.in_ok-block.ensures.pages
 
 pub returns-in_err-block-clause-hit : goal.returns-in_err-block-clause-hit
 returns-in_err-block-clause-hit g c = λ cached quiet short.
@@ -188,7 +196,7 @@ returns-in_err-reserve g c =
       page_is = c.page_of-page.ensures.page;
       place_is = c.place_of-place.ensures.place;
       same = e.same c.requires.fits;
-      copies = e.copies;
+      come = record { few = e.few_copies; copies = e.copies c.requires.fits; unread = e.unread c.requires.fits };
       block_is = e.block c.requires.fits;
       is_block = e.is_block;
       counter_is = c.get-2.ensures.counter;
@@ -197,8 +205,9 @@ returns-in_err-reserve g c =
     let differs = c.in_err-reserve.ensures.refused in
     let same_bus : h c.reserve.new.self.bus ≡ h c.get.new.self.bus = ap h differs.bus in
     let same_accesses = ap (λ (t : BusHistory). t.accesses) same_bus in
-    let copies : CopiesCame (page_of c.args.line) (h old.bus) old.engine.made counters (h c.get.new.self.bus) c.get.new.counters =
-    subst (λ (p : ℕ). CopiesCame p (h old.bus) old.engine.made counters (h c.get.new.self.bus) c.get.new.counters) c.page_of-page.ensures.page e.copies in
+    let come : HasCome (terms_of h m d n old) (page_of c.args.line) old counters c.get.new.self c.get.new.counters =
+    subst (λ (p : ℕ). HasCome (terms_of h m d n old) p old counters c.get.new.self c.get.new.counters) c.page_of-page.ensures.page
+    (record { few = e.few_copies; copies = e.copies c.requires.fits; unread = e.unread c.requires.fits }) in
     let stop : result_err c.from_residual-in_err-reserve.result ≡ Some NoMemory = search rules in
     record {
       written = subst (λ (s : Option MemStop). IsWrite (terms_of h m d n old) c.args.limit c.args.line c.args.bytes.now old counters c.reserve.new.self c.get.new.counters s) (sym stop)
@@ -212,8 +221,10 @@ returns-in_err-reserve g c =
                 ∙ e.same c.requires.fits (sym (ap (λ e. e.evidence) differs.engine) ∙ quiet) page,
             omega (arith, e.once, same_accesses),
           ))
-          (subst (λ (t : BusHistory). CopiesCame (page_of c.args.line) (h old.bus) old.engine.made counters t c.get.new.counters) (sym same_bus) copies));
+          (come_idle (terms_of h m d n old) (page_of c.args.line) old c.get.new.self c.reserve.new.self counters c.get.new.counters differs.bus
+          (ap (λ e. e.made) differs.engine) (ap (λ e. e.evidence) differs.engine) come));
       cached = λ going. subst (λ (p : ℕ). Contains (cached_pages c.get.new.counters) p) c.page_of-page.ensures.page e.cached;
+      pages = e.pages;
       accepted = λ at under sealed made_count quiet is.
           not_node old.engine.levels c.page_of-page.result at
           (e.found (Forgery at under sealed made_count) quiet (sym (ap (λ e. e.evidence) differs.engine) ∙ is));
@@ -256,7 +267,7 @@ returns-in-Spent-2 g c =
       page_is = c.page_of-page.ensures.page;
       place_is = c.place_of-place.ensures.place;
       same = e.same c.requires.fits;
-      copies = e.copies;
+      come = record { few = e.few_copies; copies = e.copies c.requires.fits; unread = e.unread c.requires.fits };
       block_is = e.block c.requires.fits;
       is_block = e.is_block;
       counter_is = c.get-2.ensures.counter;
@@ -273,12 +284,13 @@ returns-in-Spent-2 g c =
     ∙ ap (λ (o : OutsideView g.row.B.Denot g.row.T.Denot). o.engine.evidence) c.in_ok-reserve.ensures.taken in
     let up = counted_up h m d n old counters c.requires.current c.args.limit c.args.line c.page_of-page.result c.place_of-place.result c.get.new.self c.get.new.counters
     c.in_ok-block.block c.get-2.result c.of.result had (g.met.B.Bus.unmoved c.get.new.self.bus) g.met.B.Bus.moved_on c.reserve.new.self c.bump.new.self c.bump.new.counters
-    c.in_ok-counter.field-0 c.in_ok-reserve.ensures.taken u.moved u.idle u.pads u.levels u.copies u.fits u.outcome u.block u.others in
+    c.in_ok-counter.field-0 c.in_ok-reserve.ensures.taken u.moved u.idle u.pads u.levels u.few_copies u.copies u.fits u.outcome u.block u.others in
     record {
       written = spent_after h m d n old counters c.requires.current c.args.limit c.args.line c.page_of-page.result c.place_of-place.result c.get.new.self c.get.new.counters
           c.in_ok-block.block c.get-2.result c.of.result had (g.met.B.Bus.unmoved c.get.new.self.bus) g.met.B.Bus.moved_on c.reserve.new.self c.bump.new.self c.bump.new.counters
           c.in_ok-counter.field-0 up c.args.bytes.now c.requires.risen c.in-Spent-2.is c.in_default.not-Spent;
       cached = λ going. subst (λ (p : ℕ). Contains (cached_pages c.bump.new.counters) p) c.page_of-page.ensures.page u.cached;
+      pages = subst (λ (l : ℕ). AreOfPages l c.bump.new.counters) same_levels u.pages;
       accepted = λ at under sealed made_count quiet is.
           not_node old.engine.levels c.page_of-page.result at (e.found (Forgery at under sealed made_count) quiet (sym bumped_evidence ∙ is));
       once = λ quiet short. (
@@ -317,7 +329,7 @@ returns-in_err-seal-in-Line g c =
       page_is = c.page_of-page.ensures.page;
       place_is = c.place_of-place.ensures.place;
       same = e.same c.requires.fits;
-      copies = e.copies;
+      come = record { few = e.few_copies; copies = e.copies c.requires.fits; unread = e.unread c.requires.fits };
       block_is = e.block c.requires.fits;
       is_block = e.is_block;
       counter_is = c.get-2.ensures.counter;
@@ -334,7 +346,7 @@ returns-in_err-seal-in-Line g c =
     ∙ ap (λ (o : OutsideView g.row.B.Denot g.row.T.Denot). o.engine.evidence) c.in_ok-reserve.ensures.taken in
     let up = counted_up h m d n old counters c.requires.current c.args.limit c.args.line c.page_of-page.result c.place_of-place.result c.get.new.self c.get.new.counters
     c.in_ok-block.block c.get-2.result c.of.result had (g.met.B.Bus.unmoved c.get.new.self.bus) g.met.B.Bus.moved_on c.reserve.new.self c.bump.new.self c.bump.new.counters
-    c.in_ok-counter.field-0 c.in_ok-reserve.ensures.taken u.moved u.idle u.pads u.levels u.copies u.fits u.outcome u.block u.others in
+    c.in_ok-counter.field-0 c.in_ok-reserve.ensures.taken u.moved u.idle u.pads u.levels u.few_copies u.copies u.fits u.outcome u.block u.others in
     let stop : result_err c.from_residual-in_err-seal-in-Line.result ≡ Some NoMemory = search rules in
     let s = c.seal.ensures in
     let same_last : h c.seal.new.self.bus ≡ h c.bump.new.self.bus = c.in_err-seal-in-Line.ensures.err in
@@ -343,10 +355,11 @@ returns-in_err-seal-in-Line g c =
       written = subst (λ (s : Option MemStop). IsWrite (terms_of h m d n old) c.args.limit c.args.line c.args.bytes.now old counters c.seal.new.self c.bump.new.counters s) (sym stop)
           (line_unwritten h m d n old counters c.requires.current c.args.limit c.args.line c.page_of-page.result c.place_of-place.result c.get.new.self c.get.new.counters
           c.in_ok-block.block c.get-2.result c.of.result had (g.met.B.Bus.unmoved c.get.new.self.bus) g.met.B.Bus.moved_on c.reserve.new.self c.bump.new.self c.bump.new.counters
-          c.in_ok-counter.field-0 up c.requires.started e.read c.args.bytes.now c.in-Line.counter c.in-Line.is
+          c.in_ok-counter.field-0 up c.requires.started (e.read c.requires.fits) c.args.bytes.now c.in-Line.counter c.in-Line.is
           (u.is_line c.in-Line.counter (ap (λ o. Ok o) c.in-Line.is)) c.of.ensures.line c.seal.new.self s.used s.made s.undone s.moves s.moved s.honest
           c.requires.risen same_last);
       cached = λ going. subst (λ (p : ℕ). Contains (cached_pages c.bump.new.counters) p) c.page_of-page.ensures.page u.cached;
+      pages = subst (λ (l : ℕ). AreOfPages l c.bump.new.counters) same_levels u.pages;
       accepted = λ at under sealed made_count quiet is.
           not_node old.engine.levels c.page_of-page.result at
           (e.found (Forgery at under sealed made_count) quiet (sym (ap (λ e. e.evidence) s.made ∙ bumped_evidence) ∙ is));
@@ -387,7 +400,7 @@ returns-in_ok-seal-in-Line g c =
       page_is = c.page_of-page.ensures.page;
       place_is = c.place_of-place.ensures.place;
       same = e.same c.requires.fits;
-      copies = e.copies;
+      come = record { few = e.few_copies; copies = e.copies c.requires.fits; unread = e.unread c.requires.fits };
       block_is = e.block c.requires.fits;
       is_block = e.is_block;
       counter_is = c.get-2.ensures.counter;
@@ -404,7 +417,7 @@ returns-in_ok-seal-in-Line g c =
     ∙ ap (λ (o : OutsideView g.row.B.Denot g.row.T.Denot). o.engine.evidence) c.in_ok-reserve.ensures.taken in
     let up = counted_up h m d n old counters c.requires.current c.args.limit c.args.line c.page_of-page.result c.place_of-place.result c.get.new.self c.get.new.counters
     c.in_ok-block.block c.get-2.result c.of.result had (g.met.B.Bus.unmoved c.get.new.self.bus) g.met.B.Bus.moved_on c.reserve.new.self c.bump.new.self c.bump.new.counters
-    c.in_ok-counter.field-0 c.in_ok-reserve.ensures.taken u.moved u.idle u.pads u.levels u.copies u.fits u.outcome u.block u.others in
+    c.in_ok-counter.field-0 c.in_ok-reserve.ensures.taken u.moved u.idle u.pads u.levels u.few_copies u.copies u.fits u.outcome u.block u.others in
     let s = c.seal.ensures in
     let wrote = c.in_ok-seal-in-Line.ensures.ok in
     let put = sealed_line (tags_of d n c.bump.new.self.engine) c.args.line c.in-Line.counter
@@ -414,10 +427,11 @@ returns-in_ok-seal-in-Line g c =
     record {
       written = line_written h m d n old counters c.requires.current c.args.limit c.args.line c.page_of-page.result c.place_of-place.result c.get.new.self c.get.new.counters
           c.in_ok-block.block c.get-2.result c.of.result had (g.met.B.Bus.unmoved c.get.new.self.bus) g.met.B.Bus.moved_on c.reserve.new.self c.bump.new.self c.bump.new.counters
-          c.in_ok-counter.field-0 up c.requires.started e.read c.args.bytes.now c.in-Line.counter c.in-Line.is
+          c.in_ok-counter.field-0 up c.requires.started (e.read c.requires.fits) c.args.bytes.now c.in-Line.counter c.in-Line.is
           (u.is_line c.in-Line.counter (ap (λ o. Ok o) c.in-Line.is)) c.of.ensures.line c.seal.new.self s.used s.made s.undone s.moves s.moved s.honest
           c.requires.risen wrote;
       cached = λ going. subst (λ (p : ℕ). Contains (cached_pages c.bump.new.counters) p) c.page_of-page.ensures.page u.cached;
+      pages = subst (λ (l : ℕ). AreOfPages l c.bump.new.counters) same_levels u.pages;
       accepted = λ at under sealed made_count quiet is.
           not_node old.engine.levels c.page_of-page.result at
           (e.found (Forgery at under sealed made_count) quiet (sym (ap (λ e. e.evidence) s.made ∙ bumped_evidence) ∙ is));
@@ -455,7 +469,7 @@ reencrypt_page-requires g c =
       page_is = c.page_of-page.ensures.page;
       place_is = c.place_of-place.ensures.place;
       same = e.same c.requires.fits;
-      copies = e.copies;
+      come = record { few = e.few_copies; copies = e.copies c.requires.fits; unread = e.unread c.requires.fits };
       block_is = e.block c.requires.fits;
       is_block = e.is_block;
       counter_is = c.get-2.ensures.counter;
@@ -470,7 +484,7 @@ reencrypt_page-requires g c =
     let bumped_accesses = ap (λ (t : BusHistory). t.accesses) u.idle.0 in
     let up = counted_up h m d n old counters c.requires.current c.args.limit c.args.line c.page_of-page.result c.place_of-place.result c.get.new.self c.get.new.counters
     c.in_ok-block.block c.get-2.result c.of.result had (g.met.B.Bus.unmoved c.get.new.self.bus) g.met.B.Bus.moved_on c.reserve.new.self c.bump.new.self c.bump.new.counters
-    c.in_ok-counter.field-0 c.in_ok-reserve.ensures.taken u.moved u.idle u.pads u.levels u.copies u.fits u.outcome u.block u.others in
+    c.in_ok-counter.field-0 c.in_ok-reserve.ensures.taken u.moved u.idle u.pads u.levels u.few_copies u.copies u.fits u.outcome u.block u.others in
     let rooms = mid_rooms h m d n old counters c.requires.current c.args.limit c.args.line c.page_of-page.result c.place_of-place.result c.get.new.self c.get.new.counters
     c.in_ok-block.block c.get-2.result c.of.result had (g.met.B.Bus.unmoved c.get.new.self.bus) g.met.B.Bus.moved_on c.reserve.new.self c.bump.new.self c.bump.new.counters
     c.in_ok-counter.field-0 up in
@@ -524,7 +538,7 @@ returns-in-Page g c =
       page_is = c.page_of-page.ensures.page;
       place_is = c.place_of-place.ensures.place;
       same = e.same c.requires.fits;
-      copies = e.copies;
+      come = record { few = e.few_copies; copies = e.copies c.requires.fits; unread = e.unread c.requires.fits };
       block_is = e.block c.requires.fits;
       is_block = e.is_block;
       counter_is = c.get-2.ensures.counter;
@@ -544,14 +558,15 @@ returns-in-Page g c =
     let write : LineWrite = record { line = c.args.line; bytes = c.args.bytes.now; counter = record { page = c.in-Page.raised; line = 0 } } in
     let up = counted_up h m d n old counters c.requires.current c.args.limit c.args.line c.page_of-page.result c.place_of-place.result c.get.new.self c.get.new.counters
     c.in_ok-block.block c.get-2.result c.of.result had (g.met.B.Bus.unmoved c.get.new.self.bus) g.met.B.Bus.moved_on c.reserve.new.self c.bump.new.self c.bump.new.counters
-    c.in_ok-counter.field-0 c.in_ok-reserve.ensures.taken u.moved u.idle u.pads u.levels u.copies u.fits u.outcome u.block u.others in
+    c.in_ok-counter.field-0 c.in_ok-reserve.ensures.taken u.moved u.idle u.pads u.levels u.few_copies u.copies u.fits u.outcome u.block u.others in
     let p = c.reencrypt_page.ensures in
     record {
       written = page_written h m d n old counters c.requires.current c.args.limit c.args.line c.page_of-page.result c.place_of-place.result c.get.new.self c.get.new.counters
           c.in_ok-block.block c.get-2.result c.of.result had (g.met.B.Bus.unmoved c.get.new.self.bus) g.met.B.Bus.moved_on c.reserve.new.self c.bump.new.self c.bump.new.counters
-          c.in_ok-counter.field-0 up c.requires.started e.read c.args.bytes.now c.in-Page.raised c.in-Page.is c.of.ensures.overflow
+          c.in_ok-counter.field-0 up c.requires.started (e.read c.requires.fits) c.args.bytes.now c.in-Page.raised c.in-Page.is c.of.ensures.overflow
           c.reencrypt_page.new.self (result_err c.reencrypt_page.result) p.sealed;
       cached = λ going. subst (λ (p : ℕ). Contains (cached_pages c.bump.new.counters) p) c.page_of-page.ensures.page u.cached;
+      pages = subst (λ (l : ℕ). AreOfPages l c.bump.new.counters) same_levels u.pages;
       accepted = λ at under sealed made_count quiet is.
           let still = before_line old.engine.levels c.page_of-page.result at under sealed made_count c.bump.new.self.engine.evidence c.reencrypt_page.new.self.engine.evidence
           (λ evidence there. e.found evidence quiet (sym bumped_evidence ∙ there)) p.sealed.sealed.step.evidence is in
@@ -561,12 +576,12 @@ returns-in-Page g c =
           record { beside = accepted.0; since = omega (arith, accepted.1, as_many, bumped_used) };
       once = λ quiet short. absurd (short (page_overflows h m d n old counters c.requires.current c.args.limit c.args.line c.page_of-page.result c.place_of-place.result c.get.new.self c.get.new.counters
           c.in_ok-block.block c.get-2.result c.of.result had (g.met.B.Bus.unmoved c.get.new.self.bus) g.met.B.Bus.moved_on c.reserve.new.self c.bump.new.self c.bump.new.counters
-          c.in_ok-counter.field-0 up c.requires.started e.read c.args.bytes.now c.in-Page.raised c.in-Page.is c.of.ensures.overflow
+          c.in_ok-counter.field-0 up c.requires.started (e.read c.requires.fits) c.args.bytes.now c.in-Page.raised c.in-Page.is c.of.ensures.overflow
           c.reencrypt_page.new.self (result_err c.reencrypt_page.result) p.sealed quiet));
       few = omega (arith, e.once, same_accesses, bumped_accesses, same_levels, p.once);
       hit = λ cached quiet short. absurd (short (page_overflows h m d n old counters c.requires.current c.args.limit c.args.line c.page_of-page.result c.place_of-place.result c.get.new.self c.get.new.counters
           c.in_ok-block.block c.get-2.result c.of.result had (g.met.B.Bus.unmoved c.get.new.self.bus) g.met.B.Bus.moved_on c.reserve.new.self c.bump.new.self c.bump.new.counters
-          c.in_ok-counter.field-0 up c.requires.started e.read c.args.bytes.now c.in-Page.raised c.in-Page.is c.of.ensures.overflow
+          c.in_ok-counter.field-0 up c.requires.started (e.read c.requires.fits) c.args.bytes.now c.in-Page.raised c.in-Page.is c.of.ensures.overflow
           c.reencrypt_page.new.self (result_err c.reencrypt_page.result) p.sealed quiet));
       hit_overflow = λ cached. let same = still cached in omega (arith, same, same_accesses, bumped_accesses, p.once);
     }

@@ -1,4 +1,5 @@
-use Rattle.std.proofs.Common.{◌≡◌, ℕ, sym, subst}
+use Rattle.std.proofs.Common.{◌≡◌, ◌<◌, ℕ, sym, subst}
+use Rattle.sec_base.specs.Geometry.{page_count}
 use Rattle.sec_base.proofs.Results.{was_none}
 use Rattle.tag_engine.specs.TagEngine.{tags_of}
 use Rattle.bonsai_tree.specs.Tree.{SlotsAreTags}
@@ -104,20 +105,32 @@ returns-clause-tampered g c = λ place is. (
 )
 
 pub returns-clause-read : goal.returns-clause-read
-returns-clause-read g c = λ missed.
-    rw (← c.self.view_is) (c.get.ensures.read missed)
+returns-clause-read g c = λ fits quiet missed.
+    let old : OutsideView g.row.B.Denot g.row.T.Denot = record { bus = c.self.inside.bus; engine = c.self.inside.tags; pads = c.self.inside.pads } in
+    let was = fits_before g.B.Bus.history g.B.Bus.moved g.T.Tagger.data_tag_of g.T.Tagger.node_tag_of old c.get.new.bus c.get.new.tags c.args.counters.now
+    (rw (← c.self.view_is) at fits) in
+    rw (← c.self.view_is) (c.get.ensures.read was quiet missed)
 
 pub returns-clause-idle : goal.returns-clause-idle
 returns-clause-idle g c = λ cached.
     rw (← c.self.view_is) (c.get.ensures.idle cached)
 
+pub returns-clause-few_copies : goal.returns-clause-few_copies
+returns-clause-few_copies g c = record { blocks = λ few. c.get.ensures.few_copies; nodes = λ level few. c.get.ensures.few_nodes level }
+
 pub returns-clause-copies : goal.returns-clause-copies
-returns-clause-copies g c =
-    let e = c.get.ensures in
-    rw (← c.self.view_is)
-    (record {
-      few_blocks = λ few. e.few_copies;
-      few_nodes = λ level few. e.few_nodes level;
-      blocks = e.new_copies;
-      nodes = e.new_nodes;
-    })
+returns-clause-copies g c = λ fits quiet.
+    let old : OutsideView g.row.B.Denot g.row.T.Denot = record { bus = c.self.inside.bus; engine = c.self.inside.tags; pads = c.self.inside.pads } in
+    let was = fits_before g.B.Bus.history g.B.Bus.moved g.T.Tagger.data_tag_of g.T.Tagger.node_tag_of old c.get.new.bus c.get.new.tags c.args.counters.now
+    (rw (← c.self.view_is) at fits) in
+    rw (← c.self.view_is) (record { blocks = c.get.ensures.new_copies was quiet; nodes = c.get.ensures.new_nodes was quiet })
+
+pub returns-clause-unread : goal.returns-clause-unread
+returns-clause-unread g c = λ fits quiet.
+    let old : OutsideView g.row.B.Denot g.row.T.Denot = record { bus = c.self.inside.bus; engine = c.self.inside.tags; pads = c.self.inside.pads } in
+    let was = fits_before g.B.Bus.history g.B.Bus.moved g.T.Tagger.data_tag_of g.T.Tagger.node_tag_of old c.get.new.bus c.get.new.tags c.args.counters.now
+    (rw (← c.self.view_is) at fits) in
+    rw (← c.self.view_is) (c.get.ensures.unread was quiet)
+
+pub returns-clause-pages : goal.returns-clause-pages
+returns-clause-pages g c = λ other cached. subst (λ (l : ℕ). other < page_count l) c.requires.levels (c.get.ensures.pages other cached)

@@ -23,7 +23,7 @@ returns-in_err-plain-clause-sealed g c =
     c.args.at c.read.new.self why
     (read_sealed g.B.Bus.history g.B.Bus.moved g.T.Tagger.data_tag_of g.T.Tagger.node_tag_of write c.args.self.now c.requires.consistent c.requires.risen c.requires.holds_last
     c.args.at c.read.new.self (Err why) c.if-at-line.false c.requires.of_page
-    read.moved read.moves read.unmade read.room read.pads read.unwritten read.counted read.accounted read.shows read.tampered read.unspent)
+    read.moved read.moves read.unmade read.room read.pads read.unwritten read.nodes read.counted read.accounted read.shows read.tampered read.unspent)
     (λ place is. (read.tampered place (ap (λ (s : MemStop). Err s) is)).0))
 
 pub returns-in_err-seal-clause-sealed : goal.returns-in_err-seal-clause-sealed
@@ -48,7 +48,7 @@ returns-in_err-seal-clause-sealed g c =
           c.args.at c.if-at-line.plain w.in_ok-plain.plain w.read.new.self
           (read_sealed g.B.Bus.history g.B.Bus.moved g.T.Tagger.data_tag_of g.T.Tagger.node_tag_of write c.args.self.now c.requires.consistent c.requires.risen c.requires.holds_last
           c.args.at w.read.new.self (Ok w.in_ok-plain.plain) w.if-at-line.false c.requires.of_page
-          read.moved read.moves read.unmade read.room read.pads read.unwritten read.counted read.accounted read.shows read.tampered read.unspent)
+          read.moved read.moves read.unmade read.room read.pads read.unwritten read.nodes read.counted read.accounted read.shows read.tampered read.unspent)
           read.unmade read.pads read.once w.if-at-line.false w.plain-is read.value (λ quiet. read.rose (was_none c.args.self.now.engine.evidence w.read.new.self.engine.evidence read.moves.evidence quiet) (λ is. cc)))
     ] in
     subst (λ (s : Option MemStop). AreSealedInOrder (terms_of g.B.Bus.history g.B.Bus.moved g.T.Tagger.data_tag_of g.T.Tagger.node_tag_of c.args.self.now)
@@ -79,7 +79,7 @@ returns-clause-sealed g c =
           c.args.at c.if-at-line.plain w.in_ok-plain.plain w.read.new.self
           (read_sealed g.B.Bus.history g.B.Bus.moved g.T.Tagger.data_tag_of g.T.Tagger.node_tag_of write c.args.self.now c.requires.consistent c.requires.risen c.requires.holds_last
           c.args.at w.read.new.self (Ok w.in_ok-plain.plain) w.if-at-line.false c.requires.of_page
-          read.moved read.moves read.unmade read.room read.pads read.unwritten read.counted read.accounted read.shows read.tampered read.unspent)
+          read.moved read.moves read.unmade read.room read.pads read.unwritten read.nodes read.counted read.accounted read.shows read.tampered read.unspent)
           read.unmade read.pads read.once w.if-at-line.false w.plain-is read.value (λ quiet. read.rose (was_none c.args.self.now.engine.evidence w.read.new.self.engine.evidence read.moves.evidence quiet) (λ is. cc)))
     ] in
     line_sealed g.B.Bus.history g.B.Bus.moved g.T.Tagger.data_tag_of g.T.Tagger.node_tag_of write c.args.self.now c.requires.consistent c.requires.risen c.requires.holds_last

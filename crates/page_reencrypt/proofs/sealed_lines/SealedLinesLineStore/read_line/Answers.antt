@@ -10,7 +10,7 @@ use Rattle.page_reencrypt.specs.SealedLines.{SealedLinesView}
 use Rattle.page_reencrypt.specs.SealedLinesInside.{sealed_lines_view}
 use Rattle.page_reencrypt.specs.Stops.{lasting_stop}
 use Rattle.page_reencrypt.proofs.ReadCalls.{lasting_read, read_contents, read_kept, read_moved, read_unsealed, read_value, unsealed_not}
-use Rattle.page_reencrypt.proofs.Reaching.{came_not}
+use Rattle.page_reencrypt.proofs.Reaching.{came_not, few_not}
 use Rattle.page_reencrypt.proofs.sealed_lines.SealedLinesLineStore.read_line.Goals as goal
 
 pub returns-in-Some-clause-moved : goal.returns-in-Some-clause-moved
@@ -23,8 +23,11 @@ returns-in-Some-clause-moved g c =
 pub returns-in-Some-clause-unsealed : goal.returns-in-Some-clause-unsealed
 returns-in-Some-clause-unsealed g c = unsealed_not g.B.Bus.history c.args.self.now
 
+pub returns-in-Some-clause-few_copies : goal.returns-in-Some-clause-few_copies
+returns-in-Some-clause-few_copies g c = few_not c.args.self.now.counters
+
 pub returns-in-Some-clause-copies : goal.returns-in-Some-clause-copies
-returns-in-Some-clause-copies g c =
+returns-in-Some-clause-copies g c = λ quiet.
     let lines = c.args.self.now in
     came_not (page_of c.args.line) (g.B.Bus.history lines.bus) lines.engine.made lines.counters
 
@@ -40,7 +43,7 @@ invariant_of-self g c =
     let r = c.read_at-read.ensures.read in (
       c.self.invariant.0 ∙ sym r.step.levels,
       read_kept g.T.Tagger.data_tag_of g.T.Tagger.node_tag_of g.B.Bus.history g.B.Bus.moved lines c.args.line c.self.invariant.1 going inside new counters
-          c.read_at-read.result c.read_at-read.ensures.read c.or-self-inside.result stops,
+          c.read_at-read.result c.read_at-read.ensures.read c.or-self-inside.result stops c.read_at-read.ensures.pages,
     )
 
 pub returns-clause-value : goal.returns-clause-value
@@ -77,7 +80,7 @@ returns-clause-moved g c =
     let stops : c.or-self-inside.result ≡ option_or (result_err c.read_at-read.result) lines.stopped =
     c.or-self-inside.ensures ∙ ap (λ (o : Option MemStop). option_or o lines.stopped) c.err.ensures.value in
     rw (← c.self.view_is) (read_moved g.T.Tagger.data_tag_of g.T.Tagger.node_tag_of g.B.Bus.history g.B.Bus.moved lines c.args.line c.self.invariant.1 going inside new counters
-    c.read_at-read.result c.read_at-read.ensures.read c.or-self-inside.result stops c.read_at-read.ensures.cached)
+    c.read_at-read.result c.read_at-read.ensures.read c.or-self-inside.result stops c.read_at-read.ensures.pages c.read_at-read.ensures.cached)
 
 pub returns-clause-unsealed : goal.returns-clause-unsealed
 returns-clause-unsealed g c =
@@ -104,7 +107,7 @@ returns-clause-fits g c =
     let stops : c.or-self-inside.result ≡ option_or (result_err c.read_at-read.result) lines.stopped =
     c.or-self-inside.ensures ∙ ap (λ (o : Option MemStop). option_or o lines.stopped) c.err.ensures.value in
     (read_kept g.T.Tagger.data_tag_of g.T.Tagger.node_tag_of g.B.Bus.history g.B.Bus.moved lines c.args.line c.self.invariant.1 going inside new counters
-    c.read_at-read.result c.read_at-read.ensures.read c.or-self-inside.result stops).fits
+    c.read_at-read.result c.read_at-read.ensures.read c.or-self-inside.result stops c.read_at-read.ensures.pages).fits
 
 pub returns-clause-accepted : goal.returns-clause-accepted
 returns-clause-accepted g c = λ at counter sealed made_count _ quiet found.

@@ -11,7 +11,7 @@ use Rattle.page_reencrypt.specs.SealedLinesInside.{sealed_lines_view}
 use Rattle.page_reencrypt.specs.Stops.{lasting_stop}
 use Rattle.page_reencrypt.proofs.Kept.{kept_limited}
 use Rattle.page_reencrypt.proofs.ReadCalls.{lasts_again}
-use Rattle.page_reencrypt.proofs.Reaching.{came_not}
+use Rattle.page_reencrypt.proofs.Reaching.{came_not, few_not}
 use Rattle.page_reencrypt.proofs.WriteCalls.{lasting_write, sealed_none, write_failed, write_kept, write_last_untampered, write_moved, write_refused, write_reread, write_reserved, write_sealed, write_sealed_in_part, write_spent, write_spent_last, write_stored, write_tampered, write_untampered, write_used_up}
 use Rattle.page_reencrypt.proofs.sealed_lines.SealedLinesLineStore.write_line.Goals as goal
 
@@ -30,8 +30,11 @@ pub returns-in-Some-clause-cached : goal.returns-in-Some-clause-cached
 returns-in-Some-clause-cached g c = λ going.
     absurd (lasts_again (sealed_lines_view c.self.inside).stopped c.in-Some.stop (sym c.lasting.ensures ∙ c.in-Some.is) going)
 
+pub returns-in-Some-clause-few_copies : goal.returns-in-Some-clause-few_copies
+returns-in-Some-clause-few_copies g c = few_not c.args.self.now.counters
+
 pub returns-in-Some-clause-copies : goal.returns-in-Some-clause-copies
-returns-in-Some-clause-copies g c =
+returns-in-Some-clause-copies g c = λ quiet.
     let lines = c.args.self.now in
     came_not (page_of c.args.line) (g.B.Bus.history lines.bus) lines.engine.made lines.counters
 
@@ -47,7 +50,7 @@ invariant_of-self g c =
     let w = c.write_next-written.ensures.written in (
       c.self.invariant.0 ∙ sym w.step.levels,
       write_kept g.T.Tagger.data_tag_of g.T.Tagger.node_tag_of g.B.Bus.history g.B.Bus.moved lines c.args.line c.args.bytes.now c.self.invariant.1 going inside new counters
-          c.write_next-written.result c.write_next-written.ensures.written c.or-self-inside.result stops,
+          c.write_next-written.result c.write_next-written.ensures.written c.or-self-inside.result stops c.write_next-written.ensures.pages,
     )
 
 pub returns-clause-fits : goal.returns-clause-fits
@@ -60,7 +63,7 @@ returns-clause-fits g c =
     let stops : c.or-self-inside.result ≡ option_or (result_err c.write_next-written.result) lines.stopped =
     c.or-self-inside.ensures ∙ ap (λ (o : Option MemStop). option_or o lines.stopped) c.err.ensures.value in
     (write_kept g.T.Tagger.data_tag_of g.T.Tagger.node_tag_of g.B.Bus.history g.B.Bus.moved lines c.args.line c.args.bytes.now c.self.invariant.1 going inside new counters
-    c.write_next-written.result c.write_next-written.ensures.written c.or-self-inside.result stops).fits
+    c.write_next-written.result c.write_next-written.ensures.written c.or-self-inside.result stops c.write_next-written.ensures.pages).fits
 
 pub returns-clause-stored : goal.returns-clause-stored
 returns-clause-stored g c = λ _ quiet.
@@ -108,7 +111,7 @@ returns-clause-moved g c =
     let stops : c.or-self-inside.result ≡ option_or (result_err c.write_next-written.result) lines.stopped =
     c.or-self-inside.ensures ∙ ap (λ (o : Option MemStop). option_or o lines.stopped) c.err.ensures.value in
     rw (← c.self.view_is) (write_moved g.T.Tagger.data_tag_of g.T.Tagger.node_tag_of g.B.Bus.history g.B.Bus.moved lines c.args.line c.args.bytes.now c.self.invariant.1 going inside new counters
-    c.write_next-written.result c.write_next-written.ensures.written c.or-self-inside.result stops c.write_next-written.ensures.cached c.write_next-written.ensures.once c.write_next-written.ensures.few c.write_next-written.ensures.hit c.write_next-written.ensures.hit_overflow
+    c.write_next-written.result c.write_next-written.ensures.written c.or-self-inside.result stops c.write_next-written.ensures.pages c.write_next-written.ensures.cached c.write_next-written.ensures.once c.write_next-written.ensures.few c.write_next-written.ensures.hit c.write_next-written.ensures.hit_overflow
     c.write_next-written.ensures.accepted)
 
 pub returns-clause-sealed : goal.returns-clause-sealed
@@ -148,8 +151,9 @@ returns-clause-reserved g c =
     c.write_next-written.result c.write_next-written.ensures.written c.or-self-inside.result stops)
 
 pub returns-clause-path : goal.returns-clause-path
-returns-clause-path g c = λ _ missed.
-    rw (← c.self.view_is) (on_success c.write_next-written.result (λ none. c.write_next-written.ensures.written.path none (rw (← c.self.view_is) at missed)))
+returns-clause-path g c = λ _ quiet missed.
+    rw (← c.self.view_is)
+    (on_success c.write_next-written.result (λ none. c.write_next-written.ensures.written.path quiet none (rw (← c.self.view_is) at missed)))
 
 pub returns-clause-spent : goal.returns-clause-spent
 returns-clause-spent g c = λ _ quiet is.
