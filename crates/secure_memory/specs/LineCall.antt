@@ -81,10 +81,10 @@ pub record IsLineCall {B T : Type 0} (history : B → BusHistory) (old : SecureR
       (history new.lines.bus).accesses ≤ (history old.lines.bus).accesses + (short_accesses (levels old) out + read_accesses (levels old))
   pub alone : IsQuiet new → HasNoOverflow old out → (other : ℕ) → other ≢ line →
       (history new.lines.bus).reads (line_place other) ≡ (history old.lines.bus).reads (line_place other)
-  -- the line was held, or never tagged, or was read from its place, where the call neither stops nor finds evidence; the
-  -- path of its page was read, where its counters were not on the chip and the call does not stop
+  -- the line was held, or never tagged, or was read from its place, where the call neither stops nor finds evidence; then the
+  -- path of its page was read, where its counters were not on the chip, but for nodes that were never made
   pub read : IsQuiet new → stop ≡ None → LineHad history old new line
-  pub path : stop ≡ None → PathHad history old new line
+  pub path : IsQuiet new → stop ≡ None → PathHad history old new line
   -- where no changed line goes out, no line is encrypted, tagged or written, no counter changes, and a line that was never
   -- written is not read
   pub unsealed : out ≡ None → IsUnsealed history old.lines new.lines × (IsQuiet new → SameCounters old.lines new.lines)

@@ -14,8 +14,8 @@ use Rattle.tag_engine.specs.TagEngine.{TagEngineView}
 use Rattle.cache_set.specs.declared.way.Way.{Way}
 use Rattle.page_reencrypt.specs.SealedLines.{IsLineOf, Moves}
 use Rattle.page_reencrypt.proofs.Moves.{moves_not, own_moves_after, own_moves_on}
-use Rattle.bonsai_tree.proofs.Climbs.{read_up_held, read_up_on}
-use Rattle.secure_memory.specs.SecureRam.{SecureRamView, CopiesHad, IsMoved, LineHad, PageHad, PageRead, WereHad, cached_pages, evidence, held_lines, made, pages_on_chip, stopped}
+use Rattle.bonsai_tree.proofs.Climbs.{read_up_held, read_up_on, unmade_before}
+use Rattle.secure_memory.specs.SecureRam.{SecureRamView, CopiesHad, IsMoved, IsQuiet, LineHad, PageHad, PageRead, WereHad, cached_pages, evidence, held_lines, made, pages_on_chip, stopped}
 
 -- what stands in a list that was mapped came from something
 mapped_from : (f : ℕ → ℕ) (items : List ℕ) (y : ℕ) → Contains (map f items) y → (x : ℕ) × Contains items x × (f x ≡ y)
@@ -43,8 +43,8 @@ copies_not history memory ways = record {
   tree_levels = refl;
   few_blocks = λ few. few;
   few_nodes = λ level few. few;
-  blocks = λ page cached. inl cached;
-  nodes = λ level index cached. read_up_held memory.lines.counters.tree level index (history memory.lines.bus) (history memory.lines.bus) cached;
+  blocks = λ quiet page cached. inl cached;
+  nodes = λ quiet level index cached. read_up_held memory.lines.counters.tree (made memory) level index (history memory.lines.bus) (history memory.lines.bus) cached;
 }
 
 module _ {B T : Type 0} (history : B → BusHistory) (bus_moved : B → B → Type 0) (tags : TagEngineView T → Message → List ℕ) where
@@ -68,13 +68,13 @@ module _ {B T : Type 0} (history : B → BusHistory) (bus_moved : B → B → Ty
     page_sooner page moves (inr read) = inr (read_sooner page moves read)
 
     -- A page of which something is on the chip was had by the calls before
-    on_chip_had : (lines : List ℕ) → WereHad history first lines second → CopiesHad history first second → (page : ℕ) → Contains (pages_on_chip second) page →
+    on_chip_had : (lines : List ℕ) → WereHad history first lines second → CopiesHad history first second → IsQuiet second → (page : ℕ) → Contains (pages_on_chip second) page →
         PageHad history first second page
-    on_chip_had lines had came page on_chip = elim (Contains-append_cases (map page_of (held_lines second)) (cached_pages second) page on_chip) [
+    on_chip_had lines had came quiet page on_chip = elim (Contains-append_cases (map page_of (held_lines second)) (cached_pages second) page on_chip) [
       | inl of_line ↦
           let from : (line : ℕ) × Contains (held_lines second) line × (page_of line ≡ page) = mapped_from page_of (held_lines second) page of_line in
           subst (PageHad history first second) from.2 (had.held from.0 from.1).1
-      | inr cached ↦ elim (came.blocks page cached) [
+      | inr cached ↦ elim (came.blocks quiet page cached) [
         | inl was ↦ inl (on_chip_of_page (held_lines first) (cached_pages first) page was)
         | inr read ↦ inr read
       ]
@@ -94,43 +94,46 @@ module _ {B T : Type 0} (history : B → BusHistory) (bus_moved : B → B → Ty
     read_later page moves (inr rose) = inr (omega (arith, rose, moves.step.reads (Node 0 page)))
 
     page_later : (lines : List ℕ) (page : ℕ) → Moves history bus_moved tags allowed first.lines second.lines → Moves history bus_moved tags allowed second.lines third.lines →
-        WereHad history first lines second → CopiesHad history first second → PageHad history second third page → PageHad history first third page
-    page_later lines page moves more had came (inl on_chip) = page_sooner page more (on_chip_had lines had came page on_chip)
-    page_later lines page moves more had came (inr read) = inr (read_later page moves read)
+        WereHad history first lines second → CopiesHad history first second → IsQuiet second → PageHad history second third page → PageHad history first third page
+    page_later lines page moves more had came quiet (inl on_chip) = page_sooner page more (on_chip_had lines had came quiet page on_chip)
+    page_later lines page moves more had came quiet (inr read) = inr (read_later page moves read)
 
     -- and so are the blocks and nodes that have copies
     block_on : (page : ℕ) → Moves history bus_moved tags allowed first.lines second.lines → Moves history bus_moved tags allowed second.lines third.lines →
-        CopiesHad history first second → Contains (cached_pages second) page ⊎ PageRead history second third page →
+        CopiesHad history first second → IsQuiet second → Contains (cached_pages second) page ⊎ PageRead history second third page →
         Contains (cached_pages first) page ⊎ PageRead history first third page
-    block_on page moves more came (inl cached) = elim (came.blocks page cached) [
+    block_on page moves more came quiet (inl cached) = elim (came.blocks quiet page cached) [
       | inl was ↦ inl was
       | inr read ↦ inr (read_sooner page more read)
     ]
-    block_on page moves more came (inr read) = inr (read_later page moves read)
+    block_on page moves more came quiet (inr read) = inr (read_later page moves read)
 
     -- What holds of the copies over two runs of calls holds over both, one after the other.
     pub copies_on : Moves history bus_moved tags allowed first.lines second.lines → Moves history bus_moved tags allowed second.lines third.lines →
         CopiesHad history first second → CopiesHad history second third → CopiesHad history first third
-    copies_on moves more came later = record {
-      tree_levels = later.tree_levels ∙ came.tree_levels;
-      few_blocks = λ few. later.few_blocks (came.few_blocks few);
-      few_nodes = λ level few. later.few_nodes level (came.few_nodes level few);
-      blocks = λ page cached. block_on page moves more came (later.blocks page cached);
-      nodes = λ level index cached.
-          read_up_on first.lines.counters.tree second.lines.counters.tree level index (history first.lines.bus) (history second.lines.bus) (history third.lines.bus)
-          came.tree_levels moves.step.reads more.step.reads came.nodes (later.nodes level index cached);
-    }
+    copies_on moves more came later =
+        let before : IsQuiet third → IsQuiet second = was_none (evidence second) (evidence third) more.step.evidence in
+        record {
+          tree_levels = later.tree_levels ∙ came.tree_levels;
+          few_blocks = λ few. later.few_blocks (came.few_blocks few);
+          few_nodes = λ level few. later.few_nodes level (came.few_nodes level few);
+          blocks = λ quiet page cached. block_on page moves more came (before quiet) (later.blocks quiet page cached);
+          nodes = λ quiet level index cached.
+              read_up_on first.lines.counters.tree second.lines.counters.tree (made first) (made second) level index (history first.lines.bus) (history second.lines.bus) (history third.lines.bus)
+              came.tree_levels moves.step.reads more.step.reads (unmade_before (made first) (made second) moves.step.more moves.step.made)
+              (came.nodes (before quiet)) (later.nodes quiet level index cached);
+        }
 
     -- The lines of all calls were had
     had_on : (before after : List ℕ) → Moves history bus_moved tags allowed first.lines second.lines → Moves history bus_moved tags allowed second.lines third.lines →
-        CopiesHad history first second → WereHad history first before second → WereHad history second after third →
+        CopiesHad history first second → IsQuiet second → WereHad history first before second → WereHad history second after third →
         WereHad history first (before ++ after) third
-    had_on before after moves more came had later = record {
+    had_on before after moves more came quiet had later = record {
       touched = λ line listed. elim (Contains-append_cases before after line listed) [
         | inl early ↦ (line_sooner line more (had.touched line early).0, page_sooner (page_of line) more (had.touched line early).1)
-        | inr late ↦ (line_later before line moves more had (later.touched line late).0, page_later before (page_of line) moves more had came (later.touched line late).1)
+        | inr late ↦ (line_later before line moves more had (later.touched line late).0, page_later before (page_of line) moves more had came quiet (later.touched line late).1)
       ];
-      held = λ line held. (line_later before line moves more had (later.held line held).0, page_later before (page_of line) moves more had came (later.held line held).1);
+      held = λ line held. (line_later before line moves more had (later.held line held).0, page_later before (page_of line) moves more had came quiet (later.held line held).1);
     }
 
   -- What calls make after others, they make together
@@ -145,10 +148,15 @@ module _ {B T : Type 0} (history : B → BusHistory) (bus_moved : B → B → Ty
         stays = λ stop is. b.stays stop (a.stays stop is);
         few = λ few. b.few (a.few few);
         copies = copies_on (IsLineOf first.lines) first second third a.moves more a.copies b.copies;
+        unread = λ quiet level index none.
+            let was_quiet = was_none (evidence second) (evidence third) b.moves.step.evidence quiet in
+            b.unread quiet level index none
+            ∙ a.unread was_quiet level index (unmade_before (made second) (made third) b.moves.step.more b.moves.step.made level index none);
+        fits = λ fits. b.fits (a.fits fits);
         had = λ going quiet.
             let was_going = was_none (stopped second) (stopped third) b.stays going in
             let was_quiet = was_none (evidence second) (evidence third) b.moves.step.evidence quiet in
-            had_on (IsLineOf first.lines) first second third before after a.moves more a.copies (a.had was_going was_quiet) (b.had going quiet);
+            had_on (IsLineOf first.lines) first second third before after a.moves more a.copies was_quiet (a.had was_going was_quiet) (b.had going quiet);
       }
 
   -- No call makes nothing of a memory
@@ -158,6 +166,8 @@ module _ {B T : Type 0} (history : B → BusHistory) (bus_moved : B → B → Ty
     stays = λ stop is. is;
     few = λ few. few;
     copies = copies_not history memory memory.ways;
+    unread = λ quiet level index none. refl;
+    fits = λ fits. fits;
     had = λ going quiet. record {
       touched = λ line listed. absurd (none_contained line listed);
       held = λ line held. (inl held, inl (on_chip_of_line (held_lines memory) (cached_pages memory) line held));

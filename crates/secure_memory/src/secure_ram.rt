@@ -10,13 +10,12 @@ ghost use Rattle.sec_base.specs.declared.sealed.Sealed.{Sealed};
 ghost use Rattle.sec_base.specs.declared.stop.MemStop.{MemStop};
 ghost use Rattle.sec_base.specs.declared.stop.MemStop.TheVariants.{Spent};
 ghost use Rattle.bus_model.specs.BusHistory.{NothingWritten};
-ghost use Rattle.tag_engine.specs.Tag.{engine_tag};
 ghost use Rattle.tag_engine.specs.TagEngine.{tags_of};
 ghost use Rattle.pad_stream.specs.Pad.{cipher_of};
 ghost use Rattle.pad_stream.specs.PadBlocks.{ShareNoBlock};
 ghost use Rattle.split_counter.specs.CounterBlock.{block_of, counter_of, place_of};
 ghost use Rattle.page_reencrypt.specs.LineMoves.{ReadMoved, WriteMoved};
-ghost use Rattle.page_reencrypt.specs.SealedLines.{AreNew, AreProtected, IsUnbooted, LinesFit, enc_key, tag_in};
+ghost use Rattle.page_reencrypt.specs.SealedLines.{AreNew, AreProtected, LinesFit, enc_key, tag_in};
 ghost use Rattle.cache_set.specs.Cache.{AreApart, copy_at, new_cache};
 ghost use Rattle.line_cache.specs.LineCache.{IsMissed, IsStoppedMiss, brought, leaving, line_sets, most_held, with_changed};
 ghost use Rattle.secure_memory.specs.SecureRam.{IsMoved, IsNumberByCounters, IsNumberUnder, IsQuiet, cached_nodes, cached_pages, contents, evidence, held_lines, levels, lines_of, made, memory_accesses, stopped, used};
@@ -55,7 +54,7 @@ impl<B: Bus, T: Tagger> Model for SecureRam<B, T> {
 }
 
 impl<B: Bus, T: Tagger> SecureRam<B, T> {
-    /// A memory of zeros that holds no line, over a bus to which nothing was written: its tree is written to the bus. Out of
+    /// A memory of zeros that holds no line, over a bus to which nothing was written. It makes no access of the bus. Out of
     /// memory, the tagger is dropped, and the bus comes back.
     pub fn boot(
         alloc: Global,
@@ -68,15 +67,13 @@ impl<B: Bus, T: Tagger> SecureRam<B, T> {
         requires levels { (B.history bus).levels ≡ geometry }
         requires nothing_written { NothingWritten (B.history bus) }
 
-        ensures new { IfOk result (λ memory. AreNew B.history B.moved (tags_of T.data_tag_of T.node_tag_of)
-            bus tagger keys.now.enc_key geometry page_limit memory.lines) }
+        ensures new { IfOk result (λ memory. AreNew bus tagger keys.now.enc_key geometry page_limit memory.lines) }
         ensures lines_fit { IfOk result (λ memory. LinesFit T.data_tag_of T.node_tag_of B.history memory.lines) }
         ensures empty { IfOk result (λ memory. memory.ways ≡ new_cache line_sets) }
         ensures none_held { IfOk result (λ memory. held_lines memory ≡ []) }
         ensures none_cached { IfOk result (λ memory. cached_pages memory ≡ []) }
         ensures no_nodes { IfOk result (λ memory. (level : ℕ) → cached_nodes memory level ≡ []) }
-        ensures refused { IfErr result (λ refusal. IsUnbooted (engine_tag (T.data_tag_of tagger) (T.node_tag_of tagger) geometry) geometry
-            (B.history bus) (B.history refusal.0) × B.moved bus refusal.0) }
+        ensures refused { IfErr result (λ refusal. refusal.0 ≡ bus) }
     {
         let lines = SealedLines::boot(alloc, bus, tagger, &keys.enc_key, geometry, page_limit)?;
         match LineCache::new(alloc, lines) {
