@@ -1,5 +1,5 @@
 -- The theorem of a run, from what it hands out of its memory and what its execution says.
-use Rattle.std.proofs.Common.{◌==◌, ◌≡◌, ◌≢◌, ◌⊎◌, ◌↔◌, inl, inr, ◌^◌, ◌+◌, ◌<◌, ◌≤◌, ℕ, Bool, List, Option, Some, None, IfSome, Contains, length, refl, ap, subst, arith}
+use Rattle.std.proofs.Common.{◌==◌, ◌≡◌, ◌≢◌, ◌⊎◌, ◌↔◌, inl, inr, ◌^◌, ◌+◌, ◌<◌, ℕ, Bool, List, Option, Some, None, IfSome, Contains, length, refl, ap, subst, arith}
 use Rattle.std.proofs.lemmas.List.Sums.{count_by-le-length, length-filter}
 use Rattle.sec_base.specs.Count.{RoseBy}
 use Rattle.sec_base.specs.Evidence.{IsEvidence}
@@ -8,7 +8,7 @@ use Rattle.sec_base.specs.Geometry.{line_count, page_count, page_of}
 use Rattle.sec_base.specs.LastMessage.{data_pairs}
 use Rattle.sec_base.specs.declared.counter.Counter.{Counter}
 use Rattle.sec_base.specs.declared.ending.Ending.{Ending}
-use Rattle.sec_base.specs.declared.ending.Ending.TheVariants.{OutOfSteps, Tampered, Spent, WriteFault, NoMemory}
+use Rattle.sec_base.specs.declared.ending.Ending.TheVariants.{OutOfSteps, Tampered, Spent, WriteFault}
 use Rattle.sec_base.specs.declared.evidence.Evidence.{Evidence}
 use Rattle.sec_base.specs.declared.message.Message.{Message}
 use Rattle.sec_base.specs.declared.place.Place.{Place}
@@ -16,7 +16,7 @@ use Rattle.sec_base.specs.declared.place.Place.TheVariants.{Line, Node}
 use Rattle.sec_base.specs.declared.stop.MemStop.{MemStop}
 use Rattle.sec_base.specs.declared.stop.MemStop.TheVariants.{NoMemory as no_memory}
 use Rattle.bus_model.specs.BusHistory.{BusHistory}
-use Rattle.bus_model.specs.FirstLie.{AccountsForLies, HonestOrCaught, IsOfFirstLie}
+use Rattle.bus_model.specs.FirstLie.{AccountsForLies, HonestOrCaught}
 use Rattle.pad_stream.proofs.RisingCounters.{rising_once}
 use Rattle.rv32_core.specs.Follows.{Follows, IsWhole}
 use Rattle.rv32_core.specs.Machine.{Machine, plain}
@@ -27,10 +27,10 @@ use Rattle.checked_bus.specs.Accesses.{WritesMessages}
 use Rattle.checked_bus.specs.Steps.{IsAccounted}
 use Rattle.pad_stream.specs.PadBlocks.{ShareNoBlock}
 use Rattle.pad_stream.specs.Pads.{of_lines}
-use Rattle.bonsai_tree.specs.Tree.{NodesAreMade, NodesHoldLast}
+use Rattle.bonsai_tree.specs.Tree.{NodesAreMade, NodesHoldLast, UnmadeAreUnread}
 use Rattle.page_reencrypt.specs.Contents.{ArePaged, HoldsLast, HoldsSealed, IsSpent, NodesSay, counter_in}
 use Rattle.page_reencrypt.specs.SealedLines.{CountersRise}
-use Rattle.chip_run.specs.Run.{Terms, EndedAtBoot, EndsAnywhere, FollowsPlain, IsCutOff, IsWrittenOut, KeepsBudget, KeepsLists, KeepsPads, RanProtected, ShowsEvidence, default_page_limit, unwritten_at}
+use Rattle.chip_run.specs.Run.{Terms, EndsAnywhere, FollowsPlain, IsCutOff, IsWrittenOut, KeepsBudget, KeepsLists, KeepsPads, RanProtected, ShowsEvidence, default_page_limit, unwritten_at}
 use Rattle.chip_run.specs.declared.record.RunRecord.{RunRecord}
 use Rattle.chip_run.proofs.Closing.{ended_account, never_wanting, not_lasting, stopped_spent}
 
@@ -42,7 +42,7 @@ pub record OfMemory (terms : Terms) (before after : BusHistory) (run : RunRecord
   pub inside : (line : ℕ) (counter : Counter) → Contains run.used (line, counter) → line < line_count terms.levels
   pub paired : data_pairs run.made ≡ of_lines (line_count terms.levels) run.used
   pub sealed : HoldsSealed terms.tag_of (line_count terms.levels) run.made run.used after.written
-  pub nodes : NodesAreMade terms.levels run.made after.written ⊎ EndedAtBoot terms.tag_of terms.levels before after run
+  pub nodes : NodesAreMade terms.levels run.made after.written
   pub holds_last : stopped ≢ Some no_memory → HoldsLast terms.tag_of (line_count terms.levels) run.made after.written
   pub nodes_hold_last : stopped ≢ Some no_memory → NodesHoldLast terms.levels run.made after.written
   pub rise : run.evidence ≡ None → CountersRise terms.levels terms.page_limit run.used stopped
@@ -50,9 +50,10 @@ pub record OfMemory (terms : Terms) (before after : BusHistory) (run : RunRecord
   pub few : length run.used < 2 ^ 64
   pub apart : run.evidence ≡ None → ShareNoBlock terms.enc_key run.used
   pub accounted : IsAccounted terms.tag_of run.used run.made after stopped run.evidence
-  pub accesses : WritesMessages before after (length run.made) (unwritten_at run.ending) ⊎ EndedAtBoot terms.tag_of terms.levels before after run
+  pub accesses : WritesMessages before after (length run.made) (unwritten_at run.ending)
   pub reads : (place : Place) → RoseBy 0 (before.reads place) (after.reads place)
   pub levels_are : after.levels ≡ terms.levels
+  pub unread : run.evidence ≡ None → UnmadeAreUnread before run.made after
 
 -- The places of the lines, and of the pages' counter blocks, were read at least as often as the run turned over.
 abbrev pub ReadsTurnover : Terms → BusHistory → BusHistory → RunRecord → Type 0
@@ -178,7 +179,11 @@ module _ (terms : Terms) (printed : List ℕ) (before after : BusHistory) (run :
       plain = follows_plain quiet;
       pads = keeps_pads quiet;
       bus = record { answers = account.answers quiet };
-      caches = record { turnover = (instructions.turned quiet).0; page_turnover = (instructions.turned quiet).1 };
+      caches = record {
+        turnover = (instructions.turned quiet).0;
+        page_turnover = (instructions.turned quiet).1;
+        unread = memory.unread quiet;
+      };
     };
     with_evidence = all_shown run.evidence (ShowsEvidence terms after run) shows;
   }

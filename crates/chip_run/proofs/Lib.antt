@@ -1,5 +1,4 @@
 pub mod TurnoverCases
-pub mod Booted
 pub mod Closing
 pub mod Ends
 pub mod Memories

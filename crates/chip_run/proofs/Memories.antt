@@ -1,16 +1,16 @@
 -- What a run hands out of its memory, from one that was booted to one that is given up.
-use Rattle.std.proofs.Common.{◌≡◌, ◌≢◌, inl, inr, ℕ, ◌+◌, ◌^◌, ◌<◌, List, [], ◌++◌, length, length-append, Option, Some, None, IfSome, Contains, refl, sym, ap, ◌∙◌, subst, arith}
+use Rattle.std.proofs.Common.{◌≡◌, ◌≢◌, inl, ℕ, ◌^◌, ◌<◌, List, [], ◌++◌, length, Option, Some, None, IfSome, Contains, refl, sym, ap, ◌∙◌, subst, arith}
 use Rattle.sec_base.specs.Count.{RoseBy}
 use Rattle.sec_base.specs.Evidence.{IsEvidence}
-use Rattle.sec_base.specs.Geometry.{line_count}
-use Rattle.sec_base.specs.LastMessage.{data_pairs, last_at}
+use Rattle.sec_base.specs.Geometry.{IsNode, line_count}
+use Rattle.sec_base.specs.LastMessage.{data_pairs, last_at, last_node}
 use Rattle.sec_base.specs.declared.counter.Counter.{Counter}
 use Rattle.sec_base.specs.declared.ending.Ending.{Ending}
 use Rattle.sec_base.specs.declared.ending.Ending.TheVariants.{NoMemory}
 use Rattle.sec_base.specs.declared.evidence.Evidence.{Evidence}
 use Rattle.sec_base.specs.declared.message.Message.{Message}
 use Rattle.sec_base.specs.declared.place.Place.{Place}
-use Rattle.sec_base.specs.declared.place.Place.TheVariants.{Line as line_place}
+use Rattle.sec_base.specs.declared.place.Place.TheVariants.{Line as line_place, Node}
 use Rattle.sec_base.specs.declared.stop.MemStop.{MemStop}
 use Rattle.sec_base.specs.declared.stop.MemStop.TheVariants.{Tampered, NoMemory as no_memory}
 use Rattle.bus_model.specs.BusHistory.{BusHistory, NothingWritten}
@@ -19,18 +19,19 @@ use Rattle.tag_engine.specs.TagEngine.{tags_of}
 use Rattle.pad_stream.proofs.RisingCounters.{rising_nothing}
 use Rattle.rv32_core.specs.Machine.{Machine}
 use Rattle.rv32_run.specs.Execution.{CarriesEnding}
-use Rattle.checked_bus.specs.Accesses.{AreCounted, WritesMessages}
+use Rattle.checked_bus.specs.Accesses.{WritesMessages}
 use Rattle.checked_bus.specs.Steps.{IsAccounted, unwritten_in}
 use Rattle.pad_stream.specs.PadBlocks.{ShareNoBlock}
 use Rattle.pad_stream.specs.Pads.{of_lines}
+use Rattle.bonsai_tree.specs.Tree.{NodesAreMade, UnmadeAreUnread}
 use Rattle.page_reencrypt.specs.Contents.{AreUnskipped, AreWithin, HoldsSealed, NodesSay, contents_of}
-use Rattle.page_reencrypt.specs.SealedLines.{AccountsForAll, AreNew, AreProtected, CountersRise, IsLineOf, IsQuiet, IsUnbooted, Moves, SealedLinesView, contents, enc_key, evidence, levels, lines_of, made, used}
+use Rattle.page_reencrypt.specs.SealedLines.{AccountsForAll, AreNew, AreProtected, CountersRise, IsLineOf, IsQuiet, Moves, SealedLinesView, contents, enc_key, evidence, levels, lines_of, made, used}
 use Rattle.cache_set.specs.declared.way.Way.{Way}
 use Rattle.line_cache.specs.LineCache.{contents_over}
 use Rattle.chip_run.specs.Report.{ReportTerms}
-use Rattle.chip_run.specs.Run.{Terms, EndedAtBoot, unwritten_at}
+use Rattle.chip_run.specs.Run.{Terms, unwritten_at}
 use Rattle.chip_run.specs.declared.record.RunRecord.{RunRecord}
-use Rattle.checked_bus.proofs.Steps.{counted_on}
+use Rattle.checked_bus.proofs.Steps.{counted_not}
 use Rattle.bonsai_tree.proofs.MadeSlots.{slots_none}
 use Rattle.chip_run.proofs.Closing.{unwritten_most}
 use Rattle.chip_run.proofs.Ends.{OfMemory}
@@ -63,11 +64,15 @@ nothing_unskipped : (lines : ℕ) → AreUnskipped lines []
 unfolding last_at
 nothing_unskipped lines = record { reached = λ line inside. omega arith }
 
-nothing_sealed : (tag_of : Message → List ℕ) (levels : ℕ) (before after : BusHistory) → before.levels ≡ levels → NothingWritten before →
-    ((line : ℕ) → after.written (line_place line) ≡ before.written (line_place line)) → HoldsSealed tag_of (line_count levels) [] [] after.written
-nothing_sealed tag_of levels before after as_many empty same = record {
-  holds = λ line inside.
-      inl (same line ∙ empty.zeros (line_place line) (subst (λ (l : ℕ). line < line_count l) (sym as_many) inside));
+nothing_sealed : (tag_of : Message → List ℕ) (levels : ℕ) (bus : BusHistory) → bus.levels ≡ levels → NothingWritten bus →
+    HoldsSealed tag_of (line_count levels) [] [] bus.written
+nothing_sealed tag_of levels bus as_many empty = record {
+  holds = λ line inside. inl (empty.zeros (line_place line) (subst (λ (l : ℕ). line < line_count l) (sym as_many) inside));
+}
+
+no_nodes : (levels : ℕ) (bus : BusHistory) → bus.levels ≡ levels → NothingWritten bus → NodesAreMade levels [] bus.written
+no_nodes levels bus as_many empty = record {
+  holds = λ level index inside. inl (empty.zeros (Node level index) (subst (λ (l : ℕ). IsNode l level index) (sym as_many) inside));
 }
 
 nothing_paired : (lines : ℕ) → data_pairs [] ≡ of_lines lines []
@@ -94,50 +99,48 @@ abbrev run_of : ℕ → Ending → Option Evidence → List Message → List (�
 run_of retired ending evidence made used report =
     record { retired = retired; ending = ending; evidence = evidence; made = made; used = used; report = report }
 
-pub unbooted_memory : (terms : Terms) (before after : BusHistory) (run : RunRecord) → before.levels ≡ terms.levels → before.lies ≡ 0 → NothingWritten before → IsUnbooted terms.tag_of terms.levels before after →
-    run.retired ≡ 0 → run.ending ≡ NoMemory → run.made ≡ [] → run.used ≡ [] → run.evidence ≡ None → OfMemory terms before after run
-unbooted_memory terms before after run as_many honest empty booting none_retired ended none_made none_used none =
+pub no_memory_run : (terms : Terms) (bus : BusHistory) (run : RunRecord) → bus.levels ≡ terms.levels → bus.lies ≡ 0 → NothingWritten bus →
+    run.ending ≡ NoMemory → run.made ≡ [] → run.used ≡ [] → run.evidence ≡ None → OfMemory terms bus bus run
+no_memory_run terms bus run as_many honest empty ended none_made none_used none =
     let same : run_of run.retired NoMemory None [] [] run.report ≡ run =
     ap (λ (ending : Ending). run_of run.retired ending None [] [] run.report) (sym ended)
     ∙ ap (λ (evidence : Option Evidence). run_of run.retired run.ending evidence [] [] run.report) (sym none)
     ∙ ap (λ (made : List Message). run_of run.retired run.ending run.evidence made [] run.report) (sym none_made)
     ∙ ap (λ (used : List (ℕ × Counter)). run_of run.retired run.ending run.evidence run.made used run.report) (sym none_used) in
-    let nothing : EndedAtBoot terms.tag_of terms.levels before after (run_of run.retired NoMemory None [] [] run.report) =
-    record { ended = refl; none_retired = none_retired; unmade = refl; unused = refl; booting = booting } in
-    subst (λ (r : RunRecord). OfMemory terms before after r) same (record {
+    subst (λ (r : RunRecord). OfMemory terms bus bus r) same (record {
       stopped = Some no_memory;
       carries = refl;
       inside = λ line counter listed. absurd (omega (arith, listed.1));
       paired = nothing_paired (line_count terms.levels);
-      sealed = nothing_sealed terms.tag_of terms.levels before after as_many empty booting.wrote.lines;
-      nodes = inr nothing;
+      sealed = nothing_sealed terms.tag_of terms.levels bus as_many empty;
+      nodes = no_nodes terms.levels bus as_many empty;
       holds_last = λ some. absurd (some refl);
       nodes_hold_last = λ some. absurd (some refl);
       rise = λ quiet. nothing_risen terms.levels terms.page_limit;
       made_nodes = λ quiet. nothing_said terms.tag_of terms.levels;
       few = omega arith;
       apart = λ quiet. record { apart = λ first second line other counter later block another here there low high same. absurd (cc) };
-      accounted = begins_accounted terms.tag_of [] [] after (Some no_memory) None (booting.wrote.lies ∙ honest) refl (λ place is. cc);
-      accesses = inr nothing;
-      reads = λ place. let same : after.reads place ≡ before.reads place = ap (λ (reads : Place → ℕ). reads place) booting.wrote.reads in omega (arith, same);
-      levels_are = booting.wrote.levels ∙ as_many;
+      accounted = begins_accounted terms.tag_of [] [] bus (Some no_memory) None honest refl (λ place is. cc);
+      accesses = record { writes = 0; counted = counted_not bus; at_most = omega arith; at_least = omega arith };
+      reads = λ place. omega arith;
+      levels_are = as_many;
+      unread = λ quiet level index none. refl;
     })
 
 -- A run that had a memory
 
 -- each access was a read, or wrote a message of its own
-all_counted : (before begun after : BusHistory) (made made' more : List Message) (stopped : Option MemStop) (ending : Ending) →
-    after.levels ≡ begun.levels → ((place : Place) → RoseBy 0 (begun.reads place) (after.reads place)) → RoseBy 0 begun.accesses after.accesses →
-    AreCounted before begun (length made) → WritesMessages begun after (length more) (unwritten_in stopped) → made' ≡ made ++ more →
-    CarriesEnding stopped (Some ending) → WritesMessages before after (length made') (unwritten_at ending)
-all_counted before begun after made made' more stopped ending levels reads accesses booted messages adds carries =
-    let as_long : length made' ≡ length made + length more = ap length adds ∙ length-append made more in
+all_counted : (before after : BusHistory) (made more : List Message) (stopped : Option MemStop) (ending : Ending) →
+    WritesMessages before after (length more) (unwritten_in stopped) → made ≡ more → CarriesEnding stopped (Some ending) →
+    WritesMessages before after (length made) (unwritten_at ending)
+all_counted before after made more stopped ending messages all carries =
+    let as_long : length made ≡ length more = ap length all in
     let wanting = unwritten_most stopped ending carries in
     let most = messages.at_most in
     let least = messages.at_least in
     record {
-      writes = length made + messages.writes;
-      counted = counted_on before begun after (length made) messages.writes levels reads accesses booted messages.counted;
+      writes = messages.writes;
+      counted = messages.counted;
       at_most = omega (arith, as_long, most);
       at_least = omega (arith, as_long, least, wanting);
     }
@@ -167,16 +170,15 @@ same_lines {B} {T} lines bus tagger depth key limit made' evidence' used' bus_is
     ∙ ap (λ (xs : List (ℕ × Counter)). in_words lines bus tagger depth key limit made' evidence' xs) (sym used_is)
 
 module _ {B T : Type 0} (d n : T → List ℕ → List ℕ) (history : B → BusHistory) (bus_moved : B → B → Type 0) (bus : B) (tagger : T) (key : List ℕ) (depth limit : ℕ)
-    (booted lines : SealedLinesView B T) (new : AreNew history bus_moved (tags_of d n) bus tagger key depth limit booted) (moves : Moves history bus_moved (tags_of d n) (IsLineOf booted) booted lines) where
+    (booted lines : SealedLinesView B T) (new : AreNew bus tagger key depth limit booted) (moves : Moves history bus_moved (tags_of d n) (IsLineOf booted) booted lines) where
   new_accounted : (history bus).lies ≡ 0 → AccountsForAll (tags_of d n) history booted
   new_accounted honest =
       begins_accounted (tags_of d n booted.engine) (used booted) (made booted) (history booted.bus) booted.stopped (evidence booted)
-      (new.wrote.lies ∙ honest) new.quiet (λ place is. let going = new.going in cc)
+      (ap (λ (b : B). (history b).lies) new.bus_is ∙ honest) new.quiet (λ place is. let going = new.going in cc)
 
   pub run_reads : (place : Place) → RoseBy 0 ((history bus).reads place) ((history lines.bus).reads place)
   run_reads place =
-      let same : (history booted.bus).reads place ≡ (history bus).reads place = ap (λ (reads : Place → ℕ). reads place) new.wrote.reads in
-      omega (arith, same, moves.step.reads place)
+      subst (λ (b : B). RoseBy 0 ((history b).reads place) ((history lines.bus).reads place)) new.bus_is (moves.step.reads place)
 
   -- what it encrypted is of lines of the memory
   run_inside : (line : ℕ) (counter : Counter) → Contains (used lines) (line, counter) → line < line_count depth
@@ -188,9 +190,10 @@ module _ {B T : Type 0} (d n : T → List ℕ → List ℕ) (history : B → Bus
   pub run_memory : (start : Machine) (budget : ℕ) (report : ReportTerms) (closed : B) (run : RunRecord) → (history bus).lies ≡ 0 → AreProtected d n history lines →
       run.made ≡ made lines → run.used ≡ used lines → length run.used < 2 ^ 64 →
       (IsQuiet lines → ShareNoBlock (enc_key lines) run.used) → run.evidence ≡ evidence lines → closed ≡ lines.bus → CarriesEnding lines.stopped (Some run.ending) →
+      (IsQuiet lines → UnmadeAreUnread (history booted.bus) (made lines) (history lines.bus)) →
       OfMemory (record { start = start; budget = budget; levels = depth; page_limit = limit; tag_of = engine_tag (d tagger) (n tagger) depth; enc_key = key; report = report })
       (history bus) (history closed) run
-  run_memory start budget report closed run honest kept made_is used_is few apart evidence_is bus_is carries =
+  run_memory start budget report closed run honest kept made_is used_is few apart evidence_is bus_is carries unread =
       let words = in_words lines closed tagger depth key limit run.made run.evidence run.used in
       let same : lines ≡ words =
       same_lines lines closed tagger depth key limit run.made run.evidence run.used bus_is (moves.step.tagger ∙ new.tagger_is) (moves.step.levels ∙ new.depth_is)
@@ -203,7 +206,7 @@ module _ {B T : Type 0} (d n : T → List ℕ → List ℕ) (history : B → Bus
             run_inside line counter (subst (λ (used : List (ℕ × Counter)). Contains used (line, counter)) used_is listed);
         paired = protected.always.consistent.paired;
         sealed = protected.always.consistent.sealed;
-        nodes = inl protected.always.consistent.nodes;
+        nodes = protected.always.consistent.nodes;
         holds_last = protected.always.holds_last;
         nodes_hold_last = protected.always.nodes_hold_last;
         rise = protected.rise;
@@ -211,11 +214,16 @@ module _ {B T : Type 0} (d n : T → List ℕ → List ℕ) (history : B → Bus
         few = few;
         apart = λ quiet. subst (λ (k : List ℕ). ShareNoBlock k run.used) (moves.key ∙ new.key_is) (apart (sym evidence_is ∙ quiet));
         accounted = subst (λ (m : SealedLinesView B T). AccountsForAll (tags_of d n) history m) same (moves.accounted (new_accounted honest));
-        accesses = inl (subst (λ (b : B). WritesMessages (history bus) (history b) (length run.made) (unwritten_at run.ending)) (sym bus_is)
-            (all_counted (history bus) (history booted.bus) (history lines.bus) (made booted) run.made moves.step.more lines.stopped run.ending
-            moves.step.bus_levels moves.step.reads moves.step.accesses new.counted moves.accesses (made_is ∙ moves.step.made) carries));
+        accesses = subst (λ (b : B). WritesMessages (history bus) (history b) (length run.made) (unwritten_at run.ending)) (sym bus_is)
+            (subst (λ (b : B). WritesMessages (history b) (history lines.bus) (length run.made) (unwritten_at run.ending)) new.bus_is
+            (all_counted (history booted.bus) (history lines.bus) run.made moves.step.more lines.stopped run.ending moves.accesses
+            (made_is ∙ moves.step.made ∙ ap (λ (made : List Message). made ++ moves.step.more) new.unmade) carries));
         reads = λ place. subst (λ (b : B). RoseBy 0 ((history bus).reads place) ((history b).reads place)) (sym bus_is) (run_reads place);
         levels_are = protected.always.consistent.bus_levels;
+        unread = λ quiet level index none.
+            ap (λ (b : B). (history b).reads (Node level index)) bus_is
+            ∙ unread (sym evidence_is ∙ quiet) level index (ap (last_node level index) (sym made_is) ∙ none)
+            ∙ ap (λ (b : B). (history b).reads (Node level index)) new.bus_is;
       }
 
   -- all its bytes, in the words of the run

@@ -1,5 +1,5 @@
 -- The ways in which a run ends before its first instruction.
-use Rattle.std.proofs.Common.{◌≡◌, ℕ, List, [], None}
+use Rattle.std.proofs.Common.{◌≡◌, ℕ, List, [], None, sym, subst}
 use Rattle.sha2.specs.Sha256.{sha256}
 use Rattle.sec_base.specs.Sink.{SinkState}
 use Rattle.sec_base.specs.declared.ending.Ending.TheVariants.{NoMemory}
@@ -9,12 +9,11 @@ use Rattle.sec_base.specs.declared.stop.MemStop.TheVariants.{NoMemory as no_memo
 use Rattle.bus_model.specs.BusHistory.{BusHistory, NothingWritten}
 use Rattle.rv32_core.specs.Machine.{opening_of}
 use Rattle.rv32_run.specs.Execution.{stop_ending}
-use Rattle.page_reencrypt.specs.SealedLines.{IsUnbooted}
 use Rattle.chip_run.specs.Report.{signed_report}
 use Rattle.chip_run.specs.Run.{Terms, RunsProtected}
 use Rattle.chip_run.specs.declared.record.RunRecord.{RunRecord}
 use Rattle.chip_run.proofs.Ends.{OfMemory, ran_protected}
-use Rattle.chip_run.proofs.Memories.{unbooted_memory}
+use Rattle.chip_run.proofs.Memories.{no_memory_run}
 use Rattle.chip_run.proofs.Reports.{unreported}
 use Rattle.chip_run.proofs.Runs.{stopped_instructions, stopped_sink}
 
@@ -32,9 +31,10 @@ storing_stopped terms out before after run entry size segments input stop begins
 
 -- no memory was found for its memory
 pub boot_refused : (terms : Terms) (out : SinkState) (before after : BusHistory) (run : RunRecord) (entry size : ℕ) (segments : List Segment) (input : List ℕ) →
-    terms.start ≡ opening_of entry size segments input → before.levels ≡ terms.levels → before.lies ≡ 0 → NothingWritten before → IsUnbooted terms.tag_of terms.levels before after →
+    terms.start ≡ opening_of entry size segments input → before.levels ≡ terms.levels → before.lies ≡ 0 → NothingWritten before → after ≡ before →
     run.retired ≡ 0 → run.ending ≡ NoMemory → run.made ≡ [] → run.used ≡ [] → run.evidence ≡ None → run.report ≡ None →
     RunsProtected terms out out before after run
-boot_refused terms out before after run entry size segments input begins as_many honest empty booting none ended none_made none_used quiet unsigned =
+boot_refused terms out before after run entry size segments input begins as_many honest empty same none ended none_made none_used quiet unsigned =
     storing_stopped terms out before after run entry size segments input no_memory begins
-    (unbooted_memory terms before after run as_many honest empty booting none ended none_made none_used quiet) none ended (unreported terms.report (sha256 []) run.retired run.ending run.report ended unsigned)
+    (subst (λ (bus : BusHistory). OfMemory terms before bus run) (sym same) (no_memory_run terms before run as_many honest empty ended none_made none_used quiet))
+    none ended (unreported terms.report (sha256 []) run.retired run.ending run.report ended unsigned)

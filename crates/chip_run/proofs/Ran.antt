@@ -1,26 +1,23 @@
 -- What a program came to that ran on protected memory, from how it began and what it hands out.
-use Rattle.std.proofs.Common.{◌≡◌, ◌<◌, ℕ, List, [], Some, None, refl, sym, ap, ◌∙◌, subst}
-use Rattle.sec_base.specs.Count.{RoseBy}
+use Rattle.std.proofs.Common.{◌≡◌, ◌<◌, ℕ, List, [], ◌++◌, Some, None, refl, sym, ap, ◌∙◌, subst}
 use Rattle.sec_base.specs.Geometry.{line_count}
 use Rattle.sec_base.specs.declared.ending.Ending.{Ending}
 use Rattle.sec_base.specs.declared.message.Message.{Message}
-use Rattle.sec_base.specs.declared.place.Place.{Place}
 use Rattle.bus_model.specs.BusHistory.{BusHistory}
-use Rattle.tag_engine.specs.TagEngine.{TagEngineView, tags_of}
+use Rattle.tag_engine.specs.TagEngine.{tags_of}
 use Rattle.rv32_core.specs.Machine.{Machine, plain}
 use Rattle.rv32_core.specs.State.{CoreView}
 use Rattle.rv32_run.specs.Execution.{CarriesEnding, FollowsWith}
 use Rattle.rv32_run.specs.ExecutionView.{ExecutionView}
-use Rattle.rv32_run.specs.Progress.{HasEnded, StandsWith}
+use Rattle.rv32_run.specs.Progress.{StandsWith}
 use Rattle.counter_cache.specs.Counters.{most_blocks}
 use Rattle.line_cache.specs.LineCache.{most_held}
 use Rattle.page_reencrypt.specs.SealedLines.{IsLineOf, Moves}
-use Rattle.page_reencrypt.proofs.Moves.{own_moves_on}
-use Rattle.secure_memory.specs.SecureRam.{IsQuiet, SecureRamView, cached_pages, contents, held_lines, made, stopped}
+use Rattle.secure_memory.specs.SecureRam.{IsMoved, IsQuiet, SecureRamView, cached_pages, contents, held_lines, stopped}
+use Rattle.secure_memory.specs.Moving.{moved_on}
 use Rattle.chip_run.specs.Run.{RanProtected, Terms}
-use Rattle.chip_run.specs.Running.{HandsOut, HasBegun, HasRunTo, HasStored, protected_by}
+use Rattle.chip_run.specs.Running.{HandsOut, HasRunTo, HasStored, protected_by}
 use Rattle.chip_run.specs.declared.record.RunRecord.{RunRecord}
-use Rattle.chip_run.proofs.Booted.{has_message}
 use Rattle.chip_run.proofs.Ends.{OfInstructions, OfMemory, ReadsTurnover, ran_protected}
 use Rattle.chip_run.proofs.Memories.{run_contents, run_memory, run_reads}
 use Rattle.chip_run.proofs.Runs.{ran_instructions}
@@ -35,10 +32,10 @@ begins_with start reached n here none =
 module _ {B T : Type 0} (d n : T → List ℕ → List ℕ) (history : B → BusHistory) (bus_moved : B → B → Type 0)
     (bus_moved_on : (a b c : B) → bus_moved a b → bus_moved b c → bus_moved a c) (bus : B) (tagger : T) (terms : Terms) where
   -- what a run hands out of a memory in which its program was stored
-  pub stored_memory : (memory last : SecureRamView B T) (closed : B) (run : RunRecord) → (stored : HasStored d n history bus_moved bus tagger terms memory) →
-      Moves history bus_moved (tags_of d n) (IsLineOf stored.booted.lines) stored.booted.lines last.lines → HandsOut d n history last closed run → (history bus).lies ≡ 0 →
+  pub stored_memory : (lines : List ℕ) (memory last : SecureRamView B T) (closed : B) (run : RunRecord) → (stored : HasStored d n history bus_moved bus tagger terms memory) →
+      IsMoved history bus_moved (tags_of d n) stored.booted lines last → HandsOut d n history last closed run → (history bus).lies ≡ 0 →
       CarriesEnding (stopped last) (Some run.ending) → OfMemory terms (history bus) (history closed) run
-  stored_memory memory last closed run stored moves out honest carries =
+  stored_memory lines memory last closed run stored moved out honest carries =
       subst (λ (tag_of : Message → List ℕ). OfMemory (record {
         start = terms.start;
         budget = terms.budget;
@@ -48,34 +45,33 @@ module _ {B T : Type 0} (d n : T → List ℕ → List ℕ) (history : B → Bus
         enc_key = terms.enc_key;
         report = terms.report;
       }) (history bus) (history closed) run) (sym stored.tags)
-      (run_memory d n history bus_moved bus tagger terms.enc_key terms.levels terms.page_limit stored.booted.lines last.lines stored.new moves
-      terms.start terms.budget terms.report closed run honest out.protected out.made_is out.used_is out.few out.apart out.evidence_is out.bus_is carries)
+      (run_memory d n history bus_moved bus tagger terms.enc_key terms.levels terms.page_limit stored.booted.lines last.lines stored.new moved.moves
+      terms.start terms.budget terms.report closed run honest out.protected out.made_is out.used_is out.few out.apart out.evidence_is out.bus_is carries moved.unread)
 
   -- its bus
   pub stored_bus : (memory last : SecureRamView B T) (closed : B) (stored : HasStored d n history bus_moved bus tagger terms memory) →
       Moves history bus_moved (tags_of d n) (IsLineOf stored.booted.lines) stored.booted.lines last.lines → closed ≡ last.lines.bus → bus_moved bus closed
   stored_bus memory last closed stored moves is =
-      subst (λ (b : B). bus_moved bus b) (sym is) (bus_moved_on bus stored.booted.lines.bus last.lines.bus stored.new.bus_led moves.bus)
+      subst (λ (b : B). bus_moved bus b) (sym is) (subst (λ (b : B). bus_moved b last.lines.bus) stored.new.bus_is moves.bus)
 
-  -- the memory has a message of each page's counter block
-  stored_booted : (memory : SecureRamView B T) → HasStored d n history bus_moved bus tagger terms memory → IsBooted terms.levels memory
+  -- few lines and counter blocks have copies in it, and what stands outside fits them
+  stored_booted : (memory : SecureRamView B T) → HasStored d n history bus_moved bus tagger terms memory → IsBooted history bus_moved (tags_of d n) terms.levels memory
   stored_booted memory stored =
-      let storing = stored.stored.moves in
       record {
-        levels_are = storing.step.levels ∙ stored.new.depth_is;
+        levels_are = stored.stored.moves.step.levels ∙ stored.new.depth_is;
         few = few_begun most_held (held_lines stored.booted) (held_lines memory) (held_lines memory) stored.none_held stored.stored.few refl;
         few_blocks = few_begun most_blocks (cached_pages stored.booted) (cached_pages memory) (cached_pages memory) stored.none_cached stored.stored.copies.few_blocks refl;
-        tagged = λ page below. has_message _ terms.levels page _ (made memory) storing.step.more stored.new.made_is storing.step.made below;
+        fits = stored.stored.fits (λ going quiet. stored.fits);
       }
 
   module _ {P : Type 0} (core : P → CoreView) (bus_unmoved : (b : B) → bus_moved b b) (printed : List ℕ) (ending : Ending)
       (now : ExecutionView P (SecureRamView B T)) (closed : B) (run : RunRecord) (went : HasRunTo core d n history bus_moved bus tagger terms printed ending now)
       (out : HandsOut d n history now.memory closed run) (retired_is : run.retired ≡ now.retired) (ending_is : run.ending ≡ ending) where
     -- what the run made of its memory
-    pub ran_moves : Moves history bus_moved (tags_of d n) (IsLineOf went.begun.stored.booted.lines) went.begun.stored.booted.lines now.memory.lines
-    ran_moves =
-        own_moves_on history bus_moved (tags_of d n) bus_moved_on went.begun.stored.booted.lines went.first.memory.lines now.memory.lines
-        went.begun.stored.stored.moves went.ended.moved.moved.moves
+    pub ran_moved : IsMoved history bus_moved (tags_of d n) went.begun.stored.booted (went.begun.stored.lines ++ went.ended.moved.lines) now.memory
+    ran_moved =
+        moved_on history bus_moved (tags_of d n) bus_moved_on went.begun.stored.booted went.first.memory now.memory
+        went.begun.stored.lines went.ended.moved.lines went.begun.stored.stored went.ended.moved.moved
 
     sound_to_end : run.evidence ≡ None → IsQuiet now.memory
     sound_to_end quiet = sym out.evidence_is ∙ quiet
@@ -110,7 +106,7 @@ module _ {B T : Type 0} (d n : T → List ℕ → List ℕ) (history : B → Bus
         ran_instructions terms printed (history bus) (history closed) run now.retired now.budget ending now.memory.ways (contents now.memory) retired_is ending_is
         (went.ended.budget ∙ went.begun.budget)
         (run_contents d n history bus_moved bus tagger terms.enc_key terms.levels terms.page_limit went.begun.stored.booted.lines now.memory.lines
-        went.begun.stored.new ran_moves run now.memory.ways out.made_is)
+        went.begun.stored.new ran_moved.moves run now.memory.ways out.made_is)
         out.few_held went.ended.within went.ended.budget_used went.ended.early follows turned
 
     carries : CarriesEnding (stopped now.memory) (Some run.ending)
@@ -119,4 +115,4 @@ module _ {B T : Type 0} (d n : T → List ℕ → List ℕ) (history : B → Bus
     pub ran : (history bus).lies ≡ 0 → RanProtected (λ line. line < line_count terms.levels) terms printed (history bus) (history closed) run
     ran honest =
         ran_protected terms printed (history bus) (history closed) run
-        (stored_memory went.first.memory now.memory closed run went.begun.stored ran_moves out honest carries) instructions
+        (stored_memory (went.begun.stored.lines ++ went.ended.moved.lines) went.first.memory now.memory closed run went.begun.stored ran_moved out honest carries) instructions

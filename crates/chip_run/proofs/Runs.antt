@@ -1,16 +1,13 @@
 -- What a run's instructions came to, and what stands outside behind them.
-use Rattle.std.proofs.Common.{◌≡◌, ◌≢◌, ◌+◌, ◌*◌, ◌<◌, ◌≤◌, ℕ, zero, suc, List, [], ◌++◌, length, replicate, Option, Some, None, Contains, refl, sym, ap, ◌∙◌, subst, arith}
-use Rattle.std.specs.Option.{option_map}
+use Rattle.std.proofs.Common.{◌≡◌, ◌≢◌, ◌+◌, ◌*◌, ◌<◌, ◌≤◌, ℕ, zero, suc, List, [], ◌++◌, length, replicate, None, Contains, refl, sym, ap, ◌∙◌, subst, arith}
 use Rattle.std.proofs.lemmas.List.{replicate-append-replicate}
 use Rattle.sec_base.specs.Count.{RoseBy}
 use Rattle.sec_base.specs.Geometry.{line_count, memory_size, page_count, page_of}
-use Rattle.sec_base.specs.LastMessage.{data_pairs, last_at, last_data, last_pair}
+use Rattle.sec_base.specs.LastMessage.{last_at, last_data}
 use Rattle.sec_base.specs.Lines.{joined_lines, line_at}
 use Rattle.sec_base.specs.Sink.{SinkState}
 use Rattle.sec_base.proofs.JoinedLines.{line_at-joined_lines}
-use Rattle.sec_base.proofs.LastMessages.{last_pair-data_pairs}
 use Rattle.sec_base.proofs.Writes.{written_after-nil}
-use Rattle.sec_base.specs.declared.counter.Counter.{Counter}
 use Rattle.sec_base.specs.declared.ending.Ending.{Ending}
 use Rattle.sec_base.specs.declared.ending.Ending.TheVariants.{OutOfSteps, WriteFault}
 use Rattle.sec_base.specs.declared.message.Message.{Message}
@@ -37,17 +34,11 @@ use Rattle.chip_run.specs.declared.record.RunRecord.{RunRecord}
 use Rattle.chip_run.proofs.Ends.{OfInstructions, ReadsTurnover}
 use Rattle.chip_run.proofs.Turned.{nothing_turned}
 
--- A memory of which no line was tagged has zeros
+-- A memory of which nothing was tagged has zeros
 
-nothing_found : {A B : Type 0} (f : A → B) (found : Option A) → option_map f found ≡ None → found ≡ None
-nothing_found f None none = refl
-nothing_found f (Some x) none = absurd (cc)
-
-untagged : (made : List Message) (line : ℕ) → data_pairs made ≡ [] → last_data line made ≡ None
+untagged : (made : List Message) (line : ℕ) → made ≡ [] → last_data line made ≡ None
 unfolding last_at
-untagged made line none =
-    let before : last_pair line (data_pairs made) ≡ None = ap (last_pair line) none in
-    nothing_found (λ (found : Counter × List ℕ). found.0) (last_data line made) (sym (last_pair-data_pairs line made) ∙ before)
+untagged made line none = ap (last_data line) none
 
 joined_zeros : (f : ℕ → List ℕ) (lines : ℕ) → ((line : ℕ) → f line ≡ replicate 64 0) → joined_lines f lines ≡ replicate (64 * lines) 0
 unfolding joined_lines
@@ -62,7 +53,7 @@ joined_zeros f (suc lines) zeros =
 none_listed : (line : ℕ) → Contains [] line → ⊥
 none_listed line there = omega (arith, there.1)
 
-pub opening_zeros : (key : List ℕ) (levels depth size : ℕ) (made : List Message) (ways : List (List Way)) → data_pairs made ≡ [] → levels ≡ depth → size ≡ memory_size depth → places ways ≡ [] →
+pub opening_zeros : (key : List ℕ) (levels depth size : ℕ) (made : List Message) (ways : List (List Way)) → made ≡ [] → levels ≡ depth → size ≡ memory_size depth → places ways ≡ [] →
     contents_over (contents_of key (line_count levels) made) (line_count levels) ways ≡ replicate size 0
 opening_zeros key levels depth size made ways none same as_large unheld =
     let long : 64 * line_count depth ≡ size = omega arith in

@@ -1,42 +1,48 @@
 -- What a run read from the places of the lines, and of the pages' counter blocks.
-use Rattle.std.proofs.Common.{◌≡◌, inl, inr, ◌+◌, ◌*◌, ◌<◌, ◌≤◌, ◌⊎◌, ℕ, List, [], true, false, take, map, length, length-append, None, sym, ap, ◌∙◌, subst, arith}
+use Rattle.std.proofs.Common.{◌≡◌, inl, inr, ◌+◌, ◌*◌, ◌<◌, ◌≤◌, ◌⊎◌, ℕ, List, [], true, false, take, map, length, length-append, Option, None, refl, sym, ap, ◌∙◌, subst, arith}
 use Rattle.std.specs.Prelude.{not, nat_eq, Contains}
 use Rattle.std.specs.List.{list_any}
+use Rattle.std.specs.Option.{option_map}
 use Rattle.std.proofs.lemmas.Bool.{false≢true, cases_lt}
-use Rattle.std.proofs.lemmas.List.{drop_all, length-map}
+use Rattle.std.proofs.lemmas.List.{drop_all, get_or-replicate, length-map}
+use Rattle.sec_base.specs.declared.counter.Counter.{Counter}
 use Rattle.sec_base.specs.declared.message.Message.{Message}
 use Rattle.sec_base.specs.declared.place.Place.{Place}
 use Rattle.sec_base.specs.declared.place.Place.TheVariants.{Line as line_place, Node}
-use Rattle.sec_base.specs.declared.segment.Segment.{Segment}
 use Rattle.sec_base.specs.Count.{Rose, RoseBy}
 use Rattle.sec_base.specs.Gain.{Gain}
 use Rattle.sec_base.specs.Geometry.{line_count, page_count, page_of}
-use Rattle.sec_base.specs.LastMessage.{last_data}
+use Rattle.sec_base.specs.LastMessage.{last_data, last_node}
 use Rattle.sec_base.specs.Lines.{line_at}
-use Rattle.sec_base.specs.Opening.{opening_memory}
 use Rattle.sec_base.proofs.Gains.{gain_none, gain_on}
 use Rattle.sec_base.proofs.JoinedLines.{line_at-joined_lines}
 use Rattle.sec_base.proofs.Results.{was_none}
 use Rattle.bus_model.specs.BusHistory.{BusHistory}
 use Rattle.tag_engine.specs.TagEngine.{TagEngineView}
-use Rattle.rv32_core.specs.Machine.{Machine, opening_of}
+use Rattle.rv32_core.specs.Machine.{Machine}
 use Rattle.rv32_core.specs.Turnover.{is_old, page_turnover, turnover, turnover_by}
 use Rattle.rv32_run.specs.Trail.{HasTrail}
 use Rattle.rv32_run.proofs.Windows.{Chip, turnover_begun}
-use Rattle.counter_cache.specs.Counters.{most_blocks}
-use Rattle.page_reencrypt.specs.Contents.{bytes_of, contents_of, line_bytes}
+use Rattle.split_counter.specs.CounterBlock.{block_of, counter_of, new_block, place_of}
+use Rattle.split_counter.specs.Digits.{digits_of, number_of}
+use Rattle.bonsai_tree.specs.Node.{current_of, no_block}
+use Rattle.bonsai_tree.specs.NodeCache.{copy_of}
+use Rattle.counter_cache.specs.Counters.{current_page, most_blocks}
+use Rattle.page_reencrypt.specs.Contents.{bytes_of, contents_of, counter_in, line_bytes, never_written}
 use Rattle.page_reencrypt.specs.LineLengths.{length-contents_of, length-line_bytes}
-use Rattle.page_reencrypt.specs.SealedLines.{enc_key, levels, contents as line_contents}
+use Rattle.page_reencrypt.specs.LineMoves.{FitsUnlessStopped}
+use Rattle.page_reencrypt.specs.SealedLines.{FitsTogether, enc_key, levels, contents as line_contents}
+use Rattle.page_reencrypt.specs.Stops.{lasting_stop}
+use Rattle.page_reencrypt.proofs.RisingPairs.{last_none}
 use Rattle.page_reencrypt.proofs.Sealing.{listed_or_not}
 use Rattle.cache_set.specs.declared.way.Way.{Way}
-use Rattle.cache_set.specs.Cache.{places}
+use Rattle.cache_set.specs.Cache.{places, way_at}
 use Rattle.line_cache.specs.LineCache.{contents_over, most_held}
 use Rattle.line_cache.specs.Moving.{length-contents_over}
 use Rattle.line_cache.proofs.Lines.{over_unheld}
 use Rattle.line_cache.proofs.Steps.{unheld_none}
-use Rattle.secure_memory.specs.SecureRam.{IsMoved, IsQuiet, SecureRamView, cached_pages, contents, held_lines, lines_of, made, pages_on_chip, stopped}
-use Rattle.secure_memory.specs.Moving.{moved_on, unmoved}
-use Rattle.chip_run.proofs.Booted.{HasMessage, has_before, has_last}
+use Rattle.secure_memory.specs.SecureRam.{IsMoved, IsQuiet, SecureRamView, cached_pages, contents, evidence, held_lines, lines_of, made, pages_on_chip, stopped, used}
+use Rattle.secure_memory.specs.Moving.{moved_on, on_chip_of_line, on_chip_of_page, unmoved}
 use Rattle.chip_run.proofs.TurnoverCases.{turned_by_none}
 
 -- a line past the end has no bytes, and one that was never tagged has zeros
@@ -91,25 +97,61 @@ old_was_had history bus_moved tags old new lines line moved going quiet listed i
       ]
     ]
 
+-- A block of zeros says the counter of a line that was never written
+
+zeros_are_new : block_of no_block ≡ new_block
+unfolding block_of digits_of number_of
+zeros_are_new = refl
+
+zeros_say : (line : ℕ) → counter_of (place_of line) (block_of no_block) ≡ never_written
+zeros_say line =
+    ap (counter_of (place_of line)) zeros_are_new
+    ∙ ap (λ (n : ℕ). let counter : Counter = record { page = 0; line = n } in counter) (get_or-replicate 64 (place_of line) 0 0 (omega arith))
+
+-- so a line is blank where nothing of its page is on the chip, and its page's counter block was never made
+unmade_is_blank : {B T : Type 0} (tag_of : Message → List ℕ) (history : BusHistory) (memory : SecureRamView B T) (line : ℕ) →
+    FitsTogether tag_of (levels memory.lines) memory.lines.counters history (made memory) (used memory) → line < lines_of memory →
+    last_node 0 (page_of line) (made memory) ≡ None → ¬ Contains (pages_on_chip memory) (page_of line) → is_old (contents memory) line ≡ false
+unmade_is_blank tag_of history memory line fits inside never away =
+    let unheld : ¬ Contains (held_lines memory) line = λ held. away (on_chip_of_line (held_lines memory) (cached_pages memory) line held) in
+    let uncached : way_at memory.lines.counters.blocks (page_of line) ≡ None =
+    unheld_none memory.lines.counters.blocks (page_of line) (λ cached. away (on_chip_of_page (held_lines memory) (cached_pages memory) (page_of line) cached)) in
+    let zeros : current_page memory.lines.counters (made memory) (page_of line) ≡ no_block =
+    ap (λ (way : Option Way). current_of (option_map copy_of way) (last_node 0 (page_of line) (made memory))) uncached ∙ ap (current_of None) never in
+    let unwritten : counter_in (used memory) line ≡ never_written =
+    fits.current (page_of line) (omega (arith, inside)) line refl
+    ∙ ap (λ (block : List ℕ). counter_of (place_of line) (block_of block)) zeros ∙ zeros_say line in
+    untagged_is_blank (enc_key memory.lines) (lines_of memory) (made memory) memory.ways line inside unheld
+    (last_none (lines_of memory) (made memory) (used memory) line fits.paired inside ((fits.fresh line).0 unwritten))
+
 -- of the page of an old line something was on the chip, or its counter block was read
 page_was_had : {B T : Type 0} (history : B → BusHistory) (bus_moved : B → B → Type 0) (tags : TagEngineView T → Message → List ℕ) (old new : SecureRamView B T) (lines : List ℕ) (line : ℕ) →
-    IsMoved history bus_moved tags old lines new → HasMessage (page_of line) (made old) → stopped new ≡ None → IsQuiet new → Contains lines line →
+    IsMoved history bus_moved tags old lines new → FitsUnlessStopped history bus_moved tags old.lines → stopped new ≡ None → IsQuiet new → Contains lines line → is_old (contents old) line ≡ true →
     Contains (pages_on_chip old) (page_of line) ⊎ Rose ((history old.lines.bus).reads (Node 0 (page_of line))) ((history new.lines.bus).reads (Node 0 (page_of line)))
-page_was_had history bus_moved tags old new lines line moved has going quiet listed =
+page_was_had history bus_moved tags old new lines line moved fits going quiet listed is =
     elim ((moved.had going quiet).touched line listed).1 [
       | inl there ↦ inl there
       | inr had ↦ elim had [
-        | inl never ↦ absurd (has_last (page_of line) (made old) has never)
+        | inl never ↦
+            elim (listed_or_not (pages_on_chip old) (page_of line)) [
+              | inl there ↦ inl there
+              | inr away ↦
+                  let going_before : stopped old ≡ None = was_none (stopped old) (stopped new) moved.stays going in
+                  let quiet_before : IsQuiet old = was_none (evidence old) (evidence new) moved.moves.step.evidence quiet in
+                  let inside = old_is_inside (line_contents old.lines) (lines_of old) old.ways line is in
+                  absurd (false≢true (sym (unmade_is_blank (tags old.lines.engine) (history old.lines.bus) old line (fits (ap lasting_stop going_before) quiet_before) inside never away) ∙ is))
+            ]
         | inr rose ↦ inr rose
       ]
     ]
 
--- it has so many levels, each page's counter block was tagged, and few lines and few counter blocks have copies
-pub record IsBooted {B T : Type 0} (depth : ℕ) (memory : SecureRamView B T) : Type 0 where
+-- it has so many levels, few lines and few counter blocks have copies, and what stands outside fits what the chip has of it
+pub record IsBooted {B T : Type 0} (history : B → BusHistory) (bus_moved : B → B → Type 0) (tags : TagEngineView T → Message → List ℕ) (depth : ℕ)
+    (memory : SecureRamView B T) : Type 0 where
   pub levels_are : levels memory.lines ≡ depth
   pub few : length (held_lines memory) ≤ most_held
   pub few_blocks : length (cached_pages memory) ≤ most_blocks
-  pub tagged : (page : ℕ) → page < page_count depth → HasMessage page (made memory)
+  pub fits : FitsUnlessStopped history bus_moved tags memory.lines
 
 page_inside : {B T : Type 0} (depth : ℕ) (memory : SecureRamView B T) (line : ℕ) → levels memory.lines ≡ depth → is_old (contents memory) line ≡ true → page_of line < page_count depth
 page_inside depth memory line fits old =
@@ -118,13 +160,12 @@ page_inside depth memory line fits old =
 
 module _ {B T : Type 0} (history : B → BusHistory) (bus_moved : B → B → Type 0) (tags : TagEngineView T → Message → List ℕ)
     (bus_unmoved : (bus : B) → bus_moved bus bus) (bus_moved_on : (a b c : B) → bus_moved a b → bus_moved b c → bus_moved a c) (depth : ℕ) where
-  still_booted : (a b : SecureRamView B T) (lines : List ℕ) → IsMoved history bus_moved tags a lines b → IsBooted depth a → IsBooted depth b
+  still_booted : (a b : SecureRamView B T) (lines : List ℕ) → IsMoved history bus_moved tags a lines b → IsBooted history bus_moved tags depth a → IsBooted history bus_moved tags depth b
   still_booted a b lines moved booted = record {
     levels_are = moved.moves.step.levels ∙ booted.levels_are;
     few = moved.few booted.few;
     few_blocks = moved.copies.few_blocks booted.few_blocks;
-    tagged = λ page below.
-        subst (HasMessage page) (sym moved.moves.step.made) (has_before page (made a) moved.moves.step.more (booted.tagged page below));
+    fits = moved.fits booted.fits;
   }
 
   -- the memory as a chip that holds some lines, and as one that has something of some pages
@@ -135,7 +176,7 @@ module _ {B T : Type 0} (history : B → BusHistory) (bus_moved : B → B → Ty
     stopped = λ m. stopped m;
     moved = λ a xs b. IsMoved history bus_moved tags a xs b;
     quiet = λ m. IsQuiet m;
-    fits = λ m. IsBooted depth m;
+    fits = λ m. IsBooted history bus_moved tags depth m;
     reads = λ m line. (history m.lines.bus).reads (line_place line);
     kept = λ m. held_lines m;
     group = λ line. line;
@@ -159,7 +200,7 @@ module _ {B T : Type 0} (history : B → BusHistory) (bus_moved : B → B → Ty
     stopped = λ m. stopped m;
     moved = λ a xs b. IsMoved history bus_moved tags a xs b;
     quiet = λ m. IsQuiet m;
-    fits = λ m. IsBooted depth m;
+    fits = λ m. IsBooted history bus_moved tags depth m;
     reads = λ m page. (history m.lines.bus).reads (Node 0 page);
     kept = λ m. pages_on_chip m;
     group = page_of;
@@ -172,8 +213,7 @@ module _ {B T : Type 0} (history : B → BusHistory) (bus_moved : B → B → Ty
     rises = λ a b xs moved page. moved.moves.step.reads (Node 0 page);
     few = λ m fits. omega (arith, few_pages m fits.few fits.few_blocks);
     inside = λ m line fits old. page_inside depth m line fits.levels_are old;
-    paid = λ a b xs moved fits going quiet line listed old.
-        page_was_had history bus_moved tags a b xs line moved (fits.tagged (page_of line) (page_inside depth a line fits.levels_are old)) going quiet listed;
+    paid = λ a b xs moved fits going quiet line listed old. page_was_had history bus_moved tags a b xs line moved fits.fits going quiet listed old;
   }
 
   -- What was read from places that a function names, by a run that began with a memory and by the calls before it.
@@ -190,7 +230,7 @@ module _ {B T : Type 0} (history : B → BusHistory) (bus_moved : B → B → Ty
 
   -- a whole run
   module _ (from n count : ℕ) (start : Machine) (bus closed : B) (first end : SecureRamView B T) (listed : List ℕ)
-      (moved : IsMoved history bus_moved tags first listed end) (begun : from ≡ 0) (same : contents first ≡ start.state.memory) (fits : IsBooted depth first) (quiet : IsQuiet end)
+      (moved : IsMoved history bus_moved tags first listed end) (begun : from ≡ 0) (same : contents first ≡ start.state.memory) (fits : IsBooted history bus_moved tags depth first) (quiet : IsQuiet end)
       (went : HasTrail (λ m. stopped m) (λ m. contents m) (λ a xs b. IsMoved history bus_moved tags a xs b) start from n first end)
       (as_many : count ≡ n) (before : (place : Place) → RoseBy 0 ((history bus).reads place) ((history first.lines.bus).reads place)) (is : closed ≡ end.lines.bus) where
     lines_turned : Gain (line_count depth) (λ line. (history bus).reads (line_place line)) (λ line. (history closed).reads (line_place line)) (turnover start count)
@@ -218,8 +258,3 @@ pub nothing_turned : (group : ℕ → ℕ) (bound : ℕ) (start : Machine) (plac
 nothing_turned group bound start places n old new none rises =
     subst (λ (k : ℕ). Gain places old new (turnover_by group bound start k)) (sym none)
     (subst (λ (turned : ℕ). Gain places old new turned) (sym (turned_by_none group bound start)) (gain_none places old new rises))
-
--- the memory of a program as it begins
-pub opening_bytes : (entry size : ℕ) (segments : List Segment) (input bytes : List ℕ) → bytes ≡ opening_memory size segments → bytes ≡ (opening_of entry size segments input).state.memory
-unfolding opening_of
-opening_bytes entry size segments input bytes same = same

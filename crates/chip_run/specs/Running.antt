@@ -9,7 +9,7 @@ use Rattle.pad_stream.specs.PadBlocks.{ShareNoBlock}
 use Rattle.rv32_core.specs.State.{CoreView}
 use Rattle.rv32_run.specs.ExecutionView.{ExecutionView}
 use Rattle.rv32_run.specs.Progress.{GoesAlong, HasEnded, Semantics, StandsWith, semantics_of}
-use Rattle.page_reencrypt.specs.SealedLines.{AreNew, AreProtected, enc_key}
+use Rattle.page_reencrypt.specs.SealedLines.{AreNew, AreProtected, LinesFit, enc_key}
 use Rattle.secure_memory.specs.SecureRam.{IsMoved, IsQuiet, SecureRamView, cached_pages, contents, evidence, held_lines, lines_of, made, stopped, used}
 use Rattle.chip_run.specs.Run.{Terms, most_left}
 use Rattle.chip_run.specs.declared.record.RunRecord.{RunRecord}
@@ -26,7 +26,8 @@ pub record HasStored {B T : Type 0} (data_tag node_tag : T → List ℕ → List
     (bus : B) (tagger : T) (terms : Terms) (memory : SecureRamView B T) : Type 0 where
   pub tags : terms.tag_of ≡ engine_tag (data_tag tagger) (node_tag tagger) terms.levels
   pub booted : SecureRamView B T
-  pub new : AreNew history bus_moved (tags_of data_tag node_tag) bus tagger terms.enc_key terms.levels terms.page_limit booted.lines
+  pub new : AreNew bus tagger terms.enc_key terms.levels terms.page_limit booted.lines
+  pub fits : LinesFit data_tag node_tag history booted.lines
   pub none_held : held_lines booted ≡ []
   pub none_cached : cached_pages booted ≡ []
   pub lines : List ℕ

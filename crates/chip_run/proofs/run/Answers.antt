@@ -1,4 +1,4 @@
-use Rattle.std.proofs.Common.{◌≡◌, Err, List, [], ◌++◌, refl, sym, ap, ◌∙◌, subst, ℕ}
+use Rattle.std.proofs.Common.{Err, [], refl, sym, ap, ◌∙◌, subst}
 use Rattle.sha2.specs.Sha256.{sha256}
 use Rattle.sec_base.specs.declared.ending.Ending.{Ending}
 use Rattle.rv32_run.specs.Progress.{SinkEnds}
@@ -10,7 +10,7 @@ use Rattle.chip_run.specs.Run.{run_terms}
 use Rattle.chip_run.specs.Running.{HasRunTo, protected_by}
 use Rattle.chip_run.proofs.Closing.{ends_as_stop}
 use Rattle.chip_run.proofs.Outcomes.{boot_refused, storing_stopped}
-use Rattle.chip_run.proofs.Ran.{ran, ran_moves, stored_bus, stored_memory}
+use Rattle.chip_run.proofs.Ran.{ran, ran_moved, stored_bus, stored_memory}
 use Rattle.chip_run.proofs.Reports.{report_is}
 use Rattle.chip_run.proofs.run.Given.{Over}
 use Rattle.chip_run.proofs.run.Goals as goal
@@ -22,7 +22,7 @@ returns-in-Err-NoMemory-clause-run g c =
     let left = c.in-Err-NoMemory.bus in
     boot_refused _ (g.S.Sink.state c.args.out.now) (g.B.Bus.history c.args.bus) (g.B.Bus.history left) c.no_run.result
     image.entry image.size image.segments c.args.input.now refl c.requires.levels c.requires.no_lie c.requires.nothing_written
-    (c.in-Err-NoMemory.ensures.no_memory left (ap (λ f. Err f) c.in-Err-NoMemory.field-0-is)).0
+    (ap (λ bus. g.B.Bus.history bus) (c.in-Err-NoMemory.ensures.no_memory left (ap (λ f. Err f) c.in-Err-NoMemory.field-0-is)))
     run.retired run.ending run.made run.used run.evidence run.report
 
 pub returns-in-Err-Stopped-clause-run : goal.returns-in-Err-Stopped-clause-run
@@ -36,7 +36,7 @@ returns-in-Err-Stopped-clause-run g c =
     storing_stopped _ (g.S.Sink.state c.args.out.now) (g.B.Bus.history c.args.bus) (g.B.Bus.history c.close.result.1) c.close.result.0
     image.entry image.size image.segments c.args.input.now stop refl
     (stored_memory g.T.Tagger.data_tag_of g.T.Tagger.node_tag_of g.B.Bus.history g.B.Bus.moved g.met.B.Bus.moved_on c.args.bus c.args.tagger _
-    memory memory c.close.result.1 c.close.result.0 failed.0 failed.0.stored.moves run.hands_out c.requires.no_lie
+    failed.0.lines memory memory c.close.result.1 c.close.result.0 failed.0 failed.0.stored run.hands_out c.requires.no_lie
     (ends_as_stop _ stop c.close.result.0.ending failed.1 ending))
     run.retired ending
     (report_is _ c.finalize-nothing.result (sha256 []) 0 c.close.result.0.retired c.ending_of-ending.result c.close.result.0.ending c.signed_report-report.result c.close.result.0.report
@@ -84,6 +84,6 @@ returns-clause-bus g c =
     let ended = went g c in
     stored_bus g.T.Tagger.data_tag_of g.T.Tagger.node_tag_of g.B.Bus.history g.B.Bus.moved g.met.B.Bus.moved_on c.args.bus c.args.tagger _
     ended.first.memory c.finish-ending.new.self.memory c.close-2.result.1 ended.begun.stored
-    (ran_moves g.T.Tagger.data_tag_of g.T.Tagger.node_tag_of g.B.Bus.history g.B.Bus.moved g.met.B.Bus.moved_on c.args.bus c.args.tagger _ (λ core. core) g.met.B.Bus.unmoved
-    c.finish-ending.ensures.ended.printed c.finish-ending.result c.finish-ending.new.self c.close-2.result.1 c.close-2.result.0 ended closed.hands_out closed.retired closed.ending)
+    (ran_moved g.T.Tagger.data_tag_of g.T.Tagger.node_tag_of g.B.Bus.history g.B.Bus.moved g.met.B.Bus.moved_on c.args.bus c.args.tagger _ (λ core. core) g.met.B.Bus.unmoved
+    c.finish-ending.ensures.ended.printed c.finish-ending.result c.finish-ending.new.self c.close-2.result.1 c.close-2.result.0 ended closed.hands_out closed.retired closed.ending).moves
     closed.hands_out.bus_is

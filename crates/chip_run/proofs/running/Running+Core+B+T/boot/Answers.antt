@@ -1,4 +1,4 @@
-use Rattle.std.proofs.Common.{◌≡◌, ◌≤◌, [], refl, sym, ap, ◌∙◌, subst, arith}
+use Rattle.std.proofs.Common.{◌≡◌, refl, sym, ap, ◌∙◌, subst, arith}
 use Rattle.rv32_run.proofs.Progress.{goes_not}
 use Rattle.rv32_run.proofs.Runs.{opening_begins}
 use Rattle.secure_memory.specs.Moving.{moved_on, unmoved}
@@ -15,7 +15,7 @@ store_image-requires-clause-zeros g c = λ quiet.
     let lines = c.in-Ok.memory.lines in
     let new = c.in-Ok.ensures.new in
     opening_zeros lines.pads.key lines.engine.levels c.args.setup.now.geometry c.args.image.now.size lines.engine.made c.in-Ok.memory.ways
-    new.untagged new.depth_is c.requires.size c.in-Ok.ensures.none_held
+    new.unmade new.depth_is c.requires.size c.in-Ok.ensures.none_held
 
 pub returns-in-Ok-store_image-clause-begun : goal.returns-in-Ok-store_image-clause-begun
 returns-in-Ok-store_image-clause-begun g c =
@@ -35,6 +35,7 @@ returns-in-Ok-store_image-clause-begun g c =
               tags = refl;
               booted = c.in-Ok.memory;
               new = booted.new;
+              fits = booted.lines_fit;
               none_held = booted.none_held;
               none_cached = booted.none_cached;
               lines = storing.moved.lines;
@@ -63,6 +64,7 @@ returns-in-Err-store_image-clause-stopped g c = λ memory stop is.
         tags = refl;
         booted = c.in-Ok.memory;
         new = booted.new;
+        fits = booted.lines_fit;
         none_held = booted.none_held;
         none_cached = booted.none_cached;
         lines = storing.moved.lines;
