@@ -1,5 +1,5 @@
-// An honest bus that counts its accesses where others see the count, and the reads of nodes of level 1 that were written since
-// boot, in a memory of four levels.
+// An honest bus that counts its accesses where others see the count, and the reads of nodes of level 1, of those that were written
+// and of others, in a memory of four levels.
 ghost use Rattle.std.specs.Prelude.{◌≡◌, IfOk};
 ghost use Rattle.bus_model.specs.BusHistory.{new_history};
 ghost use Rattle.bus_model.specs.HonestBus.{honest_history};
@@ -9,15 +9,13 @@ use sec_base::{Geometry, NoMemory, Sealed};
 use std::alloc::Global;
 use std::cell::Cell;
 
-// Boot writes so many nodes, and reads none.
-const BOOT: u64 = 341;
-
 #[derive(Drop)]
 pub(crate) struct WatchingBus<'a> {
     bus: HonestBus,
     accesses: &'a Cell<u64>,
     written: [bool; 64],
     pub(crate) read_again: u64,
+    pub(crate) read_unwritten: u64,
 }
 
 impl<'a> WatchingBus<'a> {
@@ -33,6 +31,7 @@ impl<'a> WatchingBus<'a> {
             accesses,
             written: [false; 64],
             read_again: 0,
+            read_unwritten: 0,
         })
     }
 
@@ -62,15 +61,19 @@ impl<'a> Bus for WatchingBus<'a> {
 
     fn read_node(&mut self, level: u8, index: u32) -> Result<[u8; 64], NoMemory> {
         self.count();
-        if level == 1 && index < 64 && self.written[index as usize] {
-            self.read_again = self.read_again.saturating_add(1);
+        if level == 1 && index < 64 {
+            if self.written[index as usize] {
+                self.read_again = self.read_again.saturating_add(1);
+            } else {
+                self.read_unwritten = self.read_unwritten.saturating_add(1);
+            }
         }
         self.bus.read_node(level, index)
     }
 
     fn write_node(&mut self, level: u8, index: u32, block: &[u8; 64]) -> Result<(), NoMemory> {
         self.count();
-        if level == 1 && index < 64 && self.accesses.get() > BOOT {
+        if level == 1 && index < 64 {
             self.written[index as usize] = true;
         }
         self.bus.write_node(level, index, block)

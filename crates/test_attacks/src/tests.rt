@@ -1,8 +1,8 @@
 // Runs over a memory that an adversary changes by a script. Each expected text and status is that of an independent model
 // in Python (hashlib, hmac, cryptography).
 use chip_cases::{
-    Attack, Call, EXIT_7, STORE_AND_PRINT, STORE_TWICE, Shown, attack_files, call_attack,
-    call_by_script, make_call, shows,
+    Attack, Call, EXIT_7, READ_UNTOUCHED, STORE_AND_PRINT, STORE_TWICE, Shown, attack_files,
+    call_attack, call_by_script, make_call, shows,
 };
 use chip_device::RunBus;
 use sec_base::NoMemory;
@@ -20,7 +20,14 @@ const FLIP_TWO_PIECES: &[u8] = b"read data 5 1: flip data 5 0 01
 read data 5 1: flip data 5 16 01
 ";
 
-const ATTACKS: [Attack<'static>; 10] = [
+// Byte 1 of a ciphertext counts in byte 15 of the tag `xor`, whose lowest bit is set in every tag.
+const FLIP_UNTAGGED: &[u8] = b"read data 5 1: flip data 5 1 01\n";
+
+const FLIP_BLOCK: &[u8] = b"read node 0 0 1: flip node 0 0 0 01
+read node 0 0 1: flip node 0 0 16 01
+";
+
+const ATTACKS: [Attack<'static>; 14] = [
     Attack {
         text: STORE_AND_PRINT,
         tags: "hmac",
@@ -98,23 +105,62 @@ lies 1
 evidence forgery data 5
 counter 0 1
 cipher 00d692a43d31e6987ed5a46dbf5bca39020d8b881a9df52273bffd777d2666fef434205fde381197f9093d6e5d7d963bf46e671de7eff1e8f46c06f551a33e3d
-tag 87bc91d898e3c33de19e7c2399ceb9c2
+tag 87bc91d898e3c33de19e7c2399ceb9c3
 ",
         status: 7,
     },
-    // The page counter is read as 1, so that line 0 counts as written.
+    Attack {
+        text: STORE_AND_PRINT,
+        tags: "hmac",
+        script: FLIP_UNTAGGED,
+        printed: b"A",
+        told: b"tampered data 5\nretired 17\nlies 1\n",
+        status: 5,
+    },
     Attack {
         text: STORE_AND_PRINT,
         tags: "xor",
-        script: b"read node 0 0 1: flip node 0 0 0 01\nread node 0 0 1: flip node 0 0 16 01\n",
+        script: FLIP_UNTAGGED,
+        printed: b"A",
+        told: b"halted 65
+retired 20
+lies 1
+evidence forgery data 5
+counter 0 1
+cipher 01d792a43d31e6987ed5a46dbf5bca39030d8b881a9df52273bffd777d2666fef434205fde381197f9093d6e5d7d963bf46e671de7eff1e8f46c06f551a33e3d
+tag 87bc91d898e3c33de19e7c2399ceb9c3
+",
+        status: 7,
+    },
+    Attack {
+        text: READ_UNTOUCHED,
+        tags: "hmac",
+        script: b"",
         printed: b"",
-        told: b"tampered data 0
-retired 0
+        told: b"halted 64\nretired 15\nlies 0\n",
+        status: 0,
+    },
+    Attack {
+        text: READ_UNTOUCHED,
+        tags: "hmac",
+        script: FLIP_BLOCK,
+        printed: b"",
+        told: b"tampered node 0 0\nretired 12\nlies 1\n",
+        status: 5,
+    },
+    // The page counter is read as 1, so that line 5 is checked under another counter than it was tagged under.
+    Attack {
+        text: READ_UNTOUCHED,
+        tags: "xor",
+        script: FLIP_BLOCK,
+        printed: b"",
+        told: b"tampered data 5
+retired 12
 lies 1
 evidence collision node 0 0
-made 00000000000000000000000000000000000000000000000000000000000000000000000000000000000000000000000000000000000000000000000000000000
-accepted 01000000000000000000000000000000010000000000000000000000000000000000000000000000000000000000000000000000000000000000000000000000
-tag cdd9bd2ef93fe00084eb9f1953edd103
+made 00000000000000000000000008000000000000000000000000000000000000000000000000000000000000000000000000000000000000000000000000000000
+accepted 01000000000000000000000008000000010000000000000000000000000000000000000000000000000000000000000000000000000000000000000000000000
+tag cdd9b52ef93fe00084eb9f1953edd103
 ",
         status: 7,
     },
@@ -138,63 +184,117 @@ fn check_attack(rt: &impl Abort, alloc: Global, attack: Attack<'_>) -> Result<()
 
 #[test]
 fn attacks_come_to_what_they_do(rt: HostRuntime) -> Result<(), Fail> {
-    for attack in ATTACKS {
-        check_attack(&rt, rt.alloc(), attack)?;
+    for attack in &ATTACKS {
+        check_attack(&rt, rt.alloc(), *attack)?;
     }
     Ok(())
 }
 
-// Boot makes five accesses, the last of them the write of the top node; the sixth reads it. What is done before a write of
-// a place is written over.
-const BOOTS: [(&[u8], &[u8], u8); 4] = [
+// The program makes five accesses: line 5 and the counter block of page 0 are written, then line 69, and the block and line 5 are
+// read. What is done before a write of a place is written over, and what is done behind its last read is never met.
+const ACCESSES: [(&[u8], &[u8], u8); 8] = [
     (
-        b"access 6: flip node 1 0 0 01",
-        b"tampered node 1 0\nretired 0\nlies 1\n",
+        b"access 1: flip data 5 0 01",
+        b"halted 64\nretired 15\nlies 0\n",
+        0,
+    ),
+    (
+        b"access 2: flip data 5 0 01",
+        b"tampered data 5\nretired 12\nlies 1\n",
         5,
     ),
     (
-        b"access 5: flip node 1 0 0 01",
-        b"halted 7\nretired 3\nlies 0\n",
+        b"access 2: flip node 0 0 0 01",
+        b"halted 64\nretired 15\nlies 0\n",
         0,
     ),
     (
-        b"access 1: set node 1 0 0 01",
-        b"halted 7\nretired 3\nlies 0\n",
+        b"access 3: flip node 0 0 0 01",
+        b"tampered node 0 0\nretired 12\nlies 1\n",
+        5,
+    ),
+    (
+        b"access 4: flip node 0 0 0 01",
+        b"tampered node 0 0\nretired 12\nlies 1\n",
+        5,
+    ),
+    (
+        b"access 5: flip node 0 0 0 01",
+        b"halted 64\nretired 15\nlies 0\n",
         0,
     ),
     (
-        b"write node 1 0 1: set node 1 0 0 01",
-        b"halted 7\nretired 3\nlies 0\n",
+        b"access 5: flip data 5 0 01",
+        b"tampered data 5\nretired 12\nlies 1\n",
+        5,
+    ),
+    (
+        b"access 6: flip data 5 0 01",
+        b"halted 64\nretired 15\nlies 0\n",
         0,
     ),
-];
-
-const SMALL_RUN_BY_SCRIPT: [&str; 8] = [
-    "chip", "run", "f", "--flat", "--levels", "1", "--script", "s",
 ];
 
 fn check_lies(rt: &impl Abort, lies: u64, expected: u64) {
     assert_eq!(rt; lies, expected);
 }
 
-fn check_boot(
+fn check_access(
     rt: &impl Abort,
     alloc: Global,
     script: &[u8],
-    expected: Shown<'_>,
-    lies: u64,
+    told: &[u8],
+    status: u8,
 ) -> Result<(), Fail> {
-    let call = call_by_script(alloc, &SMALL_RUN_BY_SCRIPT, &EXIT_7, script)?;
-    check_shown(rt, call.shown(), expected);
-    check_lies(rt, call.done.lies, lies);
+    let attack = Attack {
+        text: READ_UNTOUCHED,
+        tags: "hmac",
+        script,
+        printed: b"",
+        told,
+        status,
+    };
+    let call = call_attack(alloc, attack)?;
+    check_shown(rt, call.shown(), attack.shown());
+    check_lies(rt, call.done.lies, u64::from(status == 5));
     Ok(())
 }
 
 #[test]
-fn accesses_are_counted_from_boot_on(rt: HostRuntime) -> Result<(), Fail> {
-    for (script, told, status) in BOOTS {
-        let lies = u64::from(status == 5);
-        check_boot(&rt, rt.alloc(), script, shows(b"", told, status), lies)?;
+fn accesses_are_counted_from_the_first_write_on(rt: HostRuntime) -> Result<(), Fail> {
+    for &(script, told, status) in &ACCESSES {
+        check_access(&rt, rt.alloc(), script, told, status)?;
+    }
+    Ok(())
+}
+
+const SMALL_RUN_BY_SCRIPT: [&str; 8] = [
+    "chip", "run", "f", "--flat", "--levels", "1", "--script", "s",
+];
+
+// Changes of nodes before an access, and before they are read: none is due.
+const UNTOUCHED: [&[u8]; 3] = [
+    b"access 6: flip node 1 0 0 01",
+    b"access 1: flip node 1 0 0 01\naccess 1: flip node 0 0 0 01\n",
+    b"read node 1 0 1: flip node 1 0 0 01\nread node 0 0 1: flip node 0 0 0 01\n",
+];
+
+fn check_untouched(rt: &impl Abort, alloc: Global, script: &[u8]) -> Result<(), Fail> {
+    let call = call_by_script(alloc, &SMALL_RUN_BY_SCRIPT, &EXIT_7, script)?;
+    check_shown(
+        rt,
+        call.shown(),
+        shows(b"", b"halted 7\nretired 3\nlies 0\n", 0),
+    );
+    check_lies(rt, call.done.lies, 0);
+    Ok(())
+}
+
+// A program whose lines stay on the chip makes no access, and neither does boot.
+#[test]
+fn a_run_that_keeps_its_lines_reads_no_place(rt: HostRuntime) -> Result<(), Fail> {
+    for script in &UNTOUCHED {
+        check_untouched(&rt, rt.alloc(), script)?;
     }
     Ok(())
 }

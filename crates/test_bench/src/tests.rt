@@ -1,4 +1,4 @@
-// Generated programs. What each prints is from an independent model in Python.
+// Generated programs. What each prints, and how often it writes, is from an independent model in Python.
 use chip_cases::{Call, RUN, Shown, call_without_files, file, make_call, shows};
 use chip_main::Done;
 use sec_base::{Ending, MemoryFiles, NoMemory};
@@ -7,22 +7,26 @@ use std::process::Abort;
 use std::test::Fail;
 use workload_gen::make;
 
-// The number of a program, what is written of its run, and its exit code.
-const PROGRAMS: [(&str, &[u8], u32); 3] = [
+// The number of a program, what is written of its run, its exit code, and how many messages are tagged: one for each line, counter
+// block and node that goes out. The first has two of blocks and one of a node, the others some 13,000 of blocks.
+const PROGRAMS: [(&str, &[u8], u32, u64); 3] = [
     (
         "0",
         b"number 0\nhalted 3\nretired 561533\noutput 03000000\n",
         3,
+        1283,
     ),
     (
         "1",
         b"number 1\nhalted 51\nretired 561533\noutput 333a2b37\n",
         51,
+        33614,
     ),
     (
         "4294967295",
         b"number 4294967295\nhalted 214\nretired 561533\noutput d6518576\n",
         214,
+        33551,
     ),
 ];
 
@@ -32,6 +36,17 @@ fn check_shown(rt: &impl Abort, shown: Shown<'_>, expected: Shown<'_>) {
 
 fn check_ending(rt: &impl Abort, ending: Option<Ending>, code: u32) {
     assert_eq!(rt; ending, Some(Ending::Halted(code)));
+}
+
+fn made(done: &Done) -> Option<u64> {
+    match &done.run {
+        Some(run) => Some(run.made.len()),
+        None => None,
+    }
+}
+
+fn check_made(rt: &impl Abort, made: Option<u64>, expected: u64) {
+    assert_eq!(rt; made, Some(expected));
 }
 
 // There was a bus, and it was told no lies.
@@ -47,18 +62,20 @@ fn check_summary(
     number: &str,
     text: &[u8],
     code: u32,
+    messages: u64,
 ) -> Result<(), Fail> {
     let call = call_without_files(alloc, &["chip", "bench", number])?;
     check_shown(rt, call.shown(), shows(text, b"", 0));
     check_ending(rt, call.ending(), code);
+    check_made(rt, made(&call.done), messages);
     check_bus(rt, call.done.bus.is_some(), call.done.lies);
     Ok(())
 }
 
 #[test]
 fn generated_programs_are_summed_up(rt: HostRuntime) -> Result<(), Fail> {
-    for (number, text, code) in PROGRAMS {
-        check_summary(&rt, rt.alloc(), number, text, code)?;
+    for &(number, text, code, messages) in &PROGRAMS {
+        check_summary(&rt, rt.alloc(), number, text, code, messages)?;
     }
     Ok(())
 }

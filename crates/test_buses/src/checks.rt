@@ -1,6 +1,6 @@
-// Each public call once with ample memory. A tag is what its tagger says, put together by hand: of a line 0x44, the line
-// and the page's counter, the lowest byte first, the line's own counter, and the first two bytes of the ciphertext; of a
-// node 0x4e, its level, its index, the lowest byte first, and the first ten bytes of its block.
+// Each public call once with ample memory. A tag is what its tagger says with the lowest bit of its last byte set, put together by
+// hand: of a line 0x44, the line and the page's counter, the lowest byte first, the line's own counter, and the first two bytes of
+// the ciphertext; of a node 0x4e, its level, its index, the lowest byte first, and the first ten bytes of its block.
 ghost use Rattle.std.specs.Prelude.{◌<◌, ◌≡◌};
 ghost use Rattle.bus_model.specs.FlipBus.{flip_history};
 ghost use Rattle.bus_model.specs.HonestBus.{honest_history};
@@ -42,7 +42,7 @@ fn check_line(
     assert_eq!(rt; read_line(bus, tags, 64, FIRST), stale);
     let written = Sealed {
         cipher: [8; 64],
-        tag: [0x44, 64, 0, 0, 0, 2, 0, 0, 0, 0, 0, 0, 0, 3, 8, 8],
+        tag: [0x44, 64, 0, 0, 0, 2, 0, 0, 0, 0, 0, 0, 0, 3, 8, 9],
     };
     assert_eq!(rt; bus.read_data(64)?, written);
     Ok(())
@@ -77,11 +77,12 @@ fn check_false_line(
     Ok(())
 }
 
-// The same where the byte of line 64 at an offset is flipped, and whether there is evidence then.
+// The same where bits of the byte of line 64 at an offset are flipped, and whether there is evidence then.
 fn check_flipped_line(
     rt: &impl Abort,
     alloc: Global,
     offset: u8,
+    mask: u8,
     wanted: Result<[u8; 64], MemStop>,
     shown: bool,
     case: &str,
@@ -91,7 +92,7 @@ fn check_flipped_line(
     let geometry = Geometry::new(1).ok_or("no geometry")?;
     let mut tags = TagEngine::new(alloc, PrefixTagger, geometry)?;
     tags.reserve(1)?;
-    let mut bus = FlipBus::new(alloc, geometry, Place::Line(64), 1, offset, 1)?;
+    let mut bus = FlipBus::new(alloc, geometry, Place::Line(64), 1, offset, mask)?;
     check_false_line(rt, &mut bus, &mut tags, wanted, case)?;
     let (_made, evidence) = tags.finish();
     assert_eq!(rt; evidence.is_some(), shown, "{case}");
@@ -101,27 +102,53 @@ fn check_flipped_line(
 #[test]
 fn a_flipped_bit_is_tampering_or_evidence(rt: HostRuntime) -> Result<(), Fail> {
     let tampered = Err(MemStop::Tampered(Place::Line(64)));
-    let mut sixes = [6; 64];
-    sixes[2] = 7;
+    let mut always_set = [6; 64];
+    always_set[1] = 7;
+    let mut left_out = [6; 64];
+    left_out[2] = 7;
     let rows = [
-        ("the first byte", 0, tampered, false),
-        ("the last that the tag covers", 1, tampered, false),
-        ("the first that it does not", 2, Ok(sixes), true),
-        ("the first of the tag", 64, tampered, false),
-        ("the last of the tag", 79, tampered, false),
+        ("the first byte", 0, 1, tampered, false),
+        ("the last that the tag covers", 1, 2, tampered, false),
+        ("a bit that every tag has set", 1, 1, Ok(always_set), true),
+        ("the first that it does not", 2, 1, Ok(left_out), true),
+        ("the first of the tag", 64, 1, tampered, false),
+        ("the bit that it has set", 79, 1, tampered, false),
     ];
-    for (case, offset, wanted, shown) in rows {
-        check_flipped_line(&rt, rt.alloc(), offset, wanted, shown, case)?;
+    for (case, offset, mask, wanted, shown) in rows {
+        check_flipped_line(&rt, rt.alloc(), offset, mask, wanted, shown, case)?;
     }
     Ok(())
 }
 
+// The tag of all messages where the tagger gives zeros.
+const MARK: [u8; 16] = [0, 0, 0, 0, 0, 0, 0, 0, 0, 0, 0, 0, 0, 0, 0, 1];
+
+// Line 255 is read as the bus has it: zeros, and then with the tag of all messages.
+fn check_never_tagged(
+    rt: &impl Abort,
+    bus: &mut HonestBus,
+    tags: &mut TagEngine<ZeroTagger>,
+) -> Result<(), Fail>
+    requires places { (honest_history bus.old).levels ≡ 1 }
+    requires lines { tags.old.levels ≡ 1 }
+{
+    let tampered = Err(MemStop::Tampered(Place::Line(255)));
+    assert_eq!(rt; read_line(bus, tags, 255, FIRST), tampered);
+    let sealed = Sealed {
+        cipher: [0; 64],
+        tag: MARK,
+    };
+    bus.write_data(255, &sealed)?;
+    assert_eq!(rt; read_line(bus, tags, 255, FIRST), Ok([0; 64]));
+    Ok(())
+}
+
 #[test]
-fn a_line_that_was_never_tagged_is_evidence(rt: HostRuntime) -> Result<(), Fail> {
+fn a_line_that_was_never_tagged_is_tampering_or_evidence(rt: HostRuntime) -> Result<(), Fail> {
     let geometry = Geometry::new(1).ok_or("no geometry")?;
     let mut bus = HonestBus::new(rt.alloc(), geometry)?;
     let mut tags = TagEngine::new(rt.alloc(), ZeroTagger, geometry)?;
-    assert_eq!(rt; read_line(&mut bus, &mut tags, 255, FIRST), Ok([0; 64]));
+    check_never_tagged(&rt, &mut bus, &mut tags)?;
     let (made, evidence) = tags.finish();
     assert_eq!(rt; made.len(), 0);
     let forgery = Evidence::Forgery {
@@ -129,7 +156,7 @@ fn a_line_that_was_never_tagged_is_evidence(rt: HostRuntime) -> Result<(), Fail>
         counter: FIRST,
         sealed: Sealed {
             cipher: [0; 64],
-            tag: [0; 16],
+            tag: MARK,
         },
         made_count: 0,
     };
@@ -190,11 +217,12 @@ fn check_false_node(
     Ok(())
 }
 
-// The same where the byte of node 1 2 at an offset is flipped, and the evidence then.
+// The same where bits of the byte of node 1 2 at an offset are flipped, and the evidence then.
 fn check_flipped_node(
     rt: &impl Abort,
     alloc: Global,
     offset: u8,
+    mask: u8,
     wanted: Result<[u8; 64], MemStop>,
     shown: Option<Evidence>,
     case: &str,
@@ -204,32 +232,51 @@ fn check_flipped_node(
     let geometry = Geometry::new(2).ok_or("no geometry")?;
     let mut tags = TagEngine::new(alloc, PrefixTagger, geometry)?;
     tags.reserve(1)?;
-    let mut bus = FlipBus::new(alloc, geometry, NODE, 1, offset, 1)?;
+    let mut bus = FlipBus::new(alloc, geometry, NODE, 1, offset, mask)?;
     check_false_node(rt, &mut bus, &mut tags, wanted, case)?;
     let (_made, evidence) = tags.finish();
     assert_eq!(rt; evidence, shown, "{case}");
     Ok(())
 }
 
-#[test]
-fn a_flipped_bit_of_a_node_is_tampering_or_evidence(rt: HostRuntime) -> Result<(), Fail> {
-    let tampered = Err(MemStop::Tampered(NODE));
-    let mut sixes = [6; 64];
-    sixes[10] = 7;
-    let collision = Evidence::Collision {
+// What is shown where node 1 2, which was made of sixes, passed as another block.
+fn collision(accepted: [u8; 64]) -> Option<Evidence> {
+    Some(Evidence::Collision {
         level: 1,
         index: 2,
         made_at: 0,
-        accepted: sixes,
-        tag: [0x4e, 1, 2, 0, 0, 0, 6, 6, 6, 6, 6, 6, 6, 6, 6, 6],
-    };
+        accepted,
+        tag: [0x4e, 1, 2, 0, 0, 0, 6, 6, 6, 6, 6, 6, 6, 6, 6, 7],
+    })
+}
+
+#[test]
+fn a_flipped_bit_of_a_node_is_tampering_or_evidence(rt: HostRuntime) -> Result<(), Fail> {
+    let tampered = Err(MemStop::Tampered(NODE));
+    let mut always_set = [6; 64];
+    always_set[9] = 7;
+    let mut left_out = [6; 64];
+    left_out[10] = 7;
     let rows = [
-        ("the first byte", 0, tampered, None),
-        ("the last that the tag covers", 9, tampered, None),
-        ("the first that it does not", 10, Ok(sixes), Some(collision)),
+        ("the first byte", 0, 1, tampered, None),
+        ("the last that the tag covers", 9, 2, tampered, None),
+        (
+            "a bit that every tag has set",
+            9,
+            1,
+            Ok(always_set),
+            collision(always_set),
+        ),
+        (
+            "the first that it does not",
+            10,
+            1,
+            Ok(left_out),
+            collision(left_out),
+        ),
     ];
-    for (case, offset, wanted, shown) in rows {
-        check_flipped_node(&rt, rt.alloc(), offset, wanted, shown, case)?;
+    for (case, offset, mask, wanted, shown) in rows {
+        check_flipped_node(&rt, rt.alloc(), offset, mask, wanted, shown, case)?;
     }
     Ok(())
 }

@@ -1,6 +1,8 @@
 // The gallery of attacks: each script of examples/attacks by its own text, on the program and with the tags that the page
 // there tries it with. What is told is that of an independent model in Python (hashlib, hmac, cryptography).
-use chip_cases::{Attack, STORE_AND_PRINT, STORE_TWICE, call_attack};
+use chip_cases::{
+    Attack, READ_UNTOUCHED, STORE_AND_PRINT, STORE_FAR_APART, STORE_TWICE, call_attack,
+};
 use std::test::Fail;
 
 // It exits with 7, and its code is evicted before its first fetch.
@@ -32,23 +34,6 @@ const READ_AGAIN: &[u8] = b"_start: li   t0, 0x140
         lbu  t4, 0(t1)
         lbu  t4, 0(t2)
         ecall
-        li   a7, 93
-        ecall
-";
-
-// It stores into three lines whose counter blocks share a set, and so do the nodes above them.
-const STORE_FAR_APART: &[u8] = b"_start: lui  t0, 0x20
-        lui  t1, 0x40
-        lui  t2, 0x60
-        li   t3, 65
-        li   t4, 3
-again:  sb   t3, 320(t0)
-        sb   t3, 320(t1)
-        sb   t3, 320(t2)
-        addi t3, t3, 1
-        addi t4, t4, -1
-        bnez t4, again
-        lbu  a0, 320(t0)
         li   a7, 93
         ecall
 ";
@@ -94,24 +79,24 @@ read data 5 1: swap data 5 data 6
 ";
 
 const SPLICE_NODES: &[u8] =
-    b"# Swaps two neighbours in the tree while the chip has a copy of neither: the node
-# with the tags of counter blocks 32 to 35 and the one with those of blocks 36 to
-# 39.
-write data 6149 1: swap node 1 8 node 1 9
+    b"# Swaps two nodes of the tree while the chip has a copy of neither: the node with
+# the tags of counter blocks 32 to 35 and the one with those of blocks 64 to 67.
+# Both were written once.
+read node 1 8 1: swap node 1 8 node 1 16
 ";
 
 const FORGET_PAGE: &[u8] =
     b"# Clears the counters of page 32 in store_far_apart, so that its line 2053 would
 # count as never written and be read as zeros. The block is first read at the miss
-# of the first store into that line; this is the read at the miss of the second.
-read node 0 32 2: put node 0 32 00000000000000000000000000000000000000000000000000000000000000000000000000000000000000000000000000000000000000000000000000000000
+# of the second store into that line: before its first write it is not read.
+read node 0 32 1: put node 0 32 00000000000000000000000000000000000000000000000000000000000000000000000000000000000000000000000000000000000000000000000000000000
 ";
 
 const TRUE_THEN_FALSE: &[u8] =
     b"# Answers truly when store_far_apart asks for the counters of page 32 to read line
 # 2053, and falsely when it asks again, as the line is evicted (time of check,
 # time of use).
-read node 0 32 3: flip node 0 32 12 18
+read node 0 32 2: flip node 0 32 12 18
 ";
 
 const REPLAY_LINE: &[u8] =
@@ -132,7 +117,7 @@ write data 4101 2: restore 1 node 0 32
 
 const REPLAY_BRANCH: &[u8] =
     b"# The same with the node above the block. They are put back once that node was
-# written twice since boot, as line 6149 is written back before the third store.
+# written twice, as line 6149 is written back before the third store.
 write data 6149 1: save 0 data 2053
 write data 6149 1: save 1 node 0 32
 write data 6149 1: save 2 node 1 8
@@ -182,13 +167,13 @@ write data 69 1: flip data 6 0 01
 const SWAP_OF_EQUALS: &[u8] =
     b"# Swaps the counter blocks of pages 32 and 64 in store_far_apart, when one line of
 # each was written back once, at the same place in its page, and then the block.
-read node 0 32 3: swap node 0 32 node 0 64
+read node 0 32 2: swap node 0 32 node 0 64
 ";
 
 const COLLISION: &[u8] =
-    b"# Flips the lowest bit of the page counter of page 0, so that all its lines count
-# as written, and the same bit 16 bytes on: for the tags `xor`, whose sum of
-# pieces of 16 bytes then stays the same.
+    b"# Flips the lowest bit of the page counter of page 0 as read_untouched reads its
+# block, so that all its lines count as written, and the same bit 16 bytes on: for
+# the tags `xor`, whose sum of pieces of 16 bytes then stays the same.
 read node 0 0 1: flip node 0 0 0 01
 read node 0 0 1: flip node 0 0 16 01
 ";
@@ -199,8 +184,17 @@ const REPEAT_A_PAD: &[u8] =
 # and use a keystream twice. The counter is bits 35 to 41 behind the page counter:
 # bit 3 of byte 12 is its lowest. Byte 28 is for the tags `xor`, as 16 bytes on; it
 # makes the counter of line 2071 a 4, which is never used.
-read node 0 32 2: flip node 0 32 12 08
-read node 0 32 2: flip node 0 32 28 08
+read node 0 32 1: flip node 0 32 12 08
+read node 0 32 1: flip node 0 32 28 08
+";
+
+const FORGET_BRANCH: &[u8] =
+    b"# Makes the counter block of page 32 look never made in store_far_apart, as the node
+# above it is read for the first time: slot 0, which has the block's tag, becomes
+# zeros. The tag goes into slot 1, of page 33, which is never used: for the tags
+# `xor`, whose sum of pieces of 16 bytes then stays the same.
+read node 1 8 1: flip node 1 8 0 cdd9952ef93fe00084eb9f1953edd103
+read node 1 8 1: flip node 1 8 16 cdd9952ef93fe00084eb9f1953edd103
 ";
 
 const EARLIER_RUN: &[u8] =
@@ -209,7 +203,7 @@ const EARLIER_RUN: &[u8] =
 read data 5 1: put data 5 24d692a43d31e6987ed5a46dbf5bca39030d8b881a9df52273bffd777d2666fef434205fde381197f9093d6e5d7d963bf46e671de7eff1e8f46c06f551a33e3ded36f8f697f8326475f7c28ad3dc5363
 ";
 
-const CAUGHT: [Attack<'static>; 9] = [
+const CAUGHT: [Attack<'static>; 10] = [
     Attack {
         text: COLD_EXIT_7,
         tags: "hmac",
@@ -267,11 +261,11 @@ const CAUGHT: [Attack<'static>; 9] = [
         status: 5,
     },
     Attack {
-        text: STORE_AND_PRINT,
+        text: READ_UNTOUCHED,
         tags: "hmac",
         script: COLLISION,
         printed: b"",
-        told: b"tampered node 0 0\nretired 0\nlies 1\n",
+        told: b"tampered node 0 0\nretired 12\nlies 1\n",
         status: 5,
     },
     Attack {
@@ -280,6 +274,14 @@ const CAUGHT: [Attack<'static>; 9] = [
         script: REPEAT_A_PAD,
         printed: b"",
         told: b"tampered node 0 32\nretired 11\nlies 1\n",
+        status: 5,
+    },
+    Attack {
+        text: STORE_FAR_APART,
+        tags: "hmac",
+        script: FORGET_BRANCH,
+        printed: b"",
+        told: b"tampered node 1 8\nretired 13\nlies 1\n",
         status: 5,
     },
 ];
@@ -362,7 +364,7 @@ const UNSEEN: [Attack<'static>; 4] = [
     },
 ];
 
-const PASSES: [Attack<'static>; 4] = [
+const PASSES: [Attack<'static>; 5] = [
     Attack {
         text: COLD_EXIT_7,
         tags: "xor",
@@ -379,17 +381,17 @@ tag 2e2363a66d2e473b16aedcc455665e41
         status: 7,
     },
     Attack {
-        text: STORE_AND_PRINT,
+        text: READ_UNTOUCHED,
         tags: "xor",
         script: COLLISION,
         printed: b"",
-        told: b"tampered data 0
-retired 0
+        told: b"tampered data 5
+retired 12
 lies 1
 evidence collision node 0 0
-made 00000000000000000000000000000000000000000000000000000000000000000000000000000000000000000000000000000000000000000000000000000000
-accepted 01000000000000000000000000000000010000000000000000000000000000000000000000000000000000000000000000000000000000000000000000000000
-tag cdd9bd2ef93fe00084eb9f1953edd103
+made 00000000000000000000000008000000000000000000000000000000000000000000000000000000000000000000000000000000000000000000000000000000
+accepted 01000000000000000000000008000000010000000000000000000000000000000000000000000000000000000000000000000000000000000000000000000000
+tag cdd9b52ef93fe00084eb9f1953edd103
 ",
         status: 7,
     },
@@ -405,6 +407,21 @@ evidence collision node 0 32
 made 00000000000000000000000008000000000000000000000000000000000000000000000000000000000000000000000000000000000000000000000000000000
 accepted 00000000000000000000000000000000000000000000000000000000080000000000000000000000000000000000000000000000000000000000000000000000
 tag cdd9952ef93fe00084eb9f1953edd103
+",
+        status: 7,
+    },
+    Attack {
+        text: STORE_FAR_APART,
+        tags: "xor",
+        script: FORGET_BRANCH,
+        printed: b"",
+        told: b"halted 67
+retired 26
+lies 1
+evidence collision node 1 8
+made cdd9952ef93fe00084eb9f1953edd103000000000000000000000000000000000000000000000000000000000000000000000000000000000000000000000000
+accepted 00000000000000000000000000000000cdd9952ef93fe00084eb9f1953edd1030000000000000000000000000000000000000000000000000000000000000000
+tag 52c1e6c3283c2dd911c56626b3ed55e9
 ",
         status: 7,
     },

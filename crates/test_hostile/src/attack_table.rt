@@ -1,8 +1,7 @@
 // Six actions on five places, each before the place's first write, its first read and its second write, in the runs of three
-// programs: 261 runs, under tags that nobody can forge and under weak ones. A run comes to one of three outcomes. It is as
-// without a script, with no false answer. It ends by the check of its first false answer, having printed a prefix of what it
-// prints. Or that answer passes its check, which is evidence: none does but under weak tags. Which runs come to what is that
-// of an independent model in Python (bench/attacks.py: hashlib, hmac, cryptography).
+// programs: 261 runs, under tags that nobody can forge and under weak ones. A run comes to one of two outcomes. It is as
+// without a script, with no false answer. Or it ends by the check of its first false answer, having printed a prefix of what it
+// prints. Which runs come to what is that of an independent model in Python (bench/attacks.py: hashlib, hmac, cryptography).
 use chip_cases::{ASM, STORE_200_TIMES, STORE_AND_PRINT, STORE_TWICE, call_file, make_call, shows};
 use sec_base::{MemoryFiles, NoMemory};
 use std::alloc::Global;
@@ -87,9 +86,8 @@ const PLACES: [Place<'static>; 5] = [
 // Where @ stands, the place is named.
 const TRIGGERS: [&str; 3] = ["write @ 1: ", "read @ 1: ", "write @ 2: "];
 
-// What is saved before, and the action: % is the other place, and # the digits. A place is saved before access 1, when
-// memory is zeros. All places are saved before access 342, the first one behind boot, which writes the nodes by the first
-// 341; before that there is nothing to put back.
+// What is saved before, and the action: % is the other place, and # the digits. Saves are made before access 1, when all of
+// the memory is zeros.
 #[derive(Clone, Copy)]
 struct Action<'a> {
     name: &'a str,
@@ -125,13 +123,12 @@ const ACTIONS: [Action<'static>; 6] = [
     },
     Action {
         name: "restoreall",
-        saved: "access 342: saveall 0\n",
+        saved: "access 1: saveall 0\n",
         done: "restoreall 0\n",
     },
 ];
 
-// Runs of a program, or of each where it has no name, in which an answer is false: before which access and by which actions,
-// and what is printed and told then.
+// Runs of a program in which an answer is false: before which access and by which actions, and what is printed and told then.
 #[derive(Clone, Copy)]
 struct Lied<'a> {
     program: &'a str,
@@ -141,9 +138,10 @@ struct Lied<'a> {
     told: &'a [u8],
 }
 
-// Line 5 goes out before it is read. Counter blocks and nodes are read once, and hold what boot wrote: counter blocks are
-// zeros then, as before it, and equal to one another. The line of store_twice that is found false last was read as zeros.
-const CAUGHT: [Lied<'static>; 6] = [
+// Line 5 goes out before it is read. The line of store_twice that is found false last was written since the save too. Line 0
+// stays on the chip, and so do the counters of the three pages and the nodes above them: what stands at their places is never
+// read.
+const CAUGHT: [Lied<'static>; 3] = [
     Lied {
         program: "store_and_print",
         trigger: "read data 5 1: ",
@@ -164,116 +162,6 @@ const CAUGHT: [Lied<'static>; 6] = [
         actions: &["restoreall"],
         printed: b"",
         told: b"tampered data 133\nretired 15\nlies 1\n",
-    },
-    Lied {
-        program: "",
-        trigger: "read node 0 0 1: ",
-        actions: &["set", "flip", "put"],
-        printed: b"",
-        told: b"tampered node 0 0\nretired 0\nlies 1\n",
-    },
-    Lied {
-        program: "",
-        trigger: "read node 1 0 1: ",
-        actions: &["set", "flip", "swap", "put", "restore"],
-        printed: b"",
-        told: b"tampered node 1 0\nretired 0\nlies 1\n",
-    },
-    Lied {
-        program: "",
-        trigger: "read node 4 0 1: ",
-        actions: &["set", "flip", "put", "restore"],
-        printed: b"",
-        told: b"tampered node 4 0\nretired 0\nlies 1\n",
-    },
-];
-
-// Those that pass under the tags `xor`: a sum of pieces of 16 bytes that are all equal, or of the tags of four neighbours, is
-// that of zeros. The check that comes next finds the run out.
-const PASSED: [Lied<'static>; 6] = [
-    Lied {
-        program: "",
-        trigger: "read node 0 0 1: ",
-        actions: &["put"],
-        printed: b"",
-        told: b"tampered data 0
-retired 0
-lies 1
-evidence collision node 0 0
-made 00000000000000000000000000000000000000000000000000000000000000000000000000000000000000000000000000000000000000000000000000000000
-accepted 5a5a5a5a5a5a5a5a5a5a5a5a5a5a5a5a5a5a5a5a5a5a5a5a5a5a5a5a5a5a5a5a5a5a5a5a5a5a5a5a5a5a5a5a5a5a5a5a5a5a5a5a5a5a5a5a5a5a5a5a5a5a5a5a
-tag cdd9bd2ef93fe00084eb9f1953edd103
-",
-    },
-    Lied {
-        program: "",
-        trigger: "read node 1 0 1: ",
-        actions: &["swap"],
-        printed: b"",
-        told: b"tampered node 0 0
-retired 0
-lies 1
-evidence collision node 1 0
-made cdd9bd2ef93fe00084eb9f1953edd103cdd9bc2ef93fe00084eb9f1953edd103cdd9bf2ef93fe00084eb9f1953edd103cdd9be2ef93fe00084eb9f1953edd103
-accepted cdd9b92ef93fe00084eb9f1953edd103cdd9b82ef93fe00084eb9f1953edd103cdd9bb2ef93fe00084eb9f1953edd103cdd9ba2ef93fe00084eb9f1953edd103
-tag cdd8bd2ef93fe00084eb9f1953edd103
-",
-    },
-    Lied {
-        program: "",
-        trigger: "read node 1 0 1: ",
-        actions: &["put"],
-        printed: b"",
-        told: b"tampered node 0 0
-retired 0
-lies 1
-evidence collision node 1 0
-made cdd9bd2ef93fe00084eb9f1953edd103cdd9bc2ef93fe00084eb9f1953edd103cdd9bf2ef93fe00084eb9f1953edd103cdd9be2ef93fe00084eb9f1953edd103
-accepted 5a5a5a5a5a5a5a5a5a5a5a5a5a5a5a5a5a5a5a5a5a5a5a5a5a5a5a5a5a5a5a5a5a5a5a5a5a5a5a5a5a5a5a5a5a5a5a5a5a5a5a5a5a5a5a5a5a5a5a5a5a5a5a5a
-tag cdd8bd2ef93fe00084eb9f1953edd103
-",
-    },
-    Lied {
-        program: "",
-        trigger: "read node 1 0 1: ",
-        actions: &["restore"],
-        printed: b"",
-        told: b"tampered node 0 0
-retired 0
-lies 1
-evidence collision node 1 0
-made cdd9bd2ef93fe00084eb9f1953edd103cdd9bc2ef93fe00084eb9f1953edd103cdd9bf2ef93fe00084eb9f1953edd103cdd9be2ef93fe00084eb9f1953edd103
-accepted 00000000000000000000000000000000000000000000000000000000000000000000000000000000000000000000000000000000000000000000000000000000
-tag cdd8bd2ef93fe00084eb9f1953edd103
-",
-    },
-    Lied {
-        program: "",
-        trigger: "read node 4 0 1: ",
-        actions: &["put"],
-        printed: b"",
-        told: b"tampered node 3 0
-retired 0
-lies 1
-evidence collision node 4 0
-made cddabd2ef93fe00084eb9f1953edd103cddabc2ef93fe00084eb9f1953edd103cddabf2ef93fe00084eb9f1953edd103cddabe2ef93fe00084eb9f1953edd103
-accepted 5a5a5a5a5a5a5a5a5a5a5a5a5a5a5a5a5a5a5a5a5a5a5a5a5a5a5a5a5a5a5a5a5a5a5a5a5a5a5a5a5a5a5a5a5a5a5a5a5a5a5a5a5a5a5a5a5a5a5a5a5a5a5a5a
-tag cdddbd2ef93fe00084eb9f1953edd103
-",
-    },
-    Lied {
-        program: "",
-        trigger: "read node 4 0 1: ",
-        actions: &["restore"],
-        printed: b"",
-        told: b"tampered node 3 0
-retired 0
-lies 1
-evidence collision node 4 0
-made cddabd2ef93fe00084eb9f1953edd103cddabc2ef93fe00084eb9f1953edd103cddabf2ef93fe00084eb9f1953edd103cddabe2ef93fe00084eb9f1953edd103
-accepted 00000000000000000000000000000000000000000000000000000000000000000000000000000000000000000000000000000000000000000000000000000000
-tag cdddbd2ef93fe00084eb9f1953edd103
-",
     },
 ];
 
@@ -299,40 +187,19 @@ fn contains(words: &[&str], wanted: &str) -> bool {
     false
 }
 
-// The row of a run, where there is one.
-fn row_of(
+// What a run with one action before one access comes to, where an answer is false in it.
+fn caught(
     rows: &[Lied<'static>],
     program: &str,
     trigger: &str,
     action: &str,
 ) -> Option<Lied<'static>> {
     for row in rows {
-        let named = row.program.is_empty() || row.program == program;
-        if named && row.trigger == trigger && contains(row.actions, action) {
+        if row.program == program && row.trigger == trigger && contains(row.actions, action) {
             return Some(*row);
         }
     }
     None
-}
-
-// What a run with one action before one access comes to.
-#[derive(Clone, Copy)]
-enum Outcome {
-    Same,
-    Caught(Lied<'static>),
-    Passed(Lied<'static>),
-}
-
-fn outcome_of(tags: &str, program: &str, trigger: &str, action: &str) -> Outcome {
-    if tags == "xor" {
-        if let Some(row) = row_of(&PASSED, program, trigger, action) {
-            return Outcome::Passed(row);
-        }
-    }
-    match row_of(&CAUGHT, program, trigger, action) {
-        Some(row) => Outcome::Caught(row),
-        None => Outcome::Same,
-    }
 }
 
 // How many runs came to which outcome.
@@ -340,15 +207,14 @@ fn outcome_of(tags: &str, program: &str, trigger: &str, action: &str) -> Outcome
 struct Counts {
     same: u64,
     caught: u64,
-    passed: u64,
 }
 
 impl Counts {
-    fn count(&mut self, outcome: Outcome) {
-        match outcome {
-            Outcome::Same => self.same = self.same.saturating_add(1),
-            Outcome::Caught(_) => self.caught = self.caught.saturating_add(1),
-            Outcome::Passed(_) => self.passed = self.passed.saturating_add(1),
+    fn count(&mut self, is_caught: bool) {
+        if is_caught {
+            self.caught = self.caught.saturating_add(1);
+        } else {
+            self.same = self.same.saturating_add(1);
         }
     }
 }
@@ -400,17 +266,16 @@ impl Attacked {
         self.files.add("s", script.as_str().as_bytes())?;
         let words = ["chip", "run", "p", "--script", "s", "--tags", self.tags];
         let call = make_call(alloc, &words, &mut self.files, &[], &[])?;
-        let came = outcome_of(self.tags, program.name, when.as_str(), action.name);
-        let (expected, lies) = match came {
-            Outcome::Same => (shows(program.printed, program.told, 0), 0),
-            Outcome::Caught(row) => (shows(row.printed, row.told, 5), 1),
-            Outcome::Passed(row) => (shows(row.printed, row.told, 7), 1),
-        };
         let name = program.name;
+        let lied = caught(&CAUGHT, name, when.as_str(), action.name);
+        let (expected, lies) = match lied {
+            Some(row) => (shows(row.printed, row.told, 5), 1),
+            None => (shows(program.printed, program.told, 0), 0),
+        };
         assert_eq!(rt; call.shown(), expected, "{name} by {script}");
         assert_eq!(rt; call.done.lies, lies, "{name} by {script}");
         assert!(rt; program.printed.starts_with(call.out.bytes()));
-        self.counts.count(came);
+        self.counts.count(lied.is_some());
         Ok(())
     }
 
@@ -432,12 +297,8 @@ impl Attacked {
 }
 
 // The whole table under tags of a kind.
-fn check_table(rt: &impl Abort, alloc: Global, tags: &'static str) -> Result<Counts, Fail> {
-    let mut counts = Counts {
-        same: 0,
-        caught: 0,
-        passed: 0,
-    };
+fn check_table(rt: &impl Abort, alloc: Global, tags: &'static str) -> Result<(), Fail> {
+    let mut counts = Counts { same: 0, caught: 0 };
     for program in PROGRAMS {
         let mut attacked = Attacked::new(alloc, program, tags, counts)?;
         for place in PLACES {
@@ -447,31 +308,22 @@ fn check_table(rt: &impl Abort, alloc: Global, tags: &'static str) -> Result<Cou
         }
         counts = attacked.counts;
     }
-    Ok(counts)
+    let expected = Counts {
+        same: 248,
+        caught: 13,
+    };
+    assert_eq!(rt; counts, expected);
+    Ok(())
 }
 
 // 261 runs.
 #[test]
 fn each_attack_comes_to_nothing_or_is_caught(rt: HostRuntime) -> Result<(), Fail> {
-    let counts = check_table(&rt, rt.alloc(), "hmac")?;
-    let expected = Counts {
-        same: 212,
-        caught: 49,
-        passed: 0,
-    };
-    assert_eq!(rt; counts, expected);
-    Ok(())
+    check_table(&rt, rt.alloc(), "hmac")
 }
 
-// The same 261, of which some are evidence.
+// The same 261. To pass, an attack has to mend a weak tag, and none of these does.
 #[test]
-fn under_weak_tags_some_attacks_pass(rt: HostRuntime) -> Result<(), Fail> {
-    let counts = check_table(&rt, rt.alloc(), "xor")?;
-    let expected = Counts {
-        same: 212,
-        caught: 31,
-        passed: 18,
-    };
-    assert_eq!(rt; counts, expected);
-    Ok(())
+fn weak_tags_catch_what_mends_none(rt: HostRuntime) -> Result<(), Fail> {
+    check_table(&rt, rt.alloc(), "xor")
 }

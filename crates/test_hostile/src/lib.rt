@@ -1,4 +1,4 @@
-//! Memory that an adversary changes, by a table of attacks and case by case, and files that are refused.
+//! Memory that an adversary changes, by tables of attacks and case by case, and files that are refused.
 #![tactic(auto)]
 
 #[cfg(test)]
@@ -7,5 +7,7 @@ mod attack_table;
 mod attacks;
 #[cfg(test)]
 mod levels;
+#[cfg(test)]
+mod node_attacks;
 #[cfg(test)]
 mod refused_files;

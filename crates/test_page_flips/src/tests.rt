@@ -1,5 +1,6 @@
 // A bit that is flipped at one read of one place.
 ghost use Rattle.std.specs.Prelude.{◌<◌};
+ghost use Rattle.sec_base.specs.Place.{place_size};
 
 use page_cases::{Memory, NodesAlike, SomeBytes, booted, flipped};
 use sec_base::{Evidence, MemStop, Place};
@@ -40,7 +41,7 @@ fn a_bit_flipped_in_an_overflow_ends_it(rt: HostRuntime) -> Result<(), Fail> {
         assert_eq!(rt; memory.read(200), Err(tampered), "{case}");
         let (account, bus) = memory.finish();
         assert_eq!(rt; account.used.len(), entries, "{case}");
-        assert_eq!(rt; account.made.len(), 5 + entries, "{case}");
+        assert_eq!(rt; account.made.len(), entries, "{case}");
         assert_eq!(rt; account.evidence, None, "{case}");
         assert_eq!(rt; bus.lies(), 1, "{case}");
     }
@@ -74,14 +75,23 @@ fn a_flipped_bit_may_be_met_later_or_pass(rt: HostRuntime) -> Result<(), Fail> {
 #[test]
 fn a_flipped_bit_is_tampering_that_stays_or_evidence(rt: HostRuntime) -> Result<(), Fail> {
     let tampered = Err(MemStop::Tampered(Place::Line(64)));
-    let mut passed = [6; 64];
-    passed[2] = 7;
+    let mut left_out = [6; 64];
+    left_out[2] = 7;
+    let mut always_set = [6; 64];
+    always_set[1] = 7;
     let rows = [
         ("the first byte", 0, tampered, tampered, false),
         (
             "one that the tag leaves out",
             2,
-            Ok(passed),
+            Ok(left_out),
+            Ok([6; 64]),
+            true,
+        ),
+        (
+            "a bit that every tag has set",
+            1,
+            Ok(always_set),
             Ok([6; 64]),
             true,
         ),
@@ -101,106 +111,120 @@ fn a_flipped_bit_is_tampering_that_stays_or_evidence(rt: HostRuntime) -> Result<
     Ok(())
 }
 
-// A read and a write read the counter block and the top node once. Line 69 is at place 5 of page 1.
+// Line 69, at place 5 of page 1, was written once. Then lines of pages 33, 65 and 97 are read, which were never written: the
+// counter block of page 1 goes out for them, and node (1, 0).
+fn before_a_false_node(alloc: Global, place: Place) -> Result<Memory<SomeBytes>, Fail>
+    requires { 0 < place_size place }
+{
+    let mut memory = booted(alloc, SomeBytes, 4, u64::MAX, place, 1, 0)?;
+    memory.fill(69, 1).ok().ok_or("line 69 is refused")?;
+    for line in [64 * 33, 64 * 65, 64 * 97] {
+        memory.read(line).ok().ok_or("a line is refused")?;
+    }
+    Ok(memory)
+}
+
+// A read and a write read the node and the counter block once.
+fn stays_tampered(
+    rt: &impl Abort,
+    alloc: Global,
+    place: Place,
+    in_a_write: bool,
+) -> Result<(), Fail>
+    requires { 0 < place_size place }
+{
+    let mut memory = before_a_false_node(alloc, place)?;
+    let first = if in_a_write {
+        memory.fill(69, 1).err()
+    } else {
+        memory.read(69).err()
+    };
+    let stops = [
+        first,
+        memory.lines.stopped(),
+        memory.read(69).err(),
+        memory.read(200).err(),
+        memory.fill(200, 2).err(),
+    ];
+    let tampered = Some(MemStop::Tampered(place));
+    assert_eq!(rt; stops, [tampered; 5], "{place}, in a write {in_a_write}");
+    let (account, bus) = memory.finish();
+    let counts = (account.used.len(), account.made.len(), bus.lies());
+    assert_eq!(rt; counts, (1, 3, 1), "{place}, in a write {in_a_write}");
+    assert_eq!(rt; account.evidence, None, "{place}, in a write {in_a_write}");
+    Ok(())
+}
+
 #[test]
 fn a_flipped_node_is_tampering_that_stays(rt: HostRuntime) -> Result<(), Fail> {
-    let rows = [(0, 1, false), (1, 0, false), (0, 1, true), (1, 0, true)];
-    for (level, index, in_a_write) in rows {
+    for (level, index) in [(0, 1), (1, 0)] {
         let place = Place::Node { level, index };
-        let mut memory = booted(rt.alloc(), SomeBytes, 1, u64::MAX, place, 1, 0)?;
-        let tampered = MemStop::Tampered(place);
-        let stop = if in_a_write {
-            memory.fill(69, 1).err()
-        } else {
-            memory.read(69).err()
-        };
-        assert_eq!(rt;
-            stop,
-            Some(tampered),
-            "node {level} {index}, in a write {in_a_write}"
-        );
-        assert_eq!(rt;
-            memory.lines.stopped(),
-            stop,
-            "node {level} {index}, in a write {in_a_write}"
-        );
-        assert_eq!(rt;
-            memory.read(69).err(),
-            stop,
-            "node {level} {index}, in a write {in_a_write}"
-        );
-        assert_eq!(rt;
-            memory.read(200).err(),
-            stop,
-            "node {level} {index}, in a write {in_a_write}"
-        );
-        assert_eq!(rt;
-            memory.fill(200, 2).err(),
-            stop,
-            "node {level} {index}, in a write {in_a_write}"
-        );
-        let (account, bus) = memory.finish();
-        assert_eq!(rt;
-            account.used.len(),
-            0,
-            "node {level} {index}, in a write {in_a_write}"
-        );
-        assert_eq!(rt;
-            account.evidence,
-            None,
-            "node {level} {index}, in a write {in_a_write}"
-        );
-        assert_eq!(rt;
-            bus.lies(),
-            1,
-            "node {level} {index}, in a write {in_a_write}"
-        );
+        stays_tampered(&rt, rt.alloc(), place, false)?;
+        stays_tampered(&rt, rt.alloc(), place, true)?;
     }
     Ok(())
 }
 
-// The counters are used as they were answered. Where the page counter reads 1, the line counts as written.
+// The counter block of page 1 where the line at its place 8 was written once, and another bit is set or that one is not.
+fn off_by_a_bit(offset: u8) -> [u8; 64]
+    requires { offset < 64 }
+{
+    let mut block = [0; 64];
+    block[15] = 1;
+    block[offset as usize] ^= 1;
+    block
+}
+
+// The block went out for those of pages 17 and 33. The counters are used as they were answered: where the page counter reads 1,
+// the line was written under another counter, and where its own reads 0, it counts as never written.
 #[test]
 fn a_flipped_counter_block_that_passes_is_a_collision(rt: HostRuntime) -> Result<(), Fail> {
-    let mut page_counter = [0; 64];
-    page_counter[0] = 1;
-    let mut line_counter = [0; 64];
-    line_counter[8] = 1;
-    let tampered = Err(MemStop::Tampered(Place::Line(69)));
+    let tampered = Err(MemStop::Tampered(Place::Line(72)));
     let rows = [
-        ("the page counter", 0, page_counter, tampered),
-        ("the counter of place 0", 8, line_counter, Ok([0; 64])),
+        ("the page counter", 0, tampered),
+        ("the counter of place 0", 8, Ok([3; 64])),
+        ("the counter of the line", 15, Ok([0; 64])),
     ];
-    for (case, offset, accepted, wanted) in rows {
+    for (case, offset, wanted) in rows {
         let place = Place::Node { level: 0, index: 1 };
-        let mut memory = booted(rt.alloc(), NodesAlike, 1, u64::MAX, place, 1, offset)?;
-        assert_eq!(rt; memory.read(69), wanted, "{case}");
+        let mut memory = booted(rt.alloc(), NodesAlike, 3, u64::MAX, place, 1, offset)?;
+        assert_eq!(rt; memory.fill(72, 3), Ok(()), "{case}");
+        assert_eq!(rt; memory.read(64 * 17), Ok([0; 64]), "{case}");
+        assert_eq!(rt; memory.read(64 * 33), Ok([0; 64]), "{case}");
+        assert_eq!(rt; memory.read(72), wanted, "{case}");
         let (account, bus) = memory.finish();
         let collision = Evidence::Collision {
             level: 0,
             index: 1,
             made_at: 1,
-            accepted,
-            tag: [0; 16],
+            accepted: off_by_a_bit(offset),
+            tag: [0, 0, 0, 0, 0, 0, 0, 0, 0, 0, 0, 0, 0, 0, 0, 1],
         };
         assert_eq!(rt; account.evidence, Some(collision), "{case}");
-        assert_eq!(rt; account.made.len(), 5, "{case}");
-        assert_eq!(rt; bus.lies(), 1, "{case}");
+        assert_eq!(rt; (account.made.len(), bus.lies()), (2, 1), "{case}");
     }
     Ok(())
 }
 
-// What stops each of these calls: lines 389 and 580, of pages 6 and 9, are read, are written, and are read twice more.
+// Lines of pages 6, 38 and 70 of a memory of four levels: their counter blocks are in one set of two ways, and so are the nodes
+// above them, (1, 1), (1, 9) and (1, 17).
+const FIRST: u32 = 64 * 6 + 5;
+
+const SECOND: u32 = 64 * 38 + 4;
+
+const THIRD: u32 = 64 * 70 + 3;
+
+// What stops each of these calls.
 fn calls(rt: &impl Abort, memory: &mut Memory<SomeBytes>) -> [Option<MemStop>; 8] {
     [
-        read_stop(rt, memory, 389, 0),
-        read_stop(rt, memory, 580, 0),
-        memory.fill(389, 1).err(),
-        memory.fill(580, 2).err(),
-        read_stop(rt, memory, 389, 1),
-        read_stop(rt, memory, 580, 2),
-        read_stop(rt, memory, 389, 1),
-        read_stop(rt, memory, 580, 2),
+        read_stop(rt, memory, FIRST, 0),
+        memory.fill(FIRST, 1).err(),
+        memory.fill(SECOND, 2).err(),
+        memory.fill(THIRD, 3).err(),
+        read_stop(rt, memory, FIRST, 1),
+        read_stop(rt, memory, SECOND, 2),
+        read_stop(rt, memory, FIRST, 1),
+        read_stop(rt, memory, THIRD, 3),
     ]
 }
 
@@ -240,35 +264,42 @@ fn assert_answered(rt: &impl Abort, memory: Memory<SomeBytes>, place: Place, ans
 // Each line with the number of calls before its first read and before its second: all 8 where it is never read.
 #[test]
 fn each_line_is_checked_at_each_read_or_never_read(rt: HostRuntime) -> Result<(), Fail> {
-    let rows = [(389, 4, 6), (580, 5, 7), (388, 8, 8), (0, 8, 8)];
+    let rows = [
+        (FIRST, 4, 6),
+        (SECOND, 5, 8),
+        (THIRD, 7, 8),
+        (FIRST + 1, 8, 8),
+        (0, 8, 8),
+    ];
     for (line, first, second) in rows {
         for (k, answered) in [(1, first), (2, second)] {
             let place = Place::Line(line);
-            let memory = booted(rt.alloc(), SomeBytes, 2, u64::MAX, place, k, 0)?;
+            let memory = booted(rt.alloc(), SomeBytes, 4, u64::MAX, place, k, 0)?;
             assert_answered(&rt, memory, place, answered);
         }
     }
     Ok(())
 }
 
-// The like of nodes. Each is read once, since it has a copy from then on.
+// The like of nodes. One is read once, as it comes back, where it was made: node (1, 17) has its copy to the end.
 #[test]
-fn each_node_is_checked_at_its_only_read_or_never_read(rt: HostRuntime) -> Result<(), Fail> {
+fn each_node_is_checked_as_it_comes_back_or_never_read(rt: HostRuntime) -> Result<(), Fail> {
     let rows = [
-        (0, 6, 0),
-        (0, 9, 1),
-        (1, 1, 0),
-        (1, 2, 1),
-        (2, 0, 0),
-        (0, 5, 8),
-        (0, 10, 8),
+        (0, 6, 4),
+        (0, 38, 5),
+        (0, 70, 7),
+        (0, 102, 8),
+        (1, 1, 4),
+        (1, 9, 5),
+        (1, 17, 8),
         (1, 0, 8),
-        (1, 3, 8),
+        (2, 0, 8),
+        (4, 0, 8),
     ];
     for (level, index, first) in rows {
         for (k, answered) in [(1, first), (2, 8)] {
             let place = Place::Node { level, index };
-            let memory = booted(rt.alloc(), SomeBytes, 2, u64::MAX, place, k, 0)?;
+            let memory = booted(rt.alloc(), SomeBytes, 4, u64::MAX, place, k, 0)?;
             assert_answered(&rt, memory, place, answered);
         }
     }

@@ -16,6 +16,7 @@ mod want_of_memory;
 use bus_model::{Bus, FlipBus, HonestBus};
 use chip_run::{RunRecord, Setup, run};
 use hmac_tag::{HmacTagger, Keys, derive};
+use programs::STORE_FAR_APART;
 use sec_base::{
     Bytes, Counter, Ending, Evidence, Geometry, Image, MemorySink, Place, Segment, Segments, Tagger,
 };
@@ -268,6 +269,28 @@ fn flipped_under_keys(
     requires place { 0 < place_size place }
 {
     flipped(alloc, words, place, k, HmacTagger::new(&keys()))
+}
+
+// The same of a program whose counter blocks and nodes go out, in a memory of four levels.
+fn far_apart<T: Tagger>(
+    alloc: Global,
+    place: Place,
+    k: u64,
+    tagger: T,
+) -> Result<(RunRecord, u64), Fail>
+    requires place { 0 < place_size place }
+{
+    let geometry = Geometry::new(4).ok_or("no geometry")?;
+    let image = Image {
+        entry: 0,
+        size: 1048576,
+        segments: flat(alloc, &STORE_FAR_APART)?,
+    };
+    let setup = setup(geometry, 2000, u64::MAX);
+    let bus = FlipBus::new(alloc, geometry, place, k, 0, 1)?;
+    let mut out = MemorySink::new(alloc, &[])?;
+    let (record, bus) = run(alloc, &image, &[], &setup, tagger, bus, &mut out);
+    Ok((record, bus.lies()))
 }
 
 // The counter of a line that was written so often, fewer than 128 times.

@@ -45,11 +45,11 @@ const REPORT_SPENT: &[u8; 316] = b"\
     624ca9c796f24e04f308ca1cc9fb50fc0a071f535a132ea5fc5fbb866403c091";
 
 const REPORT_TAMPERED: &[u8; 316] = b"\
-    0116f7bfdd45a5acd592864f31537f995066d1d163ad715d1d9d9d83c121daa865\
+    01ad7cddc78d019d545d3b9f7243321c2f4becb979c95ff736b06c30abba952a2c\
     e3b0c44298fc1c149afbf4c8996fb92427ae41e4649b934ca495991b7852b855\
     e3b0c44298fc1c149afbf4c8996fb92427ae41e4649b934ca495991b7852b855\
-    0000000000000000050000000000000000000000000000000000000000\
-    4c0b431200aa93bf70fd46fa41e3eb454e1a8acc925fe41ac41b4df76f133ed4";
+    0700000000000000050000000000000000000000000000000000000000\
+    f701e9163f1f5e1fddb441ba729868ecffa011bb3732d083e46e761342d1d01d";
 
 // It reads five bytes of its input, prints three of them, and exits with 0x12345678.
 const PRINT_3: [u32; 13] = [
@@ -175,9 +175,9 @@ const REPORTED: [Reported<'static>; 9] = [
     },
     Reported {
         options: &["--levels", "1", "--script", "s"],
-        code: &EXIT_7,
+        code: &WRITE_200_TIMES,
         printed: b"",
-        told: b"tampered node 1 0\nretired 0\nlies 1\n",
+        told: b"tampered data 64\nretired 7\nlies 1\n",
         report: REPORT_TAMPERED,
         status: 5,
     },
@@ -188,7 +188,7 @@ fn run_files(alloc: Global, code: &[u32]) -> Result<MemoryFiles, NoMemory> {
     let bytes = program(alloc, code)?;
     let mut files = file(alloc, bytes.as_slice(), &[])?;
     files.add("i", b"hello, world")?;
-    files.add("s", b"access 6: flip node 1 0 0 01")?;
+    files.add("s", b"read data 64 1: flip data 64 0 01")?;
     Ok(files)
 }
 

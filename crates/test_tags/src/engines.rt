@@ -1,6 +1,6 @@
-// Each public call once with ample memory. The tag that is wanted is the message's first 16 bytes, put together by
-// hand: of a line 44, the line and the page's counter, the lowest byte first, and the line's own counter; of a node 4e,
-// its level, its index, the lowest byte first, and ten bytes of its block.
+// Each public call once with ample memory. The tag that is wanted is the message's first 16 bytes, with the lowest bit of the last one
+// set, put together by hand: of a line 44, the line and the page's counter, the lowest byte first, and the line's own counter; of a
+// node 4e, its level, its index, the lowest byte first, and ten bytes of its block.
 use fakes::{PrefixTagger, ZeroTagger};
 use sec_base::{Counter, Evidence, Geometry, Message, Sealed};
 use std::test::Fail;
@@ -14,7 +14,7 @@ fn a_tag_is_that_of_the_messages_bytes(rt: HostRuntime) -> Result<(), Fail> {
             255,
             Counter { page: 0, line: 1 },
             [0; 64],
-            [0x44, 255, 0, 0, 0, 0, 0, 0, 0, 0, 0, 0, 0, 1, 0, 0],
+            [0x44, 255, 0, 0, 0, 0, 0, 0, 0, 0, 0, 0, 0, 1, 0, 1],
         ),
         (
             6,
@@ -48,11 +48,14 @@ fn a_tag_is_that_of_the_messages_bytes(rt: HostRuntime) -> Result<(), Fail> {
     Ok(())
 }
 
-// A sealed line of one byte repeated, with a tag of zeros.
+// The tag of each message where the tagger gives zeros.
+const MARK: [u8; 16] = [0, 0, 0, 0, 0, 0, 0, 0, 0, 0, 0, 0, 0, 0, 0, 1];
+
+// A sealed line of one byte repeated, with that tag.
 fn filled(byte: u8) -> Sealed {
     Sealed {
         cipher: [byte; 64],
-        tag: [0; 16],
+        tag: MARK,
     }
 }
 
@@ -63,8 +66,8 @@ fn the_first_message_never_made_comes_at_the_end(rt: HostRuntime) -> Result<(), 
     let second = Counter { page: 2, line: 0 };
     let mut engine = TagEngine::new(rt.alloc(), ZeroTagger, geometry)?;
     engine.reserve(2)?;
-    assert_eq!(rt; engine.make_data(64, first, &[7; 64])?, [0; 16]);
-    assert_eq!(rt; engine.make_data(64, second, &[8; 64])?, [0; 16]);
+    assert_eq!(rt; engine.make_data(64, first, &[7; 64])?, MARK);
+    assert_eq!(rt; engine.make_data(64, second, &[8; 64])?, MARK);
     let rows = [
         ("the last one of the line", second, filled(8), true),
         ("one before it", first, filled(7), true),
@@ -74,6 +77,15 @@ fn the_first_message_never_made_comes_at_the_end(rt: HostRuntime) -> Result<(), 
             Sealed {
                 cipher: [9; 64],
                 tag: [1; 16],
+            },
+            false,
+        ),
+        (
+            "the tagger's own tag",
+            second,
+            Sealed {
+                cipher: [8; 64],
+                tag: [0; 16],
             },
             false,
         ),

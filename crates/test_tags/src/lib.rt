@@ -6,4 +6,6 @@ mod engines;
 #[cfg(test)]
 mod macs;
 #[cfg(test)]
+mod marks;
+#[cfg(test)]
 mod reports;

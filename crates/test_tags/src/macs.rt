@@ -6,7 +6,7 @@ use std::fmt::Write;
 use std::test::Fail;
 
 // The bytes as digits, two for each.
-fn digits(rt: &HostRuntime, bytes: &[u8]) -> Result<String, Fail> {
+pub(crate) fn digits(rt: &HostRuntime, bytes: &[u8]) -> Result<String, Fail> {
     let mut text = String::new(rt.alloc());
     for byte in bytes {
         write!(text, "{byte:02x}")?;
@@ -15,7 +15,7 @@ fn digits(rt: &HostRuntime, bytes: &[u8]) -> Result<String, Fail> {
 }
 
 // The bytes 00, 01, 02 and so on.
-fn counting<const N: usize>() -> [u8; N]
+pub(crate) fn counting<const N: usize>() -> [u8; N]
     requires { N ≤ 256 }
 {
     let mut bytes = [0; N];

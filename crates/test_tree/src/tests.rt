@@ -1,4 +1,5 @@
-// Boot, fetch and update over real buses: the order and the number of accesses, false answers and want of memory.
+// Boot, fetch and update over real buses: the order and the number of accesses, false answers and want of memory. Accesses were
+// counted by an independent model in Python.
 ghost use Rattle.std.specs.Prelude.{◌≡◌, ◌<◌, [], ◌∷◌, refl, replicate, slice_index};
 ghost use Rattle.bus_model.specs.BusHistory.{NothingWritten};
 ghost use Rattle.bus_model.specs.FlipBus.{flip_history};
@@ -37,36 +38,15 @@ impl Tagger for Quarters {
     }
 }
 
-// What boot of a tree of two levels asks.
-const BOOT: [Access; 21] = [
-    Access::WriteNode(0, 0),
-    Access::WriteNode(0, 1),
-    Access::WriteNode(0, 2),
-    Access::WriteNode(0, 3),
-    Access::WriteNode(1, 0),
-    Access::WriteNode(0, 4),
-    Access::WriteNode(0, 5),
-    Access::WriteNode(0, 6),
-    Access::WriteNode(0, 7),
-    Access::WriteNode(1, 1),
-    Access::WriteNode(0, 8),
-    Access::WriteNode(0, 9),
-    Access::WriteNode(0, 10),
-    Access::WriteNode(0, 11),
-    Access::WriteNode(1, 2),
-    Access::WriteNode(0, 12),
-    Access::WriteNode(0, 13),
-    Access::WriteNode(0, 14),
-    Access::WriteNode(0, 15),
-    Access::WriteNode(1, 3),
-    Access::WriteNode(2, 0),
-];
-
+// A bus that refuses whatever it is asked for is asked for nothing.
 #[test]
-fn boot_writes_the_children_by_slot_and_then_the_node(rt: HostRuntime) -> Result<(), Fail> {
-    let mut tree = booted(rt.alloc(), 2)?;
-    assert!(rt; tree.asked(&BOOT));
-    assert_eq!(rt; tree.finish(), (21, None));
+fn boot_and_a_fetch_of_what_was_never_made_make_no_access(rt: HostRuntime) -> Result<(), Fail> {
+    for levels in 1..=4u8 {
+        let mut tree = refusing(rt.alloc(), levels)?;
+        assert!(rt; tree.asked(&[]), "{levels} levels");
+        tree.fetches_zeros(&rt);
+        assert_eq!(rt; tree.finish(), (0, None), "{levels} levels");
+    }
     Ok(())
 }
 
@@ -114,11 +94,11 @@ fn booted(alloc: Global, levels: u8) -> Result<Counted<Quarters>, Fail> {
     )
 }
 
-// Over a bus that answers so many accesses, those of boot among them.
-fn answering(alloc: Global, levels: u8, left: u64) -> Result<Counted<Quarters>, Fail> {
+// Over a bus that refuses each access.
+fn refusing(alloc: Global, levels: u8) -> Result<Counted<Quarters>, Fail> {
     let geometry = Geometry::new(levels).ok_or("no geometry")?;
     let mut bus = CountingBus::honest(alloc, geometry)?;
-    bus.refuse_after(left);
+    bus.refuse_after(0);
     over(alloc, geometry, bus, Quarters)
 }
 
@@ -140,13 +120,6 @@ fn flipped<T: Tagger>(
     };
     let bus = CountingBus::flipping(alloc, geometry, place, k, offset)?;
     over(alloc, geometry, bus, tagger)
-}
-
-// A new tree, of whose boot nothing is kept.
-fn after_boot(alloc: Global, levels: u8) -> Result<Counted<Quarters>, Fail> {
-    let mut tree = booted(alloc, levels)?;
-    tree.bus.clear_log();
-    Ok(tree)
 }
 
 impl<T: Tagger> Counted<T> {
@@ -172,6 +145,18 @@ impl<T: Tagger> Counted<T> {
     fn fetches(&mut self, rt: &impl Abort, page: u32, byte: u8, asked: &[Access]) {
         assert_eq!(rt; self.fetch(rt, page), Ok([byte; 64]));
         assert!(rt; self.asked(asked));
+    }
+
+    // A page has a block of this byte.
+    fn has(&mut self, rt: &impl Abort, page: u32, byte: u8) {
+        assert_eq!(rt; self.fetch(rt, page), Ok([byte; 64]), "{page}");
+    }
+
+    // A fetch of any page answers zeros, and asks nothing.
+    fn fetches_zeros(&mut self, rt: &impl Abort) {
+        for page in 0..self.geometry.pages() {
+            self.fetches(rt, page, 0, &[]);
+        }
     }
 
     // A page gets a block of this byte, which asks this.
@@ -277,78 +262,103 @@ impl<T: Tagger> Counted<T> {
     }
 }
 
-// Level 1 of a tree of four levels has 64 nodes in 8 sets: nodes 0, 8 and 16 are in one set of two ways.
+// Level 1 of a tree of four levels has 64 nodes in 8 sets: nodes 0, 8 and 16 are in one set of two ways. What was never made
+// comes without an access; node (1, 0), which was changed, goes out for (1, 16), and is read as it comes back.
 fn push_out<T: Tagger>(rt: &impl Abort, tree: &mut Counted<T>) {
-    let path = [
-        Access::ReadNode(4, 0),
-        Access::ReadNode(3, 0),
-        Access::ReadNode(2, 0),
-        Access::ReadNode(1, 0),
-        Access::WriteNode(0, 0),
-    ];
-    tree.updates(rt, 0, 9, &path);
-    tree.fetches(rt, 1, 0, &[Access::ReadNode(0, 1)]);
-    let two_ways = [
-        Access::ReadNode(2, 2),
-        Access::ReadNode(1, 8),
-        Access::ReadNode(0, 32),
-    ];
-    tree.fetches(rt, 32, 0, &two_ways);
-    let goes_out = [
-        Access::WriteNode(1, 0),
-        Access::ReadNode(3, 1),
-        Access::ReadNode(2, 4),
-        Access::ReadNode(1, 16),
-        Access::ReadNode(0, 64),
-    ];
-    tree.fetches(rt, 64, 0, &goes_out);
+    tree.updates(rt, 0, 9, &[Access::WriteNode(0, 0)]);
+    tree.fetches(rt, 1, 0, &[]);
+    tree.fetches(rt, 32, 0, &[]);
+    tree.fetches(rt, 64, 0, &[Access::WriteNode(1, 0)]);
     tree.fetches(rt, 0, 9, &[Access::ReadNode(1, 0), Access::ReadNode(0, 0)]);
+    tree.fetches(rt, 1, 0, &[]);
 }
 
 #[test]
 fn a_changed_node_is_written_when_it_goes_out(rt: HostRuntime) -> Result<(), Fail> {
-    let mut tree = after_boot(rt.alloc(), 4)?;
+    let mut tree = booted(rt.alloc(), 4)?;
     push_out(&rt, &mut tree);
     Ok(())
 }
 
-// Level 2 of a tree of five levels has 64 nodes in 8 sets. Three updates leave nodes 32 and 64 of level 1 and nodes 0 and 16 of
-// level 2 in sets of two; nodes (1, 32), (1, 64) and (2, 0) are changed.
+// Other bytes at the places of nodes that were never made.
+fn litter<T: Tagger>(rt: &impl Abort, tree: &mut Counted<T>) -> Result<(), NoMemory> {
+    let places = [
+        (0, 1),
+        (0, 32),
+        (0, 64),
+        (1, 8),
+        (1, 16),
+        (2, 0),
+        (2, 2),
+        (2, 4),
+        (3, 0),
+        (4, 0),
+    ];
+    for (level, index) in places {
+        tree.store(rt, level, index, &[3; 64])?;
+    }
+    tree.bus.clear_log();
+    Ok(())
+}
+
+// It goes on as without them.
+#[test]
+fn the_place_of_a_node_that_was_never_made_is_not_read(rt: HostRuntime) -> Result<(), Fail> {
+    let mut tree = booted(rt.alloc(), 4)?;
+    litter(&rt, &mut tree)?;
+    push_out(&rt, &mut tree);
+    Ok(())
+}
+
+// Of a block of zeros of page 0 `Quarters` gives zeros.
+#[test]
+fn a_block_of_zeros_that_was_made_is_read(rt: HostRuntime) -> Result<(), Fail> {
+    let mut tree = booted(rt.alloc(), 1)?;
+    tree.updates(&rt, 0, 0, &[Access::WriteNode(0, 0)]);
+    tree.fetches(&rt, 0, 0, &[Access::ReadNode(0, 0)]);
+    tree.fetches(&rt, 1, 0, &[]);
+    tree.store(&rt, 0, 0, &[1; 64])?;
+    let tampered = MemStop::Tampered(Place::Node { level: 0, index: 0 });
+    assert_eq!(rt; tree.fetch(&rt, 0), Err(tampered));
+    Ok(())
+}
+
+// Level 2 of a tree of five levels has 64 nodes in 8 sets. The pages' nodes of level 1 share a set, and those of level 2 as well.
+// After these updates (1, 0) and (1, 64) have copies, and (2, 24) and (2, 16): the first of each goes out next.
 fn climbing(rt: &impl Abort, alloc: Global) -> Result<Counted<Quarters>, Fail> {
-    let mut tree = after_boot(alloc, 5)?;
-    for (page, byte) in [(0, 1), (128, 2), (256, 3)] {
+    let mut tree = booted(alloc, 5)?;
+    for (page, byte) in [(0, 1), (128, 2), (384, 3), (0, 4), (256, 5)] {
         assert_eq!(rt; tree.update(rt, page, &[byte; 64]), Ok(()));
     }
     tree.bus.clear_log();
     Ok(tree)
 }
 
-// A fetch of page 384 needs node (1, 96), for which (1, 32) goes out, whose parent (2, 8) has no copy: for that (2, 0) goes out.
-const CLIMB: [Access; 7] = [
-    Access::WriteNode(2, 0),
-    Access::ReadNode(2, 8),
-    Access::WriteNode(1, 32),
-    Access::ReadNode(3, 6),
+// A fetch of page 384 needs node (1, 96), for which (1, 0) goes out, whose parent (2, 0) has no copy: for that (2, 24) goes out,
+// and comes back as the parent of (1, 96).
+const CLIMB: [Access; 6] = [
+    Access::WriteNode(2, 24),
+    Access::ReadNode(2, 0),
+    Access::WriteNode(1, 0),
     Access::ReadNode(2, 24),
     Access::ReadNode(1, 96),
     Access::ReadNode(0, 384),
 ];
 
 fn climb<T: Tagger>(rt: &impl Abort, tree: &mut Counted<T>) {
-    tree.fetches(rt, 384, 0, &CLIMB);
+    tree.fetches(rt, 384, 3, &CLIMB);
     let back = [
-        Access::WriteNode(2, 8),
-        Access::ReadNode(2, 16),
+        Access::WriteNode(2, 0),
         Access::WriteNode(1, 64),
         Access::ReadNode(2, 0),
         Access::ReadNode(1, 0),
         Access::ReadNode(0, 0),
     ];
-    tree.fetches(rt, 0, 1, &back);
+    tree.fetches(rt, 0, 4, &back);
     tree.fetches(
         rt,
         256,
-        3,
+        5,
         &[Access::ReadNode(1, 64), Access::ReadNode(0, 256)],
     );
     let path = [
@@ -381,32 +391,55 @@ fn refused_climb(
         (left, Some(MemStop::NoMemory))
     );
     let mut wanted = CLIMB;
-    wanted[6] = last;
+    wanted[5] = last;
     assert!(rt; (left as usize) < wanted.len());
     assert!(rt; tree.asked(&wanted[..=left as usize]), "{left}");
     Ok(tree.finish())
 }
 
-// Boot makes 1365 messages, the updates make four: that of each page, and that of node (1, 0), which went out. The message of a
-// write that is refused was made.
+// The updates make ten messages: that of each page, and those of five nodes that went out. The message of a write that is
+// refused was made.
 #[test]
 fn a_call_that_writes_other_nodes_is_refused_at_each_access(rt: HostRuntime) -> Result<(), Fail> {
     let rows = [
-        (0, 1370, 1370),
-        (1, 1370, 1370),
-        (2, 1371, 1371),
-        (3, 1371, 1371),
-        (4, 1371, 1371),
-        (5, 1371, 1371),
-        (6, 1371, 1372),
+        (0, 11, 11),
+        (1, 11, 11),
+        (2, 12, 12),
+        (3, 12, 12),
+        (4, 12, 12),
+        (5, 12, 13),
     ];
     for (left, by_fetch, by_update) in rows {
         let read = Access::ReadNode(0, 384);
         let write = Access::WriteNode(0, 384);
         let fetch = refused_climb(&rt, rt.alloc(), left, None, read)?;
         assert_eq!(rt; fetch, (by_fetch, None), "{left}");
-        let update = refused_climb(&rt, rt.alloc(), left, Some(4), write)?;
+        let update = refused_climb(&rt, rt.alloc(), left, Some(6), write)?;
         assert_eq!(rt; update, (by_update, None), "{left}");
+    }
+    Ok(())
+}
+
+// A call for page 384 is refused after so many accesses. The next calls answer, and all pages have their blocks.
+fn keeps_blocks(rt: &impl Abort, alloc: Global, left: u64, update: Option<u8>) -> Result<(), Fail> {
+    let mut tree = climbing(rt, alloc)?;
+    tree.bus.refuse_after(left);
+    let stop = tree.stop(rt, 384, update);
+    assert_eq!(rt; (left, stop), (left, Some(MemStop::NoMemory)));
+    tree.bus.refuse_none();
+    tree.has(rt, 384, 3);
+    tree.has(rt, 0, 4);
+    tree.has(rt, 128, 2);
+    tree.has(rt, 256, 5);
+    Ok(())
+}
+
+// Contracts leave it open: after want of memory a tree need not fit its bus.
+#[test]
+fn a_call_that_was_refused_changes_no_block(rt: HostRuntime) -> Result<(), Fail> {
+    for left in 0..6u64 {
+        keeps_blocks(&rt, rt.alloc(), left, None)?;
+        keeps_blocks(&rt, rt.alloc(), left, Some(6))?;
     }
     Ok(())
 }
@@ -425,7 +458,7 @@ fn in_no_order(
     step: u32,
 ) -> Result<(usize, usize), Fail> {
     assert!(rt; 0 < pages && pages <= 16 && step <= 512);
-    let mut tree = after_boot(alloc, levels)?;
+    let mut tree = booted(alloc, levels)?;
     let mut blocks = [0u8; 16];
     let mut number = 7;
     let mut total = 0usize;
@@ -444,16 +477,17 @@ fn in_no_order(
 }
 
 // In trees of four levels and more the nodes above these eight pages share a set of each level that has one too small: nodes
-// of level 1 go out there, of five levels also those of level 2, and of six those of level 3. How many accesses there are in all,
-// and in one call at most, was computed apart.
+// of level 1 go out there, of five levels also those of level 2, and of six those of level 3. So many accesses there are in all,
+// and in one call at most.
 #[test]
 fn calls_in_no_order_are_those_of_a_list_of_blocks(rt: HostRuntime) -> Result<(), Fail> {
     let rows = [
-        (1, 4, 1, 601, 2),
-        (2, 16, 1, 605, 3),
-        (4, 8, 32, 1405, 5),
-        (5, 8, 128, 2393, 8),
-        (6, 8, 512, 3426, 12),
+        (1, 4, 1, 595, 1),
+        (2, 16, 1, 590, 1),
+        (3, 16, 4, 590, 1),
+        (4, 8, 32, 1372, 3),
+        (5, 8, 128, 2341, 7),
+        (6, 8, 512, 3353, 11),
     ];
     for (levels, pages, step, in_all, most) in rows {
         let accesses = in_no_order(&rt, rt.alloc(), levels, pages, step)?;
@@ -471,7 +505,7 @@ fn five_calls<T: Tagger>(
     pages: u32,
     step: u32,
 ) {
-    assert!(rt; 0 < pages && pages <= 6 && step <= 3 && sequence < 1_000_000);
+    assert!(rt; 0 < pages && pages <= 6 && step <= 32 && sequence < 1_000_000);
     let mut rest = sequence;
     for call in 0..5u32 {
         let at = rest % pages;
@@ -483,7 +517,7 @@ fn five_calls<T: Tagger>(
     }
 }
 
-// All sequences over some pages, one after another. No call reads more than a path.
+// All sequences over some pages, one after another, each of which makes so many accesses at most.
 fn sequences(
     rt: &impl Abort,
     alloc: Global,
@@ -493,7 +527,7 @@ fn sequences(
     sequences: u32,
     most: usize,
 ) -> Result<(), Fail> {
-    let mut tree = after_boot(alloc, levels)?;
+    let mut tree = booted(alloc, levels)?;
     let mut blocks = [0u8; 6];
     for sequence in 0..sequences {
         five_calls(rt, &mut tree, &mut blocks, sequence, pages, step);
@@ -502,11 +536,12 @@ fn sequences(
     Ok(())
 }
 
-// All sequences of five calls over six pages, and over the four of one level.
+// All sequences of five calls over the four pages of one level, where only the pages' blocks reach the bus, and over three of four
+// levels, whose nodes of level 1 share a set of two ways.
 #[test]
 fn all_sequences_of_five_calls_are_those_of_a_list_of_blocks(rt: HostRuntime) -> Result<(), Fail> {
-    sequences(&rt, rt.alloc(), 1, 4, 1, 32_768, 10)?;
-    sequences(&rt, rt.alloc(), 2, 6, 3, 248_832, 15)
+    sequences(&rt, rt.alloc(), 1, 4, 1, 32_768, 5)?;
+    sequences(&rt, rt.alloc(), 4, 3, 32, 7_776, 11)
 }
 
 // Where the flipped bit is met of a node that is false at its `k`-th read.
@@ -521,22 +556,22 @@ fn caught(
     Ok(tree.caught_at(rt, node.0, node.1))
 }
 
-// A node of level k stands above 4^k pages. Above level 0 it is read for the first of them, when that gets its block, and has a
-// copy then, unless it was false; the 64 nodes of level 1 of a tree of four levels go out and are read once more, when that page is
-// fetched. The page's own block is read then alone.
+// A node of level k stands above 4^k pages, and is read for the first of them, when that is fetched: where it was made. So are all
+// counter blocks; the 64 nodes of level 1 of a tree of four levels have gone out by then, and those above stay on the chip.
 #[test]
 fn each_node_that_is_flipped_is_tampering_at_that_read(rt: HostRuntime) -> Result<(), Fail> {
     let rows = [
-        (1, 0, 4, 1, Some(1), None),
-        (1, 1, 1, 4, Some(0), None),
-        (2, 0, 16, 1, Some(1), None),
-        (2, 1, 4, 4, Some(0), None),
-        (2, 2, 1, 16, Some(0), None),
-        (4, 1, 64, 4, Some(0), Some(1)),
+        (1, 0, 4, 1, Some(1)),
+        (1, 1, 1, 4, None),
+        (3, 0, 64, 1, Some(1)),
+        (3, 1, 16, 4, None),
+        (4, 1, 64, 4, Some(1)),
+        (4, 2, 16, 16, None),
+        (4, 4, 1, 256, None),
     ];
-    for (levels, level, nodes, pages, first, second) in rows {
+    for (levels, level, nodes, pages, first) in rows {
         for index in 0..nodes {
-            for (k, pass) in [(1, first), (2, second), (3, None)] {
+            for (k, pass) in [(1, first), (2, None)] {
                 let node = (level, index);
                 let caught = caught(&rt, rt.alloc(), levels, node, k)?;
                 assert_eq!(rt;
@@ -550,61 +585,92 @@ fn each_node_that_is_flipped_is_tampering_at_that_read(rt: HostRuntime) -> Resul
     Ok(())
 }
 
-// All tags are zeros, so each node's block is zeros, and the bus flips the last bit of one at its first read.
-fn collided(
-    rt: &impl Abort,
-    alloc: Global,
-    levels: u8,
-    node: (u8, u32),
-    page: u32,
-    made_at: u64,
-) -> Result<(Result<[u8; 64], MemStop>, Option<Evidence>, Option<Message>), Fail> {
-    let mut tree = flipped(alloc, levels, node, 1, 63, ZeroTagger)?;
-    let answer = tree.fetch(rt, page);
-    let (evidence, message) = tree.shown(made_at);
-    Ok((answer, evidence, message))
-}
+// All tags are this one.
+const MARK: [u8; 16] = [0, 0, 0, 0, 0, 0, 0, 0, 0, 0, 0, 0, 0, 0, 0, 1];
 
-const LAST_BIT: [u8; 64] = [
+// What was made of page 3 and of the node above it, where that alone was made of its children.
+const SIXES: [u8; 64] = [6; 64];
+
+const PARENT: [u8; 64] = [
     0, 0, 0, 0, 0, 0, 0, 0, 0, 0, 0, 0, 0, 0, 0, 0, 0, 0, 0, 0, 0, 0, 0, 0, 0, 0, 0, 0, 0, 0, 0, 0,
     0, 0, 0, 0, 0, 0, 0, 0, 0, 0, 0, 0, 0, 0, 0, 0, 0, 0, 0, 0, 0, 0, 0, 0, 0, 0, 0, 0, 0, 0, 0, 1,
 ];
 
-// The evidence of a node whose message was made at this number, and that message.
-fn collision(level: u8, index: u32, made_at: u64) -> (Option<Evidence>, Option<Message>) {
+// A block whose byte at an offset has another lowest bit.
+fn off_by_a_bit(block: [u8; 64], offset: u8) -> [u8; 64]
+    requires { offset < 64 }
+{
+    let mut block = block;
+    block[offset as usize] ^= 1;
+    block
+}
+
+// Page 3 of a tree of four levels gets its block, and the node above it goes out. Then a page is fetched, where a bit of a node
+// is flipped. What is answered, by how many accesses; and the evidence.
+fn collided(
+    rt: &impl Abort,
+    alloc: Global,
+    node: (u8, u32),
+    offset: u8,
+    page: u32,
+) -> Result<
+    (
+        (Result<[u8; 64], MemStop>, usize),
+        (Option<Evidence>, Option<Message>),
+    ),
+    Fail,
+>
+    requires { offset < 64 }
+{
+    let mut tree = flipped(alloc, 4, node, 1, offset, ZeroTagger)?;
+    tree.update(rt, 3, &SIXES)?;
+    tree.fetch(rt, 32)?;
+    tree.fetch(rt, 64)?;
+    tree.bus.clear_log();
+    let answer = tree.fetch(rt, page);
+    let accesses = tree.accesses();
+    Ok(((answer, accesses), tree.shown(u64::from(node.0))))
+}
+
+// The evidence of a node whose message has the number of its level, and that message.
+fn collision(node: (u8, u32), block: [u8; 64], offset: u8) -> (Option<Evidence>, Option<Message>)
+    requires { offset < 64 }
+{
+    let (level, index) = node;
     let evidence = Evidence::Collision {
         level,
         index,
-        made_at,
-        accepted: LAST_BIT,
-        tag: [0; 16],
+        made_at: u64::from(level),
+        accepted: off_by_a_bit(block, offset),
+        tag: MARK,
     };
     let message = Message::Node {
         level,
         index,
-        block: [0; 64],
+        block,
     };
     (Some(evidence), Some(message))
 }
 
-// What passes is used: a page whose tag it keeps has another one then.
+// What passes is used. A page whose slot is zeros then counts as never made, though it was; one whose slot is not, as made: where
+// that is no tag of its block, as tampering.
 #[test]
 fn two_blocks_with_one_tag_are_a_collision(rt: HostRuntime) -> Result<(), Fail> {
-    let tampered = |level| Err(MemStop::Tampered(Place::Node { level, index: 3 }));
+    let tampered = |index| Err(MemStop::Tampered(Place::Node { level: 0, index }));
     let rows = [
-        (1, 0, 1, 1, 1, Ok(LAST_BIT)),
-        (1, 1, 0, 4, 0, Ok([0; 64])),
-        (1, 1, 0, 4, 3, tampered(0)),
-        (2, 1, 2, 14, 8, Ok([0; 64])),
-        (2, 2, 0, 20, 11, Ok([0; 64])),
-        (2, 2, 0, 20, 12, tampered(1)),
+        ((0, 3), SIXES, 63, 3, Ok(off_by_a_bit(SIXES, 63)), 2),
+        ((1, 0), PARENT, 63, 3, Ok([0; 64]), 1),
+        ((1, 0), PARENT, 62, 3, tampered(3), 2),
+        ((1, 0), PARENT, 0, 0, tampered(0), 2),
+        ((1, 0), PARENT, 15, 0, Ok([0; 64]), 2),
     ];
-    for (levels, level, index, made_at, page, answer) in rows {
-        let node = (level, index);
-        let (answered, evidence, message) = collided(&rt, rt.alloc(), levels, node, page, made_at)?;
-        assert_eq!(rt; (node, page, answered), (node, page, answer));
-        let expected = collision(level, index, made_at);
-        assert_eq!(rt; (page, (evidence, message)), (page, expected));
+    for (node, block, offset, page, answer, accesses) in rows {
+        let (answered, shown) = collided(&rt, rt.alloc(), node, offset, page)?;
+        assert_eq!(rt;
+            (node, offset, answered),
+            (node, offset, (answer, accesses))
+        );
+        assert_eq!(rt; (offset, shown), (offset, collision(node, block, offset)));
     }
     Ok(())
 }
@@ -636,7 +702,7 @@ fn replayed(
     alloc: Global,
     with_parent: bool,
 ) -> Result<Result<[u8; 64], MemStop>, Fail> {
-    let mut tree = after_boot(alloc, 4)?;
+    let mut tree = booted(alloc, 4)?;
     replay(rt, &mut tree, with_parent)
 }
 
@@ -645,59 +711,5 @@ fn old_nodes_are_tampering_of_the_highest(rt: HostRuntime) -> Result<(), Fail> {
     let highest = |level| Err(MemStop::Tampered(Place::Node { level, index: 0 }));
     assert_eq!(rt; replayed(&rt, rt.alloc(), false)?, highest(0));
     assert_eq!(rt; replayed(&rt, rt.alloc(), true)?, highest(1));
-    Ok(())
-}
-
-// Boot is refused after so many accesses. How many messages were made then.
-fn refused_boot(
-    rt: &impl Abort,
-    alloc: Global,
-    levels: u8,
-    left: u64,
-) -> Result<(u64, Option<Evidence>), Fail> {
-    let geometry = Geometry::new(levels).ok_or("no geometry")?;
-    let mut tags = TagEngine::new(alloc, Quarters, geometry)?;
-    let mut bus = CountingBus::honest(alloc, geometry)?;
-    bus.refuse_after(left);
-    let boot = Tree::boot(alloc, geometry, &mut bus, &mut tags);
-    assert!(rt; boot.is_err(), "boot, {left}");
-    let (made, evidence) = tags.finish();
-    Ok((made.len(), evidence))
-}
-
-// A call is refused after so many accesses, those of boot among them. How many messages were made then.
-fn refused_call(
-    rt: &impl Abort,
-    alloc: Global,
-    levels: u8,
-    left: u64,
-    update: Option<u8>,
-) -> Result<(u64, Option<Evidence>), Fail> {
-    let mut tree = answering(alloc, levels, left)?;
-    assert_eq!(rt;
-        (left, tree.stop(rt, 0, update)),
-        (left, Some(MemStop::NoMemory))
-    );
-    Ok(tree.finish())
-}
-
-// Boot writes all nodes. A first fetch reads a path, and a first update reads one but for the page's block, which it writes:
-// the message of a write that is refused was made.
-#[test]
-fn each_call_that_is_refused_is_want_of_memory(rt: HostRuntime) -> Result<(), Fail> {
-    for (levels, nodes) in [(1u8, 5u64), (2, 21)] {
-        let reads = u64::from(levels);
-        for left in 0..nodes {
-            let boot = refused_boot(&rt, rt.alloc(), levels, left)?;
-            assert_eq!(rt; boot, (left + 1, None), "boot, {left}");
-        }
-        for left in nodes..nodes + reads + 1 {
-            let fetch = refused_call(&rt, rt.alloc(), levels, left, None)?;
-            assert_eq!(rt; fetch, (nodes, None), "fetch, {left}");
-            let update = refused_call(&rt, rt.alloc(), levels, left, Some(1))?;
-            let more = (left + 1).saturating_sub(nodes + reads);
-            assert_eq!(rt; update, (nodes + more, None), "update, {left}");
-        }
-    }
     Ok(())
 }

@@ -37,7 +37,7 @@ fn a_page_is_encrypted_in_the_order_of_its_places(rt: HostRuntime) -> Result<(),
         add_page(&mut wanted, first, 1)?;
         assert_eq!(rt; wanted.len(), 191, "line {line}");
         assert_eq!(rt; account.used.as_slice(), wanted.as_slice(), "line {line}");
-        assert_eq!(rt; account.made.len(), 5 + 191, "line {line}");
+        assert_eq!(rt; account.made.len(), 191, "line {line}");
         assert_eq!(rt; account.evidence, None, "line {line}");
     }
     Ok(())
@@ -110,7 +110,7 @@ fn a_page_is_encrypted_under_its_new_counter(rt: HostRuntime) -> Result<(), Fail
             cipher,
         };
         assert_eq!(rt;
-            account.made.get(5 + 128 + u64::from(line)),
+            account.made.get(128 + u64::from(line)),
             Some(wanted),
             "line {line}"
         );
@@ -170,7 +170,7 @@ fn a_page_that_is_worn_out_again_and_again_keeps_its_lines(rt: HostRuntime) -> R
     let (account, _bus) = memory.finish();
     assert_eq!(rt; wanted.len(), 514);
     assert_eq!(rt; account.used.as_slice(), wanted.as_slice());
-    assert_eq!(rt; account.made.len(), 5 + 514);
+    assert_eq!(rt; account.made.len(), 514);
     assert_eq!(rt; account.evidence, None);
     Ok(())
 }
@@ -238,13 +238,8 @@ fn assert_page_held(rt: &impl Abort, memory: &mut Memory<SomeBytes>, first: u32,
 // Pages 3, 9, 200 and 4001, each by its first line.
 #[test]
 fn at_each_level_a_page_is_encrypted_anew(rt: HostRuntime) -> Result<(), Fail> {
-    let rows = [
-        (1, 192, 5 + 255),
-        (2, 576, 21 + 255),
-        (4, 12_800, 341 + 255),
-        (6, 256_064, 5461 + 255),
-    ];
-    for (levels, first, made) in rows {
+    let rows = [(1, 192), (2, 576), (4, 12_800), (6, 256_064)];
+    for (levels, first) in rows {
         let mut memory = worn_page(&rt, rt.alloc(), levels, first, 1)?;
         assert_page_held(&rt, &mut memory, first, 6);
         let last = memory.fill(first + 5, 200);
@@ -257,7 +252,7 @@ fn at_each_level_a_page_is_encrypted_anew(rt: HostRuntime) -> Result<(), Fail> {
             assert_eq!(rt; entry, Some((first + at, anew)), "levels {levels}");
         }
         let counts = (account.used.len(), account.made.len());
-        assert_eq!(rt; counts, (255, made), "levels {levels}");
+        assert_eq!(rt; counts, (255, 255), "levels {levels}");
         assert_eq!(rt; account.evidence, None, "levels {levels}");
     }
     Ok(())
@@ -272,7 +267,7 @@ fn a_page_other_than_the_first_is_spent(rt: HostRuntime) -> Result<(), Fail> {
     assert_eq!(rt; memory.lines.stopped(), spent.err());
     let (account, _bus) = memory.finish();
     let counts = (account.used.len(), account.made.len());
-    assert_eq!(rt; counts, (191, 21 + 191));
+    assert_eq!(rt; counts, (191, 191));
     assert_eq!(rt; account.evidence, None);
     Ok(())
 }

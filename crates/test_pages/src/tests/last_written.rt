@@ -18,7 +18,7 @@ fn what_was_written_last_is_read(rt: HostRuntime) -> Result<(), Fail> {
     let again = (64, Counter { page: 0, line: 2 });
     let wanted = [once(64), again, once(255)];
     assert_eq!(rt; account.used.as_slice(), wanted.as_slice());
-    assert_eq!(rt; account.made.len(), 5 + 3);
+    assert_eq!(rt; account.made.len(), 3);
     assert_eq!(rt; account.evidence, None);
     Ok(())
 }

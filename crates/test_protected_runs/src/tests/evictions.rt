@@ -4,59 +4,43 @@ ghost use Rattle.std.specs.Prelude.{◌≤◌, length};
 use super::programs::{
     COUNT_DOWN, EXIT_65, EXIT_WITH_65_AGAIN, OVER_130_LINES, STORE_65_TWICE, WEAR_LINE_64,
 };
-use super::{CIPHER_65, CIPHER_65_AGAIN, LINE_64, ends, flipped_under_keys, honest, written};
-use sec_base::{Counter, Ending, MemorySink, Message, Messages};
+use super::{
+    CIPHER_65, CIPHER_65_AGAIN, LINE_64, ends, far_apart, flipped_under_keys, honest, keys, written,
+};
+use hmac_tag::HmacTagger;
+use sec_base::{Counter, Ending, MemorySink, Message, Messages, Place};
 use std::alloc::Global;
 use std::process::Abort;
 use std::test::Fail;
 
-// Lines 0 and 64 are stored into, and neither leaves the chip. So only boot tags.
+// Lines 0 and 64 are stored into, and neither leaves the chip. So nothing is tagged.
 #[test]
 fn what_is_held_is_not_tagged(rt: HostRuntime) -> Result<(), Fail> {
     let (told, outside) = ends(rt.alloc(), &EXIT_65, u64::MAX)?;
     assert_eq!(rt; (told.ending, told.retired), (Ending::Halted(65), 6));
-    assert_eq!(rt; (told.made, told.used), (5, 0));
+    assert_eq!(rt; (told.made, told.used), (0, 0));
     assert_eq!(rt; outside, [0; 64]);
     Ok(())
 }
 
-// The level and the index of a node whose message this is.
-fn node_of(message: Option<Message>) -> Option<(u8, u32)> {
-    match message {
-        Some(Message::Node { level, index, .. }) => Some((level, index)),
-        _ => None,
-    }
-}
-
 fn check_messages(rt: &impl Abort, made: &Messages) {
-    let nodes = [
-        (0, (0, 0)),
-        (1, (0, 1)),
-        (2, (0, 2)),
-        (3, (0, 3)),
-        (4, (1, 0)),
-    ];
-    for (at, node) in nodes {
-        assert_eq!(rt; (at, node_of(made.get(at))), (at, Some(node)));
-    }
     let first = Message::Line {
         line: 64,
         counter: written(1),
         cipher: CIPHER_65,
     };
-    assert_eq!(rt; made.get(5), Some(first));
+    assert_eq!(rt; made.get(0), Some(first));
     let second = Message::Line {
         line: 64,
         counter: written(2),
         cipher: CIPHER_65_AGAIN,
     };
-    assert_eq!(rt; made.get(6), Some(second));
-    assert_eq!(rt; made.len(), 7);
+    assert_eq!(rt; made.get(1), Some(second));
+    assert_eq!(rt; made.len(), 2);
 }
 
-// The five nodes of the tree are tagged first. Then line 64 goes out twice, and is tagged each time. Its page's counters and
-// the node above them stay on the chip, so they are not tagged again. Line 0 has the code, and stays; line 128 goes out
-// unchanged.
+// Line 64 goes out twice, and is tagged each time. Its page's counters and the node above them stay on the chip, so they are not
+// tagged. Line 0 has the code, and stays; line 128 goes out unchanged.
 #[test]
 fn each_write_is_tagged(rt: HostRuntime) -> Result<(), Fail> {
     let mut out = MemorySink::new(rt.alloc(), &[])?;
@@ -64,6 +48,61 @@ fn each_write_is_tagged(rt: HostRuntime) -> Result<(), Fail> {
     check_messages(&rt, &done.made);
     let told = (done.ending, done.retired, done.evidence);
     assert_eq!(rt; told, (Ending::Halted(65), 10, None));
+    Ok(())
+}
+
+// The level of a node, or none of a line, and its number.
+type Written = (Option<u8>, u32);
+
+fn written_as(message: Option<Message>) -> Option<Written> {
+    match message {
+        Some(Message::Line { line, .. }) => Some((None, line)),
+        Some(Message::Node { level, index, .. }) => Some((Some(level), index)),
+        None => None,
+    }
+}
+
+// The writes of a program that stores far apart, by the rules of the caches, from a model in Python: a counter block goes out
+// after a line that was counted in it, and a node after a block whose tag it has.
+const WRITES: [Written; 21] = [
+    (None, 2053),
+    (Some(0), 32),
+    (None, 4101),
+    (Some(0), 64),
+    (Some(1), 8),
+    (None, 6149),
+    (Some(0), 96),
+    (Some(1), 16),
+    (None, 2053),
+    (Some(0), 32),
+    (Some(1), 24),
+    (None, 4101),
+    (Some(0), 64),
+    (Some(1), 8),
+    (None, 6149),
+    (Some(0), 96),
+    (Some(1), 16),
+    (None, 2053),
+    (Some(0), 32),
+    (Some(1), 24),
+    (None, 4101),
+];
+
+fn check_writes(rt: &impl Abort, made: &Messages) {
+    for (at, written) in WRITES.iter().enumerate() {
+        let message = written_as(made.get(at as u64));
+        assert_eq!(rt; (at, message), (at, Some(*written)));
+    }
+    assert_eq!(rt; made.len(), 21);
+}
+
+// Nodes and counter blocks are tagged as they go out, and at no other time: those of page 0, and the nodes of levels 2 to 4, stay
+// on the chip.
+#[test]
+fn a_node_is_tagged_as_it_goes_out(rt: HostRuntime) -> Result<(), Fail> {
+    let tagger = HmacTagger::new(&keys());
+    let (done, _) = far_apart(rt.alloc(), Place::Line(0), 1, tagger)?;
+    check_writes(&rt, &done.made);
     Ok(())
 }
 
@@ -141,7 +180,7 @@ fn lines_past_what_a_chip_may_hold_are_read_again(rt: HostRuntime) -> Result<(),
 }
 
 // Line 64 goes out behind each store. The 128th write encrypts its page, and 72 more follow; or it is refused while line 128
-// is loaded, and 127 are done. No node is tagged but by boot.
+// is loaded, and 127 are done. No node is tagged.
 #[test]
 fn a_line_is_written_as_often_as_the_limit_allows(rt: HostRuntime) -> Result<(), Fail> {
     let rows = [
@@ -157,7 +196,7 @@ fn a_line_is_written_as_often_as_the_limit_allows(rt: HostRuntime) -> Result<(),
             "limit {page_limit}"
         );
         let counts = (told.used, told.made, told.evidence);
-        assert_eq!(rt; counts, (entries, 5 + entries, None), "limit {page_limit}");
+        assert_eq!(rt; counts, (entries, entries, None), "limit {page_limit}");
     }
     Ok(())
 }
@@ -168,7 +207,7 @@ fn stores_into_a_line_that_is_held_wear_out_nothing(rt: HostRuntime) -> Result<(
     for page_limit in [0, 1, u64::MAX] {
         let (told, _) = ends(rt.alloc(), &COUNT_DOWN, page_limit)?;
         let end = (told.ending, told.retired, told.used, told.made);
-        assert_eq!(rt; end, (Ending::Halted(0), 605, 0, 5), "limit {page_limit}");
+        assert_eq!(rt; end, (Ending::Halted(0), 605, 0, 0), "limit {page_limit}");
     }
     Ok(())
 }

@@ -45,31 +45,31 @@ impl Lies {
 }
 
 // What stood at the places of line 2053, of its counter block (0, 32) and of the node (1, 8) above that as the node went out
-// for the first time; from the second time on it is replayed. The node's writes are counted from boot on.
+// for the first time; from the second time on it is replayed.
 #[derive(Clone, Copy, Debug)]
 struct Stale {
     line: Sealed,
     counters: [u8; 64],
     node: [u8; 64],
-    writes: u64,
+    is_kept: bool,
     is_replayed: bool,
 }
 
 impl Stale {
     fn keep_line(&mut self, line: u32, sealed: &Sealed) {
-        if line == 2053 && self.writes < 2 {
+        if line == 2053 && !self.is_kept {
             self.line = *sealed;
         }
     }
 
     fn keep_node(&mut self, level: u8, index: u32, block: &[u8; 64]) {
-        match (level, index, self.writes) {
-            (0, 32, 0..=1) => self.counters = *block,
-            (1, 8, 0..=1) => {
+        match (level, index, self.is_kept) {
+            (0, 32, false) => self.counters = *block,
+            (1, 8, false) => {
                 self.node = *block;
-                self.writes = self.writes.saturating_add(1);
+                self.is_kept = true;
             }
-            (1, 8, _) => self.is_replayed = true,
+            (1, 8, true) => self.is_replayed = true,
             _ => {}
         }
     }
@@ -115,7 +115,7 @@ impl ReplayBus {
                 line,
                 counters: [0; 64],
                 node: [0; 64],
-                writes: 0,
+                is_kept: false,
                 is_replayed: false,
             },
             accesses: 0,

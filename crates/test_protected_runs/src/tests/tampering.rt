@@ -1,15 +1,20 @@
 // False answers: one bit is flipped, or what stood there before is answered.
-use super::programs::{
-    EXIT_7, EXIT_65, EXIT_WITH_65_AGAIN, PRINT_8, STORE_65_TWICE, STORE_FAR_APART,
-};
+ghost use Rattle.std.specs.Prelude.{◌<◌};
+ghost use Rattle.sec_base.specs.Place.{place_size};
+
+use super::programs::{EXIT_7, EXIT_WITH_65_AGAIN, PRINT_8, STORE_FAR_APART};
 use super::replay_bus::ReplayBus;
-use super::{CIPHER_65, LINE_64, Told, flat, flipped, flipped_under_keys, image, setup, written};
+use super::{
+    CIPHER_65, LINE_64, Told, far_apart, flat, flipped, flipped_under_keys, image, keys, setup,
+    written,
+};
 use bus_model::FlipBus;
 use chip_run::run;
 use fakes::ZeroTagger;
 use hmac_tag::HmacTagger;
 use sec_base::{Ending, Evidence, Geometry, Image, MemorySink, Place, Sealed};
 use std::alloc::Global;
+use std::process::Abort;
 use std::test::Fail;
 
 // Of the data in lines 63 and 64 the first answer for line 64 is false.
@@ -43,6 +48,9 @@ fn a_false_answer_that_fails_its_check_ends_the_run(rt: HostRuntime) -> Result<(
     Ok(())
 }
 
+// What a tag of zeros becomes: no tag is zeros.
+const ZERO_TAG: [u8; 16] = [0, 0, 0, 0, 0, 0, 0, 0, 0, 0, 0, 0, 0, 0, 0, 1];
+
 #[test]
 fn a_false_answer_that_passes_its_check_is_shown(rt: HostRuntime) -> Result<(), Fail> {
     let (told, lies) = flipped(rt.alloc(), &EXIT_WITH_65_AGAIN, LINE_64, 1, ZeroTagger)?;
@@ -53,51 +61,84 @@ fn a_false_answer_that_passes_its_check_is_shown(rt: HostRuntime) -> Result<(), 
         counter: written(1),
         sealed: Sealed {
             cipher,
-            tag: [0; 16],
+            tag: ZERO_TAG,
         },
-        made_count: 5 + 1,
+        made_count: 1,
     };
     let end = (told.ending, told.retired, told.evidence, lies);
     assert_eq!(rt; end, (Ending::Halted(64), 8, Some(shown), 1));
     Ok(())
 }
 
-// Boot makes five accesses, and the sixth reads the top node.
+// Boot makes no access, and neither does a program that stays on the chip: no answer is false, since none is given.
 #[test]
-fn a_node_that_fails_its_check_ends_the_run(rt: HostRuntime) -> Result<(), Fail> {
-    let top = Place::Node { level: 1, index: 0 };
-    let (told, lies) = flipped_under_keys(rt.alloc(), &EXIT_7, top, 1)?;
-    let end = (told.ending, told.retired, told.evidence, lies);
-    assert_eq!(rt; end, (Ending::Tampered(top), 0, None, 1));
-    assert_eq!(rt; (told.made, told.used), (5, 0));
-    Ok(())
-}
-
-// A node or a counter block is read when a line first wants it, and stays on the chip: a second answer would be false, and
-// there is none.
-#[test]
-fn a_node_that_is_held_is_not_read(rt: HostRuntime) -> Result<(), Fail> {
-    let rows = [((1, 0), 0), ((0, 0), 0), ((0, 1), 3), ((0, 2), 4)];
-    for ((level, index), retired) in rows {
+fn a_node_that_was_never_made_is_not_read(rt: HostRuntime) -> Result<(), Fail> {
+    for (level, index) in [(1, 0), (0, 0)] {
         let place = Place::Node { level, index };
-        let (told, lies) = flipped_under_keys(rt.alloc(), &STORE_65_TWICE, place, 1)?;
-        let end = (told.ending, told.retired, lies);
-        assert_eq!(rt; end, (Ending::Tampered(place), retired, 1));
-        let (told, lies) = flipped_under_keys(rt.alloc(), &STORE_65_TWICE, place, 2)?;
-        assert_eq!(rt; (told.ending, lies), (Ending::Halted(65), 0), "{place}");
+        let (told, lies) = flipped_under_keys(rt.alloc(), &EXIT_7, place, 1)?;
+        let end = (told.ending, told.retired, told.evidence, lies);
+        assert_eq!(rt; end, (Ending::Halted(7), 3, None, 0), "{place}");
+        assert_eq!(rt; (told.made, told.used), (0, 0));
     }
     Ok(())
 }
 
-// Of lines only 64 is read, as it comes in again: line 0 stays, and line 128 was never written. Of counters those of the
-// pages that are used.
+// A node, and how many instructions are retired before each of its reads.
+const READS: [((u8, u32), &[u64]); 10] = [
+    ((0, 32), &[11, 13, 17, 19, 23]),
+    ((0, 64), &[12, 17, 18, 23]),
+    ((0, 96), &[13, 18, 19]),
+    ((1, 8), &[13, 19]),
+    ((1, 16), &[17, 23]),
+    ((1, 24), &[18]),
+    // Their first copy stays on the chip, or there is none.
+    ((0, 0), &[]),
+    ((0, 33), &[]),
+    ((2, 2), &[]),
+    ((4, 0), &[]),
+];
+
+// How a run ends and what it retired, where the lowest bit of the `k`-th answer of a node is flipped, and how many answers were
+// false.
+fn flipped_far_apart(alloc: Global, place: Place, k: u64) -> Result<(Ending, u64, u64), Fail>
+    requires { 0 < place_size place }
+{
+    let (done, lies) = far_apart(alloc, place, k, HmacTagger::new(&keys()))?;
+    Ok((done.ending, done.retired, lies))
+}
+
+fn check_reads(rt: &impl Abort, alloc: Global, node: (u8, u32), reads: &[u64]) -> Result<(), Fail> {
+    let (level, index) = node;
+    let place = Place::Node { level, index };
+    let mut k = 1u64;
+    for retired in reads {
+        let end = flipped_far_apart(alloc, place, k)?;
+        assert_eq!(rt; end, (Ending::Tampered(place), *retired, 1), "read {k}");
+        k = k.saturating_add(1);
+    }
+    let end = flipped_far_apart(alloc, place, k)?;
+    assert_eq!(rt; end, (Ending::Halted(67), 26, 0), "{place}");
+    Ok(())
+}
+
+// A node is read each time that it comes in again, and never before it went out.
+#[test]
+fn each_read_of_a_node_is_checked(rt: HostRuntime) -> Result<(), Fail> {
+    for &(node, reads) in &READS {
+        check_reads(&rt, rt.alloc(), node, reads)?;
+    }
+    Ok(())
+}
+
+// Line 64 alone is read, as it comes in again: line 0 stays, and line 128 was never written. No node goes out in a memory of one
+// level.
 #[test]
 fn each_place_is_checked_or_never_read(rt: HostRuntime) -> Result<(), Fail> {
     let rows = [
-        (Place::Node { level: 1, index: 0 }, Some(0)),
-        (Place::Node { level: 0, index: 0 }, Some(0)),
-        (Place::Node { level: 0, index: 1 }, Some(3)),
-        (Place::Node { level: 0, index: 2 }, Some(4)),
+        (Place::Node { level: 1, index: 0 }, None),
+        (Place::Node { level: 0, index: 0 }, None),
+        (Place::Node { level: 0, index: 1 }, None),
+        (Place::Node { level: 0, index: 2 }, None),
         (Place::Node { level: 0, index: 3 }, None),
         (Place::Line(0), None),
         (Place::Line(1), None),
@@ -159,21 +200,26 @@ fn what_stood_there_before_fails_its_check(rt: HostRuntime) -> Result<(), Fail> 
     Ok(())
 }
 
-// With the flipped bit the page counter reads 1. Both blocks have the tag, so the false one is used.
+// The lowest bit of the first answer for the block of page 32 is flipped, so that its page counter reads 1.
+const ACCEPTED: [u8; 64] = [
+    1, 0, 0, 0, 0, 0, 0, 0, 0, 0, 0, 0, 8, 0, 0, 0, 0, 0, 0, 0, 0, 0, 0, 0, 0, 0, 0, 0, 0, 0, 0, 0,
+    0, 0, 0, 0, 0, 0, 0, 0, 0, 0, 0, 0, 0, 0, 0, 0, 0, 0, 0, 0, 0, 0, 0, 0, 0, 0, 0, 0, 0, 0, 0, 0,
+];
+
+// Both blocks have the tag, so the false one is used. The one that was made is the second message.
 #[test]
 fn two_blocks_with_one_tag_are_shown(rt: HostRuntime) -> Result<(), Fail> {
-    let counters = Place::Node { level: 0, index: 1 };
-    let (told, lies) = flipped(rt.alloc(), &EXIT_65, counters, 1, ZeroTagger)?;
-    let mut accepted = [0; 64];
-    accepted[0] = 1;
+    let (level, index) = (0, 32);
+    let counters = Place::Node { level, index };
+    let (done, lies) = far_apart(rt.alloc(), counters, 1, ZeroTagger)?;
     let shown = Evidence::Collision {
-        level: 0,
-        index: 1,
+        level,
+        index,
         made_at: 1,
-        accepted,
-        tag: [0; 16],
+        accepted: ACCEPTED,
+        tag: ZERO_TAG,
     };
-    let end = (told.ending, told.retired, told.evidence, lies);
-    assert_eq!(rt; end, (Ending::Halted(65), 6, Some(shown), 1));
+    let end = (done.ending, done.retired, done.evidence, lies);
+    assert_eq!(rt; end, (Ending::Halted(67), 26, Some(shown), 1));
     Ok(())
 }
