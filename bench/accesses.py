@@ -2,9 +2,9 @@
 """Counts the accesses that `chip run` makes for a program, by a model of the chip in Python.
 
 Accesses to the memory outside are counted by kind (read or write) and place (data lines, counter blocks, and nodes by
-their level). Boot's writes, storing the program, and running it are counted apart.
+their level). Storing the program and running it are counted apart. Boot makes none.
 
---trace prints a line for each access after boot, by the number that scripts call it by.
+--trace prints a line for each access, by the number that scripts call it by.
 --plot draws the accesses over the instructions retired, as NAME.accesses.svg in this folder.
 --check N compares the model with the program chip at N random accesses: a script rolls the memory back to power-on before
 the access, and the run must then end at the next read of a place that was written, as the model names it.
@@ -88,7 +88,7 @@ def report(machine, ending, before, levels):
     running = memory.count - storing
     ran, used = memory.total - stored, memory.uses - uses
     print(f"{ending}, retired {machine.retired:,}, {levels} levels")
-    print(f"accesses: boot {model.boot_writes(levels):,}, storing {stored - model.boot_writes(levels):,}, run {ran:,}")
+    print(f"accesses: storing {stored:,}, run {ran:,}")
     print(f"{'':<18} {'storing':>9} {'':>9} {'run':>9}")
     print(f"{'':<18} {'reads':>9} {'writes':>9} {'reads':>9} {'writes':>9}")
     for level in [model.DATA, *range(levels + 1)]:
@@ -109,7 +109,7 @@ def plot(options, machine, log, stored):
     kinds = {"data lines": [], "counter blocks": [], "nodes above": []}
     counts = dict.fromkeys(kinds, 0)
     step = max(machine.retired // 300, 1)
-    rest = iter(log.accesses[stored - model.boot_writes(options.levels) :])
+    rest = iter(log.accesses[stored:])
     access = next(rest, None)
     for at in [*range(0, machine.retired, step), machine.retired]:
         while access is not None and access[3] <= at:
@@ -129,27 +129,20 @@ def plot(options, machine, log, stored):
 # --- the comparison with the program ---------------------------------------------------------------------------------
 
 
-def is_rolled_back(level, index, written):
-    """Whether power-on's zeros at the place are another answer than the right one. A counter block that was not written
-    since boot is zeros itself."""
-    return level != 0 or (level, index) in written
-
-
 def first_false(accesses, chosen):
     """The place of the first false answer, where the memory is rolled back before an access (counted from 0), and how
-    many instructions are retired there; or none."""
-    written = {(level, index) for kind, level, index, _ in accesses[:chosen] if kind == "write"}
+    many instructions are retired there; or none. Each place that is read was written before, and not with zeros."""
     fresh = set()
     for kind, level, index, retired in accesses[chosen:]:
         if kind == "write":
             fresh.add((level, index))
-        elif (level, index) not in fresh and is_rolled_back(level, index, written):
+        elif (level, index) not in fresh:
             return place_of(level, index), retired
     return None
 
 
 def check(options, machine, ending, log):
-    chip, boot = runs.program(options.program), model.boot_writes(options.levels)
+    chip = runs.program(options.program)
     words = [chip, "run", options.file, "--levels", str(options.levels), "--steps", str(options.steps)]
     words += ["--flat"] if options.flat else []
     words += ["--input", options.input] if options.input else []
@@ -159,13 +152,13 @@ def check(options, machine, ending, log):
         script = os.path.join(folder, "rollback.script")
         for at in sorted(chosen):
             with open(script, "w", encoding="utf-8") as file:
-                file.write(f"access 1: saveall 0\naccess {boot + at + 1}: restoreall 0\n")
+                file.write(f"access 1: saveall 0\naccess {at + 1}: restoreall 0\n")
             found = first_false(log.accesses, at)
             told = [f"tampered {found[0]}", f"retired {found[1]}"] if found else [ending, f"retired {machine.retired}"]
             done = runs.run(words + ["--script", script])
             if done.told[:2] != told:
                 wrong += 1
-                print(f"access {boot + at + 1}: the program says {done.told[:2]}, the model {told}")
+                print(f"access {at + 1}: the program says {done.told[:2]}, the model {told}")
     print(f"check: {len(chosen)} accesses, {wrong} differ")
     return 1 if wrong else 0
 

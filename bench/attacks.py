@@ -6,7 +6,8 @@ AES by the package cryptography, instructions by the manual (vectors.py), progra
 access as docs/FORMATS.md says of scripts.
 
 The table of attacks is three programs, five places, six actions and three triggers: 261 runs, under tags of each kind.
-Saves are made before access 1 of a place, and before access 342 of all places, the first access behind boot.
+Saves are made before access 1, when all of the memory is zeros. The attacks on nodes are over a program whose counter blocks
+and nodes go out, under tags of each kind too.
 """
 
 import collections
@@ -28,7 +29,7 @@ TEXTS = os.path.join(TOP, "crates", "chip_cases", "src", "texts.rt")
 DEVICE_KEY = bytes(range(32))
 LEVELS = 4
 SIZE = 4096 * 4**LEVELS
-BOOT = (4 ** (LEVELS + 1) - 1) // 3
+NO_TAG = bytes(16)  # in the place of a tag: of a node that was never made, which is zeros and is not read
 
 
 class Stopped(Exception):
@@ -156,19 +157,17 @@ class Chip:
         self.keys, self.made, self.last = keys, set(), {}
         self.lines = Cache(64)
         self.copies = [Cache(8 if level else 16) for level in range(LEVELS + 1)]
-        self.root = self.boot(LEVELS, 0)
-
-    def boot(self, level, index):
-        block = b"".join(self.boot(level - 1, 4 * index + slot) for slot in range(4)) if level else bytes(64)
-        return self.make_node(level, index, block)
+        self.root = NO_TAG
 
     def tag(self, key, message):
+        """Of every tag one bit is set, so that none is zeros."""
         if self.tags == "hmac":
-            return hmac.digest(self.keys[key], message, "sha256")[:16]
-        tag = self.keys[key][:16]
-        for at in range(0, len(message), 16):
-            tag = xored(tag, message[at : at + 16].ljust(16, b"\0"))
-        return tag
+            tag = hmac.digest(self.keys[key], message, "sha256")[:16]
+        else:
+            tag = self.keys[key][:16]
+            for at in range(0, len(message), 16):
+                tag = xored(tag, message[at : at + 16].ljust(16, b"\0"))
+        return tag[:15] + bytes([tag[15] | 1])
 
     def node_tag(self, level, index, block):
         return self.tag("tree", b"N" + bytes([level]) + index.to_bytes(4, "little") + block)
@@ -196,13 +195,17 @@ class Chip:
         if level < LEVELS:
             slot = 16 * (index % 4)
             wanted = bytes(self.node(level + 1, index // 4)[0][slot : slot + 16])
+        block = bytes(64) if wanted == NO_TAG else self.read_node(level, index, wanted)
+        return self.copies[level].replace(victim, index, block)
+
+    def read_node(self, level, index, wanted):
         block = self.bus.read(("node", level, index))
         if self.node_tag(level, index, block) != wanted:
             raise Stopped(f"tampered node {level} {index}")
-        made = self.last[level, index]
+        made = self.last.get((level, index), block)
         if block != made and self.node_tag(level, index, made) == wanted:
             self.tell(f"collision node {level} {index}", f"made {made.hex()}", f"accepted {block.hex()}", f"tag {wanted.hex()}")
-        return self.copies[level].replace(victim, index, block)
+        return block
 
     def tell(self, first, *lines):
         self.evidence = self.evidence or ["evidence " + first, *lines]
@@ -335,26 +338,32 @@ def table(text):
                     yield program, fill(trigger), action["name"], fill(action["saved"] + trigger + action["done"])
 
 
-def rows_of(text, name, programs):
+def block_of(text, name):
+    """A constant that is a list."""
+    return re.search(r"^const %s: .*?^\];" % name, text, re.MULTILINE | re.DOTALL)[0]
+
+
+def texts_of(text, name):
+    """The texts in it, in order."""
+    return [literal(quoted) for quoted in re.findall(r'b"([^"]*)"', block_of(text, name))]
+
+
+def rows_of(text, name):
     """What the rows of a constant say of runs: program, trigger and action, and what is printed and told."""
-    block = re.search(r"^const %s: .*?^\];" % name, text, re.MULTILINE | re.DOTALL)[0]
-    for row in structs(block, "Lied"):
-        for program in [row["program"]] if row["program"] else programs:
-            for action in row["words"]:
-                yield (program, row["trigger"], action), (row["printed"], row["told"])
+    for row in structs(block_of(text, name), "Lied"):
+        for action in row["words"]:
+            yield (row["program"], row["trigger"], action), (row["printed"], row["told"])
 
 
 def check_table(text, programs, tags):
     plain = {name: run(code) for name, code in programs.items()}
     shown = {row["name"]: (row["printed"], row["told"]) for row in structs(text, "Program")}
     faults = [f"{name} comes to {plain[name]}, and not {shown.get(name)}" for name in programs if plain[name] != shown.get(name)]
-    expected = dict(rows_of(text, "CAUGHT", programs))
-    if tags == "xor":
-        expected.update(rows_of(text, "PASSED", programs))
+    expected = dict(rows_of(text, "CAUGHT"))
     counts = collections.Counter()
     for program, trigger, action, script in table(text):
         came, wanted = run(programs[program], tags, script), expected.pop((program, trigger, action), plain[program])
-        counts["passed" if "evidence" in came[1] else "same" if came == plain[program] else "caught"] += 1
+        counts["same" if came == plain[program] else "caught"] += 1
         if came != wanted:
             faults.append(f"{program}, {tags}, {trigger}{action} comes to {came}, and not {wanted}")
     faults += [f"no such run: {key}" for key in expected]
@@ -362,13 +371,25 @@ def check_table(text, programs, tags):
     return faults
 
 
+def check_nodes(text, code):
+    """The runs of node_attacks.rt: under which tags and by which script, and what is told."""
+    caught, mended = texts_of(text, "CAUGHT"), texts_of(text, "MENDED")
+    runs = [(tags, script, told) for script, told in zip(caught[::2], caught[1::2]) for tags in ("hmac", "xor")]
+    runs += [("hmac", script, run(code)[1]) for script in texts_of(text, "UNSEEN")]
+    for script, told, passed in zip(mended[::3], mended[1::3], mended[2::3]):
+        runs += [("hmac", script, told), ("xor", script, passed)]
+    print(f"{len(runs)} runs of attacks on nodes")
+    came = [(tags, script, run(code, tags, script)[1]) for tags, script, _ in runs]
+    return [f"{was} comes to {is_[2]!r}" for was, is_ in zip(runs, came) if was != is_]
+
+
 def check_cases(text, programs):
     """The runs of attacks.rt by their scripts: what each comes to is to stand in it."""
     forge = constants(text)["FORGE"]
-    over = "write data 5 1: flip data 5 0 ff\n"
     back = "write node 0 0 1: saveall 3\nread node 0 0 1: restoreall 3\n"
     lines = "access 1: swap data 5 data 6\nread data 5 1: flip data 5 0 01\n"
-    runs = [("store_and_print", "hmac", script) for script in (f"access {BOOT + 1}: flip node 4 0 0 01\n", over, back, 500 * lines, 501 * lines)]
+    runs = [("store_and_print", "hmac", script) for script in (*texts_of(text, "NO_LIES"), 500 * lines, 501 * lines)]
+    runs += [("read_untouched", "hmac", back)]
     runs += [("copy_beside", "xor", ""), ("copy_beside", "hmac", forge), ("copy_beside", "xor", forge)]
     faults, told = [], {literal(quoted) for quoted in re.findall(r'b"([^"]*)"', text)}
     for name, tags, script in runs:
@@ -380,12 +401,13 @@ def check_cases(text, programs):
 
 
 def main():
-    attack_table, attacks = (text_of(os.path.join(TESTS, name)) for name in ("attack_table.rt", "attacks.rt"))
-    texts = re.findall(r'^(?:pub )?const (\w+): &\[u8\] = b"([^"]*)";', text_of(TEXTS) + attack_table + attacks, re.MULTILINE)
+    names = ("attack_table.rt", "attacks.rt", "node_attacks.rt")
+    attack_table, attacks, node_attacks = (text_of(os.path.join(TESTS, name)) for name in names)
+    texts = re.findall(r'^(?:pub )?const (\w+): &\[u8\] = b"([^"]*)";', text_of(TEXTS) + attacks, re.MULTILINE)
     codes = {name.lower(): assembled(literal(text)) for name, text in texts if "ecall" in text}
     programs = {name: codes[name] for name in ("store_and_print", "store_twice", "store_200_times")}
     faults = [fault for tags in ("hmac", "xor") for fault in check_table(attack_table, programs, tags)]
-    faults += check_cases(attacks, codes)
+    faults += check_cases(attacks, codes) + check_nodes(node_attacks, codes["store_far_apart"])
     if faults:
         sys.exit("\n".join(faults))
 

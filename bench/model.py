@@ -20,11 +20,6 @@ def memory_size(levels):
     return PAGE * 4**levels
 
 
-def boot_writes(levels):
-    """Boot writes each node once: the first accesses of a run."""
-    return sum(4**level for level in range(levels + 1))
-
-
 # --- the accesses ----------------------------------------------------------------------------------------------------
 
 
@@ -65,7 +60,8 @@ class Memory:
         self.lines = Cache(64)
         self.nodes = [Cache(8 if level else 16) for level in range(levels + 1)]
         self.counters = {}  # the line counter of each line that was written
-        self.total = boot_writes(levels)
+        self.made = set()  # the level and index of each node that was written; another one is zeros, and is not read
+        self.total = 0
         self.count = collections.Counter()  # by kind and level
         self.uses = self.hits = self.overflows = 0
 
@@ -105,9 +101,11 @@ class Memory:
         if is_dirty:
             self.want(level + 1, victim // 4)
             self.access("write", level, victim)
+            self.made.add((level, victim))
             self.nodes[level + 1].use(victim // 4, True)
         self.want(level + 1, index // 4)
-        self.access("read", level, index)
+        if (level, index) in self.made:
+            self.access("read", level, index)
         self.nodes[level].replace(victim, index)
         self.nodes[level].use(index, dirty)
 

@@ -68,8 +68,7 @@ def row(command, levels, machine, taken, is_protected):
     counts, each = "none | | none", ""
     if is_protected:
         accesses = machine.memory.total
-        share = (accesses - model.boot_writes(levels)) / machine.retired
-        counts = f"{accesses:,} | {share:.4f} | {model.aes_blocks(machine.memory.count):,}"
+        counts = f"{accesses:,} | {accesses / machine.retired:.4f} | {model.aes_blocks(machine.memory.count):,}"
         # Where there are fewer accesses than a quarter of the instructions, the time is not the tags'.
         each = f"{1e6 * taken / accesses:.2f}" if 4 * accesses > machine.retired else ""
     print(f"| {command} | {levels} | {memory} | {machine.retired:,} | {taken:.4f} | {counts} | {each} |", flush=True)

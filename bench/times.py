@@ -123,7 +123,7 @@ def kept(bench):
     written = []
     for steps in KEPT_STEPS:
         machine.run(steps)
-        written.append(sum(count for (kind, _), count in machine.memory.count.items() if kind == "write") + model.boot_writes(4))
+        written.append(sum(count for (kind, _), count in machine.memory.count.items() if kind == "write"))
     for chip, program in bench.chips.items():
         peaks = []
         for steps in KEPT_STEPS:
