@@ -6,6 +6,7 @@ pub mod Hexadecimal
 pub mod Geometry
 pub mod Lines
 pub mod Place
+pub mod Tag
 pub mod Segment
 pub mod Image
 pub mod Program

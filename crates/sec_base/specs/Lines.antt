@@ -1,12 +1,12 @@
 -- The lines of a memory.
 use Rattle.std.specs.Prelude.{◌==◌, ℕ, ◌+◌, ◌*◌, zero, suc, List, [], ◌++◌, take, drop, Bool, IsTrue}
 use Rattle.std.specs.List.{list_any}
-use Rattle.sec_base.specs.Geometry.{all_levels, line_count}
+use Rattle.sec_base.specs.Geometry.{all_geometries, line_count}
 use Rattle.sec_base.specs.declared.geometry.TheConstants.{LINE_LEN}
 
 -- the number of lines of some tree's memory
 abbrev pub is_line_count : ℕ → Bool
-is_line_count lines = list_any (λ levels. line_count levels == lines) all_levels
+is_line_count lines = list_any (λ geometry. line_count geometry == lines) all_geometries
 
 -- A number of lines that a memory can have.
 abbrev pub IsLineCount : ℕ → Type 0

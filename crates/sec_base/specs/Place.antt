@@ -1,16 +1,16 @@
 -- The places outside the chip: which there are, which of them are the same, how much each holds, and how it is named.
 use Rattle.std.specs.Prelude.{◌==◌, ℕ, ◌+◌, ◌<◌, List, ◌++◌, Bool, false, ◌&&◌, if◌then◌else◌, replicate, codes}
 use Rattle.std.specs.Fmt.{decimal}
-use Rattle.sec_base.specs.Geometry.{IsNode, line_count}
+use Rattle.sec_base.specs.Geometry.{GeometryView, IsNode, line_count, slot_len}
 use Rattle.sec_base.specs.declared.geometry.TheConstants.{LINE_LEN}
 use Rattle.sec_base.specs.declared.sealed.TheConstants.{TAG_LEN}
 use Rattle.sec_base.specs.declared.place.Place.{Place}
 use Rattle.sec_base.specs.declared.place.Place.TheVariants.{Line, Node}
 
 -- the place is one of the memory's
-abbrev pub IsPlace : ℕ → Place → Type 0
-IsPlace levels (Line line) = line < line_count levels
-IsPlace levels (Node level index) = IsNode levels level index
+abbrev pub IsPlace : GeometryView → Place → Type 0
+IsPlace geometry (Line line) = line < line_count geometry
+IsPlace geometry (Node level index) = IsNode geometry level index
 
 -- how it is named
 abbrev pub place_text : Place → List ℕ
@@ -28,6 +28,11 @@ place_eq (Node level index) (Line line) = false
 abbrev pub place_size : Place → ℕ
 place_size (Line line) = LINE_LEN + TAG_LEN
 place_size (Node level index) = LINE_LEN
+
+-- how many bytes of a place may be other than zeros: of a tag those that a slot keeps
+abbrev pub stored_size : GeometryView → Place → ℕ
+stored_size geometry (Line line) = LINE_LEN + slot_len geometry
+stored_size geometry (Node level index) = LINE_LEN
 
 -- what a place holds that was never written
 abbrev pub zeros_of : Place → List ℕ

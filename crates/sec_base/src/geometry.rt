@@ -1,6 +1,6 @@
 // How large the memory is, and the nodes of the tree above it.
 ghost use Rattle.std.specs.Prelude.{◌≡◌, ◌↔◌, ◌-◌, ◌/◌, ◌*◌, ◌<◌, ◌≤◌, ◌^◌, IsTrue, IsSome, IfSome};
-ghost use Rattle.sec_base.specs.Geometry.{page_count, page_of, line_count, memory_size, IsMemorySize, IsNode, width, arity, parent, slot, child, node_number, node_end};
+ghost use Rattle.sec_base.specs.Geometry.{page_count, page_of, line_count, memory_size, IsMemorySize, IsGeometry, IsNode, most_levels, one, width, arity, slot_len, parent, slot, child, node_number, node_end};
 ghost use Rattle.sec_base.specs.Place.{IsPlace};
 ghost use Rattle.sec_base.specs.Lines.{IsLineCount};
 
@@ -16,77 +16,132 @@ pub const LINES_PER_PAGE: u32 = 64;
 /// The bytes of a page.
 pub const PAGE_LEN: u32 = 4096;
 
-/// The children of a node above level 0.
-pub const ARITY: u32 = 4;
+/// How the nodes above level 0 are laid out: as four slots of 16 bytes, or as eight of 8 bytes.
+#[derive(Clone, Copy, Debug, PartialEq, Eq)]
+pub enum Layout {
+    /// Four children a node, each with 16 bytes of its tag.
+    One,
+    /// Eight children a node, each with the first 8 bytes of its tag.
+    Two,
+}
 
-/// How large the memory is: a tree of 1 to 6 levels above 4 ^ levels pages of 4096 bytes.
+/// The shape of a memory: a tree of so many levels, whose nodes have this layout.
 #[derive(Clone, Copy, Debug, PartialEq, Eq)]
 pub struct Geometry {
+    layout: Layout,
     levels: u8,
 }
 
 impl Model for Geometry {
-    ghost use Rattle.std.specs.Prelude.{ℕ, ◌≤◌};
+    ghost use Rattle.sec_base.specs.Geometry.{GeometryView, IsGeometry};
 
-    ghost Value = { ℕ };
+    ghost Value = { GeometryView };
 
-    ghost view = { λ geometry. geometry.levels };
+    ghost view = { λ geometry. record { layout = geometry.layout; levels = geometry.levels } };
 
-    ghost invariant = { λ geometry. (1 ≤ geometry.levels) × (geometry.levels ≤ 6) };
+    ghost invariant = { λ geometry. IsGeometry (record { layout = geometry.layout; levels = geometry.levels }) };
 
-    ghost inverse = { λ levels. record { levels = levels } };
+    ghost inverse = { λ geometry. record { layout = geometry.layout; levels = geometry.levels } };
 }
 
 impl Geometry {
-    /// The memory of a tree of so many levels, where they are 1 to 6.
+    /// A tree of layout One with so many levels, where they are 1 to 8.
     pub fn new(levels: u8) -> Option<Geometry>
-        ensures some { IsSome result ↔ ((1 ≤ levels) × (levels ≤ 6)) }
-        ensures levels { IfSome result (λ geometry. geometry ≡ levels) }
+        ensures some { IsSome result ↔ ((1 ≤ levels) × (levels ≤ 8)) }
+        ensures geometry { IfSome result (λ geometry. geometry ≡ one levels) }
     {
-        if (1..=6).contains(&levels) {
-            Some(Geometry { levels })
+        Geometry::with(Layout::One, levels)
+    }
+
+    /// A tree of this layout with so many levels, where they are 1 to 8 for One and 1 to 5 for Two.
+    pub fn with(layout: Layout, levels: u8) -> Option<Geometry>
+        ensures some { IsSome result ↔ ((1 ≤ levels) × (levels ≤ most_levels layout)) }
+        ensures geometry { IfSome result (λ geometry. geometry ≡ record { layout = layout; levels = levels }) }
+    {
+        let most = match layout {
+            Layout::One => 8,
+            Layout::Two => 5,
+        };
+        if (1..=most).contains(&levels) {
+            Some(Geometry { layout, levels })
         } else {
             None
         }
     }
 
-    /// The levels of the tree, 1 to 6.
+    /// The layout of the tree's nodes.
+    pub fn layout(&self) -> Layout
+        ensures layout { result ≡ self.now.layout }
+        ensures some { IsGeometry self.now }
+    {
+        self.layout
+    }
+
+    /// The levels of the tree.
     pub fn levels(&self) -> u8
-        ensures levels { result ≡ self.now }
-        ensures least { 1 ≤ self.now }
-        ensures most { self.now ≤ 6 }
+        ensures levels { result ≡ self.now.levels }
+        ensures some { IsGeometry self.now }
     {
         self.levels
     }
 
-    /// The number of pages, 4 ^ levels.
-    #[tactic(auto, using(crate::proofs::Geometries::few_pages, crate::proofs::Geometries::pages_shifted))]
+    /// The number of children of a node above level 0.
+    pub fn arity(&self) -> u32
+        ensures arity { result ≡ arity self.now }
+    {
+        match self.layout {
+            Layout::One => 4,
+            Layout::Two => 8,
+        }
+    }
+
+    /// The bytes of a child's tag that a node holds.
+    pub fn slot_len(&self) -> usize
+        ensures slot_len { result ≡ slot_len self.now }
+    {
+        match self.layout {
+            Layout::One => 16,
+            Layout::Two => 8,
+        }
+    }
+
+    /// How many bits the number of a page has.
+    fn page_bits(&self) -> u32
+        ensures pages { 2 ^ result ≡ page_count self.now }
+        ensures few { result ≤ 16 }
+        ensures some { IsGeometry self.now }
+    {
+        match self.layout {
+            Layout::One => 2 * u32::from(self.levels),
+            Layout::Two => 3 * u32::from(self.levels),
+        }
+    }
+
+    /// The number of pages: one for each node of level 0.
+    #[tactic(auto, using(crate::proofs::Geometries::few_pages))]
     pub fn pages(&self) -> u32
         ensures pages { result ≡ page_count self.now }
-        ensures number { result ≡ 4 ^ self.now }
-        ensures most { result ≤ 4096 }
+        ensures most { result ≤ 65536 }
     {
-        1 << (2 * self.levels)
+        1 << self.page_bits()
     }
 
     /// The number of lines of 64 bytes, 64 a page.
-    #[tactic(auto, using(crate::proofs::Geometries::lines_shifted))]
+    #[tactic(auto, using(crate::proofs::Geometries::few_pages))]
     pub fn lines(&self) -> u32
         ensures lines { result ≡ line_count self.now }
-        ensures number { result ≡ 64 * 4 ^ self.now }
         ensures some_memory { IsLineCount result }
     {
-        LINES_PER_PAGE << (2 * self.levels)
+        LINES_PER_PAGE << self.page_bits()
     }
 
     /// The memory's size in bytes.
-    #[tactic(auto, using(crate::proofs::Geometries::size_shifted))]
+    #[tactic(auto, using(crate::proofs::Geometries::few_pages))]
     pub fn size(&self) -> u32
         ensures size { result ≡ memory_size self.now }
-        ensures number { result ≡ 4096 * 4 ^ self.now }
         ensures some_size { IsMemorySize result }
     {
-        PAGE_LEN << (2 * self.levels)
+        PAGE_LEN << self.page_bits()
     }
 
     /// Whether the place is one of this memory.
@@ -100,34 +155,25 @@ impl Geometry {
     }
 
     /// The number of nodes of a level.
-    #[tactic(auto, using(crate::proofs::Geometries::few_pages))]
     pub fn width(&self, level: u8) -> u32
-        requires { level ≤ self.now }
+        requires { level ≤ self.now.levels }
         ensures width { result ≡ width self.now level }
-        ensures most { result ≤ 4096 }
+        ensures most { result ≤ 65536 }
     {
-        ARITY.pow(u32::from(self.levels - level))
-    }
-
-    /// The number of children of a node above level 0.
-    pub fn arity(&self) -> u32
-        ensures arity { result ≡ arity self.now }
-        ensures number { result ≡ 4 }
-    {
-        ARITY
+        self.arity().pow(u32::from(self.levels - level))
     }
 
     /// The level and the index of a node's parent. The node of the highest level has none.
     pub fn parent(&self, level: u8, index: u32) -> (u8, u32)
         requires node { IsNode self.now level index }
-        requires below { level < self.now }
+        requires below { level < self.now.levels }
 
         ensures parent { result ≡ parent self.now level index }
         ensures inside { IsNode self.now result.0 result.1 }
     {
         let is_below = level < self.levels;
         prove!(is_below);
-        (level + 1, index / ARITY)
+        (level + 1, index / self.arity())
     }
 
     /// Which of its parent's children a node is, from 0 on.
@@ -135,7 +181,7 @@ impl Geometry {
         ensures slot { result ≡ slot self.now index }
         ensures inside { result < arity self.now }
     {
-        index % ARITY
+        index % self.arity()
     }
 
     /// The index of a child of a node, by its slot. The child is one level below.
@@ -150,18 +196,18 @@ impl Geometry {
     {
         let is_inside = level <= self.levels;
         prove!(is_inside);
-        ARITY * index + slot
+        self.arity() * index + slot
     }
 
     /// The length of a list that has a place for each node of the tree.
     pub fn node_end(&self) -> u32
         ensures end { result ≡ node_end self.now }
-        ensures most { result ≤ 8192 }
+        ensures most { result ≤ 131072 }
     {
         2 * self.pages()
     }
 
-    /// Where a node stands in such a list: the nodes of level k stand from 4 ^ (levels - k) on.
+    /// Where a node stands in such a list: the nodes of a level stand from its number of nodes on.
     pub fn node_number(&self, level: u8, index: u32) -> u32
         requires { IsNode self.now level index }
 

@@ -29,7 +29,7 @@ pub use counter::Counter;
 pub use ending::{Cause, Ending};
 pub use evidence::Evidence;
 pub use files::{Files, ReadStop};
-pub use geometry::{ARITY, Geometry, LINE_LEN, LINES_PER_PAGE, PAGE_LEN, page_of};
+pub use geometry::{Geometry, LINE_LEN, LINES_PER_PAGE, Layout, PAGE_LEN, page_of};
 pub use image::{Image, is_entry};
 pub use line_store::LineStore;
 pub use memory_files::MemoryFiles;

@@ -2,4 +2,6 @@
 #![tactic(auto)]
 
 #[cfg(test)]
+mod geometry;
+#[cfg(test)]
 mod tests;

@@ -1,91 +1,20 @@
-// Each public call once with ample memory. The numbers of the geometry are those of Python: 4 ** levels pages of
-// 4096 bytes, divmod(index, 4) for a parent and a slot, divmod(line, 64) for a page. The texts of endings are those of
-// docs/FORMATS.md, with hexadecimal digits of Python's format(pc, '08x').
+// Each public call once with ample memory, but those of a geometry. The page of a line is that of Python's
+// divmod(line, 64). The texts of endings are those of docs/FORMATS.md, with hexadecimal digits of Python's
+// format(pc, '08x').
 ghost use Rattle.std.specs.Prelude.{IfOk, replicate, refl};
 ghost use Rattle.sec_base.specs.Image.{IsImage};
 
 use sec_base::{
-    Bytes, Cause, Counter, Ending, Files, Geometry, Image, MemoryFiles, MemorySink, Message,
-    Messages, Pads, Place, ReadStop, Segment, Segments, Sink, SinkStop, Tagger, Width,
-    data_message, is_entry, node_message, page_of, put, write_all,
+    Bytes, Cause, Counter, Ending, Files, Image, MemoryFiles, MemorySink, Message, Messages, Pads,
+    Place, ReadStop, Segment, Segments, Sink, SinkStop, Tagger, Width, data_message, is_entry,
+    node_message, page_of, put, write_all,
 };
 use std::alloc::{AllocError, Global};
 use std::test::Fail;
 
 #[test]
-fn trees_have_one_to_six_levels(rt: HostRuntime) {
-    for levels in 0..8 {
-        assert_eq!(rt;
-            Geometry::new(levels).is_some(),
-            levels >= 1 && levels <= 6,
-            "at {levels}"
-        );
-    }
-}
-
-#[test]
-fn sizes_grow_by_four(rt: HostRuntime) -> Result<(), Fail> {
-    let rows = [
-        (1, 4, 256, 16384),
-        (2, 16, 1024, 65536),
-        (3, 64, 4096, 262144),
-        (4, 256, 16384, 1048576),
-        (5, 1024, 65536, 4194304),
-        (6, 4096, 262144, 16777216),
-    ];
-    for (levels, pages, lines, size) in rows {
-        let geometry = Geometry::new(levels).ok_or("no geometry")?;
-        assert_eq!(rt; geometry.levels(), levels);
-        assert_eq!(rt; geometry.pages(), pages, "pages at {levels}");
-        assert_eq!(rt; geometry.lines(), lines, "lines at {levels}");
-        assert_eq!(rt; geometry.size(), size, "size at {levels}");
-    }
-    Ok(())
-}
-
-#[test]
-fn places_end_at_the_borders(rt: HostRuntime) -> Result<(), Fail> {
-    let rows = [
-        (1, Place::Line(255), true),
-        (1, Place::Line(256), false),
-        (1, Place::Node { level: 0, index: 3 }, true),
-        (1, Place::Node { level: 0, index: 4 }, false),
-        (3, Place::Line(4095), true),
-        (3, Place::Line(4096), false),
-        (3, Place::Node { level: 2, index: 3 }, true),
-        (3, Place::Node { level: 2, index: 4 }, false),
-        (6, Place::Line(262143), true),
-        (6, Place::Line(262144), false),
-        (
-            6,
-            Place::Node {
-                level: 0,
-                index: 4095,
-            },
-            true,
-        ),
-        (
-            6,
-            Place::Node {
-                level: 0,
-                index: 4096,
-            },
-            false,
-        ),
-        (6, Place::Node { level: 6, index: 0 }, true),
-        (6, Place::Node { level: 6, index: 1 }, false),
-        (6, Place::Node { level: 7, index: 0 }, false),
-    ];
-    for (levels, place, inside) in rows {
-        let geometry = Geometry::new(levels).ok_or("no geometry")?;
-        assert_eq!(rt; geometry.contains(place), inside, "{place:?} at {levels}");
-    }
-    Ok(())
-}
-
-#[test]
 fn a_line_stands_in_its_page(rt: HostRuntime) {
-    for (line, page) in [(0, 0), (63, 0), (64, 1), (16383, 255), (262143, 4095)] {
+    for (line, page) in [(0, 0), (63, 0), (64, 1), (16383, 255), (4194303, 65535)] {
         assert_eq!(rt; page_of(line), page, "at {line}");
     }
 }
@@ -274,34 +203,6 @@ fn files_answer_as_they_are(rt: HostRuntime) -> Result<(), Fail> {
             _ => assert!(rt; false, "{name} within {limit}"),
         }
     }
-    Ok(())
-}
-
-#[test]
-fn nodes_have_parents_and_children(rt: HostRuntime) -> Result<(), Fail> {
-    let geometry = Geometry::new(2).ok_or("no geometry")?;
-    assert_eq!(rt; geometry.arity(), 4);
-    assert_eq!(rt; geometry.width(0), 16);
-    assert_eq!(rt; geometry.width(1), 4);
-    assert_eq!(rt; geometry.width(2), 1);
-    assert_eq!(rt; geometry.parent(0, 13), (1, 3));
-    assert_eq!(rt; geometry.slot(13), 1);
-    assert_eq!(rt; geometry.child(1, 3, 1), 13);
-    assert_eq!(rt; geometry.parent(1, 3), (2, 0));
-    assert_eq!(rt; geometry.slot(3), 3);
-    assert_eq!(rt; geometry.child(2, 0, 3), 3);
-    Ok(())
-}
-
-#[test]
-fn nodes_stand_apart_in_one_list(rt: HostRuntime) -> Result<(), Fail> {
-    let geometry = Geometry::new(2).ok_or("no geometry")?;
-    assert_eq!(rt; geometry.node_end(), 32);
-    assert_eq!(rt; geometry.node_number(2, 0), 1);
-    assert_eq!(rt; geometry.node_number(1, 0), 4);
-    assert_eq!(rt; geometry.node_number(1, 3), 7);
-    assert_eq!(rt; geometry.node_number(0, 0), 16);
-    assert_eq!(rt; geometry.node_number(0, 15), 31);
     Ok(())
 }
 
