@@ -9,7 +9,7 @@ use Rattle.sec_base.specs.declared.sealed.Sealed.{Sealed}
 use Rattle.sec_base.specs.declared.message.Message.{Message}
 use Rattle.sec_base.specs.declared.message.Message.TheVariants.{Line, Node}
 use Rattle.sec_base.specs.declared.evidence.Evidence.{Evidence}
-use Rattle.sec_base.specs.Geometry.{IsNode, line_count, node_end, node_number}
+use Rattle.sec_base.specs.Geometry.{GeometryView, IsNode, line_count, node_end, node_number}
 use Rattle.sec_base.specs.LastMessage.{data_part, node_part}
 use Rattle.sec_base.proofs.Numbers.{number_inside, numbers_apart}
 use Rattle.tag_engine.specs.TagEngine.{TagEngineView, new_engine, after_check_data, after_check_node, collision_of, forgery_of}
@@ -24,10 +24,10 @@ none_at places count at is below =
     let none : Option ℕ = None in
     ap (λ (xs : List (Option ℕ)). slice_index_or xs at none) is ∙ get_or-replicate count at none none below
 
-pub kept_new : {T : Type 0} (tag_of : Message → List ℕ) (lines nodes : List (Option ℕ)) (capacity lines_long nodes_long levels : ℕ) (tagger : T) →
-    lines ≡ replicate lines_long None → lines_long ≡ line_count levels → nodes ≡ replicate nodes_long None → nodes_long ≡ node_end levels →
-    IsTagEngine tag_of lines nodes capacity (new_engine tagger levels)
-kept_new tag_of lines nodes capacity lines_long nodes_long levels tagger are all_lines node_is all_nodes =
+pub kept_new : {T : Type 0} (tag_of : Message → List ℕ) (lines nodes : List (Option ℕ)) (capacity lines_long nodes_long : ℕ) (geometry : GeometryView) (tagger : T) →
+    lines ≡ replicate lines_long None → lines_long ≡ line_count geometry → nodes ≡ replicate nodes_long None → nodes_long ≡ node_end geometry →
+    IsTagEngine tag_of lines nodes capacity (new_engine tagger geometry)
+kept_new tag_of lines nodes capacity lines_long nodes_long geometry tagger are all_lines node_is all_nodes =
     let none : Option ℕ = None in
     record {
       places = record {
@@ -35,8 +35,8 @@ kept_new tag_of lines nodes capacity lines_long nodes_long levels tagger are all
         last_data = λ line inside. none_at lines lines_long line are (omega (arith, inside, all_lines)) ∙ sym (last_place-nothing (data_part line));
         all_nodes = ap length node_is ∙ length-replicate nodes_long none ∙ all_nodes;
         last_node = λ level index node.
-            let inside = number_inside levels level index node in
-            none_at nodes nodes_long (node_number levels level index) node_is (omega (arith, inside, all_nodes))
+            let inside = number_inside geometry level index node in
+            none_at nodes nodes_long (node_number geometry level index) node_is (omega (arith, inside, all_nodes))
             ∙ sym (last_place-nothing (node_part level index));
       };
       room = omega arith;
@@ -65,16 +65,16 @@ place_after places places' made line at counter cipher inside here stored lines 
 -- a message of a data line was made
 pub kept_made : {T : Type 0} (tag_of : Message → List ℕ) (lines lines' nodes : List (Option ℕ)) (capacity capacity' : ℕ) (engine : TagEngineView T)
     (line at room : ℕ) (counter : Counter) (cipher : List ℕ) (made : List Message) →
-    IsTagEngine tag_of lines nodes capacity engine → line < line_count engine.levels → at ≡ length engine.made →
+    IsTagEngine tag_of lines nodes capacity engine → line < line_count engine.geometry → at ≡ length engine.made →
     lines' ≡ slice_set lines line (Some at) → made ≡ engine.made ++ Line line counter cipher ∷ [] → room ≡ engine.room - 1 →
     length engine.made + 1 + (engine.room - 1) ≤ capacity' →
-    IsTagEngine tag_of lines' nodes capacity' (record { tagger = engine.tagger; levels = engine.levels; made = made; evidence = engine.evidence; room = room })
+    IsTagEngine tag_of lines' nodes capacity' (record { tagger = engine.tagger; geometry = engine.geometry; made = made; evidence = engine.evidence; room = room })
 kept_made tag_of lines lines' nodes capacity capacity' engine line at room counter cipher made kept inside here stored grown left enough =
     rw (grown, left) (record {
       places = record {
         all_lines = ap length stored ∙ length-set lines line (Some at) ∙ kept.places.all_lines;
         last_data = place_after lines lines' engine.made line at counter cipher (omega (arith, kept.places.all_lines)) here stored
-            (line_count engine.levels) kept.places.last_data;
+            (line_count engine.geometry) kept.places.last_data;
         all_nodes = kept.places.all_nodes;
         last_node = λ level index node. kept.places.last_node level index node ∙ sym (last_place-node level index line counter cipher engine.made);
       };
@@ -82,49 +82,49 @@ kept_made tag_of lines lines' nodes capacity capacity' engine line at room count
       evidence = still_genuine tag_of engine.made (Line line counter cipher ∷ []) engine.evidence kept.evidence;
     })
 
-node_place_after : (places places' : List (Option ℕ)) (made : List Message) (levels level index at : ℕ) (block : List ℕ) →
-    IsNode levels level index → length places ≡ node_end levels → at ≡ length made →
-    places' ≡ slice_set places (node_number levels level index) (Some at) →
-    ((other place : ℕ) → IsNode levels other place → slice_index_or places (node_number levels other place) None ≡ last_place (node_part other place) made) →
-    (other place : ℕ) → IsNode levels other place →
-    slice_index_or places' (node_number levels other place) None ≡ last_place (node_part other place) (made ++ Node level index block ∷ [])
-node_place_after places places' made levels level index at block inside all here stored was other place node =
+node_place_after : (places places' : List (Option ℕ)) (made : List Message) (geometry : GeometryView) (level index at : ℕ) (block : List ℕ) →
+    IsNode geometry level index → length places ≡ node_end geometry → at ≡ length made →
+    places' ≡ slice_set places (node_number geometry level index) (Some at) →
+    ((other place : ℕ) → IsNode geometry other place → slice_index_or places (node_number geometry other place) None ≡ last_place (node_part other place) made) →
+    (other place : ℕ) → IsNode geometry other place →
+    slice_index_or places' (node_number geometry other place) None ≡ last_place (node_part other place) (made ++ Node level index block ∷ [])
+node_place_after places places' made geometry level index at block inside all here stored was other place node =
     let none : Option ℕ = None in
-    let within : node_number levels level index < length places = omega (arith, number_inside levels level index inside, all) in
-    let moved : slice_index_or places' (node_number levels other place) none
-    ≡ slice_index_or (slice_set places (node_number levels level index) (Some at)) (node_number levels other place) none =
-    ap (λ (xs : List (Option ℕ)). slice_index_or xs (node_number levels other place) none) stored in
-    elim (cases_eq (node_number levels other place) (node_number levels level index)) [
+    let within : node_number geometry level index < length places = omega (arith, number_inside geometry level index inside, all) in
+    let moved : slice_index_or places' (node_number geometry other place) none
+    ≡ slice_index_or (slice_set places (node_number geometry level index) (Some at)) (node_number geometry other place) none =
+    ap (λ (xs : List (Option ℕ)). slice_index_or xs (node_number geometry other place) none) stored in
+    elim (cases_eq (node_number geometry other place) (node_number geometry level index)) [
       | inl same ↦
-          let both = numbers_apart levels other place level index node inside same in
+          let both = numbers_apart geometry other place level index node inside same in
           moved
-          ∙ get_or-set_at places (node_number levels level index) (node_number levels other place) (Some at) none same within
+          ∙ get_or-set_at places (node_number geometry level index) (node_number geometry other place) (Some at) none same within
           ∙ ap Some here
           ∙ sym (ap (λ (l : ℕ). last_place (node_part l place) (made ++ Node level index block ∷ [])) both.0
           ∙ ap (λ (i : ℕ). last_place (node_part level i) (made ++ Node level index block ∷ [])) both.1
           ∙ last_place-same_node level index block made)
       | inr differs ↦ moved
-          ∙ get_or-set_other places (node_number levels level index) (node_number levels other place) (Some at) none differs
+          ∙ get_or-set_other places (node_number geometry level index) (node_number geometry other place) (Some at) none differs
           ∙ was other place node
           ∙ sym (last_place-other_node other place level index block made
-          (λ a b. differs (ap (λ (l : ℕ). node_number levels l place) (sym a) ∙ ap (λ (i : ℕ). node_number levels level i) (sym b))))
+          (λ a b. differs (ap (λ (l : ℕ). node_number geometry l place) (sym a) ∙ ap (λ (i : ℕ). node_number geometry level i) (sym b))))
     ]
 
 -- a message of a node was made
 pub kept_made_node : {T : Type 0} (tag_of : Message → List ℕ) (lines nodes nodes' : List (Option ℕ)) (capacity capacity' : ℕ) (engine : TagEngineView T)
     (level index at number room : ℕ) (block : List ℕ) (made : List Message) →
-    IsTagEngine tag_of lines nodes capacity engine → IsNode engine.levels level index → at ≡ length engine.made →
-    number ≡ node_number engine.levels level index →
+    IsTagEngine tag_of lines nodes capacity engine → IsNode engine.geometry level index → at ≡ length engine.made →
+    number ≡ node_number engine.geometry level index →
     nodes' ≡ slice_set nodes number (Some at) → made ≡ engine.made ++ Node level index block ∷ [] → room ≡ engine.room - 1 →
     length engine.made + 1 + (engine.room - 1) ≤ capacity' →
-    IsTagEngine tag_of lines nodes' capacity' (record { tagger = engine.tagger; levels = engine.levels; made = made; evidence = engine.evidence; room = room })
+    IsTagEngine tag_of lines nodes' capacity' (record { tagger = engine.tagger; geometry = engine.geometry; made = made; evidence = engine.evidence; room = room })
 kept_made_node tag_of lines nodes nodes' capacity capacity' engine level index at number room block made kept inside here is stored grown left enough =
     rw (grown, left) (record {
       places = record {
         all_lines = kept.places.all_lines;
         last_data = λ line below. kept.places.last_data line below ∙ sym (last_place-line line level index block engine.made);
         all_nodes = ap length stored ∙ length-set nodes number (Some at) ∙ kept.places.all_nodes;
-        last_node = node_place_after nodes nodes' engine.made engine.levels level index at block inside kept.places.all_nodes here
+        last_node = node_place_after nodes nodes' engine.made engine.geometry level index at block inside kept.places.all_nodes here
             (stored ∙ ap (λ (n : ℕ). slice_set nodes n (Some at)) is) kept.places.last_node;
       };
       room = omega (arith, length-append engine.made (Node level index block ∷ []));
@@ -165,7 +165,7 @@ known_before {T} seen engine made line counter sealed shown same here is none =
 -- the place that was read is that of a message
 pub place_within : {T : Type 0} (tag_of : Message → List ℕ) (lines nodes : List (Option ℕ)) (capacity : ℕ) (engine : TagEngineView T)
     (line : ℕ) (place : Option ℕ) (made : List Message) →
-    IsTagEngine tag_of lines nodes capacity engine → line < line_count engine.levels → place ≡ slice_index_or lines line place → made ≡ engine.made →
+    IsTagEngine tag_of lines nodes capacity engine → line < line_count engine.geometry → place ≡ slice_index_or lines line place → made ≡ engine.made →
     IfSome place (λ at. at < length made)
 place_within tag_of lines nodes capacity engine line place made kept inside read same =
     let below : line < length lines = omega (arith, kept.places.all_lines) in
@@ -177,14 +177,14 @@ place_within tag_of lines nodes capacity engine line place made kept inside read
 -- the place that was read is that of the node's last message
 pub node_place : {T : Type 0} (tag_of : Message → List ℕ) (lines nodes : List (Option ℕ)) (capacity : ℕ) (engine : TagEngineView T)
     (level index number : ℕ) (place : Option ℕ) →
-    IsTagEngine tag_of lines nodes capacity engine → IsNode engine.levels level index → number ≡ node_number engine.levels level index →
+    IsTagEngine tag_of lines nodes capacity engine → IsNode engine.geometry level index → number ≡ node_number engine.geometry level index →
     place ≡ slice_index_or nodes number place → place ≡ last_place (node_part level index) engine.made
 node_place {T} tag_of lines nodes capacity engine level index number place kept inside is read =
-    let here : place ≡ slice_index_or nodes (node_number engine.levels level index) place =
+    let here : place ≡ slice_index_or nodes (node_number engine.geometry level index) place =
     read ∙ ap (λ (n : ℕ). slice_index_or nodes n place) is in
-    let below : node_number engine.levels level index < length nodes =
-    omega (arith, number_inside engine.levels level index inside, kept.places.all_nodes) in
-    get_or_read nodes (node_number engine.levels level index) place below here None ∙ kept.places.last_node level index inside
+    let below : node_number engine.geometry level index < length nodes =
+    omega (arith, number_inside engine.geometry level index inside, kept.places.all_nodes) in
+    get_or_read nodes (node_number engine.geometry level index) place below here None ∙ kept.places.last_node level index inside
 
 -- a check passed, and nothing had been shown before
 pub kept_collision : {T : Type 0} (tag_of : Message → List ℕ) (lines nodes : List (Option ℕ)) (capacity : ℕ) (engine : TagEngineView T)

@@ -1,3 +1,4 @@
 pub mod Tag
 pub mod TagEngine
 pub mod Invariant
+pub mod LastPlace

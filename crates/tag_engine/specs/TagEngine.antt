@@ -11,23 +11,24 @@ use Rattle.sec_base.specs.declared.evidence.Evidence.TheVariants.{Forgery, Colli
 use Rattle.sec_base.specs.LastMessage.{last_at, node_part}
 use Rattle.sec_base.specs.Message.{has_message}
 use Rattle.tag_engine.specs.Tag.{engine_tag}
+use Rattle.sec_base.specs.Geometry.{GeometryView}
 
--- the tagger, the levels of the memory's tree, the messages that were tagged, in order, the first evidence that a check
+-- the tagger, the memory's geometry, the messages that were tagged, in order, the first evidence that a check
 -- showed, and how many messages more are sure to find memory
 pub record TagEngineView (T : Type 0) : Type 0 where
   pub tagger : T
-  pub levels : ℕ
+  pub geometry : GeometryView
   pub made : List Message
   pub evidence : Option Evidence
   pub room : ℕ
 
 -- the tags that it gives, by those of its tagger
 abbrev pub tags_of : {T : Type 0} → (T → List ℕ → List ℕ) → (T → List ℕ → List ℕ) → TagEngineView T → Message → List ℕ
-tags_of data_tag_of node_tag_of engine = engine_tag (data_tag_of engine.tagger) (node_tag_of engine.tagger) engine.levels
+tags_of data_tag_of node_tag_of engine = engine_tag (data_tag_of engine.tagger) (node_tag_of engine.tagger) engine.geometry
 
 -- nothing was tagged
-abbrev pub new_engine : {T : Type 0} → T → ℕ → TagEngineView T
-new_engine tagger levels = record { tagger = tagger; levels = levels; made = []; evidence = None; room = 0 }
+abbrev pub new_engine : {T : Type 0} → T → GeometryView → TagEngineView T
+new_engine tagger geometry = record { tagger = tagger; geometry = geometry; made = []; evidence = None; room = 0 }
 
 -- the next n messages are sure to find memory
 abbrev pub with_room : {T : Type 0} → ℕ → TagEngineView T → TagEngineView T

@@ -3,6 +3,7 @@
 //! out only where the engine is given up, so a chip that uses it can't decide by them.
 #![tactic(auto)]
 
+mod last_place;
 mod tag_engine;
 
 pub use tag_engine::TagEngine;

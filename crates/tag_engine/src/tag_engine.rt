@@ -7,9 +7,10 @@ ghost use Rattle.sec_base.specs.declared.message.Message.TheVariants.{Line, Node
 ghost use Rattle.tag_engine.specs.Tag.{marked};
 ghost use Rattle.tag_engine.specs.TagEngine.{after_check_data, after_check_node, after_make, collision_of, forgery_of, new_engine, tags_of, with_room};
 
+use crate::last_place::LastPlace;
 use sec_base::{
-    Counter, Evidence, Geometry, Message, Messages, NoMemory, Sealed, Tagger, data_message,
-    node_message,
+    Counter, Evidence, Geometry, Layout, Message, Messages, NoMemory, Sealed, Tagger, data_message,
+    node_message, put,
 };
 use std::alloc::Global;
 use std::marker::Model;
@@ -21,8 +22,8 @@ pub struct TagEngine<T: Tagger> {
     geometry: Geometry,
     made: Vec<Message>,
     // Where the last message of each line stands, and that of each node, by the node's number.
-    line_places: Vec<Option<usize>>,
-    node_places: Vec<Option<usize>>,
+    line_places: Vec<LastPlace>,
+    node_places: Vec<LastPlace>,
     evidence: Option<Evidence>,
     room: u64,
 }
@@ -50,8 +51,8 @@ impl<T: Tagger> TagEngine<T> {
             tagger,
             geometry,
             made: Vec::new(alloc),
-            line_places: vec![in alloc; None; geometry.lines() as usize]?,
-            node_places: vec![in alloc; None; geometry.node_end() as usize]?,
+            line_places: vec![in alloc; LastPlace::none(); geometry.lines() as usize]?,
+            node_places: vec![in alloc; LastPlace::none(); geometry.node_end() as usize]?,
             evidence: None,
             room: 0,
         })
@@ -74,7 +75,7 @@ impl<T: Tagger> TagEngine<T> {
         counter: Counter,
         cipher: &[u8; 64],
     ) -> Result<[u8; 16], NoMemory>
-        requires inside { line < line_count self.old.levels }
+        requires inside { line < line_count self.old.geometry }
 
         ensures tag { IfOk result (λ tag.
             tag ≡ tags_of T.data_tag_of T.node_tag_of self.old (Line line counter cipher.now)) }
@@ -89,9 +90,8 @@ impl<T: Tagger> TagEngine<T> {
             counter,
             cipher: *cipher,
         };
-        let at = self.made.len();
         self.made.push(message)?;
-        self.line_places[line as usize] = Some(at);
+        self.line_places[line as usize] = LastPlace::last_of(self.made.len());
         self.room = self.room.saturating_sub(1);
         Ok(tag)
     }
@@ -103,7 +103,7 @@ impl<T: Tagger> TagEngine<T> {
         index: u32,
         block: &[u8; 64],
     ) -> Result<[u8; 16], NoMemory>
-        requires inside { IsNode self.old.levels level index }
+        requires inside { IsNode self.old.geometry level index }
 
         ensures tag { IfOk result (λ tag.
             tag ≡ tags_of T.data_tag_of T.node_tag_of self.old (Node level index block.now)) }
@@ -118,10 +118,9 @@ impl<T: Tagger> TagEngine<T> {
             index,
             block: *block,
         };
-        let at = self.made.len();
         let number = self.geometry.node_number(level, index);
         self.made.push(message)?;
-        self.node_places[number as usize] = Some(at);
+        self.node_places[number as usize] = LastPlace::last_of(self.made.len());
         self.room = self.room.saturating_sub(1);
         Ok(tag)
     }
@@ -129,7 +128,7 @@ impl<T: Tagger> TagEngine<T> {
     /// Whether a data line has the tag of its message. The first that has it and was never tagged is kept. A check
     /// takes no memory.
     pub fn check_data(&mut self, line: u32, counter: Counter, sealed: &Sealed) -> bool
-        requires inside { line < line_count self.old.levels }
+        requires inside { line < line_count self.old.geometry }
 
         ensures passes { IsTrue result ↔ (sealed.now.tag
             ≡ tags_of T.data_tag_of T.node_tag_of self.old (Line line counter sealed.now.cipher)) }
@@ -147,7 +146,7 @@ impl<T: Tagger> TagEngine<T> {
         if self.evidence.is_none() {
             self.evidence = forgery(
                 &self.made,
-                self.line_places[line as usize],
+                self.line_places[line as usize].get(),
                 line,
                 counter,
                 sealed,
@@ -159,7 +158,7 @@ impl<T: Tagger> TagEngine<T> {
     /// Whether the message of a node has this tag. The first block that has the tag of the node's last one, and is
     /// another, is kept. A check takes no memory.
     pub fn check_node(&mut self, level: u8, index: u32, block: &[u8; 64], tag: &[u8; 16]) -> bool
-        requires inside { IsNode self.old.levels level index }
+        requires inside { IsNode self.old.geometry level index }
 
         ensures passes { IsTrue result ↔ (tag.now
             ≡ tags_of T.data_tag_of T.node_tag_of self.old (Node level index block.now)) }
@@ -207,7 +206,8 @@ impl<T: Tagger> TagEngine<T> {
     fn line_tag(&self, line: u32, counter: Counter, cipher: &[u8; 64]) -> [u8; 16]
         ensures { result ≡ tags_of T.data_tag_of T.node_tag_of self.now (Line line counter cipher.now) }
     {
-        mark(self.tagger.data_tag(&data_message(line, counter, cipher)))
+        let bytes = self.tagger.data_tag(&data_message(line, counter, cipher));
+        mark(self.geometry.layout(), bytes)
     }
 
     // The tag of a node's message.
@@ -215,12 +215,13 @@ impl<T: Tagger> TagEngine<T> {
     fn node_tag(&self, level: u8, index: u32, block: &[u8; 64]) -> [u8; 16]
         ensures { result ≡ tags_of T.data_tag_of T.node_tag_of self.now (Node level index block.now) }
     {
-        mark(self.tagger.node_tag(&node_message(level, index, block)))
+        let bytes = self.tagger.node_tag(&node_message(level, index, block));
+        mark(self.geometry.layout(), bytes)
     }
 
     // What a check shows that a node passed: that its block is not the last one, and has the same tag.
     fn collision(&self, level: u8, index: u32, block: &[u8; 64], tag: &[u8; 16]) -> Option<Evidence>
-        requires { IsNode self.now.levels level index }
+        requires { IsNode self.now.geometry level index }
         ensures { result ≡ collision_of (tags_of T.data_tag_of T.node_tag_of self.now) self.now.made
             level index block.now tag.now true }
     {
@@ -242,10 +243,10 @@ impl<T: Tagger> TagEngine<T> {
 
     // Where the last message of a node stands, and its block.
     fn last_block(&self, level: u8, index: u32) -> Option<(usize, [u8; 64])>
-        requires { IsNode self.now.levels level index }
+        requires { IsNode self.now.geometry level index }
         ensures { result ≡ last_at (node_part level index) self.now.made }
     {
-        let at = self.node_places[self.geometry.node_number(level, index) as usize]?;
+        let at = self.node_places[self.geometry.node_number(level, index) as usize].get()?;
         match self.made[at] {
             Message::Node { block, .. } => Some((at, block)),
             Message::Line { .. } => None,
@@ -253,13 +254,18 @@ impl<T: Tagger> TagEngine<T> {
     }
 }
 
-// A tagger's bytes with the lowest bit of the last one set, so that no tag is zeros.
-#[tactic(auto, using(crate::proofs::Marks::is_marked))]
-fn mark(bytes: [u8; 16]) -> [u8; 16]
-    ensures { result ≡ marked bytes }
+// A tagger's bytes as the layout keeps them, with a bit set, so that no tag is zeros.
+fn mark(layout: Layout, bytes: [u8; 16]) -> [u8; 16]
+    ensures { result ≡ marked layout bytes }
 {
     let mut tag = bytes;
-    tag[15] |= 1;
+    match layout {
+        Layout::One => tag[15] |= 1,
+        Layout::Two => {
+            tag[7] |= 1;
+            put(&mut tag, 8, &[0; 8]);
+        }
+    }
     tag
 }
 

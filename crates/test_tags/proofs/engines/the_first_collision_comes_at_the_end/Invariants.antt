@@ -1,5 +1,6 @@
+use Rattle.sec_base.specs.Geometry.{one}
 use Rattle.std.proofs.Common.{◌≡◌}
 use Rattle.test_tags.proofs.engines.the_first_collision_comes_at_the_end.Given as goal
 
 abbrev pub invariant-loop-case : goal.invariant-loop-case
-invariant-loop-case g l = l.engine.levels ≡ 2
+invariant-loop-case g l = l.engine.geometry ≡ one 2

@@ -1,4 +1,4 @@
-use Rattle.std.proofs.Common.{◌≡◌, rules}
+use Rattle.std.proofs.Common.{◌≡◌, ◌<◌, ℕ, Option, IfSome, length, rules, subst, sym}
 use Rattle.sec_base.specs.declared.message.Message.TheVariants.{Line}
 use Rattle.tag_engine.specs.Invariant.{engine_view}
 use Rattle.tag_engine.specs.TagEngine.{tags_of}
@@ -10,8 +10,9 @@ returns-then-ne-clause-state g c = failed_check c.args.self.now c.args.line c.ar
 
 pub forgery-self-inside-requires : goal.forgery-self-inside-requires
 forgery-self-inside-requires g c =
-    place_within _ _ _ _ _ c.args.line c.index.result.now c.deref.result.now
-    c.self.invariant (rw (← c.self.view_is) at c.requires.inside) c.index.ensures c.deref.ensures.value
+    subst (λ (o : Option ℕ). IfSome o (λ at. at < length c.deref.result.now)) (sym c.get.ensures)
+    (place_within _ _ _ _ _ c.args.line c.index.result.now c.deref.result.now
+    c.self.invariant (rw (← c.self.view_is) at c.requires.inside) c.index.ensures c.deref.ensures.value)
 
 pub invariant_of-self : goal.invariant_of-self
 invariant_of-self g c =
