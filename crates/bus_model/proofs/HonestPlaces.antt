@@ -1,171 +1,131 @@
 -- What an honest bus stands for, where one of its places changes.
-use Rattle.std.proofs.Common.{◌≡◌, ℕ, ◌+◌, ◌-◌, ◌^◌, ◌<◌, Bool, true, false, cond, nat_eq, nat_lt, ◌&&◌, List, length, slice_index_or, slice_set, refl, ap, ◌∙◌, sym, inl, inr, arith}
+use Rattle.std.proofs.Common.{◌≡◌, ℕ, ◌+◌, ◌<◌, Bool, true, false, cond, nat_eq, nat_lt, ◌&&◌, List, length, slice_index, slice_set, refl, ap, ◌∙◌, inl, inr, arith}
 use Rattle.std.specs.Bool.{Decides}
 use Rattle.std.proofs.lemmas.Bool.Decides.{Decides-eqb, Decides-ltb, Decides-and, Decides-like, eqb_tells, same_from_decides}
-use Rattle.std.proofs.lemmas.List.{get_or-set_other, get_or_default}
+use Rattle.std.proofs.lemmas.List.{get_or-set_other}
 use Rattle.std.proofs.lemmas.Grind.{get_or-set_at}
-use Rattle.sec_base.specs.Geometry.{IsNode, line_count, node_number, node_end}
+use Rattle.sec_base.specs.Geometry.{GeometryView, IsNode, node_number, node_end, width}
 use Rattle.sec_base.specs.Place.{at_place}
 use Rattle.sec_base.specs.Evidence.{sealed_bytes}
 use Rattle.sec_base.specs.declared.place.Place.{Place}
 use Rattle.sec_base.specs.declared.place.Place.TheVariants.{Line, Node}
+use Rattle.sec_base.specs.declared.sealed.Sealed.{Sealed}
 use Rattle.sec_base.proofs.Numbers.{number_inside, numbers_apart}
 use Rattle.sec_base.proofs.SamePlaces.{functions_same, false_from}
-use Rattle.bus_model.specs.declared.honest_bus.DataPlace.{DataPlace}
-use Rattle.bus_model.specs.declared.honest_bus.NodePlace.{NodePlace}
-use Rattle.bus_model.specs.HonestBus.{HonestBusView, data_place_at, node_place_at, place_bytes, place_reads, is_node, empty_line, empty_node}
-
--- one item changed
-item_set : {A : Type 0} (items : List A) (at other : ℕ) (item none : A) → at < length items →
-    slice_index_or (slice_set items at item) other none ≡ cond (nat_eq other at) item (slice_index_or items other none)
-item_set items at other item none below =
-    elim (eqb_tells other at) [
-      | inl same ↦ rw same.0 (get_or-set_at items at other item none same.1 below)
-      | inr apart ↦ rw apart.0 (get_or-set_other items at other item none apart.1)
-    ]
-
--- the same of an item that is there only where a test says so
-guarded : {A : Type 0} (inside here : Bool) (item new old none : A) →
-    (inside ≡ true → new ≡ cond here item old) → (inside ≡ false → here ≡ false) → cond inside new none ≡ cond here item (cond inside old none)
-guarded true here item new old none changes outside = changes refl
-guarded false here item new old none changes outside = rw (outside refl) refl
+use Rattle.bus_model.specs.HonestBus.{HonestBusView, Keeps, kept_at, place_bytes, place_reads, is_node, empty_line, empty_node}
 
 of_chosen : {A B : Type 0} (f : A → B) (here : Bool) (x y : A) → f (cond here x y) ≡ cond here (f x) (f y)
 of_chosen f true x y = refl
 of_chosen f false x y = refl
 
+-- one count changed
+count_set : (counts : List ℕ) (at other count : ℕ) → at < length counts →
+    slice_index (slice_set counts at count) other ≡ cond (nat_eq other at) count (slice_index counts other)
+count_set counts at other count below =
+    elim (eqb_tells other at) [
+      | inl same ↦ rw same.0 (get_or-set_at counts at other count 0 same.1 below)
+      | inr apart ↦ rw apart.0 (get_or-set_other counts at other count 0 apart.1)
+    ]
+
+-- a line is kept
+line_bytes_at : (kept : HonestBusView) (lines : List (ℕ × Sealed)) (line accesses : ℕ) (sealed : Sealed) → Keeps empty_line line sealed kept.lines lines → (place : Place) →
+    place_bytes (record kept { lines = lines; accesses = accesses }) place ≡ at_place (Line line) (sealed_bytes sealed) (place_bytes kept) place
+line_bytes_at kept lines line accesses sealed keeps (Line other) =
+    ap sealed_bytes (keeps other) ∙ of_chosen sealed_bytes (nat_eq other line) sealed (kept_at empty_line kept.lines other)
+line_bytes_at kept lines line accesses sealed keeps (Node level index) = refl
+
+pub line_bytes : (kept : HonestBusView) (lines : List (ℕ × Sealed)) (line accesses : ℕ) (sealed : Sealed) → Keeps empty_line line sealed kept.lines lines →
+    place_bytes (record kept { lines = lines; accesses = accesses }) ≡ at_place (Line line) (sealed_bytes sealed) (place_bytes kept)
+line_bytes kept lines line accesses sealed keeps =
+    functions_same _ _ (λ (place : Place). line_bytes_at kept lines line accesses sealed keeps place)
+
+-- the reads of a line are counted
+line_reads_at : (kept : HonestBusView) (line accesses count : ℕ) → line < length kept.line_reads → (place : Place) →
+    place_reads (record kept { line_reads = slice_set kept.line_reads line count; accesses = accesses }) place ≡ at_place (Line line) count (place_reads kept) place
+line_reads_at kept line accesses count inside (Line other) = count_set kept.line_reads line other count inside
+line_reads_at kept line accesses count inside (Node level index) = refl
+
+pub line_reads : (kept : HonestBusView) (line accesses count : ℕ) → line < length kept.line_reads →
+    place_reads (record kept { line_reads = slice_set kept.line_reads line count; accesses = accesses }) ≡ at_place (Line line) count (place_reads kept)
+line_reads kept line accesses count inside = functions_same _ _ (λ (place : Place). line_reads_at kept line accesses count inside place)
+
+-- the test of a node
+is_node-Decides : (geometry : GeometryView) (level index : ℕ) → Decides (is_node geometry level index) (IsNode geometry level index)
+is_node-Decides geometry level index =
+    Decides-like (is_node geometry level index)
+    (λ (h : (level < geometry.levels + 1) × (index < width geometry level)). (omega arith, h.1))
+    (λ (h : IsNode geometry level index). (omega arith, h.1))
+    (Decides-and (nat_lt level (geometry.levels + 1)) (nat_lt index (width geometry level)) (Decides-ltb level (geometry.levels + 1)) (Decides-ltb index (width geometry level)))
+
+-- what is so of a node, where a test says that it is one
+pub of_node : {A : Type 0} (geometry : GeometryView) (level index : ℕ) (value none : A) → IsNode geometry level index → cond (is_node geometry level index) value none ≡ value
+of_node geometry level index value none node =
+    let yes : is_node geometry level index ≡ true = (is_node-Decides geometry level index).1 node in rw yes refl
+
+-- two nodes are one where they have one number
+node_test : (geometry : GeometryView) (level index other at : ℕ) → IsNode geometry level index → IsNode geometry other at →
+    nat_eq (node_number geometry other at) (node_number geometry level index) ≡ (nat_eq other level && nat_eq at index)
+node_test geometry level index other at node node' =
+    same_from_decides (nat_eq (node_number geometry other at) (node_number geometry level index)) (nat_eq other level && nat_eq at index)
+    (Decides-like (nat_eq (node_number geometry other at) (node_number geometry level index))
+    (numbers_apart geometry other at level index node' node)
+    (λ (same : (other ≡ level) × (at ≡ index)).
+    ap (λ (k : ℕ). node_number geometry k at) same.0 ∙ ap (λ (i : ℕ). node_number geometry level i) same.1)
+    (Decides-eqb (node_number geometry other at) (node_number geometry level index)))
+    (Decides-and (nat_eq other level) (nat_eq at index) (Decides-eqb other level) (Decides-eqb at index))
+
 true_false : (b : Bool) → b ≡ true → b ≡ false → ⊥
 true_false true holds fails = absurd (cc)
 true_false false holds fails = absurd (cc)
 
--- a line's place changed
-line_set : (kept : HonestBusView) (line other accesses : ℕ) (item : DataPlace) →
-    line < line_count kept.levels → length kept.lines ≡ line_count kept.levels →
-    data_place_at (record kept { lines = slice_set kept.lines line item; accesses = accesses }) other ≡ cond (nat_eq other line) item (data_place_at kept other)
-line_set kept line other accesses item inside whole =
-    guarded (nat_lt other (line_count kept.levels)) (nat_eq other line) item
-    (slice_index_or (slice_set kept.lines line item) other empty_line) (slice_index_or kept.lines other empty_line) empty_line
-    (λ h. item_set kept.lines line other item empty_line (omega arith))
-    (λ (h : nat_lt other (line_count kept.levels) ≡ false). false_from (nat_eq other line) (Decides-eqb other line)
-    (λ (same : other ≡ line). true_false (nat_lt other (line_count kept.levels)) ((Decides-ltb other (line_count kept.levels)).1 (omega arith)) h))
+moved_node : (geometry : GeometryView) (level index other at : ℕ) → other ≡ level → at ≡ index → IsNode geometry level index → IsNode geometry other at
+moved_node geometry level index other at same same' node = rw (same, same') node
 
-line_bytes_at : (kept : HonestBusView) (line accesses : ℕ) (item : DataPlace) →
-    line < line_count kept.levels → length kept.lines ≡ line_count kept.levels → (place : Place) →
-    place_bytes (record kept { lines = slice_set kept.lines line item; accesses = accesses }) place
-    ≡ at_place (Line line) (sealed_bytes item.sealed) (place_bytes kept) place
-line_bytes_at kept line accesses item inside whole (Line other) =
-    ap (λ (x : DataPlace). sealed_bytes x.sealed) (line_set kept line other accesses item inside whole)
-    ∙ of_chosen (λ (x : DataPlace). sealed_bytes x.sealed) (nat_eq other line) item (data_place_at kept other)
-line_bytes_at kept line accesses item inside whole (Node level index) = refl
+-- a value that is there only where a test says so
+guarded : {A : Type 0} (inside here : Bool) (value new old none : A) →
+    (inside ≡ true → new ≡ cond here value old) → (inside ≡ false → here ≡ false) → cond inside new none ≡ cond here value (cond inside old none)
+guarded true here value new old none changes outside = changes refl
+guarded false here value new old none changes outside = rw (outside refl) refl
 
-line_reads_at : (kept : HonestBusView) (line accesses : ℕ) (item : DataPlace) →
-    line < line_count kept.levels → length kept.lines ≡ line_count kept.levels → (place : Place) →
-    place_reads (record kept { lines = slice_set kept.lines line item; accesses = accesses }) place
-    ≡ at_place (Line line) item.reads (place_reads kept) place
-line_reads_at kept line accesses item inside whole (Line other) =
-    ap (λ (x : DataPlace). x.reads) (line_set kept line other accesses item inside whole)
-    ∙ of_chosen (λ (x : DataPlace). x.reads) (nat_eq other line) item (data_place_at kept other)
-line_reads_at kept line accesses item inside whole (Node level index) = refl
-
-pub line_bytes : (kept : HonestBusView) (line accesses : ℕ) (item : DataPlace) →
-    line < line_count kept.levels → length kept.lines ≡ line_count kept.levels →
-    place_bytes (record kept { lines = slice_set kept.lines line item; accesses = accesses })
-    ≡ at_place (Line line) (sealed_bytes item.sealed) (place_bytes kept)
-line_bytes kept line accesses item inside whole =
-    functions_same _ _ (λ (place : Place). line_bytes_at kept line accesses item inside whole place)
-
-pub line_reads : (kept : HonestBusView) (line accesses : ℕ) (item : DataPlace) →
-    line < line_count kept.levels → length kept.lines ≡ line_count kept.levels →
-    place_reads (record kept { lines = slice_set kept.lines line item; accesses = accesses })
-    ≡ at_place (Line line) item.reads (place_reads kept)
-line_reads kept line accesses item inside whole =
-    functions_same _ _ (λ (place : Place). line_reads_at kept line accesses item inside whole place)
-
--- the test of a node
-is_node-Decides : (levels level index : ℕ) → Decides (is_node levels level index) (IsNode levels level index)
-is_node-Decides levels level index =
-    Decides-like (is_node levels level index)
-    (λ (h : (level < levels + 1) × (index < 4 ^ (levels - level))). (omega arith, h.1))
-    (λ (h : IsNode levels level index). (omega arith, h.1))
-    (Decides-and (nat_lt level (levels + 1)) (nat_lt index (4 ^ (levels - level))) (Decides-ltb level (levels + 1)) (Decides-ltb index (4 ^ (levels - level))))
-
--- two nodes are one where they stand at one place
-node_test : (levels level index other at : ℕ) → IsNode levels level index → IsNode levels other at →
-    nat_eq (node_number levels other at) (node_number levels level index) ≡ (nat_eq other level && nat_eq at index)
-node_test levels level index other at node node' =
-    same_from_decides (nat_eq (node_number levels other at) (node_number levels level index)) (nat_eq other level && nat_eq at index)
-    (Decides-like (nat_eq (node_number levels other at) (node_number levels level index))
-    (numbers_apart levels other at level index node' node)
-    (λ (same : (other ≡ level) × (at ≡ index)).
-    ap (λ (k : ℕ). node_number levels k at) same.0 ∙ ap (λ (i : ℕ). node_number levels level i) same.1)
-    (Decides-eqb (node_number levels other at) (node_number levels level index)))
+-- what changes under a node's number changes at that node alone
+node_changes : {A : Type 0} (geometry : GeometryView) (level index other at : ℕ) (value new old none : A) → IsNode geometry level index →
+    new ≡ cond (nat_eq (node_number geometry other at) (node_number geometry level index)) value old →
+    cond (is_node geometry other at) new none ≡ cond (nat_eq other level && nat_eq at index) value (cond (is_node geometry other at) old none)
+node_changes geometry level index other at value new old none node changes =
+    guarded (is_node geometry other at) (nat_eq other level && nat_eq at index) value new old none
+    (λ (h : is_node geometry other at ≡ true).
+    changes ∙ ap (λ (b : Bool). cond b value old) (node_test geometry level index other at node ((is_node-Decides geometry other at).0 h)))
+    (λ (h : is_node geometry other at ≡ false). false_from (nat_eq other level && nat_eq at index)
     (Decides-and (nat_eq other level) (nat_eq at index) (Decides-eqb other level) (Decides-eqb at index))
+    (λ (same : (other ≡ level) × (at ≡ index)). true_false (is_node geometry other at)
+    ((is_node-Decides geometry other at).1 (moved_node geometry level index other at same.0 same.1 node)) h))
 
-moved_node : (levels level index other at : ℕ) → other ≡ level → at ≡ index → IsNode levels level index → IsNode levels other at
-moved_node levels level index other at same same' node = rw (same, same') node
+-- a node is kept
+node_bytes_at : (kept : HonestBusView) (nodes : List (ℕ × List ℕ)) (level index accesses : ℕ) (block : List ℕ) → IsNode kept.geometry level index →
+    Keeps empty_node (node_number kept.geometry level index) block kept.nodes nodes → (place : Place) →
+    place_bytes (record kept { nodes = nodes; accesses = accesses }) place ≡ at_place (Node level index) block (place_bytes kept) place
+node_bytes_at kept nodes level index accesses block node keeps (Line line) = refl
+node_bytes_at kept nodes level index accesses block node keeps (Node other at) =
+    node_changes kept.geometry level index other at block _ _ empty_node node (keeps (node_number kept.geometry other at))
 
--- a node's place changed
-node_set : (kept : HonestBusView) (level index other at accesses : ℕ) (item : NodePlace) →
-    IsNode kept.levels level index → length kept.nodes ≡ node_end kept.levels →
-    node_place_at (record kept { nodes = slice_set kept.nodes (node_number kept.levels level index) item; accesses = accesses }) other at
-    ≡ cond (nat_eq other level && nat_eq at index) item (node_place_at kept other at)
-node_set kept level index other at accesses item node whole =
-    let here : ℕ = node_number kept.levels level index in
-    let there : ℕ = node_number kept.levels other at in
-    guarded (is_node kept.levels other at) (nat_eq other level && nat_eq at index) item
-    (slice_index_or (slice_set kept.nodes here item) there empty_node) (slice_index_or kept.nodes there empty_node) empty_node
-    (λ (h : is_node kept.levels other at ≡ true).
-    item_set kept.nodes here there item empty_node (omega (arith, number_inside kept.levels level index node))
-    ∙ ap (λ (b : Bool). cond b item (slice_index_or kept.nodes there empty_node))
-    (node_test kept.levels level index other at node ((is_node-Decides kept.levels other at).0 h)))
-    (λ (h : is_node kept.levels other at ≡ false). false_from (nat_eq other level && nat_eq at index)
-    (Decides-and (nat_eq other level) (nat_eq at index) (Decides-eqb other level) (Decides-eqb at index))
-    (λ (same : (other ≡ level) × (at ≡ index)). true_false (is_node kept.levels other at)
-    ((is_node-Decides kept.levels other at).1 (moved_node kept.levels level index other at same.0 same.1 node)) h))
+pub node_bytes : (kept : HonestBusView) (nodes : List (ℕ × List ℕ)) (level index accesses : ℕ) (block : List ℕ) → IsNode kept.geometry level index →
+    Keeps empty_node (node_number kept.geometry level index) block kept.nodes nodes →
+    place_bytes (record kept { nodes = nodes; accesses = accesses }) ≡ at_place (Node level index) block (place_bytes kept)
+node_bytes kept nodes level index accesses block node keeps =
+    functions_same _ _ (λ (place : Place). node_bytes_at kept nodes level index accesses block node keeps place)
 
-node_bytes_at : (kept : HonestBusView) (level index accesses : ℕ) (item : NodePlace) →
-    IsNode kept.levels level index → length kept.nodes ≡ node_end kept.levels → (place : Place) →
-    place_bytes (record kept { nodes = slice_set kept.nodes (node_number kept.levels level index) item; accesses = accesses }) place
-    ≡ at_place (Node level index) item.block (place_bytes kept) place
-node_bytes_at kept level index accesses item node whole (Line line) = refl
-node_bytes_at kept level index accesses item node whole (Node other at) =
-    ap (λ (x : NodePlace). x.block) (node_set kept level index other at accesses item node whole)
-    ∙ of_chosen (λ (x : NodePlace). x.block) (nat_eq other level && nat_eq at index) item (node_place_at kept other at)
+-- the reads of a node are counted
+node_reads_at : (kept : HonestBusView) (level index accesses count : ℕ) → IsNode kept.geometry level index → length kept.node_reads ≡ node_end kept.geometry → (place : Place) →
+    place_reads (record kept { node_reads = slice_set kept.node_reads (node_number kept.geometry level index) count; accesses = accesses }) place
+    ≡ at_place (Node level index) count (place_reads kept) place
+node_reads_at kept level index accesses count node whole (Line line) = refl
+node_reads_at kept level index accesses count node whole (Node other at) =
+    node_changes kept.geometry level index other at count _ _ 0 node
+    (count_set kept.node_reads (node_number kept.geometry level index) (node_number kept.geometry other at) count
+    (omega (arith, whole, number_inside kept.geometry level index node)))
 
-node_reads_at : (kept : HonestBusView) (level index accesses : ℕ) (item : NodePlace) →
-    IsNode kept.levels level index → length kept.nodes ≡ node_end kept.levels → (place : Place) →
-    place_reads (record kept { nodes = slice_set kept.nodes (node_number kept.levels level index) item; accesses = accesses }) place
-    ≡ at_place (Node level index) item.reads (place_reads kept) place
-node_reads_at kept level index accesses item node whole (Line line) = refl
-node_reads_at kept level index accesses item node whole (Node other at) =
-    ap (λ (x : NodePlace). x.reads) (node_set kept level index other at accesses item node whole)
-    ∙ of_chosen (λ (x : NodePlace). x.reads) (nat_eq other level && nat_eq at index) item (node_place_at kept other at)
-
-pub node_bytes : (kept : HonestBusView) (level index accesses : ℕ) (item : NodePlace) →
-    IsNode kept.levels level index → length kept.nodes ≡ node_end kept.levels →
-    place_bytes (record kept { nodes = slice_set kept.nodes (node_number kept.levels level index) item; accesses = accesses })
-    ≡ at_place (Node level index) item.block (place_bytes kept)
-node_bytes kept level index accesses item node whole =
-    functions_same _ _ (λ (place : Place). node_bytes_at kept level index accesses item node whole place)
-
-pub node_reads : (kept : HonestBusView) (level index accesses : ℕ) (item : NodePlace) →
-    IsNode kept.levels level index → length kept.nodes ≡ node_end kept.levels →
-    place_reads (record kept { nodes = slice_set kept.nodes (node_number kept.levels level index) item; accesses = accesses })
-    ≡ at_place (Node level index) item.reads (place_reads kept)
-node_reads kept level index accesses item node whole =
-    functions_same _ _ (λ (place : Place). node_reads_at kept level index accesses item node whole place)
-
--- what stands at a place inside
-pub line_there : (kept : HonestBusView) (line : ℕ) (item : DataPlace) → line < line_count kept.levels →
-    length kept.lines ≡ line_count kept.levels → item ≡ slice_index_or kept.lines line item → data_place_at kept line ≡ item
-line_there kept line item inside whole read =
-    let yes_inside : nat_lt line (line_count kept.levels) ≡ true = (Decides-ltb line (line_count kept.levels)).1 inside in
-    rw yes_inside (get_or_default kept.lines line empty_line item (omega arith) ∙ sym read)
-
-pub node_there : (kept : HonestBusView) (level index : ℕ) (item : NodePlace) → IsNode kept.levels level index →
-    length kept.nodes ≡ node_end kept.levels → item ≡ slice_index_or kept.nodes (node_number kept.levels level index) item →
-    node_place_at kept level index ≡ item
-node_there kept level index item node whole read =
-    let yes_inside : is_node kept.levels level index ≡ true = (is_node-Decides kept.levels level index).1 node in
-    rw yes_inside (get_or_default kept.nodes (node_number kept.levels level index) empty_node item
-    (omega (arith, number_inside kept.levels level index node)) ∙ sym read)
+pub node_reads : (kept : HonestBusView) (level index accesses count : ℕ) → IsNode kept.geometry level index → length kept.node_reads ≡ node_end kept.geometry →
+    place_reads (record kept { node_reads = slice_set kept.node_reads (node_number kept.geometry level index) count; accesses = accesses })
+    ≡ at_place (Node level index) count (place_reads kept)
+node_reads kept level index accesses count node whole =
+    functions_same _ _ (λ (place : Place). node_reads_at kept level index accesses count node whole place)

@@ -11,6 +11,7 @@ use Rattle.bus_model.specs.declared.lies.Lies.{Lies}
 use Rattle.bus_model.specs.BusHistory.{BusHistory, Lie, new_history, after_read, after_write, after_answer, first_lie}
 use Rattle.bus_model.specs.Lies.{IsJudged, lie_of, no_lies, with_lies}
 use Rattle.bus_model.proofs.Steps.{answered}
+use Rattle.sec_base.specs.Geometry.{GeometryView}
 
 -- with these lies in place of its own
 with_told : ℕ → Option Lie → BusHistory → BusHistory
@@ -50,9 +51,9 @@ unfolding with_told
 judged_refusal history history' lies same = ap (with_told lies.count (option_map lie_of lies.first)) same
 
 -- before the first call
-pub judged_new : (history : BusHistory) (lies : Lies) (levels : ℕ) → history ≡ new_history levels → lies ≡ no_lies →
-    with_lies lies history ≡ new_history levels
-judged_new history lies levels is none = rw (is, none) refl
+pub judged_new : (history : BusHistory) (lies : Lies) (geometry : GeometryView) → history ≡ new_history geometry → lies ≡ no_lies →
+    with_lies lies history ≡ new_history geometry
+judged_new history lies geometry is none = rw (is, none) refl
 
 -- what holds, holds of an error
 pub if_err : {T E P : Type 0} (r : Result T E) → P → OnErr r P

@@ -8,14 +8,15 @@ use Rattle.sec_base.specs.Place.{at_place}
 use Rattle.sec_base.proofs.SamePlaces.{at_place-same, at_place-here, false_from}
 use Rattle.sec_base.specs.declared.place.Place.{Place}
 use Rattle.bus_model.specs.BusHistory.{BusHistory, Lie, NothingWritten, new_history, after_read, after_write, after_answer, after_lie, is_false}
+use Rattle.sec_base.specs.Geometry.{GeometryView}
 
 -- two with the same functions are one
-pub same_history : (history : BusHistory) (levels accesses lies : ℕ) (lie : Option Lie) (written written' : Place → List ℕ) (reads reads' : Place → ℕ) →
-    written' ≡ written → reads' ≡ reads → history ≡ record { levels = levels; written = written; reads = reads; accesses = accesses; lies = lies; lie = lie } →
-    record { levels = levels; written = written'; reads = reads'; accesses = accesses; lies = lies; lie = lie } ≡ history
-same_history history levels accesses lies lie written written' reads reads' w r is =
-    ap (λ (f : Place → List ℕ). record { levels = levels; written = f; reads = reads'; accesses = accesses; lies = lies; lie = lie }) w
-    ∙ ap (λ (f : Place → ℕ). record { levels = levels; written = written; reads = f; accesses = accesses; lies = lies; lie = lie }) r
+pub same_history : (history : BusHistory) (geometry : GeometryView) (accesses lies : ℕ) (lie : Option Lie) (written written' : Place → List ℕ) (reads reads' : Place → ℕ) →
+    written' ≡ written → reads' ≡ reads → history ≡ record { geometry = geometry; written = written; reads = reads; accesses = accesses; lies = lies; lie = lie } →
+    record { geometry = geometry; written = written'; reads = reads'; accesses = accesses; lies = lies; lie = lie } ≡ history
+same_history history geometry accesses lies lie written written' reads reads' w r is =
+    ap (λ (f : Place → List ℕ). record { geometry = geometry; written = f; reads = reads'; accesses = accesses; lies = lies; lie = lie }) w
+    ∙ ap (λ (f : Place → ℕ). record { geometry = geometry; written = written; reads = f; accesses = accesses; lies = lies; lie = lie }) r
     ∙ sym is
 
 -- where the place's bytes change, and its count of reads stays, and one more access is counted, there was a write
@@ -25,7 +26,7 @@ pub was_write : (place : Place) (bytes : List ℕ) (history : BusHistory) (writt
 unfolding after_write
 was_write place bytes history written reads accesses w r n =
     let stays : reads ≡ history.reads = r ∙ at_place-same place (history.reads place) history.reads refl in
-    rw n (same_history (after_write place bytes history) history.levels (more_by 1 history.accesses) history.lies history.lie
+    rw n (same_history (after_write place bytes history) history.geometry (more_by 1 history.accesses) history.lies history.lie
     (at_place place bytes history.written) written history.reads reads w stays refl)
 
 -- an answer that is what was written is not false
@@ -44,7 +45,7 @@ unfolding after_read
 was_read place bytes history written reads accesses w r n same =
     let stays : written ≡ history.written = w ∙ at_place-same place (history.written place) history.written refl in
     let honest : is_false place bytes history ≡ false = true_answer place bytes history same in
-    rw (n, honest) (same_history (after_answer place history) history.levels (more_by 1 history.accesses) history.lies history.lie
+    rw (n, honest) (same_history (after_answer place history) history.geometry (more_by 1 history.accesses) history.lies history.lie
     history.written written (at_place place (more_by 1 (history.reads place)) history.reads) reads stays r refl)
 
 -- after a true answer
@@ -85,8 +86,8 @@ of_either part place bytes history same =
     ]
 
 -- of either answer: what was written stays, and one more read and one more access are counted
-pub read_levels : (place : Place) (bytes : List ℕ) (history : BusHistory) → (after_read place bytes history).levels ≡ history.levels
-read_levels place bytes history = of_either (λ (t : BusHistory). t.levels) place bytes history refl
+pub read_geometry : (place : Place) (bytes : List ℕ) (history : BusHistory) → (after_read place bytes history).geometry ≡ history.geometry
+read_geometry place bytes history = of_either (λ (t : BusHistory). t.geometry) place bytes history refl
 
 pub read_written : (place : Place) (bytes : List ℕ) (history : BusHistory) → (after_read place bytes history).written ≡ history.written
 read_written place bytes history = of_either (λ (t : BusHistory). t.written) place bytes history refl
@@ -106,5 +107,5 @@ read_rose place bytes history =
     rw here (omega arith)
 
 -- where nothing was asked yet, nothing was written
-pub nothing_written : (levels : ℕ) (history : BusHistory) → history ≡ new_history levels → NothingWritten history
-nothing_written levels history is = rw is (record { zeros = λ place inside. refl })
+pub nothing_written : (geometry : GeometryView) (history : BusHistory) → history ≡ new_history geometry → NothingWritten history
+nothing_written geometry history is = rw is (record { zeros = λ place inside. refl })

@@ -4,6 +4,7 @@ use Rattle.std.specs.Str.{bytes_eq}
 use Rattle.sec_base.specs.Count.{more_by}
 use Rattle.sec_base.specs.Place.{IsPlace, at_place, zeros_of}
 use Rattle.sec_base.specs.declared.place.Place.{Place}
+use Rattle.sec_base.specs.Geometry.{GeometryView}
 
 -- a false answer: which access it was, its place, and the bytes that were answered
 pub record Lie : Type 0 where
@@ -11,10 +12,10 @@ pub record Lie : Type 0 where
   pub place : Place
   pub bytes : List ℕ
 
--- the levels of the tree; what was written last at each place, and how often it was read; how many reads and writes
+-- the shape of the tree; what was written last at each place, and how often it was read; how many reads and writes
 -- were answered; how many answers were false, and the first of them
 pub record BusHistory : Type 0 where
-  pub levels : ℕ
+  pub geometry : GeometryView
   pub written : Place → List ℕ
   pub reads : Place → ℕ
   pub accesses : ℕ
@@ -22,13 +23,13 @@ pub record BusHistory : Type 0 where
   pub lie : Option Lie
 
 -- nothing was asked yet
-abbrev pub new_history : ℕ → BusHistory
-new_history levels =
-    record { levels = levels; written = zeros_of; reads = λ place. 0; accesses = 0; lies = 0; lie = None }
+abbrev pub new_history : GeometryView → BusHistory
+new_history geometry =
+    record { geometry = geometry; written = zeros_of; reads = λ place. 0; accesses = 0; lies = 0; lie = None }
 
 -- nothing was written yet
 pub record NothingWritten (history : BusHistory) : Type 0 where
-  pub zeros : (place : Place) → IsPlace history.levels place → history.written place ≡ zeros_of place
+  pub zeros : (place : Place) → IsPlace history.geometry place → history.written place ≡ zeros_of place
 
 -- one more access
 abbrev pub after_access : BusHistory → BusHistory

@@ -1,59 +1,72 @@
 -- An honest bus: what it keeps, and what that stands for.
-use Rattle.std.specs.Prelude.{ℕ, ◌+◌, List, replicate, slice_index_or, None, Bool, ◌&&◌, nat_lt, if◌then◌else◌}
-use Rattle.sec_base.specs.Geometry.{line_count, node_number, width}
+use Rattle.std.specs.Prelude.{◌≡◌, ◌≢◌, ◌==◌, ℕ, ◌+◌, List, replicate, slice_index, Some, None, Bool, ◌&&◌, nat_eq, nat_lt, if◌then◌else◌}
+use Rattle.std.specs.Map.{lookup}
+use Rattle.std.specs.Option.{unwrap_or}
+use Rattle.sec_base.specs.Geometry.{GeometryView, node_number, width}
 use Rattle.sec_base.specs.Evidence.{sealed_bytes}
+use Rattle.sec_base.specs.Tag.{IsTag}
+use Rattle.sec_base.specs.declared.geometry.Layout.{Layout}
 use Rattle.sec_base.specs.declared.place.Place.{Place}
 use Rattle.sec_base.specs.declared.place.Place.TheVariants.{Line, Node}
-use Rattle.bus_model.specs.declared.honest_bus.DataPlace.{DataPlace}
-use Rattle.bus_model.specs.declared.honest_bus.NodePlace.{NodePlace}
+use Rattle.sec_base.specs.declared.sealed.Sealed.{Sealed}
 use Rattle.bus_model.specs.BusHistory.{BusHistory}
 
--- the levels of the tree, the places of all lines and of all nodes, and how many reads and writes there were
+-- the shape of the tree; the lines and the nodes that are kept, by the line and by the node's number; for how many more
+-- there is memory; how often each place was read, and how many reads and writes there were
 pub record HonestBusView : Type 0 where
-  pub levels : ℕ
-  pub lines : List DataPlace
-  pub nodes : List NodePlace
+  pub geometry : GeometryView
+  pub lines : List (ℕ × Sealed)
+  pub nodes : List (ℕ × List ℕ)
+  pub room : ℕ
+  pub line_reads : List ℕ
+  pub node_reads : List ℕ
   pub accesses : ℕ
 
--- a place that was neither written nor read
-abbrev pub empty_line : DataPlace
-empty_line = record { sealed = record { cipher = replicate 64 0; tag = replicate 16 0 }; reads = 0 }
+-- What the place of a line holds that is not kept.
+abbrev pub empty_line : Sealed
+empty_line = record { cipher = replicate 64 0; tag = replicate 16 0 }
 
--- The place of a node that was never written: zeros, and no read so far.
-abbrev pub empty_node : NodePlace
-empty_node = record { block = replicate 64 0; reads = 0 }
+-- what the place of a node holds that is not kept
+abbrev pub empty_node : List ℕ
+empty_node = replicate 64 0
+
+-- what is kept under a number, or what is there where nothing is kept
+abbrev pub kept_at : {A : Type 0} → A → List (ℕ × A) → ℕ → A
+kept_at empty entries number = unwrap_or (lookup (nat_eq number) entries) empty
+
+-- a value is kept under a number, and what is kept under others stays
+abbrev pub Keeps : {A : Type 0} → A → ℕ → A → List (ℕ × A) → List (ℕ × A) → Type 0
+Keeps empty number value old new = (other : ℕ) → kept_at empty new other ≡ (if other == number then value else kept_at empty old other)
+
+-- nothing is kept that would be there anyway
+pub record IsSparse {A : Type 0} (empty : A) (entries : List (ℕ × A)) : Type 0 where
+  pub some : (number : ℕ) → lookup (nat_eq number) entries ≢ Some empty
+
+-- the tags of all lines are tags of this layout
+pub record HoldsTags (layout : Layout) (lines : List (ℕ × Sealed)) : Type 0 where
+  pub fits : (line : ℕ) → IsTag layout (kept_at empty_line lines line).tag
 
 -- the node is one of the tree's
-abbrev pub is_node : ℕ → ℕ → ℕ → Bool
-is_node levels level index = nat_lt level (levels + 1) && nat_lt index (width levels level)
+abbrev pub is_node : GeometryView → ℕ → ℕ → Bool
+is_node geometry level index = nat_lt level (geometry.levels + 1) && nat_lt index (width geometry level)
 
--- the place of a line, and of a node
-abbrev pub data_place_at : HonestBusView → ℕ → DataPlace
-data_place_at kept line =
-    if nat_lt line (line_count kept.levels) then slice_index_or kept.lines line empty_line else empty_line
-
--- What an honest bus keeps for a node; a number that is no node of the tree has the empty place.
-abbrev pub node_place_at : HonestBusView → ℕ → ℕ → NodePlace
-node_place_at kept level index =
-    if is_node kept.levels level index
-    then slice_index_or kept.nodes (node_number kept.levels level index) empty_node
-    else empty_node
-
--- what was written at a place
+-- what was written at a place; nothing was at a node that is none of the tree's
 abbrev pub place_bytes : HonestBusView → Place → List ℕ
-place_bytes kept (Line line) = sealed_bytes (data_place_at kept line).sealed
-place_bytes kept (Node level index) = (node_place_at kept level index).block
+place_bytes kept (Line line) = sealed_bytes (kept_at empty_line kept.lines line)
+place_bytes kept (Node level index) =
+    if is_node kept.geometry level index then kept_at empty_node kept.nodes (node_number kept.geometry level index) else empty_node
 
 -- how often a place was read
 abbrev pub place_reads : HonestBusView → Place → ℕ
-place_reads kept (Line line) = (data_place_at kept line).reads
-place_reads kept (Node level index) = (node_place_at kept level index).reads
+place_reads kept (Line line) = slice_index kept.line_reads line
+place_reads kept (Node level index) =
+    if is_node kept.geometry level index then slice_index kept.node_reads (node_number kept.geometry level index) else 0
 
 -- each answer was what had been written
 abbrev pub honest_history : HonestBusView → BusHistory
 honest_history kept =
     record {
-      levels = kept.levels;
+      geometry = kept.geometry;
       written = place_bytes kept;
       reads = place_reads kept;
       accesses = kept.accesses;

@@ -1,7 +1,8 @@
 // A bus that is honest but for one answer.
 ghost use Rattle.std.specs.Prelude.{◌≡◌, ◌<◌, if◌then◌else◌, IsOk, IfOk, OnOk, OnErr};
 ghost use Rattle.sec_base.specs.Evidence.{sealed_bytes};
-ghost use Rattle.sec_base.specs.Place.{IsPlace, place_size};
+ghost use Rattle.sec_base.specs.Place.{IsPlace, stored_size};
+ghost use Rattle.sec_base.specs.Tag.{IsTag};
 ghost use Rattle.sec_base.specs.declared.place.Place.TheVariants.{Line, Node};
 ghost use Rattle.bus_model.specs.BusHistory.{new_history, after_read, after_write};
 ghost use Rattle.bus_model.specs.FlipBus.{flip_history, is_due, with_flip, next_answer};
@@ -31,11 +32,15 @@ pub struct FlipBus {
 }
 
 impl Model for FlipBus {
+    ghost use Rattle.std.specs.Prelude.{◌<◌};
+    ghost use Rattle.sec_base.specs.Place.{stored_size};
     ghost use Rattle.bus_model.specs.FlipBus.{FlipBusView};
 
     ghost Value = { FlipBusView };
 
     ghost view = { λ bus. record { kept = bus.bus; flip = bus.flip; lies = bus.lies } };
+
+    ghost invariant = { λ bus. bus.flip.offset < stored_size bus.bus.geometry bus.flip.place };
 }
 
 impl FlipBus {
@@ -49,7 +54,7 @@ impl FlipBus {
         offset: u8,
         mask: u8,
     ) -> Result<FlipBus, NoMemory>
-        requires inside { offset < place_size place }
+        requires inside { offset < stored_size geometry place }
 
         ensures history { IfOk result (λ bus. flip_history bus ≡ new_history geometry) }
         ensures flip { IfOk result (λ bus. bus.flip ≡ record { place = place; read = k; offset = offset; mask = mask }) }
@@ -85,15 +90,16 @@ impl Bus for FlipBus {
 
     /// What was written at the line's place, but for the one read.
     fn read_data(&mut self, line: u32) -> Result<Sealed, NoMemory>
-        requires inside { IsPlace (flip_history self.old).levels (Line line) }
+        requires inside { IsPlace (flip_history self.old).geometry (Line line) }
 
         ensures is_ok { IsOk result }
         ensures answer { IfOk result (λ sealed. sealed_bytes sealed ≡ next_answer self.old.flip (flip_history self.old) (Line line)) }
         ensures flip { self.new.flip ≡ self.old.flip }
 
         ensures ok { IfOk result (λ sealed. flip_history self.new ≡ after_read (Line line) (sealed_bytes sealed) (flip_history self.old)) }
+        ensures fits { IfOk result (λ sealed. IsTag (flip_history self.old).geometry.layout sealed.tag) }
         ensures err { OnErr result (flip_history self.new ≡ flip_history self.old) }
-        ensures levels { (flip_history self.new).levels ≡ (flip_history self.old).levels }
+        ensures geometry { (flip_history self.new).geometry ≡ (flip_history self.old).geometry }
         ensures moved { Unit {0} }
     {
         let due = is_due(&self.flip, Place::Line(line), self.bus.line_reads(line));
@@ -105,12 +111,13 @@ impl Bus for FlipBus {
     }
 
     fn write_data(&mut self, line: u32, sealed: &Sealed) -> Result<(), NoMemory>
-        requires inside { IsPlace (flip_history self.old).levels (Line line) }
+        requires inside { IsPlace (flip_history self.old).geometry (Line line) }
+        requires fits { IsTag (flip_history self.old).geometry.layout sealed.now.tag }
 
         ensures flip { self.new.flip ≡ self.old.flip }
         ensures ok { OnOk result (flip_history self.new ≡ after_write (Line line) (sealed_bytes sealed.now) (flip_history self.old)) }
         ensures err { OnErr result (flip_history self.new ≡ flip_history self.old) }
-        ensures levels { (flip_history self.new).levels ≡ (flip_history self.old).levels }
+        ensures geometry { (flip_history self.new).geometry ≡ (flip_history self.old).geometry }
         ensures moved { Unit {0} }
     {
         self.bus.write_data(line, sealed)?;
@@ -119,7 +126,7 @@ impl Bus for FlipBus {
 
     /// What was written at the node's place, but for the one read.
     fn read_node(&mut self, level: u8, index: u32) -> Result<[u8; 64], NoMemory>
-        requires inside { IsPlace (flip_history self.old).levels (Node level index) }
+        requires inside { IsPlace (flip_history self.old).geometry (Node level index) }
 
         ensures is_ok { IsOk result }
         ensures answer { IfOk result (λ block. block ≡ next_answer self.old.flip (flip_history self.old) (Node level index)) }
@@ -127,7 +134,7 @@ impl Bus for FlipBus {
 
         ensures ok { IfOk result (λ block. flip_history self.new ≡ after_read (Node level index) block (flip_history self.old)) }
         ensures err { OnErr result (flip_history self.new ≡ flip_history self.old) }
-        ensures levels { (flip_history self.new).levels ≡ (flip_history self.old).levels }
+        ensures geometry { (flip_history self.new).geometry ≡ (flip_history self.old).geometry }
         ensures moved { Unit {0} }
     {
         let place = Place::Node { level, index };
@@ -141,12 +148,12 @@ impl Bus for FlipBus {
     }
 
     fn write_node(&mut self, level: u8, index: u32, block: &[u8; 64]) -> Result<(), NoMemory>
-        requires inside { IsPlace (flip_history self.old).levels (Node level index) }
+        requires inside { IsPlace (flip_history self.old).geometry (Node level index) }
 
         ensures flip { self.new.flip ≡ self.old.flip }
         ensures ok { OnOk result (flip_history self.new ≡ after_write (Node level index) block.now (flip_history self.old)) }
         ensures err { OnErr result (flip_history self.new ≡ flip_history self.old) }
-        ensures levels { (flip_history self.new).levels ≡ (flip_history self.old).levels }
+        ensures geometry { (flip_history self.new).geometry ≡ (flip_history self.old).geometry }
         ensures moved { Unit {0} }
     {
         self.bus.write_node(level, index, block)?;

@@ -37,7 +37,7 @@ module _ {T : Type 0} (tag_of : Message → List ℕ) (level index : ℕ) (tag :
       Moves history engine history' engine'
   node_moves (Ok answer) passed =
       answer_moves (node_place level index) passed.block history history' engine engine' passed.answered
-      (ap (λ (e : TagEngineView T). e.levels) passed.checked) (ap (λ (e : TagEngineView T). e.tagger) passed.checked)
+      (ap (λ (e : TagEngineView T). e.geometry) passed.checked) (ap (λ (e : TagEngineView T). e.tagger) passed.checked)
       (ap (λ (e : TagEngineView T). e.made) passed.checked)
       (λ evidence is. ap (λ (e : TagEngineView T). e.evidence) passed.checked
       ∙ first_stays engine.evidence (collision_of tag_of engine.made level index passed.block tag true) evidence is)
@@ -45,11 +45,11 @@ module _ {T : Type 0} (tag_of : Message → List ℕ) (level index : ℕ) (tag :
   node_moves (Err NoMemory) read = nothing_moves history history' engine engine' read.0 read.1
   node_moves (Err (Tampered place)) read =
       answer_moves (node_place level index) read.1.block history history' engine engine' read.1.answered
-      (ap (λ (e : TagEngineView T). e.levels) read.1.unchanged) (ap (λ (e : TagEngineView T). e.tagger) read.1.unchanged)
+      (ap (λ (e : TagEngineView T). e.geometry) read.1.unchanged) (ap (λ (e : TagEngineView T). e.tagger) read.1.unchanged)
       (ap (λ (e : TagEngineView T). e.made) read.1.unchanged)
       (λ evidence is. ap (λ (e : TagEngineView T). e.evidence) read.1.unchanged ∙ is)
 
-  pub node_once : (result : Result (List ℕ) MemStop) → IsNode history.levels level index →
+  pub node_once : (result : Result (List ℕ) MemStop) → IsNode history.geometry level index →
       IsCheckedNode tag_of level index tag history history' engine engine' result →
       ReadsOnce (node_place level index) history engine history' engine' (result_err result)
   node_once (Ok answer) inside passed =

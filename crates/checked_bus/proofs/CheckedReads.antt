@@ -77,20 +77,20 @@ module _ {T : Type 0} (tag_of : Message → List ℕ) (line : ℕ) (counter : Co
   pub read_moves : (result : Result (List ℕ) MemStop) → IsCheckedRead tag_of line counter history history' engine engine' result →
       Moves history engine history' engine'
   read_moves (Ok cipher) passed =
-      answer_moves (line_place line) (sealed_bytes passed.sealed) history history' engine engine' passed.answered (ap (λ (e : TagEngineView T). e.levels) passed.checked)
+      answer_moves (line_place line) (sealed_bytes passed.sealed) history history' engine engine' passed.answered (ap (λ (e : TagEngineView T). e.geometry) passed.checked)
       (ap (λ (e : TagEngineView T). e.tagger) passed.checked) (ap (λ (e : TagEngineView T). e.made) passed.checked)
       (λ evidence is. ap (λ (e : TagEngineView T). e.evidence) passed.checked
       ∙ first_stays engine.evidence (forgery_of engine.made line counter passed.sealed true) evidence is)
   read_moves (Err (Spent page)) read = absurd read
   read_moves (Err NoMemory) read = nothing_moves history history' engine engine' read.0 read.1
   read_moves (Err (Tampered place)) read =
-      answer_moves (line_place line) (sealed_bytes read.1.sealed) history history' engine engine' read.1.answered (ap (λ (e : TagEngineView T). e.levels) read.1.unchanged)
+      answer_moves (line_place line) (sealed_bytes read.1.sealed) history history' engine engine' read.1.answered (ap (λ (e : TagEngineView T). e.geometry) read.1.unchanged)
       (ap (λ (e : TagEngineView T). e.tagger) read.1.unchanged) (ap (λ (e : TagEngineView T). e.made) read.1.unchanged)
       (λ evidence is. ap (λ (e : TagEngineView T). e.evidence) read.1.unchanged ∙ is)
 
   -- It is one read
 
-  pub read_once : (result : Result (List ℕ) MemStop) → line < line_count history.levels →
+  pub read_once : (result : Result (List ℕ) MemStop) → line < line_count history.geometry →
       IsCheckedRead tag_of line counter history history' engine engine' result →
       ReadsOnce (line_place line) history engine history' engine' (result_err result)
   read_once (Ok cipher) inside passed =

@@ -13,7 +13,7 @@ use Rattle.sec_base.specs.declared.stop.MemStop.{MemStop}
 use Rattle.sec_base.specs.declared.stop.MemStop.TheVariants.{NoMemory}
 use Rattle.sec_base.proofs.SamePlaces.{place_eq-Decides, at_place-there}
 use Rattle.bus_model.specs.BusHistory.{BusHistory, after_read}
-use Rattle.bus_model.proofs.Steps.{true_or_false, read_levels, read_written, read_reads, read_accesses, read_rose}
+use Rattle.bus_model.proofs.Steps.{true_or_false, read_geometry, read_written, read_reads, read_accesses, read_rose}
 use Rattle.tag_engine.specs.TagEngine.{TagEngineView}
 use Rattle.checked_bus.specs.Accesses.{AreCounted}
 use Rattle.checked_bus.specs.Steps.{IsAccounted, Moves, ReadsOnce, SameLines, SamePlace}
@@ -46,12 +46,12 @@ lies_kept place bytes history =
 module _ {T : Type 0} (place : Place) (bytes : List ℕ) (history history' : BusHistory) (engine engine' : TagEngineView T) where
   -- An answer
 
-  pub answer_moves : history' ≡ after_read place bytes history → engine'.levels ≡ engine.levels → engine'.tagger ≡ engine.tagger →
+  pub answer_moves : history' ≡ after_read place bytes history → engine'.geometry ≡ engine.geometry → engine'.tagger ≡ engine.tagger →
       engine'.made ≡ engine.made → ((evidence : Evidence) → engine.evidence ≡ Some evidence → engine'.evidence ≡ Some evidence) →
       Moves history engine history' engine'
-  answer_moves answer levels tagger made evidence = record {
-    bus_levels = ap (λ (t : BusHistory). t.levels) answer ∙ read_levels place bytes history;
-    levels = levels;
+  answer_moves answer geometry tagger made evidence = record {
+    bus_geometry = ap (λ (t : BusHistory). t.geometry) answer ∙ read_geometry place bytes history;
+    geometry = geometry;
     tagger = tagger;
     more = [];
     made = made ∙ sym (append-nil engine.made);
@@ -65,7 +65,7 @@ module _ {T : Type 0} (place : Place) (bytes : List ℕ) (history history' : Bus
 
   -- it is one read
   pub answer_once : (stop : Option MemStop) → history' ≡ after_read place bytes history → engine'.made ≡ engine.made →
-      engine'.room ≡ engine.room → IsPlace history.levels place → stop ≢ Some NoMemory → ReadsOnce place history engine history' engine' stop
+      engine'.room ≡ engine.room → IsPlace history.geometry place → stop ≢ Some NoMemory → ReadsOnce place history engine history' engine' stop
   answer_once stop answer made room inside remembered =
       let accesses : history'.accesses ≡ more_by 1 history.accesses = ap (λ (t : BusHistory). t.accesses) answer ∙ read_accesses place bytes history in
       record {
@@ -74,7 +74,7 @@ module _ {T : Type 0} (place : Place) (bytes : List ℕ) (history history' : Bus
         written = ap (λ (t : BusHistory). t.written) answer ∙ read_written place bytes history;
         once = inl accesses;
         counted = read_counted history history' place inside
-            (ap (λ (t : BusHistory). t.levels) answer ∙ read_levels place bytes history)
+            (ap (λ (t : BusHistory). t.geometry) answer ∙ read_geometry place bytes history)
             (ap (λ (t : BusHistory). t.reads) answer ∙ read_reads place bytes history) accesses;
         rose = λ _. subst (λ (t : BusHistory). Rose (history.reads place) (t.reads place)) (sym answer) (read_rose place bytes history);
         refused = λ none. absurd (remembered none);

@@ -13,11 +13,12 @@ use Rattle.bus_model.specs.BusHistory.{BusHistory}
 use Rattle.tag_engine.specs.TagEngine.{TagEngineView}
 use Rattle.checked_bus.specs.Accesses.{all_reads, HasFullCount, AreCounted}
 use Rattle.checked_bus.specs.Steps.{Moves, SameLast, SamePlace, SameLines}
+use Rattle.sec_base.specs.Geometry.{GeometryView}
 
 pub moves_not : {T : Type 0} (history : BusHistory) (engine : TagEngineView T) → Moves history engine history engine
 moves_not history engine = record {
-  bus_levels = refl;
-  levels = refl;
+  bus_geometry = refl;
+  geometry = refl;
   tagger = refl;
   more = [];
   made = sym (append-nil engine.made);
@@ -30,8 +31,8 @@ moves_not history engine = record {
 pub moves_on : {T : Type 0} (first second third : BusHistory) (engine engine' engine'' : TagEngineView T) →
     Moves first engine second engine' → Moves second engine' third engine'' → Moves first engine third engine''
 moves_on first second third engine engine' engine'' moves more = record {
-  bus_levels = more.bus_levels ∙ moves.bus_levels;
-  levels = more.levels ∙ moves.levels;
+  bus_geometry = more.bus_geometry ∙ moves.bus_geometry;
+  geometry = more.geometry ∙ moves.geometry;
   tagger = more.tagger ∙ moves.tagger;
   more = moves.more ++ more.more;
   made = more.made ∙ ap (λ (made : List Message). made ++ more.more) moves.made ∙ append_assoc engine.made moves.more more.more;
@@ -101,11 +102,11 @@ pub counted_not : (history : BusHistory) → AreCounted history history 0
 counted_not history = record { most = inl (omega arith); least = inl (omega arith) }
 
 -- a count that stands at its end stays there
-still_full : (old new : BusHistory) → new.levels ≡ old.levels → ((place : Place) → RoseBy 0 (old.reads place) (new.reads place)) →
+still_full : (old new : BusHistory) → new.geometry ≡ old.geometry → ((place : Place) → RoseBy 0 (old.reads place) (new.reads place)) →
     HasFullCount old → HasFullCount new
-still_full old new levels reads was = record {
+still_full old new geometry reads was = record {
   place = was.place;
-  inside = subst (λ (n : ℕ). IsPlace n was.place) (sym levels) was.inside;
+  inside = subst (λ (n : GeometryView). IsPlace n was.place) (sym geometry) was.inside;
   full = omega (arith, was.full, reads was.place);
 }
 
@@ -126,10 +127,10 @@ least_on first second third writes more_writes still (inl least) (inr full) = in
 least_on first second third writes more_writes still (inl least) (inl more) = inl (omega (arith, least, more))
 
 -- with what the second call raised, as `Moves` has it
-pub counted_on : (first second third : BusHistory) (writes more_writes : ℕ) → third.levels ≡ second.levels →
+pub counted_on : (first second third : BusHistory) (writes more_writes : ℕ) → third.geometry ≡ second.geometry →
     ((place : Place) → RoseBy 0 (second.reads place) (third.reads place)) → RoseBy 0 second.accesses third.accesses →
     AreCounted first second writes → AreCounted second third more_writes → AreCounted first third (writes + more_writes)
-counted_on first second third writes more_writes levels reads accesses counted more = record {
-  most = most_on first second third writes more_writes (still_full second third levels reads) counted.most more.most;
+counted_on first second third writes more_writes geometry reads accesses counted more = record {
+  most = most_on first second third writes more_writes (still_full second third geometry reads) counted.most more.most;
   least = least_on first second third writes more_writes (λ full. omega (arith, full, accesses)) counted.least more.least;
 }

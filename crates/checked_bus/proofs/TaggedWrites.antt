@@ -40,13 +40,13 @@ wrote_once place bytes history history' wrote = record {
   lies = ap (λ (t : BusHistory). t.lies) wrote;
   lie = ap (λ (t : BusHistory). t.lie) wrote;
   once = ap (λ (t : BusHistory). t.accesses) wrote;
-  counted = write_counted history history' (ap (λ (t : BusHistory). t.levels) wrote) (ap (λ (t : BusHistory). t.reads) wrote)
+  counted = write_counted history history' (ap (λ (t : BusHistory). t.geometry) wrote) (ap (λ (t : BusHistory). t.reads) wrote)
       (ap (λ (t : BusHistory). t.accesses) wrote);
 }
 
 -- what a write leaves as it was, whether it was refused or not
 pub record Written (place : Place) (history history' : BusHistory) : Type 0 where
-  pub levels : history'.levels ≡ history.levels
+  pub geometry : history'.geometry ≡ history.geometry
   pub reads : history'.reads ≡ history.reads
   pub lies : history'.lies ≡ history.lies
   pub lie : history'.lie ≡ history.lie
@@ -57,7 +57,7 @@ pub wrote_or_not : (place : Place) (bytes : List ℕ) (history history' : BusHis
     (history' ≡ after_write place bytes history) ⊎ (history' ≡ history) → Written place history history'
 unfolding after_write
 wrote_or_not place bytes history history' (inr same) = record {
-  levels = ap (λ (t : BusHistory). t.levels) same;
+  geometry = ap (λ (t : BusHistory). t.geometry) same;
   reads = ap (λ (t : BusHistory). t.reads) same;
   lies = ap (λ (t : BusHistory). t.lies) same;
   lie = ap (λ (t : BusHistory). t.lie) same;
@@ -65,7 +65,7 @@ wrote_or_not place bytes history history' (inr same) = record {
   others = λ other apart. ap (λ (t : BusHistory). t.written other) same;
 }
 wrote_or_not place bytes history history' (inl wrote) = record {
-  levels = ap (λ (t : BusHistory). t.levels) wrote;
+  geometry = ap (λ (t : BusHistory). t.geometry) wrote;
   reads = ap (λ (t : BusHistory). t.reads) wrote;
   lies = ap (λ (t : BusHistory). t.lies) wrote;
   lie = ap (λ (t : BusHistory). t.lie) wrote;
@@ -91,8 +91,8 @@ module _ {T : Type 0} (place : Place) (message : Message) (history history' : Bu
     (engine engine' : TagEngineView T) (made : engine' ≡ after_make message engine) (written : Written place history history') where
   pub write_moves : Moves history engine history' engine'
   write_moves = record {
-    bus_levels = written.levels;
-    levels = ap (λ (e : TagEngineView T). e.levels) made;
+    bus_geometry = written.geometry;
+    geometry = ap (λ (e : TagEngineView T). e.geometry) made;
     tagger = ap (λ (e : TagEngineView T). e.tagger) made;
     more = message ∷ [];
     made = ap (λ (e : TagEngineView T). e.made) made;

@@ -23,12 +23,12 @@ pub writes_refused : (history : BusHistory) → WritesMessages history history 1
 writes_refused history = record { writes = 0; counted = counted_not history; at_most = omega arith; at_least = omega arith }
 
 -- one after another
-pub writes_on : (first second third : BusHistory) (messages more unwritten : ℕ) → third.levels ≡ second.levels →
+pub writes_on : (first second third : BusHistory) (messages more unwritten : ℕ) → third.geometry ≡ second.geometry →
     ((place : Place) → RoseBy 0 (second.reads place) (third.reads place)) → RoseBy 0 second.accesses third.accesses →
     WritesMessages first second messages 0 → WritesMessages second third more unwritten → WritesMessages first third (messages + more) unwritten
-writes_on first second third messages more unwritten levels reads accesses wrote wrote_more = record {
+writes_on first second third messages more unwritten geometry reads accesses wrote wrote_more = record {
   writes = wrote.writes + wrote_more.writes;
-  counted = counted_on first second third wrote.writes wrote_more.writes levels reads accesses wrote.counted wrote_more.counted;
+  counted = counted_on first second third wrote.writes wrote_more.writes geometry reads accesses wrote.counted wrote_more.counted;
   at_most = omega (arith, wrote.at_most, wrote_more.at_most);
   at_least = omega (arith, wrote.at_least, wrote_more.at_least);
 }

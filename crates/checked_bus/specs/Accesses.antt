@@ -10,12 +10,12 @@ use Rattle.bus_model.specs.BusHistory.{BusHistory}
 
 -- how often the places of the lines were read, together
 abbrev pub line_reads : BusHistory → ℕ
-line_reads history = sum_below (λ line. history.reads (Line line)) (line_count history.levels)
+line_reads history = sum_below (λ line. history.reads (Line line)) (line_count history.geometry)
 
 -- how often the places of the nodes were read, together
 abbrev pub node_reads : BusHistory → ℕ
 node_reads history =
-    sum_below (λ level. sum_below (λ index. history.reads (Node level index)) (width history.levels level)) (history.levels + 1)
+    sum_below (λ level. sum_below (λ index. history.reads (Node level index)) (width history.geometry level)) (history.geometry.levels + 1)
 
 -- how often all places were read, together
 abbrev pub all_reads : BusHistory → ℕ
@@ -24,7 +24,7 @@ all_reads history = line_reads history + node_reads history
 -- the count of a place's reads stands at its end
 pub record HasFullCount (history : BusHistory) : Type 0 where
   pub place : Place
-  pub inside : IsPlace history.levels place
+  pub inside : IsPlace history.geometry place
   pub full : top ≤ history.reads place
 
 -- Of the accesses between two histories so many were writes, and all others were reads; as far as counts that stand still

@@ -21,8 +21,8 @@ use Rattle.checked_bus.specs.SealedLine.{sealed_line}
 
 -- What each call leaves as it was, adds to, or raises.
 pub record Moves {T : Type 0} (old : BusHistory) (engine : TagEngineView T) (new : BusHistory) (engine' : TagEngineView T) : Type 0 where
-  pub bus_levels : new.levels ≡ old.levels
-  pub levels : engine'.levels ≡ engine.levels
+  pub bus_geometry : new.geometry ≡ old.geometry
+  pub geometry : engine'.geometry ≡ engine.geometry
   pub tagger : engine'.tagger ≡ engine.tagger
   pub more : List Message
   pub made : engine'.made ≡ engine.made ++ more

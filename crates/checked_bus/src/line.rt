@@ -29,8 +29,8 @@ pub fn read_line<B: Bus, T: Tagger>(
     line: u32,
     counter: Counter,
 ) -> Result<[u8; 64], MemStop>
-    requires place { IsPlace (B.history bus.old).levels (line_place line) }
-    requires line { line < line_count tags.old.levels }
+    requires place { IsPlace (B.history bus.old).geometry (line_place line) }
+    requires line { line < line_count tags.old.geometry }
 
     // What the bus answered, and what the check made of the engine.
     ensures read { IsCheckedRead (tags_of T.data_tag_of T.node_tag_of tags.old) line counter
@@ -85,8 +85,8 @@ pub fn write_line<B: Bus, T: Tagger>(
     counter: Counter,
     cipher: &[u8; 64],
 ) -> Result<(), NoMemory>
-    requires place { IsPlace (B.history bus.old).levels (line_place line) }
-    requires line { line < line_count tags.old.levels }
+    requires bus { (B.history bus.old).geometry ≡ tags.old.geometry }
+    requires line { line < line_count tags.old.geometry }
     requires room { 0 < tags.old.room }
 
     // What the tag engine made, and what the bus was told.

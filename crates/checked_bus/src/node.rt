@@ -29,8 +29,8 @@ pub fn read_node<B: Bus, T: Tagger>(
     index: u32,
     tag: &[u8; 16],
 ) -> Result<[u8; 64], MemStop>
-    requires place { IsPlace (B.history bus.old).levels (node_place level index) }
-    requires node { IsNode tags.old.levels level index }
+    requires place { IsPlace (B.history bus.old).geometry (node_place level index) }
+    requires node { IsNode tags.old.geometry level index }
 
     // What the bus answered, and what the check made of the engine.
     ensures read { IsCheckedNode (tags_of T.data_tag_of T.node_tag_of tags.old) level index tag.now
@@ -87,8 +87,8 @@ pub fn write_node<B: Bus, T: Tagger>(
     index: u32,
     block: &[u8; 64],
 ) -> Result<[u8; 16], NoMemory>
-    requires place { IsPlace (B.history bus.old).levels (node_place level index) }
-    requires node { IsNode tags.old.levels level index }
+    requires place { IsPlace (B.history bus.old).geometry (node_place level index) }
+    requires node { IsNode tags.old.geometry level index }
     requires room { 0 < tags.old.room }
 
     // What the tag engine made, and what the bus was told.

@@ -4,6 +4,7 @@ use Rattle.std.proofs.Common.{◌≡◌, ℕ, Bool, true, false, if◌then◌els
 use Rattle.sec_base.specs.declared.place.Place.{Place}
 use Rattle.bus_model.specs.BusHistory.{BusHistory, NothingWritten, after_answer, after_lie, after_read, after_write, new_history}
 use Rattle.fakes.specs.ReplayBus.{lied_out}
+use Rattle.sec_base.specs.Geometry.{GeometryView}
 
 either : (lies lied : Bool) (place : Place) (bytes answer : List ℕ) (history : BusHistory) →
     lied_out (if lies then after_lie place bytes (after_answer place history) else after_answer place history)
@@ -23,5 +24,5 @@ pub any_write : (place : Place) (bytes : List ℕ) (old new : BusHistory) → ne
 unfolding after_write
 any_write place bytes old new is = rw is refl
 
-pub new_and_lied_out : (levels : ℕ) (history : BusHistory) → history ≡ new_history levels → NothingWritten (lied_out history)
-new_and_lied_out levels history is = rw is (record { zeros = λ place inside. refl })
+pub new_and_lied_out : (geometry : GeometryView) (history : BusHistory) → history ≡ new_history geometry → NothingWritten (lied_out history)
+new_and_lied_out geometry history is = rw is (record { zeros = λ place inside. refl })

@@ -1,6 +1,6 @@
 // A bus that keeps what it is asked for, and may refuse it.
 ghost use Rattle.std.specs.Prelude.{◌≡◌, ◌<◌, IfOk};
-ghost use Rattle.sec_base.specs.Place.{place_size};
+ghost use Rattle.sec_base.specs.Place.{stored_size};
 ghost use Rattle.bus_model.specs.BusHistory.{NothingWritten, new_history};
 ghost use Rattle.bus_model.specs.FlipBus.{flip_history};
 
@@ -51,7 +51,7 @@ impl CountingBus {
         k: u64,
         offset: u8,
     ) -> Result<CountingBus, NoMemory>
-        requires { offset < place_size place }
+        requires { offset < stored_size geometry place }
 
         ensures history { IfOk result (λ bus. flip_history bus ≡ new_history geometry) }
         ensures nothing_written { IfOk result (λ bus. NothingWritten (flip_history bus)) }

@@ -1,10 +1,12 @@
 // A bus that answers what stood there before.
-ghost use Rattle.std.specs.Prelude.{◌≡◌, IfOk};
+ghost use Rattle.std.specs.Prelude.{◌≡◌, IfOk, IfSome};
+ghost use Rattle.sec_base.specs.Tag.{IsTag};
+ghost use Rattle.sec_base.specs.declared.geometry.Layout.{Layout};
 ghost use Rattle.bus_model.specs.BusHistory.{NothingWritten};
-ghost use Rattle.fakes.specs.ReplayBus.{replay_history};
+ghost use Rattle.fakes.specs.ReplayBus.{KeepsTags, replay_history};
 
 use bus_model::{Bus, HonestBus};
-use sec_base::{Geometry, NoMemory, Place, Sealed};
+use sec_base::{Geometry, NoMemory, Place, Sealed, page_of};
 use std::alloc::Global;
 use std::marker::Model;
 
@@ -33,21 +35,24 @@ pub struct ReplayBus {
 
 impl Model for ReplayBus {
     ghost use Rattle.bus_model.specs.HonestBus.{HonestBusView};
+    ghost use Rattle.fakes.specs.ReplayBus.{KeepsTags};
 
     ghost Value = { HonestBusView };
 
     ghost view = { λ bus. bus.bus };
+
+    ghost invariant = { λ bus. KeepsTags bus.bus.geometry.layout bus.stale };
 }
 
 impl ReplayBus {
     /// Over an honest memory that nothing was written to yet. Fails only if out of memory.
     pub fn new(alloc: Global, geometry: Geometry, replay: Replay) -> Result<ReplayBus, NoMemory>
         ensures nothing_written { IfOk result (λ bus. NothingWritten (replay_history bus)) }
-        ensures levels { IfOk result (λ bus. (replay_history bus).levels ≡ geometry) }
+        ensures geometry { IfOk result (λ bus. (replay_history bus).geometry ≡ geometry) }
     {
         Ok(ReplayBus {
             bus: HonestBus::new(alloc, geometry)?,
-            stale: Stale::new(replay),
+            stale: Stale::new(geometry, replay),
             lies: 0,
         })
     }
@@ -124,12 +129,15 @@ struct Stale {
 }
 
 impl Stale {
-    fn new(replay: Replay) -> Stale {
+    fn new(geometry: Geometry, replay: Replay) -> Stale
+        ensures { KeepsTags geometry.layout result }
+    {
         let zeros = Sealed {
             cipher: [0; 64],
             tag: [0; 16],
         };
-        let page = replay.line / 64;
+        let page = page_of(replay.line);
+        let above = page / geometry.arity();
         Stale {
             replay,
             writes: 0,
@@ -137,19 +145,24 @@ impl Stale {
             before: zeros,
             path: [
                 PathNode::new(page),
-                PathNode::new(page / 4),
-                PathNode::new(page / 16),
+                PathNode::new(above),
+                PathNode::new(above / geometry.arity()),
             ],
         }
     }
 
-    fn count(&mut self, place: Place) {
+    fn count(&mut self, place: Place)
+        ensures last { self.new.last ≡ self.old.last }
+        ensures before { self.new.before ≡ self.old.before }
+    {
         if place == self.replay.start {
             self.writes = self.writes.saturating_add(1);
         }
     }
 
-    fn keep_line(&mut self, line: u32, sealed: &Sealed) {
+    fn keep_line(&mut self, line: u32, sealed: &Sealed)
+        ensures { (layout : Layout) → IsTag layout sealed.now.tag → KeepsTags layout self.old → KeepsTags layout self.new }
+    {
         self.count(Place::Line(line));
         if line == self.replay.line {
             self.before = self.last;
@@ -157,7 +170,10 @@ impl Stale {
         }
     }
 
-    fn keep_node(&mut self, level: u8, index: u32, block: &[u8; 64]) {
+    fn keep_node(&mut self, level: u8, index: u32, block: &[u8; 64])
+        ensures last { self.new.last ≡ self.old.last }
+        ensures before { self.new.before ≡ self.old.before }
+    {
         self.count(Place::Node { level, index });
         if let Some(node) = self.path.get_mut(usize::from(level)) {
             if node.index == index {
@@ -172,7 +188,9 @@ impl Stale {
     }
 
     // What is replayed of a line, if it is one that is.
-    fn line(&self, line: u32) -> Option<Sealed> {
+    fn line(&self, line: u32) -> Option<Sealed>
+        ensures { IfSome result (λ sealed. sealed ≡ self.now.before) }
+    {
         if self.replay.with_line && self.has_begun() && line == self.replay.line {
             Some(self.before)
         } else {

@@ -2,6 +2,7 @@
 // hand: of a line 0x44, the line and the page's counter, the lowest byte first, the line's own counter, and the first two bytes of
 // the ciphertext; of a node 0x4e, its level, its index, the lowest byte first, and the first ten bytes of its block.
 ghost use Rattle.std.specs.Prelude.{◌<◌, ◌≡◌};
+ghost use Rattle.sec_base.specs.Geometry.{one};
 ghost use Rattle.bus_model.specs.FlipBus.{flip_history};
 ghost use Rattle.bus_model.specs.HonestBus.{honest_history};
 
@@ -30,8 +31,8 @@ fn check_line(
     bus: &mut HonestBus,
     tags: &mut TagEngine<PrefixTagger>,
 ) -> Result<(), Fail>
-    requires places { (honest_history bus.old).levels ≡ 1 }
-    requires lines { tags.old.levels ≡ 1 }
+    requires places { (honest_history bus.old).geometry ≡ one 1 }
+    requires lines { tags.old.geometry ≡ one 1 }
     requires room { tags.old.room ≡ 2 }
 {
     write_line(bus, tags, 64, FIRST, &[7; 64])?;
@@ -67,8 +68,8 @@ fn check_false_line(
     wanted: Result<[u8; 64], MemStop>,
     case: &str,
 ) -> Result<(), Fail>
-    requires places { (flip_history bus.old).levels ≡ 1 }
-    requires lines { tags.old.levels ≡ 1 }
+    requires places { (flip_history bus.old).geometry ≡ one 1 }
+    requires lines { tags.old.geometry ≡ one 1 }
     requires room { tags.old.room ≡ 1 }
 {
     write_line(bus, tags, 64, FIRST, &[6; 64])?;
@@ -129,8 +130,8 @@ fn check_never_tagged(
     bus: &mut HonestBus,
     tags: &mut TagEngine<ZeroTagger>,
 ) -> Result<(), Fail>
-    requires places { (honest_history bus.old).levels ≡ 1 }
-    requires lines { tags.old.levels ≡ 1 }
+    requires places { (honest_history bus.old).geometry ≡ one 1 }
+    requires lines { tags.old.geometry ≡ one 1 }
 {
     let tampered = Err(MemStop::Tampered(Place::Line(255)));
     assert_eq!(rt; read_line(bus, tags, 255, FIRST), tampered);
@@ -172,8 +173,8 @@ fn check_node(
     bus: &mut HonestBus,
     tags: &mut TagEngine<PrefixTagger>,
 ) -> Result<(), Fail>
-    requires places { (honest_history bus.old).levels ≡ 2 }
-    requires nodes { tags.old.levels ≡ 2 }
+    requires places { (honest_history bus.old).geometry ≡ one 2 }
+    requires nodes { tags.old.geometry ≡ one 2 }
     requires room { tags.old.room ≡ 3 }
 {
     let first = write_node(bus, tags, 1, 2, &[7; 64])?;
@@ -207,8 +208,8 @@ fn check_false_node(
     wanted: Result<[u8; 64], MemStop>,
     case: &str,
 ) -> Result<(), Fail>
-    requires places { (flip_history bus.old).levels ≡ 2 }
-    requires nodes { tags.old.levels ≡ 2 }
+    requires places { (flip_history bus.old).geometry ≡ one 2 }
+    requires nodes { tags.old.geometry ≡ one 2 }
     requires room { tags.old.room ≡ 1 }
 {
     let tag = write_node(bus, tags, 1, 2, &[6; 64])?;

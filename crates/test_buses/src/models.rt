@@ -3,6 +3,8 @@
 ghost use Rattle.std.specs.Prelude.{◌≡◌};
 ghost use Rattle.sec_base.specs.Place.{IsPlace};
 ghost use Rattle.sec_base.specs.declared.place.Place.TheVariants.{Line, Node};
+ghost use Rattle.sec_base.specs.Geometry.{one};
+ghost use Rattle.sec_base.specs.declared.geometry.Layout.TheVariants.{One};
 ghost use Rattle.bus_model.specs.FlipBus.{flip_history};
 ghost use Rattle.bus_model.specs.HonestBus.{honest_history};
 
@@ -23,7 +25,7 @@ const ONES: Sealed = Sealed {
 
 // What is read at line 1023 before it is written and twice behind that, and then at line 1022.
 fn four_lines(bus: &mut HonestBus) -> Result<[Sealed; 4], NoMemory>
-    requires { (honest_history bus.old).levels ≡ 2 }
+    requires { (honest_history bus.old).geometry ≡ one 2 }
 {
     let first = bus.read_data(1023)?;
     bus.write_data(1023, &ONES)?;
@@ -42,8 +44,8 @@ fn an_honest_bus_answers_what_was_written(rt: HostRuntime) -> Result<(), Fail> {
 }
 
 fn write_five_nodes(bus: &mut HonestBus) -> Result<(), NoMemory>
-    requires { (honest_history bus.old).levels ≡ 2 }
-    ensures { (honest_history bus.new).levels ≡ 2 }
+    requires { (honest_history bus.old).geometry ≡ one 2 }
+    ensures { (honest_history bus.new).geometry ≡ one 2 }
 {
     bus.write_node(0, 3, &[1; 64])?;
     bus.write_node(0, 15, &[2; 64])?;
@@ -53,8 +55,8 @@ fn write_five_nodes(bus: &mut HonestBus) -> Result<(), NoMemory>
 }
 
 fn read_five_nodes(bus: &mut HonestBus) -> Result<[[u8; 64]; 5], NoMemory>
-    requires { (honest_history bus.old).levels ≡ 2 }
-    ensures { (honest_history bus.new).levels ≡ 2 }
+    requires { (honest_history bus.old).geometry ≡ one 2 }
+    ensures { (honest_history bus.new).geometry ≡ one 2 }
 {
     let first = bus.read_node(0, 3)?;
     let second = bus.read_node(0, 15)?;
@@ -66,7 +68,7 @@ fn read_five_nodes(bus: &mut HonestBus) -> Result<[[u8; 64]; 5], NoMemory>
 
 // They are read as they were written, and another node and a line as zeros.
 fn check_nodes(rt: &impl Abort, bus: &mut HonestBus) -> Result<(), Fail>
-    requires { (honest_history bus.old).levels ≡ 2 }
+    requires { (honest_history bus.old).geometry ≡ one 2 }
 {
     write_five_nodes(bus)?;
     let wanted = [[1; 64], [2; 64], [3; 64], [4; 64], [5; 64]];
@@ -85,8 +87,9 @@ fn an_honest_bus_keeps_nodes_apart(rt: HostRuntime) -> Result<(), Fail> {
 
 // What is read at a line and at a node of level 0, once they were written.
 fn written_places(mut bus: HonestBus, line: u32, index: u32) -> Result<(Sealed, [u8; 64]), NoMemory>
-    requires line { IsPlace (honest_history bus).levels (Line line) }
-    requires node { IsPlace (honest_history bus).levels (Node 0 index) }
+    requires line { IsPlace (honest_history bus).geometry (Line line) }
+    requires node { IsPlace (honest_history bus).geometry (Node 0 index) }
+    requires layout { (honest_history bus).geometry.layout ≡ One }
 {
     bus.write_data(line, &ONES)?;
     bus.write_node(0, index, &[3; 64])?;
@@ -115,7 +118,7 @@ fn each_size_has_its_last_line_and_node(rt: HostRuntime) -> Result<(), Fail> {
 
 // What is read at line 64 at each of three reads, once ONES were written there.
 fn read_thrice(bus: &mut FlipBus) -> Result<[Sealed; 3], NoMemory>
-    requires { (flip_history bus.old).levels ≡ 1 }
+    requires { (flip_history bus.old).geometry ≡ one 1 }
 {
     bus.write_data(64, &ONES)?;
     let first = bus.read_data(64)?;
@@ -126,7 +129,7 @@ fn read_thrice(bus: &mut FlipBus) -> Result<[Sealed; 3], NoMemory>
 
 // The same, and how many answers were false.
 fn three_reads(mut bus: FlipBus) -> Result<([Sealed; 3], u64), NoMemory>
-    requires { (flip_history bus).levels ≡ 1 }
+    requires { (flip_history bus).geometry ≡ one 1 }
 {
     let reads = read_thrice(&mut bus)?;
     Ok((reads, bus.lies()))
@@ -152,7 +155,7 @@ fn a_flip_is_at_every_offset_of_a_line(rt: HostRuntime) -> Result<(), Fail> {
 
 // The top node is read so, and then as zeros, and as it is written.
 fn check_flip(rt: &impl Abort, bus: &mut FlipBus, flipped: [u8; 64]) -> Result<(), Fail>
-    requires { (flip_history bus.old).levels ≡ 1 }
+    requires { (flip_history bus.old).geometry ≡ one 1 }
 {
     assert_eq!(rt; bus.read_node(0, 0)?, [0; 64]);
     assert_eq!(rt; bus.read_node(1, 0)?, flipped);
@@ -197,7 +200,7 @@ fn some_flips_are_no_lie(rt: HostRuntime) -> Result<(), Fail> {
 
 // What is read at node 3 of level 0 at each of three reads, once sevens were written there.
 fn read_node_thrice(bus: &mut FlipBus) -> Result<[[u8; 64]; 3], NoMemory>
-    requires { (flip_history bus.old).levels ≡ 1 }
+    requires { (flip_history bus.old).geometry ≡ one 1 }
 {
     bus.write_node(0, 3, &[7; 64])?;
     let first = bus.read_node(0, 3)?;
@@ -208,7 +211,7 @@ fn read_node_thrice(bus: &mut FlipBus) -> Result<[[u8; 64]; 3], NoMemory>
 
 // The same, and how many answers were false.
 fn three_node_reads(mut bus: FlipBus) -> Result<([[u8; 64]; 3], u64), NoMemory>
-    requires { (flip_history bus).levels ≡ 1 }
+    requires { (flip_history bus).geometry ≡ one 1 }
 {
     let reads = read_node_thrice(&mut bus)?;
     Ok((reads, bus.lies()))

@@ -20,7 +20,7 @@ unfolding engine_tag
 returns-in_err-sealed-clause-honest g c = λ used current was.
     read_honest (tags_of g.T.Tagger.data_tag_of g.T.Tagger.node_tag_of c.args.tags.now) c.args.line c.args.counter
     (g.B.Bus.history c.args.bus.now) (g.B.Bus.history c.read_data.new.self) c.args.tags.now c.args.tags.now
-    (λ cipher. marked_long (g.T.Tagger.data_tag_of c.args.tags.now.tagger (data_bytes c.args.line c.args.counter cipher))
+    (λ cipher. marked_long c.args.tags.now.geometry.layout (g.T.Tagger.data_tag_of c.args.tags.now.tagger (data_bytes c.args.line c.args.counter cipher))
     (g.met.T.Tagger.data_tag_long c.args.tags.now.tagger (data_bytes c.args.line c.args.counter cipher)))
     used current c.from_residual.result (returns-in_err-sealed-clause-read g c) was
 
@@ -65,7 +65,7 @@ unfolding engine_tag
 returns-then-not-check_data-clause-honest g c = λ used current was.
     read_honest (tags_of g.T.Tagger.data_tag_of g.T.Tagger.node_tag_of c.args.tags.now) c.args.line c.args.counter
     (g.B.Bus.history c.args.bus.now) (g.B.Bus.history c.read_data.new.self) c.args.tags.now c.check_data.new.self
-    (λ cipher. marked_long (g.T.Tagger.data_tag_of c.args.tags.now.tagger (data_bytes c.args.line c.args.counter cipher))
+    (λ cipher. marked_long c.args.tags.now.geometry.layout (g.T.Tagger.data_tag_of c.args.tags.now.tagger (data_bytes c.args.line c.args.counter cipher))
     (g.met.T.Tagger.data_tag_long c.args.tags.now.tagger (data_bytes c.args.line c.args.counter cipher)))
     used current (Err (Tampered (line_place c.args.line))) (returns-then-not-check_data-clause-read g c) was
 
@@ -76,7 +76,7 @@ returns-then-not-check_data-clause-tampered g c = λ place is. (
   λ used current.
       tampered_lied (tags_of g.T.Tagger.data_tag_of g.T.Tagger.node_tag_of c.args.tags.now) c.args.line c.args.counter
       (g.B.Bus.history c.args.bus.now) (g.B.Bus.history c.read_data.new.self) c.args.tags.now c.check_data.new.self
-      (λ cipher. marked_long (g.T.Tagger.data_tag_of c.args.tags.now.tagger (data_bytes c.args.line c.args.counter cipher))
+      (λ cipher. marked_long c.args.tags.now.geometry.layout (g.T.Tagger.data_tag_of c.args.tags.now.tagger (data_bytes c.args.line c.args.counter cipher))
       (g.met.T.Tagger.data_tag_long c.args.tags.now.tagger (data_bytes c.args.line c.args.counter cipher)))
       used current (returns-then-not-check_data-clause-read g c).1,
 )
@@ -87,7 +87,7 @@ returns-then-not-check_data-clause-shown g c = λ used current quiet.
     none_or c.check_data.new.self.evidence
     (shown_lied (tags_of g.T.Tagger.data_tag_of g.T.Tagger.node_tag_of c.args.tags.now) c.args.line c.args.counter
     (g.B.Bus.history c.args.bus.now) (g.B.Bus.history c.read_data.new.self) c.args.tags.now c.check_data.new.self
-    (λ cipher. marked_long (g.T.Tagger.data_tag_of c.args.tags.now.tagger (data_bytes c.args.line c.args.counter cipher))
+    (λ cipher. marked_long c.args.tags.now.geometry.layout (g.T.Tagger.data_tag_of c.args.tags.now.tagger (data_bytes c.args.line c.args.counter cipher))
     (g.met.T.Tagger.data_tag_long c.args.tags.now.tagger (data_bytes c.args.line c.args.counter cipher)))
     used current (Err (Tampered (line_place c.args.line))) (returns-then-not-check_data-clause-read g c) quiet)
 
@@ -119,7 +119,7 @@ unfolding engine_tag
 returns-clause-honest g c = λ used current was.
     read_honest (tags_of g.T.Tagger.data_tag_of g.T.Tagger.node_tag_of c.args.tags.now) c.args.line c.args.counter
     (g.B.Bus.history c.args.bus.now) (g.B.Bus.history c.read_data.new.self) c.args.tags.now c.check_data.new.self
-    (λ cipher. marked_long (g.T.Tagger.data_tag_of c.args.tags.now.tagger (data_bytes c.args.line c.args.counter cipher))
+    (λ cipher. marked_long c.args.tags.now.geometry.layout (g.T.Tagger.data_tag_of c.args.tags.now.tagger (data_bytes c.args.line c.args.counter cipher))
     (g.met.T.Tagger.data_tag_long c.args.tags.now.tagger (data_bytes c.args.line c.args.counter cipher)))
     used current (Ok c.in_ok-sealed.sealed.cipher) (returns-clause-read g c) was
 
@@ -135,6 +135,6 @@ returns-clause-shown g c = λ used current quiet.
     none_or c.check_data.new.self.evidence
     (shown_lied (tags_of g.T.Tagger.data_tag_of g.T.Tagger.node_tag_of c.args.tags.now) c.args.line c.args.counter
     (g.B.Bus.history c.args.bus.now) (g.B.Bus.history c.read_data.new.self) c.args.tags.now c.check_data.new.self
-    (λ cipher. marked_long (g.T.Tagger.data_tag_of c.args.tags.now.tagger (data_bytes c.args.line c.args.counter cipher))
+    (λ cipher. marked_long c.args.tags.now.geometry.layout (g.T.Tagger.data_tag_of c.args.tags.now.tagger (data_bytes c.args.line c.args.counter cipher))
     (g.met.T.Tagger.data_tag_long c.args.tags.now.tagger (data_bytes c.args.line c.args.counter cipher)))
     used current (Ok c.in_ok-sealed.sealed.cipher) (returns-clause-read g c) quiet)

@@ -1,4 +1,7 @@
-use Rattle.std.proofs.Common.{rules}
+use Rattle.std.proofs.Common.{rules, subst, sym}
+use Rattle.sec_base.specs.Geometry.{GeometryView}
+use Rattle.sec_base.specs.Tag.{IsTag}
+use Rattle.tag_engine.proofs.Marks.{engine_tag_fits}
 use Rattle.sec_base.specs.Evidence.{sealed_bytes}
 use Rattle.sec_base.specs.declared.message.Message.TheVariants.{Line}
 use Rattle.sec_base.specs.declared.place.Place.TheVariants.{Line as line_place}
@@ -46,3 +49,12 @@ returns-clause-honest g c =
     (g.B.Bus.history c.args.bus.now) (g.B.Bus.history c.write_data.new.self)
     (done_or_not c.write_data.result c.write_data.ensures.ok c.write_data.ensures.err))
     (tags_of g.T.Tagger.data_tag_of g.T.Tagger.node_tag_of c.args.tags.now)
+
+pub write_data-requires-clause-fits : goal.write_data-requires-clause-fits
+write_data-requires-clause-fits g c =
+    let tags = c.args.tags.now in
+    let engine_fits : IsTag tags.geometry.layout c.in_ok-tag.tag =
+    subst (IsTag tags.geometry.layout) (sym c.in_ok-tag.ensures.tag)
+    (engine_tag_fits (g.T.Tagger.data_tag_of tags.tagger) (g.T.Tagger.node_tag_of tags.tagger) (g.met.T.Tagger.data_tag_long tags.tagger)
+    (g.met.T.Tagger.node_tag_long tags.tagger) tags.geometry (Line c.args.line c.args.counter c.args.cipher.now)) in
+    subst (λ (geometry : GeometryView). IsTag geometry.layout c.in_ok-tag.tag) (sym c.requires.bus) engine_fits

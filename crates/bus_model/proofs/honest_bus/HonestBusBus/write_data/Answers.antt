@@ -1,8 +1,7 @@
 use Rattle.std.proofs.Common.{rules}
-use Rattle.bus_model.proofs.HonestSteps.{wrote_line}
+use Rattle.bus_model.proofs.HonestSteps.{seen, wrote_line}
 use Rattle.bus_model.proofs.honest_bus.HonestBusBus.write_data.Goals as goal
 
 pub returns-clause-ok : goal.returns-clause-ok
 returns-clause-ok c =
-    rw (← c.self.view_is) (wrote_line _ c.args.line _ c.args.sealed.now c.index_mut-place.result.now (search rules) (search rules)
-    c.index_mut-place.ensures.value c.saturating_add-self-inside.ensures)
+    rw (← c.self.view_is) (wrote_line (seen _ _ _ _ _ _) _ c.args.line _ c.args.sealed.now (search rules) c.saturating_add-self-inside.ensures)
