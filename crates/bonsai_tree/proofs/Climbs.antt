@@ -1,10 +1,12 @@
 -- Calls that read and write nodes of a level and of those above it, one after another.
-use Rattle.std.proofs.Common.{◌≡◌, ◌≢◌, ◌⊎◌, inl, inr, ℕ, zero, suc, ◌+◌, ◌-◌, ◌/◌, ◌^◌, ◌<◌, ◌≤◌, List, ◌++◌, length, Option, Some, None, refl, ap, sym, ◌∙◌, subst, arith, length-append}
+use Rattle.std.proofs.Common.{◌≡◌, ◌≢◌, ◌⊎◌, inl, inr, ℕ, zero, suc, ◌+◌, ◌-◌, ◌*◌, ◌/◌, ◌^◌, ◌<◌, ◌≤◌, List, ◌++◌, length, Option, Some, None, refl, ap, sym, ◌∙◌, subst, arith, length-append}
 use Rattle.std.proofs.lemmas.Bool.{cases_lt}
+use Rattle.std.proofs.lemmas.Grind.{pow_more}
 use Rattle.std.proofs.lemmas.Nat.{pow-add}
-use Rattle.std.proofs.Math.Nat.{div-div-eq-div-mul}
+use Rattle.std.proofs.Math.Nat.{div-div-eq-div-mul, div-one, pow-zero}
 use Rattle.sec_base.specs.Count.{Rose, RoseBy}
 use Rattle.sec_base.specs.Evidence.{evidence_place}
+use Rattle.sec_base.specs.Geometry.{GeometryView, arity}
 use Rattle.sec_base.specs.LastMessage.{last_node, node_part}
 use Rattle.sec_base.specs.declared.evidence.Evidence.{Evidence}
 use Rattle.sec_base.specs.declared.message.Message.{Message}
@@ -35,40 +37,44 @@ copy_or_not (Some copy) = inr (λ (none : Some copy ≡ None). cc)
 
 -- the nodes from a node up have no copy, up to so many levels above it
 abbrev pub HasNoneUp : TreeView → ℕ → ℕ → ℕ → Type 0
-HasNoneUp tree level index more = (lower : ℕ) → lower ≤ more → cached_node tree (level + lower) (above tree.levels index lower) ≡ None
+HasNoneUp tree level index more = (lower : ℕ) → lower ≤ more → cached_node tree (level + lower) (above tree.geometry index lower) ≡ None
 
 -- the lowest one that has a copy, or none
 pub record LowestCopy (tree : TreeView) (level index more : ℕ) : Type 0 where
   pub lower : ℕ
   pub within : lower ≤ more
-  pub copied : cached_node tree (level + lower) (above tree.levels index lower) ≢ None
+  pub copied : cached_node tree (level + lower) (above tree.geometry index lower) ≢ None
 
-pub above_none : (levels index : ℕ) → above levels index 0 ≡ index
-above_none levels index = omega arith
+pub above_none : (geometry : GeometryView) (index : ℕ) → above geometry index 0 ≡ index
+above_none geometry index = ap (λ (n : ℕ). index / n) (pow-zero (arity geometry)) ∙ div-one index
+
+pub above_one : (geometry : GeometryView) (index : ℕ) → above geometry index 1 ≡ index / arity geometry
+above_one geometry index =
+    ap (λ (n : ℕ). index / n) (pow_more (arity geometry) 0 ∙ ap (λ (n : ℕ). n * arity geometry) (pow-zero (arity geometry)) ∙ (omega arith))
 
 pub find_copy : (tree : TreeView) (level index more : ℕ) → HasNoneUp tree level index more ⊎ LowestCopy tree level index more
 find_copy tree level index zero =
-    elim (copy_or_not (cached_node tree (level + 0) (above tree.levels index 0))) [
+    elim (copy_or_not (cached_node tree (level + 0) (above tree.geometry index 0))) [
       | inl none ↦ inl (λ lower few. let first : 0 ≡ lower = omega arith in
-          subst (λ (k : ℕ). cached_node tree (level + k) (above tree.levels index k) ≡ None) first none)
+          subst (λ (k : ℕ). cached_node tree (level + k) (above tree.geometry index k) ≡ None) first none)
       | inr some ↦ inr (record { lower = 0; within = omega arith; copied = some })
     ]
 find_copy tree level index (suc more) =
     elim (find_copy tree level index more) [
       | inr found ↦ inr (record { lower = found.lower; within = omega (arith, found.within); copied = found.copied })
-      | inl none ↦ elim (copy_or_not (cached_node tree (level + suc more) (above tree.levels index (suc more)))) [
+      | inl none ↦ elim (copy_or_not (cached_node tree (level + suc more) (above tree.geometry index (suc more)))) [
         | inr some ↦ inr (record { lower = suc more; within = omega arith; copied = some })
         | inl last ↦ inl (λ lower few. elim (cases_lt lower (suc more)) [
           | inl less ↦ none lower (omega arith)
           | inr here ↦ let same : suc more ≡ lower = omega arith in
-              subst (λ (k : ℕ). cached_node tree (level + k) (above tree.levels index k) ≡ None) same last
+              subst (λ (k : ℕ). cached_node tree (level + k) (above tree.geometry index k) ≡ None) same last
         ])
       ]
     ]
 
-pub above_on : (levels index lower more : ℕ) → above levels (above levels index lower) more ≡ above levels index (lower + more)
-above_on levels index lower more =
-    div-div-eq-div-mul index (4 ^ lower) (4 ^ more) ∙ sym (ap (λ (n : ℕ). index / n) (pow-add 4 lower more))
+pub above_on : (geometry : GeometryView) (index lower more : ℕ) → above geometry (above geometry index lower) more ≡ above geometry index (lower + more)
+above_on geometry index lower more =
+    div-div-eq-div-mul index (arity geometry ^ lower) (arity geometry ^ more) ∙ sym (ap (λ (n : ℕ). index / n) (pow-add (arity geometry) lower more))
 
 -- a node that was never made by more messages was never made before
 pub unmade_before : (made made' more : List Message) → made' ≡ made ++ more → (level index : ℕ) → last_node level index made' ≡ None →
@@ -89,38 +95,41 @@ pub came_after : (made made' : List Message) (level index : ℕ) (first second t
 came_after made made' level index first second third before unmade (inl none) = inl (unmade none)
 came_after made made' level index first second third before unmade (inr rose) = inr (omega (arith, rose, before (node_place level index)))
 
-pub read_up_on : (tree mid : TreeView) (made made' : List Message) (level index : ℕ) (first second third : BusHistory) → mid.levels ≡ tree.levels →
+pub read_up_on : (tree mid : TreeView) (made made' : List Message) (level index : ℕ) (first second third : BusHistory) → mid.geometry ≡ tree.geometry →
     ((place : Place) → RoseBy 0 (first.reads place) (second.reads place)) → ((place : Place) → RoseBy 0 (second.reads place) (third.reads place)) →
     ((at_level at : ℕ) → last_node at_level at made' ≡ None → last_node at_level at made ≡ None) →
     ((at_level at : ℕ) → cached_node mid at_level at ≢ None → WasReadUp tree made at_level at first second) →
     WasReadUp mid made' level index second third → WasReadUp tree made level index first third
-read_up_on tree mid made made' level index first second third levels before after unmade read more_read = record {
+read_up_on tree mid made made' level index first second third geometry before after unmade read more_read = record {
   rose = λ more inside none.
-      let same_above : (k : ℕ) → above mid.levels index k ≡ above tree.levels index k = λ k. refl in
-      elim (find_copy mid level index more) [
+      let same : TreeView = record { geometry = tree.geometry; root = mid.root; caches = mid.caches } in
+      let same_read : WasReadUp same made' level index second third =
+      subst (λ (k : GeometryView). WasReadUp (record { geometry = k; root = mid.root; caches = mid.caches }) made' level index second third) geometry
+      (record { rose = more_read.rose }) in
+      elim (find_copy same level index more) [
         | inl none_mid ↦
-            came_after made made' (level + more) (above tree.levels index more) first second third before (unmade (level + more) (above tree.levels index more))
-            (more_read.rose more (omega (arith, levels)) none_mid)
+            came_after made made' (level + more) (above tree.geometry index more) first second third before (unmade (level + more) (above tree.geometry index more))
+            (same_read.rose more inside none_mid)
         | inr found ↦
             let back : found.lower + (more - found.lower) ≡ more = omega (arith, found.within) in
             let level_is : level + found.lower + (more - found.lower) ≡ level + more = omega (arith, found.within) in
-            let index_is : above tree.levels (above tree.levels index found.lower) (more - found.lower) ≡ above tree.levels index more =
-            above_on tree.levels index found.lower (more - found.lower) ∙ ap (λ (k : ℕ). above tree.levels index k) back in
-            let up : WasReadUp tree made (level + found.lower) (above tree.levels index found.lower) first second =
-            read (level + found.lower) (above tree.levels index found.lower) found.copied in
+            let index_is : above tree.geometry (above tree.geometry index found.lower) (more - found.lower) ≡ above tree.geometry index more =
+            above_on tree.geometry index found.lower (more - found.lower) ∙ ap (λ (k : ℕ). above tree.geometry index k) back in
+            let up : WasReadUp tree made (level + found.lower) (above tree.geometry index found.lower) first second =
+            read (level + found.lower) (above tree.geometry index found.lower) found.copied in
             let none_up : (lower : ℕ) → lower ≤ more - found.lower →
-            cached_node tree (level + found.lower + lower) (above tree.levels (above tree.levels index found.lower) lower) ≡ None =
+            cached_node tree (level + found.lower + lower) (above tree.geometry (above tree.geometry index found.lower) lower) ≡ None =
             λ lower few.
             let sum : level + found.lower + lower ≡ level + (found.lower + lower) = omega arith in
-            ap (λ (k : ℕ). cached_node tree k (above tree.levels (above tree.levels index found.lower) lower)) sum
-            ∙ ap (λ (i : ℕ). cached_node tree (level + (found.lower + lower)) i) (above_on tree.levels index found.lower lower)
+            ap (λ (k : ℕ). cached_node tree k (above tree.geometry (above tree.geometry index found.lower) lower)) sum
+            ∙ ap (λ (i : ℕ). cached_node tree (level + (found.lower + lower)) i) (above_on tree.geometry index found.lower lower)
             ∙ none (found.lower + lower) (omega (arith, found.within)) in
-            let came : NodeCame made (level + found.lower + (more - found.lower)) (above tree.levels (above tree.levels index found.lower) (more - found.lower)) first second =
+            let came : NodeCame made (level + found.lower + (more - found.lower)) (above tree.geometry (above tree.geometry index found.lower) (more - found.lower)) first second =
             up.rose (more - found.lower) (omega (arith, level_is)) none_up in
-            let here : NodeCame made (level + more) (above tree.levels index more) first second =
-            subst (λ (k : ℕ). NodeCame made k (above tree.levels index more) first second) level_is
+            let here : NodeCame made (level + more) (above tree.geometry index more) first second =
+            subst (λ (k : ℕ). NodeCame made k (above tree.geometry index more) first second) level_is
             (subst (λ (i : ℕ). NodeCame made (level + found.lower + (more - found.lower)) i first second) index_is came) in
-            came_before made (level + more) (above tree.levels index more) first second third after here
+            came_before made (level + more) (above tree.geometry index more) first second third after here
       ];
 }
 
@@ -129,17 +138,17 @@ pub read_up_held : (tree : TreeView) (made : List Message) (level index : ℕ) (
     WasReadUp tree made level index old new
 read_up_held tree made level index old new held = record {
   rose = λ more inside none.
-      let first : cached_node tree (level + 0) (above tree.levels index 0) ≡ None = none 0 (omega arith) in
+      let first : cached_node tree (level + 0) (above tree.geometry index 0) ≡ None = none 0 (omega arith) in
       let level_is : level + 0 ≡ level = omega arith in
       let here : cached_node tree level index ≡ None =
-      sym (ap (λ (k : ℕ). cached_node tree k (above tree.levels index 0)) level_is
-      ∙ ap (λ (i : ℕ). cached_node tree level i) (above_none tree.levels index)) ∙ first in
+      sym (ap (λ (k : ℕ). cached_node tree k (above tree.geometry index 0)) level_is
+      ∙ ap (λ (i : ℕ). cached_node tree level i) (above_none tree.geometry index)) ∙ first in
       absurd (held here);
 }
 
 -- a place of a node so far up
-node_up : (levels from more_from : ℕ) (place : Place) → from ≤ more_from → IsNodeFrom levels more_from place → IsNodeFrom levels from place
-node_up levels from more_from place up is = record {
+node_up : (geometry : GeometryView) (from more_from : ℕ) (place : Place) → from ≤ more_from → IsNodeFrom geometry more_from place → IsNodeFrom geometry from place
+node_up geometry from more_from place up is = record {
   level = is.level;
   index = is.index;
   node = is.node;
@@ -154,16 +163,16 @@ unchanged_writes history engine =
 
 module _ {T : Type 0} (d n : T → List ℕ → List ℕ) where
   -- copies alone changed
-  pub climbs_recached : (from : ℕ) (tree tree' : TreeView) (history : BusHistory) (engine : TagEngineView T) → tree'.levels ≡ tree.levels → tree'.root ≡ tree.root →
-      (AreNodeCaches tree.levels tree.caches → AreNodeCaches tree'.levels tree'.caches) →
+  pub climbs_recached : (from : ℕ) (tree tree' : TreeView) (history : BusHistory) (engine : TagEngineView T) → tree'.geometry ≡ tree.geometry → tree'.root ≡ tree.root →
+      (AreNodeCaches tree.geometry tree.caches → AreNodeCaches tree'.geometry tree'.caches) →
       ((level : ℕ) → level < from → level_cache tree'.caches level ≡ level_cache tree.caches level) →
       (HoldsTree (tags_of d n) tree history engine → HoldsTree (tags_of d n) tree' history engine) →
       ((level index : ℕ) → cached_node tree' level index ≢ None → cached_node tree level index ≢ None) →
       Climbs (tags_of d n) from tree history engine tree' history engine None
-  climbs_recached from tree tree' history engine levels root nodes copies holds held = record {
+  climbs_recached from tree tree' history engine geometry root nodes copies holds held = record {
     moves = moves_not history engine;
     lines = same_lines_not history engine.made;
-    levels = levels;
+    geometry = geometry;
     root = root;
     nodes = nodes;
     copies = copies;
@@ -200,7 +209,7 @@ module _ {T : Type 0} (d n : T → List ℕ → List ℕ) where
   climbs_refused from tree history engine = record {
     moves = moves_not history engine;
     lines = same_lines_not history engine.made;
-    levels = refl;
+    geometry = refl;
     root = refl;
     nodes = λ are. are;
     copies = λ level low. refl;
@@ -233,7 +242,7 @@ module _ {T : Type 0} (d n : T → List ℕ → List ℕ) where
   climbs_up from more_from tree tree' old new engine engine' stop up climbs = record {
     moves = climbs.moves;
     lines = climbs.lines;
-    levels = climbs.levels;
+    geometry = climbs.geometry;
     root = climbs.root;
     nodes = climbs.nodes;
     copies = λ level low. climbs.copies level (omega arith);
@@ -245,8 +254,8 @@ module _ {T : Type 0} (d n : T → List ℕ → List ℕ) where
     honest = climbs.honest;
     lied = climbs.lied;
     shown = climbs.shown;
-    tampered = λ place is. node_up tree.levels from more_from place up (climbs.tampered place is);
-    found = λ quiet evidence is. node_up tree.levels from more_from (evidence_place evidence) up (climbs.found quiet evidence is);
+    tampered = λ place is. node_up tree.geometry from more_from place up (climbs.tampered place is);
+    found = λ quiet evidence is. node_up tree.geometry from more_from (evidence_place evidence) up (climbs.found quiet evidence is);
     unspent = climbs.unspent;
     room = climbs.room;
     no_rise = climbs.no_rise;
@@ -279,7 +288,7 @@ module _ {T : Type 0} (d n : T → List ℕ → List ℕ) where
       record {
         moves = moves;
         lines = same_lines_on first second third engine.made engine'.made engine''.made climbs.lines more.lines;
-        levels = more.levels ∙ climbs.levels;
+        geometry = more.geometry ∙ climbs.geometry;
         root = more.root ∙ climbs.root;
         nodes = λ are. more.nodes (climbs.nodes are);
         copies = λ level low. more.copies level low ∙ climbs.copies level low;
@@ -310,37 +319,37 @@ module _ {T : Type 0} (d n : T → List ℕ → List ℕ) where
                   let rose : Rose first.lies second.lies = climbs.shown holds quiet (some_not_none engine'.evidence shown.0 shown.1) in
                   omega (arith, rose, more.moves.lies)
             ];
-        tampered = λ place is. subst (λ (k : ℕ). IsNodeFrom k from place) climbs.levels (more.tampered place is);
+        tampered = λ place is. subst (λ (k : GeometryView). IsNodeFrom k from place) climbs.geometry (more.tampered place is);
         found = λ quiet evidence is.
             elim (some_or_none engine'.evidence) [
-              | inl still ↦ subst (λ (k : ℕ). IsNodeFrom k from (evidence_place evidence)) climbs.levels (more.found still evidence is)
+              | inl still ↦ subst (λ (k : GeometryView). IsNodeFrom k from (evidence_place evidence)) climbs.geometry (more.found still evidence is)
               | inr shown ↦
                   let kept : engine''.evidence ≡ Some shown.0 = more.moves.evidence shown.0 shown.1 in
                   let same : shown.0 ≡ evidence = cc in
-                  subst (λ (e : Evidence). IsNodeFrom tree.levels from (evidence_place e)) same (climbs.found quiet shown.0 shown.1)
+                  subst (λ (e : Evidence). IsNodeFrom tree.geometry from (evidence_place e)) same (climbs.found quiet shown.0 shown.1)
             ];
         unspent = more.unspent;
         room = omega (arith, climbs.room, more.room, long);
         no_rise = omega (arith, climbs.no_rise, more.no_rise);
         writes = subst (λ (k : ℕ). WritesMessages first third k (unwritten_in stop)) (sym long)
             (writes_on first second third (length climbs.moves.more) (length more.moves.more) (unwritten_in stop)
-            more.moves.bus_levels more.moves.reads more.moves.accesses climbs.writes more.writes);
+            more.moves.bus_geometry more.moves.reads more.moves.accesses climbs.writes more.writes);
         made_blocks = λ was.
-            subst (λ (k : ℕ). NodesAreMade k engine''.made third.written) climbs.levels
-            (more.made_blocks (subst (λ (k : ℕ). NodesAreMade k engine'.made second.written) (sym climbs.levels) (climbs.made_blocks was)));
+            subst (λ (k : GeometryView). NodesAreMade k engine''.made third.written) climbs.geometry
+            (more.made_blocks (subst (λ (k : GeometryView). NodesAreMade k engine'.made second.written) (sym climbs.geometry) (climbs.made_blocks was)));
         last_blocks = λ remembered was.
-            subst (λ (k : ℕ). NodesHoldLast k engine''.made third.written) climbs.levels
-            (more.last_blocks remembered (subst (λ (k : ℕ). NodesHoldLast k engine'.made second.written) (sym climbs.levels) (climbs.last_blocks going was)));
+            subst (λ (k : GeometryView). NodesHoldLast k engine''.made third.written) climbs.geometry
+            (more.last_blocks remembered (subst (λ (k : GeometryView). NodesHoldLast k engine'.made second.written) (sym climbs.geometry) (climbs.last_blocks going was)));
         slots = λ holds quiet tagged.
             let still : engine'.evidence ≡ None = was_none engine'.evidence engine''.evidence more.moves.evidence quiet in
-            subst (λ (t : Message → List ℕ). SlotsAreTags t tree.levels engine''.made) tags
-            (subst (λ (k : ℕ). SlotsAreTags (tags_of d n engine') k engine''.made) climbs.levels
+            subst (λ (t : Message → List ℕ). SlotsAreTags t tree.geometry engine''.made) tags
+            (subst (λ (k : GeometryView). SlotsAreTags (tags_of d n engine') k engine''.made) climbs.geometry
             (more.slots (climbs.holds holds going) quiet
-            (subst (λ (k : ℕ). SlotsAreTags (tags_of d n engine') k engine'.made) (sym climbs.levels)
-            (subst (λ (t : Message → List ℕ). SlotsAreTags t tree.levels engine'.made) (sym tags) (climbs.slots holds still tagged)))));
+            (subst (λ (k : GeometryView). SlotsAreTags (tags_of d n engine') k engine'.made) (sym climbs.geometry)
+            (subst (λ (t : Message → List ℕ). SlotsAreTags t tree.geometry engine'.made) (sym tags) (climbs.slots holds still tagged)))));
         read = λ holds quiet level index held.
             let still : engine'.evidence ≡ None = was_none engine'.evidence engine''.evidence more.moves.evidence quiet in
-            read_up_on tree mid engine.made engine'.made level index first second third climbs.levels climbs.moves.reads more.moves.reads
+            read_up_on tree mid engine.made engine'.made level index first second third climbs.geometry climbs.moves.reads more.moves.reads
             (unmade_before engine.made engine'.made climbs.moves.more climbs.moves.made) (climbs.read holds still)
             (more.read (climbs.holds holds going) quiet level index held);
         unread = λ holds quiet level index none.

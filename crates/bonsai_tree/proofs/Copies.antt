@@ -3,7 +3,7 @@ use Rattle.std.proofs.Common.{◌≡◌, ◌≢◌, inl, inr, ℕ, zero, suc, �
 use Rattle.std.proofs.Math.ListN.{set}
 use Rattle.std.proofs.lemmas.Bool.{cases_eq, cases_lt}
 use Rattle.std.proofs.lemmas.List.{get_or_default, get_or_past, get_or-replicate, get_or-set_same, get_or-set_other, length-replicate, length-set, replicate-append-replicate}
-use Rattle.sec_base.specs.Geometry.{IsNode}
+use Rattle.sec_base.specs.Geometry.{GeometryView, IsNode}
 use Rattle.cache_set.specs.declared.way.Way.{Way}
 use Rattle.cache_set.specs.Cache.{IsCache, new_cache, places, set_at, way_at}
 use Rattle.cache_set.proofs.Sets.{cache_new, none_new, few_in}
@@ -19,7 +19,7 @@ level_other : (caches : List (List (List Way))) (level : ℕ) (cache : List (Lis
 level_other caches level cache some zero apart = refl
 level_other caches level cache some (suc other) apart = get_or-set_other caches (level - 1) other cache [] (λ same. apart (omega (arith, same)))
 
-module _ (levels : ℕ) (caches : List (List (List Way))) (level : ℕ) (is : AreNodeCaches levels caches) (some : 0 < level) (inside : level ≤ levels)
+module _ (geometry : GeometryView) (caches : List (List (List Way))) (level : ℕ) (is : AreNodeCaches geometry caches) (some : 0 < level) (inside : level ≤ geometry.levels)
     (old : List (List Way)) (was : old ≡ get_or caches (level - 1) old) where
   below : level - 1 < length caches
   below = omega (arith, is.all)
@@ -54,8 +54,8 @@ module _ (levels : ℕ) (caches : List (List (List Way))) (level : ℕ) (is : Ar
         ]
 
     -- where the ways are of nodes of the level, and whole
-    pub are_with : IsCache node_sets new → ((at : ℕ) (way : Way) → way_at new at ≡ Some way → IsNode levels level at × (length way.copy ≡ 64)) →
-        AreNodeCaches levels (set caches (level - 1) new)
+    pub are_with : IsCache node_sets new → ((at : ℕ) (way : Way) → way_at new at ≡ Some way → IsNode geometry level at × (length way.copy ≡ 64)) →
+        AreNodeCaches geometry (set caches (level - 1) new)
     are_with cache of = record {
       all = length-set caches (level - 1) new ∙ is.all;
       each = λ other low high.
@@ -66,7 +66,7 @@ module _ (levels : ℕ) (caches : List (List (List Way))) (level : ℕ) (is : Ar
       nodes = λ other at way found.
           elim (cases_eq other level) [
             | inr apart ↦ is.nodes other at way (ap (λ (c : List (List Way)). way_at c at) (sym (others other apart)) ∙ found)
-            | inl e ↦ subst (λ (k : ℕ). IsNode levels k at) (sym e)
+            | inl e ↦ subst (λ (k : ℕ). IsNode geometry k at) (sym e)
                 (of at way (ap (λ (c : List (List Way)). way_at c at) (sym level_here)
                 ∙ ap (λ (k : ℕ). node_way (set caches (level - 1) new) k at) (sym e) ∙ found)).0
           ];
@@ -79,17 +79,17 @@ module _ (levels : ℕ) (caches : List (List (List Way))) (level : ℕ) (is : Ar
     }
 
     -- where the ways are those of before
-    of_before : (at : ℕ) (way : Way) → way_at new at ≡ way_at old at → way_at new at ≡ Some way → IsNode levels level at × (length way.copy ≡ 64)
+    of_before : (at : ℕ) (way : Way) → way_at new at ≡ way_at old at → way_at new at ≡ Some way → IsNode geometry level at × (length way.copy ≡ 64)
     of_before at way same found =
         let before : node_way caches level at ≡ Some way = ap (λ (c : List (List Way)). way_at c at) read_level ∙ sym same ∙ found in
         (is.nodes level at way before, is.whole level at way before)
 
-    pub are_same : IsCache node_sets new → ((at : ℕ) → way_at new at ≡ way_at old at) → AreNodeCaches levels (set caches (level - 1) new)
+    pub are_same : IsCache node_sets new → ((at : ℕ) → way_at new at ≡ way_at old at) → AreNodeCaches geometry (set caches (level - 1) new)
     are_same cache same = are_with cache (λ at way found. of_before at way (same at) found)
 
-    pub are_put : IsCache node_sets new → (index : ℕ) (block : List ℕ) (put : Bool) → IsNode levels level index → length block ≡ 64 →
+    pub are_put : IsCache node_sets new → (index : ℕ) (block : List ℕ) (put : Bool) → IsNode geometry level index → length block ≡ 64 →
         way_at new index ≡ Some (record { place = index; changed = put; copy = block }) →
-        ((at : ℕ) → at ≢ index → way_at new at ≡ way_at old at) → AreNodeCaches levels (set caches (level - 1) new)
+        ((at : ℕ) → at ≢ index → way_at new at ≡ way_at old at) → AreNodeCaches geometry (set caches (level - 1) new)
     are_put cache index block put node long here same =
         are_with cache
         (λ at way found.
@@ -99,11 +99,11 @@ module _ (levels : ℕ) (caches : List (List (List Way))) (level : ℕ) (is : Ar
               let is_way : Some way ≡ Some (record { place = index; changed = put; copy = block }) =
               sym found ∙ ap (way_at new) e ∙ here in
               let copy : way.copy ≡ block = cc in
-              (subst (IsNode levels level) (sym e) node, ap length copy ∙ long)
+              (subst (IsNode geometry level) (sym e) node, ap length copy ∙ long)
         ])
 
     pub are_left : IsCache node_sets new → (index : ℕ) → way_at new index ≡ None →
-        ((at : ℕ) → at ≢ index → way_at new at ≡ way_at old at) → AreNodeCaches levels (set caches (level - 1) new)
+        ((at : ℕ) → at ≢ index → way_at new at ≡ way_at old at) → AreNodeCaches geometry (set caches (level - 1) new)
     are_left cache index none same =
         are_with cache
         (λ at way found.
@@ -154,21 +154,21 @@ new_none levels (suc level) =
       | inr past ↦ ap places (level_past levels (suc level) (omega arith))
     ]
 
-pub new_are : (levels : ℕ) → AreNodeCaches levels (new_caches levels)
+pub new_are : (geometry : GeometryView) → AreNodeCaches geometry (new_caches geometry.levels)
 unfolding new_caches
-new_are levels = record {
-  all = length-replicate levels (new_cache node_sets);
-  each = λ level some inside. subst (IsCache node_sets) (sym (level_new levels level some inside)) (cache_new node_sets (omega arith) (omega arith));
-  nodes = λ level index way found. let none : None ≡ Some way = sym (new_empty levels level index) ∙ found in absurd (cc);
-  whole = λ level index way found. let none : None ≡ Some way = sym (new_empty levels level index) ∙ found in absurd (cc);
+new_are geometry = record {
+  all = length-replicate geometry.levels (new_cache node_sets);
+  each = λ level some inside. subst (IsCache node_sets) (sym (level_new geometry.levels level some inside)) (cache_new node_sets (omega arith) (omega arith));
+  nodes = λ level index way found. let none : None ≡ Some way = sym (new_empty geometry.levels level index) ∙ found in absurd (cc);
+  whole = λ level index way found. let none : None ≡ Some way = sym (new_empty geometry.levels level index) ∙ found in absurd (cc);
 }
 
 -- There are few copies
 
-pub few_copies : (levels : ℕ) (caches : List (List (List Way))) (level : ℕ) → AreNodeCaches levels caches → length (copied_nodes caches level) ≤ most_copies
-few_copies levels caches zero is = omega arith
-few_copies levels caches (suc level) is =
-    elim (cases_lt level levels) [
+pub few_copies : (geometry : GeometryView) (caches : List (List (List Way))) (level : ℕ) → AreNodeCaches geometry caches → length (copied_nodes caches level) ≤ most_copies
+few_copies geometry caches zero is = omega arith
+few_copies geometry caches (suc level) is =
+    elim (cases_lt level geometry.levels) [
       | inl less ↦
           let cache : IsCache node_sets (level_cache caches (suc level)) = is.each (suc level) (omega arith) (omega arith) in
           omega (arith, few_in node_sets 0 (level_cache caches (suc level)) cache.sets_are, cache.counted)
@@ -178,8 +178,8 @@ few_copies levels caches (suc level) is =
     ]
 
 -- a node whose copy is the most recently used one has a copy
-pub latest_held : (levels : ℕ) (caches : List (List (List Way))) (level index : ℕ) → AreNodeCaches levels caches → 0 < level → level ≤ levels →
+pub latest_held : (geometry : GeometryView) (caches : List (List (List Way))) (level index : ℕ) → AreNodeCaches geometry caches → 0 < level → level ≤ geometry.levels →
     IsLatestNode caches level index → IsSome (node_way caches level index)
-latest_held levels caches level index is some inside latest =
+latest_held geometry caches level index is some inside latest =
     let cache : IsCache node_sets (level_cache caches level) = is.each level some inside in
     latest_found index (set_at (level_cache caches level) index) latest

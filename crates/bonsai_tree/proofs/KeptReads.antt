@@ -2,7 +2,7 @@
 use Rattle.std.proofs.Common.{◌≡◌, ◌≢◌, ◌⊎◌, inl, inr, ℕ, ◌+◌, ◌≤◌, List, Option, Some, None, Result, Ok, Err, refl, ap, sym, ◌∙◌, arith}
 use Rattle.std.specs.Prelude.{IfOk}
 use Rattle.std.specs.Result.{result_err}
-use Rattle.sec_base.specs.Count.{Rose, more_by}
+use Rattle.sec_base.specs.Count.{Rose}
 use Rattle.sec_base.specs.LastMessage.{last_node}
 use Rattle.sec_base.specs.declared.counter.Counter.{Counter}
 use Rattle.sec_base.specs.declared.evidence.Evidence.TheVariants.{Collision}
@@ -11,7 +11,7 @@ use Rattle.sec_base.specs.declared.message.Message.TheVariants.{Node}
 use Rattle.sec_base.specs.declared.place.Place.{Place}
 use Rattle.sec_base.specs.declared.place.Place.TheVariants.{Node as node_place}
 use Rattle.sec_base.specs.declared.stop.MemStop.{MemStop}
-use Rattle.sec_base.specs.declared.stop.MemStop.TheVariants.{Tampered, Spent, NoMemory}
+use Rattle.sec_base.specs.declared.stop.MemStop.TheVariants.{Tampered, Spent}
 use Rattle.bus_model.specs.BusHistory.{BusHistory}
 use Rattle.tag_engine.specs.TagEngine.{TagEngineView, tags_of}
 use Rattle.tag_engine.proofs.Marks.{engine_tag_some}
@@ -30,7 +30,7 @@ reads_none d n level index tag history engine none =
     λ kept. elim kept [
       | inl never ↦ never.1
       | inr current ↦
-          absurd (engine_tag_some (d engine.tagger) (n engine.tagger) engine.levels (Node level index current.block) (sym current.tagged ∙ none))
+          absurd (engine_tag_some (d engine.tagger) (n engine.tagger) engine.geometry (Node level index current.block) (sym current.tagged ∙ none))
     ] in
     record {
       moves = moves_not history engine;

@@ -1,9 +1,9 @@
 -- One read, one write, and a change of copies, as what calls make of the tree.
-use Rattle.std.proofs.Common.{◌≡◌, ◌≢◌, ◌⊎◌, inl, inr, ℕ, ◌+◌, ◌*◌, ◌/◌, ◌<◌, ◌≤◌, false, max, List, [], ◌∷◌, ◌++◌, length, Option, Some, None, Result, refl, ap, sym, ◌∙◌, subst, arith, ◌-◌}
+use Rattle.std.proofs.Common.{◌≡◌, ◌≢◌, ◌⊎◌, inl, inr, ℕ, ◌+◌, ◌/◌, ◌<◌, ◌≤◌, false, max, List, [], ◌∷◌, ◌++◌, length, Option, Some, None, Result, refl, ap, sym, ◌∙◌, subst, arith, ◌-◌}
 use Rattle.std.specs.Result.{result_err}
 use Rattle.std.proofs.lemmas.Bool.{cases_lt}
 use Rattle.sec_base.specs.Evidence.{evidence_place}
-use Rattle.sec_base.specs.Geometry.{IsNode}
+use Rattle.sec_base.specs.Geometry.{GeometryView, IsNode, arity, child}
 use Rattle.sec_base.specs.LastMessage.{last_node}
 use Rattle.sec_base.specs.declared.counter.Counter.{Counter}
 use Rattle.sec_base.specs.declared.evidence.Evidence.{Evidence}
@@ -13,6 +13,7 @@ use Rattle.sec_base.specs.declared.place.Place.{Place}
 use Rattle.sec_base.specs.declared.place.Place.TheVariants.{Node as node_place}
 use Rattle.sec_base.specs.declared.stop.MemStop.{MemStop}
 use Rattle.sec_base.specs.declared.stop.MemStop.TheVariants.{Tampered, Spent, NoMemory}
+use Rattle.sec_base.specs.Tag.{IsTag}
 use Rattle.sec_base.proofs.Results.{stop_is, was_none}
 use Rattle.bus_model.specs.BusHistory.{BusHistory}
 use Rattle.tag_engine.specs.TagEngine.{TagEngineView, tags_of, with_room}
@@ -25,27 +26,27 @@ use Rattle.bonsai_tree.specs.Node.{CachedNode, block_or_zeros, current_of, level
 use Rattle.bonsai_tree.specs.NodeCache.{AreNodeCaches, OtherLevels, level_cache}
 use Rattle.bonsai_tree.specs.Tree.{HoldsTree, IsNodeFrom, IsTree, NodeCame, NodesAreMade, NodesHoldLast, SlotsAreTags, TreeView, WasReadUp, above, cached_node, current_block, kept_tag}
 use Rattle.bonsai_tree.specs.Writing.{WritesNodes}
-use Rattle.bonsai_tree.proofs.Climbs.{climbs_recached, read_up_held}
+use Rattle.bonsai_tree.proofs.Climbs.{above_none, above_one, climbs_recached, read_up_held}
 use Rattle.bonsai_tree.proofs.MadeSlots.{current_slots, slots_more}
 use Rattle.bonsai_tree.proofs.LevelBlocks.{blocks_other}
 use Rattle.bonsai_tree.proofs.Nodes.{SameNode, is_kept, same_or_not, same_tags}
 use Rattle.bonsai_tree.proofs.NodeWrites.{NodeWritten, is_put}
 use Rattle.bonsai_tree.proofs.Puts.{IsPut, PutsTag, tree_put, tree_recached}
 
-here_from : (levels level index : ℕ) (place : Place) → IsNode levels level index → place ≡ node_place level index → IsNodeFrom levels level place
-here_from levels level index place node is = record { level = level; index = index; node = node; above = omega arith; place_is = is }
+here_from : (geometry : GeometryView) (level index : ℕ) (place : Place) → IsNode geometry level index → place ≡ node_place level index → IsNodeFrom geometry level place
+here_from geometry level index place node is = record { level = level; index = index; node = node; above = omega arith; place_is = is }
 
 module _ {T : Type 0} (d n : T → List ℕ → List ℕ) where
   -- all copies are the same
-  pub climbs_touched : (level : ℕ) (tree tree' : TreeView) (history : BusHistory) (engine : TagEngineView T) → tree'.levels ≡ tree.levels → tree'.root ≡ tree.root →
-      AreNodeCaches tree'.levels tree'.caches → OtherLevels level tree.caches tree'.caches → ((other at : ℕ) → cached_node tree' other at ≡ cached_node tree other at) →
+  pub climbs_touched : (level : ℕ) (tree tree' : TreeView) (history : BusHistory) (engine : TagEngineView T) → tree'.geometry ≡ tree.geometry → tree'.root ≡ tree.root →
+      AreNodeCaches tree'.geometry tree'.caches → OtherLevels level tree.caches tree'.caches → ((other at : ℕ) → cached_node tree' other at ≡ cached_node tree other at) →
       Climbs (tags_of d n) level tree history engine tree' history engine None
-  climbs_touched level tree tree' history engine levels root nodes others same =
-      climbs_recached d n level tree tree' history engine levels root (λ are. nodes)
+  climbs_touched level tree tree' history engine geometry root nodes others same =
+      climbs_recached d n level tree tree' history engine geometry root (λ are. nodes)
       (λ other low. others other (λ (e : other ≡ level). absurd (omega (arith, e, low))))
       (λ was. record {
         fits = λ quiet.
-            tree_recached (tags_of d n engine) tree tree' engine.made history.written (was.fits quiet) levels root
+            tree_recached (tags_of d n engine) tree tree' engine.made history.written (was.fits quiet) geometry root
             (λ other at node. ap (λ (o : Option CachedNode). current_of o (last_node other at engine.made)) (same other at))
             (λ other at copy node found unchanged. (was.fits quiet).clean other at copy node (sym (same other at) ∙ found) unchanged);
       })
@@ -53,17 +54,17 @@ module _ {T : Type 0} (d n : T → List ℕ → List ℕ) where
 
   -- a copy is gone that was the node's last block
   pub climbs_dropped : (level index : ℕ) (tree tree' : TreeView) (history : BusHistory) (engine : TagEngineView T) (copy : CachedNode) →
-      tree'.levels ≡ tree.levels → tree'.root ≡ tree.root → AreNodeCaches tree'.levels tree'.caches → OtherLevels level tree.caches tree'.caches →
+      tree'.geometry ≡ tree.geometry → tree'.root ≡ tree.root → AreNodeCaches tree'.geometry tree'.caches → OtherLevels level tree.caches tree'.caches →
       cached_node tree level index ≡ Some copy → cached_node tree' level index ≡ None →
       ((other at : ℕ) → ¬ (SameNode level index other at) → cached_node tree' other at ≡ cached_node tree other at) →
       (HoldsTree (tags_of d n) tree history engine → engine.evidence ≡ None → copy.block ≡ block_or_zeros (last_node level index engine.made)) →
       Climbs (tags_of d n) level tree history engine tree' history engine None
-  climbs_dropped level index tree tree' history engine copy levels root nodes others held gone same is_last =
-      climbs_recached d n level tree tree' history engine levels root (λ are. nodes)
+  climbs_dropped level index tree tree' history engine copy geometry root nodes others held gone same is_last =
+      climbs_recached d n level tree tree' history engine geometry root (λ are. nodes)
       (λ other low. others other (λ (e : other ≡ level). absurd (omega (arith, e, low))))
       (λ was. record {
         fits = λ quiet.
-            tree_recached (tags_of d n engine) tree tree' engine.made history.written (was.fits quiet) levels root
+            tree_recached (tags_of d n engine) tree tree' engine.made history.written (was.fits quiet) geometry root
             (λ other at node. elim (same_or_not level index other at) [
               | inr apart ↦ ap (λ (o : Option CachedNode). current_of o (last_node other at engine.made)) (same other at apart)
               | inl here ↦
@@ -89,7 +90,7 @@ module _ {T : Type 0} (d n : T → List ℕ → List ℕ) where
   -- A read of a node
 
   module _ (tree : TreeView) (level index : ℕ) (tag : List ℕ) (old new : BusHistory) (engine engine' : TagEngineView T) (result : Result (List ℕ) MemStop)
-      (node : IsNode tree.levels level index) (is_tag : tag ≡ kept_tag tree engine.made level index)
+      (node : IsNode tree.geometry level index) (is_tag : tag ≡ kept_tag tree engine.made level index)
       (read : ReadsKept (tags_of d n) level index tag old engine new engine' result) where
     tags_same : tags_of d n engine' ≡ tags_of d n engine
     tags_same = same_tags d n old new engine engine' read.moves
@@ -114,7 +115,7 @@ module _ {T : Type 0} (d n : T → List ℕ → List ℕ) where
         record {
           moves = read.moves;
           lines = read.lines;
-          levels = refl;
+          geometry = refl;
           root = refl;
           nodes = λ are. are;
           copies = λ other low. refl;
@@ -126,30 +127,30 @@ module _ {T : Type 0} (d n : T → List ℕ → List ℕ) where
           honest = λ holds used was. read.honest used (λ quiet. kept_node holds quiet) was;
           lied = λ holds quiet place is. (read.tampered place (stop_is result (Tampered place) is)).1 (kept_node holds quiet);
           shown = λ holds quiet some. read.shown (kept_node holds quiet) quiet some;
-          tampered = λ place is. here_from tree.levels level index place node (read.tampered place (stop_is result (Tampered place) is)).0;
-          found = λ quiet evidence is. here_from tree.levels level index (evidence_place evidence) node (read.found evidence quiet is);
+          tampered = λ place is. here_from tree.geometry level index place node (read.tampered place (stop_is result (Tampered place) is)).0;
+          found = λ quiet evidence is. here_from tree.geometry level index (evidence_place evidence) node (read.found evidence quiet is);
           unspent = λ spent is. read.unspent spent (stop_is result (Spent spent) is);
           room = omega (arith, read.room);
           no_rise = omega (arith, read.room);
           writes = record { writes = 0; counted = read.counted; at_most = omega arith; at_least = omega (arith, none) };
           made_blocks = λ was.
-              subst (λ (m : List Message). NodesAreMade tree.levels m new.written) (sym read.made)
-              (subst (λ (w : Place → List ℕ). NodesAreMade tree.levels engine.made w) (sym read.written) was);
+              subst (λ (m : List Message). NodesAreMade tree.geometry m new.written) (sym read.made)
+              (subst (λ (w : Place → List ℕ). NodesAreMade tree.geometry engine.made w) (sym read.written) was);
           last_blocks = λ remembered was.
-              subst (λ (m : List Message). NodesHoldLast tree.levels m new.written) (sym read.made)
-              (subst (λ (w : Place → List ℕ). NodesHoldLast tree.levels engine.made w) (sym read.written) was);
-          slots = λ holds quiet tagged. subst (λ (m : List Message). SlotsAreTags (tags_of d n engine) tree.levels m) (sym read.made) tagged;
+              subst (λ (m : List Message). NodesHoldLast tree.geometry m new.written) (sym read.made)
+              (subst (λ (w : Place → List ℕ). NodesHoldLast tree.geometry engine.made w) (sym read.written) was);
+          slots = λ holds quiet tagged. subst (λ (m : List Message). SlotsAreTags (tags_of d n engine) tree.geometry m) (sym read.made) tagged;
           read = λ holds quiet other at held. read_up_held tree engine.made other at old new held;
           unread = λ holds quiet other at none.
               read.unread (kept_node holds (quiet_before quiet)) other at (ap (λ (m : List Message). last_node other at m) (sym read.made) ∙ none);
         }
 
     -- and its block is kept as a copy
-    module _ (tree' : TreeView) (block : List ℕ) (is_ok : result_err result ≡ None) (levels : tree'.levels ≡ tree.levels) (root : tree'.root ≡ tree.root)
-        (nodes : AreNodeCaches tree'.levels tree'.caches) (others : OtherLevels level tree.caches tree'.caches) (absent : cached_node tree level index ≡ None)
+    module _ (tree' : TreeView) (block : List ℕ) (is_ok : result_err result ≡ None) (geometry : tree'.geometry ≡ tree.geometry) (root : tree'.root ≡ tree.root)
+        (nodes : AreNodeCaches tree'.geometry tree'.caches) (others : OtherLevels level tree.caches tree'.caches) (absent : cached_node tree level index ≡ None)
         (put : cached_node tree' level index ≡ Some (record { block = block; changed = false }))
         (same : (other at : ℕ) → ¬ (SameNode level index other at) → cached_node tree' other at ≡ cached_node tree other at)
-        (parent : level < tree.levels → cached_node tree (level + 1) (index / 4) ≢ None)
+        (parent : level < tree.geometry.levels → cached_node tree (level + 1) (index / arity tree.geometry) ≢ None)
         (known : IsKeptNode (tags_of d n engine) engine.made old.written level index tag → engine'.evidence ≡ None →
         block ≡ block_or_zeros (last_node level index engine.made)) where
       block_last : HoldsTree (tags_of d n) tree old engine → engine'.evidence ≡ None → block_or_zeros (last_node level index engine'.made) ≡ block
@@ -160,7 +161,7 @@ module _ {T : Type 0} (d n : T → List ℕ → List ℕ) where
       put_fits : HoldsTree (tags_of d n) tree old engine → engine'.evidence ≡ None → IsTree (tags_of d n engine') tree' engine'.made new.written
       put_fits holds quiet =
           let fits : IsTree (tags_of d n engine') tree engine'.made new.written = read_fits holds quiet in
-          tree_recached (tags_of d n engine') tree tree' engine'.made new.written fits levels root
+          tree_recached (tags_of d n engine') tree tree' engine'.made new.written fits geometry root
           (λ other at inside. elim (same_or_not level index other at) [
             | inr apart ↦ ap (λ (o : Option CachedNode). current_of o (last_node other at engine'.made)) (same other at apart)
             | inl here ↦
@@ -184,17 +185,17 @@ module _ {T : Type 0} (d n : T → List ℕ → List ℕ) where
       read_here holds quiet = record {
         rose = λ more inside none. elim (cases_lt 0 more) [
           | inl some ↦
-              let first : cached_node tree (level + 1) (index / 4) ≡ None =
-              ap (λ (i : ℕ). cached_node tree (level + 1) i) (sym (ap (λ (k : ℕ). index / k) refl)) ∙ none 1 (omega arith) in
+              let first : cached_node tree (level + 1) (index / arity tree.geometry) ≡ None =
+              ap (λ (i : ℕ). cached_node tree (level + 1) i) (sym (above_one tree.geometry index)) ∙ none 1 (omega arith) in
               absurd (parent (omega (arith, inside, some)) first)
           | inr zero_more ↦
               let going : result_err result ≢ Some NoMemory = λ (e : result_err result ≡ Some NoMemory). cc in
               let came : NodeCame engine.made level index old new = read.came (kept_node holds (quiet_before quiet)) going in
               let level_is : level ≡ level + more = omega (arith, zero_more) in
               let none_more_is : 0 ≡ more = omega (arith, zero_more) in
-              let index_is : index ≡ above tree.levels index more =
-              subst (λ (k : ℕ). index ≡ above tree.levels index k) none_more_is (omega arith) in
-              subst (λ (k : ℕ). NodeCame engine.made k (above tree.levels index more) old new) level_is
+              let index_is : index ≡ above tree.geometry index more =
+              subst (λ (k : ℕ). index ≡ above tree.geometry index k) none_more_is (sym (above_none tree.geometry index)) in
+              subst (λ (k : ℕ). NodeCame engine.made k (above tree.geometry index more) old new) level_is
               (subst (λ (i : ℕ). NodeCame engine.made level i old new) index_is came)
         ];
       }
@@ -206,7 +207,7 @@ module _ {T : Type 0} (d n : T → List ℕ → List ℕ) where
           record {
             moves = climbs.moves;
             lines = climbs.lines;
-            levels = levels;
+            geometry = geometry;
             root = root;
             nodes = λ are. nodes;
             copies = λ other low. others other (λ (e : other ≡ level). absurd (omega (arith, e, low)));
@@ -239,15 +240,15 @@ module _ {T : Type 0} (d n : T → List ℕ → List ℕ) where
   -- Writes of a node
 
   -- where room was taken for its message first
-  pub writes_taken : (levels : ℕ) (old new : BusHistory) (engine taken engine' : TagEngineView T) (unwritten : ℕ) → taken ≡ with_room 1 engine →
-      WritesNodes (tags_of d n) levels old taken new engine' unwritten → WritesNodes (tags_of d n) levels old engine new engine' unwritten
-  writes_taken levels old new engine taken engine' unwritten taken_is wrote_taken =
-      let wrote : WritesNodes (tags_of d n) levels old (with_room 1 engine) new engine' unwritten =
-      subst (λ (e : TagEngineView T). WritesNodes (tags_of d n) levels old e new engine' unwritten) taken_is wrote_taken in
+  pub writes_taken : (geometry : GeometryView) (old new : BusHistory) (engine taken engine' : TagEngineView T) (unwritten : ℕ) → taken ≡ with_room 1 engine →
+      WritesNodes (tags_of d n) geometry old taken new engine' unwritten → WritesNodes (tags_of d n) geometry old engine new engine' unwritten
+  writes_taken geometry old new engine taken engine' unwritten taken_is wrote_taken =
+      let wrote : WritesNodes (tags_of d n) geometry old (with_room 1 engine) new engine' unwritten =
+      subst (λ (e : TagEngineView T). WritesNodes (tags_of d n) geometry old e new engine' unwritten) taken_is wrote_taken in
       record {
         moves = record {
-          bus_levels = wrote.moves.bus_levels;
-          levels = wrote.moves.levels;
+          bus_geometry = wrote.moves.bus_geometry;
+          geometry = wrote.moves.geometry;
           tagger = wrote.moves.tagger;
           more = wrote.moves.more;
           made = wrote.moves.made;
@@ -294,21 +295,21 @@ module _ {T : Type 0} (d n : T → List ℕ → List ℕ) where
   none_unwritten stop (inr want) remembered = absurd (remembered want)
 
   pub climbs_wrote : (tree tree' : TreeView) (level : ℕ) (old new : BusHistory) (engine engine' : TagEngineView T) (stop : Option MemStop) → CanStop stop →
-      WritesNodes (tags_of d n) tree.levels old engine new engine' (unwritten_in stop) → engine'.room ≤ engine.room → tree'.levels ≡ tree.levels → tree'.root ≡ tree.root →
-      (AreNodeCaches tree.levels tree.caches → AreNodeCaches tree'.levels tree'.caches) →
+      WritesNodes (tags_of d n) tree.geometry old engine new engine' (unwritten_in stop) → engine'.room ≤ engine.room → tree'.geometry ≡ tree.geometry → tree'.root ≡ tree.root →
+      (AreNodeCaches tree.geometry tree.caches → AreNodeCaches tree'.geometry tree'.caches) →
       ((other : ℕ) → other < level → level_cache tree'.caches other ≡ level_cache tree.caches other) →
       ((other at : ℕ) → other < level → last_node other at engine'.made ≡ last_node other at engine.made) →
       ((other : ℕ) → other < level → level_blocks other engine'.made ≡ level_blocks other engine.made) →
       ((other at : ℕ) → other < level → new.written (node_place other at) ≡ old.written (node_place other at)) →
       (HoldsTree (tags_of d n) tree old engine → stop ≢ Some NoMemory → HoldsTree (tags_of d n) tree' new engine') →
-      (HoldsTree (tags_of d n) tree old engine → engine'.evidence ≡ None → SlotsAreTags (tags_of d n engine) tree.levels engine.made →
-      SlotsAreTags (tags_of d n engine) tree.levels engine'.made) →
+      (HoldsTree (tags_of d n) tree old engine → engine'.evidence ≡ None → SlotsAreTags (tags_of d n engine) tree.geometry engine.made →
+      SlotsAreTags (tags_of d n engine) tree.geometry engine'.made) →
       ((other at : ℕ) → cached_node tree' other at ≢ None → cached_node tree other at ≢ None) →
       Climbs (tags_of d n) level tree old engine tree' new engine' stop
-  climbs_wrote tree tree' level old new engine engine' stop can wrote no_rise levels root nodes copies last blocks written holds slots held = record {
+  climbs_wrote tree tree' level old new engine engine' stop can wrote no_rise geometry root nodes copies last blocks written holds slots held = record {
     moves = wrote.moves;
     lines = wrote.lines;
-    levels = levels;
+    geometry = geometry;
     root = root;
     nodes = nodes;
     copies = copies;
@@ -365,9 +366,9 @@ module _ {T : Type 0} (d n : T → List ℕ → List ℕ) where
         let level_same : other ≡ level = cc in let index_same : at ≡ index = cc in apart (level_same, index_same))).written
 
     -- each slot of a block that is the node's current one has the tag of a message
-    pub put_slots : IsNode tree.levels level index → (level ≡ 0) ⊎ (current_block tree engine.made level index ≡ block) →
-        HoldsTree (tags_of d n) tree old engine → engine'.evidence ≡ None → SlotsAreTags (tags_of d n engine) tree.levels engine.made →
-        SlotsAreTags (tags_of d n engine) tree.levels engine'.made
+    pub put_slots : IsNode tree.geometry level index → (level ≡ 0) ⊎ (current_block tree engine.made level index ≡ block) →
+        HoldsTree (tags_of d n) tree old engine → engine'.evidence ≡ None → SlotsAreTags (tags_of d n engine) tree.geometry engine.made →
+        SlotsAreTags (tags_of d n engine) tree.geometry engine'.made
     put_slots node is_current_block holds quiet tagged =
         let same_evidence : engine'.evidence ≡ engine.evidence =
         ap (λ (e : TagEngineView T). e.evidence) write.made ∙ ap (λ (e : TagEngineView T). e.evidence) taken_is in
@@ -375,22 +376,22 @@ module _ {T : Type 0} (d n : T → List ℕ → List ℕ) where
         let kept_of : ℕ → ℕ → List ℕ = λ lower at. tag_of_last (tags_of d n engine) lower at (last_node lower at engine.made) in
         let made_is : engine'.made ≡ engine.made ++ Node level index block ∷ [] =
         ap (λ (e : TagEngineView T). e.made) write.made ∙ ap (λ (m : List Message). m ++ Node level index block ∷ []) made_before in
-        subst (λ (m : List Message). SlotsAreTags (tags_of d n engine) tree.levels m) (sym made_is)
-        (slots_more (tags_of d n engine) tree.levels engine.made level index block tagged
+        subst (λ (m : List Message). SlotsAreTags (tags_of d n engine) tree.geometry m) (sym made_is)
+        (slots_more (tags_of d n engine) tree.geometry engine.made level index block tagged
         (λ lower at above inside. elim is_current_block [
           | inl first ↦ absurd (omega (arith, first, above))
           | inr is ↦
-              subst (λ (b : List ℕ). tag_in_slot at b ≡ kept_of lower (4 * index + at)) is
-              (subst (λ (k : ℕ). tag_in_slot at (current_block tree engine.made k index) ≡ kept_of lower (4 * index + at)) (sym above)
+              subst (λ (b : List ℕ). tag_in_slot tree.geometry at b ≡ kept_of lower (child tree.geometry index at)) is
+              (subst (λ (k : ℕ). tag_in_slot tree.geometry at (current_block tree engine.made k index) ≡ kept_of lower (child tree.geometry index at)) (sym above)
               (current_slots (tags_of d n engine) tree engine.made old.written lower index at (holds.fits was)
-              (subst (λ (k : ℕ). IsNode tree.levels k index) above node) inside))
+              (subst (λ (k : ℕ). IsNode tree.geometry k index) above node) inside))
         ]))
 
-    pub put_holds : WritesOnce (node_place level index) block old new → PutsTag tree tree' level index tag → level < tree.levels → IsNode tree.levels level index →
-        tag ≡ tags_of d n taken (Node level index block) → length tag ≡ 16 → length block ≡ 64 →
+    pub put_holds : WritesOnce (node_place level index) block old new → PutsTag tree tree' level index tag → level < tree.geometry.levels → IsNode tree.geometry level index →
+        tag ≡ tags_of d n taken (Node level index block) → IsTag tree.geometry.layout tag → length block ≡ 64 →
         (level ≡ 0) ⊎ (current_block tree engine.made level index ≡ block) →
         HoldsTree (tags_of d n) tree old engine → HoldsTree (tags_of d n) tree' new engine'
-    put_holds once puts below node is_tag tag_long long is_current_block holds = record {
+    put_holds once puts below node is_tag fits_tag long is_current_block holds = record {
       fits = λ quiet.
           let same_evidence : engine'.evidence ≡ engine.evidence =
           ap (λ (e : TagEngineView T). e.evidence) write.made ∙ ap (λ (e : TagEngineView T). e.evidence) taken_is in
@@ -402,7 +403,7 @@ module _ {T : Type 0} (d n : T → List ℕ → List ℕ) where
           (is_put d n level index block old new taken engine' write once) in
           subst (λ (t : Message → List ℕ). IsTree t tree' engine'.made new.written) (sym tags)
           (tree_put (tags_of d n engine) tree tree' engine.made engine'.made old.written new.written level index block tag (holds.fits was) puts put
-          below node (is_tag ∙ ap (λ (t : Message → List ℕ). t (Node level index block)) tags_taken) tag_long long is_current_block);
+          below node (is_tag ∙ ap (λ (t : Message → List ℕ). t (Node level index block)) tags_taken) fits_tag long is_current_block);
     }
 
 -- a copy that there is
@@ -414,7 +415,7 @@ held_copy (Some copy) held = (copy, refl)
 pub puts_held : (tree tree' : TreeView) (level index : ℕ) (tag : List ℕ) → PutsTag tree tree' level index tag → (other at : ℕ) →
     cached_node tree' other at ≢ None → cached_node tree other at ≢ None
 puts_held tree tree' level index tag puts other at held none =
-    elim (same_or_not (level + 1) (index / 4) other at) [
+    elim (same_or_not (level + 1) (index / arity tree.geometry) other at) [
       | inr apart ↦ held (puts.same other at apart ∙ none)
       | inl here ↦
           let some : cached_node tree other at ≡ Some puts.copy =

@@ -1,11 +1,9 @@
 -- Writes of nodes, one after another.
-use Rattle.std.proofs.Common.{◌≡◌, ◌≢◌, ◌⊎◌, inl, inr, ℕ, ◌+◌, ◌-◌, ◌<◌, ◌≤◌, true, nat_eq, List, [], ◌∷◌, ◌++◌, length, Some, None, Result, Ok, Err, refl, ap, sym, ◌∙◌, subst, arith, length-append}
-use Rattle.std.specs.Prelude.{Contains, OnErr, OnOk}
-use Rattle.std.proofs.lemmas.Bool.{cases_lt}
+use Rattle.std.proofs.Common.{◌≡◌, ◌≢◌, ◌⊎◌, inl, inr, ℕ, ◌+◌, ◌-◌, ◌≤◌, true, nat_eq, List, [], ◌∷◌, ◌++◌, length, Some, None, refl, ap, sym, ◌∙◌, subst, arith, length-append}
+use Rattle.std.specs.Prelude.{Contains}
 use Rattle.std.proofs.lemmas.Bool.Decides.{Decides-eqb}
-use Rattle.std.proofs.lemmas.List.{append-nil}
 use Rattle.std.proofs.lemmas.List.Elements.{Contains-append_left, Contains-append_right}
-use Rattle.sec_base.specs.Count.{more_by}
+use Rattle.sec_base.specs.Geometry.{GeometryView}
 use Rattle.sec_base.specs.LastMessage.{last_node, node_part}
 use Rattle.sec_base.specs.Place.{zeros_of}
 use Rattle.sec_base.specs.declared.counter.Counter.{Counter}
@@ -13,20 +11,16 @@ use Rattle.sec_base.specs.declared.message.Message.{Message}
 use Rattle.sec_base.specs.declared.message.Message.TheVariants.{Node}
 use Rattle.sec_base.specs.declared.place.Place.{Place}
 use Rattle.sec_base.specs.declared.place.Place.TheVariants.{Node as node_place}
-use Rattle.sec_base.specs.declared.stop.NoMemory.{NoMemory}
 use Rattle.sec_base.proofs.LastMessages.{last_of_same}
 use Rattle.sec_base.proofs.SamePlaces.{at_place-here}
 use Rattle.bus_model.specs.BusHistory.{BusHistory}
 use Rattle.tag_engine.specs.TagEngine.{TagEngineView, after_make, tags_of}
-use Rattle.checked_bus.proofs.Steps.{moves_on, same_lines_not, same_lines_on}
-use Rattle.checked_bus.proofs.CheckedReads.{none_lied, still_honest}
-use Rattle.checked_bus.specs.Accesses.{AreCounted, WritesMessages}
-use Rattle.checked_bus.specs.Steps.{IsAccounted, Moves, SameLines, SamePlace, WritesOnce, unwritten_in}
-use Rattle.bonsai_tree.specs.Tree.{NodesAreMade, NodesHoldLast, want_of}
+use Rattle.checked_bus.specs.Accesses.{AreCounted}
+use Rattle.checked_bus.specs.Steps.{IsAccounted, Moves, SameLines, SamePlace, WritesOnce}
+use Rattle.bonsai_tree.specs.Tree.{NodesAreMade, NodesHoldLast}
 use Rattle.bonsai_tree.specs.Writing.{WritesNodes}
 use Rattle.checked_bus.proofs.Steps.{counted_not}
-use Rattle.checked_bus.proofs.Writes.{writes_not, writes_on}
-use Rattle.bonsai_tree.proofs.Nodes.{SameNode, same_or_not, same_tags}
+use Rattle.bonsai_tree.proofs.Nodes.{SameNode, same_or_not}
 use Rattle.bonsai_tree.proofs.Puts.{IsPut}
 
 -- the node of a message has its block
@@ -89,9 +83,9 @@ module _ {T : Type 0} (d n : T → List ℕ → List ℕ) (level index : ℕ) (b
       (Contains-append_left engine.made (Node level index block ∷ []) (Node other at (old.written (node_place other at))) listed)))
 
   -- whether it was written or not
-  made_kept : (levels : ℕ) → (new.written (node_place level index) ≡ block) ⊎ (new ≡ old) →
-      NodesAreMade levels engine.made old.written → NodesAreMade levels engine'.made new.written
-  made_kept levels either was = record {
+  made_kept : (geometry : GeometryView) → (new.written (node_place level index) ≡ block) ⊎ (new ≡ old) →
+      NodesAreMade geometry engine.made old.written → NodesAreMade geometry engine'.made new.written
+  made_kept geometry either was = record {
     holds = λ other at node.
         elim either [
           | inr same ↦
@@ -112,9 +106,9 @@ module _ {T : Type 0} (d n : T → List ℕ → List ℕ) (level index : ℕ) (b
         ];
   }
 
-  last_kept : (levels : ℕ) → WritesOnce (node_place level index) block old new →
-      NodesHoldLast levels engine.made old.written → NodesHoldLast levels engine'.made new.written
-  last_kept levels once was = record {
+  last_kept : (geometry : GeometryView) → WritesOnce (node_place level index) block old new →
+      NodesHoldLast geometry engine.made old.written → NodesHoldLast geometry engine'.made new.written
+  last_kept geometry once was = record {
     holds = λ other at bytes node last.
         let put : IsPut level index block engine.made engine'.made old.written new.written = is_put once in
         elim (same_or_not level index other at) [
@@ -127,21 +121,21 @@ module _ {T : Type 0} (d n : T → List ℕ → List ℕ) (level index : ℕ) (b
         ];
   }
 
-  pub written_once : (levels : ℕ) → WritesOnce (node_place level index) block old new → WritesNodes (tags_of d n) levels old engine new engine' 0
-  written_once levels once = record {
+  pub written_once : (geometry : GeometryView) → WritesOnce (node_place level index) block old new → WritesNodes (tags_of d n) geometry old engine new engine' 0
+  written_once geometry once = record {
     moves = write.moves;
     lines = write.lines;
     evidence = ap (λ (e : TagEngineView T). e.evidence) write.made;
     room = room_left;
     reads = once.reads;
     writes = record { writes = 1; counted = once.counted; at_most = omega (arith, one_message); at_least = omega (arith, one_message) };
-    made_blocks = made_kept levels (inl (is_put once).stored);
-    last_blocks = λ none. last_kept levels once;
+    made_blocks = made_kept geometry (inl (is_put once).stored);
+    last_blocks = λ none. last_kept geometry once;
     honest = write.honest;
   }
 
-  pub written_not : (levels : ℕ) → new ≡ old → WritesNodes (tags_of d n) levels old engine new engine' 1
-  written_not levels same = record {
+  pub written_not : (geometry : GeometryView) → new ≡ old → WritesNodes (tags_of d n) geometry old engine new engine' 1
+  written_not geometry same = record {
     moves = write.moves;
     lines = write.lines;
     evidence = ap (λ (e : TagEngineView T). e.evidence) write.made;
@@ -153,7 +147,7 @@ module _ {T : Type 0} (d n : T → List ℕ → List ℕ) (level index : ℕ) (b
       at_most = omega arith;
       at_least = omega (arith, one_message);
     };
-    made_blocks = made_kept levels (inr same);
+    made_blocks = made_kept geometry (inr same);
     last_blocks = λ none. absurd (omega (arith, none));
     honest = write.honest;
   }

@@ -1,14 +1,11 @@
 -- What is read of the tree, and what is not changed.
-use Rattle.std.proofs.Common.{◌≡◌, ◌≢◌, ◌⊎◌, inl, inr, ℕ, ◌+◌, ◌/◌, ◌%◌, ◌<◌, ◌≤◌, Bool, true, false, cond, nat_lt, List, Option, Some, None, Result, Ok, Err, refl, ap, sym, ◌∙◌, arith}
+use Rattle.std.proofs.Common.{◌≡◌, ◌≢◌, ◌⊎◌, inl, inr, ℕ, ◌+◌, ◌/◌, ◌<◌, ◌≤◌, Bool, true, false, cond, nat_lt, List, Option, Some, None, Result, Ok, Err, refl, ap, sym, ◌∙◌, subst, arith}
 use Rattle.std.specs.Option.{option_or}
-use Rattle.std.specs.Result.{result_err}
 use Rattle.std.proofs.lemmas.Bool.{cases_eq}
 use Rattle.std.proofs.lemmas.Bool.Decides.{Decides-ltb}
-use Rattle.sec_base.specs.Count.{Rose}
 use Rattle.sec_base.specs.Evidence.{evidence_place}
-use Rattle.sec_base.specs.Geometry.{IsNode}
+use Rattle.sec_base.specs.Geometry.{GeometryView, IsNode, arity, slot}
 use Rattle.sec_base.specs.LastMessage.{last_node}
-use Rattle.sec_base.specs.declared.counter.Counter.{Counter}
 use Rattle.sec_base.specs.declared.evidence.Evidence.{Evidence}
 use Rattle.sec_base.specs.declared.message.Message.{Message}
 use Rattle.sec_base.specs.declared.place.Place.{Place}
@@ -19,7 +16,7 @@ use Rattle.bus_model.specs.BusHistory.{BusHistory}
 use Rattle.tag_engine.specs.TagEngine.{TagEngineView, collision_of, tags_of}
 use Rattle.tag_engine.proofs.Collisions.{collides}
 use Rattle.checked_bus.specs.Checks.{IsCheckedNode}
-use Rattle.checked_bus.specs.Steps.{IsAccounted, IsCurrentNode, Moves, ReadsOnce, SameLines}
+use Rattle.checked_bus.specs.Steps.{Moves}
 use Rattle.bonsai_tree.specs.KeptRead.{IsKeptNode}
 use Rattle.bonsai_tree.specs.Node.{block_or_zeros, tag_in_slot, tag_of_last}
 use Rattle.bonsai_tree.specs.Tree.{TreeView, IsTree, current_block, kept_tag}
@@ -39,20 +36,32 @@ same_or_not level index other at =
     ]
 
 -- below the top a tag is kept in the parent's current block, and at the top in the root register
-pub kept_below : (tree : TreeView) (made : List Message) (lower at : ℕ) → lower < tree.levels →
-    kept_tag tree made lower at ≡ tag_in_slot (at % 4) (current_block tree made (lower + 1) (at / 4))
+pub kept_below : (tree : TreeView) (made : List Message) (lower at : ℕ) → lower < tree.geometry.levels →
+    kept_tag tree made lower at ≡ tag_in_slot tree.geometry (slot tree.geometry at) (current_block tree made (lower + 1) (at / arity tree.geometry))
 kept_below tree made lower at below =
-    let test : nat_lt lower tree.levels ≡ true = (Decides-ltb lower tree.levels).1 below in
-    ap (λ (b : Bool). cond b (tag_in_slot (at % 4) (current_block tree made (lower + 1) (at / 4))) tree.root) test
+    let test : nat_lt lower tree.geometry.levels ≡ true = (Decides-ltb lower tree.geometry.levels).1 below in
+    ap (λ (b : Bool). cond b (tag_in_slot tree.geometry (slot tree.geometry at) (current_block tree made (lower + 1) (at / arity tree.geometry))) tree.root) test
+
+-- of a tree of the same geometry
+pub kept_as : (tree : TreeView) (geometry : GeometryView) (made : List Message) (lower at : ℕ) → tree.geometry ≡ geometry → lower < geometry.levels →
+    kept_tag tree made lower at ≡ tag_in_slot geometry (slot geometry at) (current_block tree made (lower + 1) (at / arity geometry))
+kept_as tree geometry made lower at same below =
+    kept_below tree made lower at (subst (λ (k : GeometryView). lower < k.levels) (sym same) below)
+    ∙ ap (λ (k : GeometryView). tag_in_slot k (slot k at) (current_block tree made (lower + 1) (at / arity k))) same
 
 not_below : (b : Bool) (x y : List ℕ) → (b ≡ true → ⊥) → cond b x y ≡ y
 not_below true x y no_way = absurd (no_way refl)
 not_below false x y no_way = refl
 
-pub kept_top : (tree : TreeView) (made : List Message) (lower at : ℕ) → tree.levels ≤ lower → kept_tag tree made lower at ≡ tree.root
+pub kept_top : (tree : TreeView) (made : List Message) (lower at : ℕ) → tree.geometry.levels ≤ lower → kept_tag tree made lower at ≡ tree.root
 kept_top tree made lower at top =
-    not_below (nat_lt lower tree.levels) _ tree.root
-    (λ (below : nat_lt lower tree.levels ≡ true). let less : lower < tree.levels = (Decides-ltb lower tree.levels).0 below in absurd (omega arith))
+    not_below (nat_lt lower tree.geometry.levels) _ tree.root
+    (λ (below : nat_lt lower tree.geometry.levels ≡ true). let less : lower < tree.geometry.levels = (Decides-ltb lower tree.geometry.levels).0 below in absurd (omega arith))
+
+-- of a tree of the same geometry
+pub top_as : (tree : TreeView) (geometry : GeometryView) (made : List Message) (lower at : ℕ) → tree.geometry ≡ geometry → geometry.levels ≤ lower →
+    kept_tag tree made lower at ≡ tree.root
+top_as tree geometry made lower at same top = kept_top tree made lower at (subst (λ (k : GeometryView). k.levels ≤ lower) (sym same) top)
 
 -- Results
 
@@ -85,7 +94,7 @@ pub same_tags : {T : Type 0} (d n : T → List ℕ → List ℕ) (old new : BusH
     tags_of d n engine' ≡ tags_of d n engine
 same_tags {T} d n old new engine engine' moves =
     ap (λ (tagger : T). tags_of d n (record engine' { tagger = tagger })) moves.tagger
-    ∙ ap (λ (levels : ℕ). tags_of d n (record engine { levels = levels })) moves.levels
+    ∙ ap (λ (geometry : GeometryView). tags_of d n (record engine { geometry = geometry })) moves.geometry
 
 kept_by : (tag_of : Message → List ℕ) (made : List Message) (written : Place → List ℕ) (level index : ℕ) (tag : List ℕ) (last : Option (List ℕ)) →
     last_node level index made ≡ last → tag ≡ tag_of_last tag_of level index last → written (node_place level index) ≡ block_or_zeros last →
@@ -96,7 +105,7 @@ kept_by tag_of made written level index tag (Some block) is tagged stored =
 
 -- where the tree fits, the tag that is kept of a node is that of its last block, or zeros where it was never made
 pub is_kept : (tag_of : Message → List ℕ) (tree : TreeView) (made : List Message) (written : Place → List ℕ) (level index : ℕ) →
-    IsNode tree.levels level index → IsTree tag_of tree made written → IsKeptNode tag_of made written level index (kept_tag tree made level index)
+    IsNode tree.geometry level index → IsTree tag_of tree made written → IsKeptNode tag_of made written level index (kept_tag tree made level index)
 is_kept tag_of tree made written level index node fits =
     kept_by tag_of made written level index (kept_tag tree made level index) (last_node level index made) refl
     (fits.slots level index node) (fits.stored level index node)

@@ -4,10 +4,10 @@ use Rattle.std.specs.Prelude.{IfOk, OnOk}
 use Rattle.std.specs.Result.{result_err}
 use Rattle.std.proofs.lemmas.Bool.{cases_lt}
 use Rattle.std.proofs.lemmas.Grind.{pow_more}
-use Rattle.std.proofs.Math.Nat.{pow-le-pow_right, div-div-eq-div-mul}
+use Rattle.std.proofs.Math.Nat.{div-div-eq-div-mul, mul_comm, pow-le-pow_right}
 use Rattle.sec_base.specs.Count.{Rose, RoseBy}
 use Rattle.sec_base.specs.Evidence.{evidence_place}
-use Rattle.sec_base.specs.Geometry.{IsNode}
+use Rattle.sec_base.specs.Geometry.{GeometryView, IsNode, arity, page_count}
 use Rattle.sec_base.specs.LastMessage.{last_node}
 use Rattle.sec_base.specs.declared.evidence.Evidence.{Evidence}
 use Rattle.sec_base.specs.declared.evidence.Evidence.TheVariants.{Collision}
@@ -27,7 +27,7 @@ use Rattle.bonsai_tree.specs.Climb.{Climbs}
 use Rattle.bonsai_tree.specs.KeptRead.{IsKeptNode, ReadsKept}
 use Rattle.bonsai_tree.specs.Node.{block_or_zeros, no_block, no_tag, page_block, path_index}
 use Rattle.bonsai_tree.specs.Tree.{TreeView, HoldsTree, IsFetchPlace, IsKept, IsNodeFrom, IsReadByTag, NodeCame, PathWasRead, SamePages, WasReadUp, above, cached_node, kept_tag, path_accesses, present_accesses}
-use Rattle.bonsai_tree.proofs.Climbs.{came_after, came_before, climbs_on, climbs_up, unmade_before}
+use Rattle.bonsai_tree.proofs.Climbs.{above_none, came_after, came_before, climbs_on, climbs_up, unmade_before}
 use Rattle.bonsai_tree.proofs.Nodes.{same_tags}
 use Rattle.bonsai_tree.proofs.NodeCalls.{climbs_read, kept_node}
 
@@ -40,17 +40,17 @@ pub stop_of_err : {A : Type 0} (result : Result A MemStop) (stop : MemStop) → 
 stop_of_err {A} result stop is = ap (λ (r : Result A MemStop). result_err r) is
 
 -- a page's node is not above level 0
-pub not_from_one : (levels page : ℕ) (place : Place) → place ≡ node_place 0 page → IsNodeFrom levels 1 place → ⊥
-not_from_one levels page place is from =
+pub not_from_one : (geometry : GeometryView) (page : ℕ) (place : Place) → place ≡ node_place 0 page → IsNodeFrom geometry 1 place → ⊥
+not_from_one geometry page place is from =
     let same : node_place 0 page ≡ node_place from.level from.index = sym is ∙ from.place_is in
     let level : 0 ≡ from.level = cc in
     omega (arith, level, from.above)
 
 -- a page's node
-pub page_node : (levels page : ℕ) → page < 4 ^ levels → IsNode levels 0 page
-page_node levels page inside =
-    let same : levels ≡ levels - 0 = omega arith in
-    (omega arith, subst (λ (k : ℕ). page < 4 ^ k) same inside)
+pub page_node : (geometry : GeometryView) (page : ℕ) → page < page_count geometry → IsNode geometry 0 page
+page_node geometry page inside =
+    let same : geometry.levels ≡ geometry.levels - 0 = omega arith in
+    (omega arith, subst (λ (k : ℕ). page < arity geometry ^ k) same inside)
 
 -- what it takes for the node above a page's, and one more
 pub path_more : (levels : ℕ) → present_accesses levels (0 + 1) + 1 ≡ path_accesses levels
@@ -61,27 +61,28 @@ path_more levels =
     omega (arith, same, some)
 
 -- where a node of level 1 has a copy, the path above it was read
-path_up : (levels page level more : ℕ) → level ≡ 1 + more → path_index levels level page ≡ above levels (page / 4) more
-path_up levels page level more is =
-    let exponent : 4 ^ level ≡ 4 * 4 ^ more =
-    ap (λ (n : ℕ). 4 ^ n) (is ∙ (omega arith)) ∙ pow_more 4 more ∙ (omega arith) in
-    ap (λ (n : ℕ). page / n) exponent ∙ sym (div-div-eq-div-mul page 4 (4 ^ more))
+path_up : (geometry : GeometryView) (page level more : ℕ) → level ≡ 1 + more → path_index geometry level page ≡ above geometry (page / arity geometry) more
+path_up geometry page level more is =
+    let slots : ℕ = arity geometry in
+    let exponent : slots ^ level ≡ slots * slots ^ more =
+    ap (λ (n : ℕ). slots ^ n) (is ∙ (omega arith)) ∙ pow_more slots more ∙ mul_comm (slots ^ more) slots in
+    ap (λ (n : ℕ). page / n) exponent ∙ sym (div-div-eq-div-mul page slots (slots ^ more))
 
 pub path_read : (tree : TreeView) (page from : ℕ) (made : List Message) (old mid new : BusHistory) → 1 ≤ from →
     ((place : Place) → RoseBy 0 (mid.reads place) (new.reads place)) →
-    WasReadUp tree made 1 (page / 4) old mid → (level : ℕ) → from ≤ level → level ≤ tree.levels →
-    ((lower : ℕ) → 1 ≤ lower → lower ≤ level → cached_node tree lower (path_index tree.levels lower page) ≡ None) →
-    NodeCame made level (path_index tree.levels level page) old new
+    WasReadUp tree made 1 (page / arity tree.geometry) old mid → (level : ℕ) → from ≤ level → level ≤ tree.geometry.levels →
+    ((lower : ℕ) → 1 ≤ lower → lower ≤ level → cached_node tree lower (path_index tree.geometry lower page) ≡ None) →
+    NodeCame made level (path_index tree.geometry level page) old new
 path_read tree page from made old mid new some stays up level low high none =
     let level_is : level ≡ 1 + (level - 1) = omega (arith, low, some) in
-    let index_is : path_index tree.levels level page ≡ above tree.levels (page / 4) (level - 1) = path_up tree.levels page level (level - 1) level_is in
-    let came : NodeCame made (1 + (level - 1)) (above tree.levels (page / 4) (level - 1)) old mid =
+    let index_is : path_index tree.geometry level page ≡ above tree.geometry (page / arity tree.geometry) (level - 1) = path_up tree.geometry page level (level - 1) level_is in
+    let came : NodeCame made (1 + (level - 1)) (above tree.geometry (page / arity tree.geometry) (level - 1)) old mid =
     up.rose (level - 1) (omega (arith, high, low, some))
     (λ lower few.
-    ap (λ (i : ℕ). cached_node tree (1 + lower) i) (sym (path_up tree.levels page (1 + lower) lower refl))
+    ap (λ (i : ℕ). cached_node tree (1 + lower) i) (sym (path_up tree.geometry page (1 + lower) lower refl))
     ∙ none (1 + lower) (omega arith) (omega (arith, few, low, some))) in
-    came_before made level (path_index tree.levels level page) old mid new stays
-    (subst (λ (k : ℕ). NodeCame made k (path_index tree.levels level page) old mid) (sym level_is)
+    came_before made level (path_index tree.geometry level page) old mid new stays
+    (subst (λ (k : ℕ). NodeCame made k (path_index tree.geometry level page) old mid) (sym level_is)
     (subst (λ (i : ℕ). NodeCame made (1 + (level - 1)) i old mid) (sym index_is) came))
 
 module _ {T : Type 0} (d n : T → List ℕ → List ℕ) where
@@ -101,10 +102,10 @@ module _ {T : Type 0} (d n : T → List ℕ → List ℕ) where
 
   -- A fetch: the node above the page's is had, and then the page's own is read
   module _ (tree tree' : TreeView) (page : ℕ) (tag : List ℕ) (old mid new : BusHistory) (engine engine' engine'' : TagEngineView T) (result : Result (List ℕ) MemStop)
-      (node : IsNode tree.levels 0 page) (climbs : Climbs (tags_of d n) (0 + 1) tree old engine tree' mid engine' None)
+      (node : IsNode tree.geometry 0 page) (climbs : Climbs (tags_of d n) (0 + 1) tree old engine tree' mid engine' None)
       (is_tag : (made : List Message) → tag ≡ kept_tag tree' made 0 page) (read : ReadsKept (tags_of d n) 0 page tag mid engine' new engine'' result) where
-    node_here : IsNode tree'.levels 0 page
-    node_here = subst (λ (k : ℕ). IsNode k 0 page) (sym climbs.levels) node
+    node_here : IsNode tree'.geometry 0 page
+    node_here = subst (λ (k : GeometryView). IsNode k 0 page) (sym climbs.geometry) node
 
     last_read : Climbs (tags_of d n) 0 tree' mid engine' tree' new engine'' (result_err result)
     last_read = climbs_read d n tree' 0 page tag mid new engine' engine'' result node_here (is_tag engine'.made) read
@@ -136,14 +137,14 @@ module _ {T : Type 0} (d n : T → List ℕ → List ℕ) where
     pub fetched_block : HoldsTree (tags_of d n) tree old engine → engine''.evidence ≡ None → IfOk result (λ block. block ≡ page_block page engine.made)
     fetched_block holds quiet = block_by result (read.block (fetched_kept holds quiet) quiet)
 
-    pub fetched_found : (evidence : Evidence) → engine.evidence ≡ None → engine''.evidence ≡ Some evidence → IsFetchPlace tree.levels page (evidence_place evidence)
+    pub fetched_found : (evidence : Evidence) → engine.evidence ≡ None → engine''.evidence ≡ Some evidence → IsFetchPlace tree.geometry page (evidence_place evidence)
     fetched_found evidence quiet is =
         elim (some_or_none engine'.evidence) [
           | inl still ↦ inl (read.found evidence still is)
           | inr shown ↦
               let kept : engine''.evidence ≡ Some shown.0 = read.moves.evidence shown.0 shown.1 in
               let same : shown.0 ≡ evidence = cc in
-              inr (subst (λ (e : Evidence). IsNodeFrom tree.levels 1 (evidence_place e)) same (climbs.found quiet shown.0 shown.1))
+              inr (subst (λ (e : Evidence). IsNodeFrom tree.geometry 1 (evidence_place e)) same (climbs.found quiet shown.0 shown.1))
         ]
 
     pub fetched_accepted : (made_at : ℕ) (bytes under : List ℕ) → engine.evidence ≡ None →
@@ -154,7 +155,7 @@ module _ {T : Type 0} (d n : T → List ℕ → List ℕ) where
           | inr shown ↦
               let kept : engine''.evidence ≡ Some shown.0 = read.moves.evidence shown.0 shown.1 in
               let same : Collision 0 page made_at bytes under ≡ shown.0 = cc in
-              absurd (not_from_one tree.levels page (evidence_place shown.0) (sym (ap evidence_place same)) (climbs.found quiet shown.0 shown.1))
+              absurd (not_from_one tree.geometry page (evidence_place shown.0) (sym (ap evidence_place same)) (climbs.found quiet shown.0 shown.1))
         ]
 
     kept_by : (answer : Result (List ℕ) MemStop) →
@@ -175,7 +176,7 @@ module _ {T : Type 0} (d n : T → List ℕ → List ℕ) where
         let idle : new ≡ mid = (read.unasked none.0).0 in
         inl (sym (is_tag engine''.made) ∙ none.0, ap (λ (t : BusHistory). t.reads (node_place 0 page)) idle ∙ climbs.reads 0 page (omega arith))
     by_kept (Ok block) going (inr tagged) =
-        let some : tag ≢ no_tag = λ none. engine_tag_some (d engine'.tagger) (n engine'.tagger) engine'.levels (Node 0 page block) (tagged ∙ none) in
+        let some : tag ≢ no_tag = λ none. engine_tag_some (d engine'.tagger) (n engine'.tagger) engine'.geometry (Node 0 page block) (tagged ∙ none) in
         let remembered : result_err result ≢ Some NoMemory = λ is. let no : None ≡ Some NoMemory = going ∙ is in absurd (cc) in
         let rose : Rose (mid.reads (node_place 0 page)) (new.reads (node_place 0 page)) = read.asked some remembered in
         let same : mid.reads (node_place 0 page) ≡ old.reads (node_place 0 page) = climbs.reads 0 page (omega arith) in
@@ -190,22 +191,22 @@ module _ {T : Type 0} (d n : T → List ℕ → List ℕ) where
     fetched_alone other apart = read.alone 0 other (λ same. apart same.1) ∙ climbs.reads 0 other (omega arith)
 
     pub fetched_read : HoldsTree (tags_of d n) tree old engine → engine''.evidence ≡ None → result_err result ≡ None →
-        cached_node tree' 1 (page / 4) ≢ None → PathWasRead tree engine.made 0 page old new
+        cached_node tree' 1 (page / arity tree.geometry) ≢ None → PathWasRead tree engine.made 0 page old new
     fetched_read holds quiet going held = record {
       rose = λ level low high none.
           elim (cases_lt 0 level) [
             | inl some ↦ path_read tree page 1 engine.made old mid new (omega arith) read.moves.reads
-                (climbs.read holds (still_quiet quiet) 1 (page / 4) held) level (omega (arith, some)) high
+                (climbs.read holds (still_quiet quiet) 1 (page / arity tree.geometry) held) level (omega (arith, some)) high
                 (λ lower above_none_lower few. none lower (omega arith) few)
             | inr first ↦
                 let zero_is : 0 ≡ level = omega (arith, first) in
-                let index_is : page ≡ path_index tree.levels 0 page = omega arith in
+                let index_is : page ≡ path_index tree.geometry 0 page = sym (above_none tree.geometry page) in
                 let remembered : result_err result ≢ Some NoMemory = λ (e : result_err result ≡ Some NoMemory). cc in
                 let here : NodeCame engine.made 0 page old new =
                 came_after engine.made engine'.made 0 page old mid new climbs.moves.reads
                 (unmade_before engine.made engine'.made climbs.moves.more climbs.moves.made 0 page)
                 (read.came (fetched_kept holds quiet) remembered) in
-                subst (λ (k : ℕ). NodeCame engine.made k (path_index tree.levels k page) old new) zero_is
+                subst (λ (k : ℕ). NodeCame engine.made k (path_index tree.geometry k page) old new) zero_is
                 (subst (λ (i : ℕ). NodeCame engine.made 0 i old new) index_is here)
           ];
     }
@@ -213,9 +214,9 @@ module _ {T : Type 0} (d n : T → List ℕ → List ℕ) where
   -- An update: the node above the page's is had, and then the page's own is written
   pub updated_read : (tree tree' : TreeView) (page : ℕ) (old mid new : BusHistory) (engine engine' engine'' : TagEngineView T) →
       Climbs (tags_of d n) (0 + 1) tree old engine tree' mid engine' None → ((place : Place) → RoseBy 0 (mid.reads place) (new.reads place)) →
-      engine''.evidence ≡ engine'.evidence → cached_node tree' 1 (page / 4) ≢ None →
+      engine''.evidence ≡ engine'.evidence → cached_node tree' 1 (page / arity tree.geometry) ≢ None →
       HoldsTree (tags_of d n) tree old engine → engine''.evidence ≡ None → PathWasRead tree engine.made 1 page old new
   updated_read tree tree' page old mid new engine engine' engine'' climbs stays same held holds quiet = record {
     rose = λ level low high none.
-        path_read tree page 1 engine.made old mid new (omega arith) stays (climbs.read holds (sym same ∙ quiet) 1 (page / 4) held) level low high none;
+        path_read tree page 1 engine.made old mid new (omega arith) stays (climbs.read holds (sym same ∙ quiet) 1 (page / arity tree.geometry) held) level low high none;
   }

@@ -9,21 +9,21 @@ use Rattle.bonsai_tree.proofs.Nodes.{SameNode}
 
 -- the tree over caches of nodes
 abbrev pub tree_of : List ℕ → NodeCacheView → TreeView
-tree_of root nodes = record { levels = nodes.levels; root = root; caches = nodes.caches }
+tree_of root nodes = record { geometry = nodes.geometry; root = root; caches = nodes.caches }
 
 pub some_copy : (found : Option Way) → IsSome found → option_map copy_of found ≢ None
 some_copy None some none = absurd (cc)
 some_copy (Some way) some none = absurd (cc)
 
 -- a node whose copy is the most recently used one has a copy
-pub latest_cached : (tree : TreeView) (level index : ℕ) → AreNodeCaches tree.levels tree.caches → 0 < level → level ≤ tree.levels →
+pub latest_cached : (tree : TreeView) (level index : ℕ) → AreNodeCaches tree.geometry tree.caches → 0 < level → level ≤ tree.geometry.levels →
     IsLatestNode tree.caches level index → cached_node tree level index ≢ None
 latest_cached tree level index are some inside latest =
-    some_copy (node_way tree.caches level index) (latest_held tree.levels tree.caches level index are some inside latest)
+    some_copy (node_way tree.caches level index) (latest_held tree.geometry tree.caches level index are some inside latest)
 
 module _ (tree : TreeView) (root : List ℕ) (nodes nodes' : NodeCacheView) (view_is : tree_of root nodes ≡ tree) where
-  pub levels_as : nodes'.levels ≡ nodes.levels → nodes'.levels ≡ tree.levels
-  levels_as same = same ∙ ap (λ (v : TreeView). v.levels) view_is
+  pub geometry_as : nodes'.geometry ≡ nodes.geometry → nodes'.geometry ≡ tree.geometry
+  geometry_as same = same ∙ ap (λ (v : TreeView). v.geometry) view_is
 
   pub root_as : root ≡ tree.root
   root_as = ap (λ (v : TreeView). v.root) view_is

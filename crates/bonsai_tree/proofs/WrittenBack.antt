@@ -9,6 +9,7 @@ use Rattle.std.proofs.lemmas.Bool.{cases_lt}
 use Rattle.std.proofs.lemmas.Bool.Decides.{Decides-and, Decides-eqb}
 use Rattle.std.proofs.lemmas.List.Elements.{Contains-append_cases, Contains-append_left, Contains-append_right, Contains-push, Contains-push_cases, filter_map-append}
 use Rattle.sec_base.specs.Count.{Rose, RoseBy}
+use Rattle.sec_base.specs.Geometry.{GeometryView, arity, parent}
 use Rattle.sec_base.specs.LastMessage.{after_item, last_at, last_node, node_part}
 use Rattle.sec_base.specs.declared.message.Message.{Message}
 use Rattle.sec_base.specs.declared.message.Message.TheVariants.{Line, Node}
@@ -189,8 +190,8 @@ turned_on : (first_made more_made had mid has unwritten first second third : ℕ
     RoseBy (more_made + has - (mid + unwritten)) second third → RoseBy (first_made + more_made + has - (had + unwritten)) first third
 turned_on first_made more_made had mid has unwritten first second third before after = omega (arith, before, after)
 
-child_left : (levels other_levels : ℕ) (front more : List Message) (level index : ℕ) → HasChild levels front level index → HasChild other_levels (front ++ more) level index
-child_left levels other_levels front more level index child = record {
+child_left : (geometry : GeometryView) (front more : List Message) (level index : ℕ) → HasChild geometry front level index → HasChild geometry (front ++ more) level index
+child_left geometry front more level index child = record {
   below = child.below;
   child = child.child;
   block = child.block;
@@ -198,22 +199,22 @@ child_left levels other_levels front more level index child = record {
   parent_is = child.parent_is;
 }
 
-child_right : (levels other_levels : ℕ) (front more : List Message) (level index : ℕ) → HasChild levels more level index → HasChild other_levels (front ++ more) level index
-child_right levels other_levels front more level index child = record {
+child_right : (mid geometry : GeometryView) (front more : List Message) (level index : ℕ) → mid ≡ geometry → HasChild mid more level index → HasChild geometry (front ++ more) level index
+child_right mid geometry front more level index same child = record {
   below = child.below;
   child = child.child;
   block = child.block;
   listed = Contains-append_right front more (Node child.below child.child child.block) child.listed;
-  parent_is = child.parent_is;
+  parent_is = ap (λ (k : GeometryView). parent k child.below child.child) (sym same) ∙ child.parent_is;
 }
 
 -- a copy that is marked, and what became of it before
 changed_before : (quiet : Type 0) (tree : TreeView) (old : BusHistory) (made : List Message) (new : BusHistory) (front more : List Message) (level index : ℕ)
     (block : List ℕ) → IsCopyAfter quiet tree old made new front level index (record { block = block; changed = true }) →
-    (cached_node tree level index ≡ Some (record { block = block; changed = true })) ⊎ HasChild tree.levels (front ++ more) level index
+    (cached_node tree level index ≡ Some (record { block = block; changed = true })) ⊎ HasChild tree.geometry (front ++ more) level index
 changed_before quiet tree old made new front more level index block (inl was) = inl was
 changed_before quiet tree old made new front more level index block (inr (inl came)) = absurd (cc (came.0))
-changed_before quiet tree old made new front more level index block (inr (inr child)) = inr (child_left tree.levels tree.levels front more level index child)
+changed_before quiet tree old made new front more level index block (inr (inr child)) = inr (child_left tree.geometry front more level index child)
 
 copy_on : (quiet calm : Type 0) (tree : TreeView) (first second third : BusHistory) (made front more : List Message) (level index : ℕ) (copy : CachedNode) →
     (calm → quiet) → ((place : Place) → RoseBy 0 (second.reads place) (third.reads place)) → IsCopyAfter quiet tree first made second front level index copy →
@@ -222,7 +223,7 @@ copy_on quiet calm tree first second third made front more level index copy soon
 copy_on quiet calm tree first second third made front more level index copy sooner after (inr (inl came)) =
     inr (inl (came.0, λ is. came_before made level index first second third after (came.1 (sooner is))))
 copy_on quiet calm tree first second third made front more level index copy sooner after (inr (inr child)) =
-    inr (inr (child_left tree.levels tree.levels front more level index child))
+    inr (inr (child_left tree.geometry front more level index child))
 
 -- a victim had a changed copy
 victim_changed : (tree : TreeView) (level : ℕ) (way : Way) (stop : Option MemStop) (other at : ℕ) (block : List ℕ) →
@@ -307,7 +308,7 @@ up_put quiet from Own level index block tree tree' old new made made' stop stays
 -- a node was made, and no copy changed but that of the node above it
 pub up_made : (quiet : Type 0) (level index : ℕ) (block : List ℕ) (tree tree' : TreeView) (old new : BusHistory) (made made' : List Message) (stop : Option MemStop) →
     ((place : Place) → RoseBy 0 (old.reads place) (new.reads place)) → made' ≡ made ++ Node level index block ∷ [] →
-    ((other at : ℕ) → ¬ (SameNode (level + 1) (index / 4) other at) → cached_node tree' other at ≡ cached_node tree other at) →
+    ((other at : ℕ) → ¬ (SameNode (level + 1) (index / arity tree.geometry) other at) → cached_node tree' other at ≡ cached_node tree other at) →
     ((other at : ℕ) → cached_node tree' other at ≢ None → cached_node tree other at ≢ None) →
     WritesUp quiet (level + 1) (IsBlockOf level index block) tree old made tree' new made' stop
 up_made quiet level index block tree tree' old new made made' stop stays is same held =
@@ -325,13 +326,13 @@ up_made quiet level index block tree tree' old new made made' stop stays is same
             unmade_once tree tree' old new made made' (Node level index block ∷ []) stop other at is
             (not_made other at (Node level index block ∷ []) (λ bytes listed. not_high other at bytes high listed)) (stays (node_place other at))
             (λ copied. inl (held other at copied));
-        copies = λ other at copy found. elim (same_or_not (level + 1) (index / 4) other at) [
+        copies = λ other at copy found. elim (same_or_not (level + 1) (index / arity tree.geometry) other at) [
           | inr apart ↦ inl (sym (same other at apart) ∙ found)
           | inl here ↦
-              let child : HasChild tree.levels (Node level index block ∷ []) (level + 1) (index / 4) =
+              let child : HasChild tree.geometry (Node level index block ∷ []) (level + 1) (index / arity tree.geometry) =
               record { below = level; child = index; block = block; listed = Contains-push [] (Node level index block); parent_is = refl } in
-              inr (inr (subst (λ (k : ℕ). HasChild tree.levels (Node level index block ∷ []) k at) (sym here.0)
-              (subst (λ (i : ℕ). HasChild tree.levels (Node level index block ∷ []) (level + 1) i) (sym here.1) child)))
+              inr (inr (subst (λ (k : ℕ). HasChild tree.geometry (Node level index block ∷ []) k at) (sym here.0)
+              (subst (λ (i : ℕ). HasChild tree.geometry (Node level index block ∷ []) (level + 1) i) (sym here.1) child)))
         ];
       };
       own = λ other at bytes low listed.
@@ -381,22 +382,23 @@ up_as quiet from Own All tree tree' old new made made' stop among up = record {
 
 -- one call after another, of which the first makes nothing below
 pub up_on : (quiet early calm : Type 0) (from : ℕ) (Own : ℕ → ℕ → List ℕ → Type 0) (tree mid tree' : TreeView) (first second third : BusHistory) (made made' made'' : List Message) (stop : Option MemStop) →
+    mid.geometry ≡ tree.geometry →
     ((place : Place) → RoseBy 0 (first.reads place) (second.reads place)) → ((place : Place) → RoseBy 0 (second.reads place) (third.reads place)) →
     (calm → early) → (calm → quiet) →
     WritesUp early from NoNode tree first made mid second made' None → WritesUp quiet from Own mid second made' tree' third made'' stop →
     WritesUp calm from Own tree first made tree' third made'' stop
-up_on quiet early calm from Own tree mid tree' first second third made made' made'' stop before after sooner later up more = record {
+up_on quiet early calm from Own tree mid tree' first second third made made' made'' stop geometry before after sooner later up more = record {
   back = record {
     more = up.back.more ++ more.back.more;
     made_more = more.back.made_more ∙ ap (λ (messages : List Message). messages ++ more.back.more) up.back.made_more ∙ append_assoc made up.back.more more.back.more;
     changed = λ level index block high listed. elim (Contains-append_cases up.back.more more.back.more (Node level index block) listed) [
       | inl early ↦ elim (up.back.changed level index block high early) [
         | inl was ↦ inl was
-        | inr child ↦ inr (child_left tree.levels tree.levels up.back.more more.back.more level index child)
+        | inr child ↦ inr (child_left tree.geometry up.back.more more.back.more level index child)
       ]
       | inr late ↦ elim (more.back.changed level index block high late) [
         | inl was ↦ changed_before early tree first made second up.back.more more.back.more level index block (up.back.copies level index (record { block = block; changed = true }) was)
-        | inr child ↦ inr (child_right mid.levels tree.levels up.back.more more.back.more level index child)
+        | inr child ↦ inr (child_right mid.geometry tree.geometry up.back.more more.back.more level index geometry child)
       ]
     ];
     once_a_copy = λ is level index high.
@@ -419,7 +421,7 @@ up_on quiet early calm from Own tree mid tree' first second third made made' mad
           λ is. came_after made made' level index first second third before
               (unmade_before made made' up.back.more up.back.made_more level index) (came.1 (later is)),
         ))
-        | inr child ↦ inr (inr (child_right mid.levels tree.levels up.back.more more.back.more level index child))
+        | inr child ↦ inr (inr (child_right mid.geometry tree.geometry up.back.more more.back.more level index geometry child))
       ]
     ];
   };
@@ -446,7 +448,7 @@ pub up_climbed : {T : Type 0} (d n : T → List ℕ → List ℕ) (low from : �
 up_climbed d n low from Own tree mid tree' first second third engine engine' engine'' stop climbs moves up more =
     up_on (EndsQuietly (tags_of d n) mid second engine' engine'') (EndsQuietly (tags_of d n) tree first engine engine')
     (EndsQuietly (tags_of d n) tree first engine engine'') from Own tree mid tree' first second third engine.made engine'.made engine''.made stop
-    climbs.moves.reads moves.reads
+    climbs.geometry climbs.moves.reads moves.reads
     (λ calm. (calm.0, was_none engine'.evidence engine''.evidence moves.evidence calm.1))
     (λ calm. (climbs.holds calm.0 (λ (e : None ≡ Some NoMemory). cc), calm.1)) up more
 

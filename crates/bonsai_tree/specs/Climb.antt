@@ -26,9 +26,9 @@ pub record Climbs {T : Type 0} (tags : TagEngineView T → Message → List ℕ)
     (engine : TagEngineView T) (tree' : TreeView) (new : BusHistory) (engine' : TagEngineView T) (stop : Option MemStop) : Type 0 where
   pub moves : Moves old engine new engine'
   pub lines : SameLines old engine.made new engine'.made
-  pub levels : tree'.levels ≡ tree.levels
+  pub geometry : tree'.geometry ≡ tree.geometry
   pub root : tree'.root ≡ tree.root
-  pub nodes : AreNodeCaches tree.levels tree.caches → AreNodeCaches tree'.levels tree'.caches
+  pub nodes : AreNodeCaches tree.geometry tree.caches → AreNodeCaches tree'.geometry tree'.caches
   -- levels below are left alone
   pub copies : (level : ℕ) → level < from → level_cache tree'.caches level ≡ level_cache tree.caches level
   pub last : (level index : ℕ) → level < from → last_node level index engine'.made ≡ last_node level index engine.made
@@ -43,19 +43,19 @@ pub record Climbs {T : Type 0} (tags : TagEngineView T → Message → List ℕ)
   pub lied : HoldsTree tags tree old engine → engine.evidence ≡ None → (place : Place) → stop ≡ Some (Tampered place) →
       Rose old.lies new.lies
   pub shown : HoldsTree tags tree old engine → engine.evidence ≡ None → engine'.evidence ≢ None → Rose old.lies new.lies
-  pub tampered : (place : Place) → stop ≡ Some (Tampered place) → IsNodeFrom tree.levels from place
+  pub tampered : (place : Place) → stop ≡ Some (Tampered place) → IsNodeFrom tree.geometry from place
   pub found : engine.evidence ≡ None → (evidence : Evidence) → engine'.evidence ≡ Some evidence →
-      IsNodeFrom tree.levels from (evidence_place evidence)
+      IsNodeFrom tree.geometry from (evidence_place evidence)
   pub unspent : (spent : ℕ) → stop ≢ Some (Spent spent)
   -- what was made was written
   pub room : engine.room ≤ engine'.room + length moves.more
   pub no_rise : engine'.room ≤ engine.room
   pub writes : WritesMessages old new (length moves.more) (unwritten_in stop)
-  pub made_blocks : NodesAreMade tree.levels engine.made old.written → NodesAreMade tree.levels engine'.made new.written
-  pub last_blocks : stop ≢ Some NoMemory → NodesHoldLast tree.levels engine.made old.written → NodesHoldLast tree.levels engine'.made new.written
+  pub made_blocks : NodesAreMade tree.geometry engine.made old.written → NodesAreMade tree.geometry engine'.made new.written
+  pub last_blocks : stop ≢ Some NoMemory → NodesHoldLast tree.geometry engine.made old.written → NodesHoldLast tree.geometry engine'.made new.written
   -- slots of nodes that were made have the tags of their children's last messages, or zeros
-  pub slots : HoldsTree tags tree old engine → engine'.evidence ≡ None → SlotsAreTags (tags engine) tree.levels engine.made →
-      SlotsAreTags (tags engine) tree.levels engine'.made
+  pub slots : HoldsTree tags tree old engine → engine'.evidence ≡ None → SlotsAreTags (tags engine) tree.geometry engine.made →
+      SlotsAreTags (tags engine) tree.geometry engine'.made
   -- what has a copy came, or had one; a node that was never made is not read
   pub read : HoldsTree tags tree old engine → engine'.evidence ≡ None → (level index : ℕ) → cached_node tree' level index ≢ None →
       WasReadUp tree engine.made level index old new
@@ -85,4 +85,4 @@ pub record WritesUp (quiet : Type 0) (from : ℕ) (Own : ℕ → ℕ → List �
 pub record MakesRoom (level index : ℕ) (tree : TreeView) (old : BusHistory) (made : List Message) (tree' : TreeView) (new : BusHistory)
     : Type 0 where
   pub out : (other at : ℕ) → cached_node tree other at ≢ None → cached_node tree' other at ≡ None →
-      ((other ≡ level) × (at % node_sets ≡ index % node_sets)) ⊎ CameBeside tree.levels made other at old new
+      ((other ≡ level) × (at % node_sets ≡ index % node_sets)) ⊎ CameBeside tree.geometry made other at old new

@@ -1,6 +1,6 @@
 -- A node that is had by the tag that is kept of it: zeros where none is kept, else read from its place and checked. It serves
 -- private contracts alone.
-use Rattle.std.specs.Prelude.{◌≡◌, ◌≢◌, ◌⊎◌, ℕ, ◌+◌, ◌≤◌, List, Option, Some, None, Result, Ok, Err, IfOk}
+use Rattle.std.specs.Prelude.{◌≡◌, ◌≢◌, ◌⊎◌, ℕ, ◌+◌, ◌≤◌, List, Some, None, Result, Ok, Err, IfOk}
 use Rattle.std.specs.Result.{result_err}
 use Rattle.sec_base.specs.Count.{Rose}
 use Rattle.sec_base.specs.Evidence.{evidence_place}

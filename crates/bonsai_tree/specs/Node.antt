@@ -1,10 +1,10 @@
--- Blocks of nodes: a node's current block, and the tags of its children, each in a slot of 16 bytes.
-use Rattle.std.specs.Prelude.{◌==◌, ℕ, ◌+◌, ◌*◌, ◌/◌, ◌^◌, List, ◌++◌, length, take, drop, replicate, Bool, Option, Some, None, unwrap_or, if◌then◌else◌}
+-- Blocks of nodes: a node's current block, and the tags of its children, each in its slot.
+use Rattle.std.specs.Prelude.{◌==◌, ℕ, ◌+◌, ◌-◌, ◌*◌, ◌/◌, ◌^◌, List, ◌++◌, length, take, drop, replicate, Bool, Option, Some, None, unwrap_or, if◌then◌else◌}
 use Rattle.std.specs.List.{filter_map}
 use Rattle.sec_base.specs.declared.message.Message.{Message}
 use Rattle.sec_base.specs.declared.message.Message.TheVariants.{Line, Node}
 use Rattle.sec_base.specs.declared.sealed.TheConstants.{TAG_LEN}
-use Rattle.sec_base.specs.Geometry.{arity}
+use Rattle.sec_base.specs.Geometry.{GeometryView, arity, slot_len}
 use Rattle.sec_base.specs.LastMessage.{last_node, node_part}
 
 -- a node's copy on the chip: its block, and whether it was changed since it was read or written last
@@ -25,13 +25,15 @@ abbrev pub current_of : Option CachedNode → Option (List ℕ) → List ℕ
 current_of (Some copy) last = copy.block
 current_of None last = block_or_zeros last
 
--- the tag that stands in a slot of a block, and the block with another tag there
-abbrev pub tag_in_slot : ℕ → List ℕ → List ℕ
-tag_in_slot slot block = take TAG_LEN (drop (TAG_LEN * slot) block)
+-- the tag that stands in a slot of a block: the slot's bytes, and zeros behind them where a slot is shorter than a tag
+abbrev pub tag_in_slot : GeometryView → ℕ → List ℕ → List ℕ
+tag_in_slot geometry slot block =
+    take (slot_len geometry) (drop (slot_len geometry * slot) block) ++ replicate (TAG_LEN - slot_len geometry) 0
 
--- the block of a node with another tag in this slot of 16 bytes
-abbrev pub with_tag : ℕ → List ℕ → List ℕ → List ℕ
-with_tag slot tag block = take (TAG_LEN * slot) block ++ tag ++ drop (TAG_LEN * slot + TAG_LEN) block
+-- the block of a node with another tag in this slot, which keeps as many of its bytes as it has
+abbrev pub with_tag : GeometryView → ℕ → List ℕ → List ℕ → List ℕ
+with_tag geometry slot tag block =
+    take (slot_len geometry * slot) block ++ take (slot_len geometry) tag ++ drop (slot_len geometry * slot + slot_len geometry) block
 
 -- the tag that is kept of a node that was never made: zeros, which are no message's tag
 abbrev pub no_tag : List ℕ
@@ -43,8 +45,8 @@ tag_of_last tag_of level index None = no_tag
 tag_of_last tag_of level index (Some block) = tag_of (Node level index block)
 
 -- the node of a level on the path of a page: the page's own on level 0, the top node on the highest
-abbrev pub path_index : ℕ → ℕ → ℕ → ℕ
-path_index levels level page = page / arity levels ^ level
+abbrev pub path_index : GeometryView → ℕ → ℕ → ℕ
+path_index geometry level page = page / arity geometry ^ level
 
 -- the block of a page: that of its last message, zeros where it has none
 abbrev pub page_block : ℕ → List Message → List ℕ

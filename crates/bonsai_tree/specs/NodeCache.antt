@@ -1,7 +1,7 @@
 -- The copies of nodes on the chip: each level above level 0 has a cache of its own.
 use Rattle.std.specs.Prelude.{◌≡◌, ◌≢◌, ℕ, zero, suc, ◌<◌, ◌≤◌, List, [], length, slice_index_or, Option, Some, None}
 use Rattle.std.specs.Option.{option_map}
-use Rattle.sec_base.specs.Geometry.{IsNode}
+use Rattle.sec_base.specs.Geometry.{GeometryView, IsNode}
 use Rattle.cache_set.specs.declared.way.Way.{Way}
 use Rattle.cache_set.specs.Cache.{IsCache, IsLatest, places, way_at}
 use Rattle.bonsai_tree.specs.Node.{CachedNode}
@@ -14,9 +14,9 @@ node_sets = 8
 abbrev pub most_copies : ℕ
 most_copies = 16
 
--- the levels of the tree, and the caches of level 1 and of those above it
+-- the shape of the tree, and the caches of level 1 and of those above it
 pub record NodeCacheView : Type 0 where
-  pub levels : ℕ
+  pub geometry : GeometryView
   pub caches : List (List (List Way))
 
 -- the cache of a level: level 0 has none
@@ -57,8 +57,8 @@ abbrev pub OtherNodes : ℕ → ℕ → List (List (List Way)) → List (List (L
 OtherNodes level index old new = (other at : ℕ) → ¬ ((other ≡ level) × (at ≡ index)) → node_way new other at ≡ node_way old other at
 
 -- Each level from 1 to the top has its cache, of copies of its own nodes.
-pub record AreNodeCaches (levels : ℕ) (caches : List (List (List Way))) : Type 0 where
-  pub all : length caches ≡ levels
-  pub each : (level : ℕ) → 0 < level → level ≤ levels → IsCache node_sets (level_cache caches level)
-  pub nodes : (level index : ℕ) (way : Way) → node_way caches level index ≡ Some way → IsNode levels level index
+pub record AreNodeCaches (geometry : GeometryView) (caches : List (List (List Way))) : Type 0 where
+  pub all : length caches ≡ geometry.levels
+  pub each : (level : ℕ) → 0 < level → level ≤ geometry.levels → IsCache node_sets (level_cache caches level)
+  pub nodes : (level index : ℕ) (way : Way) → node_way caches level index ≡ Some way → IsNode geometry level index
   pub whole : (level index : ℕ) (way : Way) → node_way caches level index ≡ Some way → length way.copy ≡ 64

@@ -22,7 +22,7 @@ impl Model for NodeCache {
 
     ghost Value = { NodeCacheView };
 
-    ghost view = { λ nodes. record { levels = nodes.geometry; caches = nodes.caches.items } };
+    ghost view = { λ nodes. record { geometry = nodes.geometry; caches = nodes.caches.items } };
 
     ghost invariant = { λ nodes. AreNodeCaches nodes.geometry nodes.caches.items };
 }
@@ -30,8 +30,8 @@ impl Model for NodeCache {
 impl NodeCache {
     // A cache for each level from 1 to the top, without a copy.
     pub(crate) fn new(alloc: Global, geometry: Geometry) -> Result<NodeCache, NoMemory>
-        ensures levels { IfOk result (λ nodes. nodes.levels ≡ geometry) }
-        ensures nodes { IfOk result (λ nodes. AreNodeCaches nodes.levels nodes.caches) }
+        ensures geometry { IfOk result (λ nodes. nodes.geometry ≡ geometry) }
+        ensures nodes { IfOk result (λ nodes. AreNodeCaches nodes.geometry nodes.caches) }
         ensures none { IfOk result (λ nodes. AreEmpty nodes.caches) }
         ensures empty { IfOk result (λ nodes. (level : ℕ) → copied_nodes nodes.caches level ≡ []) }
     {
@@ -44,7 +44,7 @@ impl NodeCache {
 
     // The tree's geometry.
     pub(crate) fn geometry(&self) -> Geometry
-        ensures { result ≡ self.now.levels }
+        ensures { result ≡ self.now.geometry }
     {
         self.geometry
     }
@@ -52,9 +52,9 @@ impl NodeCache {
     // Whether a node has a copy, which is the most recently used one of its set then.
     pub(crate) fn touch(&mut self, level: u8, index: u32) -> bool
         requires above { 0 < level }
-        requires inside { level ≤ self.old.levels }
-        ensures levels { self.new.levels ≡ self.old.levels }
-        ensures nodes { AreNodeCaches self.new.levels self.new.caches }
+        requires inside { level ≤ self.old.geometry.levels }
+        ensures geometry { self.new.geometry ≡ self.old.geometry }
+        ensures nodes { AreNodeCaches self.new.geometry self.new.caches }
         ensures held { IsTrue result ↔ IsSome (node_way self.old.caches level index) }
         ensures latest { IsTrue result → IsLatestNode self.new.caches level index }
         ensures absent { result ≡ false → node_way self.old.caches level index ≡ None }
@@ -67,7 +67,7 @@ impl NodeCache {
     // The block of the most recently used copy of a set, which is that of a node.
     pub(crate) fn latest(&self, level: u8, index: u32) -> &[u8; 64]
         requires above { 0 < level }
-        requires inside { level ≤ self.now.levels }
+        requires inside { level ≤ self.now.geometry.levels }
         requires latest { IsLatestNode self.now.caches level index }
         ensures { copy_at (level_cache self.now.caches level) index ≡ Some result.now }
     {
@@ -76,11 +76,11 @@ impl NodeCache {
 
     // Gives the most recently used copy of a set, which is that of a node, another block, and marks it.
     pub(crate) fn change(&mut self, level: u8, index: u32, block: [u8; 64])
-        requires node { IsNode self.old.levels level index }
+        requires node { IsNode self.old.geometry level index }
         requires above { 0 < level }
         requires latest { IsLatestNode self.old.caches level index }
-        ensures levels { self.new.levels ≡ self.old.levels }
-        ensures nodes { AreNodeCaches self.new.levels self.new.caches }
+        ensures geometry { self.new.geometry ≡ self.old.geometry }
+        ensures nodes { AreNodeCaches self.new.geometry self.new.caches }
         ensures changed { node_way self.new.caches level index ≡ Some (record { place = index; changed = true; copy = block }) }
         ensures same { OtherNodes level index self.old.caches self.new.caches }
         ensures others { OtherLevels level self.old.caches self.new.caches }
@@ -91,11 +91,11 @@ impl NodeCache {
     // The copy that goes out where one of a node comes: the least recently used one of its set, where both ways are in use.
     pub(crate) fn victim(&self, level: u8, index: u32) -> Option<Way>
         requires above { 0 < level }
-        requires inside { level ≤ self.now.levels }
+        requires inside { level ≤ self.now.geometry.levels }
         requires absent { node_way self.now.caches level index ≡ None }
         ensures room { result ≡ None → HasRoom (set_at (level_cache self.now.caches level) index) }
         ensures way { IfSome result (λ way. node_way self.now.caches level way.place ≡ Some way) }
-        ensures node { IfSome result (λ way. IsNode self.now.levels level way.place) }
+        ensures node { IfSome result (λ way. IsNode self.now.geometry level way.place) }
         ensures whole { IfSome result (λ way. length way.copy ≡ 64) }
         ensures beside { IfSome result (λ way. way.place % 8 ≡ index % 8) }
     {
@@ -105,10 +105,10 @@ impl NodeCache {
     // A node loses its copy.
     pub(crate) fn remove(&mut self, level: u8, index: u32)
         requires above { 0 < level }
-        requires inside { level ≤ self.old.levels }
+        requires inside { level ≤ self.old.geometry.levels }
         requires held { IsSome (node_way self.old.caches level index) }
-        ensures levels { self.new.levels ≡ self.old.levels }
-        ensures nodes { AreNodeCaches self.new.levels self.new.caches }
+        ensures geometry { self.new.geometry ≡ self.old.geometry }
+        ensures nodes { AreNodeCaches self.new.geometry self.new.caches }
         ensures removed { node_way self.new.caches level index ≡ None }
         ensures same { OtherNodes level index self.old.caches self.new.caches }
         ensures others { OtherLevels level self.old.caches self.new.caches }
@@ -119,12 +119,12 @@ impl NodeCache {
 
     // A node gets a copy, which is not changed and is the most recently used one of its set.
     pub(crate) fn put(&mut self, level: u8, index: u32, block: [u8; 64])
-        requires node { IsNode self.old.levels level index }
+        requires node { IsNode self.old.geometry level index }
         requires above { 0 < level }
         requires absent { node_way self.old.caches level index ≡ None }
         requires room { HasRoom (set_at (level_cache self.old.caches level) index) }
-        ensures levels { self.new.levels ≡ self.old.levels }
-        ensures nodes { AreNodeCaches self.new.levels self.new.caches }
+        ensures geometry { self.new.geometry ≡ self.old.geometry }
+        ensures nodes { AreNodeCaches self.new.geometry self.new.caches }
         ensures latest { IsLatestNode self.new.caches level index }
         ensures put { node_way self.new.caches level index ≡ Some (record { place = index; changed = false; copy = block }) }
         ensures same { OtherNodes level index self.old.caches self.new.caches }

@@ -16,15 +16,15 @@ loop-preserved c =
 
 pub invariant_of-result : goal.invariant_of-result
 invariant_of-result c =
-    let count : c.loop.counter ≡ c.args.geometry = omega (arith, c.levels-end.ensures.levels) in
-    subst (λ (k : ℕ). AreNodeCaches k c.loop.caches.items) count
-    (subst (λ (caches : List (List (List Way))). AreNodeCaches c.loop.counter caches) (sym c.loop.invariant) (new_are c.loop.counter))
+    let count : c.loop.counter ≡ c.args.geometry.levels = omega (arith, c.levels-end.ensures.levels) in
+    subst (λ (caches : List (List (List Way))). AreNodeCaches c.args.geometry caches) (ap new_caches (sym count) ∙ sym c.loop.invariant)
+    (new_are c.args.geometry)
 
 pub returns-clause-nodes : goal.returns-clause-nodes
 returns-clause-nodes c =
-    let count : c.loop.counter ≡ c.args.geometry = omega (arith, c.levels-end.ensures.levels) in
-    subst (λ (k : ℕ). AreNodeCaches k c.loop.caches.items) count
-    (subst (λ (caches : List (List (List Way))). AreNodeCaches c.loop.counter caches) (sym c.loop.invariant) (new_are c.loop.counter))
+    let count : c.loop.counter ≡ c.args.geometry.levels = omega (arith, c.levels-end.ensures.levels) in
+    subst (λ (caches : List (List (List Way))). AreNodeCaches c.args.geometry caches) (ap new_caches (sym count) ∙ sym c.loop.invariant)
+    (new_are c.args.geometry)
 
 pub returns-clause-none : goal.returns-clause-none
 returns-clause-none c = subst (λ (caches : List (List (List Way))). AreEmpty caches) (sym c.loop.invariant) (new_empty c.loop.counter)

@@ -5,10 +5,10 @@ use Rattle.bonsai_tree.proofs.Copies.{are_put, other_same}
 use Rattle.bonsai_tree.proofs.node_cache.NodeCache.put.Goals as goal
 
 pub invariant_of-self : goal.invariant_of-self
-invariant_of-self c = are_put c.self.inside.geometry c.self.inside.caches.items c.args.level c.self.invariant c.requires.above (subst (λ (v : NodeCacheView). IsNode v.levels c.args.level c.args.index) (sym c.self.view_is) c.requires.node).0 c.index_mut.result.now c.index_mut.ensures.value c.put.new.self c.put.ensures.cache c.args.index c.args.block false (subst (λ (v : NodeCacheView). IsNode v.levels c.args.level c.args.index) (sym c.self.view_is) c.requires.node) (search rules) c.put.ensures.put c.put.ensures.same
+invariant_of-self c = are_put c.self.inside.geometry c.self.inside.caches.items c.args.level c.self.invariant c.requires.above (subst (λ (v : NodeCacheView). IsNode v.geometry c.args.level c.args.index) (sym c.self.view_is) c.requires.node).0 c.index_mut.result.now c.index_mut.ensures.value c.put.new.self c.put.ensures.cache c.args.index c.args.block false (subst (λ (v : NodeCacheView). IsNode v.geometry c.args.level c.args.index) (sym c.self.view_is) c.requires.node) (search rules) c.put.ensures.put c.put.ensures.same
 
 pub returns-clause-nodes : goal.returns-clause-nodes
-returns-clause-nodes c = are_put c.self.inside.geometry c.self.inside.caches.items c.args.level c.self.invariant c.requires.above (subst (λ (v : NodeCacheView). IsNode v.levels c.args.level c.args.index) (sym c.self.view_is) c.requires.node).0 c.index_mut.result.now c.index_mut.ensures.value c.put.new.self c.put.ensures.cache c.args.index c.args.block false (subst (λ (v : NodeCacheView). IsNode v.levels c.args.level c.args.index) (sym c.self.view_is) c.requires.node) (search rules) c.put.ensures.put c.put.ensures.same
+returns-clause-nodes c = are_put c.self.inside.geometry c.self.inside.caches.items c.args.level c.self.invariant c.requires.above (subst (λ (v : NodeCacheView). IsNode v.geometry c.args.level c.args.index) (sym c.self.view_is) c.requires.node).0 c.index_mut.result.now c.index_mut.ensures.value c.put.new.self c.put.ensures.cache c.args.index c.args.block false (subst (λ (v : NodeCacheView). IsNode v.geometry c.args.level c.args.index) (sym c.self.view_is) c.requires.node) (search rules) c.put.ensures.put c.put.ensures.same
 
 pub returns-clause-same : goal.returns-clause-same
-returns-clause-same c = λ other at apart. other_same c.self.inside.geometry c.self.inside.caches.items c.args.level c.self.invariant c.requires.above (subst (λ (v : NodeCacheView). IsNode v.levels c.args.level c.args.index) (sym c.self.view_is) c.requires.node).0 c.index_mut.result.now c.index_mut.ensures.value c.put.new.self c.args.index c.put.ensures.same other at apart ∙ ap (λ (v : NodeCacheView). node_way v.caches other at) c.self.view_is
+returns-clause-same c = λ other at apart. other_same c.self.inside.geometry c.self.inside.caches.items c.args.level c.self.invariant c.requires.above (subst (λ (v : NodeCacheView). IsNode v.geometry c.args.level c.args.index) (sym c.self.view_is) c.requires.node).0 c.index_mut.result.now c.index_mut.ensures.value c.put.new.self c.args.index c.put.ensures.same other at apart ∙ ap (λ (v : NodeCacheView). node_way v.caches other at) c.self.view_is

@@ -13,7 +13,7 @@ use Rattle.bonsai_tree.specs.Tree.{EndsQuietly, TreeView}
 use Rattle.bonsai_tree.proofs.Climbs.{climbs_not, climbs_on, climbs_up, unmade_before}
 use Rattle.bonsai_tree.proofs.NodeCalls.{climbs_dropped, climbs_touched}
 use Rattle.bonsai_tree.proofs.Accesses.{present_first, present_second}
-use Rattle.bonsai_tree.proofs.Views.{all_as, levels_as, not_held, others_as, root_as, same_as, tree_of}
+use Rattle.bonsai_tree.proofs.Views.{all_as, geometry_as, not_held, others_as, root_as, same_as, tree_of}
 use Rattle.bonsai_tree.proofs.OutFor.{on_ok, out_came, out_kept, out_on, room_kept, room_made}
 use Rattle.bonsai_tree.proofs.WrittenBack.{up_as, up_climbed, up_same, up_victim, up_wider}
 use Rattle.bonsai_tree.proofs.tree.Tree.+present.Goals as goal
@@ -58,7 +58,7 @@ make_room-returns-in_err-write_back-clause-climbs g t c =
 pub present-returns-then-touch-clause-climbs : goal.present-returns-then-touch-clause-climbs
 present-returns-then-touch-clause-climbs g t c =
     climbs_touched g.T.Tagger.data_tag_of g.T.Tagger.node_tag_of c.args.level c.args.self.now (tree_of c.self.inside.root c.touch.new.self) (g.B.Bus.history c.args.bus.now) c.args.tags.now
-    (levels_as c.args.self.now c.self.inside.root c.self.inside.nodes c.touch.new.self c.self.view_is c.if-touch.ensures.levels)
+    (geometry_as c.args.self.now c.self.inside.root c.self.inside.nodes c.touch.new.self c.self.view_is c.if-touch.ensures.geometry)
     (root_as c.args.self.now c.self.inside.root c.self.inside.nodes c.touch.new.self c.self.view_is) c.if-touch.ensures.nodes
     (others_as c.args.self.now c.self.inside.root c.self.inside.nodes c.touch.new.self c.self.view_is c.args.level c.if-touch.ensures.others)
     (all_as c.args.self.now c.self.inside.root c.self.inside.nodes c.touch.new.self c.self.view_is c.if-touch.ensures.same)
@@ -71,7 +71,7 @@ present-returns-in_err-make_room-clause-climbs g t c =
     (g.B.Bus.history c.args.bus.now) c.args.tags.now c.make_room.new.self (g.B.Bus.history c.make_room.new.bus) c.make_room.new.tags s) (sym stop)
     (climbs_on g.T.Tagger.data_tag_of g.T.Tagger.node_tag_of c.args.level c.args.self.now (tree_of c.self.inside.root c.touch.new.self) c.make_room.new.self (g.B.Bus.history c.args.bus.now) (g.B.Bus.history c.args.bus.now) (g.B.Bus.history c.make_room.new.bus) c.args.tags.now c.args.tags.now c.make_room.new.tags (Some why)
     (climbs_touched g.T.Tagger.data_tag_of g.T.Tagger.node_tag_of c.args.level c.args.self.now (tree_of c.self.inside.root c.touch.new.self) (g.B.Bus.history c.args.bus.now) c.args.tags.now
-    (levels_as c.args.self.now c.self.inside.root c.self.inside.nodes c.touch.new.self c.self.view_is c.if-touch.ensures.levels) (root_as c.args.self.now c.self.inside.root c.self.inside.nodes c.touch.new.self c.self.view_is) c.if-touch.ensures.nodes
+    (geometry_as c.args.self.now c.self.inside.root c.self.inside.nodes c.touch.new.self c.self.view_is c.if-touch.ensures.geometry) (root_as c.args.self.now c.self.inside.root c.self.inside.nodes c.touch.new.self c.self.view_is) c.if-touch.ensures.nodes
     (others_as c.args.self.now c.self.inside.root c.self.inside.nodes c.touch.new.self c.self.view_is c.args.level c.if-touch.ensures.others) (all_as c.args.self.now c.self.inside.root c.self.inside.nodes c.touch.new.self c.self.view_is c.if-touch.ensures.same))
     c.in_err-make_room.ensures.climbs)
 
@@ -84,7 +84,7 @@ present-returns-in_err-parent_present-clause-climbs g t c =
     (climbs_on g.T.Tagger.data_tag_of g.T.Tagger.node_tag_of c.args.level c.args.self.now c.make_room.new.self c.parent_present.new.self (g.B.Bus.history c.args.bus.now) (g.B.Bus.history c.make_room.new.bus) (g.B.Bus.history c.parent_present.new.bus) c.args.tags.now c.make_room.new.tags c.parent_present.new.tags (Some why)
     (climbs_on g.T.Tagger.data_tag_of g.T.Tagger.node_tag_of c.args.level c.args.self.now (tree_of c.self.inside.root c.touch.new.self) c.make_room.new.self (g.B.Bus.history c.args.bus.now) (g.B.Bus.history c.args.bus.now) (g.B.Bus.history c.make_room.new.bus) c.args.tags.now c.args.tags.now c.make_room.new.tags None
     (climbs_touched g.T.Tagger.data_tag_of g.T.Tagger.node_tag_of c.args.level c.args.self.now (tree_of c.self.inside.root c.touch.new.self) (g.B.Bus.history c.args.bus.now) c.args.tags.now
-    (levels_as c.args.self.now c.self.inside.root c.self.inside.nodes c.touch.new.self c.self.view_is c.if-touch.ensures.levels) (root_as c.args.self.now c.self.inside.root c.self.inside.nodes c.touch.new.self c.self.view_is) c.if-touch.ensures.nodes
+    (geometry_as c.args.self.now c.self.inside.root c.self.inside.nodes c.touch.new.self c.self.view_is c.if-touch.ensures.geometry) (root_as c.args.self.now c.self.inside.root c.self.inside.nodes c.touch.new.self c.self.view_is) c.if-touch.ensures.nodes
     (others_as c.args.self.now c.self.inside.root c.self.inside.nodes c.touch.new.self c.self.view_is c.args.level c.if-touch.ensures.others) (all_as c.args.self.now c.self.inside.root c.self.inside.nodes c.touch.new.self c.self.view_is c.if-touch.ensures.same))
     c.in_ok-make_room.ensures.climbs)
     (climbs_up g.T.Tagger.data_tag_of g.T.Tagger.node_tag_of c.args.level (c.args.level + 1) c.make_room.new.self c.parent_present.new.self (g.B.Bus.history c.make_room.new.bus) (g.B.Bus.history c.parent_present.new.bus) c.make_room.new.tags c.parent_present.new.tags (Some why) (omega arith) c.in_err-parent_present.ensures.climbs))
@@ -95,7 +95,7 @@ present-returns-clause-climbs g t c =
     (climbs_on g.T.Tagger.data_tag_of g.T.Tagger.node_tag_of c.args.level c.args.self.now c.make_room.new.self c.parent_present.new.self (g.B.Bus.history c.args.bus.now) (g.B.Bus.history c.make_room.new.bus) (g.B.Bus.history c.parent_present.new.bus) c.args.tags.now c.make_room.new.tags c.parent_present.new.tags None
     (climbs_on g.T.Tagger.data_tag_of g.T.Tagger.node_tag_of c.args.level c.args.self.now (tree_of c.self.inside.root c.touch.new.self) c.make_room.new.self (g.B.Bus.history c.args.bus.now) (g.B.Bus.history c.args.bus.now) (g.B.Bus.history c.make_room.new.bus) c.args.tags.now c.args.tags.now c.make_room.new.tags None
     (climbs_touched g.T.Tagger.data_tag_of g.T.Tagger.node_tag_of c.args.level c.args.self.now (tree_of c.self.inside.root c.touch.new.self) (g.B.Bus.history c.args.bus.now) c.args.tags.now
-    (levels_as c.args.self.now c.self.inside.root c.self.inside.nodes c.touch.new.self c.self.view_is c.if-touch.ensures.levels) (root_as c.args.self.now c.self.inside.root c.self.inside.nodes c.touch.new.self c.self.view_is) c.if-touch.ensures.nodes
+    (geometry_as c.args.self.now c.self.inside.root c.self.inside.nodes c.touch.new.self c.self.view_is c.if-touch.ensures.geometry) (root_as c.args.self.now c.self.inside.root c.self.inside.nodes c.touch.new.self c.self.view_is) c.if-touch.ensures.nodes
     (others_as c.args.self.now c.self.inside.root c.self.inside.nodes c.touch.new.self c.self.view_is c.args.level c.if-touch.ensures.others) (all_as c.args.self.now c.self.inside.root c.self.inside.nodes c.touch.new.self c.self.view_is c.if-touch.ensures.same))
     c.in_ok-make_room.ensures.climbs)
     (climbs_up g.T.Tagger.data_tag_of g.T.Tagger.node_tag_of c.args.level (c.args.level + 1) c.make_room.new.self c.parent_present.new.self (g.B.Bus.history c.make_room.new.bus) (g.B.Bus.history c.parent_present.new.bus) c.make_room.new.tags c.parent_present.new.tags None (omega arith) c.in_ok-parent_present.ensures.climbs))
@@ -103,33 +103,33 @@ present-returns-clause-climbs g t c =
 
 pub present-returns-in_err-make_room-clause-once : goal.present-returns-in_err-make_room-clause-once
 present-returns-in_err-make_room-clause-once g t c =
-    present_first c.args.self.now.levels c.touch.new.self.levels c.args.level (g.B.Bus.history c.args.bus.now).accesses (g.B.Bus.history c.make_room.new.bus).accesses c.requires.node.0
-    (levels_as c.args.self.now c.self.inside.root c.self.inside.nodes c.touch.new.self c.self.view_is c.if-touch.ensures.levels) c.in_err-make_room.ensures.once
+    present_first c.args.self.now.geometry c.touch.new.self.geometry c.args.level (g.B.Bus.history c.args.bus.now).accesses (g.B.Bus.history c.make_room.new.bus).accesses c.requires.node.0
+    (geometry_as c.args.self.now c.self.inside.root c.self.inside.nodes c.touch.new.self c.self.view_is c.if-touch.ensures.geometry) c.in_err-make_room.ensures.once
 
 pub present-returns-in_err-parent_present-clause-once : goal.present-returns-in_err-parent_present-clause-once
 present-returns-in_err-parent_present-clause-once g t c =
-    present_second c.args.self.now.levels c.touch.new.self.levels c.make_room.new.self.levels c.args.level (g.B.Bus.history c.args.bus.now).accesses (g.B.Bus.history c.make_room.new.bus).accesses (g.B.Bus.history c.parent_present.new.bus).accesses (g.B.Bus.history c.parent_present.new.bus).accesses c.requires.node.0
-    (levels_as c.args.self.now c.self.inside.root c.self.inside.nodes c.touch.new.self c.self.view_is c.if-touch.ensures.levels) (c.in_ok-make_room.ensures.climbs.levels ∙ (levels_as c.args.self.now c.self.inside.root c.self.inside.nodes c.touch.new.self c.self.view_is c.if-touch.ensures.levels)) c.in_ok-make_room.ensures.once c.in_err-parent_present.ensures.once (omega arith)
+    present_second c.args.self.now.geometry c.touch.new.self.geometry c.make_room.new.self.geometry c.args.level (g.B.Bus.history c.args.bus.now).accesses (g.B.Bus.history c.make_room.new.bus).accesses (g.B.Bus.history c.parent_present.new.bus).accesses (g.B.Bus.history c.parent_present.new.bus).accesses c.requires.node.0
+    (geometry_as c.args.self.now c.self.inside.root c.self.inside.nodes c.touch.new.self c.self.view_is c.if-touch.ensures.geometry) (c.in_ok-make_room.ensures.climbs.geometry ∙ (geometry_as c.args.self.now c.self.inside.root c.self.inside.nodes c.touch.new.self c.self.view_is c.if-touch.ensures.geometry)) c.in_ok-make_room.ensures.once c.in_err-parent_present.ensures.once (omega arith)
 
 pub present-returns-clause-once : goal.present-returns-clause-once
 present-returns-clause-once g t c =
-    present_second c.args.self.now.levels c.touch.new.self.levels c.make_room.new.self.levels c.args.level (g.B.Bus.history c.args.bus.now).accesses (g.B.Bus.history c.make_room.new.bus).accesses (g.B.Bus.history c.parent_present.new.bus).accesses (g.B.Bus.history c.read_in.new.bus).accesses c.requires.node.0
-    (levels_as c.args.self.now c.self.inside.root c.self.inside.nodes c.touch.new.self c.self.view_is c.if-touch.ensures.levels) (c.in_ok-make_room.ensures.climbs.levels ∙ (levels_as c.args.self.now c.self.inside.root c.self.inside.nodes c.touch.new.self c.self.view_is c.if-touch.ensures.levels)) c.in_ok-make_room.ensures.once c.in_ok-parent_present.ensures.once c.read_in.ensures.once
+    present_second c.args.self.now.geometry c.touch.new.self.geometry c.make_room.new.self.geometry c.args.level (g.B.Bus.history c.args.bus.now).accesses (g.B.Bus.history c.make_room.new.bus).accesses (g.B.Bus.history c.parent_present.new.bus).accesses (g.B.Bus.history c.read_in.new.bus).accesses c.requires.node.0
+    (geometry_as c.args.self.now c.self.inside.root c.self.inside.nodes c.touch.new.self c.self.view_is c.if-touch.ensures.geometry) (c.in_ok-make_room.ensures.climbs.geometry ∙ (geometry_as c.args.self.now c.self.inside.root c.self.inside.nodes c.touch.new.self c.self.view_is c.if-touch.ensures.geometry)) c.in_ok-make_room.ensures.once c.in_ok-parent_present.ensures.once c.read_in.ensures.once
 
 pub present-returns-in_err-make_room-clause-few : goal.present-returns-in_err-make_room-clause-few
 present-returns-in_err-make_room-clause-few g t c =
-    present_first c.args.self.now.levels c.touch.new.self.levels c.args.level (length c.args.tags.now.made) (length c.make_room.new.tags.made) c.requires.node.0
-    (levels_as c.args.self.now c.self.inside.root c.self.inside.nodes c.touch.new.self c.self.view_is c.if-touch.ensures.levels) c.in_err-make_room.ensures.few
+    present_first c.args.self.now.geometry c.touch.new.self.geometry c.args.level (length c.args.tags.now.made) (length c.make_room.new.tags.made) c.requires.node.0
+    (geometry_as c.args.self.now c.self.inside.root c.self.inside.nodes c.touch.new.self c.self.view_is c.if-touch.ensures.geometry) c.in_err-make_room.ensures.few
 
 pub present-returns-in_err-parent_present-clause-few : goal.present-returns-in_err-parent_present-clause-few
 present-returns-in_err-parent_present-clause-few g t c =
-    present_second c.args.self.now.levels c.touch.new.self.levels c.make_room.new.self.levels c.args.level (length c.args.tags.now.made) (length c.make_room.new.tags.made) (length c.parent_present.new.tags.made) (length c.parent_present.new.tags.made) c.requires.node.0
-    (levels_as c.args.self.now c.self.inside.root c.self.inside.nodes c.touch.new.self c.self.view_is c.if-touch.ensures.levels) (c.in_ok-make_room.ensures.climbs.levels ∙ (levels_as c.args.self.now c.self.inside.root c.self.inside.nodes c.touch.new.self c.self.view_is c.if-touch.ensures.levels)) c.in_ok-make_room.ensures.few c.in_err-parent_present.ensures.few (omega arith)
+    present_second c.args.self.now.geometry c.touch.new.self.geometry c.make_room.new.self.geometry c.args.level (length c.args.tags.now.made) (length c.make_room.new.tags.made) (length c.parent_present.new.tags.made) (length c.parent_present.new.tags.made) c.requires.node.0
+    (geometry_as c.args.self.now c.self.inside.root c.self.inside.nodes c.touch.new.self c.self.view_is c.if-touch.ensures.geometry) (c.in_ok-make_room.ensures.climbs.geometry ∙ (geometry_as c.args.self.now c.self.inside.root c.self.inside.nodes c.touch.new.self c.self.view_is c.if-touch.ensures.geometry)) c.in_ok-make_room.ensures.few c.in_err-parent_present.ensures.few (omega arith)
 
 pub present-returns-clause-few : goal.present-returns-clause-few
 present-returns-clause-few g t c =
-    present_second c.args.self.now.levels c.touch.new.self.levels c.make_room.new.self.levels c.args.level (length c.args.tags.now.made) (length c.make_room.new.tags.made) (length c.parent_present.new.tags.made) (length c.read_in.new.tags.made) c.requires.node.0
-    (levels_as c.args.self.now c.self.inside.root c.self.inside.nodes c.touch.new.self c.self.view_is c.if-touch.ensures.levels) (c.in_ok-make_room.ensures.climbs.levels ∙ (levels_as c.args.self.now c.self.inside.root c.self.inside.nodes c.touch.new.self c.self.view_is c.if-touch.ensures.levels)) c.in_ok-make_room.ensures.few c.in_ok-parent_present.ensures.few c.read_in.ensures.few
+    present_second c.args.self.now.geometry c.touch.new.self.geometry c.make_room.new.self.geometry c.args.level (length c.args.tags.now.made) (length c.make_room.new.tags.made) (length c.parent_present.new.tags.made) (length c.read_in.new.tags.made) c.requires.node.0
+    (geometry_as c.args.self.now c.self.inside.root c.self.inside.nodes c.touch.new.self c.self.view_is c.if-touch.ensures.geometry) (c.in_ok-make_room.ensures.climbs.geometry ∙ (geometry_as c.args.self.now c.self.inside.root c.self.inside.nodes c.touch.new.self c.self.view_is c.if-touch.ensures.geometry)) c.in_ok-make_room.ensures.few c.in_ok-parent_present.ensures.few c.read_in.ensures.few
 
 pub present-returns-clause-moved : goal.present-returns-clause-moved
 present-returns-clause-moved g t c =
@@ -160,7 +160,7 @@ make_room-returns-clause-climbs g t c =
     climbs_on g.T.Tagger.data_tag_of g.T.Tagger.node_tag_of c.args.level c.args.self.now c.write_back.new.self (tree_of c.self-2.inside.root c.remove.new.self) (g.B.Bus.history c.args.bus.now) (g.B.Bus.history c.write_back.new.bus) (g.B.Bus.history c.write_back.new.bus) c.args.tags.now c.write_back.new.tags c.write_back.new.tags None
     c.in_ok-write_back.ensures.climbs
     (climbs_dropped g.T.Tagger.data_tag_of g.T.Tagger.node_tag_of c.args.level c.in-Some.victim.place c.write_back.new.self (tree_of c.self-2.inside.root c.remove.new.self) (g.B.Bus.history c.write_back.new.bus) c.write_back.new.tags (copy_of c.in-Some.victim)
-    (levels_as c.write_back.new.self c.self-2.inside.root c.self-2.inside.nodes c.remove.new.self c.self-2.view_is c.remove.ensures.levels) (root_as c.write_back.new.self c.self-2.inside.root c.self-2.inside.nodes c.remove.new.self c.self-2.view_is) c.remove.ensures.nodes
+    (geometry_as c.write_back.new.self c.self-2.inside.root c.self-2.inside.nodes c.remove.new.self c.self-2.view_is c.remove.ensures.geometry) (root_as c.write_back.new.self c.self-2.inside.root c.self-2.inside.nodes c.remove.new.self c.self-2.view_is) c.remove.ensures.nodes
     (others_as c.write_back.new.self c.self-2.inside.root c.self-2.inside.nodes c.remove.new.self c.self-2.view_is c.args.level c.remove.ensures.others)
     (ap (option_map copy_of) here) (ap (option_map copy_of) c.remove.ensures.removed)
     (same_as c.write_back.new.self c.self-2.inside.root c.self-2.inside.nodes c.remove.new.self c.self-2.view_is c.args.level c.in-Some.victim.place c.remove.ensures.same)
@@ -181,7 +181,7 @@ make_room-returns-clause-room g t c = c.remove.ensures.room c.args.index c.in-So
 
 pub parent_present-returns-clause-nodes : goal.parent_present-returns-clause-nodes
 parent_present-returns-clause-nodes g t c =
-    c.present.ensures.climbs.nodes (subst (λ (v : TreeView). AreNodeCaches v.levels v.caches) c.self.view_is c.self.invariant)
+    c.present.ensures.climbs.nodes (subst (λ (v : TreeView). AreNodeCaches v.geometry v.caches) c.self.view_is c.self.invariant)
 
 pub present-returns-in_err-make_room-clause-hit : goal.present-returns-in_err-make_room-clause-hit
 present-returns-in_err-make_room-clause-hit g t c = λ held.
@@ -273,7 +273,7 @@ present-returns-in_err-make_room-clause-back g t c =
     subst (λ (s : Option MemStop). WritesUp (EndsQuietly (tags_of g.T.Tagger.data_tag_of g.T.Tagger.node_tag_of) c.args.self.now (g.B.Bus.history c.args.bus.now) c.args.tags.now c.make_room.new.tags) c.args.level NoNode c.args.self.now (g.B.Bus.history c.args.bus.now) c.args.tags.now.made c.make_room.new.self (g.B.Bus.history c.make_room.new.bus) c.make_room.new.tags.made s) (sym stop)
     (up_climbed g.T.Tagger.data_tag_of g.T.Tagger.node_tag_of c.args.level c.args.level NoNode c.args.self.now (tree_of c.self.inside.root c.touch.new.self) c.make_room.new.self (g.B.Bus.history c.args.bus.now) (g.B.Bus.history c.args.bus.now) (g.B.Bus.history c.make_room.new.bus) c.args.tags.now c.args.tags.now c.make_room.new.tags (Some why)
     (climbs_touched g.T.Tagger.data_tag_of g.T.Tagger.node_tag_of c.args.level c.args.self.now (tree_of c.self.inside.root c.touch.new.self) (g.B.Bus.history c.args.bus.now) c.args.tags.now
-    (levels_as c.args.self.now c.self.inside.root c.self.inside.nodes c.touch.new.self c.self.view_is c.if-touch.ensures.levels) (root_as c.args.self.now c.self.inside.root c.self.inside.nodes c.touch.new.self c.self.view_is) c.if-touch.ensures.nodes
+    (geometry_as c.args.self.now c.self.inside.root c.self.inside.nodes c.touch.new.self c.self.view_is c.if-touch.ensures.geometry) (root_as c.args.self.now c.self.inside.root c.self.inside.nodes c.touch.new.self c.self.view_is) c.if-touch.ensures.nodes
     (others_as c.args.self.now c.self.inside.root c.self.inside.nodes c.touch.new.self c.self.view_is c.args.level c.if-touch.ensures.others) (all_as c.args.self.now c.self.inside.root c.self.inside.nodes c.touch.new.self c.self.view_is c.if-touch.ensures.same)) c.in_err-make_room.ensures.climbs.moves
     (up_same _ c.args.level NoNode c.args.self.now (tree_of c.self.inside.root c.touch.new.self) (g.B.Bus.history c.args.bus.now) (g.B.Bus.history c.args.bus.now) c.args.tags.now.made c.args.tags.now.made None (λ place. omega arith) refl
     (all_as c.args.self.now c.self.inside.root c.self.inside.nodes c.touch.new.self c.self.view_is c.if-touch.ensures.same))
@@ -287,12 +287,12 @@ present-returns-in_err-parent_present-clause-back g t c =
     (up_climbed g.T.Tagger.data_tag_of g.T.Tagger.node_tag_of c.args.level c.args.level NoNode c.args.self.now c.make_room.new.self c.parent_present.new.self (g.B.Bus.history c.args.bus.now) (g.B.Bus.history c.make_room.new.bus) (g.B.Bus.history c.parent_present.new.bus) c.args.tags.now c.make_room.new.tags c.parent_present.new.tags (Some why)
     (climbs_on g.T.Tagger.data_tag_of g.T.Tagger.node_tag_of c.args.level c.args.self.now (tree_of c.self.inside.root c.touch.new.self) c.make_room.new.self (g.B.Bus.history c.args.bus.now) (g.B.Bus.history c.args.bus.now) (g.B.Bus.history c.make_room.new.bus) c.args.tags.now c.args.tags.now c.make_room.new.tags None
     (climbs_touched g.T.Tagger.data_tag_of g.T.Tagger.node_tag_of c.args.level c.args.self.now (tree_of c.self.inside.root c.touch.new.self) (g.B.Bus.history c.args.bus.now) c.args.tags.now
-    (levels_as c.args.self.now c.self.inside.root c.self.inside.nodes c.touch.new.self c.self.view_is c.if-touch.ensures.levels) (root_as c.args.self.now c.self.inside.root c.self.inside.nodes c.touch.new.self c.self.view_is) c.if-touch.ensures.nodes
+    (geometry_as c.args.self.now c.self.inside.root c.self.inside.nodes c.touch.new.self c.self.view_is c.if-touch.ensures.geometry) (root_as c.args.self.now c.self.inside.root c.self.inside.nodes c.touch.new.self c.self.view_is) c.if-touch.ensures.nodes
     (others_as c.args.self.now c.self.inside.root c.self.inside.nodes c.touch.new.self c.self.view_is c.args.level c.if-touch.ensures.others) (all_as c.args.self.now c.self.inside.root c.self.inside.nodes c.touch.new.self c.self.view_is c.if-touch.ensures.same))
     c.in_ok-make_room.ensures.climbs) c.in_err-parent_present.ensures.climbs.moves
     (up_climbed g.T.Tagger.data_tag_of g.T.Tagger.node_tag_of c.args.level c.args.level NoNode c.args.self.now (tree_of c.self.inside.root c.touch.new.self) c.make_room.new.self (g.B.Bus.history c.args.bus.now) (g.B.Bus.history c.args.bus.now) (g.B.Bus.history c.make_room.new.bus) c.args.tags.now c.args.tags.now c.make_room.new.tags None
     (climbs_touched g.T.Tagger.data_tag_of g.T.Tagger.node_tag_of c.args.level c.args.self.now (tree_of c.self.inside.root c.touch.new.self) (g.B.Bus.history c.args.bus.now) c.args.tags.now
-    (levels_as c.args.self.now c.self.inside.root c.self.inside.nodes c.touch.new.self c.self.view_is c.if-touch.ensures.levels) (root_as c.args.self.now c.self.inside.root c.self.inside.nodes c.touch.new.self c.self.view_is) c.if-touch.ensures.nodes
+    (geometry_as c.args.self.now c.self.inside.root c.self.inside.nodes c.touch.new.self c.self.view_is c.if-touch.ensures.geometry) (root_as c.args.self.now c.self.inside.root c.self.inside.nodes c.touch.new.self c.self.view_is) c.if-touch.ensures.nodes
     (others_as c.args.self.now c.self.inside.root c.self.inside.nodes c.touch.new.self c.self.view_is c.args.level c.if-touch.ensures.others) (all_as c.args.self.now c.self.inside.root c.self.inside.nodes c.touch.new.self c.self.view_is c.if-touch.ensures.same)) c.in_ok-make_room.ensures.climbs.moves
     (up_same _ c.args.level NoNode c.args.self.now (tree_of c.self.inside.root c.touch.new.self) (g.B.Bus.history c.args.bus.now) (g.B.Bus.history c.args.bus.now) c.args.tags.now.made c.args.tags.now.made None (λ place. omega arith) refl
     (all_as c.args.self.now c.self.inside.root c.self.inside.nodes c.touch.new.self c.self.view_is c.if-touch.ensures.same))
@@ -307,19 +307,19 @@ present-returns-clause-back g t c =
     (climbs_on g.T.Tagger.data_tag_of g.T.Tagger.node_tag_of c.args.level c.args.self.now c.make_room.new.self c.parent_present.new.self (g.B.Bus.history c.args.bus.now) (g.B.Bus.history c.make_room.new.bus) (g.B.Bus.history c.parent_present.new.bus) c.args.tags.now c.make_room.new.tags c.parent_present.new.tags None
     (climbs_on g.T.Tagger.data_tag_of g.T.Tagger.node_tag_of c.args.level c.args.self.now (tree_of c.self.inside.root c.touch.new.self) c.make_room.new.self (g.B.Bus.history c.args.bus.now) (g.B.Bus.history c.args.bus.now) (g.B.Bus.history c.make_room.new.bus) c.args.tags.now c.args.tags.now c.make_room.new.tags None
     (climbs_touched g.T.Tagger.data_tag_of g.T.Tagger.node_tag_of c.args.level c.args.self.now (tree_of c.self.inside.root c.touch.new.self) (g.B.Bus.history c.args.bus.now) c.args.tags.now
-    (levels_as c.args.self.now c.self.inside.root c.self.inside.nodes c.touch.new.self c.self.view_is c.if-touch.ensures.levels) (root_as c.args.self.now c.self.inside.root c.self.inside.nodes c.touch.new.self c.self.view_is) c.if-touch.ensures.nodes
+    (geometry_as c.args.self.now c.self.inside.root c.self.inside.nodes c.touch.new.self c.self.view_is c.if-touch.ensures.geometry) (root_as c.args.self.now c.self.inside.root c.self.inside.nodes c.touch.new.self c.self.view_is) c.if-touch.ensures.nodes
     (others_as c.args.self.now c.self.inside.root c.self.inside.nodes c.touch.new.self c.self.view_is c.args.level c.if-touch.ensures.others) (all_as c.args.self.now c.self.inside.root c.self.inside.nodes c.touch.new.self c.self.view_is c.if-touch.ensures.same))
     c.in_ok-make_room.ensures.climbs)
     (climbs_up g.T.Tagger.data_tag_of g.T.Tagger.node_tag_of c.args.level (c.args.level + 1) c.make_room.new.self c.parent_present.new.self (g.B.Bus.history c.make_room.new.bus) (g.B.Bus.history c.parent_present.new.bus) c.make_room.new.tags c.parent_present.new.tags None (omega arith) c.in_ok-parent_present.ensures.climbs)) c.read_in.ensures.climbs.moves
     (up_climbed g.T.Tagger.data_tag_of g.T.Tagger.node_tag_of c.args.level c.args.level NoNode c.args.self.now c.make_room.new.self c.parent_present.new.self (g.B.Bus.history c.args.bus.now) (g.B.Bus.history c.make_room.new.bus) (g.B.Bus.history c.parent_present.new.bus) c.args.tags.now c.make_room.new.tags c.parent_present.new.tags None
     (climbs_on g.T.Tagger.data_tag_of g.T.Tagger.node_tag_of c.args.level c.args.self.now (tree_of c.self.inside.root c.touch.new.self) c.make_room.new.self (g.B.Bus.history c.args.bus.now) (g.B.Bus.history c.args.bus.now) (g.B.Bus.history c.make_room.new.bus) c.args.tags.now c.args.tags.now c.make_room.new.tags None
     (climbs_touched g.T.Tagger.data_tag_of g.T.Tagger.node_tag_of c.args.level c.args.self.now (tree_of c.self.inside.root c.touch.new.self) (g.B.Bus.history c.args.bus.now) c.args.tags.now
-    (levels_as c.args.self.now c.self.inside.root c.self.inside.nodes c.touch.new.self c.self.view_is c.if-touch.ensures.levels) (root_as c.args.self.now c.self.inside.root c.self.inside.nodes c.touch.new.self c.self.view_is) c.if-touch.ensures.nodes
+    (geometry_as c.args.self.now c.self.inside.root c.self.inside.nodes c.touch.new.self c.self.view_is c.if-touch.ensures.geometry) (root_as c.args.self.now c.self.inside.root c.self.inside.nodes c.touch.new.self c.self.view_is) c.if-touch.ensures.nodes
     (others_as c.args.self.now c.self.inside.root c.self.inside.nodes c.touch.new.self c.self.view_is c.args.level c.if-touch.ensures.others) (all_as c.args.self.now c.self.inside.root c.self.inside.nodes c.touch.new.self c.self.view_is c.if-touch.ensures.same))
     c.in_ok-make_room.ensures.climbs) c.in_ok-parent_present.ensures.climbs.moves
     (up_climbed g.T.Tagger.data_tag_of g.T.Tagger.node_tag_of c.args.level c.args.level NoNode c.args.self.now (tree_of c.self.inside.root c.touch.new.self) c.make_room.new.self (g.B.Bus.history c.args.bus.now) (g.B.Bus.history c.args.bus.now) (g.B.Bus.history c.make_room.new.bus) c.args.tags.now c.args.tags.now c.make_room.new.tags None
     (climbs_touched g.T.Tagger.data_tag_of g.T.Tagger.node_tag_of c.args.level c.args.self.now (tree_of c.self.inside.root c.touch.new.self) (g.B.Bus.history c.args.bus.now) c.args.tags.now
-    (levels_as c.args.self.now c.self.inside.root c.self.inside.nodes c.touch.new.self c.self.view_is c.if-touch.ensures.levels) (root_as c.args.self.now c.self.inside.root c.self.inside.nodes c.touch.new.self c.self.view_is) c.if-touch.ensures.nodes
+    (geometry_as c.args.self.now c.self.inside.root c.self.inside.nodes c.touch.new.self c.self.view_is c.if-touch.ensures.geometry) (root_as c.args.self.now c.self.inside.root c.self.inside.nodes c.touch.new.self c.self.view_is) c.if-touch.ensures.nodes
     (others_as c.args.self.now c.self.inside.root c.self.inside.nodes c.touch.new.self c.self.view_is c.args.level c.if-touch.ensures.others) (all_as c.args.self.now c.self.inside.root c.self.inside.nodes c.touch.new.self c.self.view_is c.if-touch.ensures.same)) c.in_ok-make_room.ensures.climbs.moves
     (up_same _ c.args.level NoNode c.args.self.now (tree_of c.self.inside.root c.touch.new.self) (g.B.Bus.history c.args.bus.now) (g.B.Bus.history c.args.bus.now) c.args.tags.now.made c.args.tags.now.made None (λ place. omega arith) refl
     (all_as c.args.self.now c.self.inside.root c.self.inside.nodes c.touch.new.self c.self.view_is c.if-touch.ensures.same))
@@ -350,7 +350,7 @@ write_back-returns-clause-out_for g t c =
     let climbs = c.in_ok-parent_present.ensures.climbs in
     let still = was_none c.parent_present.new.tags.evidence c.write_below.new.tags.evidence c.in_ok-write_below.ensures.climbs.moves.evidence quiet in
     out_on c.args.self.now c.parent_present.new.self c.write_below.new.self (g.B.Bus.history c.args.bus.now) (g.B.Bus.history c.parent_present.new.bus) (g.B.Bus.history c.write_below.new.bus)
-    c.args.tags.now.made c.parent_present.new.tags.made climbs.levels climbs.moves.reads c.in_ok-write_below.ensures.climbs.moves.reads
+    c.args.tags.now.made c.parent_present.new.tags.made climbs.geometry climbs.moves.reads c.in_ok-write_below.ensures.climbs.moves.reads
     (unmade_before c.args.tags.now.made c.parent_present.new.tags.made climbs.moves.more climbs.moves.made) (c.in_ok-parent_present.ensures.out_for holds still)
     (out_kept c.parent_present.new.self c.write_below.new.self (g.B.Bus.history c.parent_present.new.bus) (g.B.Bus.history c.write_below.new.bus) c.parent_present.new.tags.made c.in_ok-write_below.ensures.kept)
 
@@ -374,10 +374,10 @@ present-returns-then-touch-clause-out_for g t c =
 pub present-returns-clause-out_for : goal.present-returns-clause-out_for
 present-returns-clause-out_for g t c = λ holds quiet.
     let same = all_as c.args.self.now c.self.inside.root c.self.inside.nodes c.touch.new.self c.self.view_is c.if-touch.ensures.same in
-    let levels = levels_as c.args.self.now c.self.inside.root c.self.inside.nodes c.touch.new.self c.self.view_is c.if-touch.ensures.levels in
+    let geometry = geometry_as c.args.self.now c.self.inside.root c.self.inside.nodes c.touch.new.self c.self.view_is c.if-touch.ensures.geometry in
     let touched =
     climbs_touched g.T.Tagger.data_tag_of g.T.Tagger.node_tag_of c.args.level c.args.self.now (tree_of c.self.inside.root c.touch.new.self) (g.B.Bus.history c.args.bus.now) c.args.tags.now
-    levels (root_as c.args.self.now c.self.inside.root c.self.inside.nodes c.touch.new.self c.self.view_is) c.if-touch.ensures.nodes
+    geometry (root_as c.args.self.now c.self.inside.root c.self.inside.nodes c.touch.new.self c.self.view_is) c.if-touch.ensures.nodes
     (others_as c.args.self.now c.self.inside.root c.self.inside.nodes c.touch.new.self c.self.view_is c.args.level c.if-touch.ensures.others) same in
     let room = c.in_ok-make_room.ensures.climbs in
     let parent = c.in_ok-parent_present.ensures.climbs in
@@ -390,7 +390,7 @@ present-returns-clause-out_for g t c = λ holds quiet.
     on_ok c.read_in.result (c.read_in.ensures.came (parent.holds holds_room going) quiet)
     (out_came c.args.level c.args.index c.args.self.now (tree_of c.self.inside.root c.touch.new.self) c.make_room.new.self c.parent_present.new.self c.read_in.new.self
     (g.B.Bus.history c.args.bus.now) (g.B.Bus.history c.make_room.new.bus) (g.B.Bus.history c.parent_present.new.bus) (g.B.Bus.history c.read_in.new.bus)
-    c.args.tags.now.made c.make_room.new.tags.made c.parent_present.new.tags.made c.requires.node levels (room.levels ∙ levels) same
+    c.args.tags.now.made c.make_room.new.tags.made c.parent_present.new.tags.made c.requires.node geometry (room.geometry ∙ geometry) same
     (not_held c.args.self.now c.self.inside.root c.self.inside.nodes c.args.level c.args.index c.self.view_is (c.if-touch.ensures.absent refl))
     room.moves.reads parent.moves.reads c.read_in.ensures.climbs.moves.reads unmade
     (λ other at none. unmade other at (unmade_before c.make_room.new.tags.made c.parent_present.new.tags.made parent.moves.more parent.moves.made other at none))

@@ -1,6 +1,6 @@
-use Rattle.std.proofs.Common.{◌≡◌, ℕ, ◌+◌, ◌/◌, ◌≤◌, List, length, Option, Some, None, refl, ap, sym, ◌∙◌, subst, arith, rules}
+use Rattle.std.proofs.Common.{◌≡◌, ◌+◌, ◌/◌, ◌≤◌, List, length, Option, Some, refl, ap, sym, ◌∙◌, subst, arith, rules}
 use Rattle.std.specs.Result.{result_err}
-use Rattle.sec_base.specs.Geometry.{IsNode}
+use Rattle.sec_base.specs.Geometry.{GeometryView, IsNode, arity}
 use Rattle.sec_base.specs.declared.evidence.Evidence.TheVariants.{Collision}
 use Rattle.sec_base.specs.declared.message.Message.{Message}
 use Rattle.sec_base.specs.declared.place.Place.TheVariants.{Node as node_place}
@@ -23,8 +23,8 @@ use Rattle.bonsai_tree.proofs.WrittenBack.{up_climbed, up_same}
 use Rattle.bonsai_tree.proofs.tree.Tree.fetch.Given.{Over}
 use Rattle.bonsai_tree.proofs.tree.Tree.fetch.Goals as goal
 
-own_node : (g : Over) (c : goal.After-read_kept g) → IsNode c.args.self.now.levels 0 c.args.page
-own_node g c = page_node c.args.self.now.levels c.args.page c.requires.page
+own_node : (g : Over) (c : goal.After-read_kept g) → IsNode c.args.self.now.geometry 0 c.args.page
+own_node g c = page_node c.args.self.now.geometry c.args.page c.requires.page
 
 -- the whole call
 whole : (g : Over) (c : goal.After-read_kept g) → Climbs (tags_of g.T.Tagger.data_tag_of g.T.Tagger.node_tag_of) 0 c.args.self.now (g.B.Bus.history c.args.bus.now) c.args.tags.now c.parent_present.new.self (g.B.Bus.history c.read_kept.new.bus) c.read_kept.new.tags (result_err c.read_kept.result)
@@ -33,10 +33,10 @@ whole g c =
 
 pub returns-in_err-parent_present-clause-accepted : goal.returns-in_err-parent_present-clause-accepted
 returns-in_err-parent_present-clause-accepted g c = λ made_at bytes tag quiet is.
-    absurd (not_from_one c.args.self.now.levels c.args.page (node_place 0 c.args.page) refl (c.in_err-parent_present.ensures.climbs.found quiet (Collision 0 c.args.page made_at bytes tag) is))
+    absurd (not_from_one c.args.self.now.geometry c.args.page (node_place 0 c.args.page) refl (c.in_err-parent_present.ensures.climbs.found quiet (Collision 0 c.args.page made_at bytes tag) is))
 
 pub returns-in_err-parent_present-clause-few_copies : goal.returns-in_err-parent_present-clause-few_copies
-returns-in_err-parent_present-clause-few_copies g c = λ level. few_copies c.parent_present.new.self.levels c.parent_present.new.self.caches level c.in_err-parent_present.ensures.nodes
+returns-in_err-parent_present-clause-few_copies g c = λ level. few_copies c.parent_present.new.self.geometry c.parent_present.new.self.caches level c.in_err-parent_present.ensures.nodes
 
 pub returns-in_err-parent_present-clause-new_copies : goal.returns-in_err-parent_present-clause-new_copies
 returns-in_err-parent_present-clause-new_copies g c = c.in_err-parent_present.ensures.climbs.read
@@ -95,24 +95,24 @@ returns-clause-checked g c =
 pub returns-clause-parent : goal.returns-clause-parent
 returns-clause-parent g c =
     ok_of c.read_kept.result (λ going.
-    let inside : 1 ≤ c.parent_present.new.self.levels = omega (arith, c.in_ok-parent_present.ensures.climbs.levels, c.in_ok-parent_present.ensures.some) in
-    latest_cached c.parent_present.new.self 1 (c.args.page / 4) c.in_ok-parent_present.ensures.nodes (omega arith) inside
+    let inside : 1 ≤ c.parent_present.new.self.geometry.levels = omega (arith, ap (λ (k : GeometryView). k.levels) c.in_ok-parent_present.ensures.climbs.geometry, c.in_ok-parent_present.ensures.some) in
+    latest_cached c.parent_present.new.self 1 (c.args.page / arity c.args.self.now.geometry) c.in_ok-parent_present.ensures.nodes (omega arith) inside
     (c.in_ok-parent_present.ensures.latest c.in_ok-parent_present.ensures.some))
 
 pub returns-clause-read : goal.returns-clause-read
 returns-clause-read g c =
-    let inside : 1 ≤ c.parent_present.new.self.levels = omega (arith, c.in_ok-parent_present.ensures.climbs.levels, c.in_ok-parent_present.ensures.some) in
+    let inside : 1 ≤ c.parent_present.new.self.geometry.levels = omega (arith, ap (λ (k : GeometryView). k.levels) c.in_ok-parent_present.ensures.climbs.geometry, c.in_ok-parent_present.ensures.some) in
     λ holds quiet.
     ok_of c.read_kept.result (λ going. fetched_read g.T.Tagger.data_tag_of g.T.Tagger.node_tag_of c.args.self.now c.parent_present.new.self c.args.page c.kept_tag-tag.result (g.B.Bus.history c.args.bus.now) (g.B.Bus.history c.parent_present.new.bus) (g.B.Bus.history c.read_kept.new.bus) c.args.tags.now c.parent_present.new.tags c.read_kept.new.tags c.read_kept.result (own_node g c) c.in_ok-parent_present.ensures.climbs c.kept_tag-tag.ensures c.read_kept.ensures.read holds quiet going
-    (latest_cached c.parent_present.new.self 1 (c.args.page / 4) c.in_ok-parent_present.ensures.nodes (omega arith) inside
+    (latest_cached c.parent_present.new.self 1 (c.args.page / arity c.args.self.now.geometry) c.in_ok-parent_present.ensures.nodes (omega arith) inside
     (c.in_ok-parent_present.ensures.latest c.in_ok-parent_present.ensures.some)))
 
 pub returns-clause-once : goal.returns-clause-once
 returns-clause-once g c =
-    omega (arith, c.in_ok-parent_present.ensures.once, path_more c.args.self.now.levels, c.read_kept.ensures.read.most)
+    omega (arith, c.in_ok-parent_present.ensures.once, path_more c.args.self.now.geometry.levels, c.read_kept.ensures.read.most)
 
 pub returns-clause-few_copies : goal.returns-clause-few_copies
-returns-clause-few_copies g c = λ level. few_copies c.parent_present.new.self.levels c.parent_present.new.self.caches level c.in_ok-parent_present.ensures.nodes
+returns-clause-few_copies g c = λ level. few_copies c.parent_present.new.self.geometry c.parent_present.new.self.caches level c.in_ok-parent_present.ensures.nodes
 
 pub returns-clause-new_copies : goal.returns-clause-new_copies
 returns-clause-new_copies g c =
@@ -120,8 +120,8 @@ returns-clause-new_copies g c =
 
 pub returns-clause-room : goal.returns-clause-room
 returns-clause-room g c =
-    climb_room g.T.Tagger.data_tag_of g.T.Tagger.node_tag_of 0 (path_accesses c.args.self.now.levels) c.args.self.now c.parent_present.new.self (g.B.Bus.history c.args.bus.now) (g.B.Bus.history c.read_kept.new.bus) c.args.tags.now c.read_kept.new.tags (result_err c.read_kept.result) (whole g c)
-    (omega (arith, c.in_ok-parent_present.ensures.few, path_more c.args.self.now.levels, ap length c.read_kept.ensures.read.made))
+    climb_room g.T.Tagger.data_tag_of g.T.Tagger.node_tag_of 0 (path_accesses c.args.self.now.geometry.levels) c.args.self.now c.parent_present.new.self (g.B.Bus.history c.args.bus.now) (g.B.Bus.history c.read_kept.new.bus) c.args.tags.now c.read_kept.new.tags (result_err c.read_kept.result) (whole g c)
+    (omega (arith, c.in_ok-parent_present.ensures.few, path_more c.args.self.now.geometry.levels, ap length c.read_kept.ensures.read.made))
 
 pub returns-clause-slots : goal.returns-clause-slots
 returns-clause-slots g c =
@@ -190,17 +190,17 @@ returns-in_err-parent_present-clause-last_blocks g c = λ was memory.
 
 pub kept_tag-tag-requires-clause-node : goal.kept_tag-tag-requires-clause-node
 kept_tag-tag-requires-clause-node g c =
-    subst (λ (k : ℕ). IsNode k 0 c.args.page) (sym c.in_ok-parent_present.ensures.climbs.levels) (page_node c.args.self.now.levels c.args.page c.requires.page)
+    subst (λ (k : GeometryView). IsNode k 0 c.args.page) (sym c.in_ok-parent_present.ensures.climbs.geometry) (page_node c.args.self.now.geometry c.args.page c.requires.page)
 
 pub read_kept-requires-clause-place : goal.read_kept-requires-clause-place
 read_kept-requires-clause-place g c =
-    subst (λ (k : ℕ). IsNode k 0 c.args.page) (sym (c.in_ok-parent_present.ensures.climbs.moves.bus_levels ∙ c.requires.bus))
-    (page_node c.args.self.now.levels c.args.page c.requires.page)
+    subst (λ (k : GeometryView). IsNode k 0 c.args.page) (sym (c.in_ok-parent_present.ensures.climbs.moves.bus_geometry ∙ c.requires.bus))
+    (page_node c.args.self.now.geometry c.args.page c.requires.page)
 
 pub read_kept-requires-clause-node : goal.read_kept-requires-clause-node
 read_kept-requires-clause-node g c =
-    subst (λ (k : ℕ). IsNode k 0 c.args.page) (sym (c.in_ok-parent_present.ensures.climbs.moves.levels ∙ c.requires.engine))
-    (page_node c.args.self.now.levels c.args.page c.requires.page)
+    subst (λ (k : GeometryView). IsNode k 0 c.args.page) (sym (c.in_ok-parent_present.ensures.climbs.moves.geometry ∙ c.requires.engine))
+    (page_node c.args.self.now.geometry c.args.page c.requires.page)
 
 pub returns-clause-lines : goal.returns-clause-lines
 returns-clause-lines g c = (whole g c).lines
@@ -212,7 +212,7 @@ returns-clause-out_for g c = λ holds quiet.
     let still = was_none c.parent_present.new.tags.evidence c.read_kept.new.tags.evidence c.read_kept.ensures.read.moves.evidence quiet in
     ok_of c.read_kept.result (λ going.
     out_on c.args.self.now c.parent_present.new.self c.parent_present.new.self (g.B.Bus.history c.args.bus.now) (g.B.Bus.history c.parent_present.new.bus) (g.B.Bus.history c.read_kept.new.bus)
-    c.args.tags.now.made c.parent_present.new.tags.made climbs.levels climbs.moves.reads c.read_kept.ensures.read.moves.reads
+    c.args.tags.now.made c.parent_present.new.tags.made climbs.geometry climbs.moves.reads c.read_kept.ensures.read.moves.reads
     (unmade_before c.args.tags.now.made c.parent_present.new.tags.made climbs.moves.more climbs.moves.made) (c.in_ok-parent_present.ensures.out_for holds still)
     (out_kept c.parent_present.new.self c.parent_present.new.self (g.B.Bus.history c.parent_present.new.bus) (g.B.Bus.history c.read_kept.new.bus) c.parent_present.new.tags.made (λ level index held. held)))
 

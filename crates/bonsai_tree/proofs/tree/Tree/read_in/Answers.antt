@@ -1,6 +1,7 @@
 use Rattle.std.proofs.Common.{◌≡◌, ◌+◌, ◌/◌, false, Option, Some, None, Ok, Err, refl, ap, sym, subst, arith, rules}
 use Rattle.std.specs.Option.{option_map}
 use Rattle.std.specs.Result.{result_err}
+use Rattle.sec_base.specs.Geometry.{arity}
 use Rattle.sec_base.proofs.Results.{was_none}
 use Rattle.sec_base.specs.declared.stop.MemStop.{MemStop}
 use Rattle.sec_base.specs.declared.stop.MemStop.TheVariants.{NoMemory}
@@ -10,7 +11,7 @@ use Rattle.bonsai_tree.specs.NodeCache.{AreNodeCaches, copy_of}
 use Rattle.bonsai_tree.specs.Tree.{EndsQuietly, HoldsTree, NodeCame, TreeView}
 use Rattle.bonsai_tree.proofs.NodeCalls.{climbs_put, climbs_read, kept_node}
 use Rattle.bonsai_tree.proofs.OutFor.{kept_at}
-use Rattle.bonsai_tree.proofs.Views.{latest_cached, levels_as, others_as, root_as, same_as, tree_of}
+use Rattle.bonsai_tree.proofs.Views.{latest_cached, geometry_as, others_as, root_as, same_as, tree_of}
 use Rattle.bonsai_tree.proofs.WrittenBack.{up_put, up_same}
 use Rattle.bonsai_tree.proofs.tree.Tree.read_in.Given.{Over}
 use Rattle.bonsai_tree.proofs.tree.Tree.read_in.Goals as goal
@@ -27,19 +28,19 @@ returns-in_err-block-clause-climbs g c =
 
 pub returns-clause-climbs : goal.returns-clause-climbs
 returns-clause-climbs g c =
-    let are : AreNodeCaches c.args.self.now.levels c.args.self.now.caches =
-    subst (λ (v : TreeView). AreNodeCaches v.levels v.caches) c.self.view_is c.self.invariant in
+    let are : AreNodeCaches c.args.self.now.geometry c.args.self.now.caches =
+    subst (λ (v : TreeView). AreNodeCaches v.geometry v.caches) c.self.view_is c.self.invariant in
     climbs_put g.T.Tagger.data_tag_of g.T.Tagger.node_tag_of c.args.self.now c.args.level c.args.index c.kept_tag-tag.result
     (g.B.Bus.history c.args.bus.now) (g.B.Bus.history c.read_kept.new.bus) c.args.tags.now c.read_kept.new.tags (Ok c.in_ok-block.block) c.requires.node
     (c.kept_tag-tag.ensures c.args.tags.now.made) c.in_ok-block.ensures.read
     (tree_of c.self.inside.root c.put.new.self) c.in_ok-block.block refl
-    (levels_as c.args.self.now c.self.inside.root c.self.inside.nodes c.put.new.self c.self.view_is c.put.ensures.levels)
+    (geometry_as c.args.self.now c.self.inside.root c.self.inside.nodes c.put.new.self c.self.view_is c.put.ensures.geometry)
     (root_as c.args.self.now c.self.inside.root c.self.inside.nodes c.put.new.self c.self.view_is) c.put.ensures.nodes
     (others_as c.args.self.now c.self.inside.root c.self.inside.nodes c.put.new.self c.self.view_is c.args.level c.put.ensures.others)
     (ap (λ o. option_map copy_of o) c.requires.absent)
     (ap (λ o. option_map copy_of o) c.put.ensures.put)
     (same_as c.args.self.now c.self.inside.root c.self.inside.nodes c.put.new.self c.self.view_is c.args.level c.args.index c.put.ensures.same)
-    (λ below. latest_cached c.args.self.now (c.args.level + 1) (c.args.index / 4) are (omega arith) (omega arith) (c.requires.parent below))
+    (λ below. latest_cached c.args.self.now (c.args.level + 1) (c.args.index / arity c.args.self.now.geometry) are (omega arith) (omega arith) (c.requires.parent below))
     c.in_ok-block.ensures.read.block
 
 -- it came, where the tree fits

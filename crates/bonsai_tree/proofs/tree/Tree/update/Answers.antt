@@ -1,6 +1,6 @@
 use Rattle.std.proofs.Common.{◌≡◌, ◌⊎◌, inl, inr, ℕ, ◌+◌, ◌/◌, ◌≤◌, List, [], ◌∷◌, ◌++◌, length, Option, Some, None, ap, sym, ◌∙◌, subst, arith, rules}
 use Rattle.std.specs.Result.{result_err}
-use Rattle.sec_base.specs.Geometry.{IsNode}
+use Rattle.sec_base.specs.Geometry.{GeometryView, IsNode, arity}
 use Rattle.sec_base.specs.declared.message.Message.{Message}
 use Rattle.sec_base.specs.declared.message.Message.TheVariants.{Node}
 use Rattle.sec_base.specs.declared.place.Place.{Place}
@@ -14,7 +14,7 @@ use Rattle.checked_bus.specs.Accesses.{WritesMessages}
 use Rattle.checked_bus.specs.Steps.{IsAccounted, unwritten_in}
 use Rattle.bonsai_tree.specs.Climb.{Climbs, IsBlockOf}
 use Rattle.bonsai_tree.specs.Node.{level_blocks}
-use Rattle.bonsai_tree.specs.Tree.{EndsQuietly, WritesBack, path_accesses}
+use Rattle.bonsai_tree.specs.Tree.{EndsQuietly, IsMarked, WritesBack, path_accesses}
 use Rattle.bonsai_tree.proofs.Climbs.{climbs_on, climbs_up, unmade_before}
 use Rattle.bonsai_tree.proofs.Copies.{few_copies}
 use Rattle.bonsai_tree.proofs.LevelBlocks.{blocks_after}
@@ -54,7 +54,7 @@ returns-in_err-parent_present-clause-pages g c = λ place is. record {
 }
 
 pub returns-in_err-parent_present-clause-few_copies : goal.returns-in_err-parent_present-clause-few_copies
-returns-in_err-parent_present-clause-few_copies g c = λ level. few_copies c.parent_present.new.self.levels c.parent_present.new.self.caches level c.in_err-parent_present.ensures.nodes
+returns-in_err-parent_present-clause-few_copies g c = λ level. few_copies c.parent_present.new.self.geometry c.parent_present.new.self.caches level c.in_err-parent_present.ensures.nodes
 
 pub returns-in_err-parent_present-clause-new_copies : goal.returns-in_err-parent_present-clause-new_copies
 returns-in_err-parent_present-clause-new_copies g c = c.in_err-parent_present.ensures.climbs.read
@@ -84,13 +84,13 @@ returns-in_err-write_below-clause-shown g c =
     (whole_refused g c).shown
 
 pub returns-in_err-write_below-clause-once : goal.returns-in_err-write_below-clause-once
-returns-in_err-write_below-clause-once g c = omega (arith, c.in_ok-parent_present.ensures.once, c.in_err-write_below.ensures.once, path_more c.args.self.now.levels)
+returns-in_err-write_below-clause-once g c = omega (arith, c.in_ok-parent_present.ensures.once, c.in_err-write_below.ensures.once, path_more c.args.self.now.geometry.levels)
 
 pub returns-in_err-write_below-clause-few : goal.returns-in_err-write_below-clause-few
-returns-in_err-write_below-clause-few g c = omega (arith, c.in_ok-parent_present.ensures.few, c.in_err-write_below.ensures.few, path_more c.args.self.now.levels)
+returns-in_err-write_below-clause-few g c = omega (arith, c.in_ok-parent_present.ensures.few, c.in_err-write_below.ensures.few, path_more c.args.self.now.geometry.levels)
 
 pub returns-in_err-write_below-clause-few_copies : goal.returns-in_err-write_below-clause-few_copies
-returns-in_err-write_below-clause-few_copies g c = λ level. few_copies c.write_below.new.self.levels c.write_below.new.self.caches level (c.in_err-write_below.ensures.climbs.nodes c.in_ok-parent_present.ensures.nodes)
+returns-in_err-write_below-clause-few_copies g c = λ level. few_copies c.write_below.new.self.geometry c.write_below.new.self.caches level (c.in_err-write_below.ensures.climbs.nodes c.in_ok-parent_present.ensures.nodes)
 
 pub returns-in_err-write_below-clause-new_copies : goal.returns-in_err-write_below-clause-new_copies
 returns-in_err-write_below-clause-new_copies g c =
@@ -98,8 +98,8 @@ returns-in_err-write_below-clause-new_copies g c =
 
 pub returns-in_err-write_below-clause-room : goal.returns-in_err-write_below-clause-room
 returns-in_err-write_below-clause-room g c =
-    climb_room g.T.Tagger.data_tag_of g.T.Tagger.node_tag_of 0 (path_accesses c.args.self.now.levels) c.args.self.now c.write_below.new.self (g.B.Bus.history c.args.bus.now) (g.B.Bus.history c.write_below.new.bus) c.args.tags.now c.write_below.new.tags (Some NoMemory) (whole_refused g c)
-    (omega (arith, c.in_ok-parent_present.ensures.few, c.in_err-write_below.ensures.few, path_more c.args.self.now.levels))
+    climb_room g.T.Tagger.data_tag_of g.T.Tagger.node_tag_of 0 (path_accesses c.args.self.now.geometry.levels) c.args.self.now c.write_below.new.self (g.B.Bus.history c.args.bus.now) (g.B.Bus.history c.write_below.new.bus) c.args.tags.now c.write_below.new.tags (Some NoMemory) (whole_refused g c)
+    (omega (arith, c.in_ok-parent_present.ensures.few, c.in_err-write_below.ensures.few, path_more c.args.self.now.geometry.levels))
 
 pub returns-in_err-write_below-clause-moves : goal.returns-in_err-write_below-clause-moves
 returns-in_err-write_below-clause-moves g c =
@@ -121,9 +121,9 @@ pub returns-in_err-write_below-clause-moved : goal.returns-in_err-write_below-cl
 returns-in_err-write_below-clause-moved g c =
     g.met.B.Bus.moved_on c.args.bus.now c.parent_present.new.bus c.write_below.new.bus c.in_ok-parent_present.ensures.moved c.in_err-write_below.ensures.moved
 
-pub returns-in_err-write_below-clause-levels : goal.returns-in_err-write_below-clause-levels
-returns-in_err-write_below-clause-levels g c =
-    (whole_refused g c).levels
+pub returns-in_err-write_below-clause-geometry : goal.returns-in_err-write_below-clause-geometry
+returns-in_err-write_below-clause-geometry g c =
+    (whole_refused g c).geometry
 
 pub returns-in_err-write_below-clause-root : goal.returns-in_err-write_below-clause-root
 returns-in_err-write_below-clause-root g c =
@@ -162,13 +162,13 @@ returns-clause-shown g c =
     (whole g c).shown
 
 pub returns-clause-once : goal.returns-clause-once
-returns-clause-once g c = omega (arith, c.in_ok-parent_present.ensures.once, c.in_ok-write_below.ensures.once, path_more c.args.self.now.levels)
+returns-clause-once g c = omega (arith, c.in_ok-parent_present.ensures.once, c.in_ok-write_below.ensures.once, path_more c.args.self.now.geometry.levels)
 
 pub returns-clause-few : goal.returns-clause-few
-returns-clause-few g c = omega (arith, c.in_ok-parent_present.ensures.few, c.in_ok-write_below.ensures.few, path_more c.args.self.now.levels)
+returns-clause-few g c = omega (arith, c.in_ok-parent_present.ensures.few, c.in_ok-write_below.ensures.few, path_more c.args.self.now.geometry.levels)
 
 pub returns-clause-few_copies : goal.returns-clause-few_copies
-returns-clause-few_copies g c = λ level. few_copies c.write_below.new.self.levels c.write_below.new.self.caches level (c.in_ok-write_below.ensures.climbs.nodes c.in_ok-parent_present.ensures.nodes)
+returns-clause-few_copies g c = λ level. few_copies c.write_below.new.self.geometry c.write_below.new.self.caches level (c.in_ok-write_below.ensures.climbs.nodes c.in_ok-parent_present.ensures.nodes)
 
 pub returns-clause-new_copies : goal.returns-clause-new_copies
 returns-clause-new_copies g c =
@@ -176,8 +176,8 @@ returns-clause-new_copies g c =
 
 pub returns-clause-room : goal.returns-clause-room
 returns-clause-room g c =
-    climb_room g.T.Tagger.data_tag_of g.T.Tagger.node_tag_of 0 (path_accesses c.args.self.now.levels) c.args.self.now c.write_below.new.self (g.B.Bus.history c.args.bus.now) (g.B.Bus.history c.write_below.new.bus) c.args.tags.now c.write_below.new.tags None (whole g c)
-    (omega (arith, c.in_ok-parent_present.ensures.few, c.in_ok-write_below.ensures.few, path_more c.args.self.now.levels))
+    climb_room g.T.Tagger.data_tag_of g.T.Tagger.node_tag_of 0 (path_accesses c.args.self.now.geometry.levels) c.args.self.now c.write_below.new.self (g.B.Bus.history c.args.bus.now) (g.B.Bus.history c.write_below.new.bus) c.args.tags.now c.write_below.new.tags None (whole g c)
+    (omega (arith, c.in_ok-parent_present.ensures.few, c.in_ok-write_below.ensures.few, path_more c.args.self.now.geometry.levels))
 
 pub returns-clause-moves : goal.returns-clause-moves
 returns-clause-moves g c =
@@ -199,9 +199,9 @@ pub returns-clause-moved : goal.returns-clause-moved
 returns-clause-moved g c =
     g.met.B.Bus.moved_on c.args.bus.now c.parent_present.new.bus c.write_below.new.bus c.in_ok-parent_present.ensures.moved c.in_ok-write_below.ensures.moved
 
-pub returns-clause-levels : goal.returns-clause-levels
-returns-clause-levels g c =
-    (whole g c).levels
+pub returns-clause-geometry : goal.returns-clause-geometry
+returns-clause-geometry g c =
+    (whole g c).geometry
 
 pub returns-clause-root : goal.returns-clause-root
 returns-clause-root g c =
@@ -235,13 +235,15 @@ returns-clause-last_blocks g c = λ was remembered.
 
 pub returns-clause-read : goal.returns-clause-read
 returns-clause-read g c =
-    let inside : 1 ≤ c.parent_present.new.self.levels = omega (arith, c.in_ok-parent_present.ensures.climbs.levels, c.in_ok-parent_present.ensures.some) in
+    let inside : 1 ≤ c.parent_present.new.self.geometry.levels = omega (arith, ap (λ (k : GeometryView). k.levels) c.in_ok-parent_present.ensures.climbs.geometry, c.in_ok-parent_present.ensures.some) in
     updated_read g.T.Tagger.data_tag_of g.T.Tagger.node_tag_of c.args.self.now c.parent_present.new.self c.args.page (g.B.Bus.history c.args.bus.now) (g.B.Bus.history c.parent_present.new.bus) (g.B.Bus.history c.write_below.new.bus) c.args.tags.now c.parent_present.new.tags c.write_below.new.tags c.in_ok-parent_present.ensures.climbs c.in_ok-write_below.ensures.climbs.moves.reads c.in_ok-write_below.ensures.quiet
-    (latest_cached c.parent_present.new.self 1 (c.args.page / 4) c.in_ok-parent_present.ensures.nodes (omega arith) inside
+    (latest_cached c.parent_present.new.self 1 (c.args.page / arity c.args.self.now.geometry) c.in_ok-parent_present.ensures.nodes (omega arith) inside
     (c.in_ok-parent_present.ensures.latest c.in_ok-parent_present.ensures.some))
 
 pub returns-clause-parent : goal.returns-clause-parent
-returns-clause-parent g c = c.in_ok-write_below.ensures.marked
+returns-clause-parent g c =
+    subst (λ (k : GeometryView). IsMarked c.write_below.new.self 1 (c.args.page / arity k)) c.in_ok-parent_present.ensures.climbs.geometry
+    c.in_ok-write_below.ensures.marked
 
 pub returns-in_err-write_below-clause-tampered : goal.returns-in_err-write_below-clause-tampered
 returns-in_err-write_below-clause-tampered g c = λ place is holds quiet.
@@ -366,13 +368,13 @@ returns-clause-out_for g c =
     let climbs = c.in_ok-parent_present.ensures.climbs in
     let still = was_none c.parent_present.new.tags.evidence c.write_below.new.tags.evidence c.in_ok-write_below.ensures.climbs.moves.evidence quiet in
     out_on c.args.self.now c.parent_present.new.self c.write_below.new.self (g.B.Bus.history c.args.bus.now) (g.B.Bus.history c.parent_present.new.bus) (g.B.Bus.history c.write_below.new.bus)
-    c.args.tags.now.made c.parent_present.new.tags.made climbs.levels climbs.moves.reads c.in_ok-write_below.ensures.climbs.moves.reads
+    c.args.tags.now.made c.parent_present.new.tags.made climbs.geometry climbs.moves.reads c.in_ok-write_below.ensures.climbs.moves.reads
     (unmade_before c.args.tags.now.made c.parent_present.new.tags.made climbs.moves.more climbs.moves.made) (c.in_ok-parent_present.ensures.out_for holds still)
     (out_kept c.parent_present.new.self c.write_below.new.self (g.B.Bus.history c.parent_present.new.bus) (g.B.Bus.history c.write_below.new.bus) c.parent_present.new.tags.made c.in_ok-write_below.ensures.kept)
 
 pub write_below-requires-clause-node : goal.write_below-requires-clause-node
 write_below-requires-clause-node g c =
-    subst (λ (k : ℕ). IsNode k 0 c.args.page) (sym c.in_ok-parent_present.ensures.climbs.levels) (page_node c.args.self.now.levels c.args.page c.requires.page)
+    subst (λ (k : GeometryView). IsNode k 0 c.args.page) (sym c.in_ok-parent_present.ensures.climbs.geometry) (page_node c.args.self.now.geometry c.args.page c.requires.page)
 
 pub returns-clause-unread : goal.returns-clause-unread
 returns-clause-unread g c = (whole g c).unread

@@ -1,5 +1,9 @@
-use Rattle.std.proofs.Common.{◌≡◌, inl, inr, ◌+◌, ◌/◌, ◌%◌, true, [], Option, Some, None, refl, ap, sym, subst, arith, rules}
+use Rattle.std.proofs.Common.{◌≡◌, inl, inr, ◌+◌, ◌/◌, ℕ, List, true, [], Option, Some, None, refl, ap, sym, ◌∙◌, subst, arith, rules}
 use Rattle.std.specs.Option.{option_map}
+use Rattle.tag_engine.proofs.Marks.{engine_tag_fits}
+use Rattle.sec_base.specs.declared.message.Message.TheVariants.{Node}
+use Rattle.sec_base.specs.Tag.{IsTag}
+use Rattle.sec_base.specs.Geometry.{GeometryView, arity, slot}
 use Rattle.sec_base.specs.declared.stop.MemStop.{MemStop}
 use Rattle.sec_base.specs.declared.stop.MemStop.TheVariants.{NoMemory}
 use Rattle.sec_base.proofs.Results.{on_err}
@@ -15,6 +19,7 @@ use Rattle.bonsai_tree.proofs.NodeWrites.{NodeWritten, own, written_not, written
 use Rattle.bonsai_tree.proofs.Puts.{PutsTag}
 use Rattle.bonsai_tree.proofs.OutFor.{kept_at}
 use Rattle.bonsai_tree.proofs.WrittenBack.{up_made, up_same}
+use Rattle.bonsai_tree.proofs.tree.Tree.write_below.Given.{Over}
 use Rattle.bonsai_tree.proofs.tree.Tree.write_below.Goals as goal
 
 pub returns-in_err-reserve-clause-climbs : goal.returns-in_err-reserve-clause-climbs
@@ -35,8 +40,8 @@ returns-in_err-tag-clause-climbs g c =
     (g.B.Bus.history c.args.bus.now) c.args.tags.now c.args.self.now (g.B.Bus.history c.write_node.new.bus) c.write_node.new.tags s) (sym stop)
     (climbs_wrote g.T.Tagger.data_tag_of g.T.Tagger.node_tag_of c.args.self.now c.args.self.now c.args.level (g.B.Bus.history c.args.bus.now) (g.B.Bus.history c.write_node.new.bus) c.args.tags.now c.write_node.new.tags
     (Some NoMemory) (inr refl)
-    (writes_taken g.T.Tagger.data_tag_of g.T.Tagger.node_tag_of c.args.self.now.levels (g.B.Bus.history c.args.bus.now) (g.B.Bus.history c.write_node.new.bus) c.args.tags.now c.reserve.new.self c.write_node.new.tags 1 c.in_ok-reserve.ensures.taken
-    (written_not g.T.Tagger.data_tag_of g.T.Tagger.node_tag_of c.args.level c.args.index c.args.block.now (g.B.Bus.history c.args.bus.now) (g.B.Bus.history c.write_node.new.bus) c.reserve.new.self c.write_node.new.tags write c.args.self.now.levels c.in_err-tag.ensures.err))
+    (writes_taken g.T.Tagger.data_tag_of g.T.Tagger.node_tag_of c.args.self.now.geometry (g.B.Bus.history c.args.bus.now) (g.B.Bus.history c.write_node.new.bus) c.args.tags.now c.reserve.new.self c.write_node.new.tags 1 c.in_ok-reserve.ensures.taken
+    (written_not g.T.Tagger.data_tag_of g.T.Tagger.node_tag_of c.args.level c.args.index c.args.block.now (g.B.Bus.history c.args.bus.now) (g.B.Bus.history c.write_node.new.bus) c.reserve.new.self c.write_node.new.tags write c.args.self.now.geometry c.in_err-tag.ensures.err))
     (no_rise_one g.T.Tagger.data_tag_of g.T.Tagger.node_tag_of c.args.self.now c.args.self.now c.args.level c.args.index c.args.block.now [] (g.B.Bus.history c.args.bus.now) (g.B.Bus.history c.write_node.new.bus) c.args.tags.now c.reserve.new.self c.write_node.new.tags c.in_ok-reserve.ensures.taken write)
     refl refl (λ are. are) (λ other low. refl)
     (λ other at low. last_apart g.T.Tagger.data_tag_of g.T.Tagger.node_tag_of c.args.self.now c.args.self.now c.args.level c.args.index c.args.block.now [] (g.B.Bus.history c.args.bus.now) (g.B.Bus.history c.write_node.new.bus) c.args.tags.now c.reserve.new.self c.write_node.new.tags c.in_ok-reserve.ensures.taken write other at (λ same. absurd (omega (arith, same.0, low))))
@@ -70,15 +75,26 @@ returns-clause-others g c = λ at differs.
     record { made = c.in_ok-tag.ensures.made; moves = c.in_ok-tag.ensures.moves; lines = c.in_ok-tag.ensures.lines; others = c.in_ok-tag.ensures.others; honest = c.in_ok-tag.ensures.honest } in
     last_apart g.T.Tagger.data_tag_of g.T.Tagger.node_tag_of c.args.self.now c.args.self.now c.args.level c.args.index c.args.block.now [] (g.B.Bus.history c.args.bus.now) (g.B.Bus.history c.write_node.new.bus) c.args.tags.now c.reserve.new.self c.write_node.new.tags c.in_ok-reserve.ensures.taken write c.args.level at (λ same. differs same.1)
 
+-- the tag is one of the tree's layout
+tag_fits : (g : Over) (c : goal.After-keep_tag g) → IsTag c.args.self.now.geometry.layout c.in_ok-tag.tag
+tag_fits g c =
+    let engine_is : c.reserve.new.self.geometry ≡ c.args.self.now.geometry =
+    ap (λ (e : TagEngineView g.row.T.Denot). e.geometry) c.in_ok-reserve.ensures.taken ∙ c.requires.engine in
+    subst (λ (k : GeometryView). IsTag k.layout c.in_ok-tag.tag) engine_is
+    (subst (λ (tag : List ℕ). IsTag c.reserve.new.self.geometry.layout tag) (sym c.in_ok-tag.ensures.tag.0)
+    (engine_tag_fits (g.T.Tagger.data_tag_of c.reserve.new.self.tagger) (g.T.Tagger.node_tag_of c.reserve.new.self.tagger)
+    (g.met.T.Tagger.data_tag_long c.reserve.new.self.tagger) (g.met.T.Tagger.node_tag_long c.reserve.new.self.tagger) c.reserve.new.self.geometry
+    (Node c.args.level c.args.index c.args.block.now)))
+
 pub returns-clause-climbs : goal.returns-clause-climbs
 returns-clause-climbs g c =
     let write : NodeWritten (tags_of g.T.Tagger.data_tag_of g.T.Tagger.node_tag_of) c.args.level c.args.index c.args.block.now (g.B.Bus.history c.args.bus.now) c.reserve.new.self (g.B.Bus.history c.write_node.new.bus) c.write_node.new.tags =
     record { made = c.in_ok-tag.ensures.made; moves = c.in_ok-tag.ensures.moves; lines = c.in_ok-tag.ensures.lines; others = c.in_ok-tag.ensures.others; honest = c.in_ok-tag.ensures.honest } in
-    let found : (copy : CachedNode) × (cached_node c.args.self.now (c.args.level + 1) (c.args.index / 4) ≡ Some copy) =
-    held_copy (cached_node c.args.self.now (c.args.level + 1) (c.args.index / 4)) c.keep_tag.ensures.held in
+    let found : (copy : CachedNode) × (cached_node c.args.self.now (c.args.level + 1) (c.args.index / arity c.args.self.now.geometry) ≡ Some copy) =
+    held_copy (cached_node c.args.self.now (c.args.level + 1) (c.args.index / arity c.args.self.now.geometry)) c.keep_tag.ensures.held in
     let puts : PutsTag c.args.self.now c.keep_tag.new.self c.args.level c.args.index c.in_ok-tag.tag =
     record {
-      levels = c.keep_tag.ensures.levels;
+      geometry = c.keep_tag.ensures.geometry;
       root = c.keep_tag.ensures.root;
       copy = found.0;
       held = found.1;
@@ -87,16 +103,16 @@ returns-clause-climbs g c =
     } in
     climbs_wrote g.T.Tagger.data_tag_of g.T.Tagger.node_tag_of c.args.self.now c.keep_tag.new.self c.args.level (g.B.Bus.history c.args.bus.now) (g.B.Bus.history c.write_node.new.bus) c.args.tags.now c.write_node.new.tags
     None (inl refl)
-    (writes_taken g.T.Tagger.data_tag_of g.T.Tagger.node_tag_of c.args.self.now.levels (g.B.Bus.history c.args.bus.now) (g.B.Bus.history c.write_node.new.bus) c.args.tags.now c.reserve.new.self c.write_node.new.tags 0 c.in_ok-reserve.ensures.taken
-    (written_once g.T.Tagger.data_tag_of g.T.Tagger.node_tag_of c.args.level c.args.index c.args.block.now (g.B.Bus.history c.args.bus.now) (g.B.Bus.history c.write_node.new.bus) c.reserve.new.self c.write_node.new.tags write c.args.self.now.levels c.in_ok-tag.ensures.once))
+    (writes_taken g.T.Tagger.data_tag_of g.T.Tagger.node_tag_of c.args.self.now.geometry (g.B.Bus.history c.args.bus.now) (g.B.Bus.history c.write_node.new.bus) c.args.tags.now c.reserve.new.self c.write_node.new.tags 0 c.in_ok-reserve.ensures.taken
+    (written_once g.T.Tagger.data_tag_of g.T.Tagger.node_tag_of c.args.level c.args.index c.args.block.now (g.B.Bus.history c.args.bus.now) (g.B.Bus.history c.write_node.new.bus) c.reserve.new.self c.write_node.new.tags write c.args.self.now.geometry c.in_ok-tag.ensures.once))
     (no_rise_one g.T.Tagger.data_tag_of g.T.Tagger.node_tag_of c.args.self.now c.keep_tag.new.self c.args.level c.args.index c.args.block.now c.in_ok-tag.tag (g.B.Bus.history c.args.bus.now) (g.B.Bus.history c.write_node.new.bus) c.args.tags.now c.reserve.new.self c.write_node.new.tags c.in_ok-reserve.ensures.taken write)
-    c.keep_tag.ensures.levels c.keep_tag.ensures.root (λ are. c.keep_tag.ensures.nodes)
+    c.keep_tag.ensures.geometry c.keep_tag.ensures.root (λ are. c.keep_tag.ensures.nodes)
     (λ other low. c.keep_tag.ensures.others other (λ (same : other ≡ c.args.level + 1). absurd (omega (arith, same, low))))
     (λ other at low. last_apart g.T.Tagger.data_tag_of g.T.Tagger.node_tag_of c.args.self.now c.keep_tag.new.self c.args.level c.args.index c.args.block.now c.in_ok-tag.tag (g.B.Bus.history c.args.bus.now) (g.B.Bus.history c.write_node.new.bus) c.args.tags.now c.reserve.new.self c.write_node.new.tags c.in_ok-reserve.ensures.taken write other at (λ same. absurd (omega (arith, same.0, low))))
     (λ other low. blocks_apart g.T.Tagger.data_tag_of g.T.Tagger.node_tag_of c.args.self.now c.keep_tag.new.self c.args.level c.args.index c.args.block.now c.in_ok-tag.tag (g.B.Bus.history c.args.bus.now) (g.B.Bus.history c.write_node.new.bus) c.args.tags.now c.reserve.new.self c.write_node.new.tags c.in_ok-reserve.ensures.taken write other (λ (same : c.args.level ≡ other). absurd (omega (arith, same, low))))
     (λ other at low. written_apart g.T.Tagger.data_tag_of g.T.Tagger.node_tag_of c.args.self.now c.keep_tag.new.self c.args.level c.args.index c.args.block.now c.in_ok-tag.tag (g.B.Bus.history c.args.bus.now) (g.B.Bus.history c.write_node.new.bus) c.args.tags.now c.reserve.new.self c.write_node.new.tags c.in_ok-reserve.ensures.taken write other at (λ same. absurd (omega (arith, same.0, low))))
     (λ holds remembered. put_holds g.T.Tagger.data_tag_of g.T.Tagger.node_tag_of c.args.self.now c.keep_tag.new.self c.args.level c.args.index c.args.block.now c.in_ok-tag.tag (g.B.Bus.history c.args.bus.now) (g.B.Bus.history c.write_node.new.bus) c.args.tags.now c.reserve.new.self c.write_node.new.tags c.in_ok-reserve.ensures.taken write c.in_ok-tag.ensures.once puts c.requires.below c.requires.node
-    c.in_ok-tag.ensures.tag.0 c.in_ok-tag.ensures.tag.1 (search rules) c.requires.current holds)
+    c.in_ok-tag.ensures.tag.0 (tag_fits g c) (search rules) c.requires.current holds)
     (put_slots g.T.Tagger.data_tag_of g.T.Tagger.node_tag_of c.args.self.now c.keep_tag.new.self c.args.level c.args.index c.args.block.now c.in_ok-tag.tag (g.B.Bus.history c.args.bus.now) (g.B.Bus.history c.write_node.new.bus) c.args.tags.now c.reserve.new.self c.write_node.new.tags c.in_ok-reserve.ensures.taken write c.requires.node c.requires.current)
     (puts_held c.args.self.now c.keep_tag.new.self c.args.level c.args.index c.in_ok-tag.tag puts)
 
@@ -138,11 +154,11 @@ returns-in_err-tag-clause-back g c =
 
 pub returns-clause-back : goal.returns-clause-back
 returns-clause-back g c =
-    let found : (copy : CachedNode) × (cached_node c.args.self.now (c.args.level + 1) (c.args.index / 4) ≡ Some copy) =
-    held_copy (cached_node c.args.self.now (c.args.level + 1) (c.args.index / 4)) c.keep_tag.ensures.held in
+    let found : (copy : CachedNode) × (cached_node c.args.self.now (c.args.level + 1) (c.args.index / arity c.args.self.now.geometry) ≡ Some copy) =
+    held_copy (cached_node c.args.self.now (c.args.level + 1) (c.args.index / arity c.args.self.now.geometry)) c.keep_tag.ensures.held in
     let puts : PutsTag c.args.self.now c.keep_tag.new.self c.args.level c.args.index c.in_ok-tag.tag =
     record {
-      levels = c.keep_tag.ensures.levels;
+      geometry = c.keep_tag.ensures.geometry;
       root = c.keep_tag.ensures.root;
       copy = found.0;
       held = found.1;
@@ -154,16 +170,16 @@ returns-clause-back g c =
 
 pub returns-clause-marked : goal.returns-clause-marked
 returns-clause-marked g c =
-    let found : (copy : CachedNode) × (cached_node c.args.self.now (c.args.level + 1) (c.args.index / 4) ≡ Some copy) =
-    held_copy (cached_node c.args.self.now (c.args.level + 1) (c.args.index / 4)) c.keep_tag.ensures.held in
+    let found : (copy : CachedNode) × (cached_node c.args.self.now (c.args.level + 1) (c.args.index / arity c.args.self.now.geometry) ≡ Some copy) =
+    held_copy (cached_node c.args.self.now (c.args.level + 1) (c.args.index / arity c.args.self.now.geometry)) c.keep_tag.ensures.held in
     ap (option_map (λ (copy : CachedNode). copy.changed)) (c.keep_tag.ensures.put found.0 found.1)
 
 pub returns-clause-kept : goal.returns-clause-kept
 returns-clause-kept g c =
-    let found : (copy : CachedNode) × (cached_node c.args.self.now (c.args.level + 1) (c.args.index / 4) ≡ Some copy) =
-    held_copy (cached_node c.args.self.now (c.args.level + 1) (c.args.index / 4)) c.keep_tag.ensures.held in
-    kept_at (c.args.level + 1) (c.args.index / 4) c.args.self.now c.keep_tag.new.self
-    (record { block = with_tag (c.args.index % 4) c.in_ok-tag.tag found.0.block; changed = true })
+    let found : (copy : CachedNode) × (cached_node c.args.self.now (c.args.level + 1) (c.args.index / arity c.args.self.now.geometry) ≡ Some copy) =
+    held_copy (cached_node c.args.self.now (c.args.level + 1) (c.args.index / arity c.args.self.now.geometry)) c.keep_tag.ensures.held in
+    kept_at (c.args.level + 1) (c.args.index / arity c.args.self.now.geometry) c.args.self.now c.keep_tag.new.self
+    (record { block = with_tag c.args.self.now.geometry (slot c.args.self.now.geometry c.args.index) c.in_ok-tag.tag found.0.block; changed = true })
     (c.keep_tag.ensures.put found.0 found.1) (λ other at apart. ap (option_map copy_of) (c.keep_tag.ensures.same other at apart))
 
 pub returns-clause-reads : goal.returns-clause-reads
